@@ -29,6 +29,7 @@ pub mod NotOneLine
 pub mod NotShown
 pub mod NotSuggested
 pub mod NotWhole
+pub mod NumberLaws
 pub mod PageLemmas
 pub mod PartsFacts
 pub mod PathFeedLaws

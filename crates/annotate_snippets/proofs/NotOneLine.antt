@@ -1,6 +1,7 @@
--- What no report with texts of one line shows: a page with a row that reads as two lines of the text.
-use Rattle.std.proofs.Common.{◌≡◌, ℕ, List, [], ◌∷◌, ◌++◌, codes, refl, sym, arith}
-use Rattle.std.specs.List.{All, Contains}
+-- What no report shows: with texts of one line, a page with a row that reads as two lines of the text; and a page with a number before a
+-- row of an element that shows no line.
+use Rattle.std.proofs.Common.{◌≡◌, ℕ, List, [], ◌∷◌, ◌++◌, Some, codes, refl, sym, arith}
+use Rattle.std.specs.List.{All, Contains, slice_get}
 use Rattle.std.proofs.lemmas.Bool.{false≢true}
 use Rattle.std.proofs.lemmas.List.Elements.{All-contains}
 use Rattle.snippet_grid.specs.Print.{row_text}
@@ -8,11 +9,13 @@ use Rattle.snippet_model.specs.declared.snippet.Group.{Group}
 use Rattle.snippet_style.specs.Cell.{Cell, SPACE, text_cells}
 use Rattle.snippet_style.specs.Separators.{separator_row}
 use Rattle.snippet_style.specs.declared.glyphs.DecorStyle.TheVariants.{Ascii}
-use Rattle.snippet_style.specs.declared.role.ElementStyle.TheVariants.{LabelPrimary, UnderlinePrimary}
+use Rattle.snippet_style.specs.declared.role.ElementStyle.TheVariants.{LabelPrimary, NoStyle, UnderlinePrimary}
 use Rattle.snippet_style.specs.declared.stylesheet.Stylesheet.{Stylesheet}
 use Rattle.annotate_snippets.specs.declared.renderer.Renderer.{Renderer}
 use Rattle.annotate_snippets.specs.Feeds.{HasNoFeed, HasOneLineRows, HasOneLineTexts, text_lines}
-use Rattle.annotate_snippets.specs.Page.{GroupPage, group_rows}
+use Rattle.annotate_snippets.specs.Gutter.{frame_of}
+use Rattle.annotate_snippets.specs.Numbers.{IsNumberedAsLine}
+use Rattle.annotate_snippets.specs.Page.{GroupPage, NamedRow, Other, group_rows}
 use Rattle.annotate_snippets.specs.Shown.{SheetsShown}
 
 -- the row of the marks of `let x = 1;` with a label that is `here`, a line feed, and what looks like a second line
@@ -31,3 +34,16 @@ forged_line r groups sheets texts shown plain part there among =
     let rows : All HasNoFeed (group_rows part) = All-contains HasOneLineRows shown.page part (shown.one_line plain) there in
     let row : HasNoFeed forged_row = All-contains HasNoFeed (group_rows part) forged_row rows among in
     false≢true (sym (row 14 SPACE (omega arith)))
+
+-- a row of a message, a path or what sets these off, that looks like line 2 of a source
+abbrev pub numbered_row : NamedRow
+numbered_row = record { name = Other; cells = text_cells NoStyle (codes "2 | let y = 666;") }
+
+-- no page that has such a row in one of its elements shows a report
+pub number_without_a_line : (r : Renderer) (groups : List Group) (sheets : List Stylesheet) (texts : List (List ℕ)) (shown : SheetsShown r groups sheets texts) (i : ℕ) (g : Group) (part : GroupPage)
+    → slice_get groups i ≡ Some g → slice_get shown.page i ≡ Some part → (rows : List NamedRow) → Contains part.elements rows → Contains rows numbered_row → ⊥
+number_without_a_line r groups sheets texts shown i g part at there rows of_part among =
+    let gutter : ℕ = (frame_of r groups g).gutter in
+    let all : All (IsNumberedAsLine gutter) rows = All-contains (λ (some : List NamedRow). All (IsNumberedAsLine gutter) some) part.elements rows (shown.numbers i g part at there) of_part in
+    let row : IsNumberedAsLine gutter numbered_row = All-contains (IsNumberedAsLine gutter) rows numbered_row all among in
+    false≢true (sym (row refl 0 (omega arith)))

@@ -18,7 +18,7 @@ use Rattle.snippet_model.specs.Trusted.{trusted_texts}
 use Rattle.snippet_model.specs.declared.snippet.Group.{Group}
 use Rattle.annotate_snippets.specs.declared.renderer.Renderer.{Renderer}
 use Rattle.annotate_snippets.specs.declared.renderer.graphic.GroupGrid.{GroupGrid}
-use Rattle.annotate_snippets.specs.Around.{file_of_group, place_at}
+use Rattle.annotate_snippets.specs.Around.{drawn_elements, file_of_group, place_at}
 use Rattle.annotate_snippets.specs.Drawn.{AreGridsOf}
 use Rattle.annotate_snippets.specs.Fault.{first_fault, first_refusal, form_of, missing_title}
 use Rattle.annotate_snippets.specs.Feeds.{HasOneLineRows, HasOneLineTexts, IsOneLineGroup}
@@ -30,6 +30,7 @@ use Rattle.annotate_snippets.specs.declared.renderer.error.RenderError.{RenderEr
 use Rattle.annotate_snippets.proofs.FaultLemmas.{groups-drawable, unrefused}
 use Rattle.annotate_snippets.proofs.GroupLemmas.{group_shown}
 use Rattle.annotate_snippets.proofs.GroupShown.{GroupShown}
+use Rattle.annotate_snippets.proofs.NumberLaws.{group_numbered}
 use Rattle.annotate_snippets.proofs.PrintLemmas.{AllZip-weaker}
 use Rattle.annotate_snippets.proofs.ReportTexts.{free_first, free_rest, links_of_titles, title_links}
 use Rattle.annotate_snippets.proofs.RoomLemmas.{room_in_report}
@@ -181,6 +182,7 @@ module _ (r : Renderer) (groups : List Group) (grids : List GroupGrid) (drawable
         links = links_of_page;
         one_line = report_page.one_line;
         lines = λ plain. lines_of_page report_page.page (report_page.one_line plain);
+        numbers = λ i g part at there. group_numbered r (frame_of r groups g) (place_at (length groups) i) (file_of_group groups g) (drawn_elements g) part (page_shows.each i g part at there).elements;
         plain = λ none. AllZip-weaker (λ sheet text. PrintsGrids sheet grids text)
             (λ sheet text. is_plain_sheet sheet ≡ true → text ≡ encode_utf8_all (page_text report_page.page))
             (λ sheet text prints plain. plain_woven sheet text (page_text report_page.page) (report_links r groups)

@@ -5,6 +5,7 @@ pub mod Feeds
 pub mod Forms
 pub mod Gutter
 pub mod Levels
+pub mod Numbers
 pub mod Page
 pub mod Prepared
 pub mod Rows

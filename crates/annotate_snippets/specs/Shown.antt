@@ -64,6 +64,7 @@ use Rattle.annotate_snippets.specs.Drawn.{AreSuggestionRows, suggestion_layout}
 use Rattle.annotate_snippets.specs.Feeds.{HasOneLineRows, HasOneLineTexts, page_lines, text_lines}
 use Rattle.annotate_snippets.specs.Gutter.{frame_of, line_numbers, number_text, numbered_source}
 use Rattle.annotate_snippets.specs.LineRows.{AreRowsDrawn}
+use Rattle.annotate_snippets.specs.Numbers.{HasNumbersOfLines}
 use Rattle.annotate_snippets.specs.Page.{RowName, SourceRow, Elision, OfferedLine, RemovedLine, Other, NamedRow, lines_named, lines_offered, lines_removed, names_in, names_of_lines, cells_below, cells_of, rows_below, others, GroupPage, Page, page_text, PrintsPage, IsAscending, page_links}
 use Rattle.annotate_snippets.specs.Rows.{cause_head, message_style, origin_rows, place_found, place_given, rows_after_cause, rows_after_title, suggestion_head}
 
@@ -384,7 +385,8 @@ report_links r groups =
 -- and each listed character of which is one of a trusted text; it links to what the report links to. So without links, under a
 -- plain sheet, the text is the page's characters and nothing else (`plain` follows from `printed` and `links`). Where no label, path,
 -- id and name of a level holds a line feed, no cell of the page does, whatever the sources, the patches, and the texts of titles and
--- messages hold; so the lines of the text are the rows (`lines` follows from `one_line`)
+-- messages hold; so the lines of the text are the rows (`lines` follows from `one_line`). A row of an element begins with a number only
+-- where it shows a line (`numbers` follows from `shows`)
 pub record SheetsShown (r : Renderer) (groups : List Group) (sheets : List Stylesheet) (texts : List (List ℕ)) : Type 0 where
   pub page : Page
   pub shows : AreGroupsShown r groups page
@@ -393,4 +395,5 @@ pub record SheetsShown (r : Renderer) (groups : List Group) (sheets : List Style
   pub links : page_links page ≡ report_links r groups
   pub one_line : HasOneLineTexts groups → All HasOneLineRows page
   pub lines : HasOneLineTexts groups → text_lines (page_text page) ≡ page_lines page
+  pub numbers : (i : ℕ) (g : Group) (part : GroupPage) → slice_get groups i ≡ Some g → slice_get page i ≡ Some part → HasNumbersOfLines (frame_of r groups g).gutter part
   pub plain : report_links r groups ≡ [] → AllZip (λ sheet text. is_plain_sheet sheet ≡ true → text ≡ encode_utf8_all (page_text page)) sheets texts

@@ -1,0 +1,170 @@
+-- A row of an element begins with a number only where it shows a line.
+use Rattle.std.proofs.Common.{◌≡◌, ℕ, ◌+◌, ◌<◌, ◌≤◌, ◌==◌, ◌&&◌, ◌||◌, Bool, true, false, not, cond, Option, None, Some, List, [], ◌∷◌, ◌++◌, All, length, get_or, inl, inr, refl, sym, ap, ◌∙◌, subst, arith}
+use Rattle.std.specs.Cow.{cow_str_bytes}
+use Rattle.std.specs.Char.{is_ascii_alphanumeric}
+use Rattle.std.specs.List.{list_all, list_any, slice_get, slice_index_or}
+use Rattle.std.proofs.lemmas.Bool.{cases_Bool, eqb-true, false≢true}
+use Rattle.std.proofs.lemmas.List.Elements.{All-append, All-cons, All-from_get_or, All-head, All-nil, All-tail, All-weaker}
+use Rattle.std.proofs.lemmas.Option.{slice_get-get_or, slice_get_cases}
+use Rattle.snippet_model.specs.Heading.{heading_of_message}
+use Rattle.snippet_model.specs.Rows.{HasNoNumber}
+use Rattle.snippet_model.specs.declared.snippet.Annotation.{Annotation}
+use Rattle.snippet_model.specs.declared.snippet.Element.{Element}
+use Rattle.snippet_model.specs.declared.snippet.Element.TheVariants as element
+use Rattle.snippet_model.specs.declared.snippet.Group.{Group}
+use Rattle.snippet_model.specs.declared.snippet.Patch.{Patch}
+use Rattle.snippet_model.specs.declared.snippet.Snippet.{Snippet}
+use Rattle.snippet_style.specs.Cell.{Cell, SPACE}
+use Rattle.snippet_style.specs.declared.glyphs.DecorStyle.{DecorStyle}
+use Rattle.snippet_style.specs.declared.glyphs.DecorStyle.TheVariants.{Ascii, Unicode}
+use Rattle.snippet_style.specs.Glyphs.{placeholder_of}
+use Rattle.snippet_suggest.specs.Glyphs.{glyph_of}
+use Rattle.snippet_suggest.specs.Rows.{is_stroke}
+use Rattle.snippet_suggest.specs.declared.glyphs.SuggestionGlyph.TheVariants as sign
+use Rattle.snippet_suggest.specs.declared.SuggestionStart.{SuggestionStart}
+use Rattle.snippet_suggest.specs.declared.SuggestionStart.TheVariants as start
+use Rattle.snippet_titles.specs.Origin.{padding_row, primary_start}
+use Rattle.snippet_titles.specs.declared.style.MessageContext.{MessageContext}
+use Rattle.snippet_titles.proofs.HeadFacts.{message_rows-unnumbered, snippet_head-unnumbered}
+use Rattle.snippet_titles.proofs.OriginNumbers.{closing_row-unnumbered, origin_row-unnumbered, padding_row-unnumbered, separator_row-unnumbered}
+use Rattle.annotate_snippets.specs.declared.renderer.Renderer.{Renderer}
+use Rattle.annotate_snippets.specs.declared.renderer.element_context.ElementContext.{ElementContext}
+use Rattle.annotate_snippets.specs.declared.renderer.element_context.GroupPosition.{GroupPosition}
+use Rattle.annotate_snippets.specs.declared.renderer.frame.Frame.{Frame}
+use Rattle.annotate_snippets.specs.Around.{closes_after, closes_with, context_at, is_before_message, is_end, is_first_group, path_bytes}
+use Rattle.annotate_snippets.specs.Numbers.{HasNumbersOfLines, IsNumberedAsLine, shows_a_line}
+use Rattle.annotate_snippets.specs.Page.{RowName, SourceRow, Elision, OfferedLine, RemovedLine, Other, NamedRow, GroupPage, cells_of, others}
+use Rattle.annotate_snippets.specs.Rows.{cause_head, closing_rows, origin_layout, origin_rows, origin_start, patch_place, path_row, place_given, rows_after_cause, separator_rows, suggestion_head, suggestion_head_at}
+use Rattle.annotate_snippets.specs.Shown.{AreElementsShown, AreRowsOf, IsRowOf, IsSuggestionRow, ShowsElement, ShowsGroup}
+use Rattle.annotate_snippets.proofs.LeftLaws.{unnumbered_below, unnumbered_elided}
+
+-- ---- characters
+
+both_first : (a b : Bool) → (a && b) ≡ true → a ≡ true
+both_first true b is = refl
+both_first false b is = absurd (false≢true is)
+
+both_second : (a b : Bool) → (a && b) ≡ true → b ≡ true
+both_second true b is = is
+both_second false b is = absurd (false≢true is)
+
+rest_of : (a b : Bool) → a ≡ false → (a || b) ≡ true → b ≡ true
+rest_of true b none some = absurd (false≢true (sym none))
+rest_of false b none some = some
+
+not_true : (a : Bool) → not a ≡ true → a ≡ false
+not_true true is = absurd (false≢true is)
+not_true false is = refl
+
+-- a character among some that are no letters or digits is none
+one_of : (ds : List ℕ) (c : ℕ) → list_all (λ d. not (is_ascii_alphanumeric d)) ds ≡ true → list_any (λ d. d == c) ds ≡ true → is_ascii_alphanumeric c ≡ false
+one_of [] c none some = absurd (false≢true some)
+one_of (d ∷ ds) c none some =
+    elim (cases_Bool (d == c)) [
+      | inl same ↦ subst (λ e. is_ascii_alphanumeric e ≡ false) (eqb-true d c same) (not_true (is_ascii_alphanumeric d) (both_first (not (is_ascii_alphanumeric d)) (list_all (λ e. not (is_ascii_alphanumeric e)) ds) none))
+      | inr other ↦ one_of ds c (both_second (not (is_ascii_alphanumeric d)) (list_all (λ e. not (is_ascii_alphanumeric e)) ds) none) (rest_of (d == c) (list_any (λ e. e == c) ds) other some)
+    ]
+
+-- what stands left of the lines in a row of a suggestion that shows none
+abbrev strokes : DecorStyle → List ℕ
+strokes decor =
+    32 ∷ (placeholder_of decor ++ glyph_of decor sign.Opening ++ glyph_of decor sign.Next ++ glyph_of decor sign.Leading ++ glyph_of decor sign.Closing)
+
+-- it is no letter or digit
+stroke_unnumbered : (decor : DecorStyle) (c : ℕ) → is_stroke decor c ≡ true → is_ascii_alphanumeric c ≡ false
+stroke_unnumbered Ascii c is = one_of (strokes Ascii) c refl is
+stroke_unnumbered Unicode c is = one_of (strokes Unicode) c refl is
+
+-- ---- rows
+
+others_numbered : (gutter : ℕ) (rows : List (List Cell)) → All (HasNoNumber gutter) rows → All (IsNumberedAsLine gutter) (others rows)
+others_numbered gutter [] none = All-nil (IsNumberedAsLine gutter)
+others_numbered gutter (row ∷ rows) none =
+    All-cons (IsNumberedAsLine gutter) (record { name = Other; cells = row }) (others rows) (λ other. All-head (HasNoNumber gutter) row rows none) (others_numbered gutter rows (All-tail (HasNoNumber gutter) row rows none))
+
+one_row : (gutter : ℕ) (row : List Cell) → HasNoNumber gutter row → All (HasNoNumber gutter) (row ∷ [])
+one_row gutter row none = All-cons (HasNoNumber gutter) row [] none (All-nil (HasNoNumber gutter))
+
+closing_unnumbered : (r : Renderer) (frame : Frame) (closes : Bool) → All (HasNoNumber frame.gutter) (cond closes (closing_rows r frame) [])
+closing_unnumbered r frame true = one_row frame.gutter _ (closing_row-unnumbered r.decor_style frame.gutter)
+closing_unnumbered r frame false = All-nil (HasNoNumber frame.gutter)
+
+after_unnumbered : (r : Renderer) (frame : Frame) (separates closes : Bool) → All (HasNoNumber frame.gutter) (cond separates (separator_rows r frame) (cond closes (closing_rows r frame) []))
+after_unnumbered r frame true closes = one_row frame.gutter _ (separator_row-unnumbered r.decor_style frame.gutter)
+after_unnumbered r frame false closes = closing_unnumbered r frame closes
+
+-- ---- snippets
+
+row_numbered : (r : Renderer) (frame : Frame) (closes : Bool) (s : Snippet Annotation) (name : RowName) (cells : List Cell) (rows : List NamedRow) → IsRowOf r frame closes s name cells rows → shows_a_line name ≡ false → HasNoNumber frame.gutter cells
+row_numbered r frame closes s (SourceRow k) cells rows is none = absurd (false≢true (sym none))
+row_numbered r frame closes s Elision cells rows is none = unnumbered_elided r.decor_style frame cells is
+row_numbered r frame closes s (OfferedLine j) cells rows is none = absurd is
+row_numbered r frame closes s (RemovedLine i) cells rows is none = absurd is
+row_numbered r frame closes s Other cells rows is none =
+    unnumbered_below r.decor_style frame (closes && length rows == 0) cells is
+
+rows_numbered : (r : Renderer) (frame : Frame) (closes : Bool) (s : Snippet Annotation) (rows : List NamedRow) → AreRowsOf r frame closes s rows → All (IsNumberedAsLine frame.gutter) rows
+rows_numbered r frame closes s [] are = All-nil (IsNumberedAsLine frame.gutter)
+rows_numbered r frame closes s (row ∷ rows) are =
+    All-cons (IsNumberedAsLine frame.gutter) row rows (row_numbered r frame closes s row.name row.cells rows are.0) (rows_numbered r frame closes s rows are.1)
+
+-- ---- suggestions
+
+suggested_numbered : (r : Renderer) (gutter : ℕ) (s : Snippet Patch) (name : RowName) (cells : List Cell) → IsSuggestionRow r gutter s name cells → shows_a_line name ≡ false → HasNoNumber gutter cells
+suggested_numbered r gutter s (SourceRow k) cells is none = absurd is
+suggested_numbered r gutter s Elision cells is none = absurd is
+suggested_numbered r gutter s (OfferedLine j) cells is none = absurd (false≢true (sym none))
+suggested_numbered r gutter s (RemovedLine i) cells is none = absurd (false≢true (sym none))
+suggested_numbered r gutter s Other cells is none =
+    λ c left. stroke_unnumbered r.decor_style (get_or cells c SPACE).ch (is.strokes c (omega (arith, left)))
+
+path_unnumbered : (r : Renderer) (frame : Frame) (first : Bool) (s : Snippet Patch) (path : Option (List ℕ)) → All (HasNoNumber frame.gutter) (path_row r frame first s path)
+path_unnumbered r frame first s None = All-nil (HasNoNumber frame.gutter)
+path_unnumbered r frame first s (Some path) =
+    one_row frame.gutter _ (origin_row-unnumbered (origin_layout r frame) (primary_start first) path (patch_place s))
+
+head_unnumbered : (begins : SuggestionStart) (r : Renderer) (frame : Frame) (first : Bool) (s : Snippet Patch) → All (HasNoNumber frame.gutter) (suggestion_head_at begins r frame first s)
+head_unnumbered start.Opening r frame first s = All-nil (HasNoNumber frame.gutter)
+head_unnumbered start.Next r frame first s = All-nil (HasNoNumber frame.gutter)
+head_unnumbered start.Path r frame first s = path_unnumbered r frame first s (path_bytes s.path)
+
+-- ---- elements
+
+element_numbered : (r : Renderer) (frame : Frame) (around : ElementContext) (e : Element) (rows : List NamedRow) → ShowsElement r frame around e rows → All (IsNumberedAsLine frame.gutter) rows
+element_numbered r frame around (element.Message message) rows shown =
+    let place : MessageContext = record { gutter = frame.gutter; decor = r.decor_style; followed = not (is_end around.next) } in
+    let none : All (HasNoNumber frame.gutter) (cells_of rows) = subst (All (HasNoNumber frame.gutter)) (sym shown.shows.rows_are) (message_rows-unnumbered r.hyperlink place (heading_of_message message)) in
+    subst (All (IsNumberedAsLine frame.gutter)) (sym shown.named) (others_numbered frame.gutter (cells_of rows) none)
+element_numbered r frame around (element.Cause s) rows shown =
+    let P : NamedRow → Type 0 = IsNumberedAsLine frame.gutter in
+    let head : List (List Cell) = cause_head r frame around s in
+    let tail : List (List Cell) = rows_after_cause r frame around in
+    let above : All P (others head) = others_numbered frame.gutter head (snippet_head-unnumbered (origin_layout r frame) around.primary around.first (path_bytes s.path) _) in
+    let below : All P (others tail) = others_numbered frame.gutter tail (after_unnumbered r frame (is_first_group around.place && is_before_message around.next) (closes_after around)) in
+    let lines : All P shown.after = rows_numbered r frame (closes_with around) s shown.after shown.named in
+    subst (All P) (sym shown.rows_are) (All-append P (others head) (shown.after ++ others tail) above (All-append P shown.after (others tail) lines below))
+element_numbered r frame around (element.Suggestion s) rows shown =
+    let P : NamedRow → Type 0 = IsNumberedAsLine frame.gutter in
+    let head : List (List Cell) = suggestion_head r frame around s in
+    let above : All P (others head) = others_numbered frame.gutter head (head_unnumbered around.start r frame around.first s) in
+    let lines : All P shown.after = All-weaker (λ row. IsSuggestionRow r frame.gutter s row.name row.cells) P (λ row is. suggested_numbered r frame.gutter s row.name row.cells is) shown.after shown.named in
+    subst (All P) (sym shown.rows_are) (All-append P (others head) shown.after above lines)
+element_numbered r frame around (element.Origin origin) rows shown =
+    let P : List Cell → Type 0 = HasNoNumber frame.gutter in
+    let none : All P (origin_rows r frame around origin) = All-cons P _ _ (origin_row-unnumbered (origin_layout r frame) (origin_start around) (cow_str_bytes origin.path) (place_given origin)) (closing_unnumbered r frame (closes_after around)) in
+    subst (All (IsNumberedAsLine frame.gutter)) (sym shown.rows_are) (others_numbered frame.gutter (origin_rows r frame around origin) none)
+element_numbered r frame around (element.Padding padding) rows shown =
+    let row : List Cell = padding_row r.decor_style frame.gutter (is_end around.next) in
+    subst (All (IsNumberedAsLine frame.gutter)) (sym shown) (others_numbered frame.gutter (row ∷ []) (one_row frame.gutter row (padding_row-unnumbered r.decor_style frame.gutter (is_end around.next))))
+
+-- a group's elements have numbers beside lines alone
+pub group_numbered : (r : Renderer) (frame : Frame) (place : GroupPosition) (file : Option (List ℕ)) (es : List Element) (g : GroupPage) → AreElementsShown r frame place file es g.elements → HasNumbersOfLines frame.gutter g
+group_numbered r frame place file es g shown =
+    All-from_get_or (λ rows. All (IsNumberedAsLine frame.gutter) rows) g.elements [] each
+  where
+    each : (k : ℕ) → k < length g.elements → All (IsNumberedAsLine frame.gutter) (get_or g.elements k [])
+    each k within =
+        elim (slice_get_cases es k).1 [
+          | inl there ↦ element_numbered r frame (context_at place file es k there.0) there.0 (get_or g.elements k []) (shown.each k there.0 there.2)
+          | inr past ↦ absurd (omega (arith, within, past.0, shown.count))
+        ]
