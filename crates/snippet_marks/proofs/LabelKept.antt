@@ -1,5 +1,5 @@
 -- Marks, painted later, leave each label as it stands.
-use Rattle.std.proofs.Common.{◌≡◌, ℕ, zero, suc, ◌+◌, ◌<◌, ◌≤◌, ◌==◌, ◌&&◌, ◌||◌, nat_le, nat_lt, cond, Bool, true, false, List, [], ◌∷◌, ◌++◌, length, map, get_or, refl, sym, ap, ◌∙◌, subst, arith, inl, inr, ◌⊎◌, All, not}
+use Rattle.std.proofs.Common.{◌≡◌, ℕ, zero, suc, ◌+◌, ◌<◌, ◌≤◌, ◌==◌, ◌&&◌, ◌||◌, nat_le, nat_lt, cond, Bool, true, false, List, [], ◌∷◌, length, map, get_or, refl, sym, ap, ◌∙◌, subst, arith, inl, inr, ◌⊎◌, All, not}
 use Rattle.std.specs.List.{list_any}
 use Rattle.std.specs.Cow.{cow_str_bytes}
 use Rattle.std.proofs.lemmas.Bool.{cases_lt, cases_eq, eq-eqb}
@@ -17,7 +17,6 @@ use Rattle.std.proofs.lemmas.List.Sorted.{All-permutation}
 use Rattle.snippet_style.specs.Cell.{Cell, SPACE}
 use Rattle.snippet_grid.specs.Grid.{cell_at}
 use Rattle.snippet_marks.specs.Painting.{AreMarked, IsPaintedAt, mark_end, StandsWhole}
-use Rattle.snippet_marks.specs.Writes.{painted}
 use Rattle.snippet_marks.proofs.PlacedLemmas.{length-positions}
 
 -- a position is no lower than the one reached, and so no lower than those before it

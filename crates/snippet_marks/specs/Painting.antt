@@ -1,5 +1,5 @@
 -- How the marks of a line are painted, one over another.
-use Rattle.std.specs.Prelude.{◌≡◌, ◌≢◌, ℕ, ◌+◌, ◌<◌, ◌≤◌, ◌==◌, ◌&&◌, ◌||◌, nat_lt, not, max, Bool, true, List, [], ◌∷◌, All, IsPermutation, length, map, slice_index_or, if◌then◌else◌, ◌⊎◌, ◌-◌, ◌++◌}
+use Rattle.std.specs.Prelude.{◌≡◌, ◌≢◌, ℕ, ◌+◌, ◌<◌, ◌≤◌, ◌==◌, ◌&&◌, ◌||◌, nat_lt, not, max, Bool, true, List, [], ◌∷◌, All, IsPermutation, length, map, slice_index_or, if◌then◌else◌}
 use Rattle.snippet_lines.specs.Order.{ordered_by}
 use Rattle.snippet_view.specs.declared.entries.LineAnnotation.{LineAnnotation}
 use Rattle.snippet_style.specs.declared.glyphs.DecorStyle.{DecorStyle}

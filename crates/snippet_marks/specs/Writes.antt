@@ -1,5 +1,5 @@
 -- What is written into rows, as values, and what rows are after it.
-use Rattle.std.specs.Prelude.{ℕ, ◌+◌, ◌-◌, ◌<◌, ◌≤◌, ◌≡◌, nat_lt, List, [], ◌∷◌, fold, replicate, if◌then◌else◌}
+use Rattle.std.specs.Prelude.{ℕ, ◌-◌, nat_lt, List, [], ◌∷◌, fold, replicate, if◌then◌else◌}
 use Rattle.snippet_style.specs.declared.role.ElementStyle.{ElementStyle}
 use Rattle.snippet_style.specs.Cell.{Cell, text_cells}
 use Rattle.snippet_grid.specs.Grid.{cells_written}
