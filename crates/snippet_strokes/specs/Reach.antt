@@ -1,5 +1,5 @@
 -- Which cells a write reaches, and what it leaves there.
-use Rattle.std.specs.Prelude.{ℕ, ◌+◌, ◌-◌, ◌<◌, ◌≤◌, ◌≡◌, false, All, [], ◌∷◌, length, slice_index_or, if◌then◌else◌}
+use Rattle.std.specs.Prelude.{ℕ, ◌+◌, ◌-◌, ◌<◌, ◌≤◌, ◌≡◌, false, All, length, slice_index_or}
 use Rattle.snippet_style.specs.Cell.{Cell, unlinked_cell}
 use Rattle.snippet_text.specs.Normalized.{is_listed}
 use Rattle.snippet_marks.specs.Writes.{Write}
