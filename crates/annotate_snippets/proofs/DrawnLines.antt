@@ -18,7 +18,7 @@ use Rattle.snippet_grid.specs.Grid.{cell_at}
 use Rattle.snippet_style.specs.Glyphs.{glyph_of, underline_role}
 use Rattle.snippet_strokes.specs.Bars.{Bar, HasOwnDepth, bar_at, bar_of, bars_apart, ends_of_bars}
 use Rattle.snippet_strokes.specs.LineRows.{AreLineRows}
-use Rattle.snippet_strokes.specs.Rows.{IsSourceRow, window_cells}
+use Rattle.snippet_marks.specs.SourceRows.{IsSourceRow, window_cells}
 use Rattle.snippet_strokes.specs.Snippet as strokes
 use Rattle.snippet_strokes.proofs.BarLaws.{bar_past}
 use Rattle.annotate_snippets.specs.declared.renderer.Renderer.{Renderer}

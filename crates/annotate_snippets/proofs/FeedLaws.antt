@@ -10,8 +10,9 @@ use Rattle.snippet_style.specs.Glyphs.{bar_glyphs, closing_of, elision_of, separ
 use Rattle.snippet_style.specs.declared.glyphs.DecorStyle.{DecorStyle}
 use Rattle.snippet_style.specs.declared.glyphs.DecorStyle.TheVariants.{Ascii, Unicode}
 use Rattle.snippet_style.specs.declared.role.ElementStyle.TheVariants.{LineNumber}
-use Rattle.snippet_strokes.specs.Entries.{IsBarCell}
-use Rattle.snippet_strokes.specs.Rows.{bare_elision_row, bare_row}
+use Rattle.snippet_strokes.specs.EntryMarks.{IsBarCell}
+use Rattle.snippet_strokes.specs.Rows.{bare_elision_row}
+use Rattle.snippet_marks.specs.SourceRows.{bare_row}
 use Rattle.annotate_snippets.specs.declared.renderer.frame.Frame.{Frame}
 use Rattle.annotate_snippets.specs.Feeds.{HasNoFeed, HoldsNoFeed, IsNoFeed}
 use Rattle.annotate_snippets.specs.Shown.{IsElided}

@@ -34,17 +34,18 @@ use Rattle.snippet_view.specs.declared.entries.LineAnnotationType.TheVariants.{S
 use Rattle.snippet_view.proofs.PartLemmas.{made-all}
 use Rattle.snippet_strokes.specs.Bars.{Bar, bars_apart, ends_of_bars, is_whole_line}
 use Rattle.snippet_strokes.specs.Cuts.{Stretch, cut_row, cuts_of, overlapped}
-use Rattle.snippet_strokes.specs.Entries.{label_text, shifted}
+use Rattle.snippet_marks.specs.Entries.{label_text, shifted}
 use Rattle.snippet_strokes.specs.LineRows.{AreLineRows, AreOwnRows}
-use Rattle.snippet_strokes.specs.Painting.{first_glyph, foot_of, mark_end, painting_order}
-use Rattle.snippet_strokes.specs.Positions.{has_label, has_stem, row_count, takes_space}
-use Rattle.snippet_strokes.specs.Rows.{bare_row}
-use Rattle.snippet_strokes.specs.Strokes.{StrokesPainted, bar_cell as bar_column, bar_of, begun_rows, connector_of, connectors_of, corner_by, corner_of, corners_of, label_of, label_write, labels_of, mark_of, marks_of, stem_write, stems_of, stroke_role, strokes_of}
-use Rattle.snippet_strokes.specs.Writes.{Write, column_of, glyph_at, painted, stretch_of}
-use Rattle.snippet_strokes.specs.declared.layout.Layout.{Layout}
+use Rattle.snippet_marks.specs.Painting.{first_glyph, mark_end, painting_order, mark_of, marks_of, stroke_role}
+use Rattle.snippet_strokes.specs.Drawing.{foot_of, row_count}
+use Rattle.snippet_marks.specs.Positions.{has_label, has_stem, takes_space}
+use Rattle.snippet_marks.specs.SourceRows.{bare_row}
+use Rattle.snippet_strokes.specs.Strokes.{StrokesPainted, bar_cell as bar_column, bar_of, begun_rows, connector_of, connectors_of, corner_by, corner_of, corners_of, label_of, label_write, labels_of, stem_write, stems_of, strokes_of, column_of}
+use Rattle.snippet_marks.specs.Writes.{Write, glyph_at, painted, stretch_of}
+use Rattle.snippet_marks.specs.declared.layout.Layout.{Layout}
 use Rattle.snippet_strokes.proofs.BarWrites.{All-connector_of, All-stretch_of}
 use Rattle.snippet_strokes.proofs.LabelWrites.{All-label_of}
-use Rattle.snippet_strokes.proofs.PositionLemmas.{entries_all}
+use Rattle.snippet_marks.proofs.PlacedLemmas.{entries_all}
 use Rattle.snippet_strokes.proofs.StemWrites.{All-stem_of, All-stems_of}
 use Rattle.snippet_strokes.proofs.WriteLaws.{All-flat_map, painted-cell}
 use Rattle.annotate_snippets.specs.declared.renderer.Renderer.{Renderer}

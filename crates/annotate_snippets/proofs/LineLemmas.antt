@@ -31,12 +31,14 @@ use Rattle.snippet_view.specs.Marked.{seen_entry, entry_of}
 use Rattle.snippet_view.specs.Measures.{is_bar, is_single_part, is_wide_entry}
 use Rattle.snippet_lines.specs.Span.{IsSpan}
 use Rattle.snippet_view.specs.Window.{AreReplaced, chars_at, dropped_part, stands_whole, window}
-use Rattle.snippet_strokes.specs.Entries.{IsEntryMark, IsMarkCell, are_plain, has_column, has_mark_role, is_single, label_role, label_text, shifted, wide_entries}
+use Rattle.snippet_strokes.specs.EntryMarks.{IsEntryMark, IsMarkCell, are_plain, has_column, has_mark_role, is_single, wide_entries}
+use Rattle.snippet_marks.specs.Entries.{label_role, label_text, shifted}
 use Rattle.snippet_lines.specs.Number.{shown_number}
-use Rattle.snippet_strokes.specs.Rows.{IsStrokeRow, ShowsMarks, window_cells}
+use Rattle.snippet_strokes.specs.Rows.{IsStrokeRow, ShowsMarks}
+use Rattle.snippet_marks.specs.SourceRows.{window_cells}
 use Rattle.snippet_strokes.specs.Snippet as strokes
 use Rattle.snippet_strokes.specs.Bars.{Bar}
-use Rattle.snippet_strokes.specs.declared.layout.Layout.{Layout}
+use Rattle.snippet_marks.specs.declared.layout.Layout.{Layout}
 use Rattle.snippet_strokes.proofs.SnippetLemmas.{highlighted_left, highlighted_text}
 use Rattle.annotate_snippets.specs.declared.renderer.Renderer.{Renderer}
 use Rattle.annotate_snippets.specs.declared.renderer.frame.Frame.{Frame}

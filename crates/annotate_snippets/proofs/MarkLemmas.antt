@@ -14,11 +14,12 @@ use Rattle.snippet_view.specs.Marked.{first_line, last_line, Entry, seen_entry, 
 use Rattle.snippet_view.specs.Mark.{is_marking, is_single_line, is_marked_on, start_column, end_column, span_width, IsMarkedAt, IsMarkOf}
 use Rattle.std.specs.Borrow.{Bor}
 use Rattle.std.specs.Option.{option_copied}
-use Rattle.snippet_strokes.specs.Entries as entry
+use Rattle.snippet_marks.specs.Entries as entry
 use Rattle.annotate_snippets.specs.Shown.{shown_label, normalized_chars}
-use Rattle.snippet_strokes.specs.Entries.{EntryCovers, IsEntryMark, shifted}
+use Rattle.snippet_strokes.specs.EntryMarks.{EntryCovers, IsEntryMark}
+use Rattle.snippet_marks.specs.Entries.{shifted}
 use Rattle.snippet_model.specs.AnnotationKind.{is_primary}
-use Rattle.snippet_strokes.specs.Painting.{StandsFrom}
+use Rattle.snippet_strokes.specs.Drawing.{StandsFrom}
 use Rattle.snippet_strokes.proofs.MarkLemmas.{from_map}
 use Rattle.annotate_snippets.proofs.ListLemmas.{Contains-filter, Contains-map, Contains-head, from_any}
 

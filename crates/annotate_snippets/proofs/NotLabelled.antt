@@ -16,7 +16,8 @@ use Rattle.snippet_model.specs.declared.snippet.AnnotationKind.{AnnotationKind}
 use Rattle.snippet_model.specs.declared.snippet.AnnotationKind.TheVariants.{Primary, Context, Visible}
 use Rattle.snippet_model.specs.declared.snippet.Snippet.{Snippet}
 use Rattle.snippet_strokes.proofs.MarkLemmas.{from_map}
-use Rattle.snippet_strokes.specs.Entries.{is_mark_role, label_role}
+use Rattle.snippet_strokes.specs.EntryMarks.{is_mark_role}
+use Rattle.snippet_marks.specs.Entries.{label_role}
 use Rattle.annotate_snippets.specs.declared.renderer.frame.Frame.{Frame}
 use Rattle.annotate_snippets.specs.Shown.{ShowsLabel, ShowsLabels, ShownLabel, SpanLabel, is_in_label, labels_ending_on}
 

@@ -35,8 +35,9 @@ use Rattle.snippet_lines.specs.Lines.{Source, source_lines}
 use Rattle.snippet_view.specs.Mark.{is_marked_on, is_marking, is_single_line, is_wide, touches}
 use Rattle.snippet_view.specs.Marked.{first_line, last_line}
 use Rattle.snippet_view.specs.Measures.{StandsClear, bounds_of_lines, is_wide_entry, margin_of}
-use Rattle.snippet_strokes.specs.Entries.{HasPlace, HasBarCell, HasBarCellAt}
-use Rattle.snippet_strokes.specs.declared.layout.Layout.{Layout}
+use Rattle.snippet_marks.specs.Entries.{HasPlace}
+use Rattle.snippet_strokes.specs.EntryMarks.{HasBarCell, HasBarCellAt}
+use Rattle.snippet_marks.specs.declared.layout.Layout.{Layout}
 use Rattle.annotate_snippets.specs.Gutter.{code_after}
 use Rattle.snippet_lines.specs.Span.{IsSpan}
 use Rattle.snippet_view.specs.Window.{stands_whole}

@@ -15,9 +15,10 @@ use Rattle.snippet_view.specs.Window.{chars_at, dropped_part}
 use Rattle.snippet_view.specs.declared.entries.LineAnnotation.{LineAnnotation}
 use Rattle.snippet_view.specs.declared.margin.Margin.{Margin}
 use Rattle.snippet_strokes.specs.Bars.{Bar, bar_at, open_past}
-use Rattle.snippet_strokes.specs.Entries.{is_end_part}
+use Rattle.snippet_marks.specs.Entries.{is_end_part}
 use Rattle.snippet_strokes.specs.LineRows.{AreLineRows}
-use Rattle.snippet_strokes.specs.Rows.{IsHighlighted, IsSourceRow, window_cells}
+use Rattle.snippet_strokes.specs.Rows.{IsHighlighted}
+use Rattle.snippet_marks.specs.SourceRows.{IsSourceRow, window_cells}
 use Rattle.snippet_strokes.specs.Snippet.{gap_row}
 use Rattle.annotate_snippets.specs.declared.renderer.Renderer.{Renderer}
 use Rattle.annotate_snippets.specs.declared.renderer.frame.Frame.{Frame}

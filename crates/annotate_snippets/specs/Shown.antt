@@ -45,9 +45,11 @@ use Rattle.snippet_view.specs.declared.location.Location.{Location}
 use Rattle.snippet_view.specs.Window.{chars_at, stands_whole, IsWindowOf}
 use Rattle.snippet_model.specs.Rows.{IsFree}
 use Rattle.snippet_style.specs.Glyphs.{separator_of, placeholder_of}
-use Rattle.snippet_strokes.specs.Entries.{IsMarkCell, IsBarCell, has_mark_role, label_role}
+use Rattle.snippet_strokes.specs.EntryMarks.{IsMarkCell, IsBarCell, has_mark_role}
+use Rattle.snippet_marks.specs.Entries.{label_role}
 use Rattle.snippet_strokes.specs.Labels.{IsStrokeCell}
-use Rattle.snippet_strokes.specs.Rows.{IsElisionRow, bare_row}
+use Rattle.snippet_strokes.specs.Rows.{IsElisionRow}
+use Rattle.snippet_marks.specs.SourceRows.{bare_row}
 use Rattle.snippet_titles.specs.Heading.{heading_rows}
 use Rattle.snippet_titles.specs.Origin.{origin_text, padding_row}
 use Rattle.snippet_titles.specs.Shown.{IsFreeButText, LinksId, heading_texts}

@@ -14,15 +14,18 @@ use Rattle.snippet_text.specs.Normalized.{is_listed}
 use Rattle.snippet_view.specs.Measures.{is_single_part}
 use Rattle.snippet_view.specs.declared.entries.LineAnnotationType.{LineAnnotationType}
 use Rattle.snippet_view.specs.declared.entries.LineAnnotationType.TheVariants.{Singleline, MultilineStart, MultilineEnd, MultilineLine}
-use Rattle.snippet_strokes.specs.declared.layout.Layout.{Layout}
-use Rattle.snippet_strokes.specs.declared.positions.PlacedEntry.{PlacedEntry}
-use Rattle.snippet_strokes.specs.Entries.{HasBarCell, HasBarCellAt, IsBarCell, is_single}
-use Rattle.snippet_strokes.specs.Painting.{DrawsBarCells, HasRows, KeepsBarCells}
-use Rattle.snippet_strokes.specs.Strokes.{bar_of, bottom_of, connector_by, connector_of, connectors_of, corner_by, corner_of, corners_of, line_to, stroke_role, top_of}
-use Rattle.snippet_strokes.specs.Writes.{IsWithin, Write, column_of, glyph_at, painted, stretch_of, written_by}
+use Rattle.snippet_marks.specs.declared.layout.Layout.{Layout}
+use Rattle.snippet_marks.specs.declared.positions.PlacedEntry.{PlacedEntry}
+use Rattle.snippet_strokes.specs.EntryMarks.{HasBarCell, HasBarCellAt, IsBarCell, is_single}
+use Rattle.snippet_strokes.specs.Drawing.{DrawsBarCells, HasRows, KeepsBarCells}
+use Rattle.snippet_strokes.specs.Strokes.{bar_of, bottom_of, connector_by, connector_of, connectors_of, corner_by, corner_of, corners_of, line_to, top_of, column_of}
+use Rattle.snippet_marks.specs.Painting.{stroke_role}
+use Rattle.snippet_strokes.specs.Reach.{IsWithin}
+use Rattle.snippet_marks.specs.Writes.{Write, glyph_at, painted, stretch_of, written_by}
 use Rattle.snippet_strokes.proofs.DrawLemmas.{DrawsBarCells-more, DrawsBarCells-none, DrawsBarCells-writes, free_bar, bar_bottom, bar_horizontal, bar_top, bar_vertical}
 use Rattle.snippet_strokes.proofs.WriteLaws.{All-flat_map, flat_map-none, painted-cell}
-use Rattle.snippet_strokes.proofs.WriteLemmas.{column_of-none, column_painted, painted-append}
+use Rattle.snippet_strokes.proofs.StrokeWrites.{column_of-none, column_painted}
+use Rattle.snippet_marks.proofs.WriteLemmas.{painted-append}
 
 -- each character of a write is a part of a bar
 abbrev pub IsBarCellWrite : DecorStyle → Write → Type 0

@@ -16,16 +16,15 @@ use Rattle.snippet_style.specs.declared.glyphs.DecorStyle.{DecorStyle}
 use Rattle.snippet_grid.specs.Grid.{row_at}
 use Rattle.snippet_style.specs.Cell.{Cell, SPACE, written}
 use Rattle.snippet_style.proofs.CellLemmas.{take-written_past, drop-written}
-use Rattle.snippet_strokes.specs.declared.layout.Layout.{Layout}
-use Rattle.snippet_strokes.specs.declared.positions.PlacedEntry.{PlacedEntry}
-use Rattle.snippet_strokes.specs.Entries.{IsBarCell, are_plain, has_column, is_single, wide_entries}
-use Rattle.snippet_model.specs.Rows.{IsFreeCell}
-use Rattle.snippet_strokes.specs.Painting.{HasRows}
-use Rattle.snippet_strokes.specs.Positions.{row_count}
-use Rattle.snippet_model.specs.Rows.{IsFree}
-use Rattle.snippet_strokes.specs.Rows.{bare_row, IsCut, IsStrokeRow}
+use Rattle.snippet_marks.specs.declared.layout.Layout.{Layout}
+use Rattle.snippet_marks.specs.declared.positions.PlacedEntry.{PlacedEntry}
+use Rattle.snippet_strokes.specs.EntryMarks.{IsBarCell, are_plain, has_column, is_single, wide_entries}
+use Rattle.snippet_model.specs.Rows.{IsFreeCell, IsFree}
+use Rattle.snippet_strokes.specs.Drawing.{HasRows, row_count}
+use Rattle.snippet_marks.specs.SourceRows.{bare_row}
+use Rattle.snippet_strokes.specs.Rows.{IsCut, IsStrokeRow}
 use Rattle.snippet_style.specs.Separators.{separator_row}
-use Rattle.snippet_strokes.proofs.PaintLemmas.{IsPlainEntry}
+use Rattle.snippet_strokes.proofs.PlainMarks.{IsPlainEntry}
 use Rattle.snippet_strokes.proofs.PositionLemmas.{HasRows-row_count, row_count_some}
 
 -- rows that stand below those that are kept

@@ -16,12 +16,13 @@ use Rattle.snippet_style.specs.Cell.{Cell, text_cells}
 use Rattle.snippet_grid.specs.Print.{row_text}
 use Rattle.snippet_grid.proofs.ChangeLemmas.{changed_within_one}
 use Rattle.snippet_grid.proofs.ReplaceLemmas.{replaced_there, replaced_empty, replaced_past}
-use Rattle.snippet_strokes.specs.declared.layout.Layout.{Layout}
-use Rattle.snippet_strokes.specs.declared.positions.PlacedEntry.{PlacedEntry}
+use Rattle.snippet_marks.specs.declared.layout.Layout.{Layout}
+use Rattle.snippet_marks.specs.declared.positions.PlacedEntry.{PlacedEntry}
 use Rattle.snippet_model.specs.Rows.{IsFreeCell}
 use Rattle.snippet_strokes.specs.Cuts.{Stretch, cut_of, cut_row, cut_rows, cuts_of, is_wide_at, middle_of}
 use Rattle.snippet_strokes.specs.Rows.{IsCut, CutsRows}
-use Rattle.snippet_strokes.proofs.CellLemmas.{free_placeholder, row_text-text_cells}
+use Rattle.snippet_marks.proofs.CellLemmas.{free_placeholder}
+use Rattle.snippet_grid.proofs.RowLemmas.{row_text-text_cells}
 
 -- how many of the first elements pass a test, with one more of them
 pub count_by_more : {X : Type 0} (p : X → Bool) (xs : List X) (i : ℕ) (x : X) → i < length xs → x ≡ get_or xs i x → count_by p (take (i + 1) xs) ≡ count_by p (take i xs) + count_by p (x ∷ [])

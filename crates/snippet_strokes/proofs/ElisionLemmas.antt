@@ -10,7 +10,7 @@ use Rattle.snippet_style.specs.Glyphs.{elision_of}
 use Rattle.snippet_grid.specs.Grid.{row_at}
 use Rattle.snippet_style.specs.Cell.{Cell, SPACE, text_cells}
 use Rattle.snippet_text.specs.Normalized.{is_listed}
-use Rattle.snippet_strokes.specs.declared.layout.Layout.{Layout}
+use Rattle.snippet_marks.specs.declared.layout.Layout.{Layout}
 use Rattle.snippet_strokes.specs.declared.bars.OpenBar.{OpenBar}
 use Rattle.snippet_strokes.specs.declared.bars.BarStroke.TheVariants.{Dotted}
 use Rattle.snippet_strokes.specs.Bars.{BarsDrawn, DrawsBars, barred}
@@ -20,7 +20,7 @@ use Rattle.snippet_model.specs.Rows.{IsFree}
 use Rattle.snippet_strokes.specs.Rows.{bare_elision_row}
 use Rattle.snippet_strokes.proofs.BarLemmas.{bar_space}
 use Rattle.snippet_strokes.proofs.RowLemmas.{free_led, length-led}
-use Rattle.snippet_strokes.proofs.DrawLemmas.{free_drawn}
+use Rattle.snippet_model.proofs.RowLemmas.{free_drawn}
 
 -- the cell from which the sign stands
 abbrev pub elision_cell : DecorStyle → ℕ → ℕ

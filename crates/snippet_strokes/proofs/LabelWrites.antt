@@ -6,12 +6,14 @@ use Rattle.snippet_model.specs.declared.snippet.AnnotationKind.{AnnotationKind}
 use Rattle.snippet_model.specs.declared.snippet.AnnotationKind.TheVariants.{Primary, Context, Visible}
 use Rattle.snippet_style.specs.Cell.{Cell, text_cells, unlinked_cell}
 use Rattle.snippet_grid.specs.Grid.{cells_written}
-use Rattle.snippet_strokes.specs.declared.layout.Layout.{Layout}
-use Rattle.snippet_strokes.specs.declared.positions.PlacedEntry.{PlacedEntry}
-use Rattle.snippet_strokes.specs.Entries.{HasPlace, has_mark_role, label_role, label_text}
-use Rattle.snippet_strokes.specs.Painting.{HasRows, MarksStarts, StandsFrom}
-use Rattle.snippet_strokes.specs.Positions.{has_label}
-use Rattle.snippet_strokes.specs.Writes.{Write, Reaches, IsWithin, painted, cell_of_write}
+use Rattle.snippet_marks.specs.declared.layout.Layout.{Layout}
+use Rattle.snippet_marks.specs.declared.positions.PlacedEntry.{PlacedEntry}
+use Rattle.snippet_marks.specs.Entries.{HasPlace, label_role, label_text}
+use Rattle.snippet_strokes.specs.EntryMarks.{has_mark_role}
+use Rattle.snippet_strokes.specs.Drawing.{HasRows, MarksStarts, StandsFrom}
+use Rattle.snippet_marks.specs.Positions.{has_label}
+use Rattle.snippet_marks.specs.Writes.{Write, painted}
+use Rattle.snippet_strokes.specs.Reach.{Reaches, IsWithin, cell_of_write}
 use Rattle.snippet_strokes.specs.Strokes.{label_write, label_of, labels_of}
 use Rattle.snippet_strokes.proofs.PositionLemmas.{label_beside, label_column, label_stands}
 use Rattle.snippet_strokes.proofs.TextLemmas.{free_label_text}

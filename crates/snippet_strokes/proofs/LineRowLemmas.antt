@@ -10,17 +10,20 @@ use Rattle.snippet_style.specs.Separators.{closing_row, separator_row}
 use Rattle.snippet_view.specs.declared.entries.LineAnnotation.{LineAnnotation}
 use Rattle.snippet_strokes.specs.declared.bars.OpenBar.{OpenBar}
 use Rattle.snippet_strokes.specs.declared.bars.BarStroke.TheVariants.{Top, Solid}
-use Rattle.snippet_strokes.specs.declared.layout.Layout.{Layout}
-use Rattle.snippet_strokes.specs.declared.positions.PlacedEntry.{PlacedEntry}
+use Rattle.snippet_marks.specs.declared.layout.Layout.{Layout}
+use Rattle.snippet_marks.specs.declared.positions.PlacedEntry.{PlacedEntry}
 use Rattle.snippet_strokes.specs.Bars.{barred, bars_apart, ends_of_bars, is_whole_line, with_bars}
-use Rattle.snippet_strokes.specs.Entries.{shifted, wide_entries}
+use Rattle.snippet_marks.specs.Entries.{shifted}
+use Rattle.snippet_strokes.specs.EntryMarks.{wide_entries}
 use Rattle.snippet_strokes.specs.LineRows.{AddsOwnRows, AreLineRows}
-use Rattle.snippet_strokes.specs.Painting.{painting_order}
-use Rattle.snippet_strokes.specs.Positions.{ArePlaced, row_count}
+use Rattle.snippet_marks.specs.Painting.{painting_order}
+use Rattle.snippet_marks.specs.Positions.{ArePlaced}
+use Rattle.snippet_strokes.specs.Drawing.{row_count}
 use Rattle.snippet_strokes.specs.Cuts.{Stretch, cut_row, cut_rows, cuts_of, is_wide_at, overlapped}
-use Rattle.snippet_strokes.specs.Rows.{CutsRows, bare_row}
+use Rattle.snippet_strokes.specs.Rows.{CutsRows}
+use Rattle.snippet_marks.specs.SourceRows.{bare_row}
 use Rattle.snippet_strokes.specs.Strokes.{AddsPainted, begun_rows, strokes_of}
-use Rattle.snippet_strokes.specs.Writes.{Write, painted}
+use Rattle.snippet_marks.specs.Writes.{Write, painted}
 use Rattle.snippet_strokes.proofs.BarRows.{barred-below}
 use Rattle.snippet_strokes.proofs.CutLemmas.{cut_rows-here, cuts_of-narrow}
 use Rattle.snippet_strokes.proofs.LowerWrites.{painted-below, strokes-lowered}

@@ -12,12 +12,13 @@ use Rattle.snippet_style.specs.Glyphs.{IsMarkGlyph, underline_role}
 use Rattle.snippet_grid.specs.Grid.{cell_at}
 use Rattle.snippet_style.specs.Cell.{Cell}
 use Rattle.snippet_style.specs.declared.glyphs.DecorStyle.{DecorStyle}
-use Rattle.snippet_strokes.specs.declared.layout.Layout.{Layout}
-use Rattle.snippet_strokes.specs.declared.positions.PlacedEntry.{PlacedEntry}
-use Rattle.snippet_strokes.specs.Entries.{EntryCovers, entry_width, IsEntryMark, IsMarkCell}
+use Rattle.snippet_marks.specs.declared.layout.Layout.{Layout}
+use Rattle.snippet_marks.specs.declared.positions.PlacedEntry.{PlacedEntry}
+use Rattle.snippet_strokes.specs.EntryMarks.{EntryCovers, IsEntryMark, IsMarkCell}
+use Rattle.snippet_marks.specs.Entries.{entry_width}
 use Rattle.snippet_model.specs.AnnotationKind.{is_primary}
-use Rattle.snippet_strokes.specs.Painting.{CoversOver, AreMarked}
-use Rattle.snippet_strokes.proofs.PaintLemmas.{IsMarkCell-mark_cell, IsPlainEntry, covered_painted, painted_covered, spaceless}
+use Rattle.snippet_marks.specs.Painting.{CoversOver, AreMarked}
+use Rattle.snippet_strokes.proofs.PlainMarks.{IsMarkCell-mark_cell, IsPlainEntry, covered_painted, painted_covered, spaceless}
 
 -- a kind that is drawn as primary is Primary
 primary_only : (kind : AnnotationKind) → is_primary kind ≡ true → kind ≡ Primary

@@ -1,40 +1,19 @@
 -- The positions of labels.
-use Rattle.std.proofs.Common.{◌≡◌, ℕ, suc, ◌+◌, ◌-◌, ◌<◌, ◌≤◌, ◌^◌, ◌==◌, ◌&&◌, ◌||◌, cond, max, nat_lt, not, Bool, true, false, List, [], ◌∷◌, ◌++◌, length, map, fold, drop, take, set, get_or, refl, sym, ap, ◌∙◌, subst, arith, inl, inr, All, zero}
+use Rattle.std.proofs.Common.{◌≡◌, ℕ, ◌+◌, ◌-◌, ◌<◌, ◌≤◌, ◌^◌, ◌==◌, ◌&&◌, ◌||◌, cond, max, nat_lt, not, Bool, true, false, List, [], ◌∷◌, length, map, fold, get_or, refl, sym, ap, ◌∙◌, subst, arith, inl, inr, All}
 use Rattle.std.specs.List.{list_any}
-use Rattle.std.specs.Cow.{cow_str_bytes}
 use Rattle.std.proofs.lemmas.Bool.{cases_Bool, cases_eq, eq-eqb, and_parts}
 use Rattle.std.proofs.lemmas.Bool.Decides.{nat_tests}
-use Rattle.std.proofs.lemmas.Simd.{map-map}
-use Rattle.std.proofs.lemmas.List.{append_assoc, append-nil, drop_more, drop_all, take_more, take_more_set, take_all, length-map, get_or-map}
+use Rattle.std.proofs.lemmas.List.{length-map, get_or-map}
 use Rattle.std.proofs.lemmas.List.Elements.{All-cons, All-nil, All-head, All-tail, All-map}
-use Rattle.std.proofs.lemmas.List.Folds.{list_all-map, list_any_none}
+use Rattle.std.proofs.lemmas.List.Folds.{list_any_none}
 use Rattle.std.proofs.lemmas.List.Sums.{AllPass-from_list_all}
-use Rattle.std.specs.List.Sorted.{IsPermutation}
-use Rattle.std.proofs.lemmas.List.Sorted.{All-permutation, IsPermutation-map}
-use Rattle.snippet_lines.specs.Order.{ordered_by}
 use Rattle.snippet_view.specs.declared.entries.LineAnnotation.{LineAnnotation}
-use Rattle.snippet_strokes.specs.declared.positions.PlacedEntry.{PlacedEntry}
-use Rattle.snippet_strokes.specs.Positions.{ArePlaced, IsFromRight, HasItsLabel, asks, do_overlap, ends_no_later, has_label, takes_space, has_stem, is_start, is_start_part, are_starts}
-use Rattle.snippet_strokes.specs.Positions.{crosses, crowds, position_at, position_after, positions, flipped, line_positions, lowest_position, row_count, label_place, unplaced, is_placed_before}
-use Rattle.snippet_strokes.specs.Painting.{HasRows}
+use Rattle.snippet_marks.specs.declared.positions.PlacedEntry.{PlacedEntry}
+use Rattle.snippet_marks.specs.Positions.{ArePlaced, has_label, takes_space, has_stem, is_start, is_start_part, are_starts, crosses, crowds, position_at, position_after, positions, flipped, line_positions, label_place}
+use Rattle.snippet_strokes.specs.Drawing.{lowest_position, row_count, HasRows}
 use Rattle.snippet_view.specs.Measures.{greatest}
-use Rattle.snippet_strokes.specs.Entries.{HasPlace}
-use Rattle.snippet_view.proofs.PartLemmas.{list_any-map}
-use Rattle.snippet_strokes.proofs.CellLemmas.{above_zero}
-
--- one more position is known
-pub positions_more : (ps : List ℕ) (es : List PlacedEntry) (all : List ℕ) (i reached : ℕ) (d : PlacedEntry) → i < length es
-    → ps ++ positions reached (drop i es) ≡ all → let e = get_or es i d in let others = drop (i + 1) es in
-    (ps ++ position_at reached e others ∷ []) ++ positions (position_after (position_at reached e others) e others) others ≡ all
-positions_more ps es all i reached d within so_far =
-    let e = get_or es i d in
-    let others = drop (i + 1) es in
-    append_assoc ps (position_at reached e others ∷ []) (positions (position_after (position_at reached e others) e others) others) ∙ sym (ap (λ xs. ps ++ positions reached xs) (drop_more es i d within)) ∙ so_far
-
--- the position reached grows by one at most, from 1 on
-pub reached_low : (reached i : ℕ) (e : PlacedEntry) (others : List PlacedEntry) → reached ≤ i + 1 → position_after (position_at reached e others) e others ≤ i + 1 + 1
-reached_low reached i e others low =
-    grind (arith, nat_tests)
+use Rattle.snippet_marks.specs.Entries.{HasPlace}
+use Rattle.snippet_marks.proofs.CellLemmas.{above_zero}
 
 -- the positions of a list that has no labels
 pub positions-unlabelled : (p : ℕ) (es : List PlacedEntry) → All (λ e. has_label e ≡ false) es → All (λ e. takes_space e ≡ false) es → All (λ q. q ≡ p) (positions p es)
@@ -115,15 +94,6 @@ pub of_positions : (P : ℕ → Type 0) (es : List PlacedEntry) (ps : List ℕ) 
 of_positions P es ps are all k d within =
     subst P (ap (λ xs. get_or xs k d.position) (sym are) ∙ get_or-map (λ (e : PlacedEntry). e.position) es k d d.position within) (all k d.position (omega (arith, within, length-map es (λ (e : PlacedEntry). e.position), ap length are)))
 
--- a position is given to one more entry
-pub placed_more : (es first : List PlacedEntry) (ps : List ℕ) (i : ℕ) (e : PlacedEntry) → i < length es → i < length ps → map (λ (x : PlacedEntry). x.position) (take i es) ≡ take i ps → e.position ≡ get_or ps i 0 → map (λ (x : PlacedEntry). x.position) (take (i + 1) (set es i e)) ≡ take (i + 1) ps
-placed_more es first ps i e within within_ps so_far is =
-    ap (map (λ (x : PlacedEntry). x.position)) (take_more_set es i e within) ∙ map-push (take i es) e ∙ ap (λ xs. xs ++ e.position ∷ []) so_far ∙ ap (λ p. take i ps ++ p ∷ []) is ∙ sym (take_more ps i 0 within_ps)
-  where
-    map-push : (xs : List PlacedEntry) (x : PlacedEntry) → map (λ (y : PlacedEntry). y.position) (xs ++ x ∷ []) ≡ map (λ (y : PlacedEntry). y.position) xs ++ x.position ∷ []
-    map-push [] x = refl
-    map-push (y ∷ ys) x = ap (λ zs. y.position ∷ zs) (map-push ys x)
-
 -- where a label begins: in a row that is there, and not left of its entry
 pub label_stands : (row n : ℕ) (e : PlacedEntry) → HasRows row n e → HasPlace e.entry → has_label e ≡ true → row + (label_place e).0 < n
 label_stands row n e rows place labelled =
@@ -163,43 +133,6 @@ stemless_beside e beside = ap (λ n. nat_lt 0 n && (has_label e || takes_space e
 -- at position 0 a label begins in the row of the marks, one column after its entry
 pub label_beside : (e : PlacedEntry) → e.position ≡ 0 → 0 < e.entry.end.display → label_place e ≡ (0, e.entry.end.display + 1)
 label_beside e beside some = rw (eq-eqb e.position 0 beside, above_zero e.entry.end.display some) refl
-
--- there are as many positions as entries
-pub length-positions : (p : ℕ) (es : List PlacedEntry) → length (positions p es) ≡ length es
-length-positions p [] = refl
-length-positions p (e ∷ others) =
-    ap suc (length-positions (position_after (position_at p e others) e others) others)
-
--- what holds of the entries of a line holds of the placed ones
-pub entries_all : (Q : LineAnnotation → Type 0) (es : List LineAnnotation) (ps : List PlacedEntry) → IsPermutation es (map (λ (e : PlacedEntry). e.entry) ps) → All Q es → All (λ (e : PlacedEntry). Q e.entry) ps
-entries_all Q es ps same all k d within =
-    let f : PlacedEntry → LineAnnotation = λ e. e.entry in
-    subst Q (get_or-map f ps k d d.entry within) (All-permutation Q es (map f ps) same all k d.entry (omega (arith, within, length-map ps f)))
-
--- the rule of positions doesn't look at positions
-positions-unplaced : (p : ℕ) (es : List PlacedEntry) → positions p (map unplaced es) ≡ positions p es
-positions-unplaced p [] = refl
-positions-unplaced p (e ∷ others) =
-    let crossed : list_any (crosses (unplaced e)) (map unplaced others) ≡ list_any (crosses e) others = list_any-map (crosses (unplaced e)) unplaced others in
-    let here : position_at p (unplaced e) (map unplaced others) ≡ position_at p e others = ap (λ b. cond ((p == 0) && (has_label e && b)) 1 p) crossed in
-    let crowded : (q : ℕ) → list_any (crowds q (unplaced e)) (map unplaced others) ≡ list_any (crowds q e) others = λ q. list_any-map (crowds q (unplaced e)) unplaced others in
-    let after : (q : ℕ) → position_after q (unplaced e) (map unplaced others) ≡ position_after q e others = λ q. ap (λ b. cond b (q + 1) q) (crowded q) in
-    ap (λ q. q ∷ positions (position_after q (unplaced e) (map unplaced others)) (map unplaced others)) here
-    ∙ ap (λ q. position_at p e others ∷ positions q (map unplaced others)) (after (position_at p e others))
-    ∙ ap (λ qs. position_at p e others ∷ qs) (positions-unplaced (position_after (position_at p e others) e others) others)
-
--- what doesn't look at positions is kept where nothing else changes
-pub all_kept : (P : PlacedEntry → Type 0) (es fs : List PlacedEntry) → ((e : PlacedEntry) → P (unplaced e) → P e) → ((e : PlacedEntry) → P e → P (unplaced e)) → map unplaced es ≡ map unplaced fs → All P fs → All P es
-all_kept P es fs back forth kept all k d within =
-    let long : length es ≡ length fs = sym (length-map es unplaced) ∙ ap length kept ∙ length-map fs unplaced in
-    let inside : k < length fs = omega (arith, long, within) in
-    let same : unplaced (get_or es k d) ≡ unplaced (get_or fs k d) = sym (get_or-map unplaced es k d (unplaced d) within) ∙ ap (λ xs. get_or xs k (unplaced d)) kept ∙ get_or-map unplaced fs k d (unplaced d) inside in
-    back (get_or es k d) (subst P (sym same) (forth (get_or fs k d) (all k d inside)))
-
-pub entries_kept : (es fs : List PlacedEntry) → map unplaced es ≡ map unplaced fs → map (λ (e : PlacedEntry). e.entry) es ≡ map (λ (e : PlacedEntry). e.entry) fs
-entries_kept es fs kept =
-    let f : PlacedEntry → LineAnnotation = λ e. e.entry in
-    sym (map-map f unplaced es) ∙ ap (map f) kept ∙ map-map f unplaced fs
 
 -- the rows down to each label are among those that are begun
 pub HasRows-row_count : (row n : ℕ) (es : List PlacedEntry) → n ≡ row + row_count es → All (HasRows row n) es
@@ -260,75 +193,7 @@ line_positions_low n es all =
       | false ↦ all
     ]
 
--- each entry of a line has a position
-pub length-line_positions : (es : List PlacedEntry) → length (line_positions es) ≡ length es
-length-line_positions es =
-    elim (are_starts es) as (λ b. length (cond b (flipped (positions 0 es)) (positions 0 es)) ≡ length es) [
-      | true ↦ length-map (positions 0 es) (λ p. greatest (positions 0 es) - p) ∙ length-positions 0 es
-      | false ↦ length-positions 0 es
-    ]
-
-line_positions-unplaced : (es : List PlacedEntry) → line_positions (map unplaced es) ≡ line_positions es
-line_positions-unplaced es =
-    ap (λ b. cond b (flipped (positions 0 (map unplaced es))) (positions 0 (map unplaced es))) (list_all-map is_start unplaced es) ∙ ap (λ ps. cond (are_starts es) (flipped ps) ps) (positions-unplaced 0 es)
-
-pub line_positions_kept : (es fs : List PlacedEntry) → map unplaced es ≡ map unplaced fs → line_positions es ≡ line_positions fs
-line_positions_kept es fs kept = sym (line_positions-unplaced es) ∙ ap line_positions kept ∙ line_positions-unplaced fs
-
--- a part that was lent, as long as the whole, comes back in its place
-pub written_back : (xs ys : List PlacedEntry) (len : ℕ) → len ≡ length ys → map unplaced xs ≡ map unplaced ys → take len (xs ++ drop (length xs) ys) ≡ xs
-written_back xs ys len is kept =
-    let long : length xs ≡ length ys = sym (length-map xs unplaced) ∙ ap length kept ∙ length-map ys unplaced in
-    ap (λ rest. take len (xs ++ rest)) (drop_all (length xs) ys (omega (arith, long))) ∙ ap (take len) (append-nil xs) ∙ take_all len xs (omega (arith, is, long))
-
--- entries that were put in an order and got the positions of it are placed
-pub ArePlaced-from : (es : List LineAnnotation) (labelled sorted placed : List PlacedEntry) (ps : List ℕ)
-    → map (λ (e : PlacedEntry). e.entry) labelled ≡ es → All HasItsLabel labelled → IsPermutation labelled sorted
-    → map (λ (e : PlacedEntry). e.entry) sorted ≡ ordered_by is_placed_before (map (λ (e : PlacedEntry). e.entry) labelled)
-    → IsFromRight (map (λ (e : PlacedEntry). e.entry) sorted) → ps ≡ line_positions sorted → map (λ (e : PlacedEntry). e.position) placed ≡ ps
-    → map unplaced placed ≡ map unplaced sorted → ArePlaced es placed
-ArePlaced-from es labelled sorted placed ps entries labels same order ordered are got kept =
-    let f : PlacedEntry → LineAnnotation = λ e. e.entry in
-    record {
-      order = entries_kept placed sorted kept ∙ order ∙ ap (ordered_by is_placed_before) entries;
-      same = subst (IsPermutation es) (sym (entries_kept placed sorted kept)) (subst (λ xs. IsPermutation xs (map f sorted)) entries (IsPermutation-map f labelled sorted same));
-      from_right = subst IsFromRight (sym (entries_kept placed sorted kept)) ordered;
-      labels = all_kept HasItsLabel placed sorted (λ e has. has) (λ e has. has) kept (All-permutation HasItsLabel labelled sorted same labels);
-      positions_are = got ∙ are ∙ sym (line_positions_kept placed sorted kept);
-    }
-
 -- labels of a line stand no lower than there are entries
 pub positions_of_placed : (es : List LineAnnotation) (placed : List PlacedEntry) → ArePlaced es placed → All (λ e. e.position ≤ length placed) placed
 positions_of_placed es placed is =
     of_positions (λ q. q ≤ length placed) placed (line_positions placed) is.positions_are (line_positions_low (length placed) placed (positions_low 0 (length placed) placed (omega arith)))
-
--- ---- entries that ask for no row
-
-any_none : {X : Type 0} (q : X → Bool) (xs : List X) → ((k : ℕ) (d : X) → k < length xs → q (get_or xs k d) ≡ false) → list_any q xs ≡ false
-any_none q [] none = refl
-any_none q (x ∷ xs) none =
-    ap (λ b. b || list_any q xs) (none 0 x (omega arith)) ∙ any_none q xs (λ k d within. none (suc k) d (omega (arith, within)))
-
-any_front : {X : Type 0} (q : X → Bool) (n : ℕ) (xs : List X) → ((k : ℕ) (d : X) → n ≤ k → k < length xs → q (get_or xs k d) ≡ false) → list_any q (take n xs) ≡ list_any q xs
-any_front q zero xs none = sym (any_none q xs (λ k d within. none k d (omega arith) within))
-any_front q (suc n) [] none = refl
-any_front q (suc n) (x ∷ xs) none =
-    ap (λ b. q x || b) (any_front q n xs (λ k d past within. none (suc k) d (omega (arith, past)) (omega (arith, within))))
-
--- an entry that asks for no row crowds no other
-uncrowding : (p : ℕ) (e other : PlacedEntry) → asks other ≡ false → crowds p e other ≡ false
-uncrowding p e other none =
-    by_tests (takes_space e) (has_label e) (has_label other) (takes_space other) (do_overlap other (length (cow_str_bytes other.label) + 2) e) (has_label e || (p == 0 && ends_no_later other e)) none
-  where
-    by_tests : (own_space own_label label space overlap wide : Bool) → (label || space) ≡ false → (((own_space && (label || space)) || (own_label && space)) || (label && overlap && wide)) ≡ false
-    by_tests own_space own_label true space overlap wide is = cc is
-    by_tests own_space own_label false true overlap wide is = cc is
-    by_tests true true false false overlap wide is = refl
-    by_tests true false false false overlap wide is = refl
-    by_tests false true false false overlap wide is = refl
-    by_tests false false false false overlap wide is = refl
-
--- so only those that ask decide which position is reached
-pub position_after-front : (p : ℕ) (e : PlacedEntry) (others : List PlacedEntry) (n : ℕ) → ((k : ℕ) (d : PlacedEntry) → n ≤ k → k < length others → asks (get_or others k d) ≡ false) → position_after p e (take n others) ≡ position_after p e others
-position_after-front p e others n none =
-    ap (λ b. cond b (p + 1) p) (any_front (crowds p e) n others (λ k d past within. uncrowding p e (get_or others k d) (none k d past within)))

@@ -1,14 +1,10 @@
 -- Entries of a line of which columns are dropped.
-use Rattle.std.proofs.Common.{◌≡◌, ℕ, ◌-◌, ◌<◌, ◌^◌, List, [], ◌∷◌, All, map, refl, ap, ◌∙◌, arith}
+use Rattle.std.proofs.Common.{◌≡◌, ℕ, ◌-◌, List, [], ◌∷◌, All, map, refl, ap, ◌∙◌, arith}
 use Rattle.std.proofs.lemmas.List.Elements.{All-map}
-use Rattle.snippet_strokes.specs.declared.layout.Layout.{Layout}
+use Rattle.snippet_marks.specs.declared.layout.Layout.{Layout}
 use Rattle.snippet_view.specs.declared.entries.LineAnnotation.{LineAnnotation}
-use Rattle.snippet_strokes.specs.Entries.{HasPlace, HasBarCell, shifted}
-
--- shifted entries end no farther right
-pub shifted_narrow : (dropped : ℕ) (es : List LineAnnotation) → All (λ e. e.end.display < 2 ^ 60) es → All (λ e. e.end.display < 2 ^ 60) (map (shifted dropped) es)
-shifted_narrow dropped es narrow =
-    All-map (λ (e : LineAnnotation). e.end.display < 2 ^ 60) (shifted dropped) es (λ k d within. omega (arith, narrow k d within))
+use Rattle.snippet_marks.specs.Entries.{HasPlace, shifted}
+use Rattle.snippet_strokes.specs.EntryMarks.{HasBarCell}
 
 -- and they have their places, and their bars
 pub shifted_places : (dropped : ℕ) (es : List LineAnnotation) → All HasPlace es → All HasPlace (map (shifted dropped) es)

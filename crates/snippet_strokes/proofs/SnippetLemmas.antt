@@ -17,8 +17,8 @@ use Rattle.snippet_grid.specs.Grid.{row_at}
 use Rattle.snippet_style.specs.Cell.{Cell, SPACE, gives_way, unlinked_cell}
 use Rattle.snippet_grid.specs.Print.{row_text}
 use Rattle.snippet_text.specs.Normalized.{norm}
-use Rattle.snippet_model.specs.Rows.{IsFreeCell}
-use Rattle.snippet_strokes.specs.declared.layout.Layout.{Layout}
+use Rattle.snippet_model.specs.Rows.{IsFreeCell, HasNoNumber, IsFree}
+use Rattle.snippet_marks.specs.declared.layout.Layout.{Layout}
 use Rattle.snippet_view.specs.declared.margin.Margin.{Margin}
 use Rattle.snippet_view.specs.Margin.{bounds_of}
 use Rattle.snippet_view.specs.Window.{dropped_part}
@@ -26,18 +26,19 @@ use Rattle.snippet_style.specs.Glyphs.{separator_of}
 use Rattle.snippet_text.specs.Width.{width_of}
 use Rattle.snippet_model.specs.AnnotationKind.{is_primary}
 use Rattle.snippet_view.specs.Measures.{StandsClear, is_bar}
-use Rattle.snippet_strokes.specs.Entries.{are_plain, is_end_part, shifted}
+use Rattle.snippet_strokes.specs.EntryMarks.{are_plain}
+use Rattle.snippet_marks.specs.Entries.{is_end_part, shifted}
 use Rattle.snippet_strokes.specs.declared.bars.OpenBar.{OpenBar}
 use Rattle.snippet_strokes.specs.declared.bars.BarStroke.TheVariants.{Solid}
 use Rattle.snippet_strokes.specs.Bars.{DrawsBars, barred, bars_apart, ends_of_bars, open_below}
 use Rattle.snippet_strokes.specs.LineRows.{AddsOwnRows}
 use Rattle.snippet_strokes.proofs.LineRowLemmas.{line_rows}
 use Rattle.snippet_strokes.proofs.BarLemmas.{AddsStrokes-drawn, bar_space}
-use Rattle.snippet_strokes.proofs.CellLemmas.{row_text-window_cells}
+use Rattle.snippet_strokes.proofs.WindowTextLemmas.{row_text-window_cells}
 use Rattle.snippet_strokes.proofs.WholeLemmas.{window_cells-whole}
 use Rattle.snippet_lines.specs.Number.{shown_number}
-use Rattle.snippet_model.specs.Rows.{HasNoNumber, IsFree}
-use Rattle.snippet_strokes.specs.Rows.{window_cells, IsSourceRow, IsStrokeRow, HasNoBars, IsHighlighted, highlights, holds_character, role_in_source, AddsSourceRow, AddsStrokes}
+use Rattle.snippet_marks.specs.SourceRows.{window_cells, IsSourceRow, AddsSourceRow}
+use Rattle.snippet_strokes.specs.Rows.{IsStrokeRow, HasNoBars, IsHighlighted, highlights, holds_character, role_in_source, AddsStrokes}
 use Rattle.snippet_strokes.proofs.RowLemmas.{bare_row_left}
 use Rattle.snippet_strokes.specs.Snippet.{ShowsLine, AreLinesShown, AddsGap, AddsLine, AddsSnippet, IsGap}
 

@@ -6,17 +6,18 @@ use Rattle.std.proofs.lemmas.List.FromFn.{get_or-range_with_len, length-range_wi
 use Rattle.snippet_style.specs.Glyphs.{glyph_of}
 use Rattle.snippet_style.specs.Cell.{Cell}
 use Rattle.snippet_text.specs.Normalized.{is_listed}
-use Rattle.snippet_strokes.specs.declared.layout.Layout.{Layout}
-use Rattle.snippet_strokes.specs.declared.positions.PlacedEntry.{PlacedEntry}
-use Rattle.snippet_strokes.specs.Entries.{has_mark_role}
+use Rattle.snippet_marks.specs.declared.layout.Layout.{Layout}
+use Rattle.snippet_marks.specs.declared.positions.PlacedEntry.{PlacedEntry}
+use Rattle.snippet_strokes.specs.EntryMarks.{has_mark_role}
 use Rattle.snippet_model.specs.AnnotationKind.{is_primary}
-use Rattle.snippet_strokes.specs.Painting.{HasRows, MarksStarts, StandsFrom, foot_glyph}
-use Rattle.snippet_strokes.specs.Positions.{has_label, has_stem}
-use Rattle.snippet_strokes.specs.Writes.{Write, Reaches, IsWithin, painted, cell_of_write}
+use Rattle.snippet_strokes.specs.Drawing.{HasRows, MarksStarts, StandsFrom, foot_glyph}
+use Rattle.snippet_marks.specs.Positions.{has_label, has_stem}
+use Rattle.snippet_marks.specs.Writes.{Write, painted}
+use Rattle.snippet_strokes.specs.Reach.{Reaches, IsWithin, cell_of_write}
 use Rattle.snippet_strokes.specs.Strokes.{is_hidden, stem_write, stem_of, stems_of}
 use Rattle.snippet_strokes.proofs.TextLemmas.{free_foot, free_stem}
 use Rattle.snippet_strokes.proofs.WriteLaws.{painted-cell, painted-count}
-use Rattle.snippet_strokes.proofs.WriteLemmas.{painted-append}
+use Rattle.snippet_marks.proofs.WriteLemmas.{painted-append}
 
 -- what holds of each cell of a stem holds of those of all
 pub All-stem_of : (P : Write → Type 0) (layout : Layout) (row : ℕ) (e : PlacedEntry) → ((b : ℕ) → b ≤ e.position → P (stem_write layout row e b)) → All P (stem_of layout row e)

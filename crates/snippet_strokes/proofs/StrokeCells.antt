@@ -10,14 +10,16 @@ use Rattle.snippet_style.specs.declared.glyphs.DecorStyle.{DecorStyle}
 use Rattle.snippet_style.specs.declared.glyphs.DecorStyle.TheVariants.{Ascii, Unicode}
 use Rattle.snippet_view.specs.declared.entries.LineAnnotationType.{LineAnnotationType}
 use Rattle.snippet_view.specs.declared.entries.LineAnnotationType.TheVariants.{Singleline, MultilineStart, MultilineEnd, MultilineLine}
-use Rattle.snippet_strokes.specs.declared.layout.Layout.{Layout}
-use Rattle.snippet_strokes.specs.declared.positions.PlacedEntry.{PlacedEntry}
-use Rattle.snippet_strokes.specs.Entries.{HasBarCell, HasBarCellAt}
+use Rattle.snippet_marks.specs.declared.layout.Layout.{Layout}
+use Rattle.snippet_marks.specs.declared.positions.PlacedEntry.{PlacedEntry}
+use Rattle.snippet_strokes.specs.EntryMarks.{HasBarCell, HasBarCellAt}
 use Rattle.snippet_strokes.specs.Labels.{IsStrokeCell, stroke_glyphs}
-use Rattle.snippet_strokes.specs.Painting.{first_glyph, foot_glyph, foot_of, mark_end}
-use Rattle.snippet_strokes.specs.Positions.{has_label, has_stem, takes_space}
-use Rattle.snippet_strokes.specs.Writes.{Reaches, Write, cell_of_write, glyph_at, painted, stretch_of}
-use Rattle.snippet_strokes.specs.Strokes.{bar_of, connector_of, connectors_of, corner_by, corner_of, corners_of, label_of, label_write, labels_of, mark_of, marks_of, stems_of, stroke_role, strokes_of, stem_of}
+use Rattle.snippet_marks.specs.Painting.{first_glyph, mark_end, mark_of, marks_of, stroke_role}
+use Rattle.snippet_strokes.specs.Drawing.{foot_glyph, foot_of}
+use Rattle.snippet_marks.specs.Positions.{has_label, has_stem, takes_space}
+use Rattle.snippet_strokes.specs.Reach.{Reaches, cell_of_write}
+use Rattle.snippet_marks.specs.Writes.{Write, glyph_at, painted, stretch_of}
+use Rattle.snippet_strokes.specs.Strokes.{bar_of, connector_of, connectors_of, corner_by, corner_of, corners_of, label_of, label_write, labels_of, stems_of, strokes_of, stem_of}
 use Rattle.snippet_strokes.proofs.BarWrites.{All-column_of, All-connector_of, All-stretch_of}
 use Rattle.snippet_strokes.proofs.LabelWrites.{All-label_of}
 use Rattle.snippet_strokes.proofs.StemWrites.{All-stem_of, All-stems_of}

@@ -16,22 +16,25 @@ use Rattle.snippet_grid.specs.Grid.{cell_at, row_at, cells_written}
 use Rattle.snippet_style.specs.Cell.{Cell, SPACE, text_cells, written}
 use Rattle.snippet_grid.proofs.GridLemmas.{row_at-cells_written_same}
 use Rattle.snippet_style.proofs.CellLemmas.{length-written}
-use Rattle.snippet_strokes.specs.declared.layout.Layout.{Layout}
-use Rattle.snippet_strokes.specs.declared.positions.PlacedEntry.{PlacedEntry}
-use Rattle.snippet_strokes.specs.Entries.{EntryCovers, HasPlace, IsBarCell, are_plain, is_single, label_text, label_role, has_mark_role, wide_entries}
-use Rattle.snippet_model.specs.Rows.{IsFreeCell}
-use Rattle.snippet_strokes.specs.Painting.{IsPaintedAt, DrawsFrom, DrawsBarCells, KeepsBarCells, MarksStarts, StandsFrom, AreMarked, mark_end}
-use Rattle.snippet_strokes.specs.Positions.{HasItsLabel, has_label, has_stem, takes_space, positions, line_positions, row_count, ArePlaced}
-use Rattle.snippet_model.specs.Rows.{IsFree}
-use Rattle.snippet_strokes.specs.Rows.{bare_row, CutsRows, IsBeside, IsCut, HasNoBars, IsStrokeRow, AddsStrokes, ShowsMarks}
+use Rattle.snippet_marks.specs.declared.layout.Layout.{Layout}
+use Rattle.snippet_marks.specs.declared.positions.PlacedEntry.{PlacedEntry}
+use Rattle.snippet_strokes.specs.EntryMarks.{EntryCovers, IsBarCell, are_plain, is_single, has_mark_role, wide_entries}
+use Rattle.snippet_marks.specs.Entries.{HasPlace, label_text, label_role}
+use Rattle.snippet_model.specs.Rows.{IsFreeCell, IsFree}
+use Rattle.snippet_marks.specs.Painting.{IsPaintedAt, AreMarked, mark_end, StandsWhole}
+use Rattle.snippet_strokes.specs.Drawing.{DrawsFrom, DrawsBarCells, KeepsBarCells, MarksStarts, StandsFrom, row_count}
+use Rattle.snippet_marks.specs.Positions.{HasItsLabel, has_label, has_stem, takes_space, positions, line_positions, ArePlaced}
+use Rattle.snippet_marks.specs.SourceRows.{bare_row}
+use Rattle.snippet_strokes.specs.Rows.{CutsRows, IsBeside, IsCut, HasNoBars, IsStrokeRow, AddsStrokes, ShowsMarks}
 use Rattle.snippet_style.specs.Separators.{separator_row}
 use Rattle.snippet_strokes.proofs.DrawLemmas.{DrawsFrom-more, bar_space}
-use Rattle.snippet_strokes.specs.Labels.{IsStrokeCell, StandsWhole}
+use Rattle.snippet_strokes.specs.Labels.{IsStrokeCell}
 use Rattle.snippet_strokes.proofs.LabelPlaces.{HasStrokesBeside, LabelsStand-placed}
 use Rattle.snippet_strokes.proofs.StrokeCells.{BesideLabels}
 use Rattle.snippet_strokes.proofs.MarkLemmas.{mark_shown}
-use Rattle.snippet_strokes.proofs.PaintLemmas.{IsPlainEntry, covered_painted, mark_end_plain, spaceless}
-use Rattle.snippet_strokes.proofs.PositionLemmas.{entries_all, line_positions_low, of_positions, positions-unlabelled, positions_sole, row_count_one, row_count_some, stemless_bare, stemless_beside}
+use Rattle.snippet_strokes.proofs.PlainMarks.{IsPlainEntry, covered_painted, mark_end_plain, spaceless}
+use Rattle.snippet_marks.proofs.PlacedLemmas.{entries_all}
+use Rattle.snippet_strokes.proofs.PositionLemmas.{line_positions_low, of_positions, positions-unlabelled, positions_sole, row_count_one, row_count_some, stemless_bare, stemless_beside}
 use Rattle.snippet_strokes.proofs.RowLemmas.{bare_row_short, bare_row_right, free_bare_row}
 use Rattle.snippet_strokes.proofs.BegunLemmas.{kept_above, begun_row, written_far, same_after, free_cell, sole, plain_entries, plain_narrow, cut_left, IsStrokeRow-cut, same_front}
 

@@ -1,28 +1,21 @@
--- The normalised text of a line: how long it gets, and that it holds no listed character.
-use Rattle.std.proofs.Common.{◌≡◌, ◌==◌, Bool, true, false, not, refl, sym, ap, ◌∙◌, ℕ, ◌<◌, ◌^◌, List, [], length, map, get_or, arith, All, IfSome, Option, Some, None, inl, inr, Bor, IsUtf8}
-use Rattle.std.proofs.lemmas.Str.{chars-nil}
+-- The characters of labels, stems and their feet: they are few, and none is listed.
+use Rattle.std.proofs.Common.{◌≡◌, ◌==◌, Bool, true, false, not, refl, ap, ◌∙◌, ℕ, ◌<◌, ◌^◌, List, [], length, map, get_or, arith, All, IfSome, Option, Some, None, Bor, IsUtf8}
 use Rattle.snippet_view.specs.declared.entries.LineAnnotation.{LineAnnotation}
 use Rattle.snippet_view.specs.declared.entries.LineAnnotationType.{LineAnnotationType}
 use Rattle.snippet_view.specs.declared.entries.LineAnnotationType.TheVariants.{Singleline, MultilineStart, MultilineEnd, MultilineLine}
-use Rattle.snippet_strokes.specs.Painting.{foot_of}
-use Rattle.snippet_text.proofs.NormLemmas.{list_any-norm, length-norm}
-use Rattle.snippet_strokes.specs.Entries.{label_chars, label_text, shifted}
+use Rattle.snippet_strokes.specs.Drawing.{foot_of}
+use Rattle.snippet_text.proofs.NormLemmas.{list_any-norm}
+use Rattle.snippet_marks.specs.Entries.{label_chars, label_text, shifted}
 use Rattle.std.specs.Str.{chars}
 use Rattle.std.proofs.lemmas.Bool.Decides.{nat_tests}
-use Rattle.std.proofs.lemmas.Bool.{cases_lt}
 use Rattle.std.proofs.lemmas.List.{nil_from_length}
 use Rattle.std.proofs.lemmas.List.Elements.{All-nil, All-map}
 use Rattle.snippet_style.specs.Glyphs.{glyph_of}
 use Rattle.snippet_style.specs.declared.glyphs.DecorStyle.{DecorStyle}
 use Rattle.snippet_style.specs.declared.glyphs.DecorStyle.TheVariants.{Ascii, Unicode}
 use Rattle.snippet_text.specs.Normalized.{is_listed, norm}
-use Rattle.snippet_style.proofs.CellLemmas.{length-chars_le as length-chars}
 use Rattle.snippet_model.proofs.RowLemmas.{each_fails}
-use Rattle.snippet_grid.proofs.GridShown.{chars_some}
-
--- a text that fits is short once it is normalised
-pub norm_short : (bytes : List ℕ) → length bytes < 2 ^ 56 → length (norm (chars bytes)) < 2 ^ 60
-norm_short bytes fits = omega (arith, length-norm (chars bytes), length-chars bytes)
+use Rattle.snippet_marks.proofs.CharLemmas.{is_empty-chars, norm_short}
 
 -- a stem is no listed character
 pub free_stem : (decor : DecorStyle) (primary : Bool) → is_listed (glyph_of decor primary 124 124 0x2502 0x2502) ≡ false
@@ -44,19 +37,6 @@ free_foot (MultilineEnd depth) Unicode true true = refl
 free_foot (MultilineEnd depth) Unicode false true = refl
 free_foot (MultilineEnd depth) decor primary false = free_stem decor primary
 free_foot (MultilineLine depth) decor primary labelled = free_stem decor primary
-
--- a text has no character where it has no byte
-pub is_empty-chars : (bytes : List ℕ) → IsUtf8 bytes → (length bytes == 0) ≡ (length (chars bytes) == 0)
-is_empty-chars bytes utf8 =
-    elim (cases_lt 0 (length bytes)) [
-      | inl some ↦ above (length bytes) some ∙ sym (above (length (chars bytes)) (chars_some bytes utf8 some))
-      | inr none ↦
-          let empty : bytes ≡ [] = nil_from_length bytes (omega arith) in
-          ap (λ (cs : List ℕ). length cs == 0) (empty ∙ sym (ap chars empty ∙ chars-nil))
-    ]
-  where
-    above : (n : ℕ) → 0 < n → (n == 0) ≡ false
-    above n some = grind (arith, nat_tests)
 
 -- a label's characters aren't listed
 pub free_label_text : (e : LineAnnotation) → All (λ c. is_listed c ≡ false) (label_text e)

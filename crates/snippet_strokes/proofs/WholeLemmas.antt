@@ -10,7 +10,7 @@ use Rattle.snippet_style.specs.declared.role.ElementStyle.TheVariants.{Quotation
 use Rattle.snippet_style.specs.Glyphs.{placeholder_of}
 use Rattle.snippet_style.specs.Cell.{Cell, text_cells}
 use Rattle.snippet_text.specs.Width.{width_of}
-use Rattle.snippet_strokes.specs.Rows.{shown_cells, window_cells}
+use Rattle.snippet_marks.specs.SourceRows.{shown_cells, window_cells}
 use Rattle.snippet_view.proofs.LineWindowLemmas.{reaching-none, fitting_all}
 
 -- a window with no bound on the left begins at column 0

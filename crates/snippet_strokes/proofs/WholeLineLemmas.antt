@@ -14,13 +14,14 @@ use Rattle.snippet_view.specs.Window.{AreReplaced}
 use Rattle.snippet_style.specs.declared.glyphs.DecorStyle.{DecorStyle}
 use Rattle.snippet_style.specs.Glyphs.{placeholder_of}
 use Rattle.snippet_style.specs.Cell.{Cell}
-use Rattle.snippet_strokes.specs.declared.layout.Layout.{Layout}
-use Rattle.snippet_strokes.specs.Entries.{are_plain, is_single, label_text, shifted, wide_entries}
+use Rattle.snippet_marks.specs.declared.layout.Layout.{Layout}
+use Rattle.snippet_strokes.specs.EntryMarks.{are_plain, is_single, wide_entries}
+use Rattle.snippet_marks.specs.Entries.{label_text, shifted}
 use Rattle.snippet_strokes.specs.Labels.{IsLabelledAtEnd}
 use Rattle.snippet_strokes.proofs.LabelPlaces.{LabelsStand-none}
 use Rattle.std.proofs.lemmas.List.Elements.{All-cons, All-head, All-nil, All-tail}
 use Rattle.snippet_strokes.specs.Bars.{DrawsBars, is_before, is_beside, is_beside_first, is_whole_line}
-use Rattle.snippet_strokes.specs.Positions.{is_start_part}
+use Rattle.snippet_marks.specs.Positions.{is_start_part}
 use Rattle.snippet_strokes.specs.Rows.{AddsStrokes, AreStrokes, HasNoBars, IsBeside}
 use Rattle.snippet_strokes.proofs.BarLemmas.{AddsStrokes-drawn}
 

@@ -10,14 +10,14 @@ use Rattle.snippet_style.specs.Glyphs.{glyph_of, underline_role}
 use Rattle.snippet_grid.specs.Grid.{row_at}
 use Rattle.snippet_style.specs.Cell.{Cell, SPACE, unlinked_cell, written}
 use Rattle.snippet_style.specs.declared.glyphs.DecorStyle.{DecorStyle}
-use Rattle.snippet_strokes.specs.declared.layout.Layout.{Layout}
+use Rattle.snippet_marks.specs.declared.layout.Layout.{Layout}
 use Rattle.snippet_strokes.specs.declared.bars.OpenBar.{OpenBar}
 use Rattle.snippet_strokes.specs.declared.bars.BarStroke.{BarStroke}
 use Rattle.snippet_strokes.specs.declared.bars.BarStroke.TheVariants.{Top, Solid, Dotted}
-use Rattle.snippet_strokes.specs.Entries.{IsBarCell}
+use Rattle.snippet_strokes.specs.EntryMarks.{IsBarCell}
 use Rattle.snippet_model.specs.AnnotationKind.{is_primary}
 use Rattle.snippet_model.specs.Rows.{IsFree}
-use Rattle.snippet_strokes.specs.Positions.{is_start_part}
+use Rattle.snippet_marks.specs.Positions.{is_start_part}
 
 -- a bar, under a name that other crates can use
 abbrev pub Bar : Type 0

@@ -7,15 +7,10 @@ use Rattle.snippet_style.specs.declared.glyphs.DecorStyle.TheVariants.{Ascii, Un
 use Rattle.snippet_grid.specs.Grid.{cell_at}
 use Rattle.snippet_view.specs.Measures.{is_bar}
 use Rattle.snippet_view.specs.declared.entries.LineAnnotation.{LineAnnotation}
-use Rattle.snippet_strokes.specs.declared.layout.Layout.{Layout}
-use Rattle.snippet_strokes.specs.declared.positions.PlacedEntry.{PlacedEntry}
-use Rattle.snippet_strokes.specs.Entries.{has_mark_role, label_role, label_text}
-use Rattle.snippet_strokes.specs.Positions.{has_label, is_start_part, label_place}
-
--- the label of an entry, if it has one, stands whole at its place, in the role of labels of its kind
-abbrev pub StandsWhole : Layout → ℕ → List (List Cell) → PlacedEntry → Type 0
-StandsWhole layout row rows e =
-    has_label e ≡ true → (k : ℕ) → k < length (label_text e.entry) → cell_at rows (row + (label_place e).0) (layout.code + (label_place e).1 + k) ≡ unlinked_cell (label_role e.entry.kind) (slice_index_or (label_text e.entry) k 0)
+use Rattle.snippet_marks.specs.declared.layout.Layout.{Layout}
+use Rattle.snippet_strokes.specs.EntryMarks.{has_mark_role}
+use Rattle.snippet_marks.specs.Entries.{label_role, label_text}
+use Rattle.snippet_marks.specs.Positions.{is_start_part}
 
 -- where the label of an entry begins: in which row of a line's strokes, that of the marks first, and in which cell of it
 pub record PlacedLabel : Type 0 where

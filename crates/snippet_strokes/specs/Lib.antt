@@ -1,9 +1,8 @@
-pub mod Entries
-pub mod Positions
-pub mod Writes
+pub mod EntryMarks
+pub mod Reach
 pub mod Strokes
 pub mod Labels
-pub mod Painting
+pub mod Drawing
 pub mod Rows
 pub mod Snippet
 pub mod Bars

@@ -5,14 +5,15 @@ use Rattle.snippet_view.specs.declared.margin.Margin.{Margin}
 use Rattle.snippet_view.specs.Margin.{bounds_of}
 use Rattle.snippet_view.specs.Measures.{is_bar}
 use Rattle.snippet_view.specs.Window.{dropped_part, window}
-use Rattle.snippet_strokes.specs.declared.layout.Layout.{Layout}
+use Rattle.snippet_marks.specs.declared.layout.Layout.{Layout}
 use Rattle.snippet_style.specs.Glyphs.{placeholder_of}
 use Rattle.snippet_style.specs.Cell.{Cell, text_cells}
 use Rattle.snippet_style.specs.declared.role.ElementStyle.TheVariants.{Quotation}
 use Rattle.snippet_grid.specs.Print.{row_text}
 use Rattle.snippet_text.specs.Normalized.{norm}
 use Rattle.snippet_text.specs.Width.{width_of}
-use Rattle.snippet_strokes.specs.Entries.{is_end_part, shifted, wide_entries}
+use Rattle.snippet_marks.specs.Entries.{is_end_part, shifted}
+use Rattle.snippet_strokes.specs.EntryMarks.{wide_entries}
 use Rattle.snippet_strokes.specs.declared.bars.OpenBar.{OpenBar}
 use Rattle.snippet_strokes.specs.declared.bars.BarStroke.TheVariants.{Dotted}
 use Rattle.snippet_strokes.specs.Bars.{open_below, with_bars}
@@ -20,7 +21,8 @@ use Rattle.snippet_strokes.specs.LineRows.{AreLineRows}
 use Rattle.snippet_lines.specs.declared.number.LineNumbers.{LineNumbers}
 use Rattle.snippet_lines.specs.Number.{shown_number}
 use Rattle.snippet_model.specs.Rows.{HasNoNumber, IsFree}
-use Rattle.snippet_strokes.specs.Rows.{IsSourceRow, IsBeside, IsElisionRow, IsHighlighted, AreStrokes, bare_elision_row, window_cells}
+use Rattle.snippet_marks.specs.SourceRows.{IsSourceRow, window_cells}
+use Rattle.snippet_strokes.specs.Rows.{IsBeside, IsElisionRow, IsHighlighted, AreStrokes, bare_elision_row}
 
 -- the rows show this line: the first its number and the window of its source, normalised, with what its entries highlight
 -- (all of the line, if lines aren't cut on the left and the room holds it), with bars beside it, and cut where entries are

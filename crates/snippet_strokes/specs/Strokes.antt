@@ -1,27 +1,26 @@
--- What is written for the strokes of a line, as lists of writes: its labels, its stems, its marks, the lines that lead to bars,
--- and the bars of the spans that begin or end on it.
-use Rattle.std.specs.Prelude.{ℕ, ◌≡◌, ◌+◌, ◌-◌, ◌==◌, ◌&&◌, nat_le, nat_lt, Bool, false, List, [], ◌∷◌, ◌++◌, length, map, replicate, if◌then◌else◌}
-use Rattle.std.specs.List.{flat_map, range_with_len}
+-- What is written for the strokes of a line, as lists of writes: its labels, its stems, the lines that lead to bars, the bars of
+-- the spans that begin or end on it, and all of them, over which its marks are painted.
+use Rattle.std.specs.Prelude.{ℕ, ◌+◌, ◌-◌, ◌≡◌, List, [], ◌∷◌, map, if◌then◌else◌, ◌==◌, ◌&&◌, nat_le, Bool, false, ◌++◌, length, replicate}
+use Rattle.std.specs.List.{range_with_len, flat_map}
 use Rattle.snippet_style.specs.declared.role.ElementStyle.{ElementStyle}
-use Rattle.snippet_style.specs.Glyphs.{glyph_of, underline_role}
+use Rattle.snippet_marks.specs.Writes.{Write, glyph_at, painted, stretch_of}
+use Rattle.snippet_style.specs.Glyphs.{glyph_of}
 use Rattle.snippet_view.specs.declared.entries.LineAnnotationType.{LineAnnotationType}
 use Rattle.snippet_view.specs.declared.entries.LineAnnotationType.TheVariants.{Singleline, MultilineStart, MultilineEnd, MultilineLine}
 use Rattle.snippet_model.specs.AnnotationKind.{is_primary}
-use Rattle.snippet_strokes.specs.declared.layout.Layout.{Layout}
-use Rattle.snippet_strokes.specs.declared.positions.PlacedEntry.{PlacedEntry}
-use Rattle.snippet_strokes.specs.Entries.{label_role, label_text, wide_entries}
+use Rattle.snippet_marks.specs.declared.layout.Layout.{Layout}
+use Rattle.snippet_marks.specs.declared.positions.PlacedEntry.{PlacedEntry}
+use Rattle.snippet_marks.specs.Entries.{label_role, label_text}
+use Rattle.snippet_strokes.specs.EntryMarks.{wide_entries}
 use Rattle.snippet_view.specs.declared.entries.LineAnnotation.{LineAnnotation}
 use Rattle.snippet_style.specs.Cell.{Cell}
 use Rattle.snippet_style.specs.Separators.{separator_row}
-use Rattle.snippet_strokes.specs.Painting.{first_glyph, foot_glyph, mark_end, painting_order}
-use Rattle.snippet_strokes.specs.Positions.{ArePlaced, has_label, has_stem, label_place, row_count}
+use Rattle.snippet_strokes.specs.Drawing.{foot_glyph, row_count}
+use Rattle.snippet_marks.specs.Painting.{painting_order, marks_of, stroke_role}
+use Rattle.snippet_marks.specs.Positions.{ArePlaced, has_label, has_stem, label_place}
 use Rattle.snippet_strokes.specs.Cuts.{cut_row, cuts_of, overlapped}
-use Rattle.snippet_strokes.specs.Rows.{CutsRows, bare_row}
-use Rattle.snippet_strokes.specs.Writes.{Write, column_of, glyph_at, painted, stretch_of}
-
--- the role of an entry's strokes
-abbrev pub stroke_role : PlacedEntry → ElementStyle
-stroke_role e = underline_role (is_primary e.entry.kind)
+use Rattle.snippet_strokes.specs.Rows.{CutsRows}
+use Rattle.snippet_marks.specs.SourceRows.{bare_row}
 
 -- ---- labels
 
@@ -61,19 +60,6 @@ stems_of layout row [] = []
 stems_of layout row (e ∷ later) =
     (if is_hidden e later then [] else stem_of layout row e) ++ stems_of layout row later
 
--- ---- marks
-
--- the mark of an entry, if it takes any cell: its first glyph, and the underline after it
-abbrev pub mark_of : Layout → ℕ → PlacedEntry → List Write
-mark_of layout row e =
-    let from = layout.code + e.entry.start.display in
-    let to = layout.code + mark_end e in
-    if nat_lt from to then glyph_at row from (first_glyph layout.decor e) (stroke_role e) ∷ stretch_of row (from + 1) to (glyph_of layout.decor (is_primary e.entry.kind) 94 45 0x2501 0x2500) (stroke_role e) else []
-
--- the marks of some entries, in the order in which they are painted
-abbrev pub marks_of : Layout → ℕ → List PlacedEntry → List Write
-marks_of layout row order = flat_map (mark_of layout row) order
-
 -- ---- lines to bars
 
 -- the line from the bar of this depth to before the start of an entry, in the row of its position
@@ -101,6 +87,10 @@ connectors_of layout row placed = flat_map (connector_of layout row) placed
 -- the cell in which a bar of this depth stands
 abbrev pub bar_cell : Layout → ℕ → ℕ
 bar_cell layout depth = layout.gutter + 2 + depth
+
+-- a glyph in a cell of each row from one to before another
+abbrev pub column_of : ℕ → ℕ → ℕ → ℕ → ElementStyle → List Write
+column_of start end cell glyph role = map (λ row. glyph_at row cell glyph role) (range_with_len start (end - start))
 
 -- a bar in the rows from one to before another
 abbrev pub bar_of : Layout → PlacedEntry → ℕ → ℕ → ℕ → List Write

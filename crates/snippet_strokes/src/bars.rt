@@ -5,10 +5,8 @@ ghost use Rattle.snippet_strokes.specs.Bars as spec;
 ghost use Rattle.snippet_strokes.specs.Bars.{ChangesRows, DrawsBars, HasRoom, StandsBeside, bar_part, barred, ends_of_bars};
 ghost use Rattle.snippet_style.specs.Cell.{SPACE, written};
 
-use crate::layout::Layout;
-use crate::lines::repeated;
-use crate::roles::is_primary;
 use snippet_grid::StyledBuffer;
+use snippet_marks::{Layout, is_primary, repeated};
 use snippet_style::DecorStyle;
 use snippet_view::{LineAnnotation, LineAnnotationType};
 use std::alloc::{AllocError, Global};

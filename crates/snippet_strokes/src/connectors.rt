@@ -1,15 +1,13 @@
 //! The lines that lead from the ends of spans of several lines to their bars.
 ghost use Rattle.std.specs.Prelude.{◌≡◌, ◌+◌, ◌^◌, ◌<◌, ◌≤◌, All, OnOk, length, true};
-ghost use Rattle.snippet_strokes.specs.Entries.{HasPlace, HasBarCell, is_single};
-ghost use Rattle.snippet_strokes.specs.Painting.{DrawsFrom, HasRows, KeepsBarCells};
+ghost use Rattle.snippet_marks.specs.Entries.{HasPlace};
+ghost use Rattle.snippet_strokes.specs.EntryMarks.{HasBarCell, is_single};
+ghost use Rattle.snippet_strokes.specs.Drawing.{DrawsFrom, HasRows, KeepsBarCells};
 ghost use Rattle.snippet_strokes.specs.Strokes.{connector_of, connectors_of, line_to};
-ghost use Rattle.snippet_strokes.specs.Writes.{painted};
+ghost use Rattle.snippet_marks.specs.Writes.{painted};
 
-use crate::layout::Layout;
-use crate::lines::draw_stretch;
-use crate::positions::PlacedEntry;
-use crate::roles::is_primary;
 use snippet_grid::StyledBuffer;
+use snippet_marks::{Layout, PlacedEntry, draw_stretch, is_primary};
 use snippet_view::LineAnnotationType;
 use std::alloc::{AllocError, Global};
 

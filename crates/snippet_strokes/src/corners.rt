@@ -1,14 +1,12 @@
 //! The bars of spans of several lines, beside the lines on which they begin and end.
 ghost use Rattle.std.specs.Prelude.{◌≡◌, ◌+◌, ◌^◌, ◌<◌, ◌≤◌, All, OnOk, length, true};
-ghost use Rattle.snippet_strokes.specs.Entries.{HasBarCell, is_single};
-ghost use Rattle.snippet_strokes.specs.Painting.{DrawsBarCells, HasRows};
+ghost use Rattle.snippet_strokes.specs.EntryMarks.{HasBarCell, is_single};
+ghost use Rattle.snippet_strokes.specs.Drawing.{DrawsBarCells, HasRows};
 ghost use Rattle.snippet_strokes.specs.Strokes.{bar_of, bottom_of, corner_of, corners_of, top_of};
-ghost use Rattle.snippet_strokes.specs.Writes.{painted};
+ghost use Rattle.snippet_marks.specs.Writes.{painted};
 
-use crate::layout::Layout;
-use crate::positions::PlacedEntry;
-use crate::roles::is_primary;
 use snippet_grid::StyledBuffer;
+use snippet_marks::{Layout, PlacedEntry, is_primary};
 use snippet_view::LineAnnotationType;
 use std::alloc::AllocError;
 

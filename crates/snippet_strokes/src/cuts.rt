@@ -8,13 +8,13 @@ ghost use Rattle.snippet_style.specs.Cell.{Cell, text_cells};
 ghost use Rattle.snippet_style.specs.declared.role.ElementStyle.TheVariants.{LineNumber};
 ghost use Rattle.snippet_strokes.specs.Cuts as spec;
 ghost use Rattle.snippet_strokes.specs.Cuts.{is_wide_at};
-ghost use Rattle.snippet_strokes.specs.Entries.{HasPlace, wide_entries};
-ghost use Rattle.snippet_strokes.specs.Positions.{crosses, do_overlap};
+ghost use Rattle.snippet_marks.specs.Entries.{HasPlace};
+ghost use Rattle.snippet_strokes.specs.EntryMarks.{wide_entries};
+ghost use Rattle.snippet_marks.specs.Positions.{crosses, do_overlap};
 ghost use Rattle.snippet_strokes.specs.Rows.{CutsRows};
 
-use crate::layout::Layout;
-use crate::positions::{PlacedEntry, crosses, overlap, position_after, position_at};
 use snippet_grid::StyledBuffer;
+use snippet_marks::{Layout, PlacedEntry, crosses, overlap, position_after, position_at};
 use snippet_style::{DecorStyle, char_count};
 use snippet_view::{LineAnnotation, LineAnnotationType};
 use std::alloc::{AllocError, Global};

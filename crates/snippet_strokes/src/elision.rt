@@ -5,8 +5,8 @@ ghost use Rattle.snippet_strokes.specs.Rows.{bare_elision_row};
 ghost use Rattle.snippet_strokes.specs.Snippet.{AddsElision, AddsGap};
 
 use crate::bars::{BarStroke, OpenBar, draw_bars};
-use crate::layout::Layout;
 use snippet_grid::StyledBuffer;
+use snippet_marks::Layout;
 use snippet_style::{DecorStyle, ElementStyle};
 use snippet_view::AnnotatedLineInfo;
 use std::alloc::{AllocError, Global};

@@ -1,12 +1,11 @@
 //! The parts of the source that are coloured as their marks are.
 ghost use Rattle.std.specs.Prelude.{◌+◌, ◌≡◌, ◌≢◌, ◌^◌, ◌<◌, OnOk, filter, length, not, ℕ};
-ghost use Rattle.snippet_strokes.specs.Entries as spec;
+ghost use Rattle.snippet_marks.specs.Entries as spec;
 ghost use Rattle.snippet_grid.specs.Grid.{row_at};
 ghost use Rattle.snippet_strokes.specs.Rows.{IsHighlighted, Restyled};
 
-use crate::layout::Layout;
-use crate::roles::is_primary;
 use snippet_grid::StyledBuffer;
+use snippet_marks::{Layout, is_primary};
 use snippet_view::{LineAnnotation, LineAnnotationType};
 use std::alloc::AllocError;
 

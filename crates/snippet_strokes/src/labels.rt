@@ -3,19 +3,17 @@ ghost use Rattle.std.specs.Prelude.{◌≡◌, ◌+◌, ◌^◌, ◌<◌, ◌≤
 ghost use Rattle.snippet_view.specs.declared.entries.LineAnnotation.{LineAnnotation};
 ghost use Rattle.snippet_grid.specs.Grid.{cells_written};
 ghost use Rattle.snippet_style.specs.Cell.{text_cells};
-ghost use Rattle.snippet_strokes.specs.Entries.{HasPlace, label_role, label_text};
-ghost use Rattle.snippet_strokes.specs.Painting.{DrawsFrom, HasRows, MarksStarts, StandsFrom};
-ghost use Rattle.snippet_strokes.specs.Positions as spec;
-ghost use Rattle.snippet_strokes.specs.Positions.{ArePlaced, HasItsLabel};
-ghost use Rattle.snippet_strokes.specs.Labels.{StandsWhole};
+ghost use Rattle.snippet_marks.specs.Entries.{HasPlace, label_role, label_text};
+ghost use Rattle.snippet_strokes.specs.Drawing.{DrawsFrom, HasRows, MarksStarts, StandsFrom};
+ghost use Rattle.snippet_marks.specs.Positions as spec;
+ghost use Rattle.snippet_marks.specs.Positions.{ArePlaced, HasItsLabel};
+ghost use Rattle.snippet_marks.specs.Painting.{StandsWhole};
 ghost use Rattle.snippet_strokes.specs.Strokes.{label_of, labels_of};
-ghost use Rattle.snippet_strokes.specs.Writes.{painted};
-ghost use Rattle.snippet_strokes.specs.declared.positions.PlacedEntry.{PlacedEntry};
+ghost use Rattle.snippet_marks.specs.Writes.{painted};
+ghost use Rattle.snippet_marks.specs.declared.positions.PlacedEntry.{PlacedEntry};
 
-use crate::layout::Layout;
-use crate::positions::PlacedEntry;
-use crate::roles::label_role;
 use snippet_grid::StyledBuffer;
+use snippet_marks::{Layout, PlacedEntry, label_role};
 use std::alloc::AllocError;
 
 /// Draws the labels of some entries, the first row of which is that of the marks.

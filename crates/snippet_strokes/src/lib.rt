@@ -8,17 +8,10 @@ mod cuts;
 mod elision;
 mod highlight;
 mod labels;
-pub mod layout;
-mod lines;
-mod marks;
-mod positions;
-mod roles;
-mod row;
 mod snippet;
-mod source_row;
 mod stems;
 mod strokes;
 mod whole_line;
 
-pub use layout::Layout;
 pub use snippet::draw_snippet;
+pub use snippet_marks::Layout;

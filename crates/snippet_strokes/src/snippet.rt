@@ -1,7 +1,8 @@
 //! The rows of a snippet: those of each line that is shown.
 ghost use Rattle.std.specs.Prelude.{◌≡◌, ◌+◌, ◌^◌, ◌<◌, ◌≤◌, ◌++◌, ◌∷◌, [], false, List, All, IfOk, IfSome, OnOk, chars, length, map};
 ghost use Rattle.snippet_view.specs.Measures.{StandsClear, is_bar};
-ghost use Rattle.snippet_strokes.specs.Entries.{HasPlace, HasBarCell, shifted};
+ghost use Rattle.snippet_marks.specs.Entries.{HasPlace, shifted};
+ghost use Rattle.snippet_strokes.specs.EntryMarks.{HasBarCell};
 ghost use Rattle.snippet_strokes.specs.Bars.{HasRoom, ends_of_bars, open_below};
 ghost use Rattle.snippet_lines.specs.Number.{shown_number};
 ghost use Rattle.snippet_strokes.specs.LineRows.{AddsOwnRows};
@@ -13,12 +14,11 @@ ghost use Rattle.snippet_strokes.specs.Snippet.{AddsLine, AddsSnippet};
 use crate::bars::{BarStroke, OpenBar, bars_apart, draw_bars, ends_on};
 use crate::elision::draw_gap;
 use crate::highlight::highlight_source;
-use crate::layout::Layout;
-use crate::source_row::draw_source_row;
 use crate::strokes::draw_strokes;
 use crate::whole_line::is_whole_line;
 use snippet_grid::StyledBuffer;
 use snippet_lines::LineNumbers;
+use snippet_marks::{Layout, draw_source_row};
 use snippet_view::{AnnotatedLineInfo, Margin};
 use std::alloc::{AllocError, Global};
 

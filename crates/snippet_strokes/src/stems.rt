@@ -1,15 +1,13 @@
 //! The stems that lead from marks down to their labels, or to the lines to their bars.
 ghost use Rattle.std.specs.Prelude.{◌≡◌, ◌+◌, ◌^◌, ◌<◌, ◌≤◌, ◌==◌, ◌∷◌, [], if◌then◌else◌, All, OnOk, false, length, ℕ};
-ghost use Rattle.snippet_strokes.specs.Entries.{HasPlace};
-ghost use Rattle.snippet_strokes.specs.Painting.{DrawsFrom, HasRows, MarksStarts, StandsFrom, foot_glyph};
-ghost use Rattle.snippet_strokes.specs.Positions as spec;
-ghost use Rattle.snippet_strokes.specs.Writes.{painted};
+ghost use Rattle.snippet_marks.specs.Entries.{HasPlace};
+ghost use Rattle.snippet_strokes.specs.Drawing.{DrawsFrom, HasRows, MarksStarts, StandsFrom, foot_glyph};
+ghost use Rattle.snippet_marks.specs.Positions as spec;
+ghost use Rattle.snippet_marks.specs.Writes.{painted};
 ghost use Rattle.snippet_strokes.specs.Strokes.{is_hidden, stem_of, stems_of};
 
-use crate::layout::Layout;
-use crate::positions::PlacedEntry;
-use crate::roles::is_primary;
 use snippet_grid::StyledBuffer;
+use snippet_marks::{Layout, PlacedEntry, is_primary};
 use snippet_style::DecorStyle;
 use snippet_view::LineAnnotationType;
 use std::alloc::AllocError;

@@ -8,10 +8,10 @@ use Rattle.snippet_grid.specs.Grid.{WritesCells, cells_written}
 use Rattle.snippet_strokes.specs.Bars.{bar_glyph, bar_part}
 use Rattle.snippet_strokes.proofs.BarRows.{ChangesRows-next, ChangesRows-none}
 use Rattle.snippet_style.specs.Cell.{Cell, text_cells, unlinked_cell}
-use Rattle.snippet_strokes.specs.Entries.{IsBarCell}
+use Rattle.snippet_strokes.specs.EntryMarks.{IsBarCell}
 use Rattle.snippet_model.specs.Rows.{IsFreeCell}
 use Rattle.snippet_text.specs.Normalized.{is_listed}
-use Rattle.snippet_strokes.proofs.LineLemmas.{text_cells-replicate, some_bytes}
+use Rattle.snippet_marks.proofs.LineLemmas.{text_cells-replicate, some_bytes}
 use Rattle.snippet_strokes.proofs.BarLemmas.{DrawsBars-more, DrawsBars-none, DrawsBars-writes, bar_glyph_known, bar_glyph_free}
 use Rattle.snippet_strokes.proofs.bars.draw_side.Goals as goal
 

@@ -2,14 +2,15 @@ use Rattle.std.proofs.Common.{◌≡◌, ◌∙◌, ◌+◌, ◌<◌, List, ℕ,
 use Rattle.std.proofs.lemmas.List.{take_all}
 use Rattle.std.proofs.lemmas.List.Elements.{All-take, All-weaker}
 use Rattle.snippet_style.specs.Cell.{Cell}
-use Rattle.snippet_strokes.specs.declared.layout.Layout.{Layout}
-use Rattle.snippet_strokes.specs.declared.positions.PlacedEntry.{PlacedEntry}
-use Rattle.snippet_strokes.specs.Painting.{DrawsFrom, HasRows, KeepsBarCells}
+use Rattle.snippet_marks.specs.declared.layout.Layout.{Layout}
+use Rattle.snippet_marks.specs.declared.positions.PlacedEntry.{PlacedEntry}
+use Rattle.snippet_strokes.specs.Drawing.{DrawsFrom, HasRows, KeepsBarCells}
 use Rattle.snippet_strokes.specs.Strokes.{connector_of, connectors_of}
-use Rattle.snippet_strokes.specs.Writes.{IsWithin, Write, painted}
+use Rattle.snippet_strokes.specs.Reach.{IsWithin}
+use Rattle.snippet_marks.specs.Writes.{Write, painted}
 use Rattle.snippet_strokes.proofs.BarWrites.{KeepsBarCells-painted, connectors_none, connectors_bar_cells, connectors_within}
 use Rattle.snippet_strokes.proofs.WriteLaws.{DrawsFrom-painted, painted-count}
-use Rattle.snippet_strokes.proofs.WriteLemmas.{painted_more}
+use Rattle.snippet_marks.proofs.WriteLemmas.{painted_more}
 use Rattle.snippet_strokes.proofs.connectors.draw_connectors.Goals as goal
 
 -- lines to bars add no row

@@ -1,7 +1,7 @@
 use Rattle.std.proofs.Common.{◌≡◌, ◌∙◌, ap, sym, arith}
 use Rattle.snippet_style.specs.Glyphs.{glyph_of, underline_role}
 use Rattle.snippet_strokes.specs.Strokes.{bar_of}
-use Rattle.snippet_strokes.specs.Writes.{painted}
+use Rattle.snippet_marks.specs.Writes.{painted}
 use Rattle.snippet_strokes.proofs.BarWrites.{bar_of-none, bar_painted}
 use Rattle.snippet_strokes.proofs.corners.draw_bar.Goals as goal
 

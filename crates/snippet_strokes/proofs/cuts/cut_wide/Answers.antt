@@ -3,9 +3,9 @@ use Rattle.std.proofs.lemmas.List.{get_or-map, length-map}
 use Rattle.snippet_view.specs.declared.entries.LineAnnotation.{LineAnnotation}
 use Rattle.snippet_view.specs.Measures.{is_wide_entry}
 use Rattle.snippet_style.specs.Glyphs.{placeholder_of}
-use Rattle.snippet_strokes.specs.declared.positions.PlacedEntry.{PlacedEntry}
+use Rattle.snippet_marks.specs.declared.positions.PlacedEntry.{PlacedEntry}
 use Rattle.snippet_strokes.specs.Cuts.{Stretch, cut_of, cut_rows, cuts_of}
-use Rattle.snippet_strokes.specs.Entries.{wide_entries}
+use Rattle.snippet_strokes.specs.EntryMarks.{wide_entries}
 use Rattle.snippet_strokes.specs.Rows.{CutsRows}
 use Rattle.snippet_strokes.proofs.CutLemmas.{CutsRows-more, count_by_more, cut_rows-append, cuts_of-more}
 use Rattle.snippet_strokes.proofs.cuts.cut_wide.Goals as goal

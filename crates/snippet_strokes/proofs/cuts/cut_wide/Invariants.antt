@@ -1,10 +1,10 @@
 use Rattle.std.proofs.Common.{◌≡◌, ◌++◌, ◌∷◌, ℕ, Bool, List, drop, length, map, take}
 use Rattle.snippet_style.specs.Cell.{Cell}
 use Rattle.snippet_strokes.specs.Cuts.{cut_rows, cuts_of}
-use Rattle.snippet_strokes.specs.Entries.{wide_entries}
+use Rattle.snippet_strokes.specs.EntryMarks.{wide_entries}
 use Rattle.snippet_strokes.specs.Rows.{CutsRows}
-use Rattle.snippet_strokes.specs.declared.layout.Layout.{Layout}
-use Rattle.snippet_strokes.specs.declared.positions.PlacedEntry.{PlacedEntry}
+use Rattle.snippet_marks.specs.declared.layout.Layout.{Layout}
+use Rattle.snippet_marks.specs.declared.positions.PlacedEntry.{PlacedEntry}
 use Rattle.snippet_strokes.proofs.cuts.cut_wide.Given as goal
 
 -- the rows of a buffer are cut once for each of some wide entries

@@ -5,7 +5,7 @@ use Rattle.snippet_style.specs.declared.role.ElementStyle.TheVariants.{LineNumbe
 use Rattle.snippet_style.specs.Glyphs.{elision_of}
 use Rattle.snippet_style.specs.Cell.{SPACE, text_cells}
 use Rattle.snippet_strokes.proofs.ElisionLemmas.{bare_elision_is, elision_cell, elision_some}
-use Rattle.snippet_strokes.proofs.RowLemmas.{begun_by_text}
+use Rattle.snippet_grid.proofs.RowLemmas.{begun_by_text}
 use Rattle.snippet_strokes.proofs.elision.begin_elision_row.Goals as goal
 use Rattle.snippet_strokes.proofs.elision.begin_elision_row.Goals.{in-Ascii, in-Unicode}
 

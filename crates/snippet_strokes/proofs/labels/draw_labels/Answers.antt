@@ -2,16 +2,17 @@ use Rattle.std.proofs.Common.{◌≡◌, ◌∙◌, ◌<◌, [], ap, sym, subst,
 use Rattle.std.proofs.lemmas.List.{take_all}
 use Rattle.std.proofs.lemmas.List.Elements.{All-take, All-weaker}
 use Rattle.snippet_style.specs.Cell.{Cell}
-use Rattle.snippet_strokes.specs.declared.layout.Layout.{Layout}
-use Rattle.snippet_strokes.specs.declared.positions.PlacedEntry.{PlacedEntry}
-use Rattle.snippet_strokes.specs.Entries.{HasPlace}
-use Rattle.snippet_strokes.specs.Painting.{DrawsFrom, HasRows, MarksStarts}
-use Rattle.snippet_strokes.specs.Writes.{IsWithin, Write, painted}
-use Rattle.snippet_strokes.specs.Labels.{StandsWhole}
+use Rattle.snippet_marks.specs.declared.layout.Layout.{Layout}
+use Rattle.snippet_marks.specs.declared.positions.PlacedEntry.{PlacedEntry}
+use Rattle.snippet_marks.specs.Entries.{HasPlace}
+use Rattle.snippet_strokes.specs.Drawing.{DrawsFrom, HasRows, MarksStarts}
+use Rattle.snippet_strokes.specs.Reach.{IsWithin}
+use Rattle.snippet_marks.specs.Writes.{Write, painted}
+use Rattle.snippet_marks.specs.Painting.{StandsWhole}
 use Rattle.snippet_strokes.specs.Strokes.{label_of, labels_of}
 use Rattle.snippet_strokes.proofs.LabelWrites.{label_lone, labels_none, labels_unmarked, labels_within}
 use Rattle.snippet_strokes.proofs.WriteLaws.{DrawsFrom-painted, painted-count}
-use Rattle.snippet_strokes.proofs.WriteLemmas.{painted_more}
+use Rattle.snippet_marks.proofs.WriteLemmas.{painted_more}
 use Rattle.snippet_strokes.proofs.LabelLaw.{labels_stand}
 use Rattle.snippet_strokes.proofs.labels.draw_labels.Goals as goal
 

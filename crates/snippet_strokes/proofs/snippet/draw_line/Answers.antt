@@ -3,7 +3,7 @@ use Rattle.std.specs.Prelude.{filter, not}
 use Rattle.std.proofs.lemmas.List.Elements.{All-same}
 use Rattle.snippet_view.specs.declared.entries.LineAnnotation.{LineAnnotation}
 use Rattle.snippet_grid.specs.Grid.{row_at}
-use Rattle.snippet_strokes.specs.Entries.{is_end_part}
+use Rattle.snippet_marks.specs.Entries.{is_end_part}
 use Rattle.snippet_strokes.specs.Bars.{HasRoom, bars_apart, ends_of_bars}
 use Rattle.snippet_strokes.specs.Rows.{IsHighlighted}
 use Rattle.snippet_strokes.proofs.OpenLemmas.{room_apart}

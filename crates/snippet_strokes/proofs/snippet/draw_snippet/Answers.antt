@@ -2,7 +2,7 @@ use Rattle.std.proofs.Common.{◌≡◌, ◌∙◌, ◌+◌, ◌-◌, take, ◌=
 use Rattle.std.proofs.lemmas.List.{take_rest}
 use Rattle.std.proofs.lemmas.List.Elements.{All-nil, All-same}
 use Rattle.snippet_view.specs.declared.entries.AnnotatedLineInfo.{AnnotatedLineInfo}
-use Rattle.snippet_strokes.specs.Entries.{HasBarCell}
+use Rattle.snippet_strokes.specs.EntryMarks.{HasBarCell}
 use Rattle.snippet_strokes.specs.Bars.{HasRoom, open_below}
 use Rattle.snippet_strokes.specs.Snippet.{AddsGap, AddsLine}
 use Rattle.snippet_strokes.proofs.OpenLemmas.{room_below}

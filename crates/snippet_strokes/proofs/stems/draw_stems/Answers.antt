@@ -1,8 +1,8 @@
 use Rattle.std.proofs.Common.{◌≡◌, ◌∙◌, ◌+◌, ◌-◌, ◌∷◌, false, true, ap, sym, subst, arith, drop, length, take}
 use Rattle.std.proofs.lemmas.List.{drop_more, drop_all, length-drop, take_all}
-use Rattle.snippet_strokes.specs.Painting.{DrawsFrom, HasRows, MarksStarts}
+use Rattle.snippet_strokes.specs.Drawing.{DrawsFrom, HasRows, MarksStarts}
 use Rattle.snippet_strokes.specs.Strokes.{is_hidden, stems_of}
-use Rattle.snippet_strokes.specs.Writes.{painted}
+use Rattle.snippet_marks.specs.Writes.{painted}
 use Rattle.snippet_strokes.proofs.StemWrites.{stem_count, stems_next, stems_none, stems_skip, stems_start, stems_within}
 use Rattle.snippet_strokes.proofs.WriteLaws.{DrawsFrom-painted}
 use Rattle.snippet_strokes.proofs.stems.draw_stems.Goals.{then-not-is_hidden+in_ok-draw_stem, else-not-is_hidden}

@@ -4,29 +4,30 @@ use Rattle.snippet_grid.proofs.OutcomeLemmas.{on_ok_two}
 use Rattle.std.proofs.lemmas.List.{length_push, length-map}
 use Rattle.std.proofs.lemmas.List.Sorted.{All-permutation, IsPermutation-map, IsPermutation-trans, length_permutation}
 use Rattle.snippet_view.specs.declared.entries.LineAnnotation.{LineAnnotation}
-use Rattle.snippet_strokes.specs.declared.positions.PlacedEntry.{PlacedEntry}
-use Rattle.snippet_strokes.specs.Painting.{AreMarked, HasRows, MarksStarts, StandsFrom, DrawsFrom, DrawsBarCells}
-use Rattle.snippet_strokes.specs.Positions.{HasItsLabel, has_label, has_stem, row_count}
+use Rattle.snippet_marks.specs.declared.positions.PlacedEntry.{PlacedEntry}
+use Rattle.snippet_marks.specs.Painting.{AreMarked, StandsWhole}
+use Rattle.snippet_strokes.specs.Drawing.{HasRows, MarksStarts, StandsFrom, DrawsFrom, DrawsBarCells, row_count}
+use Rattle.snippet_marks.specs.Positions.{HasItsLabel, has_label, has_stem, ArePlaced}
 use Rattle.snippet_grid.specs.Grid.{cell_at, cells_written}
-use Rattle.snippet_style.specs.Cell.{text_cells}
-use Rattle.snippet_strokes.specs.Entries.{HasPlace, HasBarCell, is_single, label_role, label_text, shifted, wide_entries}
+use Rattle.snippet_style.specs.Cell.{text_cells, Cell}
+use Rattle.snippet_marks.specs.Entries.{HasPlace, label_role, label_text, shifted}
+use Rattle.snippet_strokes.specs.EntryMarks.{HasBarCell, is_single, wide_entries}
 use Rattle.snippet_strokes.proofs.ShiftLemmas.{shifted_places, shifted_bars}
 use Rattle.std.specs.List.{list_any}
 use Rattle.snippet_strokes.specs.Cuts.{cut_rows, cuts_of, is_wide_at, overlapped}
-use Rattle.snippet_strokes.specs.Rows.{bare_row}
+use Rattle.snippet_marks.specs.SourceRows.{bare_row}
 use Rattle.snippet_style.specs.Separators.{separator_row}
-use Rattle.snippet_strokes.proofs.PositionLemmas.{entries_all, row_count_some, positions_of_placed}
+use Rattle.snippet_marks.proofs.PlacedLemmas.{entries_all}
+use Rattle.snippet_strokes.proofs.PositionLemmas.{row_count_some, positions_of_placed}
 use Rattle.snippet_strokes.proofs.BegunLemmas.{rows_begun, rows_ready, wide_entries-permutation}
 use Rattle.snippet_strokes.proofs.StrokeLemmas.{strokes_drawn}
 use Rattle.snippet_strokes.proofs.NoStrokes.{strokes_none}
 use Rattle.snippet_strokes.proofs.TextLemmas.{labels_short}
-use Rattle.snippet_style.specs.Cell.{Cell}
-use Rattle.snippet_strokes.specs.Positions.{ArePlaced}
-use Rattle.snippet_strokes.specs.Labels.{IsStrokeCell, StandsWhole}
+use Rattle.snippet_strokes.specs.Labels.{IsStrokeCell}
 use Rattle.snippet_strokes.specs.Strokes.{connectors_of, corners_of, labels_of, stems_of, strokes_of}
-use Rattle.snippet_strokes.specs.Writes.{painted}
+use Rattle.snippet_marks.specs.Writes.{painted}
 use Rattle.snippet_strokes.proofs.StrokeCells.{BesideLabels, cell_of_strokes}
-use Rattle.snippet_strokes.proofs.WriteLemmas.{strokes_painted}
+use Rattle.snippet_strokes.proofs.StrokeWrites.{strokes_painted}
 use Rattle.snippet_strokes.proofs.LineRowLemmas.{painted_added}
 use Rattle.snippet_strokes.proofs.strokes.draw_strokes.Goals as goal
 

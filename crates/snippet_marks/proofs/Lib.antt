@@ -1,0 +1,10 @@
+pub mod SourceRowLemmas
+pub mod CharLemmas
+pub mod OrderLemmas
+pub mod PlacedLemmas
+pub mod CellLemmas
+pub mod WriteLemmas
+pub mod PaintLemmas
+pub mod MarkWrites
+pub mod LabelKept
+pub mod LineLemmas

@@ -1,0 +1,6 @@
+use Rattle.snippet_grid.proofs.RowLemmas.{separator_row-begun as begun}
+use Rattle.snippet_marks.proofs.row.begin_row.Goals as goal
+
+pub returns-clause-added : goal.returns-clause-added
+returns-clause-added c =
+    begun c.args.buffer.now c.putc.new.self c.num_lines-row.result c.args.layout.gutter c.separator.result c.args.layout.decor c.num_lines-row.ensures.count c.separator.ensures.value c.in_ok-putc.ensures.ok

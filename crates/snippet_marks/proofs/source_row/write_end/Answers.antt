@@ -1,0 +1,13 @@
+use Rattle.std.proofs.lemmas.Result.{on_ok_weaker}
+use Rattle.snippet_marks.proofs.CellLemmas.{ended_cut}
+use Rattle.snippet_marks.proofs.source_row.write_end.Goals as goal
+
+pub returns-in-Some : goal.returns-in-Some
+returns-in-Some c =
+    let decor = c.args.layout.decor in
+    record {
+      writes = on_ok_weaker c.puts.result
+          (λ writes above row cells last ends before. ended_cut decor c.args.end c.in-Some.at above c.args.buffer.now c.puts.new.self row cells
+          c.args.row c.args.layout.code c.args.placeholder.now c.in-Some.is c.utf8.placeholder c.requires.placeholder writes c.puts.ensures.empty last
+          ends before) c.puts.ensures.ok;
+    }

@@ -1,0 +1,154 @@
+//! The marks below a line of the source.
+ghost use Rattle.std.specs.Prelude.{◌≡◌, ◌+◌, ◌^◌, ◌<◌, ◌==◌, ◌&&◌, All, List, OnOk, IsPermutation, map};
+ghost use Rattle.snippet_marks.specs.Entries as spec;
+ghost use Rattle.snippet_view.specs.declared.entries.LineAnnotation.{LineAnnotation};
+ghost use Rattle.snippet_marks.specs.Entries.{HasPlace};
+ghost use Rattle.snippet_marks.specs.Positions.{ArePlaced};
+ghost use Rattle.snippet_marks.specs.Painting.{StandsWhole, AreMarked, IsPaintingOrder, first_glyph, mark_end, painting_order, mark_of, marks_of};
+ghost use Rattle.snippet_marks.specs.Writes.{painted};
+
+use crate::layout::Layout;
+use crate::lines::draw_stretch;
+use crate::positions::PlacedEntry;
+use crate::roles::is_primary;
+use snippet_grid::StyledBuffer;
+use snippet_style::DecorStyle;
+use snippet_view::{LineAnnotation, LineAnnotationType};
+use std::alloc::{AllocError, Global};
+use std::cmp::Reverse;
+
+/// Draws the marks of some entries into a row, over what stands there. The entries are put in another order.
+///
+/// ```text
+///       |     ----^^^--
+/// ```
+///
+/// # Errors
+///
+/// There is no memory for the cells, or to sort the entries.
+pub fn draw_marks(
+    alloc: Global,
+    buffer: &mut StyledBuffer,
+    layout: Layout,
+    row: usize,
+    placed: &mut Vec<PlacedEntry>,
+) -> Result<(), AllocError>
+    requires row { row + 1 < 2 ^ 64 }
+    requires narrow { layout.code < 2 ^ 63 + 2 ^ 32 }
+    requires columns { All (λ e. e.entry.end.display < 2 ^ 60) placed.old.items }
+    ensures painted { OnOk result (buffer.new ≡ painted (marks_of layout row placed.new.items) buffer.old) }
+    ensures ordered { OnOk result (IsPaintingOrder (map (λ e. e.entry) placed.new.items)) }
+    ensures marked { OnOk result (AreMarked layout placed.old.items row buffer.old buffer.new) }
+    ensures stand { OnOk result ((es : List LineAnnotation) → ArePlaced es placed.old.items
+        → All (λ e. HasPlace e.entry) placed.old.items → All (StandsWhole layout row buffer.old) placed.old.items
+        → All (StandsWhole layout row buffer.new) placed.old.items) }
+    ensures same { OnOk result (IsPermutation placed.old.items placed.new.items) }
+    ensures order { OnOk result (placed.new.items ≡ painting_order placed.old.items) }
+{
+    sort_for_painting(placed)?;
+    paint_entries(alloc, buffer, layout, row, placed)
+}
+
+/// Puts the entries in order from the widest to the narrowest, those of one width with the primary ones last, and else
+/// as given: painted one over another, each column shows the narrowest entry that covers it.
+///
+/// # Errors
+///
+/// There is no memory to sort them.
+fn sort_for_painting(placed: &mut Vec<PlacedEntry>) -> Result<(), AllocError>
+    ensures same { OnOk result (IsPermutation placed.old.items placed.new.items) }
+    ensures ordered { OnOk result (IsPaintingOrder (map (λ e. e.entry) placed.new.items)) }
+    ensures order { OnOk result (placed.new.items ≡ painting_order placed.old.items) }
+{
+    placed.sort_by_key(|p| (Reverse(entry_width(&p.entry)), is_primary(p.entry.kind)))
+}
+
+/// How many columns an entry covers.
+fn entry_width(entry: &LineAnnotation) -> usize
+    ensures value { result ≡ spec.entry_width entry.now }
+{
+    entry.end.display.saturating_sub(entry.start.display)
+}
+
+/// Paints the marks of entries into a row, each over those before it.
+fn paint_entries(
+    alloc: Global,
+    buffer: &mut StyledBuffer,
+    layout: Layout,
+    row: usize,
+    placed: &[PlacedEntry],
+) -> Result<(), AllocError>
+    requires row { row + 1 < 2 ^ 64 }
+    requires narrow { layout.code < 2 ^ 63 + 2 ^ 32 }
+    requires columns { All (λ e. e.entry.end.display < 2 ^ 60) placed.now }
+    ensures painted { OnOk result (buffer.new ≡ painted (marks_of layout row placed.now) buffer.old) }
+{
+    for entry in placed {
+        paint_entry(alloc, buffer, layout, row, entry)?;
+    }
+    Ok(())
+}
+
+/// Paints the marks of an entry into a row, over what stands there. The first may be another glyph.
+///
+/// ```text
+///       |       ^^^^^         ┯━━━━
+/// ```
+fn paint_entry(
+    alloc: Global,
+    buffer: &mut StyledBuffer,
+    layout: Layout,
+    row: usize,
+    placed: &PlacedEntry,
+) -> Result<(), AllocError>
+    requires row { row + 1 < 2 ^ 64 }
+    requires narrow { layout.code < 2 ^ 63 + 2 ^ 32 }
+    requires columns { placed.now.entry.end.display < 2 ^ 60 }
+    ensures painted { OnOk result (buffer.new ≡ painted (mark_of layout row placed.now) buffer.old) }
+{
+    let strokes = layout.decor.underline(is_primary(placed.entry.kind));
+    let (start, end) = (placed.entry.start.display, mark_end(placed));
+    if end <= start {
+        return Ok(());
+    }
+    let first = first_glyph(layout.decor, placed);
+    buffer.putc(row, layout.code + start, first, strokes.style)?;
+    draw_stretch(
+        alloc,
+        buffer,
+        row,
+        layout.code + start + 1,
+        layout.code + end,
+        strokes.underline,
+        strokes.style,
+    )
+}
+
+/// The column after the last one at which an entry's mark is painted. Where an entry covers no column, but a glyph of its
+/// own stands at its start, that glyph is its mark.
+fn mark_end(placed: &PlacedEntry) -> usize
+    requires columns { placed.now.entry.end.display < 2 ^ 60 }
+    ensures value { result ≡ mark_end placed.now }
+{
+    let end = placed.entry.end.display;
+    if placed.entry.start.display == end && (placed.takes_space() || placed.has_stem()) {
+        end + 1
+    } else {
+        end
+    }
+}
+
+/// The glyph at the first column of an entry's mark.
+fn first_glyph(decor: DecorStyle, placed: &PlacedEntry) -> char
+    ensures value { result ≡ first_glyph decor placed.now }
+{
+    let strokes = decor.underline(is_primary(placed.entry.kind));
+    match placed.entry.annotation_type {
+        LineAnnotationType::MultilineStart(_) if placed.has_stem() => strokes.multiline_start_down,
+        LineAnnotationType::MultilineStart(_) => strokes.top_right_flat,
+        LineAnnotationType::MultilineEnd(_) if placed.has_stem() => strokes.multiline_end_up,
+        LineAnnotationType::MultilineEnd(_) => strokes.multiline_end_same_line,
+        _ if placed.has_stem() => strokes.label_start,
+        _ => strokes.underline,
+    }
+}

@@ -1,0 +1,90 @@
+-- The marks of entries that stand for whole spans.
+use Rattle.std.proofs.Common.{◌≡◌, ℕ, ◌+◌, ◌<◌, ◌≤◌, ◌==◌, ◌&&◌, ◌||◌, cond, Bool, true, false, refl, sym, ap, subst, arith, inl, inr}
+use Rattle.std.proofs.lemmas.Bool.Decides.{nat_tests}
+use Rattle.snippet_model.specs.declared.snippet.AnnotationKind.{AnnotationKind}
+use Rattle.snippet_model.specs.declared.snippet.AnnotationKind.TheVariants.{Primary, Context, Visible}
+use Rattle.snippet_view.specs.declared.entries.LineAnnotation.{LineAnnotation}
+use Rattle.snippet_view.specs.declared.entries.LineAnnotationType.{LineAnnotationType}
+use Rattle.snippet_view.specs.declared.entries.LineAnnotationType.TheVariants.{Singleline, MultilineStart, MultilineEnd, MultilineLine}
+use Rattle.snippet_view.specs.Measures.{is_single_part}
+use Rattle.snippet_marks.specs.declared.positions.PlacedEntry.{PlacedEntry}
+use Rattle.snippet_marks.specs.Positions.{has_stem, takes_space}
+use Rattle.snippet_style.specs.declared.glyphs.DecorStyle.{DecorStyle}
+use Rattle.snippet_style.specs.declared.glyphs.DecorStyle.TheVariants.{Ascii, Unicode}
+use Rattle.snippet_style.specs.Glyphs.{glyph_of, underline_role}
+use Rattle.snippet_style.specs.Cell.{unlinked_cell}
+use Rattle.snippet_marks.specs.declared.layout.Layout.{Layout}
+use Rattle.snippet_strokes.specs.EntryMarks.{EntryCovers, is_single, IsMarkCell}
+use Rattle.snippet_marks.specs.Entries.{is_end_part}
+use Rattle.snippet_model.specs.AnnotationKind.{is_primary}
+use Rattle.snippet_marks.specs.Painting.{IsPaintedAt, mark_cell, mark_end}
+
+-- a mark cell of an entry that stands for a whole span is one of its kind
+stroke_is : (decor : DecorStyle) (kind : AnnotationKind) (start stem : Bool)
+    → IsMarkCell decor kind (unlinked_cell (underline_role (is_primary kind))
+    (cond start (cond stem (glyph_of decor (is_primary kind) 94 45 0x252F 0x252C) (glyph_of decor (is_primary kind) 94 45 0x2501 0x2500))
+    (glyph_of decor (is_primary kind) 94 45 0x2501 0x2500)))
+stroke_is Ascii Primary true true = (refl, refl)
+stroke_is Ascii Context true true = (refl, refl)
+stroke_is Ascii Visible true true = (refl, refl)
+stroke_is Unicode Primary true true = (inr refl, refl)
+stroke_is Unicode Context true true = (inr refl, refl)
+stroke_is Unicode Visible true true = (inr refl, refl)
+stroke_is Ascii Primary true false = (refl, refl)
+stroke_is Ascii Context true false = (refl, refl)
+stroke_is Ascii Visible true false = (refl, refl)
+stroke_is Unicode Primary true false = (inl refl, refl)
+stroke_is Unicode Context true false = (inl refl, refl)
+stroke_is Unicode Visible true false = (inl refl, refl)
+stroke_is Ascii Primary false stem = (refl, refl)
+stroke_is Ascii Context false stem = (refl, refl)
+stroke_is Ascii Visible false stem = (refl, refl)
+stroke_is Unicode Primary false stem = (inl refl, refl)
+stroke_is Unicode Context false stem = (inl refl, refl)
+stroke_is Unicode Visible false stem = (inl refl, refl)
+
+-- the cell of a mark is one that a mark of that kind may have
+pub IsMarkCell-mark_cell : (layout : Layout) (e : PlacedEntry) (c : ℕ) → takes_space e ≡ false → IsMarkCell layout.decor e.entry.kind (mark_cell layout e c)
+IsMarkCell-mark_cell layout e c flat =
+    let primary = is_primary e.entry.kind in
+    let corner = cond (has_stem e) (glyph_of layout.decor primary 94 45 0x257F 0x2502) (glyph_of layout.decor primary 94 45 0x251B 0x2518) in
+    let own = cond (has_stem e) (glyph_of layout.decor primary 94 45 0x252F 0x252C) (glyph_of layout.decor primary 94 45 0x2501 0x2500) in
+    subst (λ b. IsMarkCell layout.decor e.entry.kind
+    (unlinked_cell (underline_role primary)
+    (cond (c == layout.code + e.entry.start.display) (cond b corner own) (glyph_of layout.decor primary 94 45 0x2501 0x2500)))) (sym flat)
+    (stroke_is layout.decor e.entry.kind (c == layout.code + e.entry.start.display) (has_stem e))
+
+-- an entry that stands for a whole span takes no space, and one that covers a column is painted at its columns alone
+abbrev pub IsPlainEntry : LineAnnotation → Type 0
+IsPlainEntry e = (is_single e ≡ true) × (e.start.display < e.end.display)
+
+-- a plain entry takes no space
+pub spaceless : (e : PlacedEntry) → IsPlainEntry e.entry → takes_space e ≡ false
+spaceless e plain = by_type e.entry.annotation_type plain.0
+  where
+    by_type : (part : LineAnnotationType) → is_single_part part ≡ true → is_end_part part ≡ false
+    by_type Singleline is = refl
+    by_type (MultilineStart depth) is = cc is
+    by_type (MultilineEnd depth) is = cc is
+    by_type (MultilineLine depth) is = refl
+
+-- the mark of a plain entry ends where the entry does
+pub mark_end_plain : (e : PlacedEntry) → IsPlainEntry e.entry → mark_end e ≡ e.entry.end.display
+mark_end_plain e plain =
+    ap (λ b. cond (b && (takes_space e || has_stem e)) (e.entry.end.display + 1) e.entry.end.display) (apart e.entry.start.display e.entry.end.display plain.1)
+  where
+    apart : (m n : ℕ) → m < n → (m == n) ≡ false
+    apart m n less = grind (arith, nat_tests, less)
+
+-- a column that an entry covers is painted for it
+pub painted_covered : (e : PlacedEntry) (p : ℕ) → EntryCovers e.entry p → IsPaintedAt e p
+painted_covered e p covers =
+    (covers.0, omega (arith, covers.1, no_less (e.entry.start.display == e.entry.end.display && (takes_space e || has_stem e)) e.entry.end.display))
+  where
+    no_less : (b : Bool) (n : ℕ) → n ≤ cond b (n + 1) n
+    no_less true n = omega arith
+    no_less false n = omega arith
+
+-- a column that is painted for a plain entry is covered by it
+pub covered_painted : (e : PlacedEntry) (p : ℕ) → IsPlainEntry e.entry → IsPaintedAt e p → EntryCovers e.entry p
+covered_painted e p plain painted = (painted.0, omega (arith, painted.1, mark_end_plain e plain))

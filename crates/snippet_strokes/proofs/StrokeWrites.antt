@@ -1,0 +1,86 @@
+-- Labels, stems, columns and all strokes of a line, as writes one after another.
+use Rattle.std.proofs.Common.{◌≡◌, ℕ, ◌+◌, ◌-◌, ◌≤◌, List, [], ◌∷◌, ◌++◌, sym, ap, ◌∙◌, arith, inl, inr, cond, true, false, map, ◌==◌}
+use Rattle.std.proofs.lemmas.Bool.{cases_Bool}
+use Rattle.std.specs.List.{range_with_len}
+use Rattle.std.proofs.lemmas.List.FromFn.{map-range_with_len_more}
+use Rattle.snippet_style.specs.declared.role.ElementStyle.{ElementStyle}
+use Rattle.snippet_style.specs.Cell.{Cell, text_cells}
+use Rattle.snippet_grid.specs.Grid.{cells_written}
+use Rattle.snippet_marks.specs.declared.layout.Layout.{Layout}
+use Rattle.snippet_marks.specs.declared.positions.PlacedEntry.{PlacedEntry}
+use Rattle.snippet_style.specs.Glyphs.{glyph_of, underline_role}
+use Rattle.snippet_model.specs.AnnotationKind.{is_primary}
+use Rattle.snippet_marks.specs.Entries.{label_role, label_text}
+use Rattle.snippet_strokes.specs.Drawing.{foot_glyph}
+use Rattle.snippet_marks.specs.Positions.{has_label, label_place}
+use Rattle.snippet_marks.specs.Writes.{Write, glyph_at, painted, written_by}
+use Rattle.snippet_strokes.specs.Strokes.{column_of, connectors_of, corners_of, label_write, label_of, labels_of, stem_write, stems_of, strokes_of}
+use Rattle.snippet_marks.specs.Painting.{marks_of}
+use Rattle.snippet_marks.proofs.WriteLemmas.{painted-append}
+
+-- a label is written where the entry has one
+pub label_painted : (layout : Layout) (row : ℕ) (e : PlacedEntry) (place : ℕ × ℕ) (role : ElementStyle) (text : List ℕ) (old new : List (List Cell))
+    → place ≡ label_place e → role ≡ label_role e.entry.kind → text ≡ label_text e.entry
+    → (has_label e ≡ true → new ≡ cells_written old (row + place.0) (layout.code + place.1) (text_cells role text))
+    → (has_label e ≡ false → new ≡ old) → new ≡ painted (label_of layout row e) old
+label_painted layout row e place role text old new is_place is_role is_text writes stays =
+    elim (cases_Bool (has_label e)) [
+      | inl has ↦
+          writes has ∙ ap (λ (p : ℕ × ℕ). cells_written old (row + p.0) (layout.code + p.1) (text_cells role text)) is_place
+          ∙ ap (λ r. cells_written old (row + (label_place e).0) (layout.code + (label_place e).1) (text_cells r text)) is_role
+          ∙ ap (λ cs. cells_written old (row + (label_place e).0) (layout.code + (label_place e).1) (text_cells (label_role e.entry.kind) cs))
+          is_text ∙ sym (ap (λ b. painted (cond b (label_write layout row e ∷ []) []) old) has)
+      | inr none ↦ stays none ∙ sym (ap (λ b. painted (cond b (label_write layout row e ∷ []) []) old) none)
+    ]
+
+-- one cell more of a stem
+pub stem_drawn : (layout : Layout) (row : ℕ) (e : PlacedEntry) (n foot stem glyph : ℕ) (role : ElementStyle) (old mid new : List (List Cell))
+    → glyph ≡ cond (n == e.position) foot stem → foot ≡ foot_glyph layout.decor e
+    → stem ≡ glyph_of layout.decor (is_primary e.entry.kind) 124 124 0x2502 0x2502 → role ≡ underline_role (is_primary e.entry.kind)
+    → new ≡ cells_written mid (row + n) (layout.code + e.entry.start.display) (text_cells role (glyph ∷ []))
+    → mid ≡ painted (map (stem_write layout row e) (range_with_len 0 n)) old
+    → new ≡ painted (map (stem_write layout row e) (range_with_len 0 (n + 1))) old
+stem_drawn layout row e n foot stem glyph role old mid new is_glyph is_foot is_stem is_role writes so_far =
+    let cell = layout.code + e.entry.start.display in
+    let same : glyph ≡ cond (n == e.position) (foot_glyph layout.decor e) (glyph_of layout.decor (is_primary e.entry.kind) 124 124 0x2502 0x2502) = is_glyph ∙ ap (λ f. cond (n == e.position) f stem) is_foot ∙ ap (λ s. cond (n == e.position) (foot_glyph layout.decor e) s) is_stem in
+    writes ∙ ap (λ g. cells_written mid (row + n) cell (text_cells role (g ∷ []))) same
+    ∙ ap (λ r. cells_written mid (row + n) cell
+    (text_cells r (cond (n == e.position) (foot_glyph layout.decor e) (glyph_of layout.decor (is_primary e.entry.kind) 124 124 0x2502 0x2502)
+    ∷ []))) is_role ∙ ap (λ rows. written_by rows (stem_write layout row e n)) so_far
+    ∙ sym (painted-append (map (stem_write layout row e) (range_with_len 0 n)) (stem_write layout row e n ∷ []) old)
+    ∙ sym (ap (λ ws. painted ws old) (map-range_with_len_more (stem_write layout row e) 0 n n (omega arith)))
+
+-- a column grows by a glyph in the next row
+pub column_painted : (start row cell glyph : ℕ) (role : ElementStyle) (old mid new : List (List Cell)) → start ≤ row
+    → mid ≡ painted (column_of start row cell glyph role) old → new ≡ cells_written mid row cell (text_cells role (glyph ∷ []))
+    → new ≡ painted (column_of start (row + 1) cell glyph role) old
+column_painted start row cell glyph role old mid new below so_far writes =
+    let f : ℕ → Write = λ r. glyph_at r cell glyph role in
+    let n : ℕ = row - start in
+    let one_more : row + 1 - start ≡ n + 1 = omega (arith, below) in
+    let here : start + n ≡ row = omega (arith, below) in
+    writes ∙ ap (λ rows. written_by rows (f row)) so_far ∙ sym (painted-append (map f (range_with_len start n)) (f row ∷ []) old) ∙ sym (ap (λ ws. painted ws old) (map-range_with_len_more f start n row here)) ∙ sym (ap (λ m. painted (map f (range_with_len start m)) old) one_more)
+
+-- a column with no rows is no write
+pub column_of-none : (start cell glyph : ℕ) (role : ElementStyle) → column_of start start cell glyph role ≡ []
+column_of-none start cell glyph role =
+    ap (λ n. map (λ r. glyph_at r cell glyph role) (range_with_len start n)) (let none : start - start ≡ 0 = omega arith in none)
+
+-- the strokes of a line, painted one list after another
+pub strokes_painted : (layout : Layout) (row below count all : ℕ) (placed order : List PlacedEntry)
+    (rows begun joined barred stemmed labelled new : List (List Cell)) → below ≡ row + 1 → count ≡ all → begun ≡ rows
+    → joined ≡ painted (connectors_of layout below placed) begun → barred ≡ painted (corners_of layout row count placed) joined
+    → stemmed ≡ painted (stems_of layout below placed) barred → labelled ≡ painted (labels_of layout below placed) stemmed
+    → new ≡ painted (marks_of layout below order) labelled → new ≡ painted (strokes_of layout row all placed order) rows
+strokes_painted layout row below count all placed order rows begun joined barred stemmed labelled new is_below is_all is_begun lines bars stems labels marks =
+    let one : List Write = connectors_of layout (row + 1) placed in
+    let two : List Write = corners_of layout row all placed in
+    let three : List Write = stems_of layout (row + 1) placed in
+    let four : List Write = labels_of layout (row + 1) placed in
+    let five : List Write = marks_of layout (row + 1) order in
+    let after_one : joined ≡ painted one rows = lines ∙ ap (λ n. painted (connectors_of layout n placed) begun) is_below ∙ ap (painted one) is_begun in
+    let after_two : barred ≡ painted two (painted one rows) = bars ∙ ap (λ n. painted (corners_of layout row n placed) joined) is_all ∙ ap (painted two) after_one in
+    let after_three : stemmed ≡ painted three (painted two (painted one rows)) = stems ∙ ap (λ n. painted (stems_of layout n placed) barred) is_below ∙ ap (painted three) after_two in
+    let after_four : labelled ≡ painted four (painted three (painted two (painted one rows))) = labels ∙ ap (λ n. painted (labels_of layout n placed) stemmed) is_below ∙ ap (painted four) after_three in
+    let after_five : new ≡ painted five (painted four (painted three (painted two (painted one rows)))) = marks ∙ ap (λ n. painted (marks_of layout n order) labelled) is_below ∙ ap (painted five) after_four in
+    after_five ∙ sym (painted-append (one ++ two ++ three ++ four) five rows ∙ ap (painted five) (painted-append (one ++ two ++ three) four rows ∙ ap (painted four) (painted-append (one ++ two) three rows ∙ ap (painted three) (painted-append one two rows))))

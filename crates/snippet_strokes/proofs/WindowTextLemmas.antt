@@ -1,0 +1,63 @@
+-- The text that the cells of a window print.
+use Rattle.std.proofs.Common.{◌≡◌, ℕ, ◌+◌, ◌-◌, ◌==◌, cond, Bool, true, false, Option, None, Some, List, [], ◌∷◌, ◌++◌, length, map, take, drop, replicate, zero, suc, refl, sym, ap, ◌∙◌}
+use Rattle.std.proofs.lemmas.List.{map-append, take-map, drop-map, length-map}
+use Rattle.snippet_view.specs.declared.margin.Margin.{Margin}
+use Rattle.snippet_view.specs.Margin.{bounds_of}
+use Rattle.snippet_view.specs.Window.{inner_part, covered_columns, uncovered_part, covered_end, begun_with, ended_with, window}
+use Rattle.snippet_style.specs.declared.glyphs.DecorStyle.{DecorStyle}
+use Rattle.snippet_style.specs.declared.role.ElementStyle.TheVariants.{LineNumber, Quotation}
+use Rattle.snippet_style.specs.Glyphs.{placeholder_of}
+use Rattle.snippet_style.specs.Cell.{Cell, SPACE, text_cells, written}
+use Rattle.snippet_grid.specs.Print.{row_text}
+use Rattle.snippet_marks.specs.SourceRows.{begun_cells, ended_cells, window_cells}
+use Rattle.snippet_grid.proofs.RowLemmas.{row_text-text_cells}
+
+-- the characters of cells that were written
+map-replicate : {X Y : Type 0} (f : X → Y) (n : ℕ) (x : X) → map f (replicate n x) ≡ replicate n (f x)
+map-replicate f zero x = refl
+map-replicate f (suc n) x = ap (λ ys. f x ∷ ys) (map-replicate f n x)
+
+row_text-written : (cells : List Cell) (at : ℕ) (new : List Cell) → row_text (written SPACE cells at new) ≡ written 32 (row_text cells) at (row_text new)
+unfolding written
+row_text-written cells at new =
+    let f : Cell → ℕ = λ c. c.ch in
+    let pad : map f (replicate (at - length cells) SPACE) ≡ replicate (at - length (map f cells)) 32 = map-replicate f (at - length cells) SPACE ∙ ap (λ n. replicate (at - n) 32) (sym (length-map cells f)) in
+    let front : map f (take at (cells ++ replicate (at - length cells) SPACE)) ≡ take at (map f cells ++ replicate (at - length (map f cells)) 32) =
+    sym (take-map f at (cells ++ replicate (at - length cells) SPACE))
+    ∙ ap (take at) (map-append f cells (replicate (at - length cells) SPACE) ∙ ap (λ p. map f cells ++ p) pad) in
+    let back : map f (drop (at + length new) cells) ≡ drop (at + length (map f new)) (map f cells) = sym (drop-map f (at + length new) cells) ∙ ap (λ n. drop (at + n) (map f cells)) (sym (length-map new f)) in
+    map-append f (take at (cells ++ replicate (at - length cells) SPACE) ++ new) (drop (at + length new) cells)
+    ∙ ap (λ xs. xs ++ map f (drop (at + length new) cells))
+    (map-append f (take at (cells ++ replicate (at - length cells) SPACE)) new ∙ ap (λ xs. xs ++ map f new) front)
+    ∙ ap (λ xs. (take at (map f cells ++ replicate (at - length (map f cells)) 32) ++ map f new) ++ xs) back
+
+row_text-begun : (decor : DecorStyle) (start : Option ℕ) (text : List ℕ) → row_text (begun_cells decor start text) ≡ begun_with (placeholder_of decor) start text
+row_text-begun decor None text = row_text-text_cells Quotation text
+row_text-begun decor (Some columns) [] = row_text-text_cells LineNumber (placeholder_of decor)
+row_text-begun decor (Some columns) (c ∷ cs) =
+    some (length (c ∷ cs) == 0)
+    (row_text-written (text_cells LineNumber (placeholder_of decor)) columns (text_cells Quotation (c ∷ cs))
+    ∙ ap (λ p. written 32 p columns (row_text (text_cells Quotation (c ∷ cs)))) (row_text-text_cells LineNumber (placeholder_of decor))
+    ∙ ap (written 32 (placeholder_of decor) columns) (row_text-text_cells Quotation (c ∷ cs)))
+  where
+    some : (b : Bool) → row_text (written SPACE (text_cells LineNumber (placeholder_of decor)) columns (text_cells Quotation (c ∷ cs)))
+        ≡ written 32 (placeholder_of decor) columns (c ∷ cs)
+        → row_text (cond b (text_cells LineNumber (placeholder_of decor))
+        (written SPACE (text_cells LineNumber (placeholder_of decor)) columns (text_cells Quotation (c ∷ cs)))) ≡ cond b (placeholder_of decor)
+        (written 32 (placeholder_of decor) columns (c ∷ cs))
+    some true is = row_text-text_cells LineNumber (placeholder_of decor)
+    some false is = is
+
+row_text-ended : (decor : DecorStyle) (end : Option ℕ) (cells : List Cell) (text : List ℕ) → row_text cells ≡ text → row_text (ended_cells decor end cells) ≡ ended_with (placeholder_of decor) end text
+row_text-ended decor None cells text is = is
+row_text-ended decor (Some at) cells text is =
+    row_text-written cells at (text_cells LineNumber (placeholder_of decor)) ∙ ap (λ t. written 32 t at (row_text (text_cells LineNumber (placeholder_of decor)))) is ∙ ap (written 32 text at) (row_text-text_cells LineNumber (placeholder_of decor))
+
+-- the characters of the cells of a window are the window
+pub row_text-window_cells : (decor : DecorStyle) (margin : Margin) (text : List ℕ) → row_text (window_cells decor margin text) ≡ window (placeholder_of decor) margin.term_width (bounds_of margin).left (bounds_of margin).right text
+row_text-window_cells decor margin text =
+    let left = (bounds_of margin).left in
+    let right = (bounds_of margin).right in
+    let placeholder = placeholder_of decor in
+    let inner = inner_part margin.term_width left right text in
+    row_text-ended decor (covered_end margin.term_width left right placeholder text) _ _ (row_text-begun decor (covered_columns left placeholder inner) (uncovered_part left placeholder inner))

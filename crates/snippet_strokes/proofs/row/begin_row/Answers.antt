@@ -1,6 +1,0 @@
-use Rattle.snippet_strokes.proofs.RowLemmas.{begun}
-use Rattle.snippet_strokes.proofs.row.begin_row.Goals as goal
-
-pub returns-clause-added : goal.returns-clause-added
-returns-clause-added c =
-    begun c.args.buffer.now c.putc.new.self c.num_lines-row.result c.args.layout.gutter c.separator.result c.args.layout.decor c.num_lines-row.ensures.count c.separator.ensures.value c.in_ok-putc.ensures.ok

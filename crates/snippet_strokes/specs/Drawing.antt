@@ -1,0 +1,73 @@
+-- What drawing the strokes of a line changes, and how many rows they take.
+use Rattle.std.specs.Prelude.{◌≡◌, ◌≢◌, ℕ, ◌+◌, ◌<◌, ◌≤◌, ◌==◌, Bool, false, true, List, All, drop, length, if◌then◌else◌, fold, max}
+use Rattle.snippet_view.specs.declared.entries.LineAnnotation.{LineAnnotation}
+use Rattle.snippet_view.specs.declared.entries.LineAnnotationType.{LineAnnotationType}
+use Rattle.snippet_view.specs.declared.entries.LineAnnotationType.TheVariants.{Singleline, MultilineStart, MultilineEnd, MultilineLine}
+use Rattle.snippet_style.specs.declared.glyphs.DecorStyle.{DecorStyle}
+use Rattle.snippet_style.specs.Glyphs.{glyph_of}
+use Rattle.snippet_grid.specs.Grid.{cell_at, row_at}
+use Rattle.snippet_style.specs.Cell.{Cell}
+use Rattle.snippet_marks.specs.declared.layout.Layout.{Layout}
+use Rattle.snippet_model.specs.Rows.{IsFreeCell}
+use Rattle.snippet_marks.specs.declared.positions.PlacedEntry.{PlacedEntry}
+use Rattle.snippet_strokes.specs.EntryMarks.{IsBarCell, has_mark_role}
+use Rattle.snippet_model.specs.AnnotationKind.{is_primary}
+use Rattle.snippet_marks.specs.Positions.{has_label, are_starts}
+
+-- something was drawn: only in rows from `row` on, in cells from `from` on, and no listed character and no link came into a row
+pub record DrawsFrom (row from : ℕ) (old new : List (List Cell)) : Type 0 where
+  pub above : (r : ℕ) → r < row → row_at new r ≡ row_at old r
+  pub left : (r c : ℕ) → c < from → cell_at new r c ≡ cell_at old r c
+  pub free : (r : ℕ) → ((c : ℕ) → IsFreeCell (cell_at old r c)) → (c : ℕ) → IsFreeCell (cell_at new r c)
+  pub count : length new ≡ length old
+
+-- what is drawn left of the code is nothing but parts of bars
+abbrev pub KeepsBarCells : Layout → List (List Cell) → List (List Cell) → Type 0
+KeepsBarCells layout old new =
+    (r c : ℕ) → c < layout.code → IsBarCell layout.decor (cell_at old r c) → IsBarCell layout.decor (cell_at new r c)
+
+-- bars were drawn beside rows: only in rows from `row` on, in the cells between the separator and the code, and nothing but
+-- parts of bars
+pub record DrawsBarCells (layout : Layout) (row : ℕ) (old new : List (List Cell)) : Type 0 where
+  pub draws : DrawsFrom row (layout.gutter + 3) old new
+  pub bar_cells : KeepsBarCells layout old new
+  pub code : (r : ℕ) → drop layout.code (row_at new r) ≡ drop layout.code (row_at old r)
+  pub longer : (r : ℕ) → length (row_at old r) ≤ length (row_at new r)
+
+-- something was drawn, and nothing of it in the role of marks but below the first columns of these entries
+abbrev pub MarksStarts : ℕ → List PlacedEntry → List (List Cell) → List (List Cell) → Type 0
+MarksStarts code es old new =
+    (r c : ℕ) → All (λ e. c ≢ code + e.entry.start.display) es → has_mark_role (cell_at old r c) ≡ false → has_mark_role (cell_at new r c) ≡ false
+
+-- an entry doesn't start left of this cell
+abbrev pub StandsFrom : ℕ → ℕ → LineAnnotation → Type 0
+StandsFrom code from e = from ≤ code + e.start.display
+
+-- the rows that an entry needs are there: down to that of its stem, or where it has none that of the marks, and where its
+-- label hangs down to that of the label
+pub record HasRows (row count : ℕ) (e : PlacedEntry) : Type 0 where
+  pub mark : row + e.position < count
+  pub label : 0 < e.position → has_label e ≡ true → row + e.position + 1 < count
+
+-- the glyph at the foot of the stem of an entry that stands for this part of a span: of a start the corner at which the line
+-- to its bar begins, of an end with a label the branch there, else the stem's own
+abbrev pub foot_of : LineAnnotationType → DecorStyle → Bool → Bool → ℕ
+foot_of Singleline decor primary labelled = glyph_of decor primary 124 124 0x2502 0x2502
+foot_of (MultilineStart depth) decor primary labelled = glyph_of decor primary 124 124 0x2519 0x2518
+foot_of (MultilineEnd depth) decor primary labelled =
+    if labelled then glyph_of decor primary 124 124 0x2525 0x2524 else glyph_of decor primary 124 124 0x2502 0x2502
+foot_of (MultilineLine depth) decor primary labelled = glyph_of decor primary 124 124 0x2502 0x2502
+
+-- the glyph at the foot of an entry's stem
+abbrev pub foot_glyph : DecorStyle → PlacedEntry → ℕ
+foot_glyph decor e = foot_of e.entry.annotation_type decor (is_primary e.entry.kind) (has_label e)
+
+-- the greatest position of some entries
+abbrev pub lowest_position : List PlacedEntry → ℕ
+lowest_position placed = fold (λ lowest e. max lowest e.position) 0 placed
+
+-- how many rows the strokes of some entries take: that of the marks, and below it, where an entry needs a row of its own,
+-- as many as the lowest position, and one more for labels, which starts don't have
+abbrev pub row_count : List PlacedEntry → ℕ
+row_count placed =
+    if lowest_position placed == 0 then 1 else (if are_starts placed then lowest_position placed + 1 else lowest_position placed + 2)
