@@ -28,6 +28,7 @@ pub mod BarLemmas
 pub mod OpenLemmas
 pub mod ElisionLemmas
 pub mod WholeLineLemmas
+pub mod BlankLemmas
 pub mod LineLemmas
 pub mod BarLaws
 pub mod BarRows

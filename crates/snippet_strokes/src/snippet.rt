@@ -155,7 +155,7 @@ fn draw_entries(
         → AddsOwnRows layout room closes (norm (chars info.now.line.now)) dropped info.now.annotations.items above source
         buffer.new) }
 {
-    if is_whole_line(alloc, info.line, &info.annotations)? {
+    if is_whole_line(info.line, &info.annotations) {
         return draw_bars(alloc, buffer, layout, row, ends, BarStroke::Top);
     }
     draw_strokes(
