@@ -8,7 +8,7 @@ use crate::output::print_heading;
 use annotate_snippets::renderer::parts::{AnnotatedLineInfo, SourceMap, newline_count};
 use annotate_snippets::text::text_fits;
 use annotate_snippets::{Annotation, AnnotationKind};
-use snippet_parts::{mark_of, with_lines_between};
+use snippet_parts::{ShownLine, mark_of, with_lines_between};
 use std::alloc::{AllocError, Global};
 use std::io;
 
@@ -132,6 +132,7 @@ fn print_mapped<'a>(
     annotations: &'a [Annotation<'a>],
     fold: bool,
 ) -> io::Result<()>
+    requires fits { length map.now.text < 2 ^ 56 }
     requires spans { All (λ a. IsSpan map.now.text a.span.start a.span.end) annotations.now }
 {
     let (deepest, kept) = map.annotated_lines(annotations, fold)?;
@@ -150,10 +151,10 @@ fn print_kept(rt: &impl Print, deepest: usize, kept: &[AnnotatedLineInfo<'_>]) -
 }
 
 /// Prints the numbers of the lines that are shown.
-fn print_shown(rt: &impl Print, shown: &[AnnotatedLineInfo<'_>]) -> io::Result<()> {
+fn print_shown(rt: &impl Print, shown: &[ShownLine<'_>]) -> io::Result<()> {
     print!(rt; "  shown:")?;
     for line in shown {
-        print!(rt; " {}", line.line_index)?;
+        print!(rt; " {}", line.info.line_index)?;
     }
     println!(rt; "")
 }

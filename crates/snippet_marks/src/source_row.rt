@@ -15,8 +15,8 @@ use crate::row::begin_row;
 use snippet_grid::StyledBuffer;
 use snippet_lines::{LineNumbers, number_text};
 use snippet_style::ElementStyle;
-use snippet_text::{normalized, str_width};
-use snippet_view::{AnnotatedLineInfo, LineWindow, Margin, near_part, window_of};
+use snippet_text::normalized;
+use snippet_view::{LineWindow, Margin, ShownLine, near_part, window_of};
 use std::alloc::{AllocError, Global};
 
 /// Draws the source row of a line below all that stands in the grid: the part of the line between the bounds of a margin.
@@ -36,28 +36,27 @@ pub fn draw_source_row(
     layout: Layout,
     numbers: LineNumbers,
     margin: Margin,
-    info: &AnnotatedLineInfo,
+    line: &ShownLine,
 ) -> Result<(usize, usize), AllocError>
     requires place { layout.gutter + 3 ≤ layout.code }
     requires narrow { layout.code < 2 ^ 63 + 2 ^ 32 }
-    requires number { length (shown_number numbers layout.gutter info.now.line_index) ≤ layout.gutter + 1 }
-    requires text { length info.now.line.now < 2 ^ 56 }
-    ensures added { OnOk result (AddsSourceRow layout (shown_number numbers layout.gutter info.now.line_index)
-        (window_cells layout.decor margin (norm (chars info.now.line.now))) buffer.old buffer.new) }
-    ensures short { OnOk result (length (window_cells layout.decor margin (norm (chars info.now.line.now))) < 2 ^ 61 + 4) }
+    requires number { length (shown_number numbers layout.gutter line.now.info.line_index) ≤ layout.gutter + 1 }
+    requires text { length line.now.info.line.now < 2 ^ 56 }
+    ensures added { OnOk result (AddsSourceRow layout (shown_number numbers layout.gutter line.now.info.line_index)
+        (window_cells layout.decor margin (norm (chars line.now.info.line.now))) buffer.old buffer.new) }
+    ensures short { OnOk result (length (window_cells layout.decor margin (norm (chars line.now.info.line.now))) < 2 ^ 61 + 4) }
     ensures row { IfOk result (λ at. at.0 ≡ length buffer.old) }
     ensures dropped { IfOk result (λ at.
-        at.1 ≡ width_of (dropped_part (bounds_of margin).left (norm (chars info.now.line.now)))) }
+        at.1 ≡ width_of (dropped_part (bounds_of margin).left (norm (chars line.now.info.line.now)))) }
     ensures near { IfOk result (λ at. at.1 < (bounds_of margin).left + 4) }
     ensures uncut { IfOk result (λ at. (bounds_of margin).left ≡ 0 → at.1 ≡ 0) }
     ensures few { IfOk result (λ at. at.1 < 2 ^ 61) }
 {
-    let number = number_text(alloc, numbers, layout.gutter, info.line_index)?;
-    let width = str_width(info.line);
-    let near = near_part(margin, info.line, width);
+    let number = number_text(alloc, numbers, layout.gutter, line.info.line_index)?;
+    let near = near_part(margin, line.info.line, line.width);
     let text = normalized(alloc, near.text)?;
     let placeholder = layout.decor.placeholder();
-    let window = window_of(margin, placeholder, near.skipped, text.as_str(), width);
+    let window = window_of(margin, placeholder, near.skipped, text.as_str(), line.width);
     let row = write_source_row(buffer, layout, number.as_str(), placeholder, window)?;
     Ok((row, window.dropped))
 }

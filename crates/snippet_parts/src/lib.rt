@@ -20,7 +20,7 @@ pub use snippet_lines::{
 };
 pub use snippet_view::{
     AnnotatedLineInfo, LineAnnotation, LineAnnotationType, LineWindow, Location, Margin, NearPart,
-    counted_number, is_marking, leading_whitespace, margin_for, naming_start, near_part,
+    ShownLine, counted_number, is_marking, leading_whitespace, margin_for, naming_start, near_part,
     primary_place, secondary_place, window_of,
 };
 pub use source_map::{LineInfo, SourceMap};

@@ -26,6 +26,7 @@ pub mod BarLemmas
 pub mod OpenLemmas
 pub mod ElisionLemmas
 pub mod WholeLineLemmas
+pub mod BlankLemmas
 pub mod BarLaws
 pub mod BarRows
 pub mod LowerWrites

@@ -1,9 +1,7 @@
 -- Lines that are marked as a whole.
-use Rattle.std.proofs.Common.{inl, ◌≡◌, ℕ, ◌+◌, ◌<◌, ◌∷◌, ◌++◌, ◌&&◌, ◌||◌, [], List, Bool, Option, None, Some, true, false, zero, suc, cond, length, take, map, refl, sym, ap, ◌∙◌, arith, All}
+use Rattle.std.proofs.Common.{inl, ◌≡◌, ℕ, ◌+◌, ◌∷◌, ◌++◌, ◌&&◌, ◌||◌, [], List, Bool, true, false, zero, suc, length, take, map, refl, sym, ap, arith, All}
 use Rattle.std.specs.Char.{is_whitespace}
-use Rattle.std.specs.List.{list_all, position, position_or_len}
-use Rattle.std.specs.Prelude.{not, nat_le, nat_lt}
-use Rattle.std.proofs.lemmas.Bool.Decides.{nat_tests}
+use Rattle.std.specs.List.{list_all}
 use Rattle.std.proofs.lemmas.Bool.{false≢true}
 use Rattle.std.proofs.lemmas.List.{length_push}
 use Rattle.snippet_view.specs.declared.entries.LineAnnotation.{LineAnnotation}
@@ -20,7 +18,7 @@ use Rattle.snippet_marks.specs.Entries.{label_text, shifted}
 use Rattle.snippet_strokes.specs.Labels.{IsLabelledAtEnd}
 use Rattle.snippet_strokes.proofs.LabelPlaces.{LabelsStand-none}
 use Rattle.std.proofs.lemmas.List.Elements.{All-cons, All-head, All-nil, All-tail}
-use Rattle.snippet_strokes.specs.Bars.{DrawsBars, is_before, is_beside, is_beside_first, is_whole_line}
+use Rattle.snippet_strokes.specs.Bars.{DrawsBars, is_beside, is_whole_line}
 use Rattle.snippet_marks.specs.Positions.{is_start_part}
 use Rattle.snippet_strokes.specs.Rows.{AddsStrokes, AreStrokes, HasNoBars, IsBeside}
 use Rattle.snippet_strokes.proofs.BarLemmas.{AddsStrokes-drawn}
@@ -124,44 +122,3 @@ whole_added layout text room dropped closes es above plain old new row whole lon
       are = AreStrokes-whole layout text room dropped closes es whole;
     } in
     AddsStrokes-drawn layout room shown closes above plain old new row last bare.0 base draws
-
--- the first characters of a text are whitespace where the first that is none stands after them
-before_next : (m j : ℕ) (b : Bool) → is_before (suc m) (cond b (Some (1 + j)) None) ≡ is_before m (cond b (Some j) None)
-before_next m j true = grind (arith, nat_tests)
-before_next m j false = refl
-
-before_step : (q : Bool) (j l m : ℕ) (rest : Bool) → is_before m (cond (nat_lt j l) (Some j) None) ≡ rest → is_before (suc m) (cond (nat_lt (cond (not (not q)) (1 + j) 0) (suc l)) (Some (cond (not (not q)) (1 + j) 0)) None) ≡ (q && rest)
-before_step true j l m rest before =
-    let same : nat_lt (1 + j) (suc l) ≡ nat_lt j l = grind (arith, nat_tests) in
-    ap (λ b. is_before (suc m) (cond b (Some (1 + j)) None)) same ∙ before_next m j (nat_lt j l) ∙ before
-before_step false j l m rest before =
-    let here : nat_lt 0 (suc l) ≡ true = grind (arith, nat_tests) in
-    let past : nat_le (suc m) 0 ≡ false = grind (arith, nat_tests) in
-    ap (λ b. is_before (suc m) (cond b (Some 0) None)) here ∙ past
-
-before_none : (o : Option ℕ) → is_before 0 o ≡ true
-before_none None = refl
-before_none (Some at) = grind (arith, nat_tests)
-
-pub blank_before : (text : List ℕ) (n : ℕ) → is_before n (position (λ c. not (is_whitespace c)) text) ≡ list_all is_whitespace (take n text)
-blank_before [] zero = refl
-blank_before [] (suc n) = refl
-blank_before (c ∷ cs) zero = before_none (position (λ c. not (is_whitespace c)) (c ∷ cs))
-blank_before (c ∷ cs) (suc n) =
-    before_step (is_whitespace c) (position_or_len (λ c. not (is_whitespace c)) cs) (length cs) n (list_all is_whitespace (take n cs)) (blank_before cs n)
-
-all_agree : (p q : LineAnnotation → Bool) → ((e : LineAnnotation) → p e ≡ q e) → (es : List LineAnnotation) → list_all p es ≡ list_all q es
-all_agree p q same [] = refl
-all_agree p q same (e ∷ es) =
-    ap (λ b. b && list_all p es) (same e) ∙ ap (λ b. q e && b) (all_agree p q same es)
-
--- so the test by that place is the one that reads the text
-pub beside_first : (text : List ℕ) (e : LineAnnotation) → is_beside_first (position (λ c. not (is_whitespace c)) text) e ≡ is_beside text e
-beside_first text e =
-    ap (λ b. is_bar e.annotation_type || is_start_part e.annotation_type && b) (blank_before text e.start.display)
-
--- whether entries stand for the whole line is told by the first character that is no white space
-pub whole_line_is : (text : List ℕ) (first : Option ℕ) (es : List LineAnnotation) → 0 < length es → first ≡ position (λ c. not (is_whitespace c)) text → list_all (is_beside_first first) es ≡ is_whole_line text es
-whole_line_is text first [] some is = absurd (omega (arith, some))
-whole_line_is text first (e ∷ es) some is =
-    ap (λ o. list_all (is_beside_first o) (e ∷ es)) is ∙ all_agree (is_beside_first (position (λ c. not (is_whitespace c)) text)) (is_beside text) (beside_first text) (e ∷ es)

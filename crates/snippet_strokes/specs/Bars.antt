@@ -1,5 +1,5 @@
 -- The bars of spans of several lines: which are open beside a line, and what drawing them changes.
-use Rattle.std.specs.Prelude.{◌≡◌, ◌<◌, ◌≤◌, ◌+◌, ◌==◌, ◌&&◌, ◌||◌, ℕ, max, nat_le, not, Bool, true, false, Option, Some, None, All, List, [], ◌∷◌, ◌++◌, drop, filter, fold, length, map, take}
+use Rattle.std.specs.Prelude.{◌≡◌, ◌<◌, ◌≤◌, ◌+◌, ◌==◌, ◌&&◌, ◌||◌, ℕ, max, not, Bool, false, Option, Some, None, All, List, [], ◌∷◌, ◌++◌, drop, filter, fold, length, map, take}
 use Rattle.std.specs.Char.{is_whitespace}
 use Rattle.std.specs.List.{filter_map, list_all, list_any, slice_index_or}
 use Rattle.snippet_view.specs.declared.entries.LineAnnotation.{LineAnnotation}
@@ -102,16 +102,6 @@ pub record ChangesRows (rule : List Cell → List Cell) (row end : ℕ) (old new
 abbrev pub is_beside : List ℕ → LineAnnotation → Bool
 is_beside text e =
     is_bar e.annotation_type || is_start_part e.annotation_type && list_all is_whitespace (take e.start.display text)
-
--- whether so many characters stand before this place, if it is one
-abbrev pub is_before : ℕ → Option ℕ → Bool
-is_before n None = true
-is_before n (Some at) = nat_le n at
-
--- the same, where the first character of the line that is no whitespace stands at this place, if there is one
-abbrev pub is_beside_first : Option ℕ → LineAnnotation → Bool
-is_beside_first first e =
-    is_bar e.annotation_type || is_start_part e.annotation_type && is_before e.start.display first
 
 -- whether a line is marked as a whole: it has entries, and each is drawn by bars alone
 abbrev pub is_whole_line : List ℕ → List LineAnnotation → Bool

@@ -3,12 +3,13 @@ ghost use Rattle.std.specs.Prelude.{◌≡◌, ◌+◌, ◌^◌, ◌<◌, ◌≤
 ghost use Rattle.snippet_strokes.specs.Bars.{HasRoom};
 ghost use Rattle.snippet_strokes.specs.Rows.{bare_elision_row};
 ghost use Rattle.snippet_strokes.specs.Snippet.{AddsElision, AddsGap};
+ghost use Rattle.snippet_view.specs.ShownLines.{infos_of};
 
 use crate::bars::{BarStroke, OpenBar, draw_bars};
 use snippet_grid::StyledBuffer;
 use snippet_marks::Layout;
 use snippet_style::{DecorStyle, ElementStyle};
-use snippet_view::AnnotatedLineInfo;
+use snippet_view::ShownLine;
 use std::alloc::{AllocError, Global};
 
 /// Draws the row that stands for the lines between one of this number and the first of the lines after it, if there are any.
@@ -21,15 +22,15 @@ pub(crate) fn draw_gap(
     buffer: &mut StyledBuffer,
     layout: Layout,
     number: usize,
-    rest: &[AnnotatedLineInfo],
+    rest: &[ShownLine],
     open_bars: &[OpenBar],
 ) -> Result<(), AllocError>
     requires place { layout.gutter + 3 ≤ layout.code }
     requires narrow { layout.code < 2 ^ 63 + 2 ^ 32 }
     requires room { All (HasRoom layout) open_bars.now }
-    ensures added { OnOk result (AddsGap layout open_bars.now number rest.now buffer.old buffer.new) }
+    ensures added { OnOk result (AddsGap layout open_bars.now number (infos_of rest.now) buffer.old buffer.new) }
 {
-    if rest.is_empty() || rest[0].line_index.saturating_sub(1) <= number {
+    if rest.is_empty() || rest[0].info.line_index.saturating_sub(1) <= number {
         return Ok(());
     }
     draw_elision(alloc, buffer, layout, open_bars)

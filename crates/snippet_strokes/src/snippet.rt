@@ -1,6 +1,7 @@
 //! The rows of a snippet: those of each line that is shown.
 ghost use Rattle.std.specs.Prelude.{◌≡◌, ◌+◌, ◌^◌, ◌<◌, ◌≤◌, ◌++◌, ◌∷◌, [], false, List, All, IfOk, IfSome, OnOk, chars, length, map};
 ghost use Rattle.snippet_view.specs.Measures.{StandsClear, is_bar};
+ghost use Rattle.snippet_view.specs.ShownLines.{infos_of};
 ghost use Rattle.snippet_marks.specs.Entries.{HasPlace, shifted};
 ghost use Rattle.snippet_strokes.specs.EntryMarks.{HasBarCell};
 ghost use Rattle.snippet_strokes.specs.Bars.{HasRoom, ends_of_bars, open_below};
@@ -19,7 +20,7 @@ use crate::whole_line::is_whole_line;
 use snippet_grid::StyledBuffer;
 use snippet_lines::LineNumbers;
 use snippet_marks::{Layout, draw_source_row};
-use snippet_view::{AnnotatedLineInfo, Margin};
+use snippet_view::{AnnotatedLineInfo, Margin, ShownLine};
 use std::alloc::{AllocError, Global};
 
 /// Draws the lines of a snippet below all that stands in the grid: for each line its source row and its strokes. Where the
@@ -52,28 +53,35 @@ pub fn draw_snippet(
     margin: Margin,
     numbers: LineNumbers,
     closes: bool,
-    infos: &[AnnotatedLineInfo],
+    lines: &[ShownLine],
 ) -> Result<(), AllocError>
     requires place { layout.gutter + 3 ≤ layout.code }
     requires narrow { layout.code < 2 ^ 63 + 2 ^ 32 }
-    requires numbers { All (λ info. length (shown_number numbers layout.gutter info.line_index) ≤ layout.gutter + 1)
-        infos.now }
-    requires texts { All (λ info. length info.line.now < 2 ^ 56) infos.now }
-    requires columns { All (λ info. All HasPlace info.annotations.items) infos.now }
-    requires clear { All (λ info. All (StandsClear margin) info.annotations.items) infos.now }
-    requires bar_cells { All (λ info. All (HasBarCell layout) info.annotations.items) infos.now }
-    requires labels { All (λ info. All (λ e. IfSome e.label (λ t. length t.now < 2 ^ 56)) info.annotations.items) infos.now }
-    ensures added { OnOk result (AddsSnippet layout margin numbers closes infos.now buffer.old buffer.new) }
+    requires numbers { All (λ line. length (shown_number numbers layout.gutter line.info.line_index) ≤ layout.gutter + 1)
+        lines.now }
+    requires texts { All (λ line. length line.info.line.now < 2 ^ 56) lines.now }
+    requires columns { All (λ line. All HasPlace line.info.annotations.items) lines.now }
+    requires clear { All (λ line. All (StandsClear margin) line.info.annotations.items) lines.now }
+    requires bar_cells { All (λ line. All (HasBarCell layout) line.info.annotations.items) lines.now }
+    requires labels { All (λ line. All (λ e. IfSome e.label (λ t. length t.now < 2 ^ 56)) line.info.annotations.items) lines.now }
+    ensures added { OnOk result (AddsSnippet layout margin numbers closes (infos_of lines.now) buffer.old buffer.new) }
 {
     let mut open_bars = Vec::new(alloc);
-    for i in 0..infos.len() {
-        let closes = closes && i + 1 == infos.len();
-        let info = &infos[i];
+    for i in 0..lines.len() {
+        let closes = closes && i + 1 == lines.len();
+        let line = &lines[i];
         open_bars = draw_line(
-            alloc, buffer, layout, margin, numbers, closes, info, &open_bars,
+            alloc, buffer, layout, margin, numbers, closes, line, &open_bars,
         )?;
-        let after = &infos[i + 1..];
-        draw_gap(alloc, buffer, layout, info.line_index, after, &open_bars)?;
+        let after = &lines[i + 1..];
+        draw_gap(
+            alloc,
+            buffer,
+            layout,
+            line.info.line_index,
+            after,
+            &open_bars,
+        )?;
     }
     Ok(())
 }
@@ -92,22 +100,23 @@ fn draw_line(
     margin: Margin,
     numbers: LineNumbers,
     closes: bool,
-    info: &AnnotatedLineInfo,
+    line: &ShownLine,
     open_bars: &[OpenBar],
 ) -> Result<Vec<OpenBar>, AllocError>
     requires place { layout.gutter + 3 ≤ layout.code }
     requires narrow { layout.code < 2 ^ 63 + 2 ^ 32 }
-    requires number { length (shown_number numbers layout.gutter info.now.line_index) ≤ layout.gutter + 1 }
-    requires text { length info.now.line.now < 2 ^ 56 }
-    requires columns { All HasPlace info.now.annotations.items }
-    requires clear { All (StandsClear margin) info.now.annotations.items }
-    requires bar_cells { All (HasBarCell layout) info.now.annotations.items }
-    requires labels { All (λ e. IfSome e.label (λ t. length t.now < 2 ^ 56)) info.now.annotations.items }
+    requires number { length (shown_number numbers layout.gutter line.now.info.line_index) ≤ layout.gutter + 1 }
+    requires text { length line.now.info.line.now < 2 ^ 56 }
+    requires columns { All HasPlace line.now.info.annotations.items }
+    requires clear { All (StandsClear margin) line.now.info.annotations.items }
+    requires bar_cells { All (HasBarCell layout) line.now.info.annotations.items }
+    requires labels { All (λ e. IfSome e.label (λ t. length t.now < 2 ^ 56)) line.now.info.annotations.items }
     requires room { All (HasRoom layout) open_bars.now }
-    ensures added { OnOk result (AddsLine layout margin numbers closes open_bars.now info.now buffer.old buffer.new) }
-    ensures bars { IfOk result (λ bars. bars.items ≡ open_below open_bars.now info.now.annotations.items) }
+    ensures added { OnOk result (AddsLine layout margin numbers closes open_bars.now line.now.info buffer.old buffer.new) }
+    ensures bars { IfOk result (λ bars. bars.items ≡ open_below open_bars.now line.now.info.annotations.items) }
 {
-    let (row, dropped) = draw_source_row(alloc, buffer, layout, numbers, margin, info)?;
+    let (row, dropped) = draw_source_row(alloc, buffer, layout, numbers, margin, line)?;
+    let info = &line.info;
     highlight_source(buffer, layout, dropped, row, &info.annotations)?;
     let ends = ends_on(alloc, &info.annotations)?;
     draw_entries(
@@ -155,7 +164,7 @@ fn draw_entries(
         → AddsOwnRows layout room closes (norm (chars info.now.line.now)) dropped info.now.annotations.items above source
         buffer.new) }
 {
-    if is_whole_line(alloc, info.line, &info.annotations)? {
+    if is_whole_line(info.line, &info.annotations) {
         return draw_bars(alloc, buffer, layout, row, ends, BarStroke::Top);
     }
     draw_strokes(

@@ -1,13 +1,11 @@
 //! Lines that are marked as a whole, by bars beside them.
-ghost use Rattle.std.specs.Prelude.{◌≡◌, IfOk, chars, not};
+ghost use Rattle.std.specs.Prelude.{◌≡◌, chars, length, take};
 ghost use Rattle.std.specs.Char.{is_whitespace};
-ghost use Rattle.std.specs.List.{list_all, position};
+ghost use Rattle.std.specs.List.{list_all};
 ghost use Rattle.snippet_strokes.specs.Bars as spec;
-ghost use Rattle.snippet_text.specs.Normalized.{norm};
+ghost use Rattle.snippet_text.specs.Normalized.{norm, shown};
 
-use snippet_text::normalized;
 use snippet_view::{LineAnnotation, LineAnnotationType};
-use std::alloc::{AllocError, Global};
 
 /// Whether a line is marked as a whole: it has entries, and each is a bar, or a start with nothing but whitespace before it.
 ///
@@ -15,49 +13,59 @@ use std::alloc::{AllocError, Global};
 ///     1 | /   fn f() {        a start, marked as a whole
 ///     2 | |     x             a bar beside a line
 /// ```
-///
-/// # Errors
-///
-/// There is no memory for the text of the line.
-pub(crate) fn is_whole_line(
-    alloc: Global,
-    line: &str,
-    entries: &[LineAnnotation],
-) -> Result<bool, AllocError>
-    ensures value { IfOk result (λ whole. whole ≡ spec.is_whole_line (norm (chars line.now)) entries.now) }
+pub(crate) fn is_whole_line(line: &str, entries: &[LineAnnotation]) -> bool
+    ensures value { result ≡ spec.is_whole_line (norm (chars line.now)) entries.now }
 {
-    if entries.is_empty() {
-        return Ok(false);
+    let mut last_start = 0;
+    for entry in entries {
+        match entry.annotation_type {
+            LineAnnotationType::MultilineLine(_) => {}
+            LineAnnotationType::MultilineStart(_) => {
+                last_start = last_start.max(entry.start.display);
+            }
+            LineAnnotationType::Singleline | LineAnnotationType::MultilineEnd(_) => return false,
+        }
     }
-    let text = normalized(alloc, line)?;
-    let first = first_visible(text.as_str());
-    Ok(are_beside(entries, first))
+    !entries.is_empty() && begins_blank(line, last_start)
 }
 
-/// Whether each entry is drawn by bars alone on a line whose first character that is no whitespace stands here.
-fn are_beside(entries: &[LineAnnotation], first: Option<usize>) -> bool
-    ensures value { result ≡ list_all (spec.is_beside_first first) entries.now }
+/// Whether the first characters of a line as it is shown, as many as `count`, are whitespace. The line is read no further
+/// than to one that isn't.
+fn begins_blank(line: &str, count: usize) -> bool
+    ensures value { result ≡ list_all is_whitespace (take count (norm (chars line.now))) }
 {
-    entries.iter().all(|entry| is_beside(entry, first))
+    let mut left = count;
+    for c in line.chars() {
+        if left == 0 {
+            return true;
+        }
+        if !is_shown_blank(c) {
+            return false;
+        }
+        left = left.saturating_sub(shown_count(c));
+    }
+    true
 }
 
-/// The place of the first character of a text that is no whitespace, if there is one.
-fn first_visible(text: &str) -> Option<usize>
-    ensures value { result ≡ position (λ c. not (is_whitespace c)) (chars text.now) }
+/// Whether nothing but whitespace is shown for a character.
+fn is_shown_blank(c: char) -> bool
+    ensures value { result ≡ list_all is_whitespace (shown c) }
 {
-    text.chars().position(|c| !c.is_whitespace())
+    match c {
+        '\u{200d}' => true,
+        // Whitespace for which a control picture is shown.
+        '\u{b}'..='\u{d}' => false,
+        _ => c.is_whitespace(),
+    }
 }
 
-/// Whether an entry is drawn by bars alone on such a line.
-fn is_beside(entry: &LineAnnotation, first: Option<usize>) -> bool
-    ensures value { result ≡ spec.is_beside_first first entry.now }
+/// How many characters are shown for a character.
+fn shown_count(c: char) -> usize
+    ensures value { result ≡ length (shown c) }
 {
-    match entry.annotation_type {
-        LineAnnotationType::MultilineLine(_) => true,
-        LineAnnotationType::MultilineStart(_) => match first {
-            None => true,
-            Some(at) => entry.start.display <= at,
-        },
-        LineAnnotationType::Singleline | LineAnnotationType::MultilineEnd(_) => false,
+    match c {
+        '\t' => 4,
+        '\u{200d}' => 0,
+        _ => 1,
     }
 }

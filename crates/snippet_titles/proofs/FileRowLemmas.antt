@@ -1,21 +1,18 @@
 -- What a grid becomes where a row is begun with a glyph after the gutter.
-use Rattle.std.proofs.Common.{◌≡◌, ℕ, ◌+◌, ◌<◌, ◌≤◌, List, [], ◌∷◌, ◌++◌, length, replicate, codes, chars, refl, ap, ◌∙◌, arith}
-use Rattle.std.proofs.lemmas.List.{places, same_lists}
+use Rattle.std.proofs.Common.{◌≡◌, ℕ, ◌+◌, ◌<◌, ◌≤◌, List, [], ◌∷◌, ◌++◌, length, codes, chars, refl, ap, ◌∙◌, arith}
 use Rattle.std.proofs.lemmas.Str.{chars-encodes}
 use Rattle.snippet_style.specs.declared.glyphs.DecorStyle.{DecorStyle}
 use Rattle.snippet_style.specs.declared.glyphs.DecorStyle.TheVariants.{Ascii, Unicode}
 use Rattle.snippet_style.specs.declared.role.ElementStyle.TheVariants.{LineAndColumn, LineNumber}
-use Rattle.snippet_style.specs.Glyphs.{closing_of, separator_of}
+use Rattle.snippet_style.specs.Glyphs.{closing_of}
 use Rattle.snippet_grid.specs.Grid.{row_at, cells_written}
-use Rattle.snippet_style.specs.Cell.{Cell, SPACE, text_cells, written}
-use Rattle.snippet_grid.proofs.GridLemmas.{cells_written_below}
-use Rattle.snippet_style.proofs.CellLemmas.{length-chars_le}
+use Rattle.snippet_style.specs.Cell.{Cell, text_cells}
 use Rattle.snippet_titles.specs.declared.origin.FileStart.{FileStart}
 use Rattle.snippet_titles.specs.declared.origin.FileStart.TheVariants.{Alone, First, Later, Secondary}
 use Rattle.snippet_titles.specs.declared.origin.OriginLocation.{OriginLocation}
 use Rattle.snippet_titles.specs.declared.origin.OriginLayout.{OriginLayout}
 use Rattle.snippet_titles.specs.Origin.{file_glyph, file_row, origin_row, origin_text}
-use Rattle.snippet_style.specs.Separators.{separator_row, closing_row}
+use Rattle.snippet_style.specs.Separators.{closing_row}
 use Rattle.snippet_titles.proofs.ExtendLemmas.{extended, extended_from, length-begun}
 use Rattle.snippet_style.proofs.RowLemmas.{closing_some as closing-some}
 use Rattle.snippet_grid.proofs.RowLemmas.{begun_by_text}

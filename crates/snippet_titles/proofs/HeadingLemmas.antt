@@ -35,14 +35,13 @@ pub roles_known : (style : TitleStyle) (heading : Heading) (level : Level) (trus
 roles_known style heading level trusted roles leveled trusts are =
     are ∙ ap (λ (l : Level). roles_of style l.kind trusted) leveled ∙ ap (roles_of style heading.level.kind) trusts
 
--- what is drawn of a text that spells these characters, below a label of this width
-pub text_drawn : (old new : List (List Cell)) (row width wide : ℕ) (style : TitleStyle) (role : ElementStyle) (text shown : List ℕ) → width ≡ wide
-    → IsUtf8 text → chars text ≡ shown → new ≡ take row old ++ trimmed
-    (lines_below (row_at old row) (indent_cells style width) role (map chars (lines_at text)))
-    → new ≡ take row old ++ trimmed (lines_below (row_at old row) (indent_cells style wide) role (lines_at shown))
-text_drawn old new row width wide style role text shown measured utf8 spelled is =
+-- what is drawn of a text that spells these characters, below a label
+pub text_drawn : (old new : List (List Cell)) (row : ℕ) (further : List Cell) (role : ElementStyle) (text shown : List ℕ) → IsUtf8 text
+    → chars text ≡ shown → new ≡ take row old ++ trimmed (lines_below (row_at old row) further role (map chars (lines_at text)))
+    → new ≡ take row old ++ trimmed (lines_below (row_at old row) further role (lines_at shown))
+text_drawn old new row further role text shown utf8 spelled is =
     let cut : map chars (lines_at text) ≡ lines_at shown = lines_at-chars text utf8 ∙ ap lines_at spelled in
-    is ∙ ap (λ n. take row old ++ trimmed (lines_below (row_at old row) (indent_cells style n) role (map chars (lines_at text)))) measured ∙ ap (λ (ls : List (List ℕ)). take row old ++ trimmed (lines_below (row_at old row) (indent_cells style wide) role ls)) cut
+    is ∙ ap (λ (ls : List (List ℕ)). take row old ++ trimmed (lines_below (row_at old row) further role ls)) cut
 
 -- the lines after a label make the rows
 pub heading_drawn : (old one two new : List (List Cell)) (row : ℕ) (hyperlink : Bool) (style : TitleStyle) (heading : Heading) (level : Level)

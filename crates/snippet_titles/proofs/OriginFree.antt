@@ -1,15 +1,14 @@
 -- No row of a path, and none that sets others off, holds a listed character or a link.
-use Rattle.std.proofs.Common.{◌≡◌, ℕ, ◌+◌, Bool, true, false, List, [], ◌∷◌, ◌++◌, All, replicate, chars, refl, arith}
+use Rattle.std.proofs.Common.{◌≡◌, ℕ, ◌+◌, Bool, true, false, List, ◌++◌, All, replicate, chars, refl, arith}
 use Rattle.std.specs.List.{list_any}
 use Rattle.std.proofs.lemmas.Bool.Decides.{nat_tests}
-use Rattle.std.proofs.lemmas.List.Elements.{All-nil, All-cons, All-append, All-replicate, All-weaker}
+use Rattle.std.proofs.lemmas.List.Elements.{All-append, All-replicate}
 use Rattle.snippet_style.specs.declared.glyphs.DecorStyle.{DecorStyle}
 use Rattle.snippet_style.specs.declared.glyphs.DecorStyle.TheVariants.{Ascii, Unicode}
 use Rattle.snippet_style.specs.declared.role.ElementStyle.{ElementStyle}
 use Rattle.snippet_style.specs.declared.role.ElementStyle.TheVariants.{LineAndColumn, LineNumber}
-use Rattle.snippet_style.specs.Glyphs.{closing_of, separator_of}
-use Rattle.snippet_style.specs.Cell.{SPACE, text_cells, unlinked_cell}
-use Rattle.snippet_style.proofs.CellLemmas.{All-text_cells}
+use Rattle.snippet_style.specs.Glyphs.{closing_of}
+use Rattle.snippet_style.specs.Cell.{SPACE, text_cells}
 use Rattle.snippet_text.specs.Normalized.{norm, is_listed}
 use Rattle.snippet_text.proofs.NormLemmas.{list_any-norm}
 use Rattle.snippet_model.specs.Rows.{IsFree, IsFreeCell}
@@ -18,7 +17,7 @@ use Rattle.snippet_titles.specs.declared.origin.FileStart.TheVariants.{Alone, Fi
 use Rattle.snippet_titles.specs.declared.origin.OriginLocation.{OriginLocation}
 use Rattle.snippet_titles.specs.declared.origin.OriginLayout.{OriginLayout}
 use Rattle.snippet_titles.specs.Origin.{file_glyph, file_row, origin_row, origin_text, place_text, padding_row, primary_head, secondary_head, nameless_head}
-use Rattle.snippet_style.specs.Separators.{separator_row, closing_row}
+use Rattle.snippet_style.specs.Separators.{closing_row}
 use Rattle.snippet_titles.proofs.DigitLemmas.{IsDigit}
 use Rattle.snippet_titles.proofs.OriginText.{place_text-each}
 use Rattle.snippet_titles.proofs.HeadLemmas.{primary_head-each, secondary_head-each, nameless_head-each}

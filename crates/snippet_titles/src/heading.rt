@@ -171,38 +171,32 @@ pub(crate) fn draw_text(
         ++ trimmed (spec.lines_below (row_at buffer.old row) (indent_cells style (spec.label_width (heading_of heading.now))) role (spec.heading_lines (heading_of heading.now)))) }
 {
     let text = text_of(alloc, heading)?;
-    draw_lines(
-        buffer,
-        row,
-        style,
-        label_width(heading),
-        role,
-        text.as_str(),
-    )
+    draw_lines(buffer, row, style, role, heading, text.as_str())
 }
 
-/// Draws a text after the cells of the grid's last row; each further line of it stands in a row of its own, below a label of
-/// this width.
+/// Draws a text after the cells of the grid's last row; each further line of it stands in a row of its own, below the
+/// heading's label. That is only measured where there is such a line.
 fn draw_lines(
     buffer: &mut StyledBuffer,
     row: usize,
     style: TitleStyle,
-    width: usize,
     role: ElementStyle,
+    heading: &dyn MessageOrTitle,
     text: &str,
 ) -> Result<(), AllocError>
     requires row { row < 2 ^ 60 }
     requires last { IsAtEnd row buffer.old }
     requires narrow { gutter_of style < 2 ^ 32 }
-    requires width { width < 2 ^ 62 }
+    requires fits { HeadingFits (heading_of heading.now) }
     ensures rows { OnOk result (buffer.new ≡ take row buffer.old
-        ++ trimmed (spec.lines_below (row_at buffer.old row) (indent_cells style width) role (map chars (slice_split (λ b. b == 10) text.now)))) }
+        ++ trimmed (spec.lines_below (row_at buffer.old row) (indent_cells style (spec.label_width (heading_of heading.now))) role (map chars (slice_split (λ b. b == 10) text.now)))) }
 {
     let Some((first, rest)) = text.split_once('\n') else {
         extend_row(buffer, row, text, role)?;
         return Ok(());
     };
     extend_row(buffer, row, first, role)?;
+    let width = label_width(heading);
     for (index, line) in rest.split('\n').enumerate() {
         draw_further_line(buffer, row + 1 + index, style, width, role, line)?;
     }

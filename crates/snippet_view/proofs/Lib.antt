@@ -20,5 +20,6 @@ pub mod NamingLaws
 pub mod LocationLemmas
 pub mod NearLemmas
 pub mod ShownLemmas
+pub mod ShownLineLemmas
 pub mod TrivialLemmas
 pub mod WindowLemmas

@@ -14,4 +14,5 @@ pub mod Numbered
 pub mod OnLine
 pub mod Prepare
 pub mod Trivial
+pub mod ShownLines
 pub mod Window

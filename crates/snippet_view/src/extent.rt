@@ -7,25 +7,29 @@ ghost use Rattle.snippet_view.specs.Margin.{bounds_of};
 ghost use Rattle.snippet_view.specs.Measures as spec;
 ghost use Rattle.snippet_view.specs.Measures.{StandsClear, bounds_of_lines, end_with};
 ghost use Rattle.snippet_view.specs.Extent.{ReachesEntries, ReachesLines};
+ghost use Rattle.snippet_view.specs.ShownLines.{kept_of};
 
-use crate::entries::{AnnotatedLineInfo, LineAnnotation, LineAnnotationType};
+use crate::entries::{LineAnnotation, LineAnnotationType};
 use crate::margin::Margin;
+use crate::shown_line::ShownLine;
 use crate::window::leading_whitespace;
 use snippet_text::str_width;
 
-/// The margin for the lines of a snippet, in a room of this many columns. Bars take no part.
-pub fn margin_for(lines: &[AnnotatedLineInfo], room: usize) -> Margin
-    requires texts { All (λ info. length info.line.now < 2 ^ 56) lines.now }
-    requires labels { All (λ info. All (λ e. IfSome e.label (λ t. length t.now < 2 ^ 56)) info.annotations.items)
+/// The margin for the lines of a snippet, in a room of this many columns: that of the lines that are kept. Bars take no part.
+pub fn margin_for(lines: &[ShownLine], room: usize) -> Margin
+    requires texts { All (λ line. length line.info.line.now < 2 ^ 56) lines.now }
+    requires labels { All (λ line. All (λ e. IfSome e.label (λ t. length t.now < 2 ^ 56)) line.info.annotations.items)
         lines.now }
-    ensures bounds { bounds_of result ≡ bounds_of_lines room lines.now }
+    ensures bounds { bounds_of result ≡ bounds_of_lines room (kept_of lines.now) }
     ensures room { result.term_width ≡ room }
     ensures ordered { (bounds_of result).left ≤ (bounds_of result).right }
-    ensures clear { All (λ info. All (StandsClear result) info.annotations.items) lines.now }
+    ensures clear { All (λ info. All (StandsClear result) info.annotations.items) (kept_of lines.now) }
 {
     let mut extent = Extent::NONE;
-    for info in lines {
-        extent.add_line(info);
+    for line in lines {
+        if !line.between {
+            extent.add_line(line);
+        }
     }
     Margin::new(
         extent.whitespace.unwrap_or(0),
@@ -63,15 +67,15 @@ impl Extent {
     };
 
     /// Takes in a line, with its entries.
-    fn add_line(&mut self, info: &AnnotatedLineInfo)
-        requires text { length info.now.line.now < 2 ^ 56 }
-        requires labels { All (λ e. IfSome e.label (λ t. length t.now < 2 ^ 56)) info.now.annotations.items }
+    fn add_line(&mut self, line: &ShownLine)
+        requires text { length line.now.info.line.now < 2 ^ 56 }
+        requires labels { All (λ e. IfSome e.label (λ t. length t.now < 2 ^ 56)) line.now.info.annotations.items }
         ensures adds { (before : List AnnotatedLineInfo) → ReachesLines before self.old
-            → ReachesLines (before ++ info.now ∷ []) self.new }
+            → ReachesLines (before ++ line.now.info ∷ []) self.new }
     {
-        self.whitespace = lesser_of(self.whitespace, leading_whitespace(info.line));
-        self.widest = self.widest.max(str_width(info.line));
-        for entry in &info.annotations {
+        self.whitespace = lesser_of(self.whitespace, leading_whitespace(line.info.line));
+        self.widest = self.widest.max(line.width);
+        for entry in &line.info.annotations {
             self.add_entry(entry);
         }
     }

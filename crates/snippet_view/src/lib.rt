@@ -9,6 +9,7 @@ pub mod location;
 pub mod margin;
 pub mod near;
 pub mod prepare;
+pub mod shown_line;
 pub mod trivial_lines;
 pub mod window;
 
@@ -19,5 +20,6 @@ pub use location::{Location, is_marking, naming_start, primary_place, secondary_
 pub use margin::Margin;
 pub use near::{NearPart, near_part};
 pub use prepare::counted_number;
+pub use shown_line::ShownLine;
 pub use trivial_lines::is_trivial;
 pub use window::leading_whitespace;

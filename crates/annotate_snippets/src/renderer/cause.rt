@@ -128,10 +128,10 @@ fn draw_cause_lines(
         code: frame.code,
         decor: renderer.decor_style,
     };
-    let kept = cause.kept;
     let room = renderer.term_width.saturating_sub(frame.code);
-    let margin = margin_for(&kept, room);
+    let kept = cause.kept;
     let lines = with_lines_between(alloc, &cause.map, kept)?;
+    let margin = margin_for(&lines, room);
     draw_snippet(alloc, buffer, layout, margin, numbers, closes, &lines)
 }
 

@@ -6,6 +6,7 @@ use Rattle.snippet_view.specs.Window.{inner_part, uncovered_part}
 use Rattle.snippet_view.proofs.NearLemmas.{part_of_norm}
 use Rattle.snippet_text.specs.Normalized.{is_listed, norm}
 use Rattle.snippet_text.proofs.NormLemmas.{list_any-norm}
+use Rattle.snippet_text.proofs.WidthBounds.{width_of-chars}
 use Rattle.snippet_lines.specs.Number.{shown_number}
 use Rattle.snippet_marks.proofs.CellLemmas.{cells_are, part_few, unlisted_part}
 use Rattle.snippet_lines.proofs.NumberLemmas.{chars-shown_number, shown_number_unlisted}
@@ -14,46 +15,54 @@ use Rattle.snippet_marks.proofs.CharLemmas.{norm_short}
 use Rattle.snippet_marks.proofs.source_row.draw_source_row.Goals as goal
 use Rattle.snippet_model.proofs.RowLemmas.{each_fails}
 
+pub near_part-near-requires-clause-narrow : goal.near_part-near-requires-clause-narrow
+near_part-near-requires-clause-narrow c =
+    omega (arith, c.args.line.now.measured, width_of-chars c.args.line.now.info.line.now, c.requires.text)
+
+pub window_of-window-requires-clause-narrow : goal.window_of-window-requires-clause-narrow
+window_of-window-requires-clause-narrow c =
+    omega (arith, c.args.line.now.measured, width_of-chars c.args.line.now.info.line.now, c.requires.text)
+
 pub window_of-window-requires-clause-short : goal.window_of-window-requires-clause-short
 window_of-window-requires-clause-short c =
     omega (arith, ap length (ap chars c.as_str.ensures.value ∙ c.in_ok-text.ensures.value), norm_short c.near_part-near.result.text.now (omega (arith, c.near_part-near.ensures.short, c.requires.text)))
 
 pub write_source_row-requires-clause-number : goal.write_source_row-requires-clause-number
 write_source_row-requires-clause-number c =
-    omega (arith, ap length (ap chars (c.as_str-2.ensures.value ∙ c.in_ok-number.ensures.text) ∙ chars-shown_number c.args.numbers c.args.layout.gutter c.args.info.now.line_index (omega arith)))
+    omega (arith, ap length (ap chars (c.as_str-2.ensures.value ∙ c.in_ok-number.ensures.text) ∙ chars-shown_number c.args.numbers c.args.layout.gutter c.args.line.now.info.line_index (omega arith)))
 
 pub write_source_row-requires-clause-number_free : goal.write_source_row-requires-clause-number_free
 write_source_row-requires-clause-number_free c =
     ap (list_any is_listed) (ap chars (c.as_str-2.ensures.value ∙ c.in_ok-number.ensures.text)
-    ∙ chars-shown_number c.args.numbers c.args.layout.gutter c.args.info.now.line_index (omega arith))
-    ∙ list_any_none is_listed (shown_number c.args.numbers c.args.layout.gutter c.args.info.now.line_index)
-    (shown_number_unlisted c.args.numbers c.args.layout.gutter c.args.info.now.line_index (omega arith))
+    ∙ chars-shown_number c.args.numbers c.args.layout.gutter c.args.line.now.info.line_index (omega arith))
+    ∙ list_any_none is_listed (shown_number c.args.numbers c.args.layout.gutter c.args.line.now.info.line_index)
+    (shown_number_unlisted c.args.numbers c.args.layout.gutter c.args.line.now.info.line_index (omega arith))
 
 pub write_source_row-requires-clause-text : goal.write_source_row-requires-clause-text
 write_source_row-requires-clause-text c =
     let bounds = bounds_of c.args.margin in
-    let line = chars c.args.info.now.line.now in
+    let line = chars c.args.line.now.info.line.now in
     let text = ap chars c.as_str.ensures.value ∙ c.in_ok-text.ensures.value in
-    let part = part_of_norm c.args.margin c.str_width-width.result c.near_part-near.result.skipped line (chars c.near_part-near.result.text.now) (chars c.as_str.result.now) c.str_width-width.ensures.value text c.near_part-near.ensures.holds in
-    omega (arith, ap length (c.window_of-window.ensures.text (norm line) part), part_few bounds.left c.args.margin.term_width bounds.left bounds.right (chars c.placeholder-placeholder.result.now) (norm line), norm_short c.args.info.now.line.now c.requires.text)
+    let part = part_of_norm c.args.margin c.args.line.now.width c.near_part-near.result.skipped line (chars c.near_part-near.result.text.now) (chars c.as_str.result.now) c.args.line.now.measured text c.near_part-near.ensures.holds in
+    omega (arith, ap length (c.window_of-window.ensures.text (norm line) part), part_few bounds.left c.args.margin.term_width bounds.left bounds.right (chars c.placeholder-placeholder.result.now) (norm line), norm_short c.args.line.now.info.line.now c.requires.text)
 
 pub write_source_row-requires-clause-text_free : goal.write_source_row-requires-clause-text_free
 write_source_row-requires-clause-text_free c =
     let bounds = bounds_of c.args.margin in
-    let line = chars c.args.info.now.line.now in
+    let line = chars c.args.line.now.info.line.now in
     let placeholder = chars c.placeholder-placeholder.result.now in
     let text = ap chars c.as_str.ensures.value ∙ c.in_ok-text.ensures.value in
-    let within = part_of_norm c.args.margin c.str_width-width.result c.near_part-near.result.skipped line (chars c.near_part-near.result.text.now) (chars c.as_str.result.now) c.str_width-width.ensures.value text c.near_part-near.ensures.holds in
+    let within = part_of_norm c.args.margin c.args.line.now.width c.near_part-near.result.skipped line (chars c.near_part-near.result.text.now) (chars c.as_str.result.now) c.args.line.now.measured text c.near_part-near.ensures.holds in
     let part = uncovered_part bounds.left placeholder (inner_part c.args.margin.term_width bounds.left bounds.right (norm line)) in
     ap (list_any is_listed) (c.window_of-window.ensures.text (norm line) within) ∙ list_any_none is_listed part (unlisted_part bounds.left c.args.margin.term_width bounds.left bounds.right placeholder (norm line) (each_fails is_listed (norm line) (list_any-norm line)))
 
 pub returns-clause-added : goal.returns-clause-added
 returns-clause-added c =
     let args = c.args in
-    let line = chars args.info.now.line.now in
-    let number = ap chars (c.as_str-2.ensures.value ∙ c.in_ok-number.ensures.text) ∙ chars-shown_number args.numbers args.layout.gutter args.info.now.line_index (omega arith) in
+    let line = chars args.line.now.info.line.now in
+    let number = ap chars (c.as_str-2.ensures.value ∙ c.in_ok-number.ensures.text) ∙ chars-shown_number args.numbers args.layout.gutter args.line.now.info.line_index (omega arith) in
     let text = ap chars c.as_str.ensures.value ∙ c.in_ok-text.ensures.value in
-    let part = part_of_norm args.margin c.str_width-width.result c.near_part-near.result.skipped line (chars c.near_part-near.result.text.now) (chars c.as_str.result.now) c.str_width-width.ensures.value text c.near_part-near.ensures.holds in
+    let part = part_of_norm args.margin c.args.line.now.width c.near_part-near.result.skipped line (chars c.near_part-near.result.text.now) (chars c.as_str.result.now) c.args.line.now.measured text c.near_part-near.ensures.holds in
     let window = c.window_of-window in
     let cells = cells_are args.layout.decor args.margin window.result.start window.result.end (chars window.result.text.now)
     (chars c.placeholder-placeholder.result.now) (norm line) (norm line)
@@ -64,9 +73,9 @@ returns-clause-added c =
 pub returns-clause-short : goal.returns-clause-short
 returns-clause-short c =
     let args = c.args in
-    let line = chars args.info.now.line.now in
+    let line = chars args.line.now.info.line.now in
     let text = ap chars c.as_str.ensures.value ∙ c.in_ok-text.ensures.value in
-    let part = part_of_norm args.margin c.str_width-width.result c.near_part-near.result.skipped line (chars c.near_part-near.result.text.now) (chars c.as_str.result.now) c.str_width-width.ensures.value text c.near_part-near.ensures.holds in
+    let part = part_of_norm args.margin c.args.line.now.width c.near_part-near.result.skipped line (chars c.near_part-near.result.text.now) (chars c.as_str.result.now) c.args.line.now.measured text c.near_part-near.ensures.holds in
     let window = c.window_of-window in
     let cells = cells_are args.layout.decor args.margin window.result.start window.result.end (chars window.result.text.now)
     (chars c.placeholder-placeholder.result.now) (norm line) (norm line)
@@ -76,6 +85,6 @@ returns-clause-short c =
 
 pub returns-clause-dropped : goal.returns-clause-dropped
 returns-clause-dropped c =
-    let line = chars c.args.info.now.line.now in
+    let line = chars c.args.line.now.info.line.now in
     let text = ap chars c.as_str.ensures.value ∙ c.in_ok-text.ensures.value in
-    c.window_of-window.ensures.dropped (norm line) (part_of_norm c.args.margin c.str_width-width.result c.near_part-near.result.skipped line (chars c.near_part-near.result.text.now) (chars c.as_str.result.now) c.str_width-width.ensures.value text c.near_part-near.ensures.holds)
+    c.window_of-window.ensures.dropped (norm line) (part_of_norm c.args.margin c.args.line.now.width c.near_part-near.result.skipped line (chars c.near_part-near.result.text.now) (chars c.as_str.result.now) c.args.line.now.measured text c.near_part-near.ensures.holds)

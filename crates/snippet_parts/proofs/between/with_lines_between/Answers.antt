@@ -1,36 +1,58 @@
-use Rattle.std.proofs.Common.{◌≡◌, None, Some, List, [], ◌∷◌, ◌++◌, map, length, refl, sym, ap, ◌∙◌, append_assoc, append-nil, arith}
+use Rattle.std.proofs.Common.{◌≡◌, ◌<◌, ◌^◌, All, None, Some, List, [], ◌∷◌, ◌++◌, map, length, refl, sym, ap, subst, ◌∙◌, append_assoc, append-nil, arith}
 use Rattle.std.specs.Vec.Iter.{into_iter_items}
 use Rattle.std.proofs.lemmas.List.{map_push}
+use Rattle.std.proofs.lemmas.List.Elements.{All-tail}
+use Rattle.snippet_view.specs.declared.entries.AnnotatedLineInfo.{AnnotatedLineInfo}
+use Rattle.snippet_view.specs.declared.shown_line.ShownLine.{ShownLine}
 use Rattle.snippet_view.specs.Annotated.{KeptLine, seen_kept}
 use Rattle.snippet_view.specs.Between.{lines_between}
+use Rattle.snippet_view.specs.ShownLines.{infos_of, kept_of}
 use Rattle.snippet_view.proofs.BetweenLemmas.{filled, filled-shown}
+use Rattle.snippet_view.proofs.ShownLineLemmas.{infos_of-push, kept_of-kept}
 use Rattle.snippet_parts.proofs.between.with_lines_between.Goals as goal
 
 nothing_left : {X : Type 0} (l : List X) → length l ≡ 0 → l ≡ []
 nothing_left [] h = refl
 nothing_left (x ∷ xs) h = absurd (omega arith)
 
+-- a line can be measured
+abbrev Fits : AnnotatedLineInfo → Type 0
+Fits info = length info.line.now < 2 ^ 56
+
 pub loop-info-init : goal.loop-info-init
 loop-info-init c =
+    let s = c.args.source.now in
+    let given : List AnnotatedLineInfo = into_iter_items c.into_iter-info-iterator.result in
+    let all : given ≡ c.args.kept.items = c.into_iter-info-iterator.ensures.into_iter_gives.0 in
     record {
-      lines = ap (λ xs. map seen_kept xs ++ filled c.args.source.now None (map seen_kept (into_iter_items c.into_iter-info-iterator.result)))
-          c.new-shown.ensures.items ∙ ap (λ xs. filled c.args.source.now None (map seen_kept xs)) c.into_iter-info-iterator.ensures.into_iter_gives.0;
-      left = omega (arith, c.into_iter-info-iterator.ensures.into_iter_gives.1, ap length c.into_iter-info-iterator.ensures.into_iter_gives.0);
+      lines = ap (λ (ls : List ShownLine). map seen_kept (infos_of ls) ++ filled s None (map seen_kept given)) c.new-shown.ensures.items ∙ ap (λ (is : List AnnotatedLineInfo). filled s None (map seen_kept is)) all;
+      kept = ap (λ (ls : List ShownLine). kept_of ls ++ given) c.new-shown.ensures.items ∙ all;
+      texts = subst (All Fits) (sym all) c.requires.texts;
+      left = omega (arith, c.into_iter-info-iterator.ensures.into_iter_gives.1, ap length all);
     }
 
 pub loop-info-preserved : goal.loop-info-preserved
 loop-info-preserved c =
     let at = c.loop-info in
-    let x = c.in-Some.info in
+    let x : AnnotatedLineInfo = c.in-Some.info in
     let s = c.args.source.now in
-    let steps : into_iter_items at.info-iterator ≡ x ∷ into_iter_items c.next.new.self = c.in-Some.ensures.steps.0 in
-    let later : List KeptLine = filled s (Some x.line_index) (map seen_kept (into_iter_items c.next.new.self)) in
-    let old : List KeptLine = map seen_kept at.shown.items in
+    let mid : List ShownLine = c.push_between.new.shown.items in
+    let line : ShownLine = c.new.result in
+    let rest : List AnnotatedLineInfo = into_iter_items c.next.new.self in
+    let steps : into_iter_items at.info-iterator ≡ x ∷ rest = c.in-Some.ensures.steps.0 in
+    let later : List KeptLine = filled s (Some x.line_index) (map seen_kept rest) in
+    let old : List KeptLine = map seen_kept (infos_of at.shown.items) in
     let between : List KeptLine = lines_between s at.before x.line_index in
+    let info_is : line.info ≡ x = c.new.ensures.info in
+    let lines : map seen_kept (infos_of (mid ++ line ∷ [])) ≡ (old ++ between) ++ seen_kept x ∷ [] = ap (map seen_kept) (infos_of-push mid line ∙ ap (λ i. infos_of mid ++ i ∷ []) info_is) ∙ map_push seen_kept (infos_of mid) x ∙ ap (λ ls. ls ++ seen_kept x ∷ []) c.in_ok-push_between.ensures.value in
+    let kept : kept_of (mid ++ line ∷ []) ≡ kept_of at.shown.items ++ x ∷ [] = kept_of-kept mid line c.new.ensures.between ∙ ap (λ i. kept_of mid ++ i ∷ []) info_is ∙ ap (λ is. is ++ x ∷ []) c.in_ok-push_between.ensures.kept_are in
     record {
-      lines = ap (λ ls. map seen_kept ls ++ later) c.in_ok-push.ensures.items ∙ ap (λ ls. ls ++ later) (map_push seen_kept c.push_between.new.shown.items x ∙ ap (λ ls. ls ++ seen_kept x ∷ []) c.in_ok-push_between.ensures.value)
+      lines = ap (λ (ls : List ShownLine). map seen_kept (infos_of ls) ++ later) c.in_ok-push.ensures.items ∙ ap (λ ls. ls ++ later) lines
           ∙ append_assoc (old ++ between) (seen_kept x ∷ []) later ∙ append_assoc old between (seen_kept x ∷ later)
-          ∙ sym (ap (λ xs. old ++ filled s at.before (map seen_kept xs)) steps) ∙ at.invariant.lines;
+          ∙ sym (ap (λ is. old ++ filled s at.before (map seen_kept is)) steps) ∙ at.invariant.lines;
+      kept = ap (λ (ls : List ShownLine). kept_of ls ++ rest) c.in_ok-push.ensures.items ∙ ap (λ is. is ++ rest) kept
+          ∙ append_assoc (kept_of at.shown.items) (x ∷ []) rest ∙ sym (ap (λ is. kept_of at.shown.items ++ is) steps) ∙ at.invariant.kept;
+      texts = All-tail Fits x rest (subst (All Fits) steps at.invariant.texts);
       left = let was = at.invariant.left in
           let gone = c.in-Some.ensures.steps.1 in
           let short = ap length steps in
@@ -41,5 +63,9 @@ pub returns : goal.returns
 returns c =
     let at = c.loop-info in
     let s = c.args.source.now in
+    let lines : List KeptLine = map seen_kept (infos_of at.shown.items) in
     let empty : into_iter_items at.info-iterator ≡ [] = nothing_left _ (sym at.invariant.left ∙ c.in-None.ensures.steps.0) in
-    record { value = λ fold marks spans kept. sym (append-nil (map seen_kept at.shown.items)) ∙ sym (ap (λ xs. map seen_kept at.shown.items ++ filled s at.before (map seen_kept xs)) empty) ∙ at.invariant.lines ∙ ap (filled s None) kept ∙ filled-shown fold s marks spans }
+    record {
+      kept_are = sym (append-nil (kept_of at.shown.items)) ∙ sym (ap (λ is. kept_of at.shown.items ++ is) empty) ∙ at.invariant.kept;
+      value = λ fold marks spans kept. sym (append-nil lines) ∙ sym (ap (λ is. lines ++ filled s at.before (map seen_kept is)) empty) ∙ at.invariant.lines ∙ ap (filled s None) kept ∙ filled-shown fold s marks spans;
+    }

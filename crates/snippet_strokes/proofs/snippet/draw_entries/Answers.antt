@@ -20,11 +20,11 @@ draw_bars-requires-clause-room c =
     let es = c.args.info.now.annotations.items in
     All-same (HasRoom c.args.layout) c.args.ends.now (ends_of_bars es) c.requires.ends (room_ends c.args.layout es c.requires.bar_cells)
 
-pub returns-then-branch : goal.returns-then-branch
-returns-then-branch c =
+pub returns-then-is_whole_line : goal.returns-then-is_whole_line
+returns-then-is_whole_line c =
     let es = c.args.info.now.annotations.items in
     let text = norm (chars c.args.info.now.line.now) in
-    let whole : is_whole_line text es ≡ true = ap (is_whole_line text) (sym c.deref.ensures.value) ∙ sym c.in_ok-is_whole_line.ensures.value ∙ c.if-branch.true in
+    let whole : is_whole_line text es ≡ true = ap (is_whole_line text) (sym c.deref.ensures.value) ∙ sym c.is_whole_line.ensures.value ∙ c.if-is_whole_line.true in
     record {
       added = on_ok_weaker c.draw_bars.result (λ draws above plain is bare. whole_added c.args.layout text c.args.room c.args.dropped c.args.closes es above plain c.args.buffer.now c.draw_bars.new.buffer c.args.row whole c.requires.last draws is bare) c.draw_bars.ensures.draws;
       own = on_ok_weaker c.draw_bars.result (λ value above plain is.
@@ -37,7 +37,7 @@ returns-clause-own c =
     let es = c.args.info.now.annotations.items in
     let text = norm (chars c.args.info.now.line.now) in
     let given = c.deref-2.ensures.value in
-    let other : is_whole_line text es ≡ false = ap (is_whole_line text) (sym c.deref.ensures.value) ∙ sym c.in_ok-is_whole_line.ensures.value ∙ c.if-branch.false in
+    let other : is_whole_line text es ≡ false = ap (is_whole_line text) (sym c.deref.ensures.value) ∙ sym c.is_whole_line.ensures.value ∙ c.if-is_whole_line.false in
     let new = c.draw_strokes.new.buffer in
     let Painted : List LineAnnotation → List (List Cell) → List Cell → Type 0 = λ xs above source. AddsPainted c.args.layout c.args.room c.args.closes (map (shifted c.args.dropped) xs) above source new in
     on_ok_two c.draw_strokes.result (λ none painted above source is.

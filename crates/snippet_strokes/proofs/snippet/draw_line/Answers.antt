@@ -18,7 +18,7 @@ pub returns-clause-added : goal.returns-clause-added
 returns-clause-added c =
     let layout = c.args.layout in
     let margin = c.args.margin in
-    let info = c.args.info.now in
+    let info = c.args.line.now.info in
     let mid = c.draw_source_row.new.buffer in
     let high = c.highlight_source.new.buffer in
     let row = c.in_ok-row.row in

@@ -1,17 +1,13 @@
-use Rattle.std.proofs.Common.{◌≡◌, ◌∙◌, ap, chars, List, ℕ, arith}
-use Rattle.std.proofs.lemmas.Bool.Decides.{nat_tests}
-use Rattle.std.specs.Char.{is_whitespace}
-use Rattle.std.specs.List.{position}
-use Rattle.std.specs.Prelude.{not}
-use Rattle.snippet_strokes.proofs.WholeLineLemmas.{whole_line_is}
+use Rattle.std.proofs.Common.{◌∙◌, chars}
 use Rattle.snippet_text.specs.Normalized.{norm}
+use Rattle.snippet_strokes.proofs.BlankLemmas.{bar_passed, start_passed}
 use Rattle.snippet_strokes.proofs.whole_line.is_whole_line.Goals as goal
+use Rattle.snippet_strokes.proofs.whole_line.is_whole_line.Goals.{in-MultilineLine, in-MultilineStart}
 
-pub returns : goal.returns
-returns c =
+pub loop-entry-preserved : goal.loop-entry-preserved
+loop-entry-preserved c =
     let text = norm (chars c.args.line.now) in
-    let same : chars c.as_str.result.now ≡ text = ap chars c.as_str.ensures.value ∙ c.in_ok-text.ensures.value in
-    let first = c.first_visible-first in
-    record {
-      value = c.are_beside.ensures.value ∙ whole_line_is text first.result c.args.entries.now (grind (arith, nat_tests, c.if-is_empty.ensures)) (first.ensures.value ∙ ap (λ (t : List ℕ). position (λ k. not (is_whitespace k)) t) same);
-    }
+    elim c.match-entry.branch [
+      | in-MultilineLine w ↦ bar_passed text c.args.entries.now _ c.loop-entry.last_start _ _ _ c.loop-entry-test.true w.in-MultilineLine.is w.last_start-is c.loop-entry.invariant
+      | in-MultilineStart w ↦ start_passed text c.args.entries.now _ c.loop-entry.last_start _ _ _ c.loop-entry-test.true w.in-MultilineStart.is (w.last_start-is ∙ w.max-last_start.ensures) c.loop-entry.invariant
+    ]

@@ -6,5 +6,5 @@ use Rattle.snippet_titles.proofs.LineLemmas.{further_rows}
 use Rattle.snippet_titles.proofs.heading.draw_lines.Given as goal
 
 abbrev pub invariant-loop-index : goal.invariant-loop-index
-invariant-loop-index l =
+invariant-loop-index g l =
     l.buffer ≡ take l.row l.initial.buffer ++ trimmed (row_at l.initial.buffer l.row ∷ further_rows (indent_cells l.style l.width) l.role l.yielded)

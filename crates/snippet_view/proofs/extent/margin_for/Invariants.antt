@@ -1,7 +1,8 @@
 use Rattle.std.proofs.Common.{take}
 use Rattle.snippet_view.specs.Extent.{ReachesLines}
+use Rattle.snippet_view.specs.ShownLines.{kept_of}
 use Rattle.snippet_view.proofs.extent.margin_for.Given as goal
 
--- the lines so far are taken in
-abbrev pub invariant-loop-info : goal.invariant-loop-info
-invariant-loop-info l = ReachesLines (take l.info-index l.lines) l.extent
+-- those of the lines so far that are kept are taken in
+abbrev pub invariant-loop-line : goal.invariant-loop-line
+invariant-loop-line l = ReachesLines (kept_of (take l.line-index l.lines)) l.extent

@@ -1,4 +1,4 @@
-use Rattle.std.proofs.Common.{◌≡◌, ◌∙◌, ◌+◌, ◌-◌, ◌≤◌, [], All, Bool, List, ap, arith, length, map, refl, subst, sym}
+use Rattle.std.proofs.Common.{◌≡◌, ◌∙◌, ◌+◌, ◌-◌, ◌<◌, ◌≤◌, ◌^◌, IfSome, [], All, Bool, List, ap, arith, length, map, refl, subst, sym}
 use Rattle.std.proofs.lemmas.Result.{on_ok_weaker}
 use Rattle.std.specs.Cow.{cow_str_bytes}
 use Rattle.snippet_model.specs.declared.snippet.Annotation.{Annotation}
@@ -7,10 +7,18 @@ use Rattle.snippet_lines.specs.Number.{shown_number}
 use Rattle.snippet_lines.specs.Span.{IsSpan}
 use Rattle.snippet_lines.specs.declared.number.LineNumbers.{LineNumbers}
 use Rattle.snippet_view.specs.declared.entries.AnnotatedLineInfo.{AnnotatedLineInfo}
+use Rattle.snippet_view.specs.declared.shown_line.ShownLine.{ShownLine}
+use Rattle.snippet_view.specs.ShownLines.{infos_of, kept_of}
+use Rattle.snippet_view.proofs.ShownLineLemmas.{infos_all}
 use Rattle.snippet_view.specs.Annotated.{annotated_lines, deepest, kept_line, seen_kept}
 use Rattle.snippet_view.specs.Kept.{kept_lines, shown_lines}
 use Rattle.snippet_view.specs.Margin.{bounds_of}
 use Rattle.snippet_view.specs.Measures.{margin_of}
+use Rattle.snippet_view.specs.declared.entries.LineAnnotation.{LineAnnotation}
+use Rattle.snippet_view.specs.Measures.{StandsClear}
+use Rattle.snippet_strokes.specs.declared.layout.Layout.{Layout}
+use Rattle.snippet_marks.specs.Entries.{HasPlace}
+use Rattle.snippet_strokes.specs.EntryMarks.{HasBarCell}
 use Rattle.snippet_strokes.specs.Snippet.{AreLinesShown}
 use Rattle.annotate_snippets.specs.Drawn.{layout_in}
 use Rattle.annotate_snippets.specs.Gutter.{numbered_source}
@@ -21,22 +29,6 @@ use Rattle.annotate_snippets.proofs.PartsFacts.{lines_labels, lines_places, line
 use Rattle.annotate_snippets.proofs.renderer.cause.draw_cause_lines.Goals as goal
 use Rattle.annotate_snippets.proofs.renderer.cause.draw_cause_lines.Goals.{After-deref, After-deref-2}
 use Rattle.annotate_snippets.proofs.CauseShown.{code_right}
-
--- the lines that are kept
-kept_is : (c : After-deref) → map seen_kept c.deref.result.now ≡ annotated_lines c.args.cause.snippet.now.fold (numbered_source c.args.cause.snippet.now) c.args.cause.snippet.now.markers.items
-kept_is c = ap (map seen_kept) c.deref.ensures.value ∙ c.requires.prepared.kept_are
-
-pub margin_for-margin-requires-clause-texts : goal.margin_for-margin-requires-clause-texts
-margin_for-margin-requires-clause-texts c =
-    let s = c.args.cause.snippet.now in
-    let drawable = c.requires.prepared.drawable in
-    lines_texts (numbered_source s) s.markers.items drawable.spans (kept_lines s.fold (cow_str_bytes s.source) s.markers.items) c.deref.result.now (kept_is c) drawable.source
-
-pub margin_for-margin-requires-clause-labels : goal.margin_for-margin-requires-clause-labels
-margin_for-margin-requires-clause-labels c =
-    let s = c.args.cause.snippet.now in
-    let drawable = c.requires.prepared.drawable in
-    lines_labels (numbered_source s) s.markers.items drawable.spans (kept_lines s.fold (cow_str_bytes s.source) s.markers.items) c.deref.result.now (kept_is c) drawable.labels
 
 -- those that are shown
 shown_of : (cause : PreparedCause) → IsCausePrepared cause → (source : Source) → source ≡ cause.map → (shown infos : List AnnotatedLineInfo)
@@ -52,9 +44,40 @@ shown_of cause prepared source is shown infos same between =
     let source_is : source ≡ numbered_source s = is ∙ prepared.map_is in
     ap (map seen_kept) same ∙ between s.fold marks (subst Spans (sym source_is) prepared.drawable.spans) (prepared.kept_are ∙ ap (λ (x : Source). annotated_lines s.fold x marks) (sym source_is)) ∙ ap (λ (x : Source). map (kept_line x marks) (shown_lines s.fold x.text marks)) source_is
 
-shown_is : (c : After-deref-2) → map seen_kept c.deref-2.result.now ≡ map (kept_line (numbered_source c.args.cause.snippet.now) c.args.cause.snippet.now.markers.items) (shown_lines c.args.cause.snippet.now.fold (cow_str_bytes c.args.cause.snippet.now.source) c.args.cause.snippet.now.markers.items)
+shown_first : (c : After-deref) → map seen_kept (infos_of c.deref.result.now)
+    ≡ map (kept_line (numbered_source c.args.cause.snippet.now) c.args.cause.snippet.now.markers.items) (shown_lines c.args.cause.snippet.now.fold (cow_str_bytes c.args.cause.snippet.now.source) c.args.cause.snippet.now.markers.items)
+shown_first c =
+    shown_of c.args.cause c.requires.prepared c.args.cause.map refl (infos_of c.in_ok-lines.lines.items) (infos_of c.deref.result.now) (ap infos_of c.deref.ensures.value) c.in_ok-lines.ensures.value
+
+shown_is : (c : After-deref-2) → map seen_kept (infos_of c.deref-2.result.now)
+    ≡ map (kept_line (numbered_source c.args.cause.snippet.now) c.args.cause.snippet.now.markers.items) (shown_lines c.args.cause.snippet.now.fold (cow_str_bytes c.args.cause.snippet.now.source) c.args.cause.snippet.now.markers.items)
 shown_is c =
-    shown_of c.args.cause c.requires.prepared c.args.cause.map refl c.in_ok-lines.lines.items c.deref-2.result.now c.deref-2.ensures.value c.in_ok-lines.ensures.value
+    shown_of c.args.cause c.requires.prepared c.args.cause.map refl (infos_of c.in_ok-lines.lines.items) (infos_of c.deref-2.result.now) (ap infos_of c.deref-2.ensures.value) c.in_ok-lines.ensures.value
+
+-- a line's text fits, and its labels do
+abbrev TextFits : AnnotatedLineInfo → Type 0
+TextFits info = length info.line.now < 2 ^ 56
+
+abbrev LabelsFit : AnnotatedLineInfo → Type 0
+LabelsFit info = All (λ (e : LineAnnotation). IfSome e.label (λ t. length t.now < 2 ^ 56)) info.annotations.items
+
+pub with_lines_between-requires-clause-texts : goal.with_lines_between-requires-clause-texts
+with_lines_between-requires-clause-texts c =
+    let s = c.args.cause.snippet.now in
+    let drawable = c.requires.prepared.drawable in
+    lines_texts (numbered_source s) s.markers.items drawable.spans (kept_lines s.fold (cow_str_bytes s.source) s.markers.items) c.args.cause.kept.items c.requires.prepared.kept_are drawable.source
+
+pub margin_for-margin-requires-clause-texts : goal.margin_for-margin-requires-clause-texts
+margin_for-margin-requires-clause-texts c =
+    let s = c.args.cause.snippet.now in
+    let drawable = c.requires.prepared.drawable in
+    infos_all TextFits c.deref.result.now (lines_texts (numbered_source s) s.markers.items drawable.spans (shown_lines s.fold (cow_str_bytes s.source) s.markers.items) (infos_of c.deref.result.now) (shown_first c) drawable.source)
+
+pub margin_for-margin-requires-clause-labels : goal.margin_for-margin-requires-clause-labels
+margin_for-margin-requires-clause-labels c =
+    let s = c.args.cause.snippet.now in
+    let drawable = c.requires.prepared.drawable in
+    infos_all LabelsFit c.deref.result.now (lines_labels (numbered_source s) s.markers.items drawable.spans (shown_lines s.fold (cow_str_bytes s.source) s.markers.items) (infos_of c.deref.result.now) (shown_first c) drawable.labels)
 
 pub draw_snippet-requires-clause-place : goal.draw_snippet-requires-clause-place
 draw_snippet-requires-clause-place c =
@@ -64,51 +87,63 @@ draw_snippet-requires-clause-place c =
 pub draw_snippet-requires-clause-numbers : goal.draw_snippet-requires-clause-numbers
 draw_snippet-requires-clause-numbers c =
     let s = c.args.cause.snippet.now in
-    subst (λ (numbers : LineNumbers). All
-    (λ (info : AnnotatedLineInfo). length (shown_number numbers c.args.frame.gutter info.line_index) ≤ c.args.frame.gutter + 1)
-    c.deref-2.result.now) (sym c.line_numbers-numbers.ensures.value)
-    (numbers_fit c.args.renderer.now c.args.frame s c.deref-2.result.now c.requires.room c.requires.prepared.drawable (shown_is c))
+    let lines = c.deref-2.result.now in
+    let Fits : LineNumbers → AnnotatedLineInfo → Type 0 = λ numbers info. length (shown_number numbers c.args.frame.gutter info.line_index) ≤ c.args.frame.gutter + 1 in
+    infos_all (Fits c.line_numbers-numbers.result) lines (subst (λ (numbers : LineNumbers). All (Fits numbers) (infos_of lines)) (sym c.line_numbers-numbers.ensures.value)
+    (numbers_fit c.args.renderer.now c.args.frame s (infos_of lines) c.requires.room c.requires.prepared.drawable (shown_is c)))
 
 pub draw_snippet-requires-clause-texts : goal.draw_snippet-requires-clause-texts
 draw_snippet-requires-clause-texts c =
     let s = c.args.cause.snippet.now in
     let drawable = c.requires.prepared.drawable in
-    lines_texts (numbered_source s) s.markers.items drawable.spans (shown_lines s.fold (cow_str_bytes s.source) s.markers.items) c.deref-2.result.now (shown_is c) drawable.source
+    let lines = c.deref-2.result.now in
+    infos_all TextFits lines (lines_texts (numbered_source s) s.markers.items drawable.spans (shown_lines s.fold (cow_str_bytes s.source) s.markers.items) (infos_of lines) (shown_is c) drawable.source)
 
 pub draw_snippet-requires-clause-columns : goal.draw_snippet-requires-clause-columns
 draw_snippet-requires-clause-columns c =
     let s = c.args.cause.snippet.now in
     let drawable = c.requires.prepared.drawable in
-    lines_places (numbered_source s) s.markers.items drawable.spans (shown_lines s.fold (cow_str_bytes s.source) s.markers.items) c.deref-2.result.now (shown_is c) drawable.source
+    let lines = c.deref-2.result.now in
+    infos_all (λ info. All HasPlace info.annotations.items) lines (lines_places (numbered_source s) s.markers.items drawable.spans (shown_lines s.fold (cow_str_bytes s.source) s.markers.items) (infos_of lines) (shown_is c) drawable.source)
+
+-- the lines that are kept, as the margin sees them
+kept_is : (c : After-deref-2) → map seen_kept (kept_of c.deref.result.now) ≡ annotated_lines c.args.cause.snippet.now.fold (numbered_source c.args.cause.snippet.now) c.args.cause.snippet.now.markers.items
+kept_is c =
+    ap (map seen_kept) (ap kept_of c.deref.ensures.value ∙ c.in_ok-lines.ensures.kept_are) ∙ c.requires.prepared.kept_are
 
 pub draw_snippet-requires-clause-clear : goal.draw_snippet-requires-clause-clear
 draw_snippet-requires-clause-clear c =
     let s = c.args.cause.snippet.now in
-    shown_clear (numbered_source s) s.markers.items c.requires.prepared.drawable.spans s.fold c.deref.result.now c.deref-2.result.now c.margin_for-margin.result (ap (map seen_kept) c.deref.ensures.value ∙ c.requires.prepared.kept_are) (shown_is c) c.margin_for-margin.ensures.clear
+    let lines = c.deref-2.result.now in
+    let margin = c.margin_for-margin.result in
+    infos_all (λ info. All (StandsClear margin) info.annotations.items) lines (shown_clear (numbered_source s) s.markers.items c.requires.prepared.drawable.spans s.fold (kept_of c.deref.result.now) (infos_of lines) margin (kept_is c) (shown_is c) c.margin_for-margin.ensures.clear)
 
 pub draw_snippet-requires-clause-bar_cells : goal.draw_snippet-requires-clause-bar_cells
 draw_snippet-requires-clause-bar_cells c =
     let s = c.args.cause.snippet.now in
-    lines_bar_cells (numbered_source s) s.markers.items c.requires.prepared.drawable.spans
-    (shown_lines s.fold (cow_str_bytes s.source) s.markers.items) c.deref-2.result.now (shown_is c)
-    (record { gutter = c.args.frame.gutter; code = c.args.frame.code; decor = c.args.renderer.now.decor_style }) c.requires.room.bars
+    let lines = c.deref-2.result.now in
+    let layout : Layout = record { gutter = c.args.frame.gutter; code = c.args.frame.code; decor = c.args.renderer.now.decor_style } in
+    infos_all (λ info. All (HasBarCell layout) info.annotations.items) lines (lines_bar_cells (numbered_source s) s.markers.items c.requires.prepared.drawable.spans
+    (shown_lines s.fold (cow_str_bytes s.source) s.markers.items) (infos_of lines) (shown_is c) layout c.requires.room.bars)
 
 pub draw_snippet-requires-clause-labels : goal.draw_snippet-requires-clause-labels
 draw_snippet-requires-clause-labels c =
     let s = c.args.cause.snippet.now in
     let drawable = c.requires.prepared.drawable in
-    lines_labels (numbered_source s) s.markers.items drawable.spans (shown_lines s.fold (cow_str_bytes s.source) s.markers.items) c.deref-2.result.now (shown_is c) drawable.labels
+    let lines = c.deref-2.result.now in
+    infos_all LabelsFit lines (lines_labels (numbered_source s) s.markers.items drawable.spans (shown_lines s.fold (cow_str_bytes s.source) s.markers.items) (infos_of lines) (shown_is c) drawable.labels)
 
 pub returns : goal.returns
 returns c =
     let s = c.args.cause.snippet.now in
     let prepared = c.requires.prepared in
     let frame = c.args.frame in
-    let kept : map seen_kept c.deref.result.now ≡ annotated_lines s.fold (numbered_source s) s.markers.items = ap (map seen_kept) c.deref.ensures.value ∙ prepared.kept_are in
+    let lines = infos_of c.deref-2.result.now in
+    let kept : map seen_kept (kept_of c.deref.result.now) ≡ annotated_lines s.fold (numbered_source s) s.markers.items = ap (map seen_kept) (ap kept_of c.deref.ensures.value ∙ c.in_ok-lines.ensures.kept_are) ∙ prepared.kept_are in
     let room : c.saturating_sub-room.result ≡ c.args.renderer.now.term_width - frame.code = c.saturating_sub-room.ensures in
     let bounds : bounds_of c.margin_for-margin.result ≡ margin_of (c.args.renderer.now.term_width - frame.code) s.fold (numbered_source s)
     s.markers.items = c.margin_for-margin.ensures.bounds
-    ∙ bounds_of_kept c.saturating_sub-room.result s.fold (numbered_source s) s.markers.items c.deref.result.now prepared.drawable.spans kept
+    ∙ bounds_of_kept c.saturating_sub-room.result s.fold (numbered_source s) s.markers.items (kept_of c.deref.result.now) prepared.drawable.spans kept
     ∙ ap (λ n. margin_of n s.fold (numbered_source s) s.markers.items) room in
     record {
       added = on_ok_weaker c.draw_snippet.result (λ adds. record {
@@ -116,13 +151,13 @@ returns c =
         added = adds.added;
         are = record {
           utf8 = prepared.utf8;
-          infos = c.deref-2.result.now;
-          lines = shown_of c.args.cause prepared c.args.cause.map refl c.in_ok-lines.lines.items c.deref-2.result.now c.deref-2.ensures.value c.in_ok-lines.ensures.value;
+          infos = lines;
+          lines = shown_of c.args.cause prepared c.args.cause.map refl (infos_of c.in_ok-lines.lines.items) lines (ap infos_of c.deref-2.ensures.value) c.in_ok-lines.ensures.value;
           margin = c.margin_for-margin.result;
           room = c.margin_for-margin.ensures.room ∙ room;
           bounds = bounds;
           ordered = c.margin_for-margin.ensures.ordered;
-          shown = subst (λ (numbers : LineNumbers). AreLinesShown (layout_in c.args.renderer.now frame) c.margin_for-margin.result numbers c.args.closes [] c.deref-2.result.now adds.rows) c.line_numbers-numbers.ensures.value adds.shown;
+          shown = subst (λ (numbers : LineNumbers). AreLinesShown (layout_in c.args.renderer.now frame) c.margin_for-margin.result numbers c.args.closes [] lines adds.rows) c.line_numbers-numbers.ensures.value adds.shown;
         };
       }) c.draw_snippet.ensures.added;
     }
