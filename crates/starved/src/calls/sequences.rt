@@ -1,8 +1,8 @@
 //! Lists of calls from a fixed sequence, made of a grid and of plain rows of cells, whose texts are then compared.
 
-use crate::grid::{Call, make};
-use crate::output::print_heading;
-use crate::plain::PlainGrid;
+use crate::calls::grid::{Call, make};
+use crate::calls::output::print_heading;
+use crate::calls::plain::PlainGrid;
 use annotate_snippets::renderer::parts::{ElementStyle, LevelInner, SheetCodes, StyledBuffer};
 use annotate_snippets::renderer::{AnsiColor, Stylesheet};
 use std::alloc::{AllocError, Global};

@@ -1,6 +1,6 @@
 //! What is shown of texts that nobody vouches for, and how wide they are.
 
-use crate::output::print_heading;
+use crate::calls::output::print_heading;
 use annotate_snippets::text::{
     char_width, is_one_line, normalize_untrusted_str, str_width, text_fits,
 };

@@ -1,6 +1,6 @@
 //! The constants of levels, the order of kinds, and the spans of markers.
 
-use crate::output::print_heading;
+use crate::calls::output::print_heading;
 use annotate_snippets::level::{ERROR, HELP, INFO, Level, NOTE, WARNING};
 use annotate_snippets::renderer::parts::LevelInner;
 use annotate_snippets::snippet::Marker;

@@ -3,8 +3,8 @@ ghost use Rattle.std.specs.Prelude.{◌+◌, ◌<◌, ◌^◌, All, length};
 ghost use Rattle.snippet_lines.specs.Lines.{newline_count};
 ghost use Rattle.snippet_lines.specs.Span.{IsSpan};
 
-use crate::marked::{Marked, annotations_of};
-use crate::output::print_heading;
+use crate::calls::marked::{Marked, annotations_of};
+use crate::calls::output::print_heading;
 use annotate_snippets::renderer::parts::{AnnotatedLineInfo, SourceMap, newline_count};
 use annotate_snippets::text::text_fits;
 use annotate_snippets::{Annotation, AnnotationKind};

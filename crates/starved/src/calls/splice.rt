@@ -2,8 +2,8 @@
 ghost use Rattle.std.specs.Prelude.{All, IfOk};
 ghost use Rattle.snippet_lines.specs.Span.{IsSpan};
 
-use crate::mapped::map_of;
-use crate::output::{print_heading, print_made};
+use crate::calls::mapped::map_of;
+use crate::calls::output::{print_heading, print_made};
 use annotate_snippets::Patch;
 use annotate_snippets::renderer::parts::{SourceMap, as_substr, check_patches, check_span};
 use std::alloc::{AllocError, Global};

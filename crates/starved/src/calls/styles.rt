@@ -1,6 +1,6 @@
 //! Styles: the codes that open and reset them, and what they are made of.
 
-use crate::output::print_heading;
+use crate::calls::output::print_heading;
 use annotate_snippets::renderer::{
     AnsiColor, Color, DEFAULT_ADDITION_STYLE, DEFAULT_CONTEXT_STYLE, DEFAULT_EMPHASIS_STYLE,
     DEFAULT_ERROR_STYLE, DEFAULT_HELP_STYLE, DEFAULT_INFO_STYLE, DEFAULT_LINE_NUM_STYLE,

@@ -1,6 +1,6 @@
 //! What refusals say.
 
-use crate::output::print_heading;
+use crate::calls::output::print_heading;
 use annotate_snippets::renderer::RenderError;
 use std::alloc::AllocError;
 use std::io;

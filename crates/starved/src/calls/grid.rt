@@ -1,6 +1,6 @@
 //! The grid of cells, by what it prints.
 
-use crate::output::print_heading;
+use crate::calls::output::print_heading;
 use Call::{Append, Link, Putc, Puts, Replace, SetStyle, SetStyleRange};
 use Step::{Length, Make, Runs, Show};
 use annotate_snippets::renderer::parts::{ElementStyle, LevelInner, StyledBuffer};

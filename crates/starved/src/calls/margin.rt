@@ -1,6 +1,6 @@
 //! The bounds between which lines are shown.
 
-use crate::output::print_heading;
+use crate::calls::output::print_heading;
 use annotate_snippets::renderer::parts::Margin;
 use std::io;
 

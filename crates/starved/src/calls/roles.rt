@@ -1,6 +1,6 @@
 //! The styles of roles, and effects.
 
-use crate::output::print_heading;
+use crate::calls::output::print_heading;
 use annotate_snippets::renderer::parts::{ElementStyle, LevelInner};
 use annotate_snippets::renderer::{Color, Effects, Style, Stylesheet};
 use std::io;

@@ -1,6 +1,6 @@
 //! What builders make: lists filled at once and one by one, texts given as they come, and copies.
 
-use crate::output::{print_heading, print_made};
+use crate::calls::output::{print_heading, print_made};
 use annotate_snippets::level::{ERROR, HELP, NOTE};
 use annotate_snippets::text::CowStr;
 use annotate_snippets::{

@@ -1,6 +1,6 @@
 //! Levels: their names and their order.
 
-use crate::output::print_heading;
+use crate::calls::output::print_heading;
 use annotate_snippets::OptionCow;
 use annotate_snippets::level::{ERROR, HELP, INFO, Level, NOTE, WARNING};
 use std::cmp::Ordering;

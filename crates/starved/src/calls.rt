@@ -1,6 +1,5 @@
-//! Makes each call of the library that no case of `replay` makes, and whose answer `starved` doesn't compare, and prints what it
-//! answers: what has to be seen to succeed where memory is ample.
-#![tactic(auto)]
+//! The calls that no case of `replay` makes, and whose answers aren't compared where memory is refused: what each answers is
+//! printed, and has to be seen to succeed where memory is ample.
 
 mod builders;
 mod grid;
@@ -23,7 +22,7 @@ mod text;
 use std::io;
 
 /// Prints what the calls of each subject answer.
-fn print_all(rt: &(impl Print + AllocGlobal)) -> io::Result<()> {
+pub fn print(rt: &(impl Print + AllocGlobal)) -> io::Result<()> {
     text::print(rt)?;
     styles::print(rt)?;
     levels::print(rt)?;
@@ -37,8 +36,4 @@ fn print_all(rt: &(impl Print + AllocGlobal)) -> io::Result<()> {
     refusals::print(rt)?;
     order::print(rt)?;
     roles::print(rt)
-}
-
-fn main(rt: HostRuntime) -> io::Result<()> {
-    print_all(&rt)
 }

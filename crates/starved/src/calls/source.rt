@@ -1,7 +1,7 @@
 //! The lines of a source, and the places in it.
 
-use crate::mapped::map_of;
-use crate::output::print_heading;
+use crate::calls::mapped::map_of;
+use crate::calls::output::print_heading;
 use annotate_snippets::renderer::parts::{
     CursorLines, LineRange, SourceMap, check_span, newline_count,
 };
