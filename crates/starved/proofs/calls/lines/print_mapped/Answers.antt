@@ -1,5 +1,5 @@
 use Rattle.annotate_snippets.proofs.PartsFacts.{lines_texts}
-use Rattle.calls.proofs.lines.print_mapped.Goals as goal
+use Rattle.starved.proofs.calls.lines.print_mapped.Goals as goal
 
 pub with_lines_between-requires-clause-texts : goal.with_lines_between-requires-clause-texts
 with_lines_between-requires-clause-texts g c =
