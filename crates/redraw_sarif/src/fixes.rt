@@ -60,14 +60,19 @@ fn add_fix(
     edits: Vec<Edit>,
     context: &Context<'_>,
 ) -> Result<(), AllocError> {
-    if let Some(last) = children.last_mut() {
-        if last.message.as_str() == message.as_str() {
-            last.alternatives.push(edits)?;
-            return Ok(());
-        }
-    }
-    children.push(help_of(message, edits, context)?)?;
+    match last_said(children, message.as_str()) {
+        Some(last) => last.alternatives.push(edits)?,
+        None => children.push(help_of(message, edits, context)?)?,
+    };
     Ok(())
+}
+
+/// The last help, if it says this.
+fn last_said<'c>(children: &'c mut Vec<Child>, message: &str) -> Option<&'c mut Child> {
+    match children.last_mut() {
+        Some(last) if last.message.as_str() == message => Some(last),
+        _ => None,
+    }
 }
 
 /// The help that one fix makes.
@@ -135,10 +140,27 @@ fn add_replacements(
 ) -> Result<(), AllocError> {
     let replacements = change.needed_list("replacements", troubles);
     for (index, value) in replacements.items.iter().enumerate() {
-        let replacement = replacements.node(index, value);
-        if let Some(edit) = edit_of(&replacement, file, context, troubles)? {
-            edits.push(edit)?;
-        }
+        add_replacement(
+            edits,
+            &replacements.node(index, value),
+            file,
+            context,
+            troubles,
+        )?;
+    }
+    Ok(())
+}
+
+/// Adds the edit of a replacement, if it is one that can be drawn.
+fn add_replacement(
+    edits: &mut Vec<Edit>,
+    replacement: &Node<'_, '_>,
+    file: &str,
+    context: &Context<'_>,
+    troubles: &mut Troubles,
+) -> Result<(), AllocError> {
+    if let Some(edit) = edit_of(replacement, file, context, troubles)? {
+        edits.push(edit)?;
     }
     Ok(())
 }

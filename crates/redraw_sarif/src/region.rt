@@ -140,13 +140,19 @@ const MOST_BLANKS: usize = 1000;
 /// The lines of a text, with line feeds between them, and blanks before the first.
 fn lines_of(alloc: Global, blanks: usize, text: &str) -> Result<String, AllocError> {
     let mut out = blanks_of(alloc, blanks.min(MOST_BLANKS))?;
+    add_lines(&mut out, text)?;
+    Ok(out)
+}
+
+/// Adds the lines of a text, with line feeds between them.
+fn add_lines(out: &mut String, text: &str) -> Result<(), AllocError> {
     for (index, line) in text.lines().enumerate() {
         if index > 0 {
             out.push('\n')?;
         }
         out.push_str(line)?;
     }
-    Ok(out)
+    Ok(())
 }
 
 /// This many blanks.

@@ -66,17 +66,28 @@ fn artifact_location<'v>(run: &'v Value, location: &Value) -> Option<&'v Value> 
 /// The path that an address names, after its base, which may have a base itself. A base without an address adds nothing.
 fn path_at(alloc: Global, run: &Value, address: Address<'_>) -> Result<String, AllocError> {
     let mut whole = String::from_str(alloc, address.uri)?;
-    let mut base = address.base;
+    add_bases(alloc, run, address.base, &mut whole)?;
+    decoded(alloc, local(whole.as_str()))
+}
+
+/// Puts the base of this name before an address, and the base that it has itself before that.
+fn add_bases(
+    alloc: Global,
+    run: &Value,
+    base: Option<&str>,
+    whole: &mut String,
+) -> Result<(), AllocError> {
+    let mut base = base;
     for _ in 0..BASES {
         let Some(location) = base_location(run, base) else {
             break;
         };
         if let Some(before) = text_field(location, "uri") {
-            whole = joined(alloc, before, whole.as_str())?;
+            *whole = joined(alloc, before, whole.as_str())?;
         }
         base = text_field(location, BASE);
     }
-    decoded(alloc, local(whole.as_str()))
+    Ok(())
 }
 
 /// The location of the base of this name.
