@@ -1,5 +1,5 @@
 -- Lines that are shown, one after the other.
-use Rattle.std.proofs.Common.{◌≡◌, ℕ, ◌+◌, ◌<◌, Bool, true, false, not, arith, cond, drop, List, [], ◌∷◌, ◌++◌, get_or, length, map, take, All, sym, ap, ◌∙◌}
+use Rattle.std.proofs.Common.{◌≡◌, ℕ, ◌+◌, ◌<◌, Bool, true, false, not, arith, cond, drop, List, [], ◌∷◌, ◌++◌, get_or, length, take, All, sym, ap, ◌∙◌}
 use Rattle.std.proofs.lemmas.List.{append-nil, drop-map, get_or-map, length-map, map-append, map_push, take_more}
 use Rattle.std.proofs.lemmas.List.Elements.{All-cons, All-head, All-nil, All-tail, filter-append}
 use Rattle.std.specs.Prelude.{filter}

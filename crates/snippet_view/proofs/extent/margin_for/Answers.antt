@@ -1,4 +1,4 @@
-use Rattle.std.proofs.Common.{◌+◌, ◌++◌, ◌∷◌, [], sym, ◌≡◌, ◌∙◌, ◌≤◌, ℕ, Option, take, ap, subst, arith, unwrap_or}
+use Rattle.std.proofs.Common.{◌++◌, ◌∷◌, [], sym, ◌≡◌, ◌∙◌, ◌≤◌, ℕ, Option, take, ap, subst, arith, unwrap_or}
 use Rattle.std.proofs.lemmas.List.{take_all}
 use Rattle.snippet_view.specs.Extent.{ReachesLines}
 use Rattle.snippet_view.specs.declared.shown_line.ShownLine.{ShownLine}
