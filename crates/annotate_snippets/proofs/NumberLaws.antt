@@ -1,17 +1,16 @@
 -- A row of an element begins with a number only where it shows a line.
-use Rattle.std.proofs.Common.{◌≡◌, ℕ, ◌+◌, ◌<◌, ◌≤◌, ◌==◌, ◌&&◌, ◌||◌, Bool, true, false, not, cond, Option, None, Some, List, [], ◌∷◌, ◌++◌, All, length, get_or, inl, inr, refl, sym, ap, ◌∙◌, subst, arith}
+use Rattle.std.proofs.Common.{◌≡◌, ℕ, ◌<◌, ◌==◌, ◌&&◌, ◌||◌, Bool, true, false, not, cond, Option, None, Some, List, [], ◌∷◌, ◌++◌, All, length, get_or, inl, inr, refl, sym, subst, arith}
 use Rattle.std.specs.Cow.{cow_str_bytes}
 use Rattle.std.specs.Char.{is_ascii_alphanumeric}
-use Rattle.std.specs.List.{list_all, list_any, slice_get, slice_index_or}
+use Rattle.std.specs.List.{list_all, list_any}
 use Rattle.std.proofs.lemmas.Bool.{cases_Bool, eqb-true, false≢true}
 use Rattle.std.proofs.lemmas.List.Elements.{All-append, All-cons, All-from_get_or, All-head, All-nil, All-tail, All-weaker}
-use Rattle.std.proofs.lemmas.Option.{slice_get-get_or, slice_get_cases}
+use Rattle.std.proofs.lemmas.Option.{slice_get_cases}
 use Rattle.snippet_model.specs.Heading.{heading_of_message}
 use Rattle.snippet_model.specs.Rows.{HasNoNumber}
 use Rattle.snippet_model.specs.declared.snippet.Annotation.{Annotation}
 use Rattle.snippet_model.specs.declared.snippet.Element.{Element}
 use Rattle.snippet_model.specs.declared.snippet.Element.TheVariants as element
-use Rattle.snippet_model.specs.declared.snippet.Group.{Group}
 use Rattle.snippet_model.specs.declared.snippet.Patch.{Patch}
 use Rattle.snippet_model.specs.declared.snippet.Snippet.{Snippet}
 use Rattle.snippet_style.specs.Cell.{Cell, SPACE}
@@ -35,7 +34,7 @@ use Rattle.annotate_snippets.specs.Around.{closes_after, closes_with, context_at
 use Rattle.annotate_snippets.specs.Numbers.{HasNumbersOfLines, IsNumberedAsLine, shows_a_line}
 use Rattle.annotate_snippets.specs.Page.{RowName, SourceRow, Elision, OfferedLine, RemovedLine, Other, NamedRow, GroupPage, cells_of, others}
 use Rattle.annotate_snippets.specs.Rows.{cause_head, closing_rows, origin_layout, origin_rows, origin_start, patch_place, path_row, place_given, rows_after_cause, separator_rows, suggestion_head, suggestion_head_at}
-use Rattle.annotate_snippets.specs.Shown.{AreElementsShown, AreRowsOf, IsRowOf, IsSuggestionRow, ShowsElement, ShowsGroup}
+use Rattle.annotate_snippets.specs.Shown.{AreElementsShown, AreRowsOf, IsRowOf, IsSuggestionRow, ShowsElement}
 use Rattle.annotate_snippets.proofs.LeftLaws.{unnumbered_below, unnumbered_elided}
 
 -- ---- characters

@@ -7,7 +7,6 @@ use Rattle.snippet_lines.specs.Number.{shown_number}
 use Rattle.snippet_lines.specs.Span.{IsSpan}
 use Rattle.snippet_lines.specs.declared.number.LineNumbers.{LineNumbers}
 use Rattle.snippet_view.specs.declared.entries.AnnotatedLineInfo.{AnnotatedLineInfo}
-use Rattle.snippet_view.specs.declared.shown_line.ShownLine.{ShownLine}
 use Rattle.snippet_view.specs.ShownLines.{infos_of, kept_of}
 use Rattle.snippet_view.proofs.ShownLineLemmas.{infos_all}
 use Rattle.snippet_view.specs.Annotated.{annotated_lines, deepest, kept_line, seen_kept}
