@@ -44,6 +44,7 @@ pub separator_row_at : (decor : DecorStyle) (gutter : ℕ) → slice_index_or (s
 separator_row_at decor gutter =
     get_or_at (replicate (gutter + 1) SPACE) (unlinked_cell LineNumber (separator_of decor)) [] SPACE (gutter + 1) (length-replicate (gutter + 1) SPACE)
 
+-- a separator row is blank but for its separator
 pub separator_row_blank : (decor : DecorStyle) (gutter c : ℕ) → c ≢ gutter + 1 → slice_index_or (separator_row decor gutter) c SPACE ≡ SPACE
 separator_row_blank decor gutter c other =
     let len = length-replicate (gutter + 1) SPACE in

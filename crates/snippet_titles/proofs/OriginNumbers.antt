@@ -54,10 +54,12 @@ pub separator_row-unnumbered : (decor : DecorStyle) (gutter : ℕ) → HasNoNumb
 separator_row-unnumbered decor gutter =
     after_spaces-unnumbered gutter (text_cells LineNumber (separator_of decor ∷ []))
 
+-- nor has a closing row
 pub closing_row-unnumbered : (decor : DecorStyle) (gutter : ℕ) → HasNoNumber gutter (closing_row decor gutter)
 closing_row-unnumbered decor gutter =
     after_spaces-unnumbered gutter (text_cells LineNumber (closing_of decor))
 
+-- nor the row of padding, which is one of the two
 pub padding_row-unnumbered : (decor : DecorStyle) (gutter : ℕ) (last : Bool) → HasNoNumber gutter (padding_row decor gutter last)
 padding_row-unnumbered decor gutter true = closing_row-unnumbered decor gutter
 padding_row-unnumbered decor gutter false = separator_row-unnumbered decor gutter

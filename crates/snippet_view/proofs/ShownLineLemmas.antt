@@ -44,15 +44,17 @@ infos_all P [] all = All-nil (λ (l : ShownLine). P l.info)
 infos_all P (line ∷ lines) all =
     All-cons (λ (l : ShownLine). P l.info) line lines (All-head P line.info (infos_of lines) all) (infos_all P lines (All-tail P line.info (infos_of lines) all))
 
--- the line at a place, the lines from there on, and how many there are
+-- the line at a place
 pub infos_of-at : (lines : List ShownLine) (i : ℕ) (line : ShownLine) → i < length lines → line ≡ get_or lines i line → (i < length (infos_of lines)) × (line.info ≡ get_or (infos_of lines) i line.info)
 infos_of-at lines i line within is = (
   omega (arith, length-map lines (λ (l : ShownLine). l.info)),
   ap (λ (l : ShownLine). l.info) is ∙ sym (get_or-map (λ (l : ShownLine). l.info) lines i line line.info within),
 )
 
+-- the lines from a place on
 pub infos_of-drop : (lines : List ShownLine) (n : ℕ) → infos_of (drop n lines) ≡ drop n (infos_of lines)
 infos_of-drop lines n = sym (drop-map (λ (l : ShownLine). l.info) n lines)
 
+-- how many there are
 pub infos_of-length : (lines : List ShownLine) → length (infos_of lines) ≡ length lines
 infos_of-length lines = length-map lines (λ (l : ShownLine). l.info)
