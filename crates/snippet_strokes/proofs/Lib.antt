@@ -32,3 +32,6 @@ pub mod BarRows
 pub mod LowerWrites
 pub mod LineRowLemmas
 pub mod LineRowLaws
+pub mod HeldStrokes
+pub mod LineValueLaws
+pub mod LineExamples
