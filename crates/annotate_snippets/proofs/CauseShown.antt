@@ -115,8 +115,8 @@ code_right gutter depth = either (depth == 0)
     either false = omega arith
 
 -- the rows of a snippet, with their names, show it
-pub cause_shown : (r : Renderer) (frame : Frame) (around : ElementContext) (s : Snippet Annotation) (rows : List (List Cell)) → IsDrawable s → HasRoomFor r frame (Cause s) → IsCauseDrawn r frame around s rows → ElementShown r frame around (Cause s) rows
-cause_shown r frame around s rows drawable room drawn =
+pub cause_shown : (r : Renderer) (frame : Frame) (around : ElementContext) (found : List Cell) (s : Snippet Annotation) (rows : List (List Cell)) → IsDrawable s → HasRoomFor r frame (Cause s) → IsCauseDrawn r frame around s rows → ElementShown r frame around found (Cause s) rows
+cause_shown r frame around found s rows drawable room drawn =
     let src = numbered_source s in
     let are : AreCauseRows r frame (closes_with around) s drawn.lines = drawn.are in
     let ks : List ℕ = shown_lines s.fold (cow_str_bytes s.source) s.markers.items in
@@ -134,6 +134,7 @@ cause_shown r frame around s rows drawable room drawn =
     let all_free : All IsFree (head ++ (drawn.lines ++ tail)) = All-append IsFree head (drawn.lines ++ tail) (head_free r frame around s) (All-append IsFree drawn.lines tail lines_free (after_free r frame around s)) in
     record {
       part = part;
+      value = ap (λ (lines : List NamedRow). others head ++ (lines ++ others tail)) named.value;
       cells = cells;
       shows = record {
         after = named.part;

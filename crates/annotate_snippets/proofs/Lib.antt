@@ -8,6 +8,7 @@ pub mod ElementRows
 pub mod ElementShown
 pub mod FaultLemmas
 pub mod FeedLaws
+pub mod FormExamples
 pub mod FormSteps
 pub mod FormsShown
 pub mod GridRows
@@ -20,6 +21,7 @@ pub mod LabelLemmas
 pub mod LeftLaws
 pub mod LineFeedLaws
 pub mod LineLemmas
+pub mod LineValue
 pub mod ListLemmas
 pub mod MarkLemmas
 pub mod NotDrawn
@@ -50,6 +52,7 @@ pub mod SuggestionShown
 pub mod ContextLemmas
 pub mod TextLineLaws
 pub mod TextShown
+pub mod TitleNumbers
 pub mod TrustedLemmas
 pub mod WalkLemmas
 pub mod WidestLemmas

@@ -3,6 +3,7 @@ pub mod Drawn
 pub mod Fault
 pub mod Feeds
 pub mod Forms
+pub mod GraphicForm
 pub mod Gutter
 pub mod Levels
 pub mod Numbers
