@@ -180,7 +180,8 @@ module _ (layout : Layout) (r c : ℕ) where
       let stems : List Write = stems_of layout (row + 1) placed in
       let labels : List Write = labels_of layout (row + 1) placed in
       let marks : List Write = marks_of layout (row + 1) order in
-      let hung : P (cell_at (painted (bars ++ stems) rows) r c) = subst (λ rs. P (cell_at rs r c)) (sym (painted-append bars stems rows)) (stems_stand (row + 1) placed k b d (painted bars rows) within (hangs e.position (has_label e) (takes_space e) (omega (arith, some, low)) has) low at_row at_cell) in
+      let stem : has_stem e ≡ true = hangs e.position (has_label e) (takes_space e) (omega (arith, some, low)) has in
+      let hung : P (cell_at (painted (bars ++ stems) rows) r c) = subst (λ rs. P (cell_at rs r c)) (sym (painted-append bars stems rows)) (stems_stand (row + 1) placed k b d (painted bars rows) within stem low at_row at_cell) in
       let own_labels : All Q labels = All-flat_map Q (label_of layout (row + 1)) placed (λ i x inside. All-label_of Q layout (row + 1) (get_or placed i x) (λ shows there. absurd (beside i x inside shows there))) in
       let named : P (cell_at (painted (bars ++ stems ++ labels) rows) r c) = subst (λ rs. P (cell_at rs r c)) (sym (painted-append (bars ++ stems) labels rows)) (painted-cell P labels (painted (bars ++ stems) rows) r c hung own_labels) in
       subst (λ rs. P (cell_at rs r c)) (sym (painted-append (bars ++ stems ++ labels) marks rows)) (painted-cell P marks (painted (bars ++ stems ++ labels) rows) r c named (marks_beside (row + 1) order (omega (arith, some, at_row))))
