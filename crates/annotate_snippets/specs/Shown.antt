@@ -47,7 +47,7 @@ use Rattle.snippet_model.specs.Rows.{IsFree}
 use Rattle.snippet_style.specs.Glyphs.{separator_of, placeholder_of}
 use Rattle.snippet_strokes.specs.EntryMarks.{IsMarkCell, IsBarCell, has_mark_role}
 use Rattle.snippet_marks.specs.Entries.{label_role}
-use Rattle.snippet_strokes.specs.Labels.{IsStrokeCell}
+use Rattle.snippet_strokes.specs.Labels.{IsStemCell, IsStrokeCell}
 use Rattle.snippet_strokes.specs.Rows.{IsElisionRow}
 use Rattle.snippet_marks.specs.SourceRows.{bare_row}
 use Rattle.snippet_titles.specs.Heading.{heading_rows}
@@ -206,13 +206,20 @@ pub record ShowsLabel (frame : Frame) (dropped : ℕ) (rows : List (List Cell)) 
   pub whole : (n : ℕ) → n < length l.label.text → cell_at rows l.row (l.cell + n) ≡ unlinked_cell (label_role l.label.kind) (slice_index_or l.label.text n 0)
   pub place : ((l.row ≡ 0) × (l.cell ≡ frame.code + max (l.label.to - dropped) 1 + 1)) ⊎ ((0 < l.row) × (l.cell ≡ cell_of frame dropped l.label.from))
 
--- no label of line k is lost: of the spans that end on it, each that has a label to show has it in the rows below the line, whole;
--- no cell belongs to two labels, so that two of the same words stand twice; and each cell of these rows that belongs to none, from the
--- code's on, is a space or the glyph of a stroke, so that no other word stands there
+-- a stem leads from its mark down to a label that hangs below it: one stands in each row between, in the label's first cell, but where
+-- that cell is one of these labels'
+abbrev pub HasStem : DecorStyle → List ShownLabel → List (List Cell) → ShownLabel → Type 0
+HasStem decor labels rows l =
+    (r : ℕ) → 0 < r → r < l.row → count_by (is_in_label r l.cell) labels ≡ 0 → IsStemCell decor (cell_at rows r l.cell)
+
+-- no label of line k is lost: of the spans that end on it, each that has a label to show has it in the rows below the line, whole, and
+-- a stem leads to it; no cell belongs to two labels, so that two of the same words stand twice; and each cell of these rows that belongs
+-- to none, from the code's on, is a space or the glyph of a stroke, so that no other word stands there
 pub record ShowsLabels (decor : DecorStyle) (frame : Frame) (s : Snippet Annotation) (k dropped : ℕ) (rows : List (List Cell)) : Type 0 where
   pub labels : List ShownLabel
   pub spans : map (λ (l : ShownLabel). l.label) labels ≡ labels_ending_on s k
   pub stand : All (λ l. 0 < length l.label.text → ShowsLabel frame dropped rows l) labels
+  pub led : All (λ l. 0 < length l.label.text → HasStem decor labels rows l) labels
   pub apart : (r c : ℕ) → count_by (is_in_label r c) labels ≤ 1
   pub others : (r c : ℕ) → frame.code ≤ c → count_by (is_in_label r c) labels ≡ 0 → IsStrokeCell decor (cell_at rows r c)
 
