@@ -13,7 +13,7 @@ use Rattle.snippet_grid.specs.Print.{row_text}
 use Rattle.snippet_model.specs.Rows.{HasNoNumber}
 use Rattle.snippet_marks.specs.SourceRows.{IsSourceRow}
 use Rattle.snippet_strokes.specs.Rows.{bare_elision_row}
-use Rattle.snippet_marks.specs.declared.layout.Layout.{Layout}
+use Rattle.snippet_grid.specs.Layout.{Layout}
 use Rattle.snippet_strokes.proofs.BegunLemmas.{same_front}
 use Rattle.snippet_strokes.proofs.RowLemmas.{bare_row_left}
 use Rattle.annotate_snippets.specs.declared.renderer.frame.Frame.{Frame}

@@ -42,7 +42,7 @@ use Rattle.snippet_marks.specs.Positions.{has_label, has_stem, takes_space}
 use Rattle.snippet_marks.specs.SourceRows.{bare_row}
 use Rattle.snippet_strokes.specs.Strokes.{StrokesPainted, bar_cell as bar_column, bar_of, begun_rows, connector_of, connectors_of, corner_by, corner_of, corners_of, label_of, label_write, labels_of, stem_write, stems_of, strokes_of, column_of}
 use Rattle.snippet_marks.specs.Writes.{Write, glyph_at, painted, stretch_of}
-use Rattle.snippet_marks.specs.declared.layout.Layout.{Layout}
+use Rattle.snippet_grid.specs.Layout.{Layout}
 use Rattle.snippet_strokes.proofs.BarWrites.{All-connector_of, All-stretch_of}
 use Rattle.snippet_strokes.proofs.LabelWrites.{All-label_of}
 use Rattle.snippet_marks.proofs.PlacedLemmas.{entries_all}

@@ -37,7 +37,7 @@ use Rattle.snippet_view.specs.Marked.{first_line, last_line}
 use Rattle.snippet_view.specs.Measures.{StandsClear, bounds_of_lines, is_wide_entry, margin_of}
 use Rattle.snippet_marks.specs.Entries.{HasPlace}
 use Rattle.snippet_strokes.specs.EntryMarks.{HasBarCell, HasBarCellAt}
-use Rattle.snippet_marks.specs.declared.layout.Layout.{Layout}
+use Rattle.snippet_grid.specs.Layout.{Layout}
 use Rattle.annotate_snippets.specs.Gutter.{code_after}
 use Rattle.snippet_lines.specs.Span.{IsSpan}
 use Rattle.snippet_view.specs.Window.{stands_whole}

@@ -16,7 +16,7 @@ use Rattle.snippet_view.specs.Annotated.{kept_line, seen_kept}
 use Rattle.snippet_view.specs.Kept.{shown_lines}
 use Rattle.snippet_view.specs.Margin.{bounds_of}
 use Rattle.snippet_view.specs.Measures.{margin_of}
-use Rattle.snippet_marks.specs.declared.layout.Layout.{Layout}
+use Rattle.snippet_grid.specs.Layout.{Layout}
 use Rattle.snippet_strokes.specs.Snippet.{AreLinesShown}
 use Rattle.snippet_suggest.specs.declared.SuggestionLayout.{SuggestionLayout}
 use Rattle.snippet_suggest.specs.Given.{first_given, given_lines, given_text}

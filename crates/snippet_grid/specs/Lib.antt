@@ -1,6 +1,8 @@
 pub mod Changes
 pub mod Codes
 pub mod Grid
+pub mod Layout
+pub mod LayoutOf
 pub mod Print
 pub mod Runs
 pub mod Stretch

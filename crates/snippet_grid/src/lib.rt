@@ -4,6 +4,7 @@
 mod change;
 pub mod codes;
 pub mod grid;
+pub mod layout;
 mod put;
 mod replace;
 mod runs;
@@ -13,3 +14,4 @@ mod words;
 
 pub use codes::SheetCodes;
 pub use grid::StyledBuffer;
+pub use layout::Layout;

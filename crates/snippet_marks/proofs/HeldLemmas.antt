@@ -10,7 +10,7 @@ use Rattle.std.proofs.lemmas.List.Folds.{flat_map-map}
 use Rattle.snippet_lines.specs.Order.{ordered_by}
 use Rattle.snippet_lines.proofs.OrderLemmas.{map-ordered_by}
 use Rattle.snippet_view.specs.declared.entries.LineAnnotation.{LineAnnotation}
-use Rattle.snippet_marks.specs.declared.layout.Layout.{Layout}
+use Rattle.snippet_grid.specs.Layout.{Layout}
 use Rattle.snippet_marks.specs.declared.positions.PlacedEntry.{PlacedEntry}
 use Rattle.snippet_marks.specs.Entries.{label_chars, label_text, plain_entry}
 use Rattle.snippet_marks.specs.Painting.{is_painted_before, mark_of, marks_of, painting_order}

@@ -7,7 +7,7 @@ use Rattle.std.proofs.lemmas.Bool.Decides.{nat_tests}
 use Rattle.std.proofs.lemmas.List.Elements.{All-cons, All-nil, All-weaker}
 use Rattle.snippet_style.proofs.CellLemmas.{length-chars_le}
 use Rattle.snippet_view.specs.declared.entries.LineAnnotation.{LineAnnotation}
-use Rattle.snippet_marks.specs.declared.layout.Layout.{Layout}
+use Rattle.snippet_grid.specs.Layout.{Layout}
 use Rattle.snippet_marks.specs.declared.positions.PlacedEntry.{PlacedEntry}
 use Rattle.snippet_marks.specs.Entries.{HasPlace, label_text}
 use Rattle.snippet_marks.specs.Positions.{HasItsLabel, has_label, do_overlap, ends_no_later, blocks, crowds, crosses, position_at, position_after, positions, label_place, ArePlaced, has_stem, is_same_place, is_start, is_start_part, takes_space, flipped}

@@ -8,7 +8,7 @@ use Rattle.snippet_model.specs.AnnotationKind.{is_primary}
 use Rattle.snippet_style.specs.Cell.{Cell, text_cells, unlinked_cell}
 use Rattle.snippet_style.specs.Glyphs.{glyph_of}
 use Rattle.snippet_style.specs.declared.role.ElementStyle.{ElementStyle}
-use Rattle.snippet_marks.specs.declared.layout.Layout.{Layout}
+use Rattle.snippet_grid.specs.Layout.{Layout}
 use Rattle.snippet_marks.specs.declared.positions.PlacedEntry.{PlacedEntry}
 use Rattle.snippet_marks.specs.Painting.{Painted, Paints, first_glyph, mark_cell, mark_end, mark_of, marks_of, stroke_role}
 use Rattle.snippet_marks.specs.Writes.{Write, glyph_at, painted, stretch_of}

@@ -12,7 +12,7 @@ use Rattle.snippet_style.specs.Glyphs.{glyph_of, underline_role}
 use Rattle.snippet_grid.specs.Grid.{cell_at, row_at, WritesCells}
 use Rattle.snippet_style.specs.Cell.{Cell, SPACE, unlinked_cell}
 use Rattle.snippet_text.specs.Normalized.{is_listed}
-use Rattle.snippet_marks.specs.declared.layout.Layout.{Layout}
+use Rattle.snippet_grid.specs.Layout.{Layout}
 use Rattle.snippet_model.specs.AnnotationKind.{is_primary}
 use Rattle.snippet_model.specs.Rows.{IsFreeCell}
 use Rattle.snippet_marks.specs.Painting.{IsPaintedAt, Paints, Painted, ShowsFrom, first_glyph, mark_cell, mark_end}

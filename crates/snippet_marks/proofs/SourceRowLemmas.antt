@@ -13,7 +13,7 @@ use Rattle.snippet_style.proofs.CellLemmas.{length-text_cells, length-written, d
 use Rattle.snippet_text.specs.Normalized.{is_listed}
 use Rattle.snippet_model.specs.Rows.{IsFreeCell, IsFree}
 use Rattle.snippet_model.proofs.RowLemmas.{free_drawn}
-use Rattle.snippet_marks.specs.declared.layout.Layout.{Layout}
+use Rattle.snippet_grid.specs.Layout.{Layout}
 use Rattle.snippet_marks.specs.SourceRows.{IsSourceRow, AddsSourceRow, source_row, with_cells}
 use Rattle.snippet_style.specs.Separators.{separator_row}
 use Rattle.snippet_grid.proofs.RowLemmas.{separator_row-begun as begun, texted, text_put}

@@ -9,7 +9,7 @@ use Rattle.snippet_style.specs.declared.role.ElementStyle.TheVariants.{LineNumbe
 use Rattle.snippet_style.specs.Glyphs.{separator_of, placeholder_of}
 use Rattle.snippet_style.specs.Separators.{closing_row, separator_row}
 use Rattle.snippet_style.specs.Cell.{Cell, SPACE, text_cells, written, unlinked_cell}
-use Rattle.snippet_marks.specs.declared.layout.Layout.{Layout}
+use Rattle.snippet_grid.specs.Layout.{Layout}
 use Rattle.snippet_model.specs.Rows.{IsFree}
 
 -- a row of strokes before any stroke is drawn: the closing row where the window closes with it, else the separator row

@@ -1,7 +1,6 @@
 //! Where the marks and labels of a line stand, and how its source row and its marks are painted.
 #![tactic(auto)]
 
-pub mod layout;
 mod lines;
 mod marks;
 pub mod positions;
@@ -9,7 +8,6 @@ mod roles;
 mod row;
 mod source_row;
 
-pub use layout::Layout;
 pub use lines::{draw_stretch, repeated};
 pub use marks::draw_marks;
 pub use positions::{
@@ -17,4 +15,5 @@ pub use positions::{
 };
 pub use roles::{is_primary, label_role};
 pub use row::{begin_closing_row, begin_rows};
+pub use snippet_grid::Layout;
 pub use source_row::draw_source_row;

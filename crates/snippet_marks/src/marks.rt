@@ -7,11 +7,10 @@ ghost use Rattle.snippet_marks.specs.Positions.{ArePlaced};
 ghost use Rattle.snippet_marks.specs.Painting.{StandsWhole, AreMarked, IsPaintingOrder, first_glyph, mark_end, painting_order, mark_of, marks_of};
 ghost use Rattle.snippet_marks.specs.Writes.{painted};
 
-use crate::layout::Layout;
 use crate::lines::draw_stretch;
 use crate::positions::PlacedEntry;
 use crate::roles::is_primary;
-use snippet_grid::StyledBuffer;
+use snippet_grid::{Layout, StyledBuffer};
 use snippet_style::DecorStyle;
 use snippet_view::{LineAnnotation, LineAnnotationType};
 use std::alloc::{AllocError, Global};
@@ -34,7 +33,6 @@ pub fn draw_marks(
     placed: &mut Vec<PlacedEntry>,
 ) -> Result<(), AllocError>
     requires row { row + 1 < 2 ^ 64 }
-    requires narrow { layout.code < 2 ^ 63 + 2 ^ 32 }
     requires columns { All (λ e. e.entry.end.display < 2 ^ 60) placed.old.items }
     ensures painted { OnOk result (buffer.new ≡ painted (marks_of layout row placed.new.items) buffer.old) }
     ensures ordered { OnOk result (IsPaintingOrder (map (λ e. e.entry) placed.new.items)) }
@@ -79,7 +77,6 @@ fn paint_entries(
     placed: &[PlacedEntry],
 ) -> Result<(), AllocError>
     requires row { row + 1 < 2 ^ 64 }
-    requires narrow { layout.code < 2 ^ 63 + 2 ^ 32 }
     requires columns { All (λ e. e.entry.end.display < 2 ^ 60) placed.now }
     ensures painted { OnOk result (buffer.new ≡ painted (marks_of layout row placed.now) buffer.old) }
 {
@@ -102,7 +99,6 @@ fn paint_entry(
     placed: &PlacedEntry,
 ) -> Result<(), AllocError>
     requires row { row + 1 < 2 ^ 64 }
-    requires narrow { layout.code < 2 ^ 63 + 2 ^ 32 }
     requires columns { placed.now.entry.end.display < 2 ^ 60 }
     ensures painted { OnOk result (buffer.new ≡ painted (mark_of layout row placed.now) buffer.old) }
 {

@@ -3,8 +3,7 @@ ghost use Rattle.std.specs.Prelude.{◌+◌, ◌≡◌, ◌-◌, ◌^◌, ◌<�
 ghost use Rattle.snippet_marks.specs.SourceRows.{bare_row};
 ghost use Rattle.snippet_style.specs.Separators.{closing_row, separator_row};
 
-use crate::layout::Layout;
-use snippet_grid::StyledBuffer;
+use snippet_grid::{Layout, StyledBuffer};
 use snippet_style::ElementStyle;
 use std::alloc::AllocError;
 
@@ -18,7 +17,6 @@ use std::alloc::AllocError;
 ///
 /// There is no memory for the row.
 pub(crate) fn begin_row(buffer: &mut StyledBuffer, layout: Layout) -> Result<usize, AllocError>
-    requires narrow { layout.gutter < 2 ^ 63 + 2 ^ 32 }
     ensures added { OnOk result (buffer.new ≡ buffer.old ++ separator_row layout.decor layout.gutter ∷ []) }
     ensures row { IfOk result (λ row. row ≡ length buffer.old) }
     ensures small { length buffer.old < 2 ^ 60 }
@@ -43,7 +41,6 @@ pub(crate) fn begin_row(buffer: &mut StyledBuffer, layout: Layout) -> Result<usi
 ///
 /// There is no memory for the row.
 pub fn begin_closing_row(buffer: &mut StyledBuffer, layout: Layout) -> Result<(), AllocError>
-    requires narrow { layout.gutter < 2 ^ 63 + 2 ^ 32 }
     ensures added { OnOk result (buffer.new ≡ buffer.old ++ closing_row layout.decor layout.gutter ∷ []) }
     ensures small { length buffer.old < 2 ^ 60 }
 {
@@ -74,7 +71,6 @@ pub fn begin_rows(
     count: usize,
 ) -> Result<usize, AllocError>
     requires some { 0 < count }
-    requires narrow { layout.gutter < 2 ^ 63 + 2 ^ 32 }
     ensures added { OnOk result (buffer.new ≡ buffer.old ++ replicate (count - 1) (separator_row layout.decor layout.gutter)
         ++ bare_row layout.decor layout.gutter closes ∷ []) }
     ensures row { IfOk result (λ row. row ≡ length buffer.old) }
@@ -90,7 +86,6 @@ pub fn begin_rows(
 
 /// Begins the last row of a line's strokes below all that stands in the grid.
 fn begin_last_row(buffer: &mut StyledBuffer, layout: Layout, closes: bool) -> Result<(), AllocError>
-    requires narrow { layout.gutter < 2 ^ 63 + 2 ^ 32 }
     ensures added { OnOk result (buffer.new ≡ buffer.old ++ bare_row layout.decor layout.gutter closes ∷ []) }
     ensures small { length buffer.old < 2 ^ 60 }
 {

@@ -10,9 +10,8 @@ ghost use Rattle.snippet_marks.specs.SourceRows.{AddsSourceRow, begun_cells, end
 ghost use Rattle.snippet_text.specs.Normalized.{is_listed, norm};
 ghost use Rattle.snippet_text.specs.Width.{width_of};
 
-use crate::layout::Layout;
 use crate::row::begin_row;
-use snippet_grid::StyledBuffer;
+use snippet_grid::{Layout, StyledBuffer};
 use snippet_lines::{LineNumbers, number_text};
 use snippet_style::ElementStyle;
 use snippet_text::normalized;
@@ -39,7 +38,6 @@ pub fn draw_source_row(
     line: &ShownLine,
 ) -> Result<(usize, usize), AllocError>
     requires place { layout.gutter + 3 ≤ layout.code }
-    requires narrow { layout.code < 2 ^ 63 + 2 ^ 32 }
     requires number { length (shown_number numbers layout.gutter line.now.info.line_index) ≤ layout.gutter + 1 }
     requires text { length line.now.info.line.now < 2 ^ 56 }
     ensures added { OnOk result (AddsSourceRow layout (shown_number numbers layout.gutter line.now.info.line_index)
@@ -70,7 +68,6 @@ fn write_source_row(
     window: LineWindow,
 ) -> Result<usize, AllocError>
     requires place { layout.gutter + 3 ≤ layout.code }
-    requires narrow { layout.code < 2 ^ 63 + 2 ^ 32 }
     requires number { length (chars number.now) ≤ layout.gutter + 1 }
     requires number_free { list_any is_listed (chars number.now) ≡ false }
     requires placeholder { chars placeholder.now ≡ placeholder_of layout.decor }
@@ -100,7 +97,6 @@ fn write_beginning(
     start: Option<usize>,
     text: &str,
 ) -> Result<(), AllocError>
-    requires narrow { layout.code < 2 ^ 63 + 2 ^ 32 }
     requires row { row + 1 < 2 ^ 64 }
     requires placeholder { chars placeholder.now ≡ placeholder_of layout.decor }
     requires start { IfSome start (λ columns. columns < 2 ^ 59) }
@@ -126,7 +122,6 @@ fn write_end(
     placeholder: &str,
     end: Option<usize>,
 ) -> Result<(), AllocError>
-    requires narrow { layout.code < 2 ^ 63 + 2 ^ 32 }
     requires row { row + 1 < 2 ^ 64 }
     requires placeholder { chars placeholder.now ≡ placeholder_of layout.decor }
     requires end { IfSome end (λ at. at < 2 ^ 61) }

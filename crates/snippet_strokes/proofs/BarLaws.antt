@@ -10,7 +10,7 @@ use Rattle.snippet_view.specs.declared.entries.LineAnnotation.{LineAnnotation}
 use Rattle.snippet_strokes.specs.declared.bars.BarStroke.{BarStroke}
 use Rattle.snippet_strokes.specs.declared.bars.BarStroke.TheVariants.{Solid}
 use Rattle.snippet_strokes.specs.declared.bars.OpenBar.{OpenBar}
-use Rattle.snippet_marks.specs.declared.layout.Layout.{Layout}
+use Rattle.snippet_grid.specs.Layout.{Layout}
 use Rattle.snippet_strokes.specs.Bars.{HasOwnDepth, bar_part, bars_apart, ends_of_bars, with_bar, with_bars}
 use Rattle.snippet_strokes.specs.LineRows.{AreLineRows}
 

@@ -8,7 +8,7 @@ use Rattle.snippet_grid.proofs.GridLemmas.{row_at-cells_written_other, row_at-ce
 use Rattle.snippet_style.specs.Cell.{Cell, SPACE, unlinked_cell, written}
 use Rattle.snippet_style.specs.Glyphs.{underline_role}
 use Rattle.snippet_style.proofs.CellLemmas.{length-written, slice_index_or-written_after, slice_index_or-written_before, slice_index_or-written_inside}
-use Rattle.snippet_marks.specs.declared.layout.Layout.{Layout}
+use Rattle.snippet_grid.specs.Layout.{Layout}
 use Rattle.snippet_strokes.specs.declared.bars.BarStroke.{BarStroke}
 use Rattle.snippet_strokes.specs.declared.bars.OpenBar.{OpenBar}
 use Rattle.snippet_strokes.specs.Bars.{ChangesRows, StandsBeside, bar_glyph, bar_part, barred, with_bar, with_bars}

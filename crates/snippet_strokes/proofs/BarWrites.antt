@@ -14,7 +14,7 @@ use Rattle.snippet_text.specs.Normalized.{is_listed}
 use Rattle.snippet_view.specs.Measures.{is_single_part}
 use Rattle.snippet_view.specs.declared.entries.LineAnnotationType.{LineAnnotationType}
 use Rattle.snippet_view.specs.declared.entries.LineAnnotationType.TheVariants.{Singleline, MultilineStart, MultilineEnd, MultilineLine}
-use Rattle.snippet_marks.specs.declared.layout.Layout.{Layout}
+use Rattle.snippet_grid.specs.Layout.{Layout}
 use Rattle.snippet_marks.specs.declared.positions.PlacedEntry.{PlacedEntry}
 use Rattle.snippet_strokes.specs.EntryMarks.{HasBarCell, HasBarCellAt, IsBarCell, is_single}
 use Rattle.snippet_strokes.specs.Drawing.{DrawsBarCells, HasRows, KeepsBarCells}

@@ -16,7 +16,7 @@ use Rattle.snippet_style.specs.Cell.{Cell, text_cells}
 use Rattle.snippet_grid.specs.Print.{row_text}
 use Rattle.snippet_grid.proofs.ChangeLemmas.{changed_within_one}
 use Rattle.snippet_grid.proofs.ReplaceLemmas.{replaced_there, replaced_empty, replaced_past}
-use Rattle.snippet_marks.specs.declared.layout.Layout.{Layout}
+use Rattle.snippet_grid.specs.Layout.{Layout}
 use Rattle.snippet_marks.specs.declared.positions.PlacedEntry.{PlacedEntry}
 use Rattle.snippet_model.specs.Rows.{IsFreeCell}
 use Rattle.snippet_strokes.specs.Cuts.{Stretch, cut_of, cut_row, cut_rows, cuts_of, is_wide_at, middle_of}

@@ -12,7 +12,7 @@ use Rattle.std.proofs.lemmas.Bool.Decides.{nat_tests}
 use Rattle.std.proofs.lemmas.List.{length-drop, get_or-drop, ext_get_or}
 use Rattle.std.proofs.lemmas.List.Elements.{All-head, All-tail, All-cons, All-nil}
 use Rattle.snippet_text.specs.Normalized.{is_listed}
-use Rattle.snippet_marks.specs.declared.layout.Layout.{Layout}
+use Rattle.snippet_grid.specs.Layout.{Layout}
 use Rattle.snippet_strokes.specs.EntryMarks.{IsBarCell}
 use Rattle.snippet_model.specs.Rows.{IsFreeCell}
 use Rattle.snippet_strokes.specs.Drawing.{DrawsFrom, KeepsBarCells, DrawsBarCells}

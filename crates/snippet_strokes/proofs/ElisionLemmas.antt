@@ -10,7 +10,7 @@ use Rattle.snippet_style.specs.Glyphs.{elision_of}
 use Rattle.snippet_grid.specs.Grid.{row_at}
 use Rattle.snippet_style.specs.Cell.{Cell, SPACE, text_cells}
 use Rattle.snippet_text.specs.Normalized.{is_listed}
-use Rattle.snippet_marks.specs.declared.layout.Layout.{Layout}
+use Rattle.snippet_grid.specs.Layout.{Layout}
 use Rattle.snippet_strokes.specs.declared.bars.OpenBar.{OpenBar}
 use Rattle.snippet_strokes.specs.declared.bars.BarStroke.TheVariants.{Dotted}
 use Rattle.snippet_strokes.specs.Bars.{BarsDrawn, DrawsBars, barred}

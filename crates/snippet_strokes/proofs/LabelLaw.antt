@@ -3,7 +3,7 @@ use Rattle.std.proofs.Common.{◌≡◌, ℕ, ◌+◌, ◌<◌, ◌≤◌, ◌==
 use Rattle.std.specs.List.{flat_map}
 use Rattle.std.specs.Cow.{cow_str_bytes}
 use Rattle.snippet_view.specs.declared.entries.LineAnnotation.{LineAnnotation}
-use Rattle.snippet_marks.specs.declared.layout.Layout.{Layout}
+use Rattle.snippet_grid.specs.Layout.{Layout}
 use Rattle.snippet_marks.specs.declared.positions.PlacedEntry.{PlacedEntry}
 use Rattle.snippet_marks.specs.Entries.{HasPlace, label_text, label_role}
 use Rattle.snippet_marks.specs.Positions.{HasItsLabel, has_label, do_overlap, ends_no_later, blocks, reaches, crowds, label_place, ArePlaced}

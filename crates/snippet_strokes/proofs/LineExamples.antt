@@ -10,7 +10,7 @@ use Rattle.snippet_style.specs.declared.role.ElementStyle.TheVariants.{LabelPrim
 use Rattle.snippet_view.specs.declared.entries.LineAnnotation.{LineAnnotation}
 use Rattle.snippet_view.specs.declared.entries.LineAnnotationType.{LineAnnotationType}
 use Rattle.snippet_view.specs.declared.entries.LineAnnotationType.TheVariants.{Singleline, MultilineStart}
-use Rattle.snippet_marks.specs.declared.layout.Layout.{Layout}
+use Rattle.snippet_grid.specs.Layout.{Layout}
 use Rattle.snippet_marks.specs.SourceRows.{source_row}
 use Rattle.snippet_strokes.specs.LineRows.{line_rows}
 use Rattle.snippet_strokes.specs.Rows.{highlighted_row}

@@ -9,7 +9,7 @@ use Rattle.snippet_style.specs.Cell.{Cell, SPACE}
 use Rattle.snippet_style.proofs.CellLemmas.{slice_index_or-written_inside}
 use Rattle.snippet_view.specs.declared.entries.LineAnnotation.{LineAnnotation}
 use Rattle.snippet_strokes.specs.declared.bars.BarStroke.TheVariants.{Solid}
-use Rattle.snippet_marks.specs.declared.layout.Layout.{Layout}
+use Rattle.snippet_grid.specs.Layout.{Layout}
 use Rattle.snippet_marks.specs.declared.positions.PlacedEntry.{PlacedEntry}
 use Rattle.snippet_strokes.specs.Bars.{Bar, bar_part, bars_apart, ends_of_bars, is_whole_line, with_bars}
 use Rattle.snippet_marks.specs.Entries.{shifted}

@@ -12,7 +12,7 @@ use Rattle.snippet_style.specs.Glyphs.{IsMarkGlyph, underline_role}
 use Rattle.snippet_grid.specs.Grid.{cell_at}
 use Rattle.snippet_style.specs.Cell.{Cell}
 use Rattle.snippet_style.specs.declared.glyphs.DecorStyle.{DecorStyle}
-use Rattle.snippet_marks.specs.declared.layout.Layout.{Layout}
+use Rattle.snippet_grid.specs.Layout.{Layout}
 use Rattle.snippet_marks.specs.declared.positions.PlacedEntry.{PlacedEntry}
 use Rattle.snippet_strokes.specs.EntryMarks.{EntryCovers, IsEntryMark, IsMarkCell}
 use Rattle.snippet_marks.specs.Entries.{entry_width}

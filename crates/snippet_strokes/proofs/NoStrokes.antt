@@ -8,7 +8,7 @@ use Rattle.snippet_style.specs.Glyphs.{placeholder_of}
 use Rattle.snippet_grid.specs.Print.{row_text}
 use Rattle.snippet_grid.specs.Grid.{cell_at, row_at}
 use Rattle.snippet_style.specs.Cell.{Cell, SPACE}
-use Rattle.snippet_marks.specs.declared.layout.Layout.{Layout}
+use Rattle.snippet_grid.specs.Layout.{Layout}
 use Rattle.snippet_strokes.specs.EntryMarks.{IsBarCell, are_plain, has_mark_role, wide_entries}
 use Rattle.snippet_strokes.specs.Rows.{HasNoBars, IsStrokeRow, AddsStrokes}
 use Rattle.snippet_style.specs.Separators.{closing_row}

@@ -8,7 +8,7 @@ use Rattle.std.proofs.lemmas.List.Elements.{All-append, All-cons, All-nil, All-f
 use Rattle.snippet_view.specs.declared.entries.LineAnnotation.{LineAnnotation}
 use Rattle.snippet_view.specs.declared.entries.LineAnnotationType.{LineAnnotationType}
 use Rattle.snippet_view.specs.declared.entries.LineAnnotationType.TheVariants.{Singleline, MultilineStart, MultilineEnd, MultilineLine}
-use Rattle.snippet_marks.specs.declared.layout.Layout.{Layout}
+use Rattle.snippet_grid.specs.Layout.{Layout}
 use Rattle.snippet_strokes.specs.declared.bars.OpenBar.{OpenBar}
 use Rattle.snippet_strokes.specs.EntryMarks.{HasBarCell, HasBarCellAt}
 use Rattle.snippet_model.specs.AnnotationKind.{is_primary}

@@ -13,7 +13,7 @@ use Rattle.snippet_style.specs.declared.glyphs.DecorStyle.{DecorStyle}
 use Rattle.snippet_style.specs.declared.glyphs.DecorStyle.TheVariants.{Ascii, Unicode}
 use Rattle.snippet_style.specs.Glyphs.{glyph_of, underline_role}
 use Rattle.snippet_style.specs.Cell.{unlinked_cell}
-use Rattle.snippet_marks.specs.declared.layout.Layout.{Layout}
+use Rattle.snippet_grid.specs.Layout.{Layout}
 use Rattle.snippet_strokes.specs.EntryMarks.{EntryCovers, is_single, IsMarkCell}
 use Rattle.snippet_marks.specs.Entries.{is_end_part}
 use Rattle.snippet_model.specs.AnnotationKind.{is_primary}

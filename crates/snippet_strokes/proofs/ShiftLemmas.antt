@@ -1,7 +1,7 @@
 -- Entries of a line of which columns are dropped.
 use Rattle.std.proofs.Common.{◌≡◌, ℕ, ◌-◌, List, [], ◌∷◌, All, map, refl, ap, ◌∙◌, arith}
 use Rattle.std.proofs.lemmas.List.Elements.{All-map}
-use Rattle.snippet_marks.specs.declared.layout.Layout.{Layout}
+use Rattle.snippet_grid.specs.Layout.{Layout}
 use Rattle.snippet_view.specs.declared.entries.LineAnnotation.{LineAnnotation}
 use Rattle.snippet_marks.specs.Entries.{HasPlace, shifted}
 use Rattle.snippet_strokes.specs.EntryMarks.{HasBarCell}

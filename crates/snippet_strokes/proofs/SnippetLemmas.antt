@@ -18,7 +18,7 @@ use Rattle.snippet_style.specs.Cell.{Cell, SPACE, gives_way, unlinked_cell}
 use Rattle.snippet_grid.specs.Print.{row_text}
 use Rattle.snippet_text.specs.Normalized.{norm}
 use Rattle.snippet_model.specs.Rows.{IsFreeCell, HasNoNumber, IsFree}
-use Rattle.snippet_marks.specs.declared.layout.Layout.{Layout}
+use Rattle.snippet_grid.specs.Layout.{Layout}
 use Rattle.snippet_view.specs.declared.margin.Margin.{Margin}
 use Rattle.snippet_view.specs.Margin.{bounds_of}
 use Rattle.snippet_view.specs.Window.{dropped_part}

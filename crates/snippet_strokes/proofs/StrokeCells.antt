@@ -10,7 +10,7 @@ use Rattle.snippet_style.specs.declared.glyphs.DecorStyle.{DecorStyle}
 use Rattle.snippet_style.specs.declared.glyphs.DecorStyle.TheVariants.{Ascii, Unicode}
 use Rattle.snippet_view.specs.declared.entries.LineAnnotationType.{LineAnnotationType}
 use Rattle.snippet_view.specs.declared.entries.LineAnnotationType.TheVariants.{Singleline, MultilineStart, MultilineEnd, MultilineLine}
-use Rattle.snippet_marks.specs.declared.layout.Layout.{Layout}
+use Rattle.snippet_grid.specs.Layout.{Layout}
 use Rattle.snippet_marks.specs.declared.positions.PlacedEntry.{PlacedEntry}
 use Rattle.snippet_strokes.specs.EntryMarks.{HasBarCell, HasBarCellAt}
 use Rattle.snippet_strokes.specs.Labels.{IsStrokeCell, stroke_glyphs}

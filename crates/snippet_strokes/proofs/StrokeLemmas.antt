@@ -16,7 +16,7 @@ use Rattle.snippet_grid.specs.Grid.{cell_at, row_at, cells_written}
 use Rattle.snippet_style.specs.Cell.{Cell, SPACE, text_cells, written}
 use Rattle.snippet_grid.proofs.GridLemmas.{row_at-cells_written_same}
 use Rattle.snippet_style.proofs.CellLemmas.{length-written}
-use Rattle.snippet_marks.specs.declared.layout.Layout.{Layout}
+use Rattle.snippet_grid.specs.Layout.{Layout}
 use Rattle.snippet_marks.specs.declared.positions.PlacedEntry.{PlacedEntry}
 use Rattle.snippet_strokes.specs.EntryMarks.{EntryCovers, IsBarCell, are_plain, is_single, has_mark_role, wide_entries}
 use Rattle.snippet_marks.specs.Entries.{HasPlace, label_text, label_role}

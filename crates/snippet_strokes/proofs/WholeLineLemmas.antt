@@ -12,7 +12,7 @@ use Rattle.snippet_view.specs.Window.{AreReplaced}
 use Rattle.snippet_style.specs.declared.glyphs.DecorStyle.{DecorStyle}
 use Rattle.snippet_style.specs.Glyphs.{placeholder_of}
 use Rattle.snippet_style.specs.Cell.{Cell}
-use Rattle.snippet_marks.specs.declared.layout.Layout.{Layout}
+use Rattle.snippet_grid.specs.Layout.{Layout}
 use Rattle.snippet_strokes.specs.EntryMarks.{are_plain, is_single, wide_entries}
 use Rattle.snippet_marks.specs.Entries.{label_text, shifted}
 use Rattle.snippet_strokes.specs.Labels.{IsLabelledAtEnd}

@@ -7,7 +7,7 @@ use Rattle.snippet_style.specs.declared.glyphs.DecorStyle.TheVariants.{Ascii, Un
 use Rattle.snippet_grid.specs.Grid.{cell_at}
 use Rattle.snippet_view.specs.Measures.{is_bar}
 use Rattle.snippet_view.specs.declared.entries.LineAnnotation.{LineAnnotation}
-use Rattle.snippet_marks.specs.declared.layout.Layout.{Layout}
+use Rattle.snippet_grid.specs.Layout.{Layout}
 use Rattle.snippet_strokes.specs.EntryMarks.{has_mark_role}
 use Rattle.snippet_marks.specs.Entries.{label_role, label_text}
 use Rattle.snippet_marks.specs.Positions.{is_start_part}

@@ -5,7 +5,7 @@ use Rattle.snippet_style.specs.Separators.{closing_row}
 use Rattle.snippet_view.specs.declared.entries.LineAnnotation.{LineAnnotation}
 use Rattle.snippet_strokes.specs.declared.bars.OpenBar.{OpenBar}
 use Rattle.snippet_strokes.specs.declared.bars.BarStroke.TheVariants.{Top, Solid}
-use Rattle.snippet_marks.specs.declared.layout.Layout.{Layout}
+use Rattle.snippet_grid.specs.Layout.{Layout}
 use Rattle.snippet_strokes.specs.Bars.{bars_apart, ends_of_bars, is_whole_line, with_bars}
 use Rattle.snippet_marks.specs.Entries.{shifted}
 use Rattle.snippet_strokes.specs.Strokes.{StrokesPainted, stroke_rows}

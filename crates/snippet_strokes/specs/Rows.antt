@@ -12,7 +12,7 @@ use Rattle.snippet_style.specs.Glyphs.{placeholder_of, elision_of, underline_rol
 use Rattle.snippet_grid.specs.Print.{row_text}
 use Rattle.snippet_grid.specs.Grid.{row_at, cell_at, restyled}
 use Rattle.snippet_style.specs.Cell.{Cell, SPACE, text_cells, gives_way}
-use Rattle.snippet_marks.specs.declared.layout.Layout.{Layout}
+use Rattle.snippet_grid.specs.Layout.{Layout}
 use Rattle.snippet_strokes.specs.EntryMarks.{EntryCovers, IsEntryMark, IsMarkCell, IsBarCell, are_plain, has_mark_role, wide_entries}
 use Rattle.snippet_marks.specs.Entries.{label_text, label_role}
 use Rattle.snippet_model.specs.AnnotationKind.{is_primary}

@@ -5,7 +5,7 @@ use Rattle.snippet_view.specs.declared.margin.Margin.{Margin}
 use Rattle.snippet_view.specs.Margin.{bounds_of}
 use Rattle.snippet_view.specs.Measures.{is_bar}
 use Rattle.snippet_view.specs.Window.{dropped_part, window}
-use Rattle.snippet_marks.specs.declared.layout.Layout.{Layout}
+use Rattle.snippet_grid.specs.Layout.{Layout}
 use Rattle.snippet_style.specs.Glyphs.{placeholder_of}
 use Rattle.snippet_style.specs.Cell.{Cell, text_cells}
 use Rattle.snippet_style.specs.declared.role.ElementStyle.TheVariants.{Quotation}

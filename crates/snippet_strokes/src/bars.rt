@@ -122,7 +122,6 @@ pub(crate) fn draw_bars(
     bars: &[OpenBar],
     stroke: BarStroke,
 ) -> Result<(), AllocError>
-    requires narrow { layout.code < 2 ^ 63 + 2 ^ 32 }
     requires room { All (HasRoom layout) bars.now }
     ensures draws { OnOk result (DrawsBars layout row buffer.old buffer.new) }
     ensures value { OnOk result (buffer.new ≡ barred layout stroke bars.now row buffer.old) }
@@ -138,16 +137,16 @@ pub(crate) fn draw_bars(
 
 /// Whether a bar stands beside another, right of it, and is drawn in its role.
 fn is_next(bar: OpenBar, next: OpenBar) -> bool
-    requires depth { bar.depth + 1 < 2 ^ 64 }
+    requires right { 0 < next.depth }
     ensures yes { result ≡ true → StandsBeside bar 1 next }
 {
-    next.depth == bar.depth + 1 && next.primary == bar.primary
+    next.depth - 1 == bar.depth && next.primary == bar.primary
 }
 
 /// Where the bars end that stand side by side, from this one on, in one role.
 fn side_end(bars: &[OpenBar], from: usize) -> usize
     requires some { from < length bars.now }
-    requires depths { All (λ bar. bar.depth + 1 < 2 ^ 64) bars.now }
+    requires right { All (λ bar. 0 < bar.depth) bars.now }
     ensures more { from < result }
     ensures within { result ≤ length bars.now }
     ensures beside { (k : ℕ) (d : OpenBar) → from ≤ k → k < result
@@ -170,7 +169,6 @@ fn draw_side(
     count: usize,
     stroke: BarStroke,
 ) -> Result<(), AllocError>
-    requires narrow { layout.code < 2 ^ 63 + 2 ^ 32 }
     requires left { 0 < first.depth }
     requires room { layout.gutter + 2 + first.depth + count < layout.code }
     requires some { 0 < count }

@@ -30,7 +30,6 @@ pub(crate) fn draw_connectors(
     row: usize,
     placed: &[PlacedEntry],
 ) -> Result<(), AllocError>
-    requires narrow { layout.code < 2 ^ 63 + 2 ^ 32 }
     requires columns { All (λ e. HasPlace e.entry) placed.now }
     requires bar_cells { All (λ e. HasBarCell layout e.entry) placed.now }
     requires small { length buffer.old ≤ 2 ^ 60 }
@@ -54,7 +53,6 @@ fn draw_connector(
     row: usize,
     placed: &PlacedEntry,
 ) -> Result<(), AllocError>
-    requires narrow { layout.code < 2 ^ 63 + 2 ^ 32 }
     requires columns { HasPlace placed.now.entry }
     requires bar_cell { HasBarCell layout placed.now.entry }
     requires small { length buffer.old ≤ 2 ^ 60 }
@@ -78,7 +76,6 @@ fn draw_line_to(
     depth: usize,
     placed: &PlacedEntry,
 ) -> Result<(), AllocError>
-    requires narrow { layout.code < 2 ^ 63 + 2 ^ 32 }
     requires columns { HasPlace placed.now.entry }
     requires depth { layout.gutter + 3 + depth < layout.code }
     requires small { length buffer.old ≤ 2 ^ 60 }

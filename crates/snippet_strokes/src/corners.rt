@@ -29,7 +29,6 @@ pub(crate) fn draw_corners(
     row: usize,
     placed: &[PlacedEntry],
 ) -> Result<(), AllocError>
-    requires narrow { layout.code < 2 ^ 63 + 2 ^ 32 }
     requires bar_cells { All (λ e. HasBarCell layout e.entry) placed.now }
     requires small { length buffer.old ≤ 2 ^ 60 }
     requires rows { All (HasRows (row + 1) (length buffer.old)) placed.now }
@@ -50,7 +49,6 @@ fn draw_corner(
     row: usize,
     placed: &PlacedEntry,
 ) -> Result<(), AllocError>
-    requires narrow { layout.code < 2 ^ 63 + 2 ^ 32 }
     requires bar_cell { HasBarCell layout placed.now.entry }
     requires small { length buffer.old ≤ 2 ^ 60 }
     requires rows { HasRows (row + 1) (length buffer.old) placed.now }
@@ -71,7 +69,6 @@ fn draw_top(
     depth: usize,
     placed: &PlacedEntry,
 ) -> Result<(), AllocError>
-    requires narrow { layout.code < 2 ^ 63 + 2 ^ 32 }
     requires some { 0 < depth }
     requires depth { layout.gutter + 3 + depth < layout.code }
     requires small { length buffer.old ≤ 2 ^ 60 }
@@ -95,7 +92,6 @@ fn draw_bottom(
     depth: usize,
     placed: &PlacedEntry,
 ) -> Result<(), AllocError>
-    requires narrow { layout.code < 2 ^ 63 + 2 ^ 32 }
     requires some { 0 < depth }
     requires depth { layout.gutter + 3 + depth < layout.code }
     requires small { length buffer.old ≤ 2 ^ 60 }
@@ -118,7 +114,6 @@ fn draw_bar(
     depth: usize,
     placed: &PlacedEntry,
 ) -> Result<(), AllocError>
-    requires narrow { layout.code < 2 ^ 63 + 2 ^ 32 }
     requires some { 0 < depth }
     requires depth { layout.gutter + 3 + depth < layout.code }
     requires small { length buffer.old ≤ 2 ^ 60 }

@@ -188,7 +188,6 @@ pub(crate) fn cut_wide(
     placed: &[PlacedEntry],
     overlapped: &[bool],
 ) -> Result<(), AllocError>
-    requires narrow { layout.code < 2 ^ 63 + 2 ^ 32 }
     requires columns { All (λ e. HasPlace e.entry) placed.now }
     requires count { length overlapped.now ≡ length placed.now }
     requires rows { row + 1 < length buffer.old }
@@ -217,7 +216,6 @@ fn cut_entry(
     placed: &PlacedEntry,
     overlapped: bool,
 ) -> Result<(), AllocError>
-    requires narrow { layout.code < 2 ^ 63 + 2 ^ 32 }
     requires columns { HasPlace placed.now.entry }
     requires small { row + 1 < 2 ^ 64 }
     ensures cut { OnOk result ((above : List (List Cell)) (source marks : List Cell) (below : List (List Cell))

@@ -26,7 +26,6 @@ pub(crate) fn draw_gap(
     open_bars: &[OpenBar],
 ) -> Result<(), AllocError>
     requires place { layout.gutter + 3 ≤ layout.code }
-    requires narrow { layout.code < 2 ^ 63 + 2 ^ 32 }
     requires room { All (HasRoom layout) open_bars.now }
     ensures added { OnOk result (AddsGap layout open_bars.now number (infos_of rest.now) buffer.old buffer.new) }
 {
@@ -49,7 +48,6 @@ fn draw_elision(
     open_bars: &[OpenBar],
 ) -> Result<(), AllocError>
     requires place { layout.gutter + 3 ≤ layout.code }
-    requires narrow { layout.code < 2 ^ 63 + 2 ^ 32 }
     requires room { All (HasRoom layout) open_bars.now }
     ensures added { OnOk result (AddsElision layout open_bars.now buffer.old buffer.new) }
 {
@@ -60,7 +58,6 @@ fn draw_elision(
 
 /// Begins that row, with its sign alone: from the first cell on, or in Unicode in the place of the separator.
 fn begin_elision_row(buffer: &mut StyledBuffer, layout: Layout) -> Result<(), AllocError>
-    requires narrow { layout.gutter < 2 ^ 63 + 2 ^ 32 }
     ensures added { OnOk result (buffer.new ≡ buffer.old ++ bare_elision_row layout.decor layout.gutter ∷ []) }
 {
     let row = buffer.num_lines();

@@ -22,7 +22,6 @@ pub(crate) fn highlight_source(
     row: usize,
     entries: &[LineAnnotation],
 ) -> Result<(), AllocError>
-    requires narrow { layout.code < 2 ^ 63 + 2 ^ 32 }
     requires short { length (row_at buffer.old row) < 2 ^ 63 + 2 ^ 62 }
     requires near { dropped < 2 ^ 61 }
     ensures highlighted { OnOk result (IsHighlighted layout.code dropped
@@ -57,7 +56,6 @@ fn highlight_entry(
     row: usize,
     entry: &LineAnnotation,
 ) -> Result<(), AllocError>
-    requires narrow { layout.code < 2 ^ 63 + 2 ^ 32 }
     requires short { length (row_at buffer.old row) < 2 ^ 63 + 2 ^ 62 }
     requires near { dropped < 2 ^ 61 }
     ensures restyled { OnOk result (Restyled layout.code dropped entry.now row buffer.old buffer.new) }

@@ -56,7 +56,6 @@ pub fn draw_snippet(
     lines: &[ShownLine],
 ) -> Result<(), AllocError>
     requires place { layout.gutter + 3 ≤ layout.code }
-    requires narrow { layout.code < 2 ^ 63 + 2 ^ 32 }
     requires numbers { All (λ line. length (shown_number numbers layout.gutter line.info.line_index) ≤ layout.gutter + 1)
         lines.now }
     requires texts { All (λ line. length line.info.line.now < 2 ^ 56) lines.now }
@@ -104,7 +103,6 @@ fn draw_line(
     open_bars: &[OpenBar],
 ) -> Result<Vec<OpenBar>, AllocError>
     requires place { layout.gutter + 3 ≤ layout.code }
-    requires narrow { layout.code < 2 ^ 63 + 2 ^ 32 }
     requires number { length (shown_number numbers layout.gutter line.now.info.line_index) ≤ layout.gutter + 1 }
     requires text { length line.now.info.line.now < 2 ^ 56 }
     requires columns { All HasPlace line.now.info.annotations.items }
@@ -150,7 +148,6 @@ fn draw_entries(
     ends: &[OpenBar],
 ) -> Result<(), AllocError>
     requires place { layout.gutter + 3 ≤ layout.code }
-    requires narrow { layout.code < 2 ^ 63 + 2 ^ 32 }
     requires last { length buffer.old ≡ row + 1 }
     requires columns { All HasPlace info.now.annotations.items }
     requires clear { All (λ e. is_bar e.annotation_type ≡ false → dropped ≤ e.start.display) info.now.annotations.items }

@@ -30,7 +30,6 @@ pub(crate) fn draw_stems(
     row: usize,
     placed: &[PlacedEntry],
 ) -> Result<(), AllocError>
-    requires narrow { layout.code < 2 ^ 63 + 2 ^ 32 }
     requires columns { All (λ e. HasPlace e.entry) placed.now }
     requires small { length buffer.old ≤ 2 ^ 60 }
     requires rows { All (HasRows row (length buffer.old)) placed.now }
@@ -72,7 +71,6 @@ fn draw_stem(
     row: usize,
     placed: &PlacedEntry,
 ) -> Result<(), AllocError>
-    requires narrow { layout.code < 2 ^ 63 + 2 ^ 32 }
     requires columns { HasPlace placed.now.entry }
     requires small { length buffer.old ≤ 2 ^ 60 }
     requires rows { HasRows row (length buffer.old) placed.now }

@@ -51,7 +51,6 @@ pub(crate) fn draw_strokes(
     entries: &[LineAnnotation],
 ) -> Result<(), AllocError>
     requires place { layout.gutter + 3 ≤ layout.code }
-    requires narrow { layout.code < 2 ^ 63 + 2 ^ 32 }
     requires last { length buffer.old ≡ row + 1 }
     requires columns { All HasPlace entries.now }
     requires clear { All (λ e. is_bar e.annotation_type ≡ false → dropped ≤ e.start.display) entries.now }
@@ -82,7 +81,6 @@ pub(crate) fn draw_strokes(
 
 /// Adds a closing row where the window closes with a line that has no entries.
 fn close_below(buffer: &mut StyledBuffer, layout: Layout, closes: bool) -> Result<(), AllocError>
-    requires narrow { layout.gutter < 2 ^ 63 + 2 ^ 32 }
     ensures added { OnOk result (buffer.new ≡ buffer.old
         ++ (if closes then closing_row layout.decor layout.gutter ∷ [] else [])) }
 {

@@ -1,6 +1,7 @@
 use Rattle.std.proofs.Common.{◌≡◌, ◌∙◌, ◌<◌, ap, sym, arith}
 use Rattle.std.proofs.lemmas.Result.{on_ok_weaker}
 use Rattle.snippet_style.specs.Glyphs.{glyph_of, underline_role}
+use Rattle.snippet_grid.specs.LayoutOf.{layout_of}
 use Rattle.snippet_marks.specs.Painting.{mark_end}
 use Rattle.snippet_marks.specs.Writes.{painted}
 use Rattle.snippet_marks.proofs.WriteLemmas.{mark_of-none, mark_painted}
@@ -17,15 +18,15 @@ returns-then-end-start c =
 pub returns : goal.returns
 returns c =
     let placed = c.args.placed.now in
-    let layout = c.args.layout in
+    let layout = layout_of c.layout.inside in
     let strokes = c.underline-strokes in
     let is_end : c.mark_end-end.result ≡ mark_end placed = c.mark_end-end.ensures.value in
     let some : placed.entry.start.display < mark_end placed = omega (arith, c.if-end-start.false, is_end) in
     let is_line = strokes.ensures.underline ∙ ap (λ b. glyph_of layout.decor b 94 45 0x2501 0x2500) c.is_primary.ensures.value in
     let is_role = strokes.ensures.style ∙ ap underline_role c.is_primary.ensures.value in
-    record {
+    rw (← c.layout.view_is) (record {
       painted = on_ok_weaker c.draw_stretch.result
           (λ drawn_now. mark_painted layout c.args.row placed c.first_glyph-first.result strokes.result.underline strokes.result.style
           c.mark_end-end.result c.args.buffer.now c.putc.new.self c.draw_stretch.new.buffer some is_end c.first_glyph-first.ensures.value is_line
           is_role c.in_ok-putc.ensures.ok drawn_now) c.draw_stretch.ensures.painted;
-    }
+    })

@@ -3,4 +3,4 @@ use Rattle.snippet_marks.proofs.row.begin_row.Goals as goal
 
 pub returns-clause-added : goal.returns-clause-added
 returns-clause-added c =
-    begun c.args.buffer.now c.putc.new.self c.num_lines-row.result c.args.layout.gutter c.separator.result c.args.layout.decor c.num_lines-row.ensures.count c.separator.ensures.value c.in_ok-putc.ensures.ok
+    rw (← c.layout.view_is) (begun c.args.buffer.now c.putc.new.self c.num_lines-row.result c.layout.inside.gutter c.separator.result c.layout.inside.decor c.num_lines-row.ensures.count c.separator.ensures.value c.in_ok-putc.ensures.ok)

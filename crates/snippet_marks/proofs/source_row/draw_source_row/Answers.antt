@@ -1,4 +1,7 @@
-use Rattle.std.proofs.Common.{refl, ap, ◌∙◌, arith, length, chars}
+use Rattle.std.proofs.Common.{refl, ap, sym, subst, ◌∙◌, ◌+◌, ◌≤◌, ◌<◌, ◌^◌, arith, length, chars}
+use Rattle.snippet_grid.specs.Layout.{Layout}
+use Rattle.snippet_grid.specs.LayoutOf.{layout_of}
+use Rattle.snippet_marks.specs.SourceRows.{AddsSourceRow, shown_cells}
 use Rattle.std.specs.List.{list_any}
 use Rattle.std.proofs.lemmas.List.Folds.{list_any_none}
 use Rattle.snippet_view.specs.Margin.{bounds_of}
@@ -29,14 +32,15 @@ window_of-window-requires-clause-short c =
 
 pub write_source_row-requires-clause-number : goal.write_source_row-requires-clause-number
 write_source_row-requires-clause-number c =
-    omega (arith, ap length (ap chars (c.as_str-2.ensures.value ∙ c.in_ok-number.ensures.text) ∙ chars-shown_number c.args.numbers c.args.layout.gutter c.args.line.now.info.line_index (omega arith)))
+    let short = subst (λ (l : Layout). length (shown_number c.args.numbers l.gutter c.args.line.now.info.line_index) ≤ l.gutter + 1) (sym c.layout.view_is) c.requires.number in
+    rw (← c.layout.view_is) (omega (arith, short, ap length (ap chars (c.as_str-2.ensures.value ∙ c.in_ok-number.ensures.text) ∙ chars-shown_number c.args.numbers c.layout.inside.gutter c.args.line.now.info.line_index (omega arith))))
 
 pub write_source_row-requires-clause-number_free : goal.write_source_row-requires-clause-number_free
 write_source_row-requires-clause-number_free c =
     ap (list_any is_listed) (ap chars (c.as_str-2.ensures.value ∙ c.in_ok-number.ensures.text)
-    ∙ chars-shown_number c.args.numbers c.args.layout.gutter c.args.line.now.info.line_index (omega arith))
-    ∙ list_any_none is_listed (shown_number c.args.numbers c.args.layout.gutter c.args.line.now.info.line_index)
-    (shown_number_unlisted c.args.numbers c.args.layout.gutter c.args.line.now.info.line_index (omega arith))
+    ∙ chars-shown_number c.args.numbers c.layout.inside.gutter c.args.line.now.info.line_index (omega arith))
+    ∙ list_any_none is_listed (shown_number c.args.numbers c.layout.inside.gutter c.args.line.now.info.line_index)
+    (shown_number_unlisted c.args.numbers c.layout.inside.gutter c.args.line.now.info.line_index (omega arith))
 
 pub write_source_row-requires-clause-text : goal.write_source_row-requires-clause-text
 write_source_row-requires-clause-text c =
@@ -59,29 +63,33 @@ write_source_row-requires-clause-text_free c =
 pub returns-clause-added : goal.returns-clause-added
 returns-clause-added c =
     let args = c.args in
+    let layout = layout_of c.layout.inside in
     let line = chars args.line.now.info.line.now in
-    let number = ap chars (c.as_str-2.ensures.value ∙ c.in_ok-number.ensures.text) ∙ chars-shown_number args.numbers args.layout.gutter args.line.now.info.line_index (omega arith) in
+    let number = ap chars (c.as_str-2.ensures.value ∙ c.in_ok-number.ensures.text) ∙ chars-shown_number args.numbers layout.gutter args.line.now.info.line_index (omega arith) in
     let text = ap chars c.as_str.ensures.value ∙ c.in_ok-text.ensures.value in
     let part = part_of_norm args.margin c.args.line.now.width c.near_part-near.result.skipped line (chars c.near_part-near.result.text.now) (chars c.as_str.result.now) c.args.line.now.measured text c.near_part-near.ensures.holds in
     let window = c.window_of-window in
-    let cells = cells_are args.layout.decor args.margin window.result.start window.result.end (chars window.result.text.now)
+    let cells = cells_are layout.decor args.margin window.result.start window.result.end (chars window.result.text.now)
     (chars c.placeholder-placeholder.result.now) (norm line) (norm line)
     c.placeholder-placeholder.ensures.value refl (window.ensures.start (norm line) part) (window.ensures.text (norm line) part)
     (window.ensures.end (norm line) part) in
-    AddsSourceRow-same args.layout _ _ _ _ args.buffer.now c.write_source_row.new.buffer number cells c.in_ok-row.ensures.added
+    let added = subst (λ (l : Layout). AddsSourceRow l (chars c.as_str-2.result.now) (shown_cells l.decor window.result.start (chars window.result.text.now) window.result.end) args.buffer.now c.write_source_row.new.buffer) (sym c.layout.view_is) c.in_ok-row.ensures.added in
+    rw (← c.layout.view_is) (AddsSourceRow-same layout _ _ _ _ args.buffer.now c.write_source_row.new.buffer number cells added)
 
 pub returns-clause-short : goal.returns-clause-short
 returns-clause-short c =
     let args = c.args in
+    let decor = c.layout.inside.decor in
     let line = chars args.line.now.info.line.now in
     let text = ap chars c.as_str.ensures.value ∙ c.in_ok-text.ensures.value in
     let part = part_of_norm args.margin c.args.line.now.width c.near_part-near.result.skipped line (chars c.near_part-near.result.text.now) (chars c.as_str.result.now) c.args.line.now.measured text c.near_part-near.ensures.holds in
     let window = c.window_of-window in
-    let cells = cells_are args.layout.decor args.margin window.result.start window.result.end (chars window.result.text.now)
+    let cells = cells_are decor args.margin window.result.start window.result.end (chars window.result.text.now)
     (chars c.placeholder-placeholder.result.now) (norm line) (norm line)
     c.placeholder-placeholder.ensures.value refl (window.ensures.start (norm line) part) (window.ensures.text (norm line) part)
     (window.ensures.end (norm line) part) in
-    omega (arith, ap length cells, c.in_ok-row.ensures.short)
+    let short = subst (λ (l : Layout). length (shown_cells l.decor window.result.start (chars window.result.text.now) window.result.end) < 2 ^ 61 + 4) (sym c.layout.view_is) c.in_ok-row.ensures.short in
+    rw (← c.layout.view_is) (omega (arith, ap length cells, short))
 
 pub returns-clause-dropped : goal.returns-clause-dropped
 returns-clause-dropped c =

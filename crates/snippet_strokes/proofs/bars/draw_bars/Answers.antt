@@ -13,9 +13,9 @@ loop-from-init c = (
   ChangesRows-start (with_bars c.args.layout c.args.stroke []) c.args.row (length c.args.buffer.now) c.args.buffer.now (λ cells. refl),
 )
 
-pub side_end-to-requires-clause-depths : goal.side_end-to-requires-clause-depths
-side_end-to-requires-clause-depths c =
-    λ k d within. omega (arith, (c.requires.room k d within).1, c.requires.narrow)
+pub side_end-to-requires-clause-right : goal.side_end-to-requires-clause-right
+side_end-to-requires-clause-right c =
+    λ k d within. (c.requires.room k d within).0
 
 pub draw_side-requires-clause-left : goal.draw_side-requires-clause-left
 draw_side-requires-clause-left c =

@@ -1,16 +1,21 @@
-use Rattle.std.proofs.Common.{◌∙◌, ap}
+use Rattle.std.proofs.Common.{◌≡◌, ◌∙◌, ◌+◌, ap, sym, subst}
 use Rattle.std.proofs.lemmas.Result.{on_ok_weaker}
+use Rattle.snippet_grid.specs.Layout.{Layout}
+use Rattle.snippet_grid.specs.LayoutOf.{layout_of}
 use Rattle.snippet_style.specs.Glyphs.{glyph_of, underline_role}
+use Rattle.snippet_marks.specs.Writes.{painted}
+use Rattle.snippet_strokes.specs.Strokes.{bar_of}
 use Rattle.snippet_strokes.proofs.BarWrites.{bottom_painted}
 use Rattle.snippet_strokes.proofs.corners.draw_bottom.Goals as goal
 
 pub returns : goal.returns
 returns c =
     let strokes = c.underline-strokes in
-    record {
+    let drawn = subst (λ (l : Layout). c.draw_bar.new.buffer ≡ painted (bar_of l c.args.placed.now c.args.depth c.args.row (c.args.row + 1 + c.args.placed.now.position)) c.args.buffer.now) (sym c.layout.view_is) c.in_ok-draw_bar.ensures.painted in
+    rw (← c.layout.view_is) (record {
       painted = on_ok_weaker c.putc.result
-          (λ ends. bottom_painted c.args.layout c.args.row c.args.placed.now c.args.depth strokes.result.bottom_left strokes.result.style
+          (λ ends. bottom_painted (layout_of c.layout.inside) c.args.row c.args.placed.now c.args.depth strokes.result.bottom_left strokes.result.style
           c.args.buffer.now c.draw_bar.new.buffer c.putc.new.self
-          (strokes.ensures.bottom_left ∙ ap (λ b. glyph_of c.args.layout.decor b 124 124 0x2517 0x2514) c.is_primary.ensures.value)
-          (strokes.ensures.style ∙ ap underline_role c.is_primary.ensures.value) c.in_ok-draw_bar.ensures.painted ends) c.putc.ensures.ok;
-    }
+          (strokes.ensures.bottom_left ∙ ap (λ b. glyph_of c.layout.inside.decor b 124 124 0x2517 0x2514) c.is_primary.ensures.value)
+          (strokes.ensures.style ∙ ap underline_role c.is_primary.ensures.value) drawn ends) c.putc.ensures.ok;
+    })

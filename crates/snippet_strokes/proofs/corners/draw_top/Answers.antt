@@ -1,6 +1,11 @@
-use Rattle.std.proofs.Common.{◌≡◌, ◌∙◌, ap, arith, length}
+use Rattle.std.proofs.Common.{◌≡◌, ◌∙◌, ◌+◌, ap, sym, subst, arith, length}
+use Rattle.std.specs.Result.{OnOk}
 use Rattle.std.proofs.lemmas.Result.{on_ok_weaker}
+use Rattle.snippet_grid.specs.Layout.{Layout}
+use Rattle.snippet_grid.specs.LayoutOf.{layout_of}
 use Rattle.snippet_style.specs.Glyphs.{glyph_of, underline_role}
+use Rattle.snippet_marks.specs.Writes.{painted}
+use Rattle.snippet_strokes.specs.Strokes.{bar_of}
 use Rattle.snippet_strokes.proofs.BarWrites.{top_painted}
 use Rattle.snippet_strokes.proofs.corners.draw_top.Goals as goal
 
@@ -10,10 +15,11 @@ returns c =
     let old = c.args.buffer.now in
     let mid = c.putc.new.self in
     let same : c.num_lines-end.result ≡ length old = omega (arith, c.num_lines-end.ensures.count, c.in_ok-putc.ensures.reads.count, c.requires.rows.mark) in
-    record {
+    let drawn = subst (λ (l : Layout). OnOk c.draw_bar.result (c.draw_bar.new.buffer ≡ painted (bar_of l c.args.placed.now c.args.depth (c.args.row + 1 + c.args.placed.now.position + 1) c.num_lines-end.result) mid)) (sym c.layout.view_is) c.draw_bar.ensures.painted in
+    rw (← c.layout.view_is) (record {
       painted = on_ok_weaker c.draw_bar.result
-          (λ continues. top_painted c.args.layout c.args.row (length old)
+          (λ continues. top_painted (layout_of c.layout.inside) c.args.row (length old)
           c.args.placed.now c.args.depth c.num_lines-end.result strokes.result.top_left strokes.result.style old mid c.draw_bar.new.buffer
-          (strokes.ensures.top_left ∙ ap (λ b. glyph_of c.args.layout.decor b 32 32 0x250F 0x250C) c.is_primary.ensures.value)
-          (strokes.ensures.style ∙ ap underline_role c.is_primary.ensures.value) same c.in_ok-putc.ensures.ok continues) c.draw_bar.ensures.painted;
-    }
+          (strokes.ensures.top_left ∙ ap (λ b. glyph_of c.layout.inside.decor b 32 32 0x250F 0x250C) c.is_primary.ensures.value)
+          (strokes.ensures.style ∙ ap underline_role c.is_primary.ensures.value) same c.in_ok-putc.ensures.ok continues) drawn;
+    })

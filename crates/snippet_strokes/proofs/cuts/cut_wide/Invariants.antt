@@ -3,7 +3,7 @@ use Rattle.snippet_style.specs.Cell.{Cell}
 use Rattle.snippet_strokes.specs.Cuts.{cut_rows, cuts_of}
 use Rattle.snippet_strokes.specs.EntryMarks.{wide_entries}
 use Rattle.snippet_strokes.specs.Rows.{CutsRows}
-use Rattle.snippet_marks.specs.declared.layout.Layout.{Layout}
+use Rattle.snippet_grid.specs.Layout.{Layout}
 use Rattle.snippet_marks.specs.declared.positions.PlacedEntry.{PlacedEntry}
 use Rattle.snippet_strokes.proofs.cuts.cut_wide.Given as goal
 

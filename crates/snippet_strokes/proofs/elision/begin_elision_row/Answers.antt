@@ -11,17 +11,17 @@ use Rattle.snippet_strokes.proofs.elision.begin_elision_row.Goals.{in-Ascii, in-
 
 pub returns : goal.returns
 returns c =
-    let decor = c.args.layout.decor in
-    let gutter = c.args.layout.gutter in
+    let decor = c.layout.inside.decor in
+    let gutter = c.layout.inside.gutter in
     let old = c.args.buffer.now in
     let at : c.match-layout.cell ≡ elision_cell decor gutter = elim c.match-layout.branch [
       | in-Ascii w ↦ w.cell-is ∙ sym (ap (λ (d : DecorStyle). elision_cell d gutter) w.in-Ascii.is)
       | in-Unicode w ↦ w.cell-is ∙ sym (ap (λ (d : DecorStyle). elision_cell d gutter) w.in-Unicode.is)
     ] in
-    record {
+    rw (← c.layout.view_is) (record {
       added = on_ok_weaker c.puts.result
           (λ writes. begun_by_text old c.puts.new.self c.num_lines-row.result c.match-layout.cell c.elision.result.now (elision_of decor)
           c.num_lines-row.ensures.count c.elision.ensures.value (elision_some decor) writes
           ∙ ap (λ n. old ++ (replicate n SPACE ++ text_cells LineNumber (elision_of decor)) ∷ []) at
           ∙ ap (λ row. old ++ row ∷ []) (bare_elision_is decor gutter)) c.puts.ensures.ok;
-    }
+    })

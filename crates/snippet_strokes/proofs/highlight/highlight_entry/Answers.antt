@@ -14,7 +14,7 @@ returns c =
     let old = c.args.buffer.now in
     let new = c.set_style_range.new.self in
     let row = c.args.row in
-    let code = c.args.layout.code in
+    let code = c.layout.inside.code in
     let primary = is_primary e.kind in
     let from = max code (code + e.start.char - c.args.dropped) in
     let to = code + e.end.char - c.args.dropped in
@@ -26,7 +26,7 @@ returns c =
     let last : c.saturating_sub-2.result ≤ to = omega (arith, c.saturating_sub-2.ensures, c.saturating_add-2.ensures) in
     let last_there : (k : ℕ) → k < length (row_at old row) → k < to → k < c.saturating_sub-2.result = λ k there left. omega (arith, c.saturating_sub-2.ensures, c.saturating_add-2.ensures, there, left, c.requires.short, c.requires.near) in
     let past : (k : ℕ) → length (row_at old row) ≤ k → cell_at new row k ≡ cell_at old row k = λ k out. get_or_past (row_at new row) k SPACE (omega (arith, out, reads.width)) ∙ sym (get_or_past (row_at old row) k SPACE out) in
-    record {
+    rw (← c.layout.view_is) (record {
       restyled = record {
         asked = λ k there holds. elim (cases_lt k from) [
           | inl less ↦ absurd (false≢true (sym (and_left (nat_le from k) (nat_lt k to) (lt-leb from k less)) ∙ holds))
@@ -51,4 +51,4 @@ returns c =
         width = reads.width;
         count = reads.count;
       };
-    }
+    })

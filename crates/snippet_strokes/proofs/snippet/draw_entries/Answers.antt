@@ -15,10 +15,10 @@ use Rattle.snippet_strokes.proofs.WholeLineLemmas.{whole_added}
 use Rattle.snippet_text.specs.Normalized.{norm}
 use Rattle.snippet_strokes.proofs.snippet.draw_entries.Goals as goal
 
-pub draw_bars-requires-clause-room : goal.draw_bars-requires-clause-room
-draw_bars-requires-clause-room c =
+pub draw_bars-requires : goal.draw_bars-requires
+draw_bars-requires c =
     let es = c.args.info.now.annotations.items in
-    All-same (HasRoom c.args.layout) c.args.ends.now (ends_of_bars es) c.requires.ends (room_ends c.args.layout es c.requires.bar_cells)
+    record { room = All-same (HasRoom c.args.layout) c.args.ends.now (ends_of_bars es) c.requires.ends (room_ends c.args.layout es c.requires.bar_cells) }
 
 pub returns-then-is_whole_line : goal.returns-then-is_whole_line
 returns-then-is_whole_line c =

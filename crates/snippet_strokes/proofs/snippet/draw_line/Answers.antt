@@ -10,9 +10,9 @@ use Rattle.snippet_strokes.proofs.OpenLemmas.{room_apart}
 use Rattle.snippet_strokes.proofs.SnippetLemmas.{clear_entries, line_added}
 use Rattle.snippet_strokes.proofs.snippet.draw_line.Goals as goal
 
-pub draw_bars-requires-clause-room : goal.draw_bars-requires-clause-room
-draw_bars-requires-clause-room c =
-    All-same (HasRoom c.args.layout) c.deref-5.result.now _ (c.deref-5.ensures.value ∙ c.in_ok-below.ensures.value) (room_apart c.args.layout c.args.open_bars.now _ c.requires.room)
+pub draw_bars-requires : goal.draw_bars-requires
+draw_bars-requires c =
+    record { room = All-same (HasRoom c.args.layout) c.deref-5.result.now _ (c.deref-5.ensures.value ∙ c.in_ok-below.ensures.value) (room_apart c.args.layout c.args.open_bars.now _ c.requires.room) }
 
 pub returns-clause-added : goal.returns-clause-added
 returns-clause-added c =

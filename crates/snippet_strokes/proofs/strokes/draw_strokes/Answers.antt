@@ -1,5 +1,6 @@
 use Rattle.std.proofs.Common.{◌≡◌, ◌∙◌, ◌+◌, ◌-◌, ◌<◌, ◌≤◌, ◌^◌, List, ◌++◌, ◌∷◌, [], Bool, true, false, ℕ, refl, All, map, replicate, ap, sym, subst, arith, length}
 use Rattle.std.proofs.lemmas.Result.{on_ok_weaker}
+use Rattle.snippet_grid.specs.Layout.{Layout}
 use Rattle.snippet_grid.proofs.OutcomeLemmas.{on_ok_two}
 use Rattle.std.proofs.lemmas.List.{length_push, length-map}
 use Rattle.std.proofs.lemmas.List.Sorted.{All-permutation, IsPermutation-map, IsPermutation-trans, length_permutation}
@@ -276,7 +277,7 @@ returns c =
           let marked = c.in_ok-draw_marks.ensures in
           let flags = c.in_ok-overlapped.overlapped.items in
           let is_wide : PlacedEntry → Bool = is_wide_at c.args.room layout.decor in
-          let flags_are : list_any is_wide placed ≡ true → flags ≡ overlapped placed = λ some_wide. c.in_ok-overlapped.ensures.value (ap (list_any is_wide) c.deref.ensures.value ∙ some_wide) ∙ ap overlapped c.deref.ensures.value in
+          let flags_are : list_any is_wide placed ≡ true → flags ≡ overlapped placed = λ some_wide. c.in_ok-overlapped.ensures.value (ap (λ (l : Layout). list_any (is_wide_at c.args.room l.decor) c.deref.result.now) c.layout.view_is ∙ ap (list_any is_wide) c.deref.ensures.value ∙ some_wide) ∙ ap overlapped c.deref.ensures.value in
           let cut_to : List PlacedEntry → List Bool → List (List Cell) = λ ps fs. cut_rows layout.decor c.args.row (cuts_of layout c.args.room ps fs) new in
           let final_is = value ∙ ap (λ ps. cut_to ps c.deref-8.result.now) c.deref-7.ensures.value ∙ ap (cut_to after) c.deref-8.ensures.value in
           painted_added layout c.args.room c.args.closes es placed after flags above plain c.args.buffer.now new c.cut_wide.new.buffer c.args.row wide_count

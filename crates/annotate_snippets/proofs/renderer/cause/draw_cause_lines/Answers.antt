@@ -15,7 +15,7 @@ use Rattle.snippet_view.specs.Margin.{bounds_of}
 use Rattle.snippet_view.specs.Measures.{margin_of}
 use Rattle.snippet_view.specs.declared.entries.LineAnnotation.{LineAnnotation}
 use Rattle.snippet_view.specs.Measures.{StandsClear}
-use Rattle.snippet_marks.specs.declared.layout.Layout.{Layout}
+use Rattle.snippet_grid.specs.Layout.{Layout}
 use Rattle.snippet_marks.specs.Entries.{HasPlace}
 use Rattle.snippet_strokes.specs.EntryMarks.{HasBarCell}
 use Rattle.snippet_strokes.specs.Snippet.{AreLinesShown}
