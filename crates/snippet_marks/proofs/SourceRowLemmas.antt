@@ -89,7 +89,8 @@ source_bare layout shown place short free =
     }
 
 -- the row of a line of which some cells are shown
-source_full : (layout : Layout) (shown : List ℕ) (cells : List Cell) → layout.gutter + 3 ≤ layout.code → length shown ≤ layout.gutter + 1 → All (λ c. is_listed c ≡ false) shown → IsFree cells → source_row layout shown cells ≡ written SPACE (front layout shown) layout.code cells → IsSourceRow layout shown cells (written SPACE (front layout shown) layout.code cells)
+source_full : (layout : Layout) (shown : List ℕ) (cells : List Cell) → layout.gutter + 3 ≤ layout.code → length shown ≤ layout.gutter + 1 → All (λ c. is_listed c ≡ false) shown → IsFree cells
+    → source_row layout shown cells ≡ written SPACE (front layout shown) layout.code cells → IsSourceRow layout shown cells (written SPACE (front layout shown) layout.code cells)
 source_full layout shown cells place short free_shown free_cells is =
     let start = front layout shown in
     let row = written SPACE start layout.code cells in

@@ -35,3 +35,5 @@ pub mod LineRowLaws
 pub mod HeldStrokes
 pub mod LineValueLaws
 pub mod LineExamples
+pub mod StemCells
+pub mod StemLaws

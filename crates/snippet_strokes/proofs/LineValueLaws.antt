@@ -91,7 +91,8 @@ own_rows_are layout room closes text dropped (e ∷ es) source rows are =
     ]
 
 -- rows of a line are what its entries, and the bars that are open above it, make of its source row
-pub line_rows_are : (layout : Layout) (room : ℕ) (closes : Bool) (text : List ℕ) (dropped : ℕ) (open_bars : List OpenBar) (es : List LineAnnotation) (source : List Cell) (rows : List (List Cell)) → AreLineRows layout room closes text dropped open_bars es source rows → rows ≡ line_rows layout room closes text dropped open_bars es source
+pub line_rows_are : (layout : Layout) (room : ℕ) (closes : Bool) (text : List ℕ) (dropped : ℕ) (open_bars : List OpenBar) (es : List LineAnnotation) (source : List Cell) (rows : List (List Cell))
+    → AreLineRows layout room closes text dropped open_bars es source rows → rows ≡ line_rows layout room closes text dropped open_bars es source
 line_rows_are layout room closes text dropped open_bars es source rows are =
     are.rows_are ∙ ap (map (with_bars layout Solid (bars_apart open_bars (ends_of_bars es)))) (own_rows_are layout room closes text dropped es source are.own are.are)
 
@@ -126,7 +127,8 @@ own_rows-plain layout room closes text dropped (e ∷ es) source =
     ∙ ap (λ rows. cond (is_whole_line text all) (whole (ends_of_bars all)) rows) (ap strokes (shifted-plain dropped all) ∙ stroke_rows-plain layout room closes source (map (shifted dropped) all))
 
 -- rows of a line are the same wherever the labels of its entries are lent from
-pub line_rows-plain : (layout : Layout) (room : ℕ) (closes : Bool) (text : List ℕ) (dropped : ℕ) (open_bars : List OpenBar) (es : List LineAnnotation) (source : List Cell) → line_rows layout room closes text dropped open_bars (map plain_entry es) source ≡ line_rows layout room closes text dropped open_bars es source
+pub line_rows-plain : (layout : Layout) (room : ℕ) (closes : Bool) (text : List ℕ) (dropped : ℕ) (open_bars : List OpenBar) (es : List LineAnnotation) (source : List Cell)
+    → line_rows layout room closes text dropped open_bars (map plain_entry es) source ≡ line_rows layout room closes text dropped open_bars es source
 line_rows-plain layout room closes text dropped open_bars es source =
     ap (λ bars. map (with_bars layout Solid (bars_apart open_bars bars)) (own_rows layout room closes text dropped (map plain_entry es) source)) (ends_of_bars-plain es)
     ∙ ap (map (with_bars layout Solid (bars_apart open_bars (ends_of_bars es)))) (own_rows-plain layout room closes text dropped es source)

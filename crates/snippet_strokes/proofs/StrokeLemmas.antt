@@ -31,6 +31,7 @@ use Rattle.snippet_strokes.proofs.DrawLemmas.{DrawsFrom-more, bar_space}
 use Rattle.snippet_strokes.specs.Labels.{IsStrokeCell}
 use Rattle.snippet_strokes.proofs.LabelPlaces.{HasStrokesBeside, LabelsStand-placed}
 use Rattle.snippet_strokes.proofs.StrokeCells.{BesideLabels}
+use Rattle.snippet_strokes.proofs.StemCells.{IsHung}
 use Rattle.snippet_strokes.proofs.MarkLemmas.{mark_shown}
 use Rattle.snippet_strokes.proofs.PlainMarks.{IsPlainEntry, covered_painted, mark_end_plain, spaceless}
 use Rattle.snippet_marks.proofs.PlacedLemmas.{entries_all}
@@ -58,7 +59,8 @@ module _ (layout : Layout) (room : ℕ) (closes : Bool) (es : List LineAnnotatio
     (lone_label : (e : PlacedEntry) → placed ≡ e ∷ [] → e.position ≡ 0 → 0 < e.entry.end.display → has_label e ≡ true → labelled ≡ cells_written stemmed (length above_rows + 1) (layout.code + e.entry.end.display + 1) (text_cells (label_role e.entry.kind) (label_text e.entry)))
     (marked : AreMarked layout placed (length above_rows + 1) labelled new)
     (stands : All (StandsWhole layout (length above_rows + 1) new) placed)
-    (strokes : (r c : ℕ) → layout.code ≤ c → IsStrokeCell layout.decor (cell_at begun r c) → BesideLabels layout (length above_rows + 1) r c placed → IsStrokeCell layout.decor (cell_at new r c)) where
+    (strokes : (r c : ℕ) → layout.code ≤ c → IsStrokeCell layout.decor (cell_at begun r c) → BesideLabels layout (length above_rows + 1) r c placed → IsStrokeCell layout.decor (cell_at new r c))
+    (hung : All (IsHung layout (length above_rows + 1) placed new) placed) where
   -- the rows that were there
   abbrev old : List (List Cell)
   old = above_rows ++ plain_row ∷ []
@@ -422,7 +424,7 @@ module _ (layout : Layout) (room : ℕ) (closes : Bool) (es : List LineAnnotatio
           lone = λ flat one. long ∙ one_row_lone one;
           bare = λ flat none. omega (arith, long, one_row_bare flat none);
           marks = λ flat. subst (ShowsMarks layout.decor layout.code es) (sym (cuts.marks_cut.uncut (narrow flat))) (shows_marks flat);
-          labels = λ uncut _. LabelsStand-placed layout row es placed new rows is places stands beside_labels (rows_new cuts.marks_now (cuts.marks_cut.uncut uncut));
+          labels = λ uncut _. LabelsStand-placed layout row es placed new rows is places stands beside_labels hung (rows_new cuts.marks_now (cuts.marks_cut.uncut uncut));
           are = λ k inside. subst (λ n. IsStrokeRow layout plain es (closes && k + 1 == n) (row_at rows k)) (sym long) (stroke_rows wide narrow cuts.marks_now cuts.marks_cut k (omega (arith, inside, long)));
         };
       }

@@ -151,9 +151,9 @@ stroke_rows layout room closes es source =
     let cuts = cuts_of layout room order (overlapped placed) in
     map (cut_row layout.decor cuts) (take 2 whole) ++ drop 2 whole
 
--- what is known of rows that are those: as many as the entries ask for, and over
--- them all strokes. The entries are placed from right to left, and their marks painted in the order of painting. Of the first two
--- rows, the source row and that of the marks, stretches are cut where entries are wide (`cut` follows from `rows_are`)
+-- what is known of rows that are those, whatever the placed entries hold their labels in: as many as the entries ask for, and over them
+-- all strokes. The entries are placed from right to left, and their marks painted in the order of painting. Of the first two rows, the
+-- source row and that of the marks, stretches are cut where entries are wide (`cut` follows from `rows_are`)
 pub record StrokesPainted (layout : Layout) (room : ℕ) (closes : Bool) (es : List LineAnnotation) (source : List Cell) (rows : List (List Cell)) : Type 0 where
   pub placed : List PlacedEntry
   pub are : ArePlaced es placed

@@ -27,6 +27,7 @@ use Rattle.snippet_strokes.specs.Labels.{IsStrokeCell}
 use Rattle.snippet_strokes.specs.Strokes.{connectors_of, corners_of, labels_of, stems_of, strokes_of}
 use Rattle.snippet_marks.specs.Writes.{painted}
 use Rattle.snippet_strokes.proofs.StrokeCells.{BesideLabels, cell_of_strokes}
+use Rattle.snippet_strokes.proofs.StemCells.{IsHung, all_hung}
 use Rattle.snippet_strokes.proofs.StrokeWrites.{strokes_painted}
 use Rattle.snippet_strokes.proofs.LineRowLemmas.{painted_added}
 use Rattle.snippet_strokes.proofs.strokes.draw_strokes.Goals as goal
@@ -238,6 +239,8 @@ returns c =
     λ r at right before beside. subst (λ g. IsStroke g r at) (sym new_is)
     (cell_of_strokes layout r at right c.args.row all placed after rows bar_cells (subst (λ g. IsStroke g r at) begun_is before)
     (subst (λ n. IsBeside n r at) row_is beside)) in
+    let Hung : ℕ → List (List Cell) → Type 0 = λ n g. All (IsHung layout n placed g) placed in
+    let hung_all : Hung below new = subst (λ n. Hung n new) (sym row_is) (subst (Hung (c.args.row + 1)) (sym new_is) (all_hung layout c.args.row all placed after rows)) in
     record {
       added = on_ok_weaker c.cut_wide.result (λ cut above plain old_is bare_bars.
           let long : length above + 1 ≡ length c.args.buffer.now = sym (ap length old_is ∙ length_push above plain) in
@@ -260,6 +263,7 @@ returns c =
           (subst (λ n. AreMarked layout placed n labelled new) marks_row c.in_ok-draw_marks.ensures.marked)
           (subst (λ n. All (StandsWhole layout n new) placed) marks_row stands)
           (λ r at right before beside. cells r at right before (subst (λ n. IsBeside n r at) (sym marks_row) beside))
+          (subst (λ n. Hung n new) marks_row hung_all)
           c.cut_wide.new.buffer (wide_entries c.args.room layout.decor (map f c.deref-7.result.now))
           some wide (λ up source marks rest same. cut up source marks rest (same ∙ sym source_row))) c.cut_wide.ensures.cut;
       none = on_ok_weaker c.cut_wide.result (λ _ none. absurd (omega (arith, given, none))) c.cut_wide.ensures.cut;
