@@ -16,6 +16,7 @@ pub mod PlainMarks
 pub mod MarkLemmas
 pub mod ShiftLemmas
 pub mod BegunLemmas
+pub mod ReadyRows
 pub mod StrokeCells
 pub mod StrokeLemmas
 pub mod NoStrokes

@@ -18,24 +18,33 @@ use Rattle.snippet_grid.proofs.GridLemmas.{row_at-cells_written_same}
 use Rattle.snippet_style.proofs.CellLemmas.{length-written}
 use Rattle.snippet_grid.specs.Layout.{Layout}
 use Rattle.snippet_marks.specs.declared.positions.PlacedEntry.{PlacedEntry}
-use Rattle.snippet_strokes.specs.EntryMarks.{EntryCovers, IsBarCell, are_plain, is_single, has_mark_role, wide_entries}
+use Rattle.snippet_strokes.specs.EntryMarks.{EntryCovers, HasBarCell, IsBarCell, are_plain, is_single, has_mark_role, wide_entries}
 use Rattle.snippet_marks.specs.Entries.{HasPlace, label_text, label_role}
 use Rattle.snippet_model.specs.Rows.{IsFreeCell, IsFree}
-use Rattle.snippet_marks.specs.Painting.{IsPaintedAt, AreMarked, mark_end, StandsWhole}
-use Rattle.snippet_strokes.specs.Drawing.{DrawsFrom, DrawsBarCells, KeepsBarCells, MarksStarts, StandsFrom, row_count}
+use Rattle.snippet_marks.specs.Painting.{IsPaintedAt, AreMarked, mark_end, marks_of, painting_order, StandsWhole}
+use Rattle.snippet_marks.specs.Writes.{painted}
+use Rattle.snippet_strokes.specs.Drawing.{DrawsFrom, DrawsBarCells, HasRows, KeepsBarCells, MarksStarts, StandsFrom, row_count}
 use Rattle.snippet_marks.specs.Positions.{HasItsLabel, has_label, has_stem, takes_space, positions, line_positions, ArePlaced}
 use Rattle.snippet_marks.specs.SourceRows.{bare_row}
 use Rattle.snippet_strokes.specs.Rows.{CutsRows, IsBeside, IsCut, HasNoBars, IsStrokeRow, AddsStrokes, ShowsMarks}
 use Rattle.snippet_style.specs.Separators.{separator_row}
 use Rattle.snippet_strokes.proofs.DrawLemmas.{DrawsFrom-more, bar_space}
 use Rattle.snippet_strokes.specs.Labels.{IsStrokeCell}
+use Rattle.snippet_strokes.specs.Strokes.{connectors_of, corners_of, labels_of, stems_of, strokes_of}
 use Rattle.snippet_strokes.proofs.LabelPlaces.{HasStrokesBeside, LabelsStand-placed}
-use Rattle.snippet_strokes.proofs.StrokeCells.{BesideLabels}
-use Rattle.snippet_strokes.proofs.StemCells.{IsHung}
+use Rattle.snippet_strokes.proofs.StrokeCells.{BesideLabels, cell_of_strokes}
+use Rattle.snippet_strokes.proofs.StemCells.{IsHung, all_hung}
 use Rattle.snippet_strokes.proofs.MarkLemmas.{mark_shown}
 use Rattle.snippet_strokes.proofs.PlainMarks.{IsPlainEntry, covered_painted, mark_end_plain, spaceless}
 use Rattle.snippet_marks.proofs.PlacedLemmas.{entries_all}
-use Rattle.snippet_strokes.proofs.PositionLemmas.{line_positions_low, of_positions, positions-unlabelled, positions_sole, row_count_one, row_count_some, stemless_bare, stemless_beside}
+use Rattle.snippet_marks.proofs.LabelKept.{labels_kept}
+use Rattle.snippet_marks.proofs.MarkWrites.{AreMarked-marks}
+use Rattle.snippet_strokes.proofs.BarWrites.{DrawsBarCells-corners, DrawsFrom-connectors, KeepsBarCells-connectors, connectors_none, corners_none}
+use Rattle.snippet_strokes.proofs.StemWrites.{DrawsFrom-stems, stems_none, stems_start}
+use Rattle.snippet_strokes.proofs.LabelWrites.{DrawsFrom-labels, label_lone, labels_none, labels_unmarked}
+use Rattle.snippet_strokes.proofs.LabelLaw.{labels_stand}
+use Rattle.snippet_strokes.proofs.StrokeWrites.{strokes_painted}
+use Rattle.snippet_strokes.proofs.PositionLemmas.{HasRows-row_count, line_positions_low, of_positions, positions-unlabelled, positions_sole, row_count_one, row_count_some, stemless_bare, stemless_beside}
 use Rattle.snippet_strokes.proofs.RowLemmas.{bare_row_short, bare_row_right, free_bare_row}
 use Rattle.snippet_strokes.proofs.BegunLemmas.{kept_above, begun_row, written_far, same_after, free_cell, sole, plain_entries, plain_narrow, cut_left, IsStrokeRow-cut, same_front}
 
@@ -43,24 +52,14 @@ module _ (layout : Layout) (room : ℕ) (closes : Bool) (es : List LineAnnotatio
     (place : layout.gutter + 3 ≤ layout.code)
     (is : ArePlaced es placed)
     (places : All (λ (e : PlacedEntry). HasPlace e.entry) placed)
+    (bar_cells : All (λ (e : PlacedEntry). HasBarCell layout e.entry) placed)
     (bare_bars : HasNoBars layout plain_row)
     (begins : begun ≡ (above_rows ++ plain_row ∷ []) ++ replicate (row_count placed - 1) (separator_row layout.decor layout.gutter) ++ bare_row layout.decor layout.gutter closes ∷ [])
-    (lines : DrawsFrom (length above_rows + 1) (layout.gutter + 3) begun joined)
-    (line_bar_cells : KeepsBarCells layout begun joined)
-    (no_lines : All (λ (e : PlacedEntry). is_single e.entry ≡ true) placed → joined ≡ begun)
-    (bars : DrawsBarCells layout (length above_rows) joined barred)
-    (no_bars : All (λ (e : PlacedEntry). is_single e.entry ≡ true) placed → barred ≡ joined)
-    (stems : (from : ℕ) → All (λ (e : PlacedEntry). StandsFrom layout.code from e.entry) placed → DrawsFrom (length above_rows + 1) from barred stemmed)
-    (no_stems : All (λ e. has_stem e ≡ false) placed → stemmed ≡ barred)
-    (labels : (from : ℕ) → All (λ (e : PlacedEntry). StandsFrom layout.code from e.entry) placed → DrawsFrom (length above_rows + 1) from stemmed labelled)
-    (stem_starts : MarksStarts layout.code placed barred stemmed)
-    (label_starts : MarksStarts layout.code [] stemmed labelled)
-    (no_labels : All (λ e. has_label e ≡ false) placed → labelled ≡ stemmed)
-    (lone_label : (e : PlacedEntry) → placed ≡ e ∷ [] → e.position ≡ 0 → 0 < e.entry.end.display → has_label e ≡ true → labelled ≡ cells_written stemmed (length above_rows + 1) (layout.code + e.entry.end.display + 1) (text_cells (label_role e.entry.kind) (label_text e.entry)))
-    (marked : AreMarked layout placed (length above_rows + 1) labelled new)
-    (stands : All (StandsWhole layout (length above_rows + 1) new) placed)
-    (strokes : (r c : ℕ) → layout.code ≤ c → IsStrokeCell layout.decor (cell_at begun r c) → BesideLabels layout (length above_rows + 1) r c placed → IsStrokeCell layout.decor (cell_at new r c))
-    (hung : All (IsHung layout (length above_rows + 1) placed new) placed) where
+    (lines_are : joined ≡ painted (connectors_of layout (length above_rows + 1) placed) begun)
+    (bars_are : barred ≡ painted (corners_of layout (length above_rows) (length joined) placed) joined)
+    (stems_are : stemmed ≡ painted (stems_of layout (length above_rows + 1) placed) barred)
+    (labels_are : labelled ≡ painted (labels_of layout (length above_rows + 1) placed) stemmed)
+    (marks_are : new ≡ painted (marks_of layout (length above_rows + 1) (painting_order placed)) labelled) where
   -- the rows that were there
   abbrev old : List (List Cell)
   old = above_rows ++ plain_row ∷ []
@@ -90,6 +89,80 @@ module _ (layout : Layout) (room : ℕ) (closes : Bool) (es : List LineAnnotatio
   long_but_last =
       length-append old (replicate (row_count placed - 1) (separator_row layout.decor layout.gutter)) ∙ ap (λ n. length old + n) (length-replicate (row_count placed - 1) (separator_row layout.decor layout.gutter))
 
+  long_begun : length begun ≡ row + row_count placed
+  long_begun =
+      omega (arith, ap length begins, length_push but_last end, long_but_last, row_count_some placed, last)
+
+  -- each entry has the rows that it needs, as long as no row is added
+  enough : (rows : List (List Cell)) → length rows ≡ length begun → All (HasRows row (length rows)) placed
+  enough rows same = HasRows-row_count row (length rows) placed (omega (arith, same, long_begun))
+
+  -- ---- what each list of strokes draws
+
+  lines : DrawsFrom row (layout.gutter + 3) begun joined
+  lines = subst (DrawsFrom row (layout.gutter + 3) begun) (sym lines_are) (DrawsFrom-connectors layout row placed begun (enough begun refl))
+
+  line_bar_cells : KeepsBarCells layout begun joined
+  line_bar_cells = subst (KeepsBarCells layout begun) (sym lines_are) (KeepsBarCells-connectors layout row placed begun)
+
+  no_lines : All (λ (e : PlacedEntry). is_single e.entry ≡ true) placed → joined ≡ begun
+  no_lines single = lines_are ∙ ap (λ ws. painted ws begun) (connectors_none layout row placed single)
+
+  bars : DrawsBarCells layout (length above_rows) joined barred
+  bars =
+      subst (DrawsBarCells layout (length above_rows) joined) (sym bars_are) (DrawsBarCells-corners layout (length above_rows) placed joined bar_cells (enough joined lines.count))
+
+  no_bars : All (λ (e : PlacedEntry). is_single e.entry ≡ true) placed → barred ≡ joined
+  no_bars single = bars_are ∙ ap (λ ws. painted ws joined) (corners_none layout (length above_rows) (length joined) placed single)
+
+  stems : (from : ℕ) → All (λ (e : PlacedEntry). StandsFrom layout.code from e.entry) placed → DrawsFrom row from barred stemmed
+  stems from stand =
+      subst (DrawsFrom row from barred) (sym stems_are) (DrawsFrom-stems layout row from placed barred (enough barred (bars.draws.count ∙ lines.count)) stand)
+
+  stem_starts : MarksStarts layout.code placed barred stemmed
+  stem_starts = subst (MarksStarts layout.code placed barred) (sym stems_are) (stems_start layout row placed barred)
+
+  no_stems : All (λ e. has_stem e ≡ false) placed → stemmed ≡ barred
+  no_stems none = stems_are ∙ ap (λ ws. painted ws barred) (stems_none layout row placed none)
+
+  labels : (from : ℕ) → All (λ (e : PlacedEntry). StandsFrom layout.code from e.entry) placed → DrawsFrom row from stemmed labelled
+  labels from stand =
+      let same : length stemmed ≡ length begun = (stems 0 (λ k d within. omega arith)).count ∙ bars.draws.count ∙ lines.count in
+      subst (DrawsFrom row from stemmed) (sym labels_are) (DrawsFrom-labels layout row from placed stemmed places (enough stemmed same) stand)
+
+  label_starts : MarksStarts layout.code [] stemmed labelled
+  label_starts = subst (MarksStarts layout.code [] stemmed) (sym labels_are) (labels_unmarked layout row placed stemmed)
+
+  no_labels : All (λ e. has_label e ≡ false) placed → labelled ≡ stemmed
+  no_labels none = labels_are ∙ ap (λ ws. painted ws stemmed) (labels_none layout row placed none)
+
+  lone_label : (e : PlacedEntry) → placed ≡ e ∷ [] → e.position ≡ 0 → 0 < e.entry.end.display → has_label e ≡ true → labelled ≡ cells_written stemmed row (layout.code + e.entry.end.display + 1) (text_cells (label_role e.entry.kind) (label_text e.entry))
+  lone_label e one beside some has =
+      labels_are ∙ ap (λ xs. painted (labels_of layout row xs) stemmed) one ∙ label_lone layout row e stemmed beside some has
+
+  marked : AreMarked layout placed row labelled new
+  marked = subst (AreMarked layout placed row labelled) (sym marks_are) (AreMarked-marks layout row placed labelled)
+
+  -- each label stands whole once all are written, and once the marks are painted
+  stands : All (StandsWhole layout row new) placed
+  stands =
+      labels_kept layout row es placed labelled new is places marked (subst (λ rows. All (StandsWhole layout row rows) placed) (sym labels_are) (labels_stand layout row es placed stemmed is places))
+
+  -- all strokes, as one list
+  new_is : new ≡ painted (strokes_of layout (length above_rows) (length begun) placed (painting_order placed)) begun
+  new_is =
+      strokes_painted layout (length above_rows) row (length joined) (length begun) placed (painting_order placed) begun begun joined barred stemmed labelled new refl lines.count refl lines_are bars_are stems_are labels_are marks_are
+
+  strokes : (r c : ℕ) → layout.code ≤ c → IsStrokeCell layout.decor (cell_at begun r c) → BesideLabels layout row r c placed → IsStrokeCell layout.decor (cell_at new r c)
+  strokes r c right before beside =
+      subst (λ rows. IsStrokeCell layout.decor (cell_at rows r c)) (sym new_is) (cell_of_strokes layout r c right (length above_rows) (length begun) placed (painting_order placed) begun bar_cells before beside)
+
+  hung : All (IsHung layout row placed new) placed
+  hung =
+      subst (λ rows. All (IsHung layout row placed rows) placed) (sym new_is) (all_hung layout (length above_rows) (length begun) placed (painting_order placed) begun)
+
+  -- ---- the rows once all are drawn
+
   abbrev f : PlacedEntry → LineAnnotation
   f e = e.entry
 
@@ -101,10 +174,6 @@ module _ (layout : Layout) (room : ℕ) (closes : Bool) (es : List LineAnnotatio
 
   right_of : DrawsFrom row layout.code barred labelled
   right_of = drawn_from layout.code (λ k d within. omega arith)
-
-  long_begun : length begun ≡ row + row_count placed
-  long_begun =
-      omega (arith, ap length begins, length_push but_last end, long_but_last, row_count_some placed, last)
 
   there : row < length labelled
   there = omega (arith, right_of.count, bars.draws.count, lines.count, long_begun, row_count_some placed)
