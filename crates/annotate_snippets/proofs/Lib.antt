@@ -44,6 +44,8 @@ pub mod RoomLemmas
 pub mod ShortLemmas
 pub mod ShortShown
 pub mod SourceFeedLaws
+pub mod SpanOpen
+pub mod SpanParts
 pub mod SuggestFeedLaws
 pub mod SuggestionLemmas
 pub mod SuggestionShown
