@@ -32,3 +32,5 @@ pub mod BarRows
 pub mod LowerWrites
 pub mod LineRowLemmas
 pub mod LineRowLaws
+pub mod AmongLaws
+pub mod EndBarLaws
