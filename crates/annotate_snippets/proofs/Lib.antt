@@ -1,4 +1,5 @@
 pub mod AroundLaws
+pub mod BarExamples
 pub mod BoundsLaws
 pub mod CauseShown
 pub mod DisjointLemmas
@@ -22,6 +23,7 @@ pub mod LineFeedLaws
 pub mod LineLemmas
 pub mod ListLemmas
 pub mod MarkLemmas
+pub mod NotBarred
 pub mod NotDrawn
 pub mod NotLabelled
 pub mod NotOffered
@@ -44,6 +46,7 @@ pub mod RoomLemmas
 pub mod ShortLemmas
 pub mod ShortShown
 pub mod SourceFeedLaws
+pub mod SpanBarRows
 pub mod SpanOpen
 pub mod SpanParts
 pub mod SuggestFeedLaws

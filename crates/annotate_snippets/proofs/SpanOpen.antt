@@ -1,14 +1,14 @@
 -- Which bars are open above a line: those of the spans of several lines that begin above it and don't end above it.
-use Rattle.std.proofs.Common.{◌≡◌, ℕ, ◌+◌, ◌<◌, ◌≤◌, ◌==◌, Bool, true, false, not, leb, Option, Some, None, List, [], ◌∷◌, ◌⊎◌, map, inl, inr, refl, sym, ap, ◌∙◌, arith}
-use Rattle.std.specs.List.{All, Contains, cons_option, filter, filter_map}
+use Rattle.std.proofs.Common.{◌≡◌, ℕ, ◌+◌, ◌<◌, ◌≤◌, ◌==◌, Bool, true, false, not, leb, Option, Some, None, List, [], ◌⊎◌, map, inl, inr, refl, sym, ap, ◌∙◌, arith}
+use Rattle.std.specs.List.{All, Contains, filter, filter_map}
 use Rattle.std.proofs.lemmas.Bool.{and_from, and_parts, cases_eq, cases_lt, eq-eqb, eqb-true, false_from_ne_true, le-leb, not-true, both_ways}
-use Rattle.std.proofs.lemmas.List.Elements.{All-contains, All-cons, All-nil}
+use Rattle.std.proofs.lemmas.List.Elements.{All-contains}
 use Rattle.snippet_model.specs.AnnotationKind.{is_primary}
 use Rattle.snippet_model.specs.declared.snippet.Annotation.{Annotation}
 use Rattle.snippet_lines.specs.Lines.{Source}
 use Rattle.snippet_lines.specs.Span.{IsSpan}
 use Rattle.snippet_view.specs.declared.depths.LongExtent.{LongExtent}
-use Rattle.snippet_view.specs.declared.entries.LineAnnotationType.TheVariants.{MultilineEnd}
+use Rattle.snippet_view.specs.declared.entries.LineAnnotationType.TheVariants.{MultilineEnd, MultilineStart}
 use Rattle.snippet_view.specs.Annotated.{PartEntry, depth_of, end_part, is_long, is_short, long_entry, long_parts, long_place, long_places, long_spans, made_parts, parts_on, single_part, stands_before, start_part}
 use Rattle.snippet_view.specs.Depths.{depth_among}
 use Rattle.snippet_view.specs.Mark.{is_marking, is_single_line}
@@ -16,39 +16,10 @@ use Rattle.snippet_view.specs.Marked.{Entry, first_line, last_line}
 use Rattle.snippet_view.proofs.AmongLemmas.{Among, among_filter, among_filter_map, among_in_order, among_left, among_map, among_right, any_among, any_cases, append_cases, filter_cases, in_order_cases, map_cases}
 use Rattle.snippet_view.proofs.KeptPartLemmas.{lines-ordered}
 use Rattle.snippet_view.proofs.MarkLemmas.{end-line, start-line}
-use Rattle.snippet_view.proofs.ShownFacts.{contains-cases, contains-here, contains-there}
 use Rattle.snippet_view.proofs.ShownLemmas.{annotations-distinct}
 use Rattle.snippet_strokes.specs.Bars.{Bar, HasOwnDepth, bar_at, bars_apart, has_depth, open_past}
+use Rattle.snippet_strokes.proofs.AmongLaws.{all_from_among, among_contains, contains_among, filter_map_cases}
 use Rattle.annotate_snippets.proofs.SpanParts.{HasEnds, IsEndOf, end_of, ends_of, is_primary_at}
-
--- ---- lists
-
--- what a list contains is among its elements
-pub contains_among : {X : Type 0} (xs : List X) (x : X) → Contains xs x → Among xs x
-contains_among [] x among = absurd (omega (arith, among.1))
-contains_among (y ∷ xs) x among =
-    elim (contains-cases x y xs among) [ inl same ↦ inl same | inr later ↦ inr (contains_among xs x later) ]
-
--- what is among the elements of a list it contains
-pub among_contains : {X : Type 0} (xs : List X) (x : X) → Among xs x → Contains xs x
-among_contains [] x among = absurd among
-among_contains (y ∷ xs) x (inl same) = contains-here x y xs same
-among_contains (y ∷ xs) x (inr later) = contains-there x y xs (among_contains xs x later)
-
--- what holds of whatever is among some elements holds of each
-pub all_from_among : {X : Type 0} (P : X → Type 0) (xs : List X) → ((x : X) → Among xs x → P x) → All P xs
-all_from_among P [] each = All-nil P
-all_from_among P (x ∷ xs) each = All-cons P x xs (each x (inl refl)) (all_from_among P xs (λ y later. each y (inr later)))
-
--- what is among what a partial function gives of some elements it gives of one
-filter_map_cases : {X Y : Type 0} (h : X → Option Y) (xs : List X) (y : Y) → Among (filter_map h xs) y → (x : X) × Among xs x × (h x ≡ Some y)
-filter_map_cases {X} {Y} h [] y here = absurd here
-filter_map_cases {X} {Y} h (x ∷ xs) y here = by_first (filter_map_cases h xs y) (h x) refl here
-  where
-    by_first : (Among (filter_map h xs) y → (z : X) × Among xs z × (h z ≡ Some y)) → (o : Option Y) → h x ≡ o → Among (cons_option o (filter_map h xs)) y → (z : X) × Among (x ∷ xs) z × (h z ≡ Some y)
-    by_first rest None is among = let more = rest among in (more.0, inr more.1, more.2)
-    by_first rest (Some w) is (inl same) = (x, inl refl, is ∙ ap Some same)
-    by_first rest (Some w) is (inr later) = let more = rest later in (more.0, inr more.1, more.2)
 
 -- ---- the bars of a line
 
@@ -64,6 +35,14 @@ bar_at_place s marks place =
 -- the bars of the starts and ends on line k
 abbrev pub bars_of_line : Source → List Annotation → ℕ → List Bar
 bars_of_line s marks k = filter_map (λ (e : PartEntry). bar_at e.part (is_primary e.entry.kind)) (parts_on s marks k)
+
+-- an entry is the start of a span on line k, or the end of one, with this bar
+pub record IsPartOf (s : Source) (marks : List Annotation) (k : ℕ) (p : PartEntry) (bar : Bar) : Type 0 where
+  pub span : Annotation
+  pub among : Contains marks span
+  pub long : is_long s.text span ≡ true
+  pub bar_is : bar ≡ bar_at_place s marks (place_in s span)
+  pub line : ((p.part ≡ MultilineStart bar.depth) × (first_line s.text span ≡ k)) ⊎ ((p.part ≡ MultilineEnd bar.depth) × (last_line s.text span ≡ k))
 
 -- the bar is that of a span which begins or ends on line k
 pub record IsBarOf (s : Source) (marks : List Annotation) (k : ℕ) (bar : Bar) : Type 0 where
@@ -92,16 +71,15 @@ module _ (s : Source) (marks : List Annotation) where
   abbrev on_line : ℕ → PartEntry → Bool
   on_line k p = p.entry.start.line == s.first + k
 
-  end_bar : (k : ℕ) (bar : Bar) → Among (bars_of_line s marks k) bar → IsBarOf s marks k bar
-  end_bar k bar here =
-      let found = filter_map_cases has (parts_on s marks k) bar here in
-      let p : PartEntry = found.0 in
-      let on = filter_cases (on_line k) (made_parts s marks) p found.1 in
+  -- an entry of line k that has a bar is the start or the end of a span
+  pub part_bar : (k : ℕ) (p : PartEntry) (bar : Bar) → Among (parts_on s marks k) p → has p ≡ Some bar → IsPartOf s marks k p bar
+  part_bar k p bar here has_it =
+      let on = filter_cases (on_line k) (made_parts s marks) p here in
       let line : p.entry.start.line ≡ s.first + k = eqb-true p.entry.start.line (s.first + k) on.1 in
       elim (append_cases singles longs p on.0) [
-        | inl single ↦ (let made = map_cases (single_part s) (filter (is_short s.text) marks) p single in absurd (no_bar (ap has made.2 ∙ found.2)))
+        | inl single ↦ (let made = map_cases (single_part s) (filter (is_short s.text) marks) p single in absurd (no_bar (ap has made.2 ∙ has_it)))
         | inr long ↦
-            let e : IsEndOf places spans_in_order spans_in_order p bar = end_of s places [] spans_in_order spans_in_order refl p bar long found.2 in
+            let e : IsEndOf places spans_in_order spans_in_order p bar = end_of s places [] spans_in_order spans_in_order refl p bar long has_it in
             let made = map_cases (long_entry s) (filter (is_long s.text) marks) e.span (in_order_cases stands_before (map (long_entry s) (filter (is_long s.text) marks)) e.span e.among) in
             let given = filter_cases (is_long s.text) marks made.0 made.1 in
             let first : (long_entry s made.0).start.line ≡ s.first + first_line s.text made.0 = start-line s made.0.span.start made.0.span.end in
@@ -114,14 +92,26 @@ module _ (s : Source) (marks : List Annotation) where
               long = given.1;
               bar_is = e.bar_is ∙ ap (λ (d : Entry). bar_at_place s marks (long_place d)) (sym made.2);
               line = elim e.line [
-                | inl at ↦ inl (omega (arith, at, line, first, starts))
-                | inr at ↦ inr (omega (arith, at, line, last, ends))
+                | inl at ↦ inl (at.0, omega (arith, at.1, line, first, starts))
+                | inr at ↦ inr (at.0, omega (arith, at.1, line, last, ends))
               ];
             }
       ]
     where
       no_bar : None ≡ Some bar → ⊥
       no_bar wrong = cc wrong
+
+  end_bar : (k : ℕ) (bar : Bar) → Among (bars_of_line s marks k) bar → IsBarOf s marks k bar
+  end_bar k bar here =
+      let found = filter_map_cases has (parts_on s marks k) bar here in
+      let is = part_bar k found.0 bar found.1 found.2 in
+      record {
+        span = is.span;
+        among = is.among;
+        long = is.long;
+        bar_is = is.bar_is;
+        line = elim is.line [ inl start ↦ inl start.1 | inr end ↦ inr end.1 ];
+      }
 
   -- the entries of a span's place
   place_ends : (a : Annotation) → Contains marks a → is_long s.text a ≡ true → HasEnds places spans_in_order longs (place_in s a)
@@ -135,7 +125,8 @@ module _ (s : Source) (marks : List Annotation) where
   gives_bar k p place among line is =
       among_filter_map has (parts_on s marks k) p (bar_at_place s marks place) (among_filter (on_line k) (made_parts s marks) p (among_right singles longs p among) (eq-eqb p.entry.start.line (s.first + k) line)) is
 
-  start_here : (k : ℕ) (a : Annotation) → Contains marks a → is_long s.text a ≡ true → first_line s.text a ≡ k → Among (bars_of_line s marks k) (bar_at_place s marks (place_in s a))
+  -- where a span begins its bar is one of the line's, and where it ends
+  pub start_here : (k : ℕ) (a : Annotation) → Contains marks a → is_long s.text a ≡ true → first_line s.text a ≡ k → Among (bars_of_line s marks k) (bar_at_place s marks (place_in s a))
   start_here k a among long here =
       let place : LongExtent = place_in s a in
       let ends = place_ends a among long in
@@ -144,7 +135,7 @@ module _ (s : Source) (marks : List Annotation) where
       let first : (long_entry s a).start.line ≡ s.first + first_line s.text a = start-line s a.span.start a.span.end in
       gives_bar k (start_part ends.span depth) place ends.start (omega (arith, line, first, here)) (ap (λ b. Some (record { depth = depth; primary = b })) ends.primary)
 
-  end_here : (k : ℕ) (a : Annotation) → Contains marks a → is_long s.text a ≡ true → last_line s.text a ≡ k → Among (bars_of_line s marks k) (bar_at_place s marks (place_in s a))
+  pub end_here : (k : ℕ) (a : Annotation) → Contains marks a → is_long s.text a ≡ true → last_line s.text a ≡ k → Among (bars_of_line s marks k) (bar_at_place s marks (place_in s a))
   end_here k a among long here =
       let place : LongExtent = place_in s a in
       let ends = place_ends a among long in
@@ -216,6 +207,53 @@ module _ (s : Source) (marks : List Annotation) (spans : All (λ a. IsSpan s.tex
       let first-b : (place_in s b).first ≡ s.first + first_line s.text b = start-line s b.span.start b.span.end in
       let last-b : (place_in s b).last ≡ s.first + last_line s.text b = end-line s b.span.start b.span.end in
       (omega (arith, first-a, first-b, ap (λ (p : LongExtent). p.first) same), omega (arith, last-a, last-b, ap (λ (p : LongExtent). p.last) same))
+
+  module _ (k : ℕ) where
+    -- of the bars of a line no other has the depth of a span's that the line touches
+    pub own_on_line : (a : Annotation) → Contains marks a → is_long s.text a ≡ true → first_line s.text a ≤ k → k ≤ last_line s.text a → HasOwnDepth (bar_at_place s marks (place_in s a)) (bars_of_line s marks k)
+    own_on_line a among long from to =
+        all_from_among (λ (b : Bar). b.depth ≡ depth_of s marks a → b ≡ bar_at_place s marks (place_in s a)) (bars_of_line s marks k) (λ b here same.
+        let is = end_bar s marks k b here in
+        let order = longer is.span is.among is.long in
+        let depth : depth_of s marks is.span ≡ depth_of s marks a = sym (ap (λ (x : Bar). x.depth) is.bar_is) ∙ same in
+        is.bar_is ∙ ap (bar_at_place s marks) (one_place is.span a is.among among is.long long (touch-from is order) (touch-to is order) depth))
+      where
+        touch-from : {b : Bar} (is : IsBarOf s marks k b) → first_line s.text is.span < last_line s.text is.span → first_line s.text is.span ≤ last_line s.text a
+        touch-from is order = elim is.line [ inl first ↦ omega (arith, first, to) | inr last ↦ omega (arith, last, order, to) ]
+
+        touch-to : {b : Bar} (is : IsBarOf s marks k b) → first_line s.text is.span < last_line s.text is.span → first_line s.text a ≤ last_line s.text is.span
+        touch-to is order = elim is.line [ inl first ↦ omega (arith, first, order, from) | inr last ↦ omega (arith, last, from) ]
+
+    -- where a span begins no end has its depth, and where it ends no start
+    pub no_end : (a : Annotation) → Contains marks a → is_long s.text a ≡ true → first_line s.text a ≡ k → (p : PartEntry) → Among (parts_on s marks k) p → p.part ≡ MultilineEnd (depth_of s marks a) → ⊥
+    no_end a among long here p on end =
+        let b : Bar = record { depth = depth_of s marks a; primary = is_primary p.entry.kind } in
+        let is : IsPartOf s marks k p b = part_bar s marks k p b on (ap (λ t. bar_at t (is_primary p.entry.kind)) end) in
+        let order = longer is.span is.among is.long in
+        let order-a = longer a among long in
+        let depth : depth_of s marks is.span ≡ depth_of s marks a = sym (ap (λ (x : Bar). x.depth) is.bar_is) in
+        elim is.line [
+          | inl start ↦ two_parts (sym start.0 ∙ end)
+          | inr last ↦ (let lines = same_lines is.span a (one_place is.span a is.among among is.long long (omega (arith, last.1, order, order-a, here)) (omega (arith, last.1, here)) depth) in omega (arith, lines.1, last.1, here, order-a))
+        ]
+      where
+        two_parts : {d e : ℕ} → MultilineStart d ≡ MultilineEnd e → ⊥
+        two_parts wrong = cc wrong
+
+    pub no_start : (a : Annotation) → Contains marks a → is_long s.text a ≡ true → last_line s.text a ≡ k → (p : PartEntry) → Among (parts_on s marks k) p → p.part ≡ MultilineStart (depth_of s marks a) → ⊥
+    no_start a among long here p on start =
+        let b : Bar = record { depth = depth_of s marks a; primary = is_primary p.entry.kind } in
+        let is : IsPartOf s marks k p b = part_bar s marks k p b on (ap (λ t. bar_at t (is_primary p.entry.kind)) start) in
+        let order = longer is.span is.among is.long in
+        let order-a = longer a among long in
+        let depth : depth_of s marks is.span ≡ depth_of s marks a = sym (ap (λ (x : Bar). x.depth) is.bar_is) in
+        elim is.line [
+          | inl first ↦ (let lines = same_lines is.span a (one_place is.span a is.among among is.long long (omega (arith, first.1, here)) (omega (arith, first.1, order, order-a, here)) depth) in omega (arith, lines.0, first.1, here, order-a))
+          | inr end ↦ two_parts (sym start ∙ end.0)
+        ]
+      where
+        two_parts : {d e : ℕ} → MultilineStart d ≡ MultilineEnd e → ⊥
+        two_parts wrong = cc wrong
 
   -- no bar is open above the first line
   pub none_open : AreOpen s marks 0 []

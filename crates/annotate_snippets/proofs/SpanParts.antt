@@ -7,7 +7,7 @@ use Rattle.snippet_model.specs.AnnotationKind.{is_primary}
 use Rattle.snippet_model.specs.declared.snippet.AnnotationKind.TheVariants.{Primary}
 use Rattle.snippet_lines.specs.Lines.{Source}
 use Rattle.snippet_view.specs.declared.depths.LongExtent.{LongExtent}
-use Rattle.snippet_view.specs.declared.entries.LineAnnotationType.TheVariants.{Singleline, MultilineEnd}
+use Rattle.snippet_view.specs.declared.entries.LineAnnotationType.TheVariants.{Singleline, MultilineEnd, MultilineStart}
 use Rattle.snippet_view.specs.Annotated.{PartEntry, bar_lines, bar_part, end_part, is_promoted, long_parts, long_place, promoted, span_parts, stands_among, start_part}
 use Rattle.snippet_view.specs.Depths.{depth_among, same_place}
 use Rattle.snippet_view.specs.Marked.{Entry}
@@ -52,7 +52,10 @@ kind_drawn : (before : List Entry) (e : Entry) (later : List Entry) → stands_a
 kind_drawn before e later last =
     let place = long_place e in
     let test : Entry → Bool = λ d. is_primary d.kind && same_place place (long_place d) in
-    promoted_kind before e ∙ either (is_primary e.kind) (is_primary_at before place) ∙ ap (λ b. is_primary_at before place || ((is_primary e.kind && true) || b)) (sym (none_later e later last)) ∙ ap (λ b. is_primary_at before place || ((is_primary e.kind && b) || is_primary_at later place)) (sym (same-refl place)) ∙ sym (list_any-append test before (e ∷ later))
+    let earlier : Bool = is_primary_at before place in
+    let after : earlier || ((is_primary e.kind && true) || false) ≡ earlier || ((is_primary e.kind && true) || is_primary_at later place) = ap (λ b. earlier || ((is_primary e.kind && true) || b)) (sym (none_later e later last)) in
+    let itself = ap (λ b. earlier || ((is_primary e.kind && b) || is_primary_at later place)) (sym (same-refl place)) in
+    promoted_kind before e ∙ either (is_primary e.kind) earlier ∙ after ∙ itself ∙ sym (list_any-append test before (e ∷ later))
   where
     either : (a b : Bool) → (a || b) ≡ (b || ((a && true) || false))
     either true true = refl
@@ -105,7 +108,8 @@ ends_of s places before (f ∷ later) all is place e (inl same) at =
     elim (cases_Bool (stands_among f later)) [
       | inl again ↦
           let g = any_cases (λ (d : Entry). same_place (long_place f) (long_place d)) later again in
-          further places all (span_parts s (depth_among places (long_place f)) (stands_among f later) (promoted before f)) (long_parts s places (before ++ f ∷ []) later) place (ends_of s places (before ++ f ∷ []) later all (is ∙ sym (append_assoc before (f ∷ []) later)) place g.0 g.1 (sym (same-true (long_place f) (long_place g.0) g.2) ∙ here))
+          let next = ends_of s places (before ++ f ∷ []) later all (is ∙ sym (append_assoc before (f ∷ []) later)) place g.0 g.1 (sym (same-true (long_place f) (long_place g.0) g.2) ∙ here) in
+          further places all (span_parts s (depth_among places (long_place f)) (stands_among f later) (promoted before f)) (long_parts s places (before ++ f ∷ []) later) place next
       | inr last ↦
           let parts : List PartEntry = long_parts s places before (f ∷ later) in
           subst (λ p. HasEnds places all parts p) here (subst (λ es. HasEnds places es parts (long_place f)) (sym is) (last_ends s places before f later (long_parts s places (before ++ f ∷ []) later) last))
@@ -116,12 +120,12 @@ ends_of s places before (f ∷ later) all is place e (inl same) at =
 
 -- ---- and no other entry has a bar
 
--- the bar of an entry is that of one of some spans, on whose first or last line the entry stands
+-- the bar of an entry is that of one of some spans, of which it is the start, on the first line, or the end, on the last
 pub record IsEndOf (places : List LongExtent) (all later : List Entry) (p : PartEntry) (bar : Bar) : Type 0 where
   pub span : Entry
   pub among : Among later span
   pub bar_is : bar ≡ record { depth = depth_among places (long_place span); primary = is_primary_at all (long_place span) }
-  pub line : (p.entry.start.line ≡ span.start.line) ⊎ (p.entry.start.line ≡ span.end.line)
+  pub line : ((p.part ≡ MultilineStart bar.depth) × (p.entry.start.line ≡ span.start.line)) ⊎ ((p.part ≡ MultilineEnd bar.depth) × (p.entry.start.line ≡ span.end.line))
 
 some_same : {X : Type 0} (x y : X) → Some x ≡ Some y → x ≡ y
 some_same x y same = cc
@@ -142,13 +146,19 @@ module _ (s : Source) (places : List LongExtent) (before : List Entry) (e : Entr
   own_bar q same = ap has same ∙ bar_is
 
   -- where it is the span's own
-  is_own : stands_among e later ≡ false → Some (record { depth = depth; primary = is_primary drawn.kind }) ≡ Some bar → (p.entry.start.line ≡ e.start.line) ⊎ (p.entry.start.line ≡ e.end.line) → IsEndOf places all (e ∷ later) p bar
+  is_own : stands_among e later ≡ false → Some (record { depth = depth; primary = is_primary drawn.kind }) ≡ Some bar
+      → ((p.part ≡ MultilineStart depth) × (p.entry.start.line ≡ e.start.line)) ⊎ ((p.part ≡ MultilineEnd depth) × (p.entry.start.line ≡ e.end.line)) → IsEndOf places all (e ∷ later) p bar
   is_own last same line =
+      let own : record { depth = depth; primary = is_primary drawn.kind } ≡ bar = some_same (record { depth = depth; primary = is_primary drawn.kind }) bar same in
+      let deep : depth ≡ bar.depth = ap (λ (b : Bar). b.depth) own in
       record {
         span = e;
         among = inl refl;
-        bar_is = sym (some_same (record { depth = depth; primary = is_primary drawn.kind }) bar same) ∙ ap (λ b. record { depth = depth; primary = b }) (kind_drawn before e later last ∙ ap (λ es. is_primary_at es (long_place e)) (sym all_is));
-        line = line;
+        bar_is = sym own ∙ ap (λ b. record { depth = depth; primary = b }) (kind_drawn before e later last ∙ ap (λ es. is_primary_at es (long_place e)) (sym all_is));
+        line = elim line [
+          | inl start ↦ inl (start.0 ∙ ap MultilineStart deep, start.1)
+          | inr end ↦ inr (end.0 ∙ ap MultilineEnd deep, end.1)
+        ];
       }
 
   none_again : Among (end_part drawn Singleline ∷ []) p → IsEndOf places all (e ∷ later) p bar
@@ -162,7 +172,7 @@ module _ (s : Source) (places : List LongExtent) (before : List Entry) (e : Entr
   one_part : stands_among e later ≡ false → Among (span_parts s depth false drawn) p → IsEndOf places all (e ∷ later) p bar
   unfolding has
   one_part last (inl same) =
-      is_own last (own_bar (start_part drawn depth) same) (inl (sym (ap (λ (q : PartEntry). q.entry.start.line) same) ∙ ap (λ l. l.line) (promoted-start before e)))
+      is_own last (own_bar (start_part drawn depth) same) (inl (sym (ap (λ (q : PartEntry). q.part) same), sym (ap (λ (q : PartEntry). q.entry.start.line) same) ∙ ap (λ l. l.line) (promoted-start before e)))
   one_part last (inr rest) =
       let bars : List PartEntry = map (λ k. bar_part drawn depth (s.first + k)) (bar_lines s.text (drawn.start.line - s.first) (drawn.end.line - s.first)) in
       let end : PartEntry = end_part drawn (MultilineEnd depth) in
@@ -170,7 +180,7 @@ module _ (s : Source) (places : List LongExtent) (before : List Entry) (e : Entr
         | inl beside ↦
             let made = map_cases (λ k. bar_part drawn depth (s.first + k)) (bar_lines s.text (drawn.start.line - s.first) (drawn.end.line - s.first)) p beside in
             absurd (no_bar (own_bar (bar_part drawn depth (s.first + made.0)) made.2))
-        | inr (inl same) ↦ is_own last (own_bar end same) (inr (sym (ap (λ (q : PartEntry). q.entry.start.line) same) ∙ ap (λ l. l.line) (promoted-end before e)))
+        | inr (inl same) ↦ is_own last (own_bar end same) (inr (sym (ap (λ (q : PartEntry). q.part) same), sym (ap (λ (q : PartEntry). q.entry.start.line) same) ∙ ap (λ l. l.line) (promoted-end before e)))
         | inr (inr none) ↦ absurd none
       ]
     where

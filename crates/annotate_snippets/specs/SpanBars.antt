@@ -5,17 +5,17 @@ use Rattle.std.specs.Cow.{cow_str_bytes}
 use Rattle.snippet_model.specs.AnnotationKind.{is_primary}
 use Rattle.snippet_model.specs.declared.snippet.Annotation.{Annotation}
 use Rattle.snippet_model.specs.declared.snippet.Snippet.{Snippet}
-use Rattle.snippet_style.specs.Cell.{SPACE}
+use Rattle.snippet_style.specs.Cell.{Cell, SPACE}
+use Rattle.snippet_marks.specs.declared.layout.Layout.{Layout}
 use Rattle.snippet_view.specs.Annotated.{depth_of, is_long}
 use Rattle.snippet_view.specs.Marked.{first_line, last_line}
-use Rattle.snippet_strokes.specs.Bars.{Bar, bar_part}
-use Rattle.snippet_strokes.specs.declared.bars.BarStroke.{BarStroke}
-use Rattle.snippet_strokes.specs.declared.bars.BarStroke.TheVariants.{Solid, Dotted}
+use Rattle.snippet_strokes.specs.Bars.{Bar}
+use Rattle.snippet_strokes.specs.EndBars.{BarBegins, BarEnds, dotted_bar, solid_bar}
 use Rattle.annotate_snippets.specs.declared.renderer.Renderer.{Renderer}
 use Rattle.annotate_snippets.specs.declared.renderer.frame.Frame.{Frame}
 use Rattle.annotate_snippets.specs.Drawn.{layout_in}
 use Rattle.annotate_snippets.specs.Gutter.{numbered_source}
-use Rattle.annotate_snippets.specs.Page.{RowName, SourceRow, Elision, OfferedLine, RemovedLine, Other, NamedRow, lines_named}
+use Rattle.annotate_snippets.specs.Page.{RowName, SourceRow, Elision, OfferedLine, RemovedLine, Other, NamedRow, lines_named, rows_below}
 
 -- whether the bar of a span is primary: that span is, or another one with its place in the source, since these share a bar
 abbrev pub is_bar_primary : Snippet Annotation → Annotation → Bool
@@ -44,22 +44,26 @@ line_beside above (OfferedLine j) = line_after above - 1
 line_beside above (RemovedLine i) = line_after above - 1
 line_beside above Other = line_after above - 1
 
--- how a bar that runs past a row of this name is drawn: dotted beside lines that are left out
-abbrev pub stroke_beside : RowName → BarStroke
-stroke_beside (SourceRow k) = Solid
-stroke_beside Elision = Dotted
-stroke_beside (OfferedLine j) = Solid
-stroke_beside (RemovedLine i) = Solid
-stroke_beside Other = Solid
+-- the cell of a bar beside a row of this name: dotted beside one in place of lines
+abbrev pub bar_beside : Layout → RowName → Bar → Cell
+bar_beside layout (SourceRow k) bar = solid_bar layout bar
+bar_beside layout Elision bar = dotted_bar layout bar
+bar_beside layout (OfferedLine j) bar = solid_bar layout bar
+bar_beside layout (RemovedLine i) bar = solid_bar layout bar
+bar_beside layout Other bar = solid_bar layout bar
 
--- the bars stand beside these rows, those of a snippet's lines: each span of several lines has its bar in each row between its first
--- line and its last, in its own cell and in its kind, whatever else the row holds. That cell is one of those that stand between
--- the separator and the code; and of two such spans that share a line, be it the last of one and the first of the other, each has a
--- cell of its own, unless they have the same place in the source
+-- the rows, those of a snippet's lines, have the bars of its spans of several lines. In each row between the first and the last line of
+-- such a span its bar stands in its own cell and in its kind, whatever else the row holds. In the rows of the first line it begins, in
+-- those of the last it ends. The cell is one of those between the separator and the code. Two such spans that share a line, be it the
+-- last of one and the first of the other, have cells of their own, unless they have the same place in the source
 pub record ShowsBars (r : Renderer) (frame : Frame) (s : Snippet Annotation) (rows : List NamedRow) : Type 0 where
   pub stand : (a : Annotation) → Contains s.markers.items a → is_long (cow_str_bytes s.source) a ≡ true → (above : List NamedRow) (row : NamedRow) (below : List NamedRow)
       → rows ≡ above ++ row ∷ below → first_line (cow_str_bytes s.source) a < line_beside above row.name → line_beside above row.name < last_line (cow_str_bytes s.source) a
-      → slice_index_or row.cells (bar_cell_of frame s a) SPACE ≡ bar_part (layout_in r frame) (stroke_beside row.name) (bar_of_span s a)
+      → slice_index_or row.cells (bar_cell_of frame s a) SPACE ≡ bar_beside (layout_in r frame) row.name (bar_of_span s a)
+  pub begin : (a : Annotation) → Contains s.markers.items a → is_long (cow_str_bytes s.source) a ≡ true → (above : List NamedRow) (row : NamedRow) (below : List NamedRow)
+      → rows ≡ above ++ row ∷ below → row.name ≡ SourceRow (first_line (cow_str_bytes s.source) a) → BarBegins (layout_in r frame) (bar_of_span s a) (row.cells ∷ rows_below below)
+  pub end : (a : Annotation) → Contains s.markers.items a → is_long (cow_str_bytes s.source) a ≡ true → (above : List NamedRow) (row : NamedRow) (below : List NamedRow)
+      → rows ≡ above ++ row ∷ below → row.name ≡ SourceRow (last_line (cow_str_bytes s.source) a) → BarEnds (layout_in r frame) (bar_of_span s a) (row.cells ∷ rows_below below)
   pub within : (a : Annotation) → Contains s.markers.items a → is_long (cow_str_bytes s.source) a ≡ true → (frame.gutter + 3 ≤ bar_cell_of frame s a) × (bar_cell_of frame s a + 1 < frame.code)
   pub apart : (a b : Annotation) → Contains s.markers.items a → Contains s.markers.items b → is_long (cow_str_bytes s.source) a ≡ true → is_long (cow_str_bytes s.source) b ≡ true
       → first_line (cow_str_bytes s.source) a ≤ last_line (cow_str_bytes s.source) b → first_line (cow_str_bytes s.source) b ≤ last_line (cow_str_bytes s.source) a → bar_cell_of frame s a ≡ bar_cell_of frame s b
