@@ -1,4 +1,5 @@
 pub mod AroundLaws
+pub mod BarExamples
 pub mod BoundsLaws
 pub mod CauseShown
 pub mod DisjointLemmas
@@ -24,6 +25,7 @@ pub mod LineLemmas
 pub mod LineValue
 pub mod ListLemmas
 pub mod MarkLemmas
+pub mod NotBarred
 pub mod NotDrawn
 pub mod NotLabelled
 pub mod NotOffered
@@ -46,6 +48,9 @@ pub mod RoomLemmas
 pub mod ShortLemmas
 pub mod ShortShown
 pub mod SourceFeedLaws
+pub mod SpanBarRows
+pub mod SpanOpen
+pub mod SpanParts
 pub mod SuggestFeedLaws
 pub mod SuggestionLemmas
 pub mod SuggestionShown

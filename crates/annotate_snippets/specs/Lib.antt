@@ -20,3 +20,4 @@ pub use Rattle.snippet_model.specs.Trusted
 pub use Rattle.snippet_lines.specs.Span
 pub use Rattle.snippet_splice.specs.Edits
 pub mod LineRows
+pub mod SpanBars

@@ -70,6 +70,7 @@ use Rattle.annotate_snippets.specs.Gutter.{frame_of, line_numbers, number_text, 
 use Rattle.annotate_snippets.specs.LineRows.{AreRowsDrawn}
 use Rattle.annotate_snippets.specs.Numbers.{HasNumbersOfLines, IsTitleOfWords, IsUnnumbered}
 use Rattle.annotate_snippets.specs.Page.{RowName, SourceRow, Elision, OfferedLine, RemovedLine, Other, NamedRow, lines_named, lines_offered, lines_removed, names_in, names_of_lines, cells_below, cells_of, rows_below, others, GroupPage, Page, page_text, PrintsPage, IsAscending, page_links}
+use Rattle.annotate_snippets.specs.SpanBars.{ShowsBars}
 use Rattle.annotate_snippets.specs.Rows.{cause_head, message_style, origin_rows, place_found, place_given, rows_after_cause, rows_after_title, suggestion_head}
 
 -- the rows show a title or a message, which answers this: level, identifier, text, and whether that is trusted. They are its rows
@@ -270,7 +271,8 @@ pub record NamesLocation (r : Renderer) (frame : Frame) (s : Snippet Annotation)
 -- a span begins or ends has one source row, and source rows of greater lines stand lower. Where the snippet is of the group's
 -- primary file and has a path and spans that are marked, none of several lines, the first row names the first of their places.
 -- All rows of a line are what its entries, and the bars that are open above it, make of the row that holds the line alone; and no other
--- row stands there, neither above the first line nor below a row in place of lines
+-- row stands there, neither above the first line nor below a row in place of lines. So beside each row between the first and the last
+-- line of a span of several lines stands its bar
 pub record ShowsSnippet (r : Renderer) (frame : Frame) (around : ElementContext) (s : Snippet Annotation) (rows : List NamedRow) : Type 0 where
   pub after : List NamedRow
   pub rows_are : rows ≡ others (cause_head r frame around s) ++ (after ++ others (rows_after_cause r frame around))
@@ -282,6 +284,7 @@ pub record ShowsSnippet (r : Renderer) (frame : Frame) (around : ElementContext)
   pub named : AreRowsOf r frame (closes_with around) s after
   pub drawn : AreRowsDrawn r frame (closes_with around) s [] after
   pub begins : rows_below after ≡ []
+  pub bars : ShowsBars r frame s after
 
 -- the row offers line j of the patched source: its number in the gutter, a separator, `+` or the glyph of a changed line after
 -- it and no other letter or digit between them and the line; and three cells after the gutter, to the row's end, the

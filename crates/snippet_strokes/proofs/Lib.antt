@@ -38,3 +38,5 @@ pub mod LineValueLaws
 pub mod LineExamples
 pub mod StemCells
 pub mod StemLaws
+pub mod AmongLaws
+pub mod EndBarLaws
