@@ -226,7 +226,8 @@ two_spliced false = refl
 -- so no rows show it that don't offer its second line, as where the text is cut off after the first:
 --
 --     1 ~ x
-touched_left_out : {found : List Cell} (s : Snippet Patch) → IsSnippetOf s two_lines two_edits → (frame : Frame) (around : ElementContext) (rows : List NamedRow) → (Contains (lines_offered rows) 1 → ⊥) → ShowsSuggestion plain_settings frame around found s (others (suggestion_head plain_settings frame around s) ++ rows) → ⊥
+touched_left_out : {found : List Cell} (s : Snippet Patch) → IsSnippetOf s two_lines two_edits → (frame : Frame) (around : ElementContext) (rows : List NamedRow)
+    → (Contains (lines_offered rows) 1 → ⊥) → ShowsSuggestion plain_settings frame around found s (others (suggestion_head plain_settings frame around s) ++ rows) → ⊥
 touched_left_out s is frame around rows out shown =
     let same : shown.after ≡ rows = append_cancel_left (others (suggestion_head plain_settings frame around s)) shown.after rows (sym shown.rows_are) in
     let touched : IsTouched (cow_str_bytes s.source) (edits_of s) 1 = subst (λ text. IsTouched text (edits_of s) 1) (sym is.source_is) (subst (λ es. IsTouched two_lines es 1) (sym is.edits_are) second_touched) in
@@ -417,7 +418,8 @@ module _ (v : Vec Patch Global) (frame : Frame) (narrow : frame.gutter ≡ 1) (a
   --     1 - foo
   --     1 + bar
   --       ╰╴
-  suggestion_closes_the_wrong_way : {found : List Cell} (r : Renderer) → r.decor_style ≡ Unicode → (first : NamedRow) (rest : List NamedRow) → first.cells ≡ SPACE ∷ SPACE ∷ text_cells LineNumber (codes "╰╴") → ShowsSuggestion r frame around found foo (others (suggestion_head r frame around foo) ++ (first ∷ rest)) → ⊥
+  suggestion_closes_the_wrong_way : {found : List Cell} (r : Renderer) → r.decor_style ≡ Unicode → (first : NamedRow) (rest : List NamedRow)
+      → first.cells ≡ SPACE ∷ SPACE ∷ text_cells LineNumber (codes "╰╴") → ShowsSuggestion r frame around found foo (others (suggestion_head r frame around foo) ++ (first ∷ rest)) → ⊥
   suggestion_closes_the_wrong_way r decor first rest is shown =
       let Begun : DecorStyle → Type 0 = λ d. HasStrokes d 1 (Begins Opening) first.cells in
       let P : List Cell → Type 0 = λ cells. (get_or cells 2 SPACE).ch ≡ 9581 in

@@ -148,7 +148,8 @@ module _ (r : Renderer) (frame : Frame) (s : Snippet Annotation)
   gap_named : (open_bars : List Bar) (j : ℕ) (ks : List ℕ) (info : AnnotatedLineInfo) (infos : List AnnotatedLineInfo) (rows : List (List Cell))
       → seen_kept info ≡ line_of_snippet j → map seen_kept infos ≡ map line_of_snippet ks
       → strokes.IsGap (layout_in r frame) open_bars info.line_index infos rows → IsGapNamed open_bars j ks rows
-  gap_named open_bars j [] info [] rows here lines gap = record { gap = []; cells = sym gap; lines = λ more. refl; names = λ more none. ap (λ names. SourceRow j ∷ names) none; are = λ more are. are; ends = λ more same. same; begins = λ more none. none; drawn = λ more none drawn. drawn; value = refl }
+  gap_named open_bars j [] info [] rows here lines gap =
+      record { gap = []; cells = sym gap; lines = λ more. refl; names = λ more none. ap (λ names. SourceRow j ∷ names) none; are = λ more are. are; ends = λ more same. same; begins = λ more none. none; drawn = λ more none drawn. drawn; value = refl }
   gap_named open_bars j [] info (next ∷ infos) rows here lines gap = cc
   gap_named open_bars j (k ∷ ks) info [] rows here lines gap = cc
   gap_named open_bars j (k ∷ ks) info (next ∷ infos) rows here lines gap =

@@ -97,7 +97,8 @@ signs_shown r frame around found s lines shown =
     (body_signs layout around.start s under) (ends_sign layout s next around.shared))
 
 -- the rows of a suggestion show it, once they have names: after the row of its path those of its lines
-pub suggestion_shown : (r : Renderer) (frame : Frame) (around : ElementContext) (found : List Cell) (s : Snippet Patch) (rows : List (List Cell)) → IsSuggestible s → s.markers.items ≢ [] → HasRoomFor r frame (Suggestion s) → IsSuggestionDrawn r frame around found s rows → ElementShown r frame around found (Suggestion s) rows
+pub suggestion_shown : (r : Renderer) (frame : Frame) (around : ElementContext) (found : List Cell) (s : Snippet Patch) (rows : List (List Cell))
+    → IsSuggestible s → s.markers.items ≢ [] → HasRoomFor r frame (Suggestion s) → IsSuggestionDrawn r frame around found s rows → ElementShown r frame around found (Suggestion s) rows
 suggestion_shown r frame around found s rows suggestible some room drawn =
     let IsShown : SuggestionRow → List Cell → Type 0 = Shows (suggestion_layout r frame s) (s.line_start + first_given s) (given_lines s) in
     let shown : List SuggestionRow = suggestion_rows around s in

@@ -89,10 +89,14 @@ title_unnumbered r frame place follows title rows shown words =
     let hidden : Bool = is_hidden title.level.name in
     let after_name : List ℕ = id_text hidden title.id ++ colon_of hidden title.id in
     let label : label_text heading ≡ norm (chars (name_of title.level)) ++ after_name = append_assoc (norm (chars (name_of title.level))) (id_text hidden title.id) (colon_of hidden title.id) in
-    let each : (i : ℕ) → i < length shown.own → IsUnnumbered frame.gutter (get_or shown.own i []) = λ i within. ap (λ text. begins_with_number (take (frame.gutter + 1) text)) (shown.shows.texts i ∙ ap (λ first. slice_index_or (texts_below first (row_text (replicate (label_width heading) SPACE)) (heading_lines heading)) i []) label) ∙ text_of_row (frame.gutter + 1) (norm (chars (name_of title.level))) after_name (label_width heading) words.word (omega (arith, words.wide)) (heading_lines heading) i in
+    let text_at : List ℕ → ℕ → List ℕ = λ first i. slice_index_or (texts_below first (row_text (replicate (label_width heading) SPACE)) (heading_lines heading)) i [] in
+    let each : (i : ℕ) → i < length shown.own → IsUnnumbered frame.gutter (get_or shown.own i []) =
+    λ i within. ap (λ text. begins_with_number (take (frame.gutter + 1) text)) (shown.shows.texts i ∙ ap (λ first. text_at first i) label)
+    ∙ text_of_row (frame.gutter + 1) (norm (chars (name_of title.level))) after_name (label_width heading) words.word (omega (arith, words.wide)) (heading_lines heading) i in
     subst (All (IsUnnumbered frame.gutter)) (sym shown.rows_are) (All-append (IsUnnumbered frame.gutter) shown.own (rows_after_title r frame place follows title.allows_styling) (All-from_get_or (IsUnnumbered frame.gutter) shown.own [] each) (after_title r frame _ _))
 
 -- the same of the title that a group has
-pub group_title_unnumbered : (r : Renderer) (frame : Frame) (place : GroupPosition) (follows : Next) (own : Option Title) (title : Title) (rows : List (List Cell)) → ShowsTitlePart r frame place follows own rows → own ≡ Some title → IsTitleOfWords frame.gutter title → All (IsUnnumbered frame.gutter) rows
+pub group_title_unnumbered : (r : Renderer) (frame : Frame) (place : GroupPosition) (follows : Next) (own : Option Title) (title : Title) (rows : List (List Cell))
+    → ShowsTitlePart r frame place follows own rows → own ≡ Some title → IsTitleOfWords frame.gutter title → All (IsUnnumbered frame.gutter) rows
 group_title_unnumbered r frame place follows own title rows shown is words =
     title_unnumbered r frame place follows title rows (subst (λ t. ShowsTitlePart r frame place follows t rows) is shown) words
