@@ -1,8 +1,7 @@
 use Rattle.std.proofs.Common.{◌≡◌, ◌∙◌, ◌+◌, ◌-◌, ◌<◌, ◌^◌, List, ◌++◌, ◌∷◌, [], Bool, true, ℕ, refl, All, map, replicate, ap, sym, subst, arith, length}
 use Rattle.std.proofs.lemmas.Result.{on_ok_weaker}
-use Rattle.snippet_grid.proofs.OutcomeLemmas.{on_ok_two}
 use Rattle.std.proofs.lemmas.List.{length_push, length-map}
-use Rattle.std.proofs.lemmas.List.Sorted.{All-permutation, IsPermutation-map, IsPermutation-trans, length_permutation}
+use Rattle.std.proofs.lemmas.List.Sorted.{All-permutation, length_permutation}
 use Rattle.snippet_view.specs.declared.entries.LineAnnotation.{LineAnnotation}
 use Rattle.snippet_marks.specs.declared.positions.PlacedEntry.{PlacedEntry}
 use Rattle.snippet_marks.specs.Painting.{marks_of, painting_order}
@@ -10,7 +9,7 @@ use Rattle.snippet_marks.specs.Positions.{HasItsLabel}
 use Rattle.snippet_strokes.specs.Drawing.{row_count}
 use Rattle.snippet_style.specs.Cell.{Cell}
 use Rattle.snippet_marks.specs.Entries.{HasPlace, label_text, shifted}
-use Rattle.snippet_strokes.specs.EntryMarks.{HasBarCell, wide_entries}
+use Rattle.snippet_strokes.specs.EntryMarks.{HasBarCell}
 use Rattle.snippet_strokes.proofs.ShiftLemmas.{shifted_places}
 use Rattle.std.specs.List.{list_any}
 use Rattle.snippet_strokes.specs.Cuts.{cut_rows, cuts_of, is_wide_at, overlapped}
@@ -19,7 +18,7 @@ use Rattle.snippet_style.specs.Separators.{separator_row}
 use Rattle.snippet_marks.proofs.OrderLemmas.{IsPermutation-painting_order}
 use Rattle.snippet_marks.proofs.PlacedLemmas.{entries_all}
 use Rattle.snippet_strokes.proofs.PositionLemmas.{row_count_some, positions_of_placed}
-use Rattle.snippet_strokes.proofs.BegunLemmas.{rows_begun, wide_entries-permutation}
+use Rattle.snippet_strokes.proofs.BegunLemmas.{rows_begun}
 use Rattle.snippet_strokes.proofs.ReadyRows.{count_connectors, count_corners, count_labels, count_marks, count_stems, enough_begun, rows_beside, rows_for}
 use Rattle.snippet_strokes.proofs.StrokeLemmas.{strokes_drawn}
 use Rattle.snippet_strokes.proofs.NoStrokes.{strokes_none}
@@ -203,14 +202,12 @@ returns c =
     let stems : stemmed ≡ painted (stems_of layout below placed) barred = c.in_ok-draw_stems.ensures.painted ∙ ap (λ xs. painted (stems_of layout below xs) barred) c.deref-5.ensures.value in
     let labels : labelled ≡ painted (labels_of layout below placed) stemmed = c.in_ok-draw_labels.ensures.painted ∙ ap (λ xs. painted (labels_of layout below xs) stemmed) c.deref-6.ensures.value in
     let marks : new ≡ painted (marks_of layout below after) labelled = c.in_ok-draw_marks.ensures.painted ∙ ap (λ xs. painted (marks_of layout below xs) labelled) c.in_ok-draw_marks.ensures.order in
-    let order : c.deref-7.result.now ≡ after = c.deref-7.ensures.value ∙ c.in_ok-draw_marks.ensures.order in
-    let wide_count : ℕ = wide_entries c.args.room layout.decor (map f c.deref-7.result.now) in
-    let wide : wide_count ≡ wide_entries c.args.room layout.decor es =
-    ap (λ ps. wide_entries c.args.room layout.decor (map f ps)) order
-    ∙ wide_entries-permutation c.args.room layout.decor es (map f after)
-    (IsPermutation-trans es (map f placed) (map f after) are.same (IsPermutation-map f placed after (IsPermutation-painting_order placed))) in
+    let flags = c.in_ok-overlapped.overlapped.items in
+    let final = c.cut_wide.new.buffer in
+    let cut_to : List PlacedEntry → List Bool → List (List Cell) = λ ps fs. cut_rows layout.decor c.args.row (cuts_of layout c.args.room ps fs) new in
+    let final_is : final ≡ cut_to c.deref-7.result.now c.deref-8.result.now → final ≡ cut_to after flags = λ value. value ∙ ap (λ ps. cut_to ps c.deref-8.result.now) (c.deref-7.ensures.value ∙ c.in_ok-draw_marks.ensures.order) ∙ ap (cut_to after) c.deref-8.ensures.value in
     record {
-      added = on_ok_weaker c.cut_wide.result (λ cut above plain old_is bare_bars.
+      added = on_ok_weaker c.cut_wide.result (λ value above plain old_is bare_bars.
           let last : length above + 1 ≡ length old = sym (ap length old_is ∙ length_push above plain) in
           let source_row : c.args.row ≡ length above = omega (arith, last, c.requires.last) in
           let marks_row : below ≡ length above + 1 = c.in_ok-below.ensures.row ∙ sym last in
@@ -221,9 +218,9 @@ returns c =
           (stems ∙ ap (λ n. painted (stems_of layout n placed) barred) marks_row)
           (labels ∙ ap (λ n. painted (labels_of layout n placed) stemmed) marks_row)
           (marks ∙ ap (λ n. painted (marks_of layout n after) labelled) marks_row)
-          c.cut_wide.new.buffer wide_count some wide (λ up source marks rest same. cut up source marks rest (same ∙ sym source_row))) c.cut_wide.ensures.cut;
-      none = on_ok_weaker c.cut_wide.result (λ _ none. absurd (omega (arith, given, none))) c.cut_wide.ensures.cut;
-      painted = on_ok_two c.cut_wide.result (λ cut value _ above plain old_is.
+          final flags some (final_is value ∙ ap (λ n. cut_rows layout.decor n (cuts_of layout c.args.room after flags) new) source_row)) c.cut_wide.ensures.value;
+      none = on_ok_weaker c.cut_wide.result (λ _ none. absurd (omega (arith, given, none))) c.cut_wide.ensures.value;
+      painted = on_ok_weaker c.cut_wide.result (λ value _ above plain old_is.
           let last_row : c.args.row ≡ length above = omega (arith, c.requires.last, ap length old_is, length_push above plain) in
           let all : ℕ = length old + row_count placed in
           let lined : length joined ≡ length begun = count_connectors enough c.begin_rows.new.buffer refl c.deref-3.ensures.value c.draw_connectors.new.buffer c.in_ok-draw_connectors.ensures.painted in
@@ -234,11 +231,8 @@ returns c =
           let stemmed_long = count_stems enough c.draw_corners.new.buffer barred_long c.deref-5.ensures.value c.draw_stems.new.buffer c.in_ok-draw_stems.ensures.painted in
           let labelled_long = count_labels enough c.draw_stems.new.buffer stemmed_long c.deref-6.ensures.value c.draw_labels.new.buffer c.in_ok-draw_labels.ensures.painted in
           let all_rows : length new ≡ all = count_marks enough _ c.draw_labels.new.buffer c.draw_marks.new.buffer labelled_long c.in_ok-draw_marks.ensures.painted ∙ long in
-          let flags = c.in_ok-overlapped.overlapped.items in
           let is_wide : PlacedEntry → Bool = is_wide_at c.args.room layout.decor in
           let flags_are : list_any is_wide placed ≡ true → flags ≡ overlapped placed = λ some_wide. c.in_ok-overlapped.ensures.value (ap (list_any is_wide) c.deref.ensures.value ∙ some_wide) ∙ ap overlapped c.deref.ensures.value in
-          let cut_to : List PlacedEntry → List Bool → List (List Cell) = λ ps fs. cut_rows layout.decor c.args.row (cuts_of layout c.args.room ps fs) new in
-          let final_is = value ∙ ap (λ ps. cut_to ps c.deref-8.result.now) order ∙ ap (cut_to after) c.deref-8.ensures.value in
-          painted_added layout c.args.room c.args.closes es placed after flags above plain old new c.cut_wide.new.buffer c.args.row wide_count
-          are refl old_is last_row all_rows new_is wide (IsPermutation-painting_order placed) flags_are final_is cut) c.cut_wide.ensures.cut c.cut_wide.ensures.value;
+          painted_added layout c.args.room c.args.closes es placed flags above plain old new final c.args.row
+          are old_is last_row all_rows new_is flags_are (final_is value)) c.cut_wide.ensures.value;
     }
