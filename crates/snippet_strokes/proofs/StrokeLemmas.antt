@@ -1,5 +1,5 @@
 -- The rows of a line's strokes, once all are drawn.
-use Rattle.std.proofs.Common.{◌≡◌, ◌≢◌, ℕ, zero, suc, ◌+◌, ◌-◌, ◌<◌, ◌≤◌, ◌==◌, ◌&&◌, max, not, Bool, true, false, List, [], ◌∷◌, ◌++◌, length, map, take, drop, replicate, get_or, refl, sym, ap, ◌∙◌, subst, arith, inl, inr, All, Contains, chars}
+use Rattle.std.proofs.Common.{◌≡◌, ◌≢◌, ℕ, zero, suc, ◌+◌, ◌-◌, ◌<◌, ◌≤◌, ◌==◌, ◌&&◌, max, not, Bool, true, false, List, [], ◌∷◌, ◌++◌, length, map, take, drop, replicate, get_or, refl, sym, ap, ◌∙◌, subst, arith, inl, inr, All, chars}
 use Rattle.std.specs.List.{slice_index_or}
 use Rattle.std.specs.List.Sorted.{IsPermutation}
 use Rattle.std.specs.Cow.{cow_str_bytes}
@@ -7,7 +7,7 @@ use Rattle.std.proofs.lemmas.Bool.{cases_lt}
 use Rattle.std.proofs.lemmas.Bool.Decides.{nat_tests}
 use Rattle.std.proofs.lemmas.List.{length-append, length-replicate, length-map, length-drop, get_or_append_left, get_or_past, get_or_push, length_push, get_or-drop, drop_more, take-take}
 use Rattle.std.proofs.lemmas.List.Elements.{All-from_get_or, All-nil, All-cons}
-use Rattle.std.proofs.lemmas.List.Sorted.{IsPermutation-map, IsPermutation-trans, length_permutation, Contains-permutation}
+use Rattle.std.proofs.lemmas.List.Sorted.{IsPermutation-map, IsPermutation-trans, length_permutation}
 use Rattle.snippet_view.specs.declared.entries.LineAnnotation.{LineAnnotation}
 use Rattle.snippet_view.specs.Window.{AreReplaced}
 use Rattle.snippet_style.specs.Glyphs.{placeholder_of}
@@ -26,13 +26,14 @@ use Rattle.snippet_marks.specs.Writes.{painted}
 use Rattle.snippet_strokes.specs.Drawing.{DrawsFrom, DrawsBarCells, HasRows, KeepsBarCells, MarksStarts, StandsFrom, row_count}
 use Rattle.snippet_marks.specs.Positions.{HasItsLabel, has_label, has_stem, takes_space, positions, line_positions, ArePlaced}
 use Rattle.snippet_marks.specs.SourceRows.{bare_row}
+use Rattle.snippet_strokes.specs.Cuts.{cut_rows, cuts_of}
 use Rattle.snippet_strokes.specs.Rows.{CutsRows, IsBeside, IsCut, HasNoBars, IsStrokeRow, AddsStrokes, ShowsMarks}
 use Rattle.snippet_style.specs.Separators.{separator_row}
 use Rattle.snippet_strokes.proofs.DrawLemmas.{DrawsFrom-more, bar_space}
 use Rattle.snippet_strokes.specs.Labels.{IsStrokeCell}
 use Rattle.snippet_strokes.specs.Strokes.{connectors_of, corners_of, labels_of, stems_of, strokes_of}
 use Rattle.snippet_strokes.proofs.LabelPlaces.{HasStrokesBeside, LabelsStand-placed}
-use Rattle.snippet_strokes.proofs.StrokeCells.{BesideLabels, cell_of_strokes}
+use Rattle.snippet_strokes.proofs.StrokeCells.{cell_of_strokes}
 use Rattle.snippet_strokes.proofs.StemCells.{IsHung, all_hung}
 use Rattle.snippet_strokes.proofs.MarkLemmas.{mark_shown}
 use Rattle.snippet_strokes.proofs.PlainMarks.{IsPlainEntry, covered_painted, mark_end_plain, spaceless}
@@ -46,7 +47,8 @@ use Rattle.snippet_strokes.proofs.LabelLaw.{labels_stand}
 use Rattle.snippet_strokes.proofs.StrokeWrites.{strokes_painted}
 use Rattle.snippet_strokes.proofs.PositionLemmas.{HasRows-row_count, line_positions_low, of_positions, positions-unlabelled, positions_sole, row_count_one, row_count_some, stemless_bare, stemless_beside}
 use Rattle.snippet_strokes.proofs.RowLemmas.{bare_row_short, bare_row_right, free_bare_row}
-use Rattle.snippet_strokes.proofs.BegunLemmas.{kept_above, begun_row, written_far, same_after, free_cell, sole, plain_entries, plain_narrow, cut_left, IsStrokeRow-cut, same_front}
+use Rattle.snippet_strokes.proofs.BegunLemmas.{kept_above, begun_row, written_far, same_after, free_cell, sole, plain_entries, plain_narrow, cut_left, IsStrokeRow-cut, same_front, sole_same, wide_entries-order}
+use Rattle.snippet_strokes.proofs.CutLemmas.{CutsRows-cuts}
 
 module _ (layout : Layout) (room : ℕ) (closes : Bool) (es : List LineAnnotation) (placed : List PlacedEntry) (above_rows : List (List Cell)) (plain_row : List Cell) (begun joined barred stemmed labelled new : List (List Cell))
     (place : layout.gutter + 3 ≤ layout.code)
@@ -152,14 +154,6 @@ module _ (layout : Layout) (room : ℕ) (closes : Bool) (es : List LineAnnotatio
   new_is : new ≡ painted (strokes_of layout (length above_rows) (length begun) placed (painting_order placed)) begun
   new_is =
       strokes_painted layout (length above_rows) row (length joined) (length begun) placed (painting_order placed) begun begun joined barred stemmed labelled new refl lines.count refl lines_are bars_are stems_are labels_are marks_are
-
-  strokes : (r c : ℕ) → layout.code ≤ c → IsStrokeCell layout.decor (cell_at begun r c) → BesideLabels layout row r c placed → IsStrokeCell layout.decor (cell_at new r c)
-  strokes r c right before beside =
-      subst (λ rows. IsStrokeCell layout.decor (cell_at rows r c)) (sym new_is) (cell_of_strokes layout r c right (length above_rows) (length begun) placed (painting_order placed) begun bar_cells before beside)
-
-  hung : All (IsHung layout row placed new) placed
-  hung =
-      subst (λ rows. All (IsHung layout row placed rows) placed) (sym new_is) (all_hung layout (length above_rows) (length begun) placed (painting_order placed) begun)
 
   -- ---- the rows once all are drawn
 
@@ -346,27 +340,16 @@ module _ (layout : Layout) (room : ℕ) (closes : Bool) (es : List LineAnnotatio
       let long : length placed ≡ 1 = sym (length-map placed f) ∙ length_permutation es (map f placed) is.same ∙ ap length one in
       let found = sole placed long in
       let q : PlacedEntry = found.0 in
-      let entry : q.entry ≡ e = sole_entry q e (subst (λ xs. IsPermutation xs (q.entry ∷ [])) one (subst (λ ps. IsPermutation es (map f ps)) found.1 is.same)) in
+      let entry : q.entry ≡ e = sole_same e q.entry (subst (λ xs. IsPermutation xs (q.entry ∷ [])) one (subst (λ ps. IsPermutation es (map f ps)) found.1 is.same)) in
       let at : All (λ (x : PlacedEntry). x.position ≤ 0) placed = highest (subst (λ ps. All (λ q. q ≤ 0) (positions 0 ps)) (sym found.1) (subst (All (λ q. q ≤ 0)) (sym (positions_sole q)) (All-cons (λ q. q ≤ 0) 0 [] (omega arith) (All-nil (λ q. q ≤ 0))))) in
       let first : q.position ≤ 0 = subst (All (λ (x : PlacedEntry). x.position ≤ 0)) found.1 at 0 q (omega arith) in
       (q, found.1, entry, omega (arith, first))
-    where
-      sole_entry : (q : PlacedEntry) (e : LineAnnotation) → IsPermutation (e ∷ []) (q.entry ∷ []) → q.entry ≡ e
-      sole_entry q e same = in_one (Contains-permutation (e ∷ []) (q.entry ∷ []) e same (0, omega arith, refl))
-        where
-          in_one : Contains (q.entry ∷ []) e → q.entry ≡ e
-          in_one (zero, within, here) = here
-          in_one (suc k, within, here) = absurd (omega arith)
 
   lone_order : (q : PlacedEntry) → placed ≡ q ∷ [] → marked.order ≡ q ∷ []
   lone_order q one =
       let long : length marked.order ≡ 1 = length_permutation placed marked.order marked.same ∙ ap length one in
       let found = sole marked.order long in
-      found.1 ∙ ap (λ x. x ∷ []) (in_one found.0 (Contains-permutation (q ∷ []) (found.0 ∷ []) q (subst (λ xs. IsPermutation xs (found.0 ∷ [])) one (subst (IsPermutation placed) found.1 marked.same)) (0, omega arith, refl)))
-    where
-      in_one : (x : PlacedEntry) → Contains (x ∷ []) q → x ≡ q
-      in_one x (zero, within, here) = here
-      in_one x (suc k, within, here) = absurd (omega arith)
+      found.1 ∙ ap (λ x. x ∷ []) (sole_same q found.0 (subst (λ xs. IsPermutation xs (found.0 ∷ [])) one (subst (IsPermutation placed) found.1 marked.same)))
 
   -- after the mark of a line's one entry stand a space and its label
   lone : plain ≡ true → (e : LineAnnotation) → es ≡ e ∷ [] → e.start.display < e.end.display → 0 < length (label_text e) → drop (layout.code + e.end.display) (row_at new row) ≡ SPACE ∷ text_cells (label_role e.kind) (label_text e)
@@ -473,7 +456,7 @@ module _ (layout : Layout) (room : ℕ) (closes : Bool) (es : List LineAnnotatio
   -- so in each cell that no label has stands a space or a stroke
   beside_labels : HasStrokesBeside layout row placed new
   beside_labels k c right beside =
-      strokes (row + k) c right (inl (begun_space k c right)) beside
+      subst (λ rows. IsStrokeCell layout.decor (cell_at rows (row + k) c)) (sym new_is) (cell_of_strokes layout (row + k) c right (length above_rows) (length begun) placed (painting_order placed) begun bar_cells (inl (begun_space k c right)) beside)
 
   -- the rows of a line's strokes are added, once those of the source and of the marks are cut where entries are wide
   pub strokes_added : (final : List (List Cell)) → 0 < length es → CutsRows layout (wide_entries room layout.decor es) above_rows source (row_at new row) lower final → AddsStrokes layout room es closes above_rows plain_row final
@@ -493,7 +476,7 @@ module _ (layout : Layout) (room : ℕ) (closes : Bool) (es : List LineAnnotatio
           lone = λ flat one. long ∙ one_row_lone one;
           bare = λ flat none. omega (arith, long, one_row_bare flat none);
           marks = λ flat. subst (ShowsMarks layout.decor layout.code es) (sym (cuts.marks_cut.uncut (narrow flat))) (shows_marks flat);
-          labels = λ uncut _. LabelsStand-placed layout row es placed new rows is places stands beside_labels hung (rows_new cuts.marks_now (cuts.marks_cut.uncut uncut));
+          labels = λ uncut _. LabelsStand-placed layout row es placed new rows is places stands beside_labels (subst (λ rows. All (IsHung layout row placed rows) placed) (sym new_is) (all_hung layout (length above_rows) (length begun) placed (painting_order placed) begun)) (rows_new cuts.marks_now (cuts.marks_cut.uncut uncut));
           are = λ k inside. subst (λ n. IsStrokeRow layout plain es (closes && k + 1 == n) (row_at rows k)) (sym long) (stroke_rows wide narrow cuts.marks_now cuts.marks_cut k (omega (arith, inside, long)));
         };
       }
@@ -504,10 +487,11 @@ module _ (layout : Layout) (room : ℕ) (closes : Bool) (es : List LineAnnotatio
       stroke_rows wide narrow marks_now cut (suc k) within =
           subst (IsStrokeRow layout plain es (closes && suc k + 1 == row_count placed)) (sym (lower_at k)) (stroke_row (suc k) within)
 
-  -- the same, from what the cut says of any rows above, between and below
-  pub strokes_drawn : (final : List (List Cell)) (wide : ℕ) → 0 < length es → wide ≡ wide_entries room layout.decor es
-      → ((above : List (List Cell)) (source marks : List Cell) (below : List (List
-      Cell)) → length above ≡ length above_rows → new ≡ above ++ source ∷ marks ∷ below → CutsRows layout wide above source marks below final)
-      → AddsStrokes layout room es closes above_rows plain_row final
-  strokes_drawn final wide some same cut =
-      strokes_added final some (subst (λ n. CutsRows layout n above_rows source (row_at new row) lower final) same (cut above_rows source (row_at new row) lower refl rows_split))
+  -- the same, where it is known what is cut
+  pub strokes_drawn : (final : List (List Cell)) (flags : List Bool) → 0 < length es → final ≡ cut_rows layout.decor (length above_rows) (cuts_of layout room (painting_order placed) flags) new → AddsStrokes layout room es closes above_rows plain_row final
+  strokes_drawn final flags some final_is =
+      let order = painting_order placed in
+      let n : ℕ = length above_rows in
+      let marks_row : List Cell = row_at new row in
+      let parts : final ≡ cut_rows layout.decor n (cuts_of layout room order flags) (above_rows ++ source ∷ marks_row ∷ lower) = final_is ∙ ap (cut_rows layout.decor n (cuts_of layout room order flags)) rows_split in
+      strokes_added final some (subst (λ wide. CutsRows layout wide above_rows source marks_row lower final) (wide_entries-order room layout.decor es placed is) (subst (CutsRows layout (wide_entries room layout.decor (map f order)) above_rows source marks_row lower) (sym parts) (CutsRows-cuts layout room n order flags above_rows source marks_row lower refl)))

@@ -1,9 +1,8 @@
 use Rattle.std.proofs.Common.{◌≡◌, ◌∙◌, ◌+◌, ◌-◌, ◌<◌, ◌^◌, List, ◌++◌, ◌∷◌, [], Bool, true, ℕ, refl, All, map, replicate, ap, sym, subst, arith, length}
 use Rattle.std.proofs.lemmas.Result.{on_ok_weaker}
 use Rattle.snippet_grid.specs.Layout.{Layout}
-use Rattle.snippet_grid.proofs.OutcomeLemmas.{on_ok_two}
 use Rattle.std.proofs.lemmas.List.{length_push, length-map}
-use Rattle.std.proofs.lemmas.List.Sorted.{All-permutation, IsPermutation-map, IsPermutation-trans, length_permutation}
+use Rattle.std.proofs.lemmas.List.Sorted.{All-permutation, length_permutation}
 use Rattle.snippet_view.specs.declared.entries.LineAnnotation.{LineAnnotation}
 use Rattle.snippet_marks.specs.declared.positions.PlacedEntry.{PlacedEntry}
 use Rattle.snippet_marks.specs.Painting.{marks_of, painting_order}
@@ -11,7 +10,7 @@ use Rattle.snippet_marks.specs.Positions.{HasItsLabel}
 use Rattle.snippet_strokes.specs.Drawing.{row_count}
 use Rattle.snippet_style.specs.Cell.{Cell}
 use Rattle.snippet_marks.specs.Entries.{HasPlace, label_text, shifted}
-use Rattle.snippet_strokes.specs.EntryMarks.{HasBarCell, wide_entries}
+use Rattle.snippet_strokes.specs.EntryMarks.{HasBarCell}
 use Rattle.snippet_strokes.proofs.ShiftLemmas.{shifted_places}
 use Rattle.std.specs.List.{list_any}
 use Rattle.snippet_strokes.specs.Cuts.{cut_rows, cuts_of, is_wide_at, overlapped}
@@ -20,7 +19,7 @@ use Rattle.snippet_style.specs.Separators.{separator_row}
 use Rattle.snippet_marks.proofs.OrderLemmas.{IsPermutation-painting_order}
 use Rattle.snippet_marks.proofs.PlacedLemmas.{entries_all}
 use Rattle.snippet_strokes.proofs.PositionLemmas.{row_count_some, positions_of_placed}
-use Rattle.snippet_strokes.proofs.BegunLemmas.{rows_begun, wide_entries-permutation}
+use Rattle.snippet_strokes.proofs.BegunLemmas.{rows_begun}
 use Rattle.snippet_strokes.proofs.ReadyRows.{count_connectors, count_corners, count_labels, count_marks, count_stems, enough_begun, rows_beside, rows_for}
 use Rattle.snippet_strokes.proofs.StrokeLemmas.{strokes_drawn}
 use Rattle.snippet_strokes.proofs.NoStrokes.{strokes_none}
@@ -46,63 +45,74 @@ overlapping-requires c =
 
 pub draw_connectors-requires-clause-columns : goal.draw_connectors-requires-clause-columns
 draw_connectors-requires-clause-columns c =
-    let enough = enough_begun c.args.layout c.args.dropped c.args.entries.now c.args.buffer.now c.begin_rows.new.buffer _ _ c.requires.columns c.requires.bar_cells c.in_ok-placed.ensures.placed (c.row_count.ensures.value ∙ ap row_count c.deref-2.ensures.value) c.requires.last c.in_ok-below.ensures.row c.in_ok-below.ensures.added c.in_ok-below.ensures.small in
+    let enough = enough_begun c.args.layout c.args.dropped c.args.entries.now c.args.buffer.now c.begin_rows.new.buffer _ _ c.requires.columns
+    c.requires.bar_cells c.in_ok-placed.ensures.placed (c.row_count.ensures.value ∙ ap row_count c.deref-2.ensures.value) c.requires.last c.in_ok-below.ensures.row c.in_ok-below.ensures.added c.in_ok-below.ensures.small in
     subst (All (λ (e : PlacedEntry). HasPlace e.entry)) (sym c.deref-3.ensures.value) enough.places
 
 pub draw_connectors-requires-clause-bar_cells : goal.draw_connectors-requires-clause-bar_cells
 draw_connectors-requires-clause-bar_cells c =
-    let enough = enough_begun c.args.layout c.args.dropped c.args.entries.now c.args.buffer.now c.begin_rows.new.buffer _ _ c.requires.columns c.requires.bar_cells c.in_ok-placed.ensures.placed (c.row_count.ensures.value ∙ ap row_count c.deref-2.ensures.value) c.requires.last c.in_ok-below.ensures.row c.in_ok-below.ensures.added c.in_ok-below.ensures.small in
+    let enough = enough_begun c.args.layout c.args.dropped c.args.entries.now c.args.buffer.now c.begin_rows.new.buffer _ _ c.requires.columns
+    c.requires.bar_cells c.in_ok-placed.ensures.placed (c.row_count.ensures.value ∙ ap row_count c.deref-2.ensures.value) c.requires.last c.in_ok-below.ensures.row c.in_ok-below.ensures.added c.in_ok-below.ensures.small in
     subst (All (λ (e : PlacedEntry). HasBarCell c.args.layout e.entry)) (sym c.deref-3.ensures.value) enough.bar_cells
 
 pub draw_connectors-requires-clause-rows : goal.draw_connectors-requires-clause-rows
 draw_connectors-requires-clause-rows c =
-    let enough = enough_begun c.args.layout c.args.dropped c.args.entries.now c.args.buffer.now c.begin_rows.new.buffer _ _ c.requires.columns c.requires.bar_cells c.in_ok-placed.ensures.placed (c.row_count.ensures.value ∙ ap row_count c.deref-2.ensures.value) c.requires.last c.in_ok-below.ensures.row c.in_ok-below.ensures.added c.in_ok-below.ensures.small in
+    let enough = enough_begun c.args.layout c.args.dropped c.args.entries.now c.args.buffer.now c.begin_rows.new.buffer _ _ c.requires.columns
+    c.requires.bar_cells c.in_ok-placed.ensures.placed (c.row_count.ensures.value ∙ ap row_count c.deref-2.ensures.value) c.requires.last c.in_ok-below.ensures.row c.in_ok-below.ensures.added c.in_ok-below.ensures.small in
     rows_for enough c.begin_rows.new.buffer refl c.deref-3.ensures.value
 
 pub draw_corners-requires-clause-bar_cells : goal.draw_corners-requires-clause-bar_cells
 draw_corners-requires-clause-bar_cells c =
-    let enough = enough_begun c.args.layout c.args.dropped c.args.entries.now c.args.buffer.now c.begin_rows.new.buffer _ _ c.requires.columns c.requires.bar_cells c.in_ok-placed.ensures.placed (c.row_count.ensures.value ∙ ap row_count c.deref-2.ensures.value) c.requires.last c.in_ok-below.ensures.row c.in_ok-below.ensures.added c.in_ok-below.ensures.small in
+    let enough = enough_begun c.args.layout c.args.dropped c.args.entries.now c.args.buffer.now c.begin_rows.new.buffer _ _ c.requires.columns
+    c.requires.bar_cells c.in_ok-placed.ensures.placed (c.row_count.ensures.value ∙ ap row_count c.deref-2.ensures.value) c.requires.last c.in_ok-below.ensures.row c.in_ok-below.ensures.added c.in_ok-below.ensures.small in
     subst (All (λ (e : PlacedEntry). HasBarCell c.args.layout e.entry)) (sym c.deref-4.ensures.value) enough.bar_cells
 
 pub draw_corners-requires-clause-small : goal.draw_corners-requires-clause-small
 draw_corners-requires-clause-small c =
-    let enough = enough_begun c.args.layout c.args.dropped c.args.entries.now c.args.buffer.now c.begin_rows.new.buffer _ _ c.requires.columns c.requires.bar_cells c.in_ok-placed.ensures.placed (c.row_count.ensures.value ∙ ap row_count c.deref-2.ensures.value) c.requires.last c.in_ok-below.ensures.row c.in_ok-below.ensures.added c.in_ok-below.ensures.small in
+    let enough = enough_begun c.args.layout c.args.dropped c.args.entries.now c.args.buffer.now c.begin_rows.new.buffer _ _ c.requires.columns
+    c.requires.bar_cells c.in_ok-placed.ensures.placed (c.row_count.ensures.value ∙ ap row_count c.deref-2.ensures.value) c.requires.last c.in_ok-below.ensures.row c.in_ok-below.ensures.added c.in_ok-below.ensures.small in
     let joined = count_connectors enough c.begin_rows.new.buffer refl c.deref-3.ensures.value c.draw_connectors.new.buffer c.in_ok-draw_connectors.ensures.painted in
     omega (arith, joined, enough.small)
 
 pub draw_corners-requires-clause-rows : goal.draw_corners-requires-clause-rows
 draw_corners-requires-clause-rows c =
-    let enough = enough_begun c.args.layout c.args.dropped c.args.entries.now c.args.buffer.now c.begin_rows.new.buffer _ _ c.requires.columns c.requires.bar_cells c.in_ok-placed.ensures.placed (c.row_count.ensures.value ∙ ap row_count c.deref-2.ensures.value) c.requires.last c.in_ok-below.ensures.row c.in_ok-below.ensures.added c.in_ok-below.ensures.small in
+    let enough = enough_begun c.args.layout c.args.dropped c.args.entries.now c.args.buffer.now c.begin_rows.new.buffer _ _ c.requires.columns
+    c.requires.bar_cells c.in_ok-placed.ensures.placed (c.row_count.ensures.value ∙ ap row_count c.deref-2.ensures.value) c.requires.last c.in_ok-below.ensures.row c.in_ok-below.ensures.added c.in_ok-below.ensures.small in
     let joined = count_connectors enough c.begin_rows.new.buffer refl c.deref-3.ensures.value c.draw_connectors.new.buffer c.in_ok-draw_connectors.ensures.painted in
     rows_beside enough c.draw_connectors.new.buffer joined c.deref-4.ensures.value
 
 pub draw_stems-requires-clause-columns : goal.draw_stems-requires-clause-columns
 draw_stems-requires-clause-columns c =
-    let enough = enough_begun c.args.layout c.args.dropped c.args.entries.now c.args.buffer.now c.begin_rows.new.buffer _ _ c.requires.columns c.requires.bar_cells c.in_ok-placed.ensures.placed (c.row_count.ensures.value ∙ ap row_count c.deref-2.ensures.value) c.requires.last c.in_ok-below.ensures.row c.in_ok-below.ensures.added c.in_ok-below.ensures.small in
+    let enough = enough_begun c.args.layout c.args.dropped c.args.entries.now c.args.buffer.now c.begin_rows.new.buffer _ _ c.requires.columns
+    c.requires.bar_cells c.in_ok-placed.ensures.placed (c.row_count.ensures.value ∙ ap row_count c.deref-2.ensures.value) c.requires.last c.in_ok-below.ensures.row c.in_ok-below.ensures.added c.in_ok-below.ensures.small in
     subst (All (λ (e : PlacedEntry). HasPlace e.entry)) (sym c.deref-5.ensures.value) enough.places
 
 pub draw_stems-requires-clause-small : goal.draw_stems-requires-clause-small
 draw_stems-requires-clause-small c =
-    let enough = enough_begun c.args.layout c.args.dropped c.args.entries.now c.args.buffer.now c.begin_rows.new.buffer _ _ c.requires.columns c.requires.bar_cells c.in_ok-placed.ensures.placed (c.row_count.ensures.value ∙ ap row_count c.deref-2.ensures.value) c.requires.last c.in_ok-below.ensures.row c.in_ok-below.ensures.added c.in_ok-below.ensures.small in
+    let enough = enough_begun c.args.layout c.args.dropped c.args.entries.now c.args.buffer.now c.begin_rows.new.buffer _ _ c.requires.columns
+    c.requires.bar_cells c.in_ok-placed.ensures.placed (c.row_count.ensures.value ∙ ap row_count c.deref-2.ensures.value) c.requires.last c.in_ok-below.ensures.row c.in_ok-below.ensures.added c.in_ok-below.ensures.small in
     let joined = count_connectors enough c.begin_rows.new.buffer refl c.deref-3.ensures.value c.draw_connectors.new.buffer c.in_ok-draw_connectors.ensures.painted in
     let barred = count_corners enough c.draw_connectors.new.buffer joined c.deref-4.ensures.value c.draw_corners.new.buffer c.in_ok-draw_corners.ensures.painted in
     omega (arith, barred, enough.small)
 
 pub draw_stems-requires-clause-rows : goal.draw_stems-requires-clause-rows
 draw_stems-requires-clause-rows c =
-    let enough = enough_begun c.args.layout c.args.dropped c.args.entries.now c.args.buffer.now c.begin_rows.new.buffer _ _ c.requires.columns c.requires.bar_cells c.in_ok-placed.ensures.placed (c.row_count.ensures.value ∙ ap row_count c.deref-2.ensures.value) c.requires.last c.in_ok-below.ensures.row c.in_ok-below.ensures.added c.in_ok-below.ensures.small in
+    let enough = enough_begun c.args.layout c.args.dropped c.args.entries.now c.args.buffer.now c.begin_rows.new.buffer _ _ c.requires.columns
+    c.requires.bar_cells c.in_ok-placed.ensures.placed (c.row_count.ensures.value ∙ ap row_count c.deref-2.ensures.value) c.requires.last c.in_ok-below.ensures.row c.in_ok-below.ensures.added c.in_ok-below.ensures.small in
     let joined = count_connectors enough c.begin_rows.new.buffer refl c.deref-3.ensures.value c.draw_connectors.new.buffer c.in_ok-draw_connectors.ensures.painted in
     let barred = count_corners enough c.draw_connectors.new.buffer joined c.deref-4.ensures.value c.draw_corners.new.buffer c.in_ok-draw_corners.ensures.painted in
     rows_for enough c.draw_corners.new.buffer barred c.deref-5.ensures.value
 
 pub draw_labels-requires-clause-columns : goal.draw_labels-requires-clause-columns
 draw_labels-requires-clause-columns c =
-    let enough = enough_begun c.args.layout c.args.dropped c.args.entries.now c.args.buffer.now c.begin_rows.new.buffer _ _ c.requires.columns c.requires.bar_cells c.in_ok-placed.ensures.placed (c.row_count.ensures.value ∙ ap row_count c.deref-2.ensures.value) c.requires.last c.in_ok-below.ensures.row c.in_ok-below.ensures.added c.in_ok-below.ensures.small in
+    let enough = enough_begun c.args.layout c.args.dropped c.args.entries.now c.args.buffer.now c.begin_rows.new.buffer _ _ c.requires.columns
+    c.requires.bar_cells c.in_ok-placed.ensures.placed (c.row_count.ensures.value ∙ ap row_count c.deref-2.ensures.value) c.requires.last c.in_ok-below.ensures.row c.in_ok-below.ensures.added c.in_ok-below.ensures.small in
     subst (All (λ (e : PlacedEntry). HasPlace e.entry)) (sym c.deref-6.ensures.value) enough.places
 
 pub draw_labels-requires-clause-small : goal.draw_labels-requires-clause-small
 draw_labels-requires-clause-small c =
-    let enough = enough_begun c.args.layout c.args.dropped c.args.entries.now c.args.buffer.now c.begin_rows.new.buffer _ _ c.requires.columns c.requires.bar_cells c.in_ok-placed.ensures.placed (c.row_count.ensures.value ∙ ap row_count c.deref-2.ensures.value) c.requires.last c.in_ok-below.ensures.row c.in_ok-below.ensures.added c.in_ok-below.ensures.small in
+    let enough = enough_begun c.args.layout c.args.dropped c.args.entries.now c.args.buffer.now c.begin_rows.new.buffer _ _ c.requires.columns
+    c.requires.bar_cells c.in_ok-placed.ensures.placed (c.row_count.ensures.value ∙ ap row_count c.deref-2.ensures.value) c.requires.last c.in_ok-below.ensures.row c.in_ok-below.ensures.added c.in_ok-below.ensures.small in
     let joined = count_connectors enough c.begin_rows.new.buffer refl c.deref-3.ensures.value c.draw_connectors.new.buffer c.in_ok-draw_connectors.ensures.painted in
     let barred = count_corners enough c.draw_connectors.new.buffer joined c.deref-4.ensures.value c.draw_corners.new.buffer c.in_ok-draw_corners.ensures.painted in
     let stemmed = count_stems enough c.draw_corners.new.buffer barred c.deref-5.ensures.value c.draw_stems.new.buffer c.in_ok-draw_stems.ensures.painted in
@@ -110,7 +120,8 @@ draw_labels-requires-clause-small c =
 
 pub draw_labels-requires-clause-rows : goal.draw_labels-requires-clause-rows
 draw_labels-requires-clause-rows c =
-    let enough = enough_begun c.args.layout c.args.dropped c.args.entries.now c.args.buffer.now c.begin_rows.new.buffer _ _ c.requires.columns c.requires.bar_cells c.in_ok-placed.ensures.placed (c.row_count.ensures.value ∙ ap row_count c.deref-2.ensures.value) c.requires.last c.in_ok-below.ensures.row c.in_ok-below.ensures.added c.in_ok-below.ensures.small in
+    let enough = enough_begun c.args.layout c.args.dropped c.args.entries.now c.args.buffer.now c.begin_rows.new.buffer _ _ c.requires.columns
+    c.requires.bar_cells c.in_ok-placed.ensures.placed (c.row_count.ensures.value ∙ ap row_count c.deref-2.ensures.value) c.requires.last c.in_ok-below.ensures.row c.in_ok-below.ensures.added c.in_ok-below.ensures.small in
     let joined = count_connectors enough c.begin_rows.new.buffer refl c.deref-3.ensures.value c.draw_connectors.new.buffer c.in_ok-draw_connectors.ensures.painted in
     let barred = count_corners enough c.draw_connectors.new.buffer joined c.deref-4.ensures.value c.draw_corners.new.buffer c.in_ok-draw_corners.ensures.painted in
     let stemmed = count_stems enough c.draw_corners.new.buffer barred c.deref-5.ensures.value c.draw_stems.new.buffer c.in_ok-draw_stems.ensures.painted in
@@ -127,13 +138,15 @@ draw_labels-requires-clause-short c =
 
 pub draw_marks-requires-clause-columns : goal.draw_marks-requires-clause-columns
 draw_marks-requires-clause-columns c =
-    let enough = enough_begun c.args.layout c.args.dropped c.args.entries.now c.args.buffer.now c.begin_rows.new.buffer _ _ c.requires.columns c.requires.bar_cells c.in_ok-placed.ensures.placed (c.row_count.ensures.value ∙ ap row_count c.deref-2.ensures.value) c.requires.last c.in_ok-below.ensures.row c.in_ok-below.ensures.added c.in_ok-below.ensures.small in
+    let enough = enough_begun c.args.layout c.args.dropped c.args.entries.now c.args.buffer.now c.begin_rows.new.buffer _ _ c.requires.columns
+    c.requires.bar_cells c.in_ok-placed.ensures.placed (c.row_count.ensures.value ∙ ap row_count c.deref-2.ensures.value) c.requires.last c.in_ok-below.ensures.row c.in_ok-below.ensures.added c.in_ok-below.ensures.small in
     λ k d within. (enough.places k d within).near
 
 -- the entries in the order of painting
 pub cut_wide-requires-clause-columns : goal.cut_wide-requires-clause-columns
 cut_wide-requires-clause-columns c =
-    let enough = enough_begun c.args.layout c.args.dropped c.args.entries.now c.args.buffer.now c.begin_rows.new.buffer _ _ c.requires.columns c.requires.bar_cells c.in_ok-placed.ensures.placed (c.row_count.ensures.value ∙ ap row_count c.deref-2.ensures.value) c.requires.last c.in_ok-below.ensures.row c.in_ok-below.ensures.added c.in_ok-below.ensures.small in
+    let enough = enough_begun c.args.layout c.args.dropped c.args.entries.now c.args.buffer.now c.begin_rows.new.buffer _ _ c.requires.columns
+    c.requires.bar_cells c.in_ok-placed.ensures.placed (c.row_count.ensures.value ∙ ap row_count c.deref-2.ensures.value) c.requires.last c.in_ok-below.ensures.row c.in_ok-below.ensures.added c.in_ok-below.ensures.small in
     let placed = c.in_ok-placed.placed.items in
     subst (All (λ (e : PlacedEntry). HasPlace e.entry)) (sym (c.deref-7.ensures.value ∙ c.in_ok-draw_marks.ensures.order)) (All-permutation (λ (e : PlacedEntry). HasPlace e.entry) placed (painting_order placed) (IsPermutation-painting_order placed) enough.places)
 
@@ -145,7 +158,8 @@ cut_wide-requires-clause-count c =
 -- no row is added or taken after those that are begun
 pub cut_wide-requires-clause-rows : goal.cut_wide-requires-clause-rows
 cut_wide-requires-clause-rows c =
-    let enough = enough_begun c.args.layout c.args.dropped c.args.entries.now c.args.buffer.now c.begin_rows.new.buffer _ _ c.requires.columns c.requires.bar_cells c.in_ok-placed.ensures.placed (c.row_count.ensures.value ∙ ap row_count c.deref-2.ensures.value) c.requires.last c.in_ok-below.ensures.row c.in_ok-below.ensures.added c.in_ok-below.ensures.small in
+    let enough = enough_begun c.args.layout c.args.dropped c.args.entries.now c.args.buffer.now c.begin_rows.new.buffer _ _ c.requires.columns
+    c.requires.bar_cells c.in_ok-placed.ensures.placed (c.row_count.ensures.value ∙ ap row_count c.deref-2.ensures.value) c.requires.last c.in_ok-below.ensures.row c.in_ok-below.ensures.added c.in_ok-below.ensures.small in
     let joined = count_connectors enough c.begin_rows.new.buffer refl c.deref-3.ensures.value c.draw_connectors.new.buffer c.in_ok-draw_connectors.ensures.painted in
     let barred = count_corners enough c.draw_connectors.new.buffer joined c.deref-4.ensures.value c.draw_corners.new.buffer c.in_ok-draw_corners.ensures.painted in
     let stemmed = count_stems enough c.draw_corners.new.buffer barred c.deref-5.ensures.value c.draw_stems.new.buffer c.in_ok-draw_stems.ensures.painted in
@@ -155,7 +169,8 @@ cut_wide-requires-clause-rows c =
 
 pub cut_wide-requires-clause-small : goal.cut_wide-requires-clause-small
 cut_wide-requires-clause-small c =
-    let enough = enough_begun c.args.layout c.args.dropped c.args.entries.now c.args.buffer.now c.begin_rows.new.buffer _ _ c.requires.columns c.requires.bar_cells c.in_ok-placed.ensures.placed (c.row_count.ensures.value ∙ ap row_count c.deref-2.ensures.value) c.requires.last c.in_ok-below.ensures.row c.in_ok-below.ensures.added c.in_ok-below.ensures.small in
+    let enough = enough_begun c.args.layout c.args.dropped c.args.entries.now c.args.buffer.now c.begin_rows.new.buffer _ _ c.requires.columns
+    c.requires.bar_cells c.in_ok-placed.ensures.placed (c.row_count.ensures.value ∙ ap row_count c.deref-2.ensures.value) c.requires.last c.in_ok-below.ensures.row c.in_ok-below.ensures.added c.in_ok-below.ensures.small in
     let joined = count_connectors enough c.begin_rows.new.buffer refl c.deref-3.ensures.value c.draw_connectors.new.buffer c.in_ok-draw_connectors.ensures.painted in
     let barred = count_corners enough c.draw_connectors.new.buffer joined c.deref-4.ensures.value c.draw_corners.new.buffer c.in_ok-draw_corners.ensures.painted in
     let stemmed = count_stems enough c.draw_corners.new.buffer barred c.deref-5.ensures.value c.draw_stems.new.buffer c.in_ok-draw_stems.ensures.painted in
@@ -195,7 +210,8 @@ returns c =
     let new = c.draw_marks.new.buffer in
     let below = c.in_ok-below.below in
     let are = c.in_ok-placed.ensures.placed in
-    let enough = enough_begun c.args.layout c.args.dropped c.args.entries.now c.args.buffer.now c.begin_rows.new.buffer _ _ c.requires.columns c.requires.bar_cells c.in_ok-placed.ensures.placed (c.row_count.ensures.value ∙ ap row_count c.deref-2.ensures.value) c.requires.last c.in_ok-below.ensures.row c.in_ok-below.ensures.added c.in_ok-below.ensures.small in
+    let enough = enough_begun c.args.layout c.args.dropped c.args.entries.now c.args.buffer.now c.begin_rows.new.buffer _ _ c.requires.columns
+    c.requires.bar_cells c.in_ok-placed.ensures.placed (c.row_count.ensures.value ∙ ap row_count c.deref-2.ensures.value) c.requires.last c.in_ok-below.ensures.row c.in_ok-below.ensures.added c.in_ok-below.ensures.small in
     let rows : List (List Cell) = old ++ replicate (row_count placed - 1) sep ++ end ∷ [] in
     let begun_is : begun ≡ rows = c.in_ok-below.ensures.added ∙ ap (λ n. old ++ replicate (n - 1) sep ++ end ∷ []) count in
     let long : length begun ≡ length old + row_count placed = rows_begun old begun sep end c.row_count.result (omega (arith, count, row_count_some placed)) c.in_ok-below.ensures.added ∙ ap (λ n. length old + n) count in
@@ -204,14 +220,12 @@ returns c =
     let stems : stemmed ≡ painted (stems_of layout below placed) barred = c.in_ok-draw_stems.ensures.painted ∙ ap (λ xs. painted (stems_of layout below xs) barred) c.deref-5.ensures.value in
     let labels : labelled ≡ painted (labels_of layout below placed) stemmed = c.in_ok-draw_labels.ensures.painted ∙ ap (λ xs. painted (labels_of layout below xs) stemmed) c.deref-6.ensures.value in
     let marks : new ≡ painted (marks_of layout below after) labelled = c.in_ok-draw_marks.ensures.painted ∙ ap (λ xs. painted (marks_of layout below xs) labelled) c.in_ok-draw_marks.ensures.order in
-    let order : c.deref-7.result.now ≡ after = c.deref-7.ensures.value ∙ c.in_ok-draw_marks.ensures.order in
-    let wide_count : ℕ = wide_entries c.args.room layout.decor (map f c.deref-7.result.now) in
-    let wide : wide_count ≡ wide_entries c.args.room layout.decor es =
-    ap (λ ps. wide_entries c.args.room layout.decor (map f ps)) order
-    ∙ wide_entries-permutation c.args.room layout.decor es (map f after)
-    (IsPermutation-trans es (map f placed) (map f after) are.same (IsPermutation-map f placed after (IsPermutation-painting_order placed))) in
+    let flags = c.in_ok-overlapped.overlapped.items in
+    let final = c.cut_wide.new.buffer in
+    let cut_to : List PlacedEntry → List Bool → List (List Cell) = λ ps fs. cut_rows layout.decor c.args.row (cuts_of layout c.args.room ps fs) new in
+    let final_is : final ≡ cut_to c.deref-7.result.now c.deref-8.result.now → final ≡ cut_to after flags = λ value. value ∙ ap (λ ps. cut_to ps c.deref-8.result.now) (c.deref-7.ensures.value ∙ c.in_ok-draw_marks.ensures.order) ∙ ap (cut_to after) c.deref-8.ensures.value in
     record {
-      added = on_ok_weaker c.cut_wide.result (λ cut above plain old_is bare_bars.
+      added = on_ok_weaker c.cut_wide.result (λ value above plain old_is bare_bars.
           let last : length above + 1 ≡ length old = sym (ap length old_is ∙ length_push above plain) in
           let source_row : c.args.row ≡ length above = omega (arith, last, c.requires.last) in
           let marks_row : below ≡ length above + 1 = c.in_ok-below.ensures.row ∙ sym last in
@@ -222,9 +236,9 @@ returns c =
           (stems ∙ ap (λ n. painted (stems_of layout n placed) barred) marks_row)
           (labels ∙ ap (λ n. painted (labels_of layout n placed) stemmed) marks_row)
           (marks ∙ ap (λ n. painted (marks_of layout n after) labelled) marks_row)
-          c.cut_wide.new.buffer wide_count some wide (λ up source marks rest same. cut up source marks rest (same ∙ sym source_row))) c.cut_wide.ensures.cut;
-      none = on_ok_weaker c.cut_wide.result (λ _ none. absurd (omega (arith, given, none))) c.cut_wide.ensures.cut;
-      painted = on_ok_two c.cut_wide.result (λ cut value _ above plain old_is.
+          final flags some (final_is value ∙ ap (λ n. cut_rows layout.decor n (cuts_of layout c.args.room after flags) new) source_row)) c.cut_wide.ensures.value;
+      none = on_ok_weaker c.cut_wide.result (λ _ none. absurd (omega (arith, given, none))) c.cut_wide.ensures.value;
+      painted = on_ok_weaker c.cut_wide.result (λ value _ above plain old_is.
           let last_row : c.args.row ≡ length above = omega (arith, c.requires.last, ap length old_is, length_push above plain) in
           let all : ℕ = length old + row_count placed in
           let lined : length joined ≡ length begun = count_connectors enough c.begin_rows.new.buffer refl c.deref-3.ensures.value c.draw_connectors.new.buffer c.in_ok-draw_connectors.ensures.painted in
@@ -235,11 +249,9 @@ returns c =
           let stemmed_long = count_stems enough c.draw_corners.new.buffer barred_long c.deref-5.ensures.value c.draw_stems.new.buffer c.in_ok-draw_stems.ensures.painted in
           let labelled_long = count_labels enough c.draw_stems.new.buffer stemmed_long c.deref-6.ensures.value c.draw_labels.new.buffer c.in_ok-draw_labels.ensures.painted in
           let all_rows : length new ≡ all = count_marks enough _ c.draw_labels.new.buffer c.draw_marks.new.buffer labelled_long c.in_ok-draw_marks.ensures.painted ∙ long in
-          let flags = c.in_ok-overlapped.overlapped.items in
           let is_wide : PlacedEntry → Bool = is_wide_at c.args.room layout.decor in
-          let flags_are : list_any is_wide placed ≡ true → flags ≡ overlapped placed = λ some_wide. c.in_ok-overlapped.ensures.value (ap (λ (l : Layout). list_any (is_wide_at c.args.room l.decor) c.deref.result.now) c.layout.view_is ∙ ap (list_any is_wide) c.deref.ensures.value ∙ some_wide) ∙ ap overlapped c.deref.ensures.value in
-          let cut_to : List PlacedEntry → List Bool → List (List Cell) = λ ps fs. cut_rows layout.decor c.args.row (cuts_of layout c.args.room ps fs) new in
-          let final_is = value ∙ ap (λ ps. cut_to ps c.deref-8.result.now) order ∙ ap (cut_to after) c.deref-8.ensures.value in
-          painted_added layout c.args.room c.args.closes es placed after flags above plain old new c.cut_wide.new.buffer c.args.row wide_count
-          are refl old_is last_row all_rows new_is wide (IsPermutation-painting_order placed) flags_are final_is cut) c.cut_wide.ensures.cut c.cut_wide.ensures.value;
+          let flags_are : list_any is_wide placed ≡ true → flags ≡ overlapped placed =
+          λ some_wide. c.in_ok-overlapped.ensures.value (ap (λ (l : Layout). list_any (is_wide_at c.args.room l.decor) c.deref.result.now) c.layout.view_is ∙ ap (list_any is_wide) c.deref.ensures.value ∙ some_wide) ∙ ap overlapped c.deref.ensures.value in
+          painted_added layout c.args.room c.args.closes es placed flags above plain old new final c.args.row
+          are old_is last_row all_rows new_is flags_are (final_is value)) c.cut_wide.ensures.value;
     }
