@@ -6,8 +6,9 @@ use Rattle.std.proofs.lemmas.Bool.Decides.{nat_tests}
 use Rattle.snippet_model.specs.declared.snippet.Element.{Element}
 use Rattle.snippet_model.specs.declared.snippet.Element.TheVariants.{Cause, Message, Origin, Padding, Suggestion}
 use Rattle.snippet_suggest.specs.declared.SuggestionStart.TheVariants.{Next, Opening, Path}
-use Rattle.annotate_snippets.specs.Around.{CanStandIn, begins_in_row_above, first_two_share, is_next_start, is_other_file, path_bytes, share_file, context_at}
+use Rattle.annotate_snippets.specs.Around.{CanStandIn, begins_in_row_above, first_two_share, is_end, is_message, is_next_start, is_other_file, next_of, path_bytes, share_file, context_at}
 use Rattle.annotate_snippets.specs.declared.renderer.element_context.GroupPosition.{GroupPosition}
+use Rattle.annotate_snippets.specs.declared.renderer.element_context.Next.TheVariants as next
 
 -- whether the element of this number begins in the last row of the one before
 abbrev pub shares_before : List Element → ℕ → Bool
@@ -89,6 +90,20 @@ shares_after es i =
     let at : i + 1 - 1 ≡ i = omega arith in
     let some : nat_eq (i + 1) 0 ≡ false = grind (arith, nat_tests) in
     ap (λ b. not b && first_two_share (drop (i + 1 - 1) es)) some ∙ ap (λ j. first_two_share (drop j es)) at
+
+-- where an element shares its last row with the next one, that follows it
+pub shared_goes_on : (es : List Element) (i : ℕ) → first_two_share (drop i es) ≡ true → is_end (next_of (drop (i + 1) es)) ≡ false
+shared_goes_on [] zero shares = cc
+shared_goes_on [] (suc i) shares = cc
+shared_goes_on (d ∷ []) zero shares = cc
+shared_goes_on (d ∷ x ∷ es) zero shares = either (is_message x)
+  where
+    either : (message : Bool) → is_end (if message then next.Message else next.Other) ≡ false
+    either true = refl
+    either false = refl
+shared_goes_on (d ∷ es) (suc i) shares =
+    let at : suc i + 1 ≡ suc (i + 1) = omega arith in
+    ap (λ n. is_end (next_of (drop n (d ∷ es)))) at ∙ shared_goes_on es i shares
 
 -- where a suggestion begins below its path it has one
 other_has : (file path : Option (List ℕ)) → is_other_file file path ≡ true → is_some path ≡ true

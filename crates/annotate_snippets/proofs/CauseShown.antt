@@ -33,7 +33,7 @@ use Rattle.annotate_snippets.specs.declared.renderer.element_context.ElementCont
 use Rattle.annotate_snippets.specs.Around.{closes_after, closes_with, is_before_message, is_first_group, path_bytes}
 use Rattle.annotate_snippets.specs.Drawn.{AreCauseRows, HasRoomFor, IsCauseDrawn, layout_in}
 use Rattle.annotate_snippets.specs.Gutter.{code_after, depth_of_element, line_numbers, numbered_source}
-use Rattle.annotate_snippets.specs.Page.{IsAscending, NamedRow, cells_of, others}
+use Rattle.annotate_snippets.specs.Page.{IsAscending, NamedRow, cells_of, lines_named, others}
 use Rattle.annotate_snippets.specs.Prepared.{IsDrawable}
 use Rattle.annotate_snippets.specs.Rows.{cause_head, closing_rows, origin_layout, place_found, place_named, rows_after_cause, separator_rows}
 use Rattle.annotate_snippets.specs.Shown.{NamesLocation}
@@ -42,6 +42,7 @@ use Rattle.annotate_snippets.proofs.ElementShown.{ElementShown}
 use Rattle.annotate_snippets.proofs.GutterLemmas.{numbers_fit}
 use Rattle.annotate_snippets.proofs.LineFeedLaws.{lines_one_line}
 use Rattle.annotate_snippets.proofs.PageLemmas.{cells_of-append, cells_of-others, named_lines}
+use Rattle.annotate_snippets.proofs.SpanBarRows.{bars_shown}
 use Rattle.annotate_snippets.proofs.PartsFacts.{ends_shown, shown_ascending, shown_within}
 use Rattle.annotate_snippets.proofs.PathFeedLaws.{after_one_line, head_one_line}
 
@@ -115,8 +116,8 @@ code_right gutter depth = either (depth == 0)
     either false = omega arith
 
 -- the rows of a snippet, with their names, show it
-pub cause_shown : (r : Renderer) (frame : Frame) (around : ElementContext) (s : Snippet Annotation) (rows : List (List Cell)) → IsDrawable s → HasRoomFor r frame (Cause s) → IsCauseDrawn r frame around s rows → ElementShown r frame around (Cause s) rows
-cause_shown r frame around s rows drawable room drawn =
+pub cause_shown : (r : Renderer) (frame : Frame) (around : ElementContext) (found : List Cell) (s : Snippet Annotation) (rows : List (List Cell)) → IsDrawable s → HasRoomFor r frame (Cause s) → IsCauseDrawn r frame around s rows → ElementShown r frame around found (Cause s) rows
+cause_shown r frame around found s rows drawable room drawn =
     let src = numbered_source s in
     let are : AreCauseRows r frame (closes_with around) s drawn.lines = drawn.are in
     let ks : List ℕ = shown_lines s.fold (cow_str_bytes s.source) s.markers.items in
@@ -132,8 +133,13 @@ cause_shown r frame around s rows drawable room drawn =
     ∙ ap (λ rs. drawn.lines ++ rs) (cells_of-others tail)) ∙ sym drawn.rows_are in
     let lines_free : All IsFree drawn.lines = free_from_AreLinesShown (layout_in r frame) are.margin (line_numbers r s.line_numbering) (closes_with around) [] are.infos drawn.lines are.shown in
     let all_free : All IsFree (head ++ (drawn.lines ++ tail)) = All-append IsFree head (drawn.lines ++ tail) (head_free r frame around s) (All-append IsFree drawn.lines tail lines_free (after_free r frame around s)) in
+    let text : List ℕ = cow_str_bytes s.source in
+    let Ends : List ℕ → Type 0 = λ js. All (λ a. Contains js (first_line text a) × Contains js (last_line text a)) s.markers.items in
+    let ends : Ends (lines_named named.part) = subst Ends (sym named.lines) (ends_shown src s.markers.items drawable.spans s.fold) in
+    let ordered : IsAscending (lines_named named.part) = subst IsAscending (sym named.lines) (shown_ascending src s.markers.items drawable.spans s.fold) in
     record {
       part = part;
+      value = ap (λ (lines : List NamedRow). others head ++ (lines ++ others tail)) named.value;
       cells = cells;
       shows = record {
         after = named.part;
@@ -141,11 +147,12 @@ cause_shown r frame around s rows drawable room drawn =
         origin = names_place r frame around s drawable.spans (named.part ++ others tail);
         lines = named.lines;
         elided = named.names;
-        ends = subst (λ js. All (λ a. Contains js (first_line (cow_str_bytes s.source) a) × Contains js (last_line (cow_str_bytes s.source) a)) s.markers.items) (sym named.lines) (ends_shown src s.markers.items drawable.spans s.fold);
-        ordered = subst IsAscending (sym named.lines) (shown_ascending src s.markers.items drawable.spans s.fold);
+        ends = ends;
+        ordered = ordered;
         named = named.are;
         drawn = named.drawn;
         begins = named.begins;
+        bars = bars_shown r frame (closes_with around) s drawable.spans named.part named.are named.drawn named.begins ordered ends room.bars;
       };
       free = free_named part (subst (All IsFree) (sym (cells ∙ drawn.rows_are)) all_free);
       one_line = λ plain.

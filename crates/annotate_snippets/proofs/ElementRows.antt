@@ -1,5 +1,5 @@
 -- The rows of a group's elements, one below the other.
-use Rattle.std.proofs.Common.{◌≡◌, ℕ, ◌+◌, ◌<◌, Option, Some, List, [], ◌∷◌, ◌++◌, length, get_or, map, inl, inr, refl, sym, ap, ◌∙◌, arith, subst, append_assoc, zero, suc}
+use Rattle.std.proofs.Common.{◌≡◌, ℕ, ◌+◌, ◌-◌, ◌<◌, Bool, true, false, not, drop, Option, Some, List, [], ◌∷◌, ◌++◌, length, get_or, map, inl, inr, refl, sym, ap, ◌∙◌, arith, subst, append_assoc, zero, suc}
 use Rattle.std.specs.List.{enumerate_from, flat_map, slice_get, slice_index_or}
 use Rattle.std.proofs.lemmas.Bool.{cases_lt}
 use Rattle.std.proofs.lemmas.Grind.{flat_map-append}
@@ -9,15 +9,15 @@ use Rattle.std.proofs.lemmas.Option.{slice_get-get_or, slice_get_within}
 use Rattle.snippet_style.specs.Cell.{Cell}
 use Rattle.snippet_model.specs.declared.snippet.Element.{Element}
 use Rattle.snippet_suggest.specs.Rows.{IsTail}
-use Rattle.annotate_snippets.specs.Around.{CanStandIn, begins_in_row_above, context_at}
-use Rattle.annotate_snippets.specs.Drawn.{AddsElement, AddsElements, IsElementDrawn}
+use Rattle.annotate_snippets.specs.Around.{CanStandIn, begins_in_row_above, context_at, first_two_share}
+use Rattle.annotate_snippets.specs.Drawn.{AddsElement, AddsElements, IsElementDrawn, found_at, last_row}
 use Rattle.annotate_snippets.specs.declared.renderer.Renderer.{Renderer}
 use Rattle.annotate_snippets.specs.declared.renderer.frame.Frame.{Frame}
 use Rattle.annotate_snippets.specs.Prepared.{AreAround, element_of}
 use Rattle.annotate_snippets.specs.declared.renderer.preprocess.PreparedElement.{PreparedElement}
 use Rattle.annotate_snippets.specs.declared.renderer.element_context.GroupPosition.{GroupPosition}
 use Rattle.annotate_snippets.specs.declared.renderer.element_context.ElementContext.{ElementContext}
-use Rattle.annotate_snippets.proofs.AroundLaws.{begins_is, can_stand, shares_after, shares_before, shares_end}
+use Rattle.annotate_snippets.proofs.AroundLaws.{begins_is, can_stand, shared_goes_on, shares_after, shares_before, shares_end}
 
 -- the rows of the first so many of these elements stand below some rows, and nothing else, but the row in which the next one begins,
 -- where it shares that
@@ -26,8 +26,9 @@ pub record DrawnSoFar (r : Renderer) (frame : Frame) (place : GroupPosition) (fi
   pub tail : List (List Cell)
   pub added : new ≡ (old ++ flat_map (λ part. part) parts) ++ tail
   pub count : length parts ≡ n
-  pub each : (i : ℕ) (e : Element) → i < n → slice_get es i ≡ Some e → IsElementDrawn r frame (context_at place file es i e) e (slice_index_or parts i [])
+  pub each : (i : ℕ) (e : Element) → i < n → slice_get es i ≡ Some e → IsElementDrawn r frame (context_at place file es i e) (found_at r frame es i) e (slice_index_or parts i [])
   pub ends : IsTail r.decor_style frame.gutter (shares_before es n) tail
+  pub last : shares_before es n ≡ true → tail ≡ found_at r frame es n ∷ []
 
 -- before the first element nothing is drawn
 pub drawn_none : (r : Renderer) (frame : Frame) (place : GroupPosition) (file : Option (List ℕ)) (es : List Element) (old : List (List Cell)) → DrawnSoFar r frame place file es 0 old old
@@ -39,17 +40,18 @@ drawn_none r frame place file es old =
       count = refl;
       each = λ i e within is. absurd (omega (arith, within));
       ends = refl;
+      last = λ shares. let never : ◌≡◌ {A = Bool} false true = shares in cc;
     }
 
 -- one more
 pub drawn_more : (r : Renderer) (frame : Frame) (place : GroupPosition) (file : Option (List ℕ)) (es : List Element) (n : ℕ) (e : Element)
     (old mid new : List (List Cell)) (before : DrawnSoFar r frame place file es n old mid) → slice_get es n ≡ Some e
-    → AddsElement r frame (context_at place file es n e) e (old ++ flat_map (λ part. part) before.parts) new
+    → AddsElement r frame (context_at place file es n e) (found_at r frame es n) e (old ++ flat_map (λ part. part) before.parts) new
     → DrawnSoFar r frame place file es (n + 1) old new
 drawn_more r frame place file es n e old mid new before here adds =
     let Part : Type 0 = List (List Cell) in
     let parts : List Part = before.parts ++ adds.rows ∷ [] in
-    let Holds : ℕ → Element → Type 0 = λ j y. IsElementDrawn r frame (context_at place file es j y) y (slice_index_or parts j []) in
+    let Holds : ℕ → Element → Type 0 = λ j y. IsElementDrawn r frame (context_at place file es j y) (found_at r frame es j) y (slice_index_or parts j []) in
     let joined : flat_map (λ (part : Part). part) parts ≡ flat_map (λ (part : Part). part) before.parts ++ adds.rows = flat_map-append (λ (part : Part). part) before.parts (adds.rows ∷ []) ∙ ap (λ rows. flat_map (λ (part : Part). part) before.parts ++ rows) (append-nil adds.rows) in
     let last : slice_index_or parts n [] ≡ adds.rows = last_part before.parts adds.rows n before.count in
     record {
@@ -59,15 +61,21 @@ drawn_more r frame place file es n e old mid new before here adds =
       count = omega (arith, length-append before.parts (adds.rows ∷ []), before.count);
       each = λ i x within is.
           elim (cases_lt i n) [
-            | inl below ↦ subst (λ part. IsElementDrawn r frame (context_at place file es i x) x part) (sym (early_part before.parts adds.rows i (omega (arith, below, before.count)))) (before.each i x below is)
+            | inl below ↦ subst (λ part. IsElementDrawn r frame (context_at place file es i x) (found_at r frame es i) x part) (sym (early_part before.parts adds.rows i (omega (arith, below, before.count)))) (before.each i x below is)
             | inr past ↦
                 let at : n ≡ i = omega (arith, past, within) in
                 let same : e ≡ x = same_element es n i e x at here is in
-                subst (λ j. Holds j x) at (subst (λ y. Holds n y) same (subst (λ part. IsElementDrawn r frame (context_at place file es n e) e part) (sym last) adds.is))
+                subst (λ j. Holds j x) at (subst (λ y. Holds n y) same (subst (λ part. IsElementDrawn r frame (context_at place file es n e) (found_at r frame es n) e part) (sym last) adds.is))
           ];
       ends = subst (λ b. IsTail r.decor_style frame.gutter b adds.tail) (sym (shares_after es n)) adds.ends;
+      last = λ shares.
+          let shared : first_two_share (drop n es) ≡ true = sym (shares_after es n) ∙ shares in
+          adds.last shared ∙ ap (λ ends. last_row r frame (not ends) (Some e) ∷ []) (shared_goes_on es n shared) ∙ ap (λ x. last_row r frame true x ∷ []) (sym here ∙ ap (slice_get es) (one_back n));
     }
   where
+    one_back : (n : ℕ) → n ≡ n + 1 - 1
+    one_back n = omega arith
+
     early_part : (parts : List (List (List Cell))) (rows : List (List Cell)) (i : ℕ) → i < length parts → slice_index_or (parts ++ rows ∷ []) i [] ≡ slice_index_or parts i []
     early_part parts rows i below = grind (arith, places)
 
@@ -138,8 +146,9 @@ pub turn_drawn : (r : Renderer) (frame : Frame) (place : GroupPosition) (file : 
     (around : List ElementContext) (n m i : ℕ) (p : PreparedElement) (at : ElementContext) (old mid new : List (List Cell))
     → AreAround place file (map element_of ps) around → (n < length (enumerate_from 0 ps)) × ((i, p) ≡ get_or (enumerate_from 0 ps) n (i, p))
     → at ≡ slice_index_or around i at → m ≡ n + 1 → DrawnSoFar r frame place file (map element_of ps) n old mid
-    → ((above tail : List (List Cell)) → mid ≡ above ++ tail → IsTail r.decor_style frame.gutter (begins_in_row_above
-    at) tail → AddsElement r frame at (element_of p) above new) → DrawnSoFar r frame place file (map element_of ps) m old new
+    → ((above tail : List (List Cell)) (found : List Cell) → mid ≡ above ++ tail
+    → IsTail r.decor_style frame.gutter (begins_in_row_above at) tail → (begins_in_row_above at ≡ true → tail ≡ found ∷ [])
+    → AddsElement r frame at found (element_of p) above new) → DrawnSoFar r frame place file (map element_of ps) m old new
 turn_drawn r frame place file ps around n m i p at old mid new are turn is next before adds =
     let es : List Element = map element_of ps in
     let e : Element = element_of p in
@@ -147,8 +156,8 @@ turn_drawn r frame place file ps around n m i p at old mid new are turn is next 
     let at_is : at ≡ context_at place file es n e = turn_around place file ps around n i p at are turn is in
     let begins : begins_in_row_above at ≡ shares_before es n = ap begins_in_row_above at_is ∙ begins_is place file es n e here in
     let above : List (List Cell) = old ++ flat_map (λ part. part) before.parts in
-    let added : AddsElement r frame at e above new = adds above before.tail before.added (subst (λ b. IsTail r.decor_style frame.gutter b before.tail) (sym begins) before.ends) in
-    subst (λ k. DrawnSoFar r frame place file es k old new) (sym next) (drawn_more r frame place file es n e old mid new before here (subst (λ a. AddsElement r frame a e above new) at_is added))
+    let added : AddsElement r frame at (found_at r frame es n) e above new = adds above before.tail (found_at r frame es n) before.added (subst (λ b. IsTail r.decor_style frame.gutter b before.tail) (sym begins) before.ends) (λ starts. before.last (sym begins ∙ starts)) in
+    subst (λ k. DrawnSoFar r frame place file es k old new) (sym next) (drawn_more r frame place file es n e old mid new before here (subst (λ a. AddsElement r frame a (found_at r frame es n) e above new) at_is added))
 
 -- after the last all are drawn
 pub turns_all : (r : Renderer) (frame : Frame) (place : GroupPosition) (file : Option (List ℕ)) (ps : List PreparedElement) (n : ℕ)

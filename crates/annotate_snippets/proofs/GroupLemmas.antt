@@ -1,11 +1,13 @@
 -- The rows of a group show it.
 use Rattle.std.proofs.Common.{◌≡◌, ◌≢◌, ◌∙◌, ℕ, zero, suc, ◌<◌, ◌==◌, true, not, Option, None, Some, List, [], ◌∷◌, ◌++◌, map, length, get_or, refl, sym, ap, subst, arith, inl, inr}
-use Rattle.std.specs.List.{All, flat_map, slice_get}
+use Rattle.std.specs.List.{All, enumerate_from, flat_map, slice_get}
 use Rattle.std.specs.Option.{option_to_list}
 use Rattle.std.proofs.lemmas.Bool.{cases_lt}
 use Rattle.std.proofs.lemmas.Grind.{flat_map-append}
 use Rattle.std.proofs.lemmas.List.{append-nil, ext_get_or, get_or-map, get_or_past, length-map}
 use Rattle.std.proofs.lemmas.List.Elements.{All-nil, All-append, All-filter, All-get_or, All-map, All-weaker, filter_passes}
+use Rattle.std.proofs.Math.Nat.{zero-add}
+use Rattle.std.proofs.lemmas.List.FromFn.{get_or-enumerate_from, length-enumerate_from}
 use Rattle.std.proofs.lemmas.List.Folds.{flat_map-map}
 use Rattle.std.proofs.lemmas.Option.{get_or_from_slice_get, slice_get_cases, slice_get_within}
 use Rattle.snippet_style.specs.Cell.{Cell, SPACE}
@@ -24,7 +26,8 @@ use Rattle.snippet_titles.specs.Title.{id_links, title_rows}
 use Rattle.snippet_titles.proofs.HeadFacts.{message_rows-unlinked}
 use Rattle.snippet_titles.proofs.LinkLemmas.{title_rows-links}
 use Rattle.annotate_snippets.specs.Around.{drawn_elements, is_drawn, is_end, next_of, context_at}
-use Rattle.annotate_snippets.specs.Drawn.{AreElementsDrawn, HasRoomFor, IsElementDrawn, IsGroupGrid}
+use Rattle.annotate_snippets.specs.Drawn.{AreElementsDrawn, HasRoomFor, IsElementDrawn, IsGroupGrid, found_at}
+use Rattle.annotate_snippets.specs.GraphicForm.{element_rows, rows_of_elements}
 use Rattle.annotate_snippets.specs.Page.{NamedRow, cells_of}
 use Rattle.annotate_snippets.specs.Prepared.{IsElementDrawable, IsGroupDrawable}
 use Rattle.annotate_snippets.specs.Rows.{rows_after_title, title_part}
@@ -44,17 +47,17 @@ use Rattle.annotate_snippets.proofs.SuggestionShown.{suggestion_shown}
 use Rattle.annotate_snippets.proofs.TrustedLemmas.{AreTextsAmong, IsFreeRow, after_title-free, element-free, free_text, texts_among, title_part-free}
 
 -- the rows of an element that is drawn show it
-pub element_shown : (r : Renderer) (frame : Frame) (around : ElementContext) (e : Element) (rows : List (List Cell)) → IsElementDrawable e → is_drawn e ≡ true → HasRoomFor r frame e → IsElementDrawn r frame around e rows → ElementShown r frame around e rows
-element_shown r frame around (Message message) rows drawable drawn room is = message_shown r frame around message rows is
-element_shown r frame around (Cause snippet) rows drawable drawn room is = cause_shown r frame around snippet rows drawable room is
-element_shown r frame around (Suggestion snippet) rows drawable drawn room is =
-    suggestion_shown r frame around snippet rows drawable (some snippet.markers.items drawn) room is
+pub element_shown : (r : Renderer) (frame : Frame) (around : ElementContext) (found : List Cell) (e : Element) (rows : List (List Cell)) → IsElementDrawable e → is_drawn e ≡ true → HasRoomFor r frame e → IsElementDrawn r frame around found e rows → ElementShown r frame around found e rows
+element_shown r frame around found (Message message) rows drawable drawn room is = message_shown r frame around found message rows is
+element_shown r frame around found (Cause snippet) rows drawable drawn room is = cause_shown r frame around found snippet rows drawable room is
+element_shown r frame around found (Suggestion snippet) rows drawable drawn room is =
+    suggestion_shown r frame around found snippet rows drawable (some snippet.markers.items drawn) room is
   where
     some : (patches : List Patch) → not (length patches == 0) ≡ true → patches ≢ []
     some [] given empty = cc
     some (p ∷ ps) given empty = cc
-element_shown r frame around (Origin origin) rows drawable drawn room is = origin_shown r frame around origin rows is
-element_shown r frame around (Padding padding) rows drawable drawn room is = padding_shown r frame around padding rows is
+element_shown r frame around found (Origin origin) rows drawable drawn room is = origin_shown r frame around found origin rows is
+element_shown r frame around found (Padding padding) rows drawable drawn room is = padding_shown r frame around found padding rows is
 
 -- where there is a value for each item of a list, by its index, there is a list of them
 chosen : {X Y : Type 0} (R : ℕ → X → Y → Type 0) (d : Y) (xs : List X) → ((i : ℕ) (x : X) → slice_get xs i ≡ Some x → (y : Y) × R i x y) → (ys : List Y) × (length ys ≡ length xs) × ((i : ℕ) (x : X) → slice_get xs i ≡ Some x → R i x (get_or ys i d))
@@ -98,16 +101,16 @@ no_links rows none =
         ]
 
 -- the rows of an element link to nothing
-element-unlinked : (r : Renderer) (frame : Frame) (around : ElementContext) (e : Element) (part : List NamedRow) → ShowsElement r frame around e part → IsFreeElement e part → All IsUnlinked (cells_of part)
-element-unlinked r frame around (Message message) part shows free =
+element-unlinked : (r : Renderer) (frame : Frame) (around : ElementContext) (found : List Cell) (e : Element) (part : List NamedRow) → ShowsElement r frame around found e part → IsFreeElement e part → All IsUnlinked (cells_of part)
+element-unlinked r frame around found (Message message) part shows free =
     subst (All IsUnlinked) (sym shows.shows.rows_are) (message_rows-unlinked r.hyperlink (record { gutter = frame.gutter; decor = r.decor_style; followed = not (is_end around.next) }) (heading_of_message message) refl)
-element-unlinked r frame around (Cause snippet) part shows free =
+element-unlinked r frame around found (Cause snippet) part shows free =
     free_unlinked (cells_of part) (All-map IsFree (λ (row : NamedRow). row.cells) part free)
-element-unlinked r frame around (Suggestion snippet) part shows free =
+element-unlinked r frame around found (Suggestion snippet) part shows free =
     free_unlinked (cells_of part) (All-map IsFree (λ (row : NamedRow). row.cells) part free)
-element-unlinked r frame around (Origin origin) part shows free =
+element-unlinked r frame around found (Origin origin) part shows free =
     free_unlinked (cells_of part) (All-map IsFree (λ (row : NamedRow). row.cells) part free)
-element-unlinked r frame around (Padding padding) part shows free =
+element-unlinked r frame around found (Padding padding) part shows free =
     free_unlinked (cells_of part) (All-map IsFree (λ (row : NamedRow). row.cells) part free)
 
 -- what stands below rows that link to nothing doesn't link
@@ -125,8 +128,9 @@ title_part-links r frame place follows (Some title) =
 module _ (r : Renderer) (frame : Frame) (place : GroupPosition) (file : Option (List ℕ)) (es : List Element) (parts : List (List (List Cell))) where
   -- rows with names that show element i, and are part i without them
   record IsPartShown (i : ℕ) (e : Element) (part : List NamedRow) : Type 0 where
+    value : part ≡ element_rows r frame (context_at place file es i e) (found_at r frame es i) e
     cells : cells_of part ≡ get_or parts i []
-    shows : ShowsElement r frame (context_at place file es i e) e part
+    shows : ShowsElement r frame (context_at place file es i e) (found_at r frame es i) e part
     free : IsFreeElement e part
     one_line : IsOneLineElement e → All HasNoFeed (cells_of part)
 
@@ -142,11 +146,11 @@ module _ (r : Renderer) (frame : Frame) (place : GroupPosition) (file : Option (
     part_shown i e is =
         let within : i < length es = slice_get_within es i e is in
         let own : get_or es i e ≡ e = get_or_from_slice_get es i e e is in
-        let shown = element_shown r frame (context_at place file es i e) e (get_or parts i [])
+        let shown = element_shown r frame (context_at place file es i e) (found_at r frame es i) e (get_or parts i [])
         (subst IsElementDrawable own (All-get_or IsElementDrawable es i e within drawable))
         (subst (λ x. is_drawn x ≡ true) own (All-get_or (λ x. is_drawn x ≡ true) es i e within drawn))
         (subst (HasRoomFor r frame) own (All-get_or (HasRoomFor r frame) es i e within room)) (are.each i e is) in
-        (shown.part, record { cells = shown.cells; shows = shown.shows; free = shown.free; one_line = λ plain. subst (All HasNoFeed) (sym shown.cells) (shown.one_line plain) })
+        (shown.part, record { value = shown.value; cells = shown.cells; shows = shown.shows; free = shown.free; one_line = λ plain. subst (All HasNoFeed) (sym shown.cells) (shown.one_line plain) })
 
     named_parts : AreNamed
     named_parts =
@@ -160,6 +164,22 @@ module _ (r : Renderer) (frame : Frame) (place : GroupPosition) (file : Option (
         | inl (e, inside, is, same) ↦ (e, is)
         | inr (past, none) ↦ absurd (omega (arith, within, names.count, past))
       ]
+
+  -- the parts with names are those of the group's page
+  parts_value : (names : AreNamed) → names.named ≡ rows_of_elements r frame place file es
+  parts_value names =
+      ext_get_or [] names.named (map rows_of (enumerate_from 0 es)) (names.count ∙ sym (length-enumerate_from 0 es) ∙ sym (length-map (enumerate_from 0 es) rows_of)) same
+    where
+      rows_of : ℕ × Element → List NamedRow
+      rows_of pair = element_rows r frame (context_at place file es pair.0 pair.1) (found_at r frame es pair.0) pair.1
+
+      same : (i : ℕ) → i < length names.named → get_or names.named i [] ≡ get_or (map rows_of (enumerate_from 0 es)) i []
+      same i within =
+          let e = element_at names i within in
+          let inside : i < length es = omega (arith, within, names.count) in
+          let numbered : i < length (enumerate_from 0 es) = omega (arith, inside, length-enumerate_from 0 es) in
+          let item : get_or (enumerate_from 0 es) i (0, e.0) ≡ (i, e.0) = get_or-enumerate_from 0 es i (0, e.0) inside ∙ ap (λ (n : ℕ). (n, get_or es i e.0)) (zero-add i) ∙ ap (λ (x : Element). (i, x)) (get_or_from_slice_get es i e.0 e.0 e.1) in
+          (names.each i e.0 e.1).value ∙ ap rows_of (sym item) ∙ sym (get_or-map rows_of (enumerate_from 0 es) i (0, e.0) [] numbered)
 
   -- the parts with names are those without them
   parts_are : (names : AreNamed) → length parts ≡ length es → flat_map cells_of names.named ≡ flat_map (λ part. part) parts
@@ -181,7 +201,7 @@ module _ (r : Renderer) (frame : Frame) (place : GroupPosition) (file : Option (
       each i within =
           let e = element_at names i within in
           let part = names.each i e.0 e.1 in
-          element-unlinked r frame (context_at place file es i e.0) e.0 (get_or names.named i []) part.shows part.free
+          element-unlinked r frame (context_at place file es i e.0) (found_at r frame es i) e.0 (get_or names.named i []) part.shows part.free
 
   -- and hold no listed character but those of trusted texts
   parts-free : (trusted : List (List ℕ)) → All (λ e. AreTextsAmong trusted (trusted_of_element e)) es → (names : AreNamed) → All (IsFreeRow trusted) (flat_map cells_of names.named)
@@ -219,6 +239,7 @@ group_shown r frame place file g rows drawable room grid =
     let free : All (IsFreeRow (titles ++ texts)) (title ++ below) = All-append (IsFreeRow (titles ++ texts)) title below (title_part-free r frame place (next_of es) g.title texts) (parts-free r frame place file es parts (titles ++ texts) among names) in
     record {
       page = record { title = title; elements = names.named };
+      value = ap (λ (els : List (List NamedRow)). record { title = title; elements = els }) (parts_value r frame place file es parts names);
       rows_are = rows_are;
       shows = record {
         title = title_shown r frame place (next_of es) g.title;

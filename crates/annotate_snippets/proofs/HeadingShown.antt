@@ -56,12 +56,13 @@ heading_shown hyperlink place heading =
     }
 
 -- so do those of a message
-pub message_shown : (r : Renderer) (frame : Frame) (around : ElementContext) (message : the_message.Message) (rows : List (List Cell)) → rows ≡ message_rows r frame around message → ElementShown r frame around (Message message) rows
-message_shown r frame around message rows are =
+pub message_shown : (r : Renderer) (frame : Frame) (around : ElementContext) (found : List Cell) (message : the_message.Message) (rows : List (List Cell)) → rows ≡ message_rows r frame around message → ElementShown r frame around found (Message message) rows
+message_shown r frame around found message rows are =
     let heading : Heading = heading_of_message message in
     let shows : ShowsHeading r.hyperlink (message_style r frame around) heading rows = subst (ShowsHeading r.hyperlink (message_style r frame around) heading) (sym are) (heading_shown r.hyperlink (message_style r frame around) heading) in
     record {
       part = others rows;
+      value = ap others are;
       cells = cells_of-others rows;
       shows = record {
         named = ap others (sym (cells_of-others rows));
@@ -77,13 +78,14 @@ closing-free r frame true = All-cons IsFree _ [] (closing_row-free r.decor_style
 closing-free r frame false = All-nil IsFree
 
 -- the rows of an origin show it
-pub origin_shown : (r : Renderer) (frame : Frame) (around : ElementContext) (origin : the_origin.Origin) (rows : List (List Cell)) → rows ≡ origin_rows r frame around origin → ElementShown r frame around (Origin origin) rows
-origin_shown r frame around origin rows are =
+pub origin_shown : (r : Renderer) (frame : Frame) (around : ElementContext) (found : List Cell) (origin : the_origin.Origin) (rows : List (List Cell)) → rows ≡ origin_rows r frame around origin → ElementShown r frame around found (Origin origin) rows
+origin_shown r frame around found origin rows are =
     let path : List ℕ = cow_str_bytes origin.path in
     let row : List Cell = origin_row (origin_layout r frame) (origin_start around) path (place_given origin) in
     let free : All IsFree (origin_rows r frame around origin) = All-cons IsFree row _ (origin_row-free (origin_layout r frame) (origin_start around) path (place_given origin)) (closing-free r frame (closes_after around)) in
     record {
       part = others rows;
+      value = ap others are;
       cells = cells_of-others rows;
       shows = record {
         rows_are = ap others are;
@@ -94,12 +96,13 @@ origin_shown r frame around origin rows are =
     }
 
 -- and that of a padding
-pub padding_shown : (r : Renderer) (frame : Frame) (around : ElementContext) (padding : the_padding.Padding) (rows : List (List Cell)) → rows ≡ padding_row r.decor_style frame.gutter (is_end around.next) ∷ [] → ElementShown r frame around (Padding padding) rows
-padding_shown r frame around padding rows are =
+pub padding_shown : (r : Renderer) (frame : Frame) (around : ElementContext) (found : List Cell) (padding : the_padding.Padding) (rows : List (List Cell)) → rows ≡ padding_row r.decor_style frame.gutter (is_end around.next) ∷ [] → ElementShown r frame around found (Padding padding) rows
+padding_shown r frame around found padding rows are =
     let row : List Cell = padding_row r.decor_style frame.gutter (is_end around.next) in
     let free : All IsFree (row ∷ []) = All-cons IsFree row [] (padding_row-free r.decor_style frame.gutter (is_end around.next)) (All-nil IsFree) in
     record {
       part = others rows;
+      value = ap others are;
       cells = cells_of-others rows;
       shows = ap others are;
       free = others-each IsFree rows (subst (All IsFree) (sym are) free);

@@ -25,11 +25,11 @@ use Rattle.snippet_view.proofs.EntryFacts.{singles-on}
 use Rattle.snippet_view.proofs.PartLemmas.{filter-none, made-all}
 use Rattle.snippet_view.specs.Annotated.{bar_lines, bar_part, long_entry}
 use Rattle.snippet_marks.specs.Entries.{label_role, label_text, shifted}
-use Rattle.snippet_strokes.specs.Labels.{IsLabelledAtEnd, LabelsStand, PlacedLabel, StandsIn, is_cell_of}
+use Rattle.snippet_strokes.specs.Labels.{IsLabelledAtEnd, IsLedTo, LabelsStand, PlacedLabel, StandsIn, is_cell_of}
 use Rattle.snippet_marks.specs.Positions.{is_start_part}
 use Rattle.snippet_grid.specs.Layout.{Layout}
 use Rattle.annotate_snippets.specs.declared.renderer.frame.Frame.{Frame}
-use Rattle.annotate_snippets.specs.Shown.{ShowsLabel, ShowsLabels, ShownLabel, SpanLabel, promoted_spans, is_in_label, label_of_end, label_of_span, normalized_chars, shown_label}
+use Rattle.annotate_snippets.specs.Shown.{HasStem, ShowsLabel, ShowsLabels, ShownLabel, SpanLabel, promoted_spans, is_in_label, label_of_end, label_of_span, normalized_chars, shown_label}
 use Rattle.annotate_snippets.proofs.MarkLemmas.{end_of_entry, label_is, start_of_entry}
 
 -- lists that are the same begin with the same
@@ -153,6 +153,29 @@ module _ (dropped : ℕ) (frame : Frame) (layout : Layout) (code : layout.code �
       both : (b : Bool) → (b ≡ true → Stands l → Shows (shown_at e l)) → Stands l → All Shows (shown_labels es ls) → All Shows (cond b (shown_at e l ∷ shown_labels es ls) (shown_labels es ls))
       both true own stands rest = All-cons Shows (shown_at e l) (shown_labels es ls) (own refl stands) rest
       both false own stands rest = rest
+
+  -- a stem leads to one of some labels, where no label of all these has the cell
+  abbrev Led : List PlacedLabel → PlacedLabel → Type 0
+  Led all l = 0 < length (label_text l.entry) → IsLedTo layout.decor all rows l
+
+  abbrev Stemmed : List ShownLabel → ShownLabel → Type 0
+  Stemmed shown l = 0 < length l.label.text → HasStem layout.decor shown rows l
+
+  all_led : (all : List PlacedLabel) (shown : List ShownLabel) → ((r c : ℕ) → count_by (is_in_label r c) shown ≡ 0 → count_by (is_cell_of r c) all ≡ 0)
+      → (es : List LineAnnotation) (ls : List PlacedLabel) → map (λ (l : PlacedLabel). l.entry) ls ≡ map (shifted dropped) es → All (Led all) ls
+      → All (Stemmed shown) (shown_labels es ls)
+  unfolding shown_labels
+  all_led all shown clear [] ls entries led = All-nil (Stemmed shown)
+  all_led all shown clear (e ∷ es) [] entries led = cc entries
+  all_led all shown clear (e ∷ es) (l ∷ ls) entries led =
+      let entry = head_same l.entry (shifted dropped e) (map (λ (x : PlacedLabel). x.entry) ls) (map (shifted dropped) es) entries in
+      let further = tail_same l.entry (shifted dropped e) (map (λ (x : PlacedLabel). x.entry) ls) (map (shifted dropped) es) entries in
+      let own : Stemmed shown (shown_at e l) = λ some r under above none. All-head (Led all) l ls led (omega (arith, ap length (text_is e l entry), some)) r under above (clear r l.cell none) in
+      both (ends_here (seen_part e)) own (all_led all shown clear es ls further (All-tail (Led all) l ls led))
+    where
+      both : (b : Bool) → Stemmed shown (shown_at e l) → All (Stemmed shown) (shown_labels es ls) → All (Stemmed shown) (cond b (shown_at e l ∷ shown_labels es ls) (shown_labels es ls))
+      both true own rest = All-cons (Stemmed shown) (shown_at e l) (shown_labels es ls) own rest
+      both false own rest = rest
 
   -- a cell is in no more of these than of all the entries' labels
   cells_few : (r c : ℕ) (es : List LineAnnotation) (ls : List PlacedLabel) → map (λ (l : PlacedLabel). l.entry) ls ≡ map (shifted dropped) es → count_by (is_in_label r c) (shown_labels es ls) ≤ count_by (is_cell_of r c) ls
@@ -287,6 +310,8 @@ labels_shown sn k dropped frame layout es rows code same clear stand =
     let singles : List PartEntry = map (single_part s) marked in
     let longs : List PartEntry = filter on_line (long_parts s (long_places s marks) [] (long_spans s marks)) in
     let parts : map seen_part es ≡ singles ++ longs = same ∙ filter-append on_line (map (single_part s) (filter (is_short s.text) marks)) (long_parts s (long_places s marks) [] (long_spans s marks)) ∙ ap (λ ps. ps ++ longs) (singles-on s marks k) in
+    let none_kept : (r c : ℕ) → count_by (is_in_label r c) (shown_labels es stand.labels) ≡ 0 → count_by (is_cell_of r c) stand.labels ≡ 0 = λ r c none.
+    omega (arith, none, cells_all dropped frame layout code rows r c es stand.labels stand.are (labelled_at_end s marks k dropped es same)) in
     let long : length stand.labels ≡ length es = sym (length-map stand.labels (λ (l : PlacedLabel). l.entry)) ∙ ap length stand.are ∙ length-map es (shifted dropped) in
     record {
       labels = shown_labels es stand.labels;
@@ -296,7 +321,8 @@ labels_shown sn k dropped frame layout es rows code same clear stand =
           ∙ ap (λ xs. xs ++ map label_of_part (filter ends_here longs)) (single_labels s k marked (filter_passes (is_marked_on s.text k) marks))
           ∙ ap (λ xs. map (label_of_span s.text) marked ++ xs) (long_ends s k (long_places s marks) [] (long_spans s marks));
       stand = all_shown dropped frame layout code rows es stand.labels stand.are clear stand.stand;
+      led = all_led dropped frame layout code rows stand.labels (shown_labels es stand.labels) none_kept es stand.labels stand.are stand.led;
       apart = λ r c. omega (arith, cells_few dropped frame layout code rows r c es stand.labels stand.are, stand.apart r c);
       others = λ r c right none.
-          stand.others r c (omega (arith, right, code)) (omega (arith, none, cells_all dropped frame layout code rows r c es stand.labels stand.are (labelled_at_end s marks k dropped es same)));
+          stand.others r c (omega (arith, right, code)) (none_kept r c none);
     }

@@ -1,4 +1,5 @@
 pub mod AroundLaws
+pub mod BarExamples
 pub mod BoundsLaws
 pub mod CauseShown
 pub mod DisjointLemmas
@@ -8,6 +9,7 @@ pub mod ElementRows
 pub mod ElementShown
 pub mod FaultLemmas
 pub mod FeedLaws
+pub mod FormExamples
 pub mod FormSteps
 pub mod FormsShown
 pub mod GridRows
@@ -20,8 +22,10 @@ pub mod LabelLemmas
 pub mod LeftLaws
 pub mod LineFeedLaws
 pub mod LineLemmas
+pub mod LineValue
 pub mod ListLemmas
 pub mod MarkLemmas
+pub mod NotBarred
 pub mod NotDrawn
 pub mod NotLabelled
 pub mod NotOffered
@@ -44,12 +48,16 @@ pub mod RoomLemmas
 pub mod ShortLemmas
 pub mod ShortShown
 pub mod SourceFeedLaws
+pub mod SpanBarRows
+pub mod SpanOpen
+pub mod SpanParts
 pub mod SuggestFeedLaws
 pub mod SuggestionLemmas
 pub mod SuggestionShown
 pub mod ContextLemmas
 pub mod TextLineLaws
 pub mod TextShown
+pub mod TitleNumbers
 pub mod TrustedLemmas
 pub mod WalkLemmas
 pub mod WidestLemmas

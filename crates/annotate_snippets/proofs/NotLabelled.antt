@@ -7,7 +7,7 @@ use Rattle.std.proofs.lemmas.Bool.Decides.{nat_tests}
 use Rattle.std.proofs.lemmas.List.Elements.{All-contains, All-head, All-tail}
 use Rattle.std.proofs.lemmas.List.Sums.{sum_by-cons}
 use Rattle.snippet_grid.specs.Grid.{cell_at}
-use Rattle.snippet_style.specs.Cell.{Cell}
+use Rattle.snippet_style.specs.Cell.{Cell, SPACE}
 use Rattle.snippet_style.specs.declared.glyphs.DecorStyle.{DecorStyle}
 use Rattle.snippet_style.specs.declared.role.ElementStyle.{ElementStyle}
 use Rattle.snippet_style.specs.declared.role.ElementStyle.TheVariants.{LabelPrimary, LabelSecondary, UnderlinePrimary, UnderlineSecondary}
@@ -16,10 +16,11 @@ use Rattle.snippet_model.specs.declared.snippet.AnnotationKind.{AnnotationKind}
 use Rattle.snippet_model.specs.declared.snippet.AnnotationKind.TheVariants.{Primary, Context, Visible}
 use Rattle.snippet_model.specs.declared.snippet.Snippet.{Snippet}
 use Rattle.snippet_strokes.proofs.MarkLemmas.{from_map}
-use Rattle.snippet_strokes.specs.EntryMarks.{is_mark_role}
+use Rattle.snippet_strokes.specs.EntryMarks.{has_mark_role, is_mark_role}
+use Rattle.snippet_strokes.specs.Labels.{IsStemCell}
 use Rattle.snippet_marks.specs.Entries.{label_role}
 use Rattle.annotate_snippets.specs.declared.renderer.frame.Frame.{Frame}
-use Rattle.annotate_snippets.specs.Shown.{ShowsLabel, ShowsLabels, ShownLabel, SpanLabel, is_in_label, labels_ending_on}
+use Rattle.annotate_snippets.specs.Shown.{HasStem, ShowsLabel, ShowsLabels, ShownLabel, SpanLabel, is_in_label, labels_ending_on}
 
 -- whether a role is that of labels
 abbrev pub is_label_role : ElementStyle → Bool
@@ -94,6 +95,20 @@ label_over_another decor frame s k dropped rows shows a b spans some_a some_b ro
         let P : ShownLabel → Type 0 = Stands frame dropped rows in
         two (is_in_label row cell l) (is_in_label row cell m) (holds l own (All-head P l (m ∷ []) stand)) (holds m its (All-head P m [] (All-tail P l (m ∷ []) stand))) (omega (arith, few, sum_by-cons f l (m ∷ []), sum_by-cons f m []))
     over (l ∷ m ∷ n ∷ labels) are stand few = cc are
+
+-- rows with a space where no label stands, between a mark and the label that hangs below it:
+--
+--     1 | ab cd
+--       | -- ^^ y
+--       |
+--       | x
+pub stem_left_out : (decor : DecorStyle) (frame : Frame) (s : Snippet Annotation) (k dropped : ℕ) (rows : List (List Cell))
+    → (shows : ShowsLabels decor frame s k dropped rows) → (l : ShownLabel) → Contains shows.labels l → 0 < length l.label.text → (r : ℕ) → 0 < r
+    → r < l.row → count_by (is_in_label r l.cell) shows.labels ≡ 0 → cell_at rows r l.cell ≡ SPACE → ⊥
+stem_left_out decor frame s k dropped rows shows l among some r below above none blank =
+    let P : ShownLabel → Type 0 = λ x. 0 < length x.label.text → HasStem decor shows.labels rows x in
+    let stem : IsStemCell decor (cell_at rows r l.cell) = All-contains P shows.labels l shows.led among some r below above none in
+    false≢true (sym (ap has_mark_role blank) ∙ stem.1)
 
 -- no span that ends on line k has a label that shows anything
 abbrev pub HasNoLabel : Snippet Annotation → ℕ → Type 0

@@ -138,9 +138,9 @@ old_row_named s is Other cells same shows =
 --
 --     1 - ab
 --     1 + ab
-old_lines_repeated : (s : Snippet Patch) → IsSnippetOf s (codes "ab") one_edit → (frame : Frame) → frame.gutter ≡ 1
+old_lines_repeated : {found : List Cell} (s : Snippet Patch) → IsSnippetOf s (codes "ab") one_edit → (frame : Frame) → frame.gutter ≡ 1
     → (around : ElementContext) (row : NamedRow) (before after : List NamedRow) → row.cells ≡ offering_row (codes "ab")
-    → ShowsSuggestion plain_settings frame around s (others (suggestion_head plain_settings frame around s) ++ (before ++ (row ∷ after))) → ⊥
+    → ShowsSuggestion plain_settings frame around found s (others (suggestion_head plain_settings frame around s) ++ (before ++ (row ∷ after))) → ⊥
 old_lines_repeated s is frame narrow around row before after row_is shown =
     let rows : List NamedRow = before ++ (row ∷ after) in
     let same : shown.after ≡ rows = append_cancel_left (others (suggestion_head plain_settings frame around s)) shown.after rows (sym shown.rows_are) in
@@ -151,10 +151,10 @@ old_lines_repeated s is frame narrow around row before after row_is shown =
 --
 --     1 + ac
 --     1 + ac
-second_copy_offered : (s : Snippet Patch) → IsSnippetOf s (codes "ab") one_edit → (frame : Frame) → frame.gutter ≡ 1
+second_copy_offered : {found : List Cell} (s : Snippet Patch) → IsSnippetOf s (codes "ab") one_edit → (frame : Frame) → frame.gutter ≡ 1
     → (around : ElementContext) (row copy : NamedRow) (before between after : List NamedRow) → row.cells ≡ offering_row (codes "ac")
     → copy.cells ≡ offering_row (codes "ac")
-    → ShowsSuggestion plain_settings frame around s
+    → ShowsSuggestion plain_settings frame around found s
     (others (suggestion_head plain_settings frame around s) ++ (before ++ (row ∷ (between ++ (copy ∷ after))))) → ⊥
 second_copy_offered s is frame narrow around row copy before between after row_is copy_is shown =
     let rows : List NamedRow = before ++ (row ∷ (between ++ (copy ∷ after))) in
@@ -226,7 +226,8 @@ two_spliced false = refl
 -- so no rows show it that don't offer its second line, as where the text is cut off after the first:
 --
 --     1 ~ x
-touched_left_out : (s : Snippet Patch) → IsSnippetOf s two_lines two_edits → (frame : Frame) (around : ElementContext) (rows : List NamedRow) → (Contains (lines_offered rows) 1 → ⊥) → ShowsSuggestion plain_settings frame around s (others (suggestion_head plain_settings frame around s) ++ rows) → ⊥
+touched_left_out : {found : List Cell} (s : Snippet Patch) → IsSnippetOf s two_lines two_edits → (frame : Frame) (around : ElementContext) (rows : List NamedRow)
+    → (Contains (lines_offered rows) 1 → ⊥) → ShowsSuggestion plain_settings frame around found s (others (suggestion_head plain_settings frame around s) ++ rows) → ⊥
 touched_left_out s is frame around rows out shown =
     let same : shown.after ≡ rows = append_cancel_left (others (suggestion_head plain_settings frame around s)) shown.after rows (sym shown.rows_are) in
     let touched : IsTouched (cow_str_bytes s.source) (edits_of s) 1 = subst (λ text. IsTouched text (edits_of s) 1) (sym is.source_is) (subst (λ es. IsTouched two_lines es 1) (sym is.edits_are) second_touched) in
@@ -286,8 +287,8 @@ rest_spliced false = refl
 -- so no rows show it that don't offer its second line, as where the text is cut off after the line feed with which it ends so far:
 --
 --     1 ~ xa
-line_lost : (s : Snippet Patch) → IsSnippetOf s lines_of_three put_in_and_deleted → (frame : Frame) (around : ElementContext) (rows : List NamedRow)
-    → (Contains (lines_offered rows) 1 → ⊥) → ShowsSuggestion plain_settings frame around s
+line_lost : {found : List Cell} (s : Snippet Patch) → IsSnippetOf s lines_of_three put_in_and_deleted → (frame : Frame) (around : ElementContext) (rows : List NamedRow)
+    → (Contains (lines_offered rows) 1 → ⊥) → ShowsSuggestion plain_settings frame around found s
     (others (suggestion_head plain_settings frame around s) ++ rows) → ⊥
 line_lost s is frame around rows out shown =
     let same : shown.after ≡ rows = append_cancel_left (others (suggestion_head plain_settings frame around s)) shown.after rows (sym shown.rows_are) in
@@ -352,7 +353,7 @@ module _ (v : Vec Patch Global) (frame : Frame) (narrow : frame.gutter ≡ 1) (a
       ap (λ rows. rows ++ (if around.shared then [] else Ends (not (is_end around.next)) ∷ [])) (ap (λ at. rows_of_suggestion at foo) opens ∙ (one_word_gives v).rows_are)
 
   -- rows that show it, after the row of its path: the second is that of the removed line, whatever it holds
-  second_removed : (first row : NamedRow) (rest : List NamedRow) → ShowsSuggestion plain_settings frame around foo (others (suggestion_head plain_settings frame around foo) ++ (first ∷ row ∷ rest)) → IsSuggestionRow plain_settings 1 foo (RemovedLine 0) row.cells
+  second_removed : {found : List Cell} (first row : NamedRow) (rest : List NamedRow) → ShowsSuggestion plain_settings frame around found foo (others (suggestion_head plain_settings frame around foo) ++ (first ∷ row ∷ rest)) → IsSuggestionRow plain_settings 1 foo (RemovedLine 0) row.cells
   second_removed first row rest shown =
       let rows : List NamedRow = first ∷ row ∷ rest in
       let same : shown.after ≡ rows = append_cancel_left (others (suggestion_head plain_settings frame around foo)) shown.after rows (sym shown.rows_are) in
@@ -368,7 +369,7 @@ module _ (v : Vec Patch Global) (frame : Frame) (narrow : frame.gutter ≡ 1) (a
   --     1 + bar
   --     1 - foo
   --       |
-  new_line_above_removed : (first row : NamedRow) (rest : List NamedRow) → row.cells ≡ offering_row (codes "bar") → ShowsSuggestion plain_settings frame around foo (others (suggestion_head plain_settings frame around foo) ++ (first ∷ row ∷ rest)) → ⊥
+  new_line_above_removed : {found : List Cell} (first row : NamedRow) (rest : List NamedRow) → row.cells ≡ offering_row (codes "bar") → ShowsSuggestion plain_settings frame around found foo (others (suggestion_head plain_settings frame around foo) ++ (first ∷ row ∷ rest)) → ⊥
   new_line_above_removed first row rest is shown =
       let P : List Cell → Type 0 = λ cells. (get_or cells 2 SPACE).ch ≡ 45 in
       let minus : ◌≡◌ {A = ℕ} 43 45 = subst P is (second_removed first row rest shown).minus in
@@ -380,9 +381,9 @@ module _ (v : Vec Patch Global) (frame : Frame) (narrow : frame.gutter ≡ 1) (a
   --     2 - foo
   --     1 + bar
   --       |
-  removed_number_wrong : (first row : NamedRow) (rest : List NamedRow)
+  removed_number_wrong : {found : List Cell} (first row : NamedRow) (rest : List NamedRow)
       → row.cells ≡ text_cells LineNumber (codes "2") ++ SPACE ∷ text_cells Removal (codes "- ") ++ text_cells Quotation (codes "foo")
-      → ShowsSuggestion plain_settings frame around foo (others (suggestion_head plain_settings frame around foo) ++ (first ∷ row ∷ rest)) → ⊥
+      → ShowsSuggestion plain_settings frame around found foo (others (suggestion_head plain_settings frame around foo) ++ (first ∷ row ∷ rest)) → ⊥
   removed_number_wrong first row rest is shown =
       let one : number_text plain_settings true 1 1 ≡ codes "1" = ap (set_right 1) (decimal_digit 1 (omega arith)) in
       let number : number_text plain_settings true 1 (removed_number foo 0) ≡ codes "1" = ap (number_text plain_settings true 1) (foo_number v) ∙ one in
@@ -392,7 +393,7 @@ module _ (v : Vec Patch Global) (frame : Frame) (narrow : frame.gutter ≡ 1) (a
       absurd (omega (arith, digit))
 
   -- the first is that which it begins with
-  first_begins : (r : Renderer) (first : NamedRow) (rest : List NamedRow) → ShowsSuggestion r frame around foo (others (suggestion_head r frame around foo) ++ (first ∷ rest)) → HasStrokes r.decor_style 1 (Begins Opening) first.cells
+  first_begins : {found : List Cell} (r : Renderer) (first : NamedRow) (rest : List NamedRow) → ShowsSuggestion r frame around found foo (others (suggestion_head r frame around foo) ++ (first ∷ rest)) → HasStrokes r.decor_style 1 (Begins Opening) first.cells
   first_begins r first rest shown =
       let same : shown.after ≡ first ∷ rest = append_cancel_left (others (suggestion_head r frame around foo)) shown.after (first ∷ rest) (sym shown.rows_are) in
       let Strokes : ℕ → SuggestionRow → List Cell → Type 0 = HasStrokes r.decor_style in
@@ -405,7 +406,7 @@ module _ (v : Vec Patch Global) (frame : Frame) (narrow : frame.gutter ≡ 1) (a
   --     1 - foo
   --     1 + bar
   --       |
-  gap_row_over_separator : (first : NamedRow) (rest : List NamedRow) → first.cells ≡ text_cells LineNumber (codes "...") → ShowsSuggestion plain_settings frame around foo (others (suggestion_head plain_settings frame around foo) ++ (first ∷ rest)) → ⊥
+  gap_row_over_separator : {found : List Cell} (first : NamedRow) (rest : List NamedRow) → first.cells ≡ text_cells LineNumber (codes "...") → ShowsSuggestion plain_settings frame around found foo (others (suggestion_head plain_settings frame around foo) ++ (first ∷ rest)) → ⊥
   gap_row_over_separator first rest is shown =
       let P : List Cell → Type 0 = λ cells. (get_or cells 2 SPACE).ch ≡ 124 in
       let dot : ◌≡◌ {A = ℕ} 46 124 = subst P is (first_begins plain_settings first rest shown 2 (omega arith)) in
@@ -417,7 +418,8 @@ module _ (v : Vec Patch Global) (frame : Frame) (narrow : frame.gutter ≡ 1) (a
   --     1 - foo
   --     1 + bar
   --       ╰╴
-  suggestion_closes_the_wrong_way : (r : Renderer) → r.decor_style ≡ Unicode → (first : NamedRow) (rest : List NamedRow) → first.cells ≡ SPACE ∷ SPACE ∷ text_cells LineNumber (codes "╰╴") → ShowsSuggestion r frame around foo (others (suggestion_head r frame around foo) ++ (first ∷ rest)) → ⊥
+  suggestion_closes_the_wrong_way : {found : List Cell} (r : Renderer) → r.decor_style ≡ Unicode → (first : NamedRow) (rest : List NamedRow)
+      → first.cells ≡ SPACE ∷ SPACE ∷ text_cells LineNumber (codes "╰╴") → ShowsSuggestion r frame around found foo (others (suggestion_head r frame around foo) ++ (first ∷ rest)) → ⊥
   suggestion_closes_the_wrong_way r decor first rest is shown =
       let Begun : DecorStyle → Type 0 = λ d. HasStrokes d 1 (Begins Opening) first.cells in
       let P : List Cell → Type 0 = λ cells. (get_or cells 2 SPACE).ch ≡ 9581 in

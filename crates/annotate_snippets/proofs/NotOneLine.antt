@@ -35,6 +35,19 @@ forged_line r groups sheets texts shown plain part there among =
     let row : HasNoFeed forged_row = All-contains HasNoFeed (group_rows part) forged_row rows among in
     false≢true (sym (row 14 SPACE (omega arith)))
 
+-- the row below the marks of `ab cd` with a label below each, in which a line feed stands in place of the stem that leads to the label
+-- of `ab`
+abbrev pub row_without_stem : List Cell
+row_without_stem = separator_row Ascii 1 ++ SPACE ∷ text_cells UnderlinePrimary (codes "\n")
+
+-- no page that has such a row in one of its groups shows a report whose texts are on one line
+pub line_feed_for_stem : (r : Renderer) (groups : List Group) (sheets : List Stylesheet) (texts : List (List ℕ)) (shown : SheetsShown r groups sheets texts) → HasOneLineTexts groups
+    → (part : GroupPage) → Contains shown.page part → Contains (group_rows part) row_without_stem → ⊥
+line_feed_for_stem r groups sheets texts shown plain part there among =
+    let rows : All HasNoFeed (group_rows part) = All-contains HasOneLineRows shown.page part (shown.one_line plain) there in
+    let row : HasNoFeed row_without_stem = All-contains HasNoFeed (group_rows part) row_without_stem rows among in
+    false≢true (sym (row 4 SPACE (omega arith)))
+
 -- a row of a message, a path or what sets these off, that looks like line 2 of a source
 abbrev pub numbered_row : NamedRow
 numbered_row = record { name = Other; cells = text_cells NoStyle (codes "2 | let y = 666;") }

@@ -17,7 +17,7 @@ use Rattle.snippet_suggest.proofs.CellExamples.{ascii, put_in_cells, stroke, unf
 use Rattle.snippet_suggest.proofs.Examples.{text_put_in, third_unfolded}
 use Rattle.annotate_snippets.specs.Around.{is_end}
 use Rattle.annotate_snippets.specs.Gutter.{line_numbers}
-use Rattle.annotate_snippets.specs.Drawn.{AreSuggestionRows, IsUnder, suggestion_layout}
+use Rattle.annotate_snippets.specs.Drawn.{suggestion_layout, suggestion_lines, under_of}
 use Rattle.annotate_snippets.specs.Page.{NamedRow, cells_of}
 use Rattle.annotate_snippets.specs.Settings.{plain_settings}
 use Rattle.annotate_snippets.specs.Shown.{ShowsSuggestion}
@@ -30,16 +30,17 @@ record StandsAlone (around : ElementContext) : Type 0 where
   own : around.shared ≡ false
 
 -- its rows are those of its value, over nothing
-rows_alone : (frame : Frame) (around : ElementContext) (s : Snippet Patch) (lines : List (List Cell))
-    → suggestion_layout plain_settings frame s ≡ ascii → StandsAlone around → AreSuggestionRows plain_settings frame around s lines
+rows_alone : (frame : Frame) (around : ElementContext) (found : List Cell) (s : Snippet Patch) (lines : List (List Cell))
+    → suggestion_layout plain_settings frame s ≡ ascii → StandsAlone around → lines ≡ suggestion_lines plain_settings frame around found s
     → lines ≡ suggestion_cells ascii Opening (not (is_end around.next)) s []
 unfolding suggestion_cells
-rows_alone frame around s lines layout_is alone shown =
+rows_alone frame around found s lines layout_is alone shown =
     let next : Bool = not (is_end around.next) in
-    let under : shown.under ≡ [] = subst (λ at. IsUnder plain_settings frame at shown.under) alone.start shown.found in
+    let under : under_of plain_settings frame around.start found ≡ [] = ap (λ at. under_of plain_settings frame at found) alone.start in
     let Rows : SuggestionLayout → SuggestionStart → List Cell → Bool → List (List Cell) = λ layout at row shared. body_cells layout at s row ++ (if shared then [] else row_cells layout s [] (Ends next) ∷ []) in
     let layout : SuggestionLayout = suggestion_layout plain_settings frame s in
-    shown.are ∙ ap (λ l. Rows l around.start shown.under around.shared) layout_is ∙ ap (λ at. Rows ascii at shown.under around.shared) alone.start ∙ ap (λ row. Rows ascii Opening row around.shared) under ∙ ap (Rows ascii Opening []) alone.own
+    let below : List Cell = under_of plain_settings frame around.start found in
+    shown ∙ ap (λ l. Rows l around.start below around.shared) layout_is ∙ ap (λ at. Rows ascii at below around.shared) alone.start ∙ ap (λ row. Rows ascii Opening row around.shared) under ∙ ap (Rows ascii Opening []) alone.own
 
 -- with a gutter of one cell its rows stand as in ASCII
 narrow_layout : (frame : Frame) (s : Snippet Patch) → frame.gutter ≡ 1 → s.line_numbering ≡ true → suggestion_layout plain_settings frame s ≡ ascii
@@ -52,12 +53,12 @@ narrow_layout frame s narrow numbered =
 --
 --     1 | foo(x)
 --       |      +
-marks_one_right : (v : Vec Patch Global) (frame : Frame) (around : ElementContext) (rows : List NamedRow) → frame.gutter ≡ 1 → StandsAlone around
-    → (shown : ShowsSuggestion plain_settings frame around (text_put_in v) rows)
+marks_one_right : (v : Vec Patch Global) (frame : Frame) (around : ElementContext) (found : List Cell) (rows : List NamedRow) → frame.gutter ≡ 1 → StandsAlone around
+    → (shown : ShowsSuggestion plain_settings frame around found (text_put_in v) rows)
     → row_at (cells_of shown.after) 2 ≡ stroke ++ replicate 6 SPACE ++ text_cells Addition (codes "+") → ⊥
-marks_one_right v frame around rows narrow alone shown wrong =
+marks_one_right v frame around found rows narrow alone shown wrong =
     let s : Snippet Patch = text_put_in v in
-    let all = rows_alone frame around s (cells_of shown.after) (narrow_layout frame s narrow refl) alone shown.cells ∙ put_in_cells v (not (is_end around.next)) in
+    let all = rows_alone frame around found s (cells_of shown.after) (narrow_layout frame s narrow refl) alone shown.cells ∙ put_in_cells v (not (is_end around.next)) in
     let At : List Cell → ℕ = λ row. (get_or row 8 SPACE).ch in
     let mark : ◌≡◌ {A = ℕ} 32 43 = sym (ap At wrong) ∙ ap (λ (rs : List (List Cell)). At (row_at rs 2)) all in
     absurd (omega (arith, mark))
@@ -69,13 +70,13 @@ marks_one_right v frame around rows narrow alone shown wrong =
 --     1 ~ a
 --     2 | b
 --     3 + x
-kept_shown_as_changed : (v : Vec Patch Global) (frame : Frame) (around : ElementContext) (rows : List NamedRow) → frame.gutter ≡ 1
-    → StandsAlone around → (shown : ShowsSuggestion plain_settings frame around (third_unfolded v) rows)
+kept_shown_as_changed : (v : Vec Patch Global) (frame : Frame) (around : ElementContext) (found : List Cell) (rows : List NamedRow) → frame.gutter ≡ 1
+    → StandsAlone around → (shown : ShowsSuggestion plain_settings frame around found (third_unfolded v) rows)
     → row_at (cells_of shown.after) 1 ≡ text_cells LineNumber (codes "1") ++ SPACE ∷ text_cells Addition (codes "~ ")
     ++ text_cells NoStyle (codes "a") → ⊥
-kept_shown_as_changed v frame around rows narrow alone shown wrong =
+kept_shown_as_changed v frame around found rows narrow alone shown wrong =
     let s : Snippet Patch = third_unfolded v in
-    let all = rows_alone frame around s (cells_of shown.after) (narrow_layout frame s narrow refl) alone shown.cells ∙ unfolded_cells v (not (is_end around.next)) in
+    let all = rows_alone frame around found s (cells_of shown.after) (narrow_layout frame s narrow refl) alone shown.cells ∙ unfolded_cells v (not (is_end around.next)) in
     let At : List Cell → ℕ = λ row. (get_or row 2 SPACE).ch in
     let sign : ◌≡◌ {A = ℕ} 126 124 = sym (ap At wrong) ∙ ap (λ (rs : List (List Cell)). At (row_at rs 1)) all in
     absurd (omega (arith, sign))
@@ -83,12 +84,12 @@ kept_shown_as_changed v frame around rows narrow alone shown wrong =
 -- nor in another role: what is put in place of `c` isn't shown as removed
 --
 --     3 + x
-removal_for_addition : (v : Vec Patch Global) (frame : Frame) (around : ElementContext) (rows : List NamedRow) → frame.gutter ≡ 1 → StandsAlone around
-    → (shown : ShowsSuggestion plain_settings frame around (third_unfolded v) rows)
+removal_for_addition : (v : Vec Patch Global) (frame : Frame) (around : ElementContext) (found : List Cell) (rows : List NamedRow) → frame.gutter ≡ 1 → StandsAlone around
+    → (shown : ShowsSuggestion plain_settings frame around found (third_unfolded v) rows)
     → (get_or (row_at (cells_of shown.after) 3) 4 SPACE).role ≡ Removal → ⊥
-removal_for_addition v frame around rows narrow alone shown wrong =
+removal_for_addition v frame around found rows narrow alone shown wrong =
     let s : Snippet Patch = third_unfolded v in
-    let all = rows_alone frame around s (cells_of shown.after) (narrow_layout frame s narrow refl) alone shown.cells ∙ unfolded_cells v (not (is_end around.next)) in
+    let all = rows_alone frame around found s (cells_of shown.after) (narrow_layout frame s narrow refl) alone shown.cells ∙ unfolded_cells v (not (is_end around.next)) in
     let Role : List (List Cell) → ElementStyle = λ rs. (get_or (row_at rs 3) 4 SPACE).role in
     let role : Removal ≡ Addition = sym wrong ∙ ap Role all in
     cc

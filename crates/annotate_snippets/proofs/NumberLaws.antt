@@ -31,6 +31,7 @@ use Rattle.annotate_snippets.specs.declared.renderer.element_context.ElementCont
 use Rattle.annotate_snippets.specs.declared.renderer.element_context.GroupPosition.{GroupPosition}
 use Rattle.annotate_snippets.specs.declared.renderer.frame.Frame.{Frame}
 use Rattle.annotate_snippets.specs.Around.{closes_after, closes_with, context_at, is_before_message, is_end, is_first_group, path_bytes}
+use Rattle.annotate_snippets.specs.Drawn.{found_at}
 use Rattle.annotate_snippets.specs.Numbers.{HasNumbersOfLines, IsNumberedAsLine, shows_a_line}
 use Rattle.annotate_snippets.specs.Page.{RowName, SourceRow, Elision, OfferedLine, RemovedLine, Other, NamedRow, GroupPage, cells_of, others}
 use Rattle.annotate_snippets.specs.Rows.{cause_head, closing_rows, origin_layout, origin_rows, origin_start, patch_place, path_row, place_given, rows_after_cause, separator_rows, suggestion_head, suggestion_head_at}
@@ -129,12 +130,12 @@ head_unnumbered start.Path r frame first s = path_unnumbered r frame first s (pa
 
 -- ---- elements
 
-element_numbered : (r : Renderer) (frame : Frame) (around : ElementContext) (e : Element) (rows : List NamedRow) → ShowsElement r frame around e rows → All (IsNumberedAsLine frame.gutter) rows
-element_numbered r frame around (element.Message message) rows shown =
+element_numbered : (r : Renderer) (frame : Frame) (around : ElementContext) (found : List Cell) (e : Element) (rows : List NamedRow) → ShowsElement r frame around found e rows → All (IsNumberedAsLine frame.gutter) rows
+element_numbered r frame around found (element.Message message) rows shown =
     let place : MessageContext = record { gutter = frame.gutter; decor = r.decor_style; followed = not (is_end around.next) } in
     let none : All (HasNoNumber frame.gutter) (cells_of rows) = subst (All (HasNoNumber frame.gutter)) (sym shown.shows.rows_are) (message_rows-unnumbered r.hyperlink place (heading_of_message message)) in
     subst (All (IsNumberedAsLine frame.gutter)) (sym shown.named) (others_numbered frame.gutter (cells_of rows) none)
-element_numbered r frame around (element.Cause s) rows shown =
+element_numbered r frame around found (element.Cause s) rows shown =
     let P : NamedRow → Type 0 = IsNumberedAsLine frame.gutter in
     let head : List (List Cell) = cause_head r frame around s in
     let tail : List (List Cell) = rows_after_cause r frame around in
@@ -142,17 +143,17 @@ element_numbered r frame around (element.Cause s) rows shown =
     let below : All P (others tail) = others_numbered frame.gutter tail (after_unnumbered r frame (is_first_group around.place && is_before_message around.next) (closes_after around)) in
     let lines : All P shown.after = rows_numbered r frame (closes_with around) s shown.after shown.named in
     subst (All P) (sym shown.rows_are) (All-append P (others head) (shown.after ++ others tail) above (All-append P shown.after (others tail) lines below))
-element_numbered r frame around (element.Suggestion s) rows shown =
+element_numbered r frame around found (element.Suggestion s) rows shown =
     let P : NamedRow → Type 0 = IsNumberedAsLine frame.gutter in
     let head : List (List Cell) = suggestion_head r frame around s in
     let above : All P (others head) = others_numbered frame.gutter head (head_unnumbered around.start r frame around.first s) in
     let lines : All P shown.after = All-weaker (λ row. IsSuggestionRow r frame.gutter s row.name row.cells) P (λ row is. suggested_numbered r frame.gutter s row.name row.cells is) shown.after shown.named in
     subst (All P) (sym shown.rows_are) (All-append P (others head) shown.after above lines)
-element_numbered r frame around (element.Origin origin) rows shown =
+element_numbered r frame around found (element.Origin origin) rows shown =
     let P : List Cell → Type 0 = HasNoNumber frame.gutter in
     let none : All P (origin_rows r frame around origin) = All-cons P _ _ (origin_row-unnumbered (origin_layout r frame) (origin_start around) (cow_str_bytes origin.path) (place_given origin)) (closing_unnumbered r frame (closes_after around)) in
     subst (All (IsNumberedAsLine frame.gutter)) (sym shown.rows_are) (others_numbered frame.gutter (origin_rows r frame around origin) none)
-element_numbered r frame around (element.Padding padding) rows shown =
+element_numbered r frame around found (element.Padding padding) rows shown =
     let row : List Cell = padding_row r.decor_style frame.gutter (is_end around.next) in
     subst (All (IsNumberedAsLine frame.gutter)) (sym shown) (others_numbered frame.gutter (row ∷ []) (one_row frame.gutter row (padding_row-unnumbered r.decor_style frame.gutter (is_end around.next))))
 
@@ -164,6 +165,6 @@ group_numbered r frame place file es g shown =
     each : (k : ℕ) → k < length g.elements → All (IsNumberedAsLine frame.gutter) (get_or g.elements k [])
     each k within =
         elim (slice_get_cases es k).1 [
-          | inl there ↦ element_numbered r frame (context_at place file es k there.0) there.0 (get_or g.elements k []) (shown.each k there.0 there.2)
+          | inl there ↦ element_numbered r frame (context_at place file es k there.0) (found_at r frame es k) there.0 (get_or g.elements k []) (shown.each k there.0 there.2)
           | inr past ↦ absurd (omega (arith, within, past.0, shown.count))
         ]

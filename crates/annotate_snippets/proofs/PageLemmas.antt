@@ -19,14 +19,17 @@ use Rattle.snippet_lines.specs.Span.{IsSpan}
 use Rattle.snippet_lines.specs.Number.{shown_number}
 use Rattle.snippet_strokes.specs.Bars.{Bar, open_below, open_past}
 use Rattle.snippet_strokes.specs.Snippet as strokes
+use Rattle.snippet_strokes.specs.Snippet.{gap_row}
 use Rattle.annotate_snippets.specs.declared.renderer.Renderer.{Renderer}
 use Rattle.annotate_snippets.specs.declared.renderer.frame.Frame.{Frame}
 use Rattle.annotate_snippets.specs.Drawn.{layout_in}
+use Rattle.annotate_snippets.specs.GraphicForm.{gap_below, named_line, rows_of_line, rows_of_lines}
 use Rattle.annotate_snippets.specs.Gutter.{line_numbers, numbered_source}
 use Rattle.annotate_snippets.specs.LineRows.{AreRowsDrawn, IsLineDrawn, bars_on}
 use Rattle.annotate_snippets.specs.Page.{SourceRow, Elision, Other, NamedRow, lines_named, names_in, names_of_lines, cells_of, cells_below, others, rows_below}
 use Rattle.annotate_snippets.specs.Shown.{AreRowsOf, IsRowBelow, ShowsLabels, ShowsLineAndMarks, ShowsMarksOf, bounds_in, room_of}
 use Rattle.annotate_snippets.proofs.DrawnLines.{bars_seen, line_drawn}
+use Rattle.annotate_snippets.proofs.LineValue.{line_value}
 use Rattle.annotate_snippets.proofs.LineLemmas.{labels_of_line, marks_of_line, marks_there, row_below, source_line}
 use Rattle.annotate_snippets.proofs.LabelLemmas.{head_same, tail_same}
 
@@ -124,6 +127,7 @@ module _ (r : Renderer) (frame : Frame) (s : Snippet Annotation)
     pub ends : (length part == 0) ≡ (length ks == 0)
     pub begins : rows_below part ≡ []
     pub drawn : AreRowsDrawn r frame closes s open_bars part
+    pub value : part ≡ rows_of_lines r frame closes s open_bars ks
 
   -- the rows between a line and the next: one where lines are left out
   pub record IsGapNamed (open_bars : List Bar) (j : ℕ) (ks : List ℕ) (rows : List (List Cell)) : Type 0 where
@@ -135,11 +139,17 @@ module _ (r : Renderer) (frame : Frame) (s : Snippet Annotation)
     pub ends : (more : List NamedRow) → (length more == 0) ≡ (length ks == 0) → (length (gap ++ more) == 0) ≡ (length ks == 0)
     pub begins : (more : List NamedRow) → rows_below more ≡ [] → rows_below (gap ++ more) ≡ []
     pub drawn : (more : List NamedRow) → rows_below more ≡ [] → AreRowsDrawn r frame closes s open_bars more → AreRowsDrawn r frame closes s open_bars (gap ++ more)
+    pub value : gap ≡ gap_below r frame open_bars j ks
+
+  -- a row in place of lines
+  abbrev gap_of : List Cell → List NamedRow
+  gap_of cells = record { name = Elision; cells = cells } ∷ []
 
   gap_named : (open_bars : List Bar) (j : ℕ) (ks : List ℕ) (info : AnnotatedLineInfo) (infos : List AnnotatedLineInfo) (rows : List (List Cell))
       → seen_kept info ≡ line_of_snippet j → map seen_kept infos ≡ map line_of_snippet ks
       → strokes.IsGap (layout_in r frame) open_bars info.line_index infos rows → IsGapNamed open_bars j ks rows
-  gap_named open_bars j [] info [] rows here lines gap = record { gap = []; cells = sym gap; lines = λ more. refl; names = λ more none. ap (λ names. SourceRow j ∷ names) none; are = λ more are. are; ends = λ more same. same; begins = λ more none. none; drawn = λ more none drawn. drawn }
+  gap_named open_bars j [] info [] rows here lines gap =
+      record { gap = []; cells = sym gap; lines = λ more. refl; names = λ more none. ap (λ names. SourceRow j ∷ names) none; are = λ more are. are; ends = λ more same. same; begins = λ more none. none; drawn = λ more none drawn. drawn; value = refl }
   gap_named open_bars j [] info (next ∷ infos) rows here lines gap = cc
   gap_named open_bars j (k ∷ ks) info [] rows here lines gap = cc
   gap_named open_bars j (k ∷ ks) info (next ∷ infos) rows here lines gap =
@@ -159,6 +169,7 @@ module _ (r : Renderer) (frame : Frame) (s : Snippet Annotation)
               ends = λ more same. some_more (length more) (length ks);
               begins = λ more none. refl;
               drawn = λ more none drawn. ((left_out.4, none), drawn);
+              value = ap gap_of left_out.4 ∙ sym (ap (λ b. cond b (gap_of (gap_row (layout_in r frame) open_bars)) []) far);
             }
         | inr next_to ↦
             let near : ltb (j + 1) k ≡ false = le-ltb (j + 1) k (omega (arith, own, its, next_to.0)) in
@@ -171,6 +182,7 @@ module _ (r : Renderer) (frame : Frame) (s : Snippet Annotation)
               ends = λ more same. same;
               begins = λ more none. none;
               drawn = λ more none drawn. drawn;
+              value = sym (ap (λ b. cond b (gap_of (gap_row (layout_in r frame) open_bars)) []) near);
             }
       ]
 
@@ -201,7 +213,7 @@ module _ (r : Renderer) (frame : Frame) (s : Snippet Annotation)
   pub named_lines : (open_bars : List Bar) (ks : List ℕ) (infos : List AnnotatedLineInfo) (rows : List (List Cell)) → All (λ k. k < own_lines) ks
       → map seen_kept infos ≡ map line_of_snippet ks → All NumberFits infos
       → strokes.AreLinesShown (layout_in r frame) margin (line_numbers r s.line_numbering) closes open_bars infos rows → AreNamed open_bars ks rows
-  named_lines open_bars [] [] rows within lines fit shown = record { part = []; cells = sym shown; lines = refl; names = refl; are = tt; ends = refl; begins = refl; drawn = tt }
+  named_lines open_bars [] [] rows within lines fit shown = record { part = []; cells = sym shown; lines = refl; names = refl; are = tt; ends = refl; begins = refl; drawn = tt; value = refl }
   named_lines open_bars [] (info ∷ infos) rows within lines fit shown = cc
   named_lines open_bars (k ∷ ks) [] rows within lines fit shown = cc
   named_lines open_bars (k ∷ ks) (info ∷ infos) rows within lines fit shown =
@@ -215,6 +227,8 @@ module _ (r : Renderer) (frame : Frame) (s : Snippet Annotation)
       let between : IsGapNamed open_now k ks shown.1 = gap_named open_now k ks info infos shown.1 here further shown.5 in
       let after : List NamedRow = between.gap ++ rest.part in
       let ends : (length after == 0) ≡ last = between.ends rest.part rest.ends ∙ none_left ks infos further in
+      let line : IsLineDrawn r frame (closes && last) s open_bars k (shows.source ∷ shows.below) = line_drawn r frame s margin room bounds (closes && last) open_bars k info shown.0 here shows in
+      let own : shows.source ∷ shows.below ≡ rows_of_line r frame (closes && length ks == 0) s open_bars k = line_value r frame (closes && last) s open_bars k (shows.source ∷ shows.below) line ∙ ap (λ b. rows_of_line r frame (closes && b) s open_bars k) (sym (none_left ks infos further)) in
       record {
         part = source_row ∷ (others shows.below ++ after);
         cells = ap (λ rs. shows.source ∷ rs)
@@ -237,7 +251,10 @@ module _ (r : Renderer) (frame : Frame) (s : Snippet Annotation)
           subst (λ below. IsLineDrawn r frame (closes && length below == length (others shows.below ++ after)) s open_bars k (shows.source ∷ below))
               (sym (below-own shows.below after (between.begins rest.part rest.begins)))
               (subst (λ b. IsLineDrawn r frame b s open_bars k (shows.source ∷ shows.below)) (sym (last_is shows.below after last ends))
-              (line_drawn r frame s margin room bounds (closes && last) open_bars k info shown.0 here shows)),
+              line),
           subst (λ bs. AreRowsDrawn r frame closes s bs (others shows.below ++ after)) (open_seen open_bars k info here) (others_drawn open_now shows.below after (between.drawn rest.part rest.begins rest.drawn)),
         );
+        value = ap (λ rs. named_line k rs ++ after) own ∙ ap (λ rs. named_line k (rows_of_line r frame (closes && length ks == 0) s open_bars k) ++ rs)
+            (ap (λ gap. gap ++ rest.part) between.value ∙ ap (λ rs. gap_below r frame open_now k ks ++ rs) rest.value
+            ∙ ap (λ bs. gap_below r frame bs k ks ++ rows_of_lines r frame closes s bs ks) (open_seen open_bars k info here));
       }

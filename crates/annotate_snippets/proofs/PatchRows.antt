@@ -35,7 +35,7 @@ use Rattle.snippet_suggest.proofs.BareLemmas.{stroke_led}
 use Rattle.snippet_suggest.proofs.DrawnLemmas.{zip_push}
 use Rattle.snippet_style.specs.Separators.{separator_row}
 use Rattle.annotate_snippets.specs.Around.{HasPathFor, begins_in_row_above, is_end, is_next_start, path_bytes}
-use Rattle.annotate_snippets.specs.Drawn.{AddsElement, HasRoomFor, IsUnder, suggestion_layout}
+use Rattle.annotate_snippets.specs.Drawn.{AddsElement, HasRoomFor, suggestion_layout, suggestion_lines, under_of}
 use Rattle.annotate_snippets.specs.Gutter.{line_numbers}
 use Rattle.annotate_snippets.specs.Rows.{path_head, path_row, separator_rows, suggestion_head, suggestion_head_at}
 use Rattle.annotate_snippets.specs.declared.renderer.Renderer.{Renderer}
@@ -78,35 +78,35 @@ path_head_is r frame first s None some = absurd (cc)
 path_head_is r frame first s (Some path) some = refl
 
 -- what stands below some rows where a suggestion begins: the row in which it begins, if it shares that
-pub record Begun (r : Renderer) (frame : Frame) (at : SuggestionStart) (layout : SuggestionLayout) (rows mid : List (List Cell)) : Type 0 where
+pub record Begun (r : Renderer) (frame : Frame) (at : SuggestionStart) (layout : SuggestionLayout) (found : List Cell) (rows mid : List (List Cell)) : Type 0 where
   pub end : List (List Cell)
   pub is : mid ≡ rows ++ end
   pub start : IsStart layout at end
   pub count : length end ≡ rows_shared at
-  pub found : IsUnder r frame at (row_at end 0)
+  pub under : row_at end 0 ≡ under_of r frame at found
 
 -- so stand its head, and that row
-pub begun_below : (r : Renderer) (frame : Frame) (at : SuggestionStart) (first : Bool) (s : Snippet Patch) (above tail old mid : List (List Cell))
-    → old ≡ above ++ tail → IsTail r.decor_style frame.gutter (is_next_start at) tail → HasPathFor at s
+pub begun_below : (r : Renderer) (frame : Frame) (at : SuggestionStart) (first : Bool) (s : Snippet Patch) (found : List Cell) (above tail old mid : List (List Cell))
+    → old ≡ above ++ tail → IsTail r.decor_style frame.gutter (is_next_start at) tail → (is_next_start at ≡ true → tail ≡ found ∷ []) → HasPathFor at s
     → (at ≡ Path → mid ≡ old ++ path_head r frame first s) → ((at ≡ Path → ⊥) → mid ≡ old)
-    → Begun r frame at (suggestion_layout r frame s) (above ++ suggestion_head_at at r frame first s) mid
-begun_below r frame Opening first s above tail old mid is tail_is path headed same =
+    → Begun r frame at (suggestion_layout r frame s) found (above ++ suggestion_head_at at r frame first s) mid
+begun_below r frame Opening first s found above tail old mid is tail_is found_is path headed same =
     record {
       end = tail;
       is = same (λ is. absurd (cc)) ∙ is ∙ ap (λ rows. rows ++ tail) (sym (append-nil above));
       start = tail_is;
       count = ap length tail_is;
-      found = ap (λ rows. row_at rows 0) tail_is;
+      under = ap (λ rows. row_at rows 0) tail_is;
     }
-begun_below r frame Next first s above tail old mid is tail_is path headed same =
+begun_below r frame Next first s found above tail old mid is tail_is found_is path headed same =
     record {
       end = tail;
       is = same (λ is. absurd (cc)) ∙ is ∙ ap (λ rows. rows ++ tail) (sym (append-nil above));
       start = tail_is;
       count = ap length tail_is.2;
-      found = tt;
+      under = ap (λ rows. row_at rows 0) (found_is refl);
     }
-begun_below r frame Path first s above tail old mid is tail_is path headed same =
+begun_below r frame Path first s found above tail old mid is tail_is found_is path headed same =
     let head : List (List Cell) = path_row r frame first s (path_bytes s.path) in
     let old_is : old ≡ above = is ∙ ap (λ rows. above ++ rows) tail_is ∙ append-nil above in
     let head_is : path_head r frame first s ≡ head ++ separator_rows r frame = path_head_is r frame first s (path_bytes s.path) (path refl) in
@@ -115,7 +115,7 @@ begun_below r frame Path first s above tail old mid is tail_is path headed same 
       is = headed refl ∙ ap (λ rows. rows ++ path_head r frame first s) old_is ∙ ap (λ rows. above ++ rows) head_is ∙ sym (append_assoc above head (separator_rows r frame));
       start = (separator_row r.decor_style frame.gutter, refl, separator_stroke r.decor_style frame.gutter);
       count = refl;
-      found = refl;
+      under = refl;
     }
 
 -- whether an element follows
@@ -141,12 +141,12 @@ snoc_parts (a ∷ xs) (b ∷ ys) x y same =
     (ap (λ r. r ∷ xs) first ∙ ap (λ rs. b ∷ rs) later.0, later.1)
 
 -- the rows of a suggestion below those that it begins with are the element's: its last row is its own, or the next one begins in it
-pub suggestion_added : (r : Renderer) (frame : Frame) (around : ElementContext) (s : Snippet Patch) (under : List Cell) (above new : List (List Cell))
-    → IsUtf8 (cow_str_bytes s.source) → IsUtf8 (given_text s) → IsUnder r frame around.start under
+pub suggestion_added : (r : Renderer) (frame : Frame) (around : ElementContext) (s : Snippet Patch) (found under : List Cell) (above new : List (List Cell))
+    → IsUtf8 (cow_str_bytes s.source) → IsUtf8 (given_text s) → under ≡ under_of r frame around.start found
     → AddsSuggestion (suggestion_layout r frame s) around.start (follows around) s (above ++ suggestion_head r frame around s) new
     → new ≡ (above ++ suggestion_head r frame around s) ++ suggestion_cells (suggestion_layout r frame s) around.start (follows around) s under
-    → AddsElement r frame around (Suggestion s) above new
-suggestion_added r frame around s under above new utf8 given_utf8 found adds drawn = at around.shared refl
+    → AddsElement r frame around found (Suggestion s) above new
+suggestion_added r frame around s found under above new utf8 given_utf8 under_is adds drawn = at around.shared refl
   where
     -- the rows are those of its value
     parts : (adds.rows ≡ body_cells (suggestion_layout r frame s) around.start s under) × (adds.last ≡ row_cells (suggestion_layout r frame s) s [] (Ends (follows around)))
@@ -157,7 +157,12 @@ suggestion_added r frame around s under above new utf8 given_utf8 found adds dra
         _ (sym adds.added ∙ drawn ∙ ap (λ rows. (above ++ suggestion_head r frame around s) ++ rows)
         (whole (suggestion_layout r frame s) around.start (follows around) s under)))
 
-    at : (b : Bool) → around.shared ≡ b → AddsElement r frame around (Suggestion s) above new
+    -- over what the suggestion finds there
+    over : body_cells (suggestion_layout r frame s) around.start s under ++ (if around.shared then [] else row_cells (suggestion_layout r frame s) s [] (Ends (follows around)) ∷ []) ≡ suggestion_lines r frame around found s
+    over =
+        ap (λ cells. body_cells (suggestion_layout r frame s) around.start s cells ++ (if around.shared then [] else row_cells (suggestion_layout r frame s) s [] (Ends (follows around)) ∷ [])) under_is
+
+    at : (b : Bool) → around.shared ≡ b → AddsElement r frame around found (Suggestion s) above new
     at true shares =
         let IsShown : SuggestionRow → List Cell → Type 0 = Shows (suggestion_layout r frame s) (s.line_start + first_given s) (given_lines s) in
         let ends : Bool → List SuggestionRow = λ b. rows_of_suggestion around.start s ++ (if b then [] else Ends (follows around) ∷ []) in
@@ -174,13 +179,10 @@ suggestion_added r frame around s under above new utf8 given_utf8 found adds dra
             lines = adds.rows;
             rows_are = refl;
             are = subst (λ shown. AllZip IsShown shown adds.rows) (sym (ap ends shares ∙ append-nil (rows_of_suggestion around.start s))) adds.are;
-            cells = record {
-              under = under;
-              found = found;
-              are = parts.0 ∙ sym (append-nil body) ∙ ap (λ (b : Bool). body ++ (if b then [] else last ∷ [])) (sym shares);
-            };
+            cells = parts.0 ∙ sym (append-nil body) ∙ ap (λ (b : Bool). body ++ (if b then [] else last ∷ [])) (sym shares) ∙ over;
           };
           ends = subst (λ b. IsTail r.decor_style frame.gutter b (adds.last ∷ [])) (sym shares) (adds.last, follows around, refl, adds.last_is);
+          last = λ shared. ap (λ (row : List Cell). row ∷ []) parts.1;
         }
     at false shares =
         let IsShown : SuggestionRow → List Cell → Type 0 = Shows (suggestion_layout r frame s) (s.line_start + first_given s) (given_lines s) in
@@ -199,13 +201,10 @@ suggestion_added r frame around s under above new utf8 given_utf8 found adds dra
             lines = lines;
             rows_are = refl;
             are = subst (λ shown. AllZip IsShown shown lines) (sym (ap ends shares)) (zip_push IsShown (rows_of_suggestion around.start s) adds.rows (Ends (follows around)) adds.last adds.are adds.last_is);
-            cells = record {
-              under = under;
-              found = found;
-              are = ap (λ rows. rows ++ adds.last ∷ []) parts.0 ∙ ap (λ (row : List Cell). body ++ row ∷ []) parts.1 ∙ ap (λ (b : Bool). body ++ (if b then [] else last ∷ [])) (sym shares);
-            };
+            cells = ap (λ rows. rows ++ adds.last ∷ []) parts.0 ∙ ap (λ (row : List Cell). body ++ row ∷ []) parts.1 ∙ ap (λ (b : Bool). body ++ (if b then [] else last ∷ [])) (sym shares) ∙ over;
           };
           ends = subst (λ b. IsTail r.decor_style frame.gutter b []) (sym shares) refl;
+          last = λ shared. let never : ◌≡◌ {A = Bool} true false = sym shared ∙ shares in cc;
         }
 
 -- the layout, where this stands in the gutter
@@ -223,18 +222,18 @@ DrawsCells s at next mid new result layout =
     (above tail : List (List Cell)) → mid ≡ above ++ tail → length tail ≡ rows_shared at → OnOk result (new ≡ above ++ suggestion_cells layout at next s (row_at tail 0))
 
 -- the rows of a suggestion stand below what is there
-pub patches_added : (r : Renderer) (frame : Frame) (around : ElementContext) (s : Snippet Patch) (above tail old mid new : List (List Cell))
+pub patches_added : (r : Renderer) (frame : Frame) (around : ElementContext) (s : Snippet Patch) (found : List Cell) (above tail old mid new : List (List Cell))
     (numbers : LineNumbers) (next : Bool) (result : Result (Unit {0}) AllocError) → numbers ≡ line_numbers r s.line_numbering → next ≡ follows around
     → s.markers.items ≢ [] → IsUtf8 (cow_str_bytes s.source) → IsUtf8 (given_text s) → HasRoomFor r frame (Suggestion s) → old ≡ above ++ tail
-    → IsTail r.decor_style frame.gutter (begins_in_row_above around) tail → HasPathFor around.start s
+    → IsTail r.decor_style frame.gutter (begins_in_row_above around) tail → (begins_in_row_above around ≡ true → tail ≡ found ∷ []) → HasPathFor around.start s
     → (around.start ≡ Path → mid ≡ old ++ path_head r frame around.first s) → ((around.start ≡ Path → ⊥) → mid ≡ old)
     → DrawsBelow s around.start next mid new result (layout_with r frame numbers)
-    → DrawsCells s around.start next mid new result (layout_with r frame numbers) → OnOk result (AddsElement r frame around (Suggestion s) above new)
-patches_added r frame around s above tail old mid new numbers next result numbers_are next_is some utf8 given_utf8 room is tail_is path headed same draws draws_cells =
-    let begun = begun_below r frame around.start around.first s above tail old mid is tail_is path headed same in
+    → DrawsCells s around.start next mid new result (layout_with r frame numbers) → OnOk result (AddsElement r frame around found (Suggestion s) above new)
+patches_added r frame around s found above tail old mid new numbers next result numbers_are next_is some utf8 given_utf8 room is tail_is found_is path headed same draws draws_cells =
+    let begun = begun_below r frame around.start around.first s found above tail old mid is tail_is found_is path headed same in
     let Draws : Bool → SuggestionLayout → Type 0 = λ b layout. DrawsBelow s around.start b mid new result layout in
     let drawn : Draws (follows around) (suggestion_layout r frame s) = subst (λ b. Draws b (suggestion_layout r frame s)) next_is (subst (λ n. Draws next (layout_with r frame n)) numbers_are draws) in
     let Cells : Bool → SuggestionLayout → Type 0 = λ b layout. DrawsCells s around.start b mid new result layout in
     let cells : Cells (follows around) (suggestion_layout r frame s) = subst (λ b. Cells b (suggestion_layout r frame s)) next_is (subst (λ n. Cells next (layout_with r frame n)) numbers_are draws_cells) in
-    let added = suggestion_added r frame around s (row_at begun.end 0) above new utf8 given_utf8 begun.found in
+    let added = suggestion_added r frame around s found (row_at begun.end 0) above new utf8 given_utf8 begun.under in
     on_ok_two result added (drawn (gutter_room r frame s some room) (above ++ suggestion_head r frame around s) begun.end begun.is begun.start) (cells (above ++ suggestion_head r frame around s) begun.end begun.is begun.count)

@@ -1,6 +1,6 @@
 -- The texts that print the grids of a report show it.
 use Rattle.std.proofs.Common.{◌≡◌, ℕ, zero, suc, ◌+◌, arith, drop, true, List, [], ◌∷◌, ◌++◌, All, Option, Some, None, Result, Ok, Err, IfSome, length, map, chars, refl, sym, ap, subst, ◌∙◌, encode_utf8_all}
-use Rattle.std.specs.List.{AllZip, Contains, flat_map, join_with_byte, slice_get}
+use Rattle.std.specs.List.{AllZip, Contains, enumerate_from, flat_map, join_with_byte, slice_get}
 use Rattle.std.specs.Result.{IfOk, MatchResult, IsErrAnd}
 use Rattle.std.proofs.Math.Nat.{zero-add}
 use Rattle.std.proofs.lemmas.List.Elements.{All-nil, All-cons, All-append, All-get_or, All-head, All-tail}
@@ -18,10 +18,11 @@ use Rattle.snippet_model.specs.Trusted.{trusted_texts}
 use Rattle.snippet_model.specs.declared.snippet.Group.{Group}
 use Rattle.annotate_snippets.specs.declared.renderer.Renderer.{Renderer}
 use Rattle.annotate_snippets.specs.declared.renderer.graphic.GroupGrid.{GroupGrid}
-use Rattle.annotate_snippets.specs.Around.{drawn_elements, file_of_group, place_at}
+use Rattle.annotate_snippets.specs.Around.{drawn_elements, file_of_group, next_of, place_at}
 use Rattle.annotate_snippets.specs.Drawn.{AreGridsOf}
 use Rattle.annotate_snippets.specs.Fault.{first_fault, first_refusal, form_of, missing_title}
 use Rattle.annotate_snippets.specs.Feeds.{HasOneLineRows, HasOneLineTexts, IsOneLineGroup}
+use Rattle.annotate_snippets.specs.GraphicForm.{graphic_form, group_page}
 use Rattle.annotate_snippets.specs.Gutter.{frame_of}
 use Rattle.annotate_snippets.specs.Page.{ArePrinted, GroupPage, Page, PrintsGrids, PrintsPage, group_rows, page_links, page_text}
 use Rattle.annotate_snippets.specs.Prepared.{IsGroupDrawable}
@@ -35,6 +36,7 @@ use Rattle.annotate_snippets.proofs.PrintLemmas.{AllZip-weaker}
 use Rattle.annotate_snippets.proofs.ReportTexts.{free_first, free_rest, links_of_titles, title_links}
 use Rattle.annotate_snippets.proofs.RoomLemmas.{room_in_report}
 use Rattle.annotate_snippets.proofs.TextLineLaws.{lines_of_page}
+use Rattle.annotate_snippets.proofs.TitleNumbers.{group_title_unnumbered}
 use Rattle.annotate_snippets.proofs.WovenLemmas.{IsWoven-from_page, grid_links, grid_plain}
 
 -- two free texts with a line feed between them, which isn't listed
@@ -58,9 +60,15 @@ module _ (r : Renderer) (groups : List Group) where
   IsGridShown i g grid =
       GroupShown r (frame_of r groups g) (place_at (length groups) i) (file_of_group groups g) g grid.buffer
 
+  -- the page of a group of the report, which stands at this place in it
+  abbrev page_at : ℕ × Group → GroupPage
+  page_at pair =
+      group_page r (frame_of r groups pair.1) (place_at (length groups) pair.0) (file_of_group groups pair.1) pair.1
+
   -- the page of some groups, whose grids these are, and of which the first is the report's n-th
   record PageOf (n : ℕ) (gs : List Group) (grids : List GroupGrid) : Type 0 where
     pub page : Page
+    pub value : page ≡ map page_at (enumerate_from n gs)
     pub count : length page ≡ length gs
     pub each : (i : ℕ) (g : Group) (part : GroupPage) → slice_get gs i ≡ Some g → slice_get page i ≡ Some part → IsShownAt (n + i) g part
     pub text : map grid_plain grids ≡ map (λ g. plain_text (group_rows g)) page
@@ -82,6 +90,7 @@ module _ (r : Renderer) (groups : List Group) where
   PageOf-cons n g gs grid grids leveled shown rest =
       record {
         page = shown.page ∷ rest.page;
+        value = ap (λ (part : GroupPage). part ∷ rest.page) shown.value ∙ ap (λ (parts : Page). page_at (n, g) ∷ parts) rest.value ∙ ap (λ k. page_at (n, g) ∷ map page_at (enumerate_from k gs)) (next n);
         count = ap suc rest.count;
         each = each;
         text = ap (λ rows. plain_text rows ∷ map grid_plain grids) shown.rows_are ∙ ap (λ texts. plain_text (group_rows shown.page) ∷ texts) rest.text;
@@ -92,6 +101,9 @@ module _ (r : Renderer) (groups : List Group) where
         one_line = λ plain. All-cons HasOneLineRows shown.page rest.page (shown.one_line (All-head IsOneLineGroup g gs plain)) (rest.one_line (All-tail IsOneLineGroup g gs plain));
       }
     where
+      next : (k : ℕ) → suc k ≡ k + 1
+      next k = omega arith
+
       each : (i : ℕ) (h : Group) (part : GroupPage) → slice_get (g ∷ gs) i ≡ Some h → slice_get (shown.page ∷ rest.page) i ≡ Some part → IsShownAt (n + i) h part
       each zero h part at there =
           let here : IsShownAt n h part = subst (λ (x : GroupPage). IsShownAt n h x) (some_same there) (subst (λ (x : Group). IsShownAt n x shown.page) (some_same at) shown.shows) in
@@ -108,6 +120,7 @@ module _ (r : Renderer) (groups : List Group) where
   PageOf-grids n [] [] levels shown =
       record {
         page = [];
+        value = refl;
         count = refl;
         each = λ i g part at there. cc;
         text = refl;
@@ -176,6 +189,7 @@ module _ (r : Renderer) (groups : List Group) (grids : List GroupGrid) (drawable
   sheets_shown sheets texts printed =
       record {
         page = report_page.page;
+        is = report_page.value;
         shows = page_shows;
         printed = AllZip-weaker (λ sheet text. PrintsGrids sheet grids text) (λ sheet text. PrintsPage sheet (levels_of groups) report_page.page text) page_printed sheets texts printed;
         free = page_free;
@@ -183,6 +197,7 @@ module _ (r : Renderer) (groups : List Group) (grids : List GroupGrid) (drawable
         one_line = report_page.one_line;
         lines = λ plain. lines_of_page report_page.page (report_page.one_line plain);
         numbers = λ i g part at there. group_numbered r (frame_of r groups g) (place_at (length groups) i) (file_of_group groups g) (drawn_elements g) part (page_shows.each i g part at there).elements;
+        titles = λ i g part title at there titled words. group_title_unnumbered r (frame_of r groups g) (place_at (length groups) i) (next_of (drawn_elements g)) g.title title part.title (page_shows.each i g part at there).title titled words;
         plain = λ none. AllZip-weaker (λ sheet text. PrintsGrids sheet grids text)
             (λ sheet text. is_plain_sheet sheet ≡ true → text ≡ encode_utf8_all (page_text report_page.page))
             (λ sheet text prints plain. plain_woven sheet text (page_text report_page.page) (report_links r groups)

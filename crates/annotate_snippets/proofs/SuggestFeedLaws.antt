@@ -43,7 +43,7 @@ use Rattle.annotate_snippets.specs.declared.renderer.Renderer.{Renderer}
 use Rattle.annotate_snippets.specs.declared.renderer.element_context.ElementContext.{ElementContext}
 use Rattle.annotate_snippets.specs.declared.renderer.frame.Frame.{Frame}
 use Rattle.annotate_snippets.specs.Around.{is_end, path_bytes, suggestion_rows}
-use Rattle.annotate_snippets.specs.Drawn.{AreSuggestionRows, IsSuggestionDrawn, suggestion_layout}
+use Rattle.annotate_snippets.specs.Drawn.{IsSuggestionDrawn, suggestion_layout, suggestion_lines, under_of}
 use Rattle.annotate_snippets.specs.Feeds.{HasNoFeed, HoldsNoFeed, IsNoFeed, IsOneLineText}
 use Rattle.annotate_snippets.specs.Rows.{origin_layout, patch_place, path_row, suggestion_head, suggestion_head_at}
 use Rattle.annotate_snippets.proofs.FeedLaws.{at_any}
@@ -261,18 +261,19 @@ module _ (layout : SuggestionLayout) (s : Snippet Patch) (utf8 : IsUtf8 (given_t
 
 -- ---- all rows
 
-module _ (r : Renderer) (frame : Frame) (around : ElementContext) (s : Snippet Patch) where
+module _ (r : Renderer) (frame : Frame) (around : ElementContext) (found : List Cell) (s : Snippet Patch) where
   abbrev own_layout : SuggestionLayout
   own_layout = suggestion_layout r frame s
 
-  offers_drawn : (lines : List (List Cell)) → IsUtf8 (given_text s) → AreSuggestionRows r frame around s lines → AllZip IsPlainOffer (suggestion_rows around s) lines
+  offers_drawn : (lines : List (List Cell)) → IsUtf8 (given_text s) → lines ≡ suggestion_lines r frame around found s → AllZip IsPlainOffer (suggestion_rows around s) lines
   offers_drawn lines utf8 drawn =
       let next : Bool = not (is_end around.next) in
       let shown : List SuggestionRow = rows_of_suggestion around.start s in
-      let body : List (List Cell) = body_cells own_layout around.start s drawn.under in
+      let under : List Cell = under_of r frame around.start found in
+      let body : List (List Cell) = body_cells own_layout around.start s under in
       let last : List (List Cell) = cond around.shared [] (row_cells own_layout s [] (Ends next) ∷ []) in
-      subst (AllZip IsPlainOffer (suggestion_rows around s)) (sym drawn.are)
-      (zip_append IsPlainOffer shown (cond around.shared [] (Ends next ∷ [])) body last (offers_body own_layout s utf8 around.start drawn.under) (ends around.shared next))
+      subst (AllZip IsPlainOffer (suggestion_rows around s)) (sym drawn)
+      (zip_append IsPlainOffer shown (cond around.shared [] (Ends next ∷ [])) body last (offers_body own_layout s utf8 around.start under) (ends around.shared next))
     where
       ends : (shared next : Bool) → AllZip IsPlainOffer (cond shared [] (Ends next ∷ [])) (cond shared [] (row_cells own_layout s [] (Ends next) ∷ []))
       ends true next = tt
@@ -309,7 +310,7 @@ module _ (r : Renderer) (frame : Frame) (around : ElementContext) (s : Snippet P
   head_plain start.Path first plain = path_plain first (path_bytes s.path) plain
 
   -- where its path holds no line feed, no row of a suggestion holds one
-  pub suggestion_one_line : (rows : List (List Cell)) → IsSuggestionDrawn r frame around s rows → All (IsRowOf s) (suggestion_rows around s) → IsOneLineText (path_bytes s.path) → All HasNoFeed rows
+  pub suggestion_one_line : (rows : List (List Cell)) → IsSuggestionDrawn r frame around found s rows → All (IsRowOf s) (suggestion_rows around s) → IsOneLineText (path_bytes s.path) → All HasNoFeed rows
   suggestion_one_line rows drawn own plain =
       let head : List (List Cell) = suggestion_head r frame around s in
       let lines : All HasNoFeed drawn.lines = all_rows (suggestion_rows around s) drawn.lines drawn.utf8 drawn.are (offers_drawn drawn.lines drawn.given_utf8 drawn.cells) own in

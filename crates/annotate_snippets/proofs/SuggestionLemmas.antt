@@ -17,6 +17,7 @@ use Rattle.snippet_suggest.specs.Shown.{AreRising}
 use Rattle.snippet_suggest.proofs.OfferLaws.{given-is-patched}
 use Rattle.snippet_suggest.proofs.OrderLaws.{IsRowOf}
 use Rattle.annotate_snippets.specs.Drawn.{suggestion_layout}
+use Rattle.annotate_snippets.specs.GraphicForm.{named_rows}
 use Rattle.annotate_snippets.specs.Gutter.{line_numbers, number_text}
 use Rattle.annotate_snippets.specs.Page.{IsAscending, NamedRow, OfferedLine, Other, RemovedLine, cells_of, lines_offered, lines_removed}
 use Rattle.annotate_snippets.specs.Shown.{HasStrokes, IsOfferedRow, IsSuggestionRow, name_of_row}
@@ -30,13 +31,6 @@ rising_ascends from to [] rising = tt
 rising_ascends from to (j ∷ []) rising = tt
 rising_ascends from to (j ∷ k ∷ ks) rising =
     (omega (arith, rising.1.0), rising_ascends (j + 1) to (k ∷ ks) rising.1)
-
--- rows of a suggestion with their names
-abbrev pub named_rows : Snippet Patch → List SuggestionRow → List (List Cell) → List NamedRow
-named_rows s [] rows = []
-named_rows s (shows ∷ shown) [] = []
-named_rows s (shows ∷ shown) (row ∷ rows) =
-    record { name = name_of_row s shows; cells = row } ∷ named_rows s shown rows
 
 -- with a row for each, they hold the rows, and have their names
 pub cells_of-named : (P : SuggestionRow → List Cell → Type 0) (s : Snippet Patch) (shown : List SuggestionRow) (part : List (List Cell)) → AllZip P shown part → cells_of (named_rows s shown part) ≡ part

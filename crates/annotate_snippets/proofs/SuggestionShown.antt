@@ -26,7 +26,8 @@ use Rattle.snippet_suggest.proofs.TouchLaws.{touched-offered}
 use Rattle.snippet_titles.specs.Origin.{primary_start}
 use Rattle.snippet_titles.proofs.OriginFree.{origin_row-free}
 use Rattle.annotate_snippets.specs.Around.{is_end, path_bytes, suggestion_rows}
-use Rattle.annotate_snippets.specs.Drawn.{AreSuggestionRows, HasRoomFor, IsSuggestionDrawn, suggestion_layout}
+use Rattle.annotate_snippets.specs.Drawn.{HasRoomFor, IsSuggestionDrawn, suggestion_layout, suggestion_lines, under_of}
+use Rattle.annotate_snippets.specs.GraphicForm.{named_rows}
 use Rattle.annotate_snippets.specs.Page.{IsAscending, NamedRow, cells_of, lines_offered, others}
 use Rattle.annotate_snippets.specs.Rows.{origin_layout, patch_place, path_row, suggestion_head, suggestion_head_at}
 use Rattle.annotate_snippets.specs.Shown.{HasStrokes, ShowsSuggestion}
@@ -36,7 +37,7 @@ use Rattle.annotate_snippets.specs.declared.renderer.element_context.ElementCont
 use Rattle.annotate_snippets.proofs.ElementShown.{ElementShown}
 use Rattle.annotate_snippets.proofs.PageLemmas.{cells_of-others}
 use Rattle.annotate_snippets.proofs.SuggestFeedLaws.{suggestion_one_line}
-use Rattle.annotate_snippets.proofs.SuggestionLemmas.{cells_of-named, lines_free, lines_offered-named, lines_removed-named, named_rows, names_of-named, rising_ascends, rows_named, strokes_shown}
+use Rattle.annotate_snippets.proofs.SuggestionLemmas.{cells_of-named, lines_free, lines_offered-named, lines_removed-named, names_of-named, rising_ascends, rows_named, strokes_shown}
 
 -- the row of its path holds no listed character and no link
 path_row-free : (r : Renderer) (frame : Frame) (first : Bool) (s : Snippet Patch) (path : Option (List ℕ)) → All IsFree (path_row r frame first s path)
@@ -85,18 +86,20 @@ ends_sign : (layout : SuggestionLayout) (s : Snippet Patch) (next shared : Bool)
 ends_sign layout s next true = tt
 ends_sign layout s next false = (tt, tt)
 
-signs_shown : (r : Renderer) (frame : Frame) (around : ElementContext) (s : Snippet Patch) (lines : List (List Cell)) → AreSuggestionRows r frame around s lines → AllZip (HasSign (suggestion_layout r frame s) s) (suggestion_rows around s) lines
-signs_shown r frame around s lines shown =
+signs_shown : (r : Renderer) (frame : Frame) (around : ElementContext) (found : List Cell) (s : Snippet Patch) (lines : List (List Cell)) → lines ≡ suggestion_lines r frame around found s → AllZip (HasSign (suggestion_layout r frame s) s) (suggestion_rows around s) lines
+signs_shown r frame around found s lines shown =
+    let under : List Cell = under_of r frame around.start found in
     let layout : SuggestionLayout = suggestion_layout r frame s in
     let next : Bool = not (is_end around.next) in
-    subst (AllZip (HasSign layout s) (suggestion_rows around s)) (sym shown.are)
+    subst (AllZip (HasSign layout s) (suggestion_rows around s)) (sym shown)
     (zip_append (HasSign layout s) (rows_of_suggestion around.start s) (if around.shared then [] else Ends next ∷ [])
-    (body_cells layout around.start s shown.under) (if around.shared then [] else row_cells layout s [] (Ends next) ∷ [])
-    (body_signs layout around.start s shown.under) (ends_sign layout s next around.shared))
+    (body_cells layout around.start s under) (if around.shared then [] else row_cells layout s [] (Ends next) ∷ [])
+    (body_signs layout around.start s under) (ends_sign layout s next around.shared))
 
 -- the rows of a suggestion show it, once they have names: after the row of its path those of its lines
-pub suggestion_shown : (r : Renderer) (frame : Frame) (around : ElementContext) (s : Snippet Patch) (rows : List (List Cell)) → IsSuggestible s → s.markers.items ≢ [] → HasRoomFor r frame (Suggestion s) → IsSuggestionDrawn r frame around s rows → ElementShown r frame around (Suggestion s) rows
-suggestion_shown r frame around s rows suggestible some room drawn =
+pub suggestion_shown : (r : Renderer) (frame : Frame) (around : ElementContext) (found : List Cell) (s : Snippet Patch) (rows : List (List Cell))
+    → IsSuggestible s → s.markers.items ≢ [] → HasRoomFor r frame (Suggestion s) → IsSuggestionDrawn r frame around found s rows → ElementShown r frame around found (Suggestion s) rows
+suggestion_shown r frame around found s rows suggestible some room drawn =
     let IsShown : SuggestionRow → List Cell → Type 0 = Shows (suggestion_layout r frame s) (s.line_start + first_given s) (given_lines s) in
     let shown : List SuggestionRow = suggestion_rows around s in
     let head : List (List Cell) = suggestion_head r frame around s in
@@ -106,7 +109,7 @@ suggestion_shown r frame around s rows suggestible some room drawn =
     let end : ℕ = first_given s + length (given_lines s) in
     let cells : cells_of (others head ++ after) ≡ rows = map-append (λ (row : NamedRow). row.cells) (others head) after ∙ ap (λ rs. rs ++ cells_of after) (cells_of-others head) ∙ ap (λ rs. head ++ rs) (cells_of-named IsShown s shown drawn.lines drawn.are) ∙ sym drawn.rows_are in
     let free : All IsFree rows = subst (All IsFree) (sym drawn.rows_are) (All-append IsFree head drawn.lines (suggestion_head-free r frame around.start around.first s) (lines_free r frame s shown drawn.lines drawn.are)) in
-    let shows : ShowsSuggestion r frame around s (others head ++ after) = record {
+    let shows : ShowsSuggestion r frame around found s (others head ++ after) = record {
       after = after;
       rows_are = refl;
       offered = λ offerable j touched visible. elim (touched-offered s suggestible.spans suggestible.disjoint offerable j touched visible) [
@@ -116,16 +119,17 @@ suggestion_shown r frame around s rows suggestible some room drawn =
       ordered = subst IsAscending (sym lines) (rising_ascends (first_given s) end (offered_lines s) (offered-ascends s));
       lines = lines;
       order = names_of-named IsShown s shown drawn.lines drawn.are;
-      cells = subst (AreSuggestionRows r frame around s) (sym (cells_of-named IsShown s shown drawn.lines drawn.are)) drawn.cells;
-      signs = subst (AllZip (HasSign (suggestion_layout r frame s) s) shown) (sym (cells_of-named IsShown s shown drawn.lines drawn.are)) (signs_shown r frame around s drawn.lines drawn.cells);
+      cells = cells_of-named IsShown s shown drawn.lines drawn.are ∙ drawn.cells;
+      signs = subst (AllZip (HasSign (suggestion_layout r frame s) s) shown) (sym (cells_of-named IsShown s shown drawn.lines drawn.are)) (signs_shown r frame around found s drawn.lines drawn.cells);
       strokes = subst (AllZip (HasStrokes r.decor_style frame.gutter) shown) (sym (cells_of-named IsShown s shown drawn.lines drawn.are)) (strokes_shown r frame s shown drawn.lines drawn.are);
       removed = lines_removed-named IsShown s shown drawn.lines drawn.are ∙ all_take around s;
       named = rows_named r frame s suggestible some (first_given s) shown drawn.lines (subst (AreRising (first_given s) end) (sym same) (offered-ascends s)) (all_own around s) drawn.are;
     } in
     record {
       part = others head ++ after;
+      value = ap (λ lines. others head ++ named_rows s shown lines) drawn.cells;
       cells = cells;
       shows = shows;
       free = All-unmapped IsFree (λ (row : NamedRow). row.cells) (others head ++ after) (subst (All IsFree) (sym cells) free);
-      one_line = suggestion_one_line r frame around s rows drawn (all_own around s);
+      one_line = suggestion_one_line r frame around found s rows drawn (all_own around s);
     }

@@ -1,5 +1,5 @@
 -- What the grids of a report hold: for each group its title and its elements, one below the other.
-use Rattle.std.specs.Prelude.{◌≡◌, ℕ, ◌+◌, ◌-◌, ◌≤◌, Bool, true, false, not, if◌then◌else◌, List, [], ◌∷◌, ◌++◌, Option, Some, length, map}
+use Rattle.std.specs.Prelude.{◌≡◌, ℕ, ◌+◌, ◌-◌, ◌≤◌, Bool, true, false, not, if◌then◌else◌, List, [], ◌∷◌, ◌++◌, Option, None, Some, length, map}
 use Rattle.std.specs.List.{AllZip, flat_map, slice_get, slice_index_or}
 use Rattle.std.specs.Str.{IsUtf8}
 use Rattle.std.specs.Cow.{cow_str_bytes}
@@ -87,56 +87,66 @@ abbrev pub suggestion_layout : Renderer → Frame → Snippet Patch → Suggesti
 suggestion_layout r frame s =
     record { gutter = frame.gutter; numbers = line_numbers r s.line_numbering; decor = r.decor_style }
 
+-- the row that an element ends with, before a further one or not, in which a suggestion after it may begin: a suggestion has one
+abbrev pub last_row : Renderer → Frame → Bool → Option Element → List Cell
+last_row r frame follows None = []
+last_row r frame follows (Some (Message message)) = []
+last_row r frame follows (Some (Cause snippet)) = []
+last_row r frame follows (Some (Suggestion snippet)) = row_cells (suggestion_layout r frame snippet) snippet [] (Ends follows)
+last_row r frame follows (Some (Origin origin)) = []
+last_row r frame follows (Some (Padding padding)) = []
+
+-- what element i of a group finds in the row that the one before it ends with, if it begins there
+abbrev pub found_at : Renderer → Frame → List Element → ℕ → List Cell
+found_at r frame es i = last_row r frame true (slice_get es (i - 1))
+
 -- what a suggestion finds in the row that it begins with: nothing in a row of its own, below its path a separator row, and in the
--- last row of the suggestion before what stands there
-abbrev pub IsUnder : Renderer → Frame → SuggestionStart → List Cell → Type 0
-IsUnder r frame start.Opening under = under ≡ []
-IsUnder r frame start.Next under = Unit {0}
-IsUnder r frame start.Path under = under ≡ separator_row r.decor_style frame.gutter
+-- last row of the suggestion before what that holds
+abbrev pub under_of : Renderer → Frame → SuggestionStart → List Cell → List Cell
+under_of r frame start.Opening found = []
+under_of r frame start.Next found = found
+under_of r frame start.Path found = separator_row r.decor_style frame.gutter
 
--- the rows of a suggestion's lines, over what it finds there; the last of them is the next one's, where that begins in it
-abbrev pub suggestion_lines : Renderer → Frame → ElementContext → Snippet Patch → List Cell → List (List Cell)
-suggestion_lines r frame around s under =
+-- the rows of a suggestion's lines, over what the row in which the element before ends holds, if it begins there; the last of them is the
+-- next one's, where that begins in it
+abbrev pub suggestion_lines : Renderer → Frame → ElementContext → List Cell → Snippet Patch → List (List Cell)
+suggestion_lines r frame around found s =
     let layout = suggestion_layout r frame s in
-    body_cells layout around.start s under ++ (if around.shared then [] else row_cells layout s [] (Ends (not (is_end around.next))) ∷ [])
-
--- the rows are those, cell by cell
-pub record AreSuggestionRows (r : Renderer) (frame : Frame) (around : ElementContext) (s : Snippet Patch) (lines : List (List Cell)) : Type 0 where
-  pub under : List Cell
-  pub found : IsUnder r frame around.start under
-  pub are : lines ≡ suggestion_lines r frame around s under
+    body_cells layout around.start s (under_of r frame around.start found) ++ (if around.shared then [] else row_cells layout s [] (Ends (not (is_end around.next))) ∷ [])
 
 -- the rows of a suggestion, whose source and whose lines are UTF-8: that of its path, where it names that, and those of its lines, each
 -- of which shows what the suggestion has there
-pub record IsSuggestionDrawn (r : Renderer) (frame : Frame) (around : ElementContext) (s : Snippet Patch) (rows : List (List Cell)) : Type 0 where
+pub record IsSuggestionDrawn (r : Renderer) (frame : Frame) (around : ElementContext) (found : List Cell) (s : Snippet Patch) (rows : List (List Cell)) : Type 0 where
   pub utf8 : IsUtf8 (cow_str_bytes s.source)
   pub given_utf8 : IsUtf8 (given_text s)
   pub lines : List (List Cell)
   pub rows_are : rows ≡ suggestion_head r frame around s ++ lines
   pub are : AllZip (Shows (suggestion_layout r frame s) (s.line_start + first_given s) (given_lines s)) (suggestion_rows around s) lines
-  pub cells : AreSuggestionRows r frame around s lines
+  pub cells : lines ≡ suggestion_lines r frame around found s
 
--- the rows of an element
-abbrev pub IsElementDrawn : Renderer → Frame → ElementContext → Element → List (List Cell) → Type 0
-IsElementDrawn r frame around (Message message) rows = rows ≡ message_rows r frame around message
-IsElementDrawn r frame around (Cause snippet) rows = IsCauseDrawn r frame around snippet rows
-IsElementDrawn r frame around (Suggestion snippet) rows = IsSuggestionDrawn r frame around snippet rows
-IsElementDrawn r frame around (Origin origin) rows = rows ≡ origin_rows r frame around origin
-IsElementDrawn r frame around (Padding padding) rows =
+-- the rows of an element, where this stands in the row in which the one before it ends
+abbrev pub IsElementDrawn : Renderer → Frame → ElementContext → List Cell → Element → List (List Cell) → Type 0
+IsElementDrawn r frame around found (Message message) rows = rows ≡ message_rows r frame around message
+IsElementDrawn r frame around found (Cause snippet) rows = IsCauseDrawn r frame around snippet rows
+IsElementDrawn r frame around found (Suggestion snippet) rows = IsSuggestionDrawn r frame around found snippet rows
+IsElementDrawn r frame around found (Origin origin) rows = rows ≡ origin_rows r frame around origin
+IsElementDrawn r frame around found (Padding padding) rows =
     rows ≡ padding_row r.decor_style frame.gutter (is_end around.next) ∷ []
 
--- the rows of an element stand below some rows, and nothing else, but the row in which the next one begins, where it shares that
-pub record AddsElement (r : Renderer) (frame : Frame) (around : ElementContext) (e : Element) (above new : List (List Cell)) : Type 0 where
+-- the rows of an element stand below some rows, and nothing else, but the row in which the next one begins, where it shares that: the
+-- one that the element ends with
+pub record AddsElement (r : Renderer) (frame : Frame) (around : ElementContext) (found : List Cell) (e : Element) (above new : List (List Cell)) : Type 0 where
   pub rows : List (List Cell)
   pub tail : List (List Cell)
   pub added : new ≡ above ++ (rows ++ tail)
-  pub is : IsElementDrawn r frame around e rows
+  pub is : IsElementDrawn r frame around found e rows
   pub ends : IsTail r.decor_style frame.gutter around.shared tail
+  pub last : around.shared ≡ true → tail ≡ last_row r frame (not (is_end around.next)) (Some e) ∷ []
 
 -- each of these parts is the rows of one of these elements, which are all that a group draws, in order
 pub record AreElementsDrawn (r : Renderer) (frame : Frame) (place : GroupPosition) (file : Option (List ℕ)) (es : List Element) (parts : List (List (List Cell))) : Type 0 where
   pub count : length parts ≡ length es
-  pub each : (i : ℕ) (e : Element) → slice_get es i ≡ Some e → IsElementDrawn r frame (context_at place file es i e) e (slice_index_or parts i [])
+  pub each : (i : ℕ) (e : Element) → slice_get es i ≡ Some e → IsElementDrawn r frame (context_at place file es i e) (found_at r frame es i) e (slice_index_or parts i [])
 
 -- the rows of these elements stand below some rows, and nothing else
 pub record AddsElements (r : Renderer) (frame : Frame) (place : GroupPosition) (file : Option (List ℕ)) (es : List Element) (old new : List (List Cell)) : Type 0 where

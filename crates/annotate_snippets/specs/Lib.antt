@@ -3,6 +3,7 @@ pub mod Drawn
 pub mod Fault
 pub mod Feeds
 pub mod Forms
+pub mod GraphicForm
 pub mod Gutter
 pub mod Levels
 pub mod Numbers
@@ -19,3 +20,4 @@ pub use Rattle.snippet_model.specs.Trusted
 pub use Rattle.snippet_lines.specs.Span
 pub use Rattle.snippet_splice.specs.Edits
 pub mod LineRows
+pub mod SpanBars

@@ -1,6 +1,15 @@
--- Which rows of a page begin with a number: those that show a line, and no other row of an element.
-use Rattle.std.specs.Prelude.{◌≡◌, ℕ, Bool, true, false, All}
+-- Which rows of a page begin with a number: those that show a line, and no other row of an element, nor of a title that begins with a
+-- word.
+use Rattle.std.specs.Prelude.{◌≡◌, ℕ, ◌+◌, ◌<◌, ◌==◌, ◌||◌, not, Bool, true, false, All, List, [], ◌∷◌, chars, take, if◌then◌else◌}
+use Rattle.std.specs.Char.{is_ascii_digit}
+use Rattle.snippet_grid.specs.Print.{row_text}
+use Rattle.snippet_model.specs.Heading.{heading_of_title}
+use Rattle.snippet_model.specs.Level.{name_of}
 use Rattle.snippet_model.specs.Rows.{HasNoNumber}
+use Rattle.snippet_model.specs.declared.snippet.Title.{Title}
+use Rattle.snippet_style.specs.Cell.{Cell}
+use Rattle.snippet_text.specs.Normalized.{norm}
+use Rattle.snippet_titles.specs.Heading.{label_width}
 use Rattle.annotate_snippets.specs.Page.{RowName, SourceRow, Elision, OfferedLine, RemovedLine, Other, NamedRow, GroupPage}
 
 -- whether a row of an element shows a line: of the source, of the patched source, or one that is removed
@@ -16,7 +25,28 @@ shows_a_line Other = false
 abbrev pub IsNumberedAsLine : ℕ → NamedRow → Type 0
 IsNumberedAsLine gutter row = shows_a_line row.name ≡ false → HasNoNumber gutter row.cells
 
--- so it is of each row of a group's elements. Nothing is said of the rows of its title, which hold what the caller gives: its text, a
--- name of its own for its level, an id
+-- so it is of each row of a group's elements
 abbrev pub HasNumbersOfLines : ℕ → GroupPage → Type 0
 HasNumbersOfLines gutter g = All (λ rows. All (IsNumberedAsLine gutter) rows) g.elements
+
+-- ---- titles
+
+-- whether some characters begin with a number: the first that is no space is a digit
+abbrev pub begins_with_number : List ℕ → Bool
+begins_with_number [] = false
+begins_with_number (c ∷ cs) = if c == 32 then begins_with_number cs else is_ascii_digit c
+
+-- whether they begin with a word: there is a first, and it is neither a space nor a digit
+abbrev pub begins_with_word : List ℕ → Bool
+begins_with_word [] = false
+begins_with_word (c ∷ cs) = not (c == 32 || is_ascii_digit c)
+
+-- a title begins with a word: with the name of its level, as it is drawn. And what stands before its text is wider than the gutter, so
+-- that no further line of the text reaches into that
+pub record IsTitleOfWords (gutter : ℕ) (title : Title) : Type 0 where
+  pub word : begins_with_word (norm (chars (name_of title.level))) ≡ true
+  pub wide : gutter < label_width (heading_of_title title)
+
+-- a row has no number where those of lines stand, in the cells up to the one before the separator
+abbrev pub IsUnnumbered : ℕ → List Cell → Type 0
+IsUnnumbered gutter row = begins_with_number (take (gutter + 1) (row_text row)) ≡ false

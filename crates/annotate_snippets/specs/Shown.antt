@@ -47,7 +47,7 @@ use Rattle.snippet_model.specs.Rows.{IsFree}
 use Rattle.snippet_style.specs.Glyphs.{separator_of, placeholder_of}
 use Rattle.snippet_strokes.specs.EntryMarks.{IsMarkCell, IsBarCell, has_mark_role}
 use Rattle.snippet_marks.specs.Entries.{label_role}
-use Rattle.snippet_strokes.specs.Labels.{IsStrokeCell}
+use Rattle.snippet_strokes.specs.Labels.{IsStemCell, IsStrokeCell}
 use Rattle.snippet_strokes.specs.Rows.{IsElisionRow}
 use Rattle.snippet_marks.specs.SourceRows.{bare_row}
 use Rattle.snippet_titles.specs.Heading.{heading_rows}
@@ -62,12 +62,15 @@ use Rattle.annotate_snippets.specs.declared.renderer.element_context.GroupPositi
 use Rattle.annotate_snippets.specs.declared.renderer.element_context.Next.{Next}
 use Rattle.annotate_snippets.specs.declared.renderer.element_context.ElementContext.{ElementContext}
 use Rattle.annotate_snippets.specs.Around.{closes_with, drawn_elements, file_of_group, is_end, next_of, path_bytes, place_at, context_at, suggestion_rows}
-use Rattle.annotate_snippets.specs.Drawn.{AreSuggestionRows, suggestion_layout}
+use Rattle.annotate_snippets.specs.Drawn.{found_at, suggestion_layout, suggestion_lines}
 use Rattle.annotate_snippets.specs.Feeds.{HasOneLineRows, HasOneLineTexts, page_lines, text_lines}
+pub use Rattle.annotate_snippets.specs.GraphicForm.{name_of_row}
+use Rattle.annotate_snippets.specs.GraphicForm.{graphic_form}
 use Rattle.annotate_snippets.specs.Gutter.{frame_of, line_numbers, number_text, numbered_source}
 use Rattle.annotate_snippets.specs.LineRows.{AreRowsDrawn}
-use Rattle.annotate_snippets.specs.Numbers.{HasNumbersOfLines}
+use Rattle.annotate_snippets.specs.Numbers.{HasNumbersOfLines, IsTitleOfWords, IsUnnumbered}
 use Rattle.annotate_snippets.specs.Page.{RowName, SourceRow, Elision, OfferedLine, RemovedLine, Other, NamedRow, lines_named, lines_offered, lines_removed, names_in, names_of_lines, cells_below, cells_of, rows_below, others, GroupPage, Page, page_text, PrintsPage, IsAscending, page_links}
+use Rattle.annotate_snippets.specs.SpanBars.{ShowsBars}
 use Rattle.annotate_snippets.specs.Rows.{cause_head, message_style, origin_rows, place_found, place_given, rows_after_cause, rows_after_title, suggestion_head}
 
 -- the rows show a title or a message, which answers this: level, identifier, text, and whether that is trusted. They are its rows
@@ -204,13 +207,20 @@ pub record ShowsLabel (frame : Frame) (dropped : ℕ) (rows : List (List Cell)) 
   pub whole : (n : ℕ) → n < length l.label.text → cell_at rows l.row (l.cell + n) ≡ unlinked_cell (label_role l.label.kind) (slice_index_or l.label.text n 0)
   pub place : ((l.row ≡ 0) × (l.cell ≡ frame.code + max (l.label.to - dropped) 1 + 1)) ⊎ ((0 < l.row) × (l.cell ≡ cell_of frame dropped l.label.from))
 
--- no label of line k is lost: of the spans that end on it, each that has a label to show has it in the rows below the line, whole;
--- no cell belongs to two labels, so that two of the same words stand twice; and each cell of these rows that belongs to none, from the
--- code's on, is a space or the glyph of a stroke, so that no other word stands there
+-- a stem leads from its mark down to a label that hangs below it: one stands in each row between, in the label's first cell, but where
+-- that cell is one of these labels'
+abbrev pub HasStem : DecorStyle → List ShownLabel → List (List Cell) → ShownLabel → Type 0
+HasStem decor labels rows l =
+    (r : ℕ) → 0 < r → r < l.row → count_by (is_in_label r l.cell) labels ≡ 0 → IsStemCell decor (cell_at rows r l.cell)
+
+-- no label of line k is lost: of the spans that end on it, each that has a label to show has it in the rows below the line, whole, and
+-- a stem leads to it; no cell belongs to two labels, so that two of the same words stand twice; and each cell of these rows that belongs
+-- to none, from the code's on, is a space or the glyph of a stroke, so that no other word stands there
 pub record ShowsLabels (decor : DecorStyle) (frame : Frame) (s : Snippet Annotation) (k dropped : ℕ) (rows : List (List Cell)) : Type 0 where
   pub labels : List ShownLabel
   pub spans : map (λ (l : ShownLabel). l.label) labels ≡ labels_ending_on s k
   pub stand : All (λ l. 0 < length l.label.text → ShowsLabel frame dropped rows l) labels
+  pub led : All (λ l. 0 < length l.label.text → HasStem decor labels rows l) labels
   pub apart : (r c : ℕ) → count_by (is_in_label r c) labels ≤ 1
   pub others : (r c : ℕ) → frame.code ≤ c → count_by (is_in_label r c) labels ≡ 0 → IsStrokeCell decor (cell_at rows r c)
 
@@ -261,7 +271,8 @@ pub record NamesLocation (r : Renderer) (frame : Frame) (s : Snippet Annotation)
 -- a span begins or ends has one source row, and source rows of greater lines stand lower. Where the snippet is of the group's
 -- primary file and has a path and spans that are marked, none of several lines, the first row names the first of their places.
 -- All rows of a line are what its entries, and the bars that are open above it, make of the row that holds the line alone; and no other
--- row stands there, neither above the first line nor below a row in place of lines
+-- row stands there, neither above the first line nor below a row in place of lines. So beside each row between the first and the last
+-- line of a span of several lines stands its bar
 pub record ShowsSnippet (r : Renderer) (frame : Frame) (around : ElementContext) (s : Snippet Annotation) (rows : List NamedRow) : Type 0 where
   pub after : List NamedRow
   pub rows_are : rows ≡ others (cause_head r frame around s) ++ (after ++ others (rows_after_cause r frame around))
@@ -273,6 +284,7 @@ pub record ShowsSnippet (r : Renderer) (frame : Frame) (around : ElementContext)
   pub named : AreRowsOf r frame (closes_with around) s after
   pub drawn : AreRowsDrawn r frame (closes_with around) s [] after
   pub begins : rows_below after ≡ []
+  pub bars : ShowsBars r frame s after
 
 -- the row offers line j of the patched source: its number in the gutter, a separator, `+` or the glyph of a changed line after
 -- it and no other letter or digit between them and the line; and three cells after the gutter, to the row's end, the
@@ -298,15 +310,6 @@ IsSuggestionRow r gutter s (RemovedLine i) row =
     IsRemovedRow (line_numbers r s.line_numbering) r.decor_style gutter (number_text r s.line_numbering gutter (removed_number s i)) (norm (chars (text_at (source_lines (cow_str_bytes s.source)) i))) row
 IsSuggestionRow r gutter s Other row = IsBareRow r.decor_style gutter row
 
--- what the row of a suggestion is named by
-abbrev pub name_of_row : Snippet Patch → SuggestionRow → RowName
-name_of_row s (Begins start) = Other
-name_of_row s (Offers k) = OfferedLine (first_given s + k)
-name_of_row s Skips = Other
-name_of_row s (Removes i number text) = RemovedLine i
-name_of_row s Empty = Other
-name_of_row s (Ends follows) = Other
-
 -- left of the lines a row of a suggestion that shows none holds just what such a row has: what the suggestion begins or ends with,
 -- what stands for lines that are left out, or nothing
 abbrev pub HasStrokes : DecorStyle → ℕ → SuggestionRow → List Cell → Type 0
@@ -321,13 +324,13 @@ HasStrokes decor gutter (Ends follows) row = HasLeft gutter (beside_gutter gutte
 -- So they offer lines of the patched source, each once and in order, they show as removed the lines of the source that it takes away,
 -- in order, above the line in their place, where one stands there; and each row is what its name says. Each line
 -- that a patch touches is offered, if it isn't blank; but not where the spliced text has one line, and that is the last source line
--- that is reached
-pub record ShowsSuggestion (r : Renderer) (frame : Frame) (around : ElementContext) (s : Snippet Patch) (rows : List NamedRow) : Type 0 where
+-- that is reached. Where the suggestion begins in the row in which the one before it ends, that row holds what is found there
+pub record ShowsSuggestion (r : Renderer) (frame : Frame) (around : ElementContext) (found : List Cell) (s : Snippet Patch) (rows : List NamedRow) : Type 0 where
   pub after : List NamedRow
   pub rows_are : rows ≡ others (suggestion_head r frame around s) ++ after
   pub offered : IsOfferable s → (j : ℕ) → IsTouched (cow_str_bytes s.source) (edits_of s) j → is_blank (text_at (source_lines (patched (cow_str_bytes s.source) (edits_of s))) j) ≡ false → IsAsItWas s ⊎ Contains (lines_offered after) j
   pub order : map (λ row. row.name) after ≡ map (name_of_row s) (suggestion_rows around s)
-  pub cells : AreSuggestionRows r frame around s (cells_of after)
+  pub cells : cells_of after ≡ suggestion_lines r frame around found s
   pub signs : AllZip (HasSign (suggestion_layout r frame s) s) (suggestion_rows around s) (cells_of after)
   pub strokes : AllZip (HasStrokes r.decor_style frame.gutter) (suggestion_rows around s) (cells_of after)
   pub ordered : IsAscending (lines_offered after)
@@ -335,13 +338,13 @@ pub record ShowsSuggestion (r : Renderer) (frame : Frame) (around : ElementConte
   pub removed : lines_removed after ≡ removed_lines s
   pub named : All (λ row. IsSuggestionRow r frame.gutter s row.name row.cells) after
 
--- the rows show an element
-abbrev pub ShowsElement : Renderer → Frame → ElementContext → Element → List NamedRow → Type 0
-ShowsElement r frame around (element.Message message) rows = ShowsMessage r frame around message rows
-ShowsElement r frame around (element.Cause snippet) rows = ShowsSnippet r frame around snippet rows
-ShowsElement r frame around (element.Suggestion snippet) rows = ShowsSuggestion r frame around snippet rows
-ShowsElement r frame around (element.Origin origin) rows = ShowsOrigin r frame around origin rows
-ShowsElement r frame around (element.Padding padding) rows =
+-- the rows show an element, where this stands in the row in which the one before it ends
+abbrev pub ShowsElement : Renderer → Frame → ElementContext → List Cell → Element → List NamedRow → Type 0
+ShowsElement r frame around found (element.Message message) rows = ShowsMessage r frame around message rows
+ShowsElement r frame around found (element.Cause snippet) rows = ShowsSnippet r frame around snippet rows
+ShowsElement r frame around found (element.Suggestion snippet) rows = ShowsSuggestion r frame around found snippet rows
+ShowsElement r frame around found (element.Origin origin) rows = ShowsOrigin r frame around origin rows
+ShowsElement r frame around found (element.Padding padding) rows =
     rows ≡ others (padding_row r.decor_style frame.gutter (is_end around.next) ∷ [])
 
 -- a row of an element that isn't a message holds no listed character, and no link; for a message see ShowsHeading
@@ -355,7 +358,7 @@ IsFreeElement (element.Padding padding) rows = All (λ row. IsFree row.cells) ro
 -- the parts of a group's page show these elements, which are all that are drawn, one by one, in order
 pub record AreElementsShown (r : Renderer) (frame : Frame) (place : GroupPosition) (file : Option (List ℕ)) (es : List Element) (parts : List (List NamedRow)) : Type 0 where
   pub count : length parts ≡ length es
-  pub each : (i : ℕ) (e : Element) → slice_get es i ≡ Some e → ShowsElement r frame (context_at place file es i e) e (slice_index_or parts i [])
+  pub each : (i : ℕ) (e : Element) → slice_get es i ≡ Some e → ShowsElement r frame (context_at place file es i e) (found_at r frame es i) e (slice_index_or parts i [])
   pub free : (i : ℕ) (e : Element) → slice_get es i ≡ Some e → IsFreeElement e (slice_index_or parts i [])
 
 -- the rows show a group: its title, and each element that is drawn, in order. Where a suggestion begins in the row with which
@@ -383,14 +386,15 @@ abbrev pub report_links : Renderer → List Group → List (List ℕ)
 report_links r groups =
     if r.hyperlink then flat_map (λ g. flat_map (λ (t : Title). id_links true t.id) (option_to_list g.title)) groups else []
 
--- the texts show a report under these sheets, one text under each: all print one page, which shows each group, in order,
--- and each listed character of which is one of a trusted text; it links to what the report links to. So without links, under a
+-- the texts show a report under these sheets, one text under each: all print one page, which is the report's, cell by cell. So it shows
+-- each group, in order, and each listed character of it is one of a trusted text; it links to what the report links to. So without links, under a
 -- plain sheet, the text is the page's characters and nothing else (`plain` follows from `printed` and `links`). Where no label, path,
 -- id and name of a level holds a line feed, no cell of the page does, whatever the sources, the patches, and the texts of titles and
 -- messages hold; so the lines of the text are the rows (`lines` follows from `one_line`). A row of an element begins with a number only
--- where it shows a line (`numbers` follows from `shows`)
+-- where it shows a line, and no row of a title that begins with a word does (`numbers` and `titles` follow from `shows`)
 pub record SheetsShown (r : Renderer) (groups : List Group) (sheets : List Stylesheet) (texts : List (List ℕ)) : Type 0 where
   pub page : Page
+  pub is : page ≡ graphic_form r groups
   pub shows : AreGroupsShown r groups page
   pub printed : AllZip (λ sheet text. PrintsPage sheet (levels_of groups) page text) sheets texts
   pub free : IsFreeBut (trusted_texts groups) (page_text page)
@@ -398,4 +402,5 @@ pub record SheetsShown (r : Renderer) (groups : List Group) (sheets : List Style
   pub one_line : HasOneLineTexts groups → All HasOneLineRows page
   pub lines : HasOneLineTexts groups → text_lines (page_text page) ≡ page_lines page
   pub numbers : (i : ℕ) (g : Group) (part : GroupPage) → slice_get groups i ≡ Some g → slice_get page i ≡ Some part → HasNumbersOfLines (frame_of r groups g).gutter part
+  pub titles : (i : ℕ) (g : Group) (part : GroupPage) (title : Title) → slice_get groups i ≡ Some g → slice_get page i ≡ Some part → g.title ≡ Some title → IsTitleOfWords (frame_of r groups g).gutter title → All (IsUnnumbered (frame_of r groups g).gutter) part.title
   pub plain : report_links r groups ≡ [] → AllZip (λ sheet text. is_plain_sheet sheet ≡ true → text ≡ encode_utf8_all (page_text page)) sheets texts

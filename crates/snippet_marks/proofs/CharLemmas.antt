@@ -1,8 +1,9 @@
 -- The characters of a text: how many there are once it is normalised, and whether there are any.
 use Rattle.std.proofs.Common.{◌≡◌, ◌==◌, false, sym, ap, ◌∙◌, ℕ, ◌<◌, ◌^◌, List, [], length, arith, inl, inr, IsUtf8}
-use Rattle.std.proofs.lemmas.Str.{chars-nil}
+use Rattle.std.proofs.lemmas.Str.{chars-nil, encodes-chars}
 use Rattle.snippet_text.proofs.NormLemmas.{length-norm}
 use Rattle.std.specs.Str.{chars}
+use Rattle.std.specs.Prelude.{encode_utf8_all}
 use Rattle.std.proofs.lemmas.Bool.Decides.{nat_tests}
 use Rattle.std.proofs.lemmas.Bool.{cases_lt}
 use Rattle.std.proofs.lemmas.List.{nil_from_length}
@@ -26,3 +27,8 @@ is_empty-chars bytes utf8 =
   where
     above : (n : ℕ) → 0 < n → (n == 0) ≡ false
     above n some = grind (arith, nat_tests)
+
+-- the bytes of a text are those of its characters
+pub bytes_of_chars : (bytes text cs : List ℕ) → IsUtf8 text → text ≡ bytes → chars bytes ≡ cs → bytes ≡ encode_utf8_all cs
+bytes_of_chars bytes text cs utf8 is shows =
+    sym is ∙ sym (encodes-chars text utf8) ∙ ap (λ t. encode_utf8_all (chars t)) is ∙ ap encode_utf8_all shows

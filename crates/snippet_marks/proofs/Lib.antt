@@ -2,6 +2,7 @@ pub mod SourceRowLemmas
 pub mod CharLemmas
 pub mod OrderLemmas
 pub mod PlacedLemmas
+pub mod HeldLemmas
 pub mod CellLemmas
 pub mod WriteLemmas
 pub mod PaintLemmas

@@ -10,9 +10,10 @@ use Rattle.snippet_style.specs.Glyphs.{glyph_of}
 use Rattle.snippet_style.specs.declared.role.ElementStyle.{ElementStyle}
 use Rattle.snippet_grid.specs.Layout.{Layout}
 use Rattle.snippet_marks.specs.declared.positions.PlacedEntry.{PlacedEntry}
-use Rattle.snippet_marks.specs.Painting.{Painted, Paints, first_glyph, mark_cell, mark_end, mark_of, marks_of, stroke_role}
+use Rattle.snippet_marks.specs.Painting.{AreMarked, Painted, Paints, first_glyph, mark_cell, mark_end, mark_of, marks_of, painting_order, stroke_role}
 use Rattle.snippet_marks.specs.Writes.{Write, glyph_at, painted, stretch_of}
 use Rattle.snippet_marks.proofs.LineLemmas.{text_cells-replicate}
+use Rattle.snippet_marks.proofs.OrderLemmas.{IsPaintingOrder-painting_order, IsPermutation-painting_order}
 use Rattle.snippet_marks.proofs.PaintLemmas.{Painted-next, Painted-none, Paints-more, Paints-none, Paints-past, Paints-rest, first_cell_is, other_cell_is}
 use Rattle.snippet_marks.proofs.WriteLemmas.{flat_map-take_more, less, mark_of-none, painted-append, stretch_of-none}
 
@@ -79,3 +80,13 @@ Painted-marks layout row (e ∷ es) old =
     let n = length (e ∷ es) in
     let all : take n (e ∷ es) ≡ e ∷ es = take_all n (e ∷ es) (omega arith) in
     subst (λ xs. Painted layout xs row old (painted (marks_of layout row xs) old)) all (painted_upto layout row (e ∷ es) e old n (omega arith))
+
+-- so the marks of entries are painted in the order of painting
+pub AreMarked-marks : (layout : Layout) (row : ℕ) (es : List PlacedEntry) (old : List (List Cell)) → AreMarked layout es row old (painted (marks_of layout row (painting_order es)) old)
+AreMarked-marks layout row es old =
+    record {
+      order = painting_order es;
+      same = IsPermutation-painting_order es;
+      ordered = IsPaintingOrder-painting_order es;
+      painted = Painted-marks layout row (painting_order es) old;
+    }

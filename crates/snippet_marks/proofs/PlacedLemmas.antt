@@ -1,6 +1,6 @@
 -- How the entries of a line are placed, one position after another.
 use Rattle.std.proofs.Common.{◌≡◌, ℕ, suc, ◌+◌, ◌-◌, ◌<◌, ◌≤◌, ◌^◌, ◌==◌, ◌&&◌, ◌||◌, cond, Bool, true, false, List, [], ◌∷◌, ◌++◌, length, map, drop, take, set, get_or, refl, sym, ap, ◌∙◌, subst, arith, All, zero}
-use Rattle.std.specs.List.{list_any}
+use Rattle.std.specs.List.{list_all, list_any}
 use Rattle.std.specs.Cow.{cow_str_bytes}
 use Rattle.std.proofs.lemmas.Bool.Decides.{nat_tests}
 use Rattle.std.proofs.lemmas.Simd.{map-map}
@@ -11,7 +11,7 @@ use Rattle.std.proofs.lemmas.List.Sorted.{All-permutation, IsPermutation-map}
 use Rattle.snippet_lines.specs.Order.{ordered_by}
 use Rattle.snippet_view.specs.declared.entries.LineAnnotation.{LineAnnotation}
 use Rattle.snippet_marks.specs.declared.positions.PlacedEntry.{PlacedEntry}
-use Rattle.snippet_marks.specs.Positions.{ArePlaced, IsFromRight, HasItsLabel, asks, do_overlap, ends_no_later, has_label, takes_space, is_start, are_starts, crosses, crowds, position_at, position_after, positions, flipped, line_positions, unplaced, is_placed_before}
+use Rattle.snippet_marks.specs.Positions.{ArePlaced, IsFromRight, HasItsBytes, HasItsLabel, asks, do_overlap, ends_no_later, has_label, takes_space, is_start, are_starts, crosses, crowds, position_at, position_after, positions, flipped, line_positions, unplaced, is_placed_before}
 use Rattle.snippet_view.specs.Measures.{greatest}
 use Rattle.snippet_view.proofs.PartLemmas.{list_any-map}
 use Rattle.std.proofs.lemmas.List.Elements.{All-map}
@@ -52,17 +52,35 @@ entries_all Q es ps same all k d within =
     let f : PlacedEntry → LineAnnotation = λ e. e.entry in
     subst Q (get_or-map f ps k d d.entry within) (All-permutation Q es (map f ps) same all k d.entry (omega (arith, within, length-map ps f)))
 
--- the rule of positions doesn't look at positions
-positions-unplaced : (p : ℕ) (es : List PlacedEntry) → positions p (map unplaced es) ≡ positions p es
-positions-unplaced p [] = refl
-positions-unplaced p (e ∷ others) =
-    let crossed : list_any (crosses (unplaced e)) (map unplaced others) ≡ list_any (crosses e) others = list_any-map (crosses (unplaced e)) unplaced others in
-    let here : position_at p (unplaced e) (map unplaced others) ≡ position_at p e others = ap (λ b. cond ((p == 0) && (has_label e && b)) 1 p) crossed in
-    let crowded : (q : ℕ) → list_any (crowds q (unplaced e)) (map unplaced others) ≡ list_any (crowds q e) others = λ q. list_any-map (crowds q (unplaced e)) unplaced others in
-    let after : (q : ℕ) → position_after q (unplaced e) (map unplaced others) ≡ position_after q e others = λ q. ap (λ b. cond b (q + 1) q) (crowded q) in
-    ap (λ q. q ∷ positions (position_after q (unplaced e) (map unplaced others)) (map unplaced others)) here
-    ∙ ap (λ q. position_at p e others ∷ positions q (map unplaced others)) (after (position_at p e others))
-    ∙ ap (λ qs. position_at p e others ∷ qs) (positions-unplaced (position_after (position_at p e others) e others) others)
+-- entries changed in what the rule of positions doesn't look at have the same positions
+module _ (f : PlacedEntry → PlacedEntry)
+    (has : (e : PlacedEntry) → has_label (f e) ≡ has_label e)
+    (crossing : (e : PlacedEntry) → (λ (g : PlacedEntry). crosses (f e) (f g)) ≡ crosses e)
+    (crowding : (p : ℕ) (e : PlacedEntry) → (λ (g : PlacedEntry). crowds p (f e) (f g)) ≡ crowds p e)
+    (starting : (λ (e : PlacedEntry). is_start (f e)) ≡ is_start) where
+  pub position_at-changed : (p : ℕ) (e : PlacedEntry) (others : List PlacedEntry) → position_at p (f e) (map f others) ≡ position_at p e others
+  position_at-changed p e others =
+      ap (λ b. cond ((p == 0) && (b && list_any (crosses (f e)) (map f others))) 1 p) (has e)
+      ∙ ap (λ b. cond ((p == 0) && (has_label e && b)) 1 p) (list_any-map (crosses (f e)) f others ∙ ap (λ q. list_any q others) (crossing e))
+
+  pub position_after-changed : (p : ℕ) (e : PlacedEntry) (others : List PlacedEntry) → position_after p (f e) (map f others) ≡ position_after p e others
+  position_after-changed p e others =
+      ap (λ b. cond b (p + 1) p) (list_any-map (crowds p (f e)) f others ∙ ap (λ q. list_any q others) (crowding p e))
+
+  positions-changed : (p : ℕ) (es : List PlacedEntry) → positions p (map f es) ≡ positions p es
+  positions-changed p [] = refl
+  positions-changed p (e ∷ others) =
+      let here = position_at p e others in
+      ap (λ q. q ∷ positions (position_after q (f e) (map f others)) (map f others)) (position_at-changed p e others)
+      ∙ ap (λ q. here ∷ positions q (map f others)) (position_after-changed here e others)
+      ∙ ap (λ qs. here ∷ qs) (positions-changed (position_after here e others) others)
+
+  pub are_starts-changed : (es : List PlacedEntry) → are_starts (map f es) ≡ are_starts es
+  are_starts-changed es = list_all-map is_start f es ∙ ap (λ q. list_all q es) starting
+
+  pub line_positions-changed : (es : List PlacedEntry) → line_positions (map f es) ≡ line_positions es
+  line_positions-changed es =
+      ap (λ b. cond b (flipped (positions 0 (map f es))) (positions 0 (map f es))) (are_starts-changed es) ∙ ap (λ ps. cond (are_starts es) (flipped ps) ps) (positions-changed 0 es)
 
 -- what doesn't look at positions is kept where nothing else changes
 pub all_kept : (P : PlacedEntry → Type 0) (es fs : List PlacedEntry) → ((e : PlacedEntry) → P (unplaced e) → P e) → ((e : PlacedEntry) → P e → P (unplaced e)) → map unplaced es ≡ map unplaced fs → All P fs → All P es
@@ -85,9 +103,9 @@ length-line_positions es =
       | false ↦ length-positions 0 es
     ]
 
+-- so positions don't depend on positions
 line_positions-unplaced : (es : List PlacedEntry) → line_positions (map unplaced es) ≡ line_positions es
-line_positions-unplaced es =
-    ap (λ b. cond b (flipped (positions 0 (map unplaced es))) (positions 0 (map unplaced es))) (list_all-map is_start unplaced es) ∙ ap (λ ps. cond (are_starts es) (flipped ps) ps) (positions-unplaced 0 es)
+line_positions-unplaced = line_positions-changed unplaced (λ e. refl) (λ e. refl) (λ p e. refl) refl
 
 pub line_positions_kept : (es fs : List PlacedEntry) → map unplaced es ≡ map unplaced fs → line_positions es ≡ line_positions fs
 line_positions_kept es fs kept = sym (line_positions-unplaced es) ∙ ap line_positions kept ∙ line_positions-unplaced fs
@@ -100,17 +118,18 @@ written_back xs ys len is kept =
 
 -- entries that were put in an order and got the positions of it are placed
 pub ArePlaced-from : (es : List LineAnnotation) (labelled sorted placed : List PlacedEntry) (ps : List ℕ)
-    → map (λ (e : PlacedEntry). e.entry) labelled ≡ es → All HasItsLabel labelled → IsPermutation labelled sorted
+    → map (λ (e : PlacedEntry). e.entry) labelled ≡ es → All HasItsLabel labelled → All HasItsBytes labelled → IsPermutation labelled sorted
     → map (λ (e : PlacedEntry). e.entry) sorted ≡ ordered_by is_placed_before (map (λ (e : PlacedEntry). e.entry) labelled)
     → IsFromRight (map (λ (e : PlacedEntry). e.entry) sorted) → ps ≡ line_positions sorted → map (λ (e : PlacedEntry). e.position) placed ≡ ps
     → map unplaced placed ≡ map unplaced sorted → ArePlaced es placed
-ArePlaced-from es labelled sorted placed ps entries labels same order ordered are got kept =
+ArePlaced-from es labelled sorted placed ps entries labels bytes same order ordered are got kept =
     let f : PlacedEntry → LineAnnotation = λ e. e.entry in
     record {
       order = entries_kept placed sorted kept ∙ order ∙ ap (ordered_by is_placed_before) entries;
       same = subst (IsPermutation es) (sym (entries_kept placed sorted kept)) (subst (λ xs. IsPermutation xs (map f sorted)) entries (IsPermutation-map f labelled sorted same));
       from_right = subst IsFromRight (sym (entries_kept placed sorted kept)) ordered;
       labels = all_kept HasItsLabel placed sorted (λ e has. has) (λ e has. has) kept (All-permutation HasItsLabel labelled sorted same labels);
+      bytes = all_kept HasItsBytes placed sorted (λ e has. has) (λ e has. has) kept (All-permutation HasItsBytes labelled sorted same bytes);
       positions_are = got ∙ are ∙ sym (line_positions_kept placed sorted kept);
     }
 

@@ -14,7 +14,7 @@ use Rattle.snippet_text.specs.Normalized.{is_listed}
 use Rattle.snippet_model.specs.Rows.{IsFreeCell, IsFree}
 use Rattle.snippet_model.proofs.RowLemmas.{free_drawn}
 use Rattle.snippet_grid.specs.Layout.{Layout}
-use Rattle.snippet_marks.specs.SourceRows.{IsSourceRow, AddsSourceRow, with_cells}
+use Rattle.snippet_marks.specs.SourceRows.{IsSourceRow, AddsSourceRow, source_row, with_cells}
 use Rattle.snippet_style.specs.Separators.{separator_row}
 use Rattle.snippet_grid.proofs.RowLemmas.{separator_row-begun as begun, texted, text_put}
 use Rattle.snippet_model.proofs.RowLemmas.{free_separator_row, free_written}
@@ -78,6 +78,7 @@ free_front layout shown free =
 source_bare : (layout : Layout) (shown : List ℕ) → layout.gutter + 3 ≤ layout.code → length shown ≤ layout.gutter + 1 → All (λ c. is_listed c ≡ false) shown → IsSourceRow layout shown [] (front layout shown)
 source_bare layout shown place short free =
     record {
+      is = refl;
       shows = record {
         number = take-front layout shown;
         code = drop_all layout.code (front layout shown) (omega (arith, length-front layout shown short));
@@ -88,14 +89,16 @@ source_bare layout shown place short free =
     }
 
 -- the row of a line of which some cells are shown
-source_full : (layout : Layout) (shown : List ℕ) (cells : List Cell) → layout.gutter + 3 ≤ layout.code → length shown ≤ layout.gutter + 1 → All (λ c. is_listed c ≡ false) shown → IsFree cells → IsSourceRow layout shown cells (written SPACE (front layout shown) layout.code cells)
-source_full layout shown cells place short free_shown free_cells =
+source_full : (layout : Layout) (shown : List ℕ) (cells : List Cell) → layout.gutter + 3 ≤ layout.code → length shown ≤ layout.gutter + 1 → All (λ c. is_listed c ≡ false) shown → IsFree cells
+    → source_row layout shown cells ≡ written SPACE (front layout shown) layout.code cells → IsSourceRow layout shown cells (written SPACE (front layout shown) layout.code cells)
+source_full layout shown cells place short free_shown free_cells is =
     let start = front layout shown in
     let row = written SPACE start layout.code cells in
     let ends : length start ≤ layout.code = omega (arith, length-front layout shown short) in
     let bare = source_bare layout shown place short free_shown in
     let before : (c : ℕ) → c < layout.code → slice_index_or row c SPACE ≡ slice_index_or start c SPACE = λ c left. slice_index_or-written_before SPACE start layout.code cells c left in
     record {
+      is = sym is;
       shows = record {
         number = sym (take-take (length shown) layout.code row (omega arith))
             ∙ ap (take (length shown)) (take-written_past SPACE start layout.code cells ends)
@@ -112,7 +115,7 @@ source_full layout shown cells place short free_shown free_cells =
 source_celled : (layout : Layout) (shown : List ℕ) (cells : List Cell) → layout.gutter + 3 ≤ layout.code → length shown ≤ layout.gutter + 1 → All (λ c. is_listed c ≡ false) shown → IsFree cells → IsSourceRow layout shown cells (with_cells layout.code cells (front layout shown))
 source_celled layout shown [] place short free_shown free_cells = source_bare layout shown place short free_shown
 source_celled layout shown (cell ∷ cells) place short free_shown free_cells =
-    source_full layout shown (cell ∷ cells) place short free_shown free_cells
+    source_full layout shown (cell ∷ cells) place short free_shown free_cells refl
 
 -- the number is written
 pub number_written : (layout : Layout) (number : List ℕ) (old begun mid : List (List Cell)) (row : ℕ) → row ≡ length old

@@ -1,6 +1,7 @@
 -- The entries of a line: where they stand, and what their labels show.
 use Rattle.std.specs.Prelude.{ℕ, ◌-◌, ◌^◌, ◌<◌, ◌≤◌, Bool, true, false, List, [], Option, Some, None, chars}
 use Rattle.std.specs.Borrow.{Bor}
+use Rattle.std.specs.Option.{option_map}
 use Rattle.snippet_model.specs.declared.snippet.AnnotationKind.{AnnotationKind}
 use Rattle.snippet_model.specs.declared.snippet.AnnotationKind.TheVariants.{Primary, Context, Visible}
 use Rattle.snippet_view.specs.declared.entries.LineAnnotation.{LineAnnotation}
@@ -45,3 +46,8 @@ label_chars (Some label) = norm (chars label.now)
 -- the characters that the label of an entry shows
 abbrev pub label_text : LineAnnotation → List ℕ
 label_text e = label_chars e.label
+
+-- an entry whose label is lent from nowhere: of a label only its text is drawn
+abbrev pub plain_entry : LineAnnotation → LineAnnotation
+plain_entry e =
+    record e { label = option_map (λ (text : Bor (List ℕ)). record text { ref_ptr = (0, 0) }) e.label }

@@ -1,6 +1,7 @@
 -- Where the labels of a line stand, and the lines that lead to bars.
-use Rattle.std.specs.Prelude.{◌≡◌, ℕ, ◌+◌, ◌-◌, ◌<◌, ◌≤◌, ◌==◌, ◌&&◌, ◌||◌, nat_le, nat_lt, not, Bool, true, false, List, [], ◌∷◌, All, IsPermutation, length, map, chars, slice_index_or, if◌then◌else◌}
-use Rattle.std.specs.List.{list_all, list_any}
+use Rattle.std.specs.Prelude.{◌≡◌, ℕ, ◌+◌, ◌-◌, ◌<◌, ◌≤◌, ◌==◌, ◌&&◌, ◌||◌, nat_le, nat_lt, not, Bool, true, false, List, [], ◌∷◌, All, IsPermutation, length, map, chars, encode_utf8_all, slice_index_or, if◌then◌else◌}
+use Rattle.std.specs.List.{list_all, list_any, zip}
+use Rattle.std.specs.declared.borrow.CowStr.TheVariants.{Borrowed}
 use Rattle.std.specs.Cow.{cow_str_bytes}
 use Rattle.snippet_view.specs.declared.entries.LineAnnotation.{LineAnnotation}
 use Rattle.snippet_view.specs.declared.entries.LineAnnotationType.{LineAnnotationType}
@@ -13,6 +14,10 @@ use Rattle.snippet_marks.specs.Entries.{is_end_part, label_text}
 -- the label holds the characters that its entry shows
 abbrev pub HasItsLabel : PlacedEntry → Type 0
 HasItsLabel e = chars (cow_str_bytes e.label) ≡ label_text e.entry
+
+-- the label's bytes are those of these characters
+abbrev pub HasItsBytes : PlacedEntry → Type 0
+HasItsBytes e = cow_str_bytes e.label ≡ encode_utf8_all (label_text e.entry)
 
 -- whether an entry has a label that shows anything
 abbrev pub has_label : PlacedEntry → Bool
@@ -138,4 +143,22 @@ pub record ArePlaced (es : List LineAnnotation) (placed : List PlacedEntry) : Ty
   pub same : IsPermutation es (map (λ e. e.entry) placed)
   pub from_right : IsFromRight (map (λ e. e.entry) placed)
   pub labels : All HasItsLabel placed
+  pub bytes : All HasItsBytes placed
   pub positions_are : map (λ e. e.position) placed ≡ line_positions placed
+
+-- ---- the same as a value
+
+-- an entry with its label, which is held as borrowed bytes, at this position
+abbrev pub placed_at : LineAnnotation × ℕ → PlacedEntry
+placed_at pair =
+    record { entry = pair.0; label = Borrowed (record { ref_ptr = (0, 0); now = encode_utf8_all (label_text pair.0) }); position = pair.1 }
+
+-- entries with their labels, none of which is placed yet
+abbrev pub labelled : List LineAnnotation → List PlacedEntry
+labelled es = map (λ e. placed_at (e, 0)) es
+
+-- the entries of a line from right to left, each with its label, at the positions of that order
+abbrev pub placed_of : List LineAnnotation → List PlacedEntry
+placed_of es =
+    let ordered = ordered_by is_placed_before es in
+    map placed_at (zip ordered (line_positions (labelled ordered)))

@@ -49,13 +49,20 @@ abbrev pub with_cells : ℕ → List Cell → List Cell → List Cell
 with_cells code [] row = row
 with_cells code (cell ∷ cells) row = written SPACE row code (cell ∷ cells)
 
+-- a source row: what the gutter shows is written over the row of the separator, and then come the cells of the code, from the
+-- code's cell on, if there are any
+abbrev pub source_row : Layout → List ℕ → List Cell → List Cell
+source_row layout shown cells =
+    with_cells layout.code cells (written SPACE (separator_row layout.decor layout.gutter) 0 (text_cells LineNumber shown))
+
 -- the row begins with what the gutter shows, and from the code's cell to its end it holds these cells
 pub record ShowsSource (gutter from : ℕ) (shown : List ℕ) (cells row : List Cell) : Type 0 where
   pub number : take (length shown) row ≡ text_cells LineNumber shown
   pub code : drop from row ≡ cells
 
--- a source row: what ShowsSource says, the separator, and else spaces left of the code
+-- a source row, and what is seen of it: what ShowsSource says, the separator, and else spaces left of the code (all follows from `is`)
 pub record IsSourceRow (layout : Layout) (shown : List ℕ) (cells row : List Cell) : Type 0 where
+  pub is : row ≡ source_row layout shown cells
   pub shows : ShowsSource layout.gutter layout.code shown cells row
   pub separator : slice_index_or row (layout.gutter + 1) SPACE ≡ unlinked_cell LineNumber (separator_of layout.decor)
   pub blank : (c : ℕ) → length shown ≤ c → c ≢ layout.gutter + 1 → c < layout.code → slice_index_or row c SPACE ≡ SPACE

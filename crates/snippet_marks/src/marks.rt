@@ -1,10 +1,7 @@
 //! The marks below a line of the source.
-ghost use Rattle.std.specs.Prelude.{◌≡◌, ◌+◌, ◌^◌, ◌<◌, ◌==◌, ◌&&◌, All, List, OnOk, IsPermutation, map};
+ghost use Rattle.std.specs.Prelude.{◌≡◌, ◌+◌, ◌^◌, ◌<◌, ◌==◌, ◌&&◌, All, OnOk};
 ghost use Rattle.snippet_marks.specs.Entries as spec;
-ghost use Rattle.snippet_view.specs.declared.entries.LineAnnotation.{LineAnnotation};
-ghost use Rattle.snippet_marks.specs.Entries.{HasPlace};
-ghost use Rattle.snippet_marks.specs.Positions.{ArePlaced};
-ghost use Rattle.snippet_marks.specs.Painting.{StandsWhole, AreMarked, IsPaintingOrder, first_glyph, mark_end, painting_order, mark_of, marks_of};
+ghost use Rattle.snippet_marks.specs.Painting.{first_glyph, mark_end, painting_order, mark_of, marks_of};
 ghost use Rattle.snippet_marks.specs.Writes.{painted};
 
 use crate::lines::draw_stretch;
@@ -35,12 +32,6 @@ pub fn draw_marks(
     requires row { row + 1 < 2 ^ 64 }
     requires columns { All (λ e. e.entry.end.display < 2 ^ 60) placed.old.items }
     ensures painted { OnOk result (buffer.new ≡ painted (marks_of layout row placed.new.items) buffer.old) }
-    ensures ordered { OnOk result (IsPaintingOrder (map (λ e. e.entry) placed.new.items)) }
-    ensures marked { OnOk result (AreMarked layout placed.old.items row buffer.old buffer.new) }
-    ensures stand { OnOk result ((es : List LineAnnotation) → ArePlaced es placed.old.items
-        → All (λ e. HasPlace e.entry) placed.old.items → All (StandsWhole layout row buffer.old) placed.old.items
-        → All (StandsWhole layout row buffer.new) placed.old.items) }
-    ensures same { OnOk result (IsPermutation placed.old.items placed.new.items) }
     ensures order { OnOk result (placed.new.items ≡ painting_order placed.old.items) }
 {
     sort_for_painting(placed)?;
@@ -54,8 +45,6 @@ pub fn draw_marks(
 ///
 /// There is no memory to sort them.
 fn sort_for_painting(placed: &mut Vec<PlacedEntry>) -> Result<(), AllocError>
-    ensures same { OnOk result (IsPermutation placed.old.items placed.new.items) }
-    ensures ordered { OnOk result (IsPaintingOrder (map (λ e. e.entry) placed.new.items)) }
     ensures order { OnOk result (placed.new.items ≡ painting_order placed.old.items) }
 {
     placed.sort_by_key(|p| (Reverse(entry_width(&p.entry)), is_primary(p.entry.kind)))

@@ -3,7 +3,7 @@ ghost use Rattle.std.specs.Prelude.{◌≡◌, ◌+◌, ◌^◌, ◌<◌, ◌≤
 ghost use Rattle.std.specs.List.{list_any};
 ghost use Rattle.std.specs.Cow.{cow_str_bytes};
 ghost use Rattle.snippet_marks.specs.Positions as spec;
-ghost use Rattle.snippet_marks.specs.Positions.{ArePlaced, AsksBefore, HasItsLabel};
+ghost use Rattle.snippet_marks.specs.Positions.{ArePlaced, AsksBefore, HasItsBytes, HasItsLabel};
 ghost use Rattle.snippet_marks.specs.Entries.{label_text, shifted};
 ghost use Rattle.snippet_view.specs.Measures.{greatest};
 
@@ -95,10 +95,13 @@ fn labelled_entries<'a>(
 ) -> Result<Vec<PlacedEntry<'a>>, AllocError>
     ensures entries { IfOk result (λ labelled. map (λ e. e.entry) labelled.items ≡ map (shifted dropped) entries.now) }
     ensures labels { IfOk result (λ labelled. All HasItsLabel labelled.items) }
+    ensures bytes { IfOk result (λ labelled. All HasItsBytes labelled.items) }
 {
     let mut labelled = Vec::new(alloc);
     for entry in entries {
         let label = shown_label(alloc, entry)?;
+        // it is a text, so its bytes are those of its characters
+        let _text = label.as_str();
         labelled.push(PlacedEntry {
             entry: shifted(entry, dropped),
             label,

@@ -29,7 +29,7 @@ module _ (layout : Layout) (stroke : BarStroke) (bar : OpenBar) where
       ap (λ c. get_or (with_bar layout stroke row bar) c SPACE) (sym same) ∙ slice_index_or-written_inside SPACE row at (part bar ∷ []) 0 SPACE (omega arith)
 
   -- a bar of another depth leaves it
-  drawn_beside : (b : OpenBar) (row : List Cell) → b.depth ≢ bar.depth → there (with_bar layout stroke row b) ≡ there row
+  pub drawn_beside : (b : OpenBar) (row : List Cell) → b.depth ≢ bar.depth → there (with_bar layout stroke row b) ≡ there row
   drawn_beside b row other =
       let at : ℕ = layout.gutter + 2 + bar.depth in
       let cell : ℕ = layout.gutter + 2 + b.depth in

@@ -17,13 +17,13 @@ use Rattle.snippet_view.specs.declared.entries.LineAnnotationType.TheVariants.{S
 use Rattle.snippet_grid.specs.Layout.{Layout}
 use Rattle.snippet_marks.specs.declared.positions.PlacedEntry.{PlacedEntry}
 use Rattle.snippet_strokes.specs.EntryMarks.{HasBarCell, HasBarCellAt, IsBarCell, is_single}
-use Rattle.snippet_strokes.specs.Drawing.{DrawsBarCells, HasRows, KeepsBarCells}
+use Rattle.snippet_strokes.specs.Drawing.{DrawsBarCells, DrawsFrom, HasRows, KeepsBarCells}
 use Rattle.snippet_strokes.specs.Strokes.{bar_of, bottom_of, connector_by, connector_of, connectors_of, corner_by, corner_of, corners_of, line_to, top_of, column_of}
 use Rattle.snippet_marks.specs.Painting.{stroke_role}
 use Rattle.snippet_strokes.specs.Reach.{IsWithin}
 use Rattle.snippet_marks.specs.Writes.{Write, glyph_at, painted, stretch_of, written_by}
 use Rattle.snippet_strokes.proofs.DrawLemmas.{DrawsBarCells-more, DrawsBarCells-none, DrawsBarCells-writes, free_bar, bar_bottom, bar_horizontal, bar_top, bar_vertical}
-use Rattle.snippet_strokes.proofs.WriteLaws.{All-flat_map, flat_map-none, painted-cell}
+use Rattle.snippet_strokes.proofs.WriteLaws.{All-flat_map, DrawsFrom-painted, flat_map-none, painted-cell}
 use Rattle.snippet_strokes.proofs.StrokeWrites.{column_of-none, column_painted}
 use Rattle.snippet_marks.proofs.WriteLemmas.{painted-append}
 
@@ -88,6 +88,15 @@ connectors_bar_cells layout row es =
     let to = layout.code + e.entry.start.display in
     let P : ℕ → Type 0 = λ ch. IsBarCell layout.decor (unlinked_cell (stroke_role e) ch) in
     All-connector_of R layout row e (λ depth. All-stretch_of R (row + e.position) (layout.gutter + 3 + depth) to glyph (stroke_role e) (All-replicate P (to - (layout.gutter + 3 + depth)) glyph (bar_horizontal layout.decor primary (stroke_role e) glyph refl))))
+
+-- so they are drawn right of the separator, and left of the code they are nothing but parts of bars
+pub DrawsFrom-connectors : (layout : Layout) (row : ℕ) (es : List PlacedEntry) (old : List (List Cell)) → All (HasRows row (length old)) es → DrawsFrom row (layout.gutter + 3) old (painted (connectors_of layout row es) old)
+DrawsFrom-connectors layout row es old rows =
+    DrawsFrom-painted row (layout.gutter + 3) (connectors_of layout row es) old (connectors_within layout row (length old) es rows)
+
+pub KeepsBarCells-connectors : (layout : Layout) (row : ℕ) (es : List PlacedEntry) (old : List (List Cell)) → KeepsBarCells layout old (painted (connectors_of layout row es) old)
+KeepsBarCells-connectors layout row es old =
+    KeepsBarCells-painted layout (connectors_of layout row es) old (connectors_bar_cells layout row es)
 
 -- where all entries stand for whole spans there are none
 pub connectors_none : (layout : Layout) (row : ℕ) (es : List PlacedEntry) → All (λ e. is_single e.entry ≡ true) es → connectors_of layout row es ≡ []
@@ -198,6 +207,11 @@ corners_bars layout row count es bar_cells rows =
           bar_cell = bar_bottom layout.decor primary (stroke_role e) glyph refl;
         }) (All-nil B))
     by_part e has (MultilineLine depth) bar_cell = All-nil B
+
+-- so bars with their corners are drawn where bars stand, and are nothing but parts of bars
+pub DrawsBarCells-corners : (layout : Layout) (row : ℕ) (es : List PlacedEntry) (old : List (List Cell)) → All (λ e. HasBarCell layout e.entry) es → All (HasRows (row + 1) (length old)) es → DrawsBarCells layout row old (painted (corners_of layout row (length old) es) old)
+DrawsBarCells-corners layout row es old bar_cells rows =
+    DrawsBarCells-painted layout row (length old) (corners_of layout row (length old) es) old refl (corners_bars layout row (length old) es bar_cells rows)
 
 -- where all entries stand for whole spans there are none
 pub corners_none : (layout : Layout) (row count : ℕ) (es : List PlacedEntry) → All (λ e. is_single e.entry ≡ true) es → corners_of layout row count es ≡ []

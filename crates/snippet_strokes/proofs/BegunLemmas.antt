@@ -1,5 +1,5 @@
 -- The rows that strokes are drawn into: as they are begun, read from the left or the right, and cut where entries are wide.
-use Rattle.std.proofs.Common.{◌≡◌, ℕ, ◌+◌, ◌-◌, ◌<◌, ◌≤◌, ◌==◌, ◌&&◌, cond, nat_lt, Bool, true, false, List, [], ◌∷◌, ◌++◌, length, take, drop, replicate, get_or, refl, sym, ap, ◌∙◌, subst, arith, inl, inr, All}
+use Rattle.std.proofs.Common.{◌≡◌, ℕ, ◌+◌, ◌-◌, ◌<◌, ◌≤◌, ◌==◌, ◌&&◌, cond, nat_lt, Bool, true, false, List, [], ◌∷◌, ◌++◌, length, take, drop, replicate, get_or, refl, sym, ap, ◌∙◌, subst, arith, inl, inr, All, Contains, zero, suc, map}
 use Rattle.std.specs.List.{list_all, slice_index_or}
 use Rattle.std.specs.List.Sorted.{IsPermutation}
 use Rattle.std.proofs.lemmas.Bool.{and_parts, cases_lt, cases_eq}
@@ -7,7 +7,7 @@ use Rattle.std.proofs.lemmas.Bool.Decides.{nat_tests}
 use Rattle.std.proofs.lemmas.List.{places, length-append, length-replicate, get_or_append_left, get_or_push, length_push, get_or-drop, get_or_past, get_or-replicate, ext_get_or, append-nil, append_assoc, take-append-drop, drop_all, get_or-take, replicate_more, same_lists}
 use Rattle.std.proofs.Math.Seq.{drop-append_seam}
 use Rattle.std.proofs.lemmas.List.Elements.{All-get_or}
-use Rattle.std.proofs.lemmas.List.Sorted.{sum_by-IsPermutation}
+use Rattle.std.proofs.lemmas.List.Sorted.{Contains-permutation, IsPermutation-map, IsPermutation-trans, sum_by-IsPermutation}
 use Rattle.std.proofs.lemmas.List.Sums.{AllPass-from_list_all}
 use Rattle.snippet_view.specs.declared.entries.LineAnnotation.{LineAnnotation}
 use Rattle.snippet_view.specs.Measures.{is_wide_entry}
@@ -26,6 +26,9 @@ use Rattle.snippet_strokes.specs.Rows.{IsCut, IsStrokeRow}
 use Rattle.snippet_style.specs.Separators.{separator_row}
 use Rattle.snippet_strokes.proofs.PlainMarks.{IsPlainEntry}
 use Rattle.snippet_strokes.proofs.PositionLemmas.{HasRows-row_count, row_count_some}
+use Rattle.snippet_marks.specs.Painting.{painting_order}
+use Rattle.snippet_marks.specs.Positions.{ArePlaced}
+use Rattle.snippet_marks.proofs.OrderLemmas.{IsPermutation-painting_order}
 
 -- rows that stand below those that are kept
 pub kept_above : (old new : List (List Cell)) → length old ≤ length new → ((r : ℕ) → r < length old → row_at new r ≡ row_at old r) → new ≡ old ++ drop (length old) new
@@ -109,6 +112,14 @@ sole [] one = absurd (omega (arith, one))
 sole (x ∷ []) one = (x, refl)
 sole (x ∷ y ∷ xs) one = absurd (omega (arith, one))
 
+-- and has but one order
+pub sole_same : {X : Type 0} (x y : X) → IsPermutation (x ∷ []) (y ∷ []) → y ≡ x
+sole_same x y same = in_one (Contains-permutation (x ∷ []) (y ∷ []) x same (0, omega arith, refl))
+  where
+    in_one : Contains (y ∷ []) x → y ≡ x
+    in_one (zero, within, here) = here
+    in_one (suc k, within, here) = absurd (omega arith)
+
 -- a plain line: each entry stands for a whole span and covers a column, and none is wide
 pub plain_entries : (room : ℕ) (decor : DecorStyle) (es : List LineAnnotation) → are_plain room decor es ≡ true → All IsPlainEntry es
 plain_entries room decor es plain =
@@ -135,6 +146,12 @@ plain_narrow room decor es plain =
 pub wide_entries-permutation : (room : ℕ) (decor : DecorStyle) (es fs : List LineAnnotation) → IsPermutation es fs → wide_entries room decor fs ≡ wide_entries room decor es
 wide_entries-permutation room decor es fs same =
     sum_by-IsPermutation (λ e. cond (is_wide_entry room (length (placeholder_of decor)) e) 1 0) es fs same
+
+-- and in the order of painting
+pub wide_entries-order : (room : ℕ) (decor : DecorStyle) (es : List LineAnnotation) (placed : List PlacedEntry) → ArePlaced es placed → wide_entries room decor (map (λ (e : PlacedEntry). e.entry) (painting_order placed)) ≡ wide_entries room decor es
+wide_entries-order room decor es placed are =
+    let f : PlacedEntry → LineAnnotation = λ e. e.entry in
+    wide_entries-permutation room decor es (map f (painting_order placed)) (IsPermutation-trans es (map f placed) (map f (painting_order placed)) are.same (IsPermutation-map f placed (painting_order placed) (IsPermutation-painting_order placed)))
 
 -- a row of which stretches gave their place to the placeholder: left of the code it stays
 pub cut_left : (layout : Layout) (wide : ℕ) (whole row : List Cell) → IsCut layout wide whole row → (c : ℕ) → c < layout.code → slice_index_or row c SPACE ≡ slice_index_or whole c SPACE

@@ -1,12 +1,14 @@
 -- Rows in which stretches gave their place to the placeholder.
-use Rattle.std.proofs.Common.{◌≡◌, ◌∙◌, false, ℕ, zero, suc, ◌+◌, ◌-◌, ◌<◌, ◌≤◌, Bool, List, [], ◌∷◌, ◌++◌, length, take, drop, set, get_or, cond, refl, sym, ap, subst, arith, inl, inr}
+use Rattle.std.proofs.Common.{◌≡◌, ◌∙◌, true, false, ℕ, zero, suc, ◌+◌, ◌-◌, ◌<◌, ◌≤◌, Bool, List, [], ◌∷◌, ◌++◌, length, map, take, drop, set, get_or, cond, refl, sym, ap, subst, arith, inl, inr}
 use Rattle.std.proofs.lemmas.Bool.{cases_lt, or_parts}
-use Rattle.std.proofs.lemmas.List.{places, same_lists, map-append, append_assoc, length-append, take_more, drop_more, drop_all}
-use Rattle.std.proofs.lemmas.List.Sums.{sum_by-append}
+use Rattle.std.proofs.lemmas.List.{places, same_lists, map-append, append_assoc, length-append, drop_more, drop_all}
+use Rattle.std.proofs.lemmas.List.Sums.{sum_by-cons}
 use Rattle.std.proofs.lemmas.List.Elements.{All-append, All-take, All-drop}
 use Rattle.std.proofs.Math.Seq.{set-append_seam}
 use Rattle.std.specs.Prelude.{◌&&◌, not}
-use Rattle.std.specs.List.{count_by, list_any, slice_index_or}
+use Rattle.std.specs.List.{list_any, slice_index_or}
+use Rattle.snippet_view.specs.declared.entries.LineAnnotation.{LineAnnotation}
+use Rattle.snippet_view.specs.Measures.{is_wide_entry}
 use Rattle.snippet_view.specs.Window.{AreReplaced, IsReplaced}
 use Rattle.snippet_style.specs.declared.glyphs.DecorStyle.{DecorStyle}
 use Rattle.snippet_style.specs.declared.role.ElementStyle.TheVariants.{LineNumber}
@@ -20,14 +22,10 @@ use Rattle.snippet_grid.specs.Layout.{Layout}
 use Rattle.snippet_marks.specs.declared.positions.PlacedEntry.{PlacedEntry}
 use Rattle.snippet_model.specs.Rows.{IsFreeCell}
 use Rattle.snippet_strokes.specs.Cuts.{Stretch, cut_of, cut_row, cut_rows, cuts_of, is_wide_at, middle_of}
+use Rattle.snippet_strokes.specs.EntryMarks.{wide_entries}
 use Rattle.snippet_strokes.specs.Rows.{IsCut, CutsRows}
 use Rattle.snippet_marks.proofs.CellLemmas.{free_placeholder}
 use Rattle.snippet_grid.proofs.RowLemmas.{row_text-text_cells}
-
--- how many of the first elements pass a test, with one more of them
-pub count_by_more : {X : Type 0} (p : X → Bool) (xs : List X) (i : ℕ) (x : X) → i < length xs → x ≡ get_or xs i x → count_by p (take (i + 1) xs) ≡ count_by p (take i xs) + count_by p (x ∷ [])
-count_by_more p xs i x within read =
-    ap (count_by p) (take_more xs i x within) ∙ sum_by-append (λ y. cond (p y) 1 0) (take i xs) (get_or xs i x ∷ []) ∙ ap (λ y. count_by p (take i xs) + count_by p (y ∷ [])) (sym read)
 
 -- nothing was replaced, or fewer stretches than so many
 AreReplaced-none : (placeholder : List ℕ) (n : ℕ) (text : List ℕ) → AreReplaced placeholder n text text
@@ -132,39 +130,6 @@ cells_replaced_here above below source cells row start end here =
     let read : slice_index_or rows row [] ≡ source = grind (arith, places) in
     changed_within_one change row rows [] there ∙ ap (λ r. set rows row (change r)) read ∙ ap (λ n. set rows n (change source)) (sym here) ∙ set-append_seam above source below (change source)
 
--- the same stretch of both rows gave its place to the placeholder
-pub CutsRows-replaced : (layout : Layout) (row start end : ℕ) (above : List (List Cell)) (source marks : List Cell) (below old new : List (List Cell))
-    → layout.code ≤ start → length above ≡ row → old ≡ above ++ source ∷ marks ∷ below
-    → new ≡ cells_replaced (cells_replaced old row start end (text_cells LineNumber (placeholder_of layout.decor))) (row + 1)
-    start end (text_cells LineNumber (placeholder_of layout.decor)) → CutsRows layout 1 above source marks below new
-CutsRows-replaced layout row start end above source marks below old new from here was is =
-    let placeholder = text_cells LineNumber (placeholder_of layout.decor) in
-    let change = replaced_within start end placeholder in
-    let first : cells_replaced old row start end placeholder ≡ above ++ change source ∷ marks ∷ below = ap (λ rows. cells_replaced rows row start end placeholder) was ∙ cells_replaced_here above (marks ∷ below) source placeholder row start end here in
-    let apart : above ++ change source ∷ marks ∷ below ≡ (above ++ change source ∷ []) ++ marks ∷ below = sym (append_assoc above (change source ∷ []) (marks ∷ below)) in
-    let next : length (above ++ change source ∷ []) ≡ row + 1 = omega (arith, here, length-append above (change source ∷ [])) in
-    let second = cells_replaced_here (above ++ change source ∷ []) below marks placeholder (row + 1) start end next in
-    record {
-      source_now = change source;
-      marks_now = change marks;
-      new_is = is ∙ ap (λ rows. cells_replaced rows (row + 1) start end placeholder) (first ∙ apart) ∙ second ∙ append_assoc above (change source ∷ []) (change marks ∷ below);
-      source_cut = IsCut-replaced layout start end source from;
-      marks_cut = IsCut-replaced layout start end marks from;
-    }
-
--- both rows were cut, and then once more
-pub CutsRows-more : (layout : Layout) (m n : ℕ) (above : List (List Cell)) (source marks : List Cell) (below mid new : List (List Cell))
-    → (done : CutsRows layout m above source marks below mid) → CutsRows layout n above done.source_now done.marks_now below new
-    → CutsRows layout (m + n) above source marks below new
-CutsRows-more layout m n above source marks below mid new done then =
-    record {
-      source_now = then.source_now;
-      marks_now = then.marks_now;
-      new_is = then.new_is;
-      source_cut = IsCut-more layout m n source done.source_now then.source_now done.source_cut then.source_cut;
-      marks_cut = IsCut-more layout m n marks done.marks_now then.marks_now done.marks_cut then.marks_cut;
-    }
-
 -- rows that are cut at some stretches, and then at some more
 pub cut_rows-append : (decor : DecorStyle) (row : ℕ) (cuts more : List Stretch) (rows : List (List Cell)) → cut_rows decor row (cuts ++ more) rows ≡ cut_rows decor row more (cut_rows decor row cuts rows)
 cut_rows-append decor row [] more rows = refl
@@ -216,3 +181,48 @@ cuts_of-narrow layout room (e ∷ es) (flag ∷ flags) narrow =
     let parts = or_parts (is_wide_at room layout.decor e) (list_any (is_wide_at room layout.decor) es) narrow in
     ap (λ wide. cond (wide && not flag) (middle_of layout room e.entry ∷ []) [] ++ cuts_of layout room es flags) parts.0
     ∙ cuts_of-narrow layout room es flags parts.1
+
+-- a row that is cut at some stretches, and then at some more
+cut_row-append : (decor : DecorStyle) (cuts more : List Stretch) (row : List Cell) → cut_row decor (cuts ++ more) row ≡ cut_row decor more (cut_row decor cuts row)
+cut_row-append decor [] more row = refl
+cut_row-append decor (cut ∷ cuts) more row =
+    cut_row-append decor cuts more (replaced_within cut.from cut.to (text_cells LineNumber (placeholder_of decor)) row)
+
+-- a row is cut once at most for each wide entry
+pub IsCut-cuts : (layout : Layout) (room : ℕ) (placed : List PlacedEntry) (flags : List Bool) (row : List Cell) → IsCut layout (wide_entries room layout.decor (map (λ (e : PlacedEntry). e.entry) placed)) row (cut_row layout.decor (cuts_of layout room placed flags) row)
+IsCut-cuts layout room [] flags row = IsCut-none layout (wide_entries room layout.decor []) row
+IsCut-cuts layout room (e ∷ es) [] row =
+    IsCut-none layout (wide_entries room layout.decor (map (λ (x : PlacedEntry). x.entry) (e ∷ es))) row
+IsCut-cuts layout room (e ∷ es) (flag ∷ flags) row =
+    let wide : LineAnnotation → Bool = is_wide_entry room (length (placeholder_of layout.decor)) in
+    let entries = map (λ (x : PlacedEntry). x.entry) es in
+    let rest : List Stretch = cuts_of layout room es flags in
+    let own : List Stretch = cut_of layout room (e, flag) in
+    let mid : List Cell = cut_row layout.decor own row in
+    let m : ℕ = cond (wide e.entry) 1 0 in
+    let n : ℕ = wide_entries room layout.decor entries in
+    subst (λ cells. IsCut layout (wide_entries room layout.decor (e.entry ∷ entries)) row cells) (sym (cut_row-append layout.decor own rest row))
+    (subst (λ k. IsCut layout k row (cut_row layout.decor rest mid)) (sym (sum_by-cons (λ x. cond (wide x) 1 0) e.entry entries))
+    (IsCut-more layout m n row mid (cut_row layout.decor rest mid) (one (wide e.entry) flag) (IsCut-cuts layout room es flags mid)))
+  where
+    one : (wide flag : Bool) → IsCut layout (cond wide 1 0) row (cut_row layout.decor (cond (wide && not flag) (middle_of layout room e.entry ∷ []) []) row)
+    one true false =
+        let cut = middle_of layout room e.entry in
+        IsCut-replaced layout cut.from cut.to row (omega arith)
+    one true true = IsCut-none layout 1 row
+    one false flag = IsCut-none layout 0 row
+
+-- so are the two rows of a line that are cut
+pub CutsRows-cuts : (layout : Layout) (room row : ℕ) (placed : List PlacedEntry) (flags : List Bool) (above : List (List Cell))
+    (source marks : List Cell) (below : List (List Cell)) → length above ≡ row
+    → CutsRows layout (wide_entries room layout.decor (map (λ (e : PlacedEntry). e.entry) placed)) above source marks below
+    (cut_rows layout.decor row (cuts_of layout room placed flags) (above ++ source ∷ marks ∷ below))
+CutsRows-cuts layout room row placed flags above source marks below here =
+    let change : List Cell → List Cell = cut_row layout.decor (cuts_of layout room placed flags) in
+    record {
+      source_now = change source;
+      marks_now = change marks;
+      new_is = cut_rows-here layout row (cuts_of layout room placed flags) above source marks below here;
+      source_cut = IsCut-cuts layout room placed flags source;
+      marks_cut = IsCut-cuts layout room placed flags marks;
+    }

@@ -15,12 +15,13 @@ use Rattle.snippet_view.specs.declared.entries.LineAnnotation.{LineAnnotation}
 use Rattle.snippet_grid.specs.Layout.{Layout}
 use Rattle.snippet_marks.specs.declared.positions.PlacedEntry.{PlacedEntry}
 use Rattle.snippet_marks.specs.Entries.{HasPlace, label_text}
-use Rattle.snippet_strokes.specs.Labels.{IsStrokeCell, LabelsStand, PlacedLabel, StandsIn, is_cell_of}
+use Rattle.snippet_strokes.specs.Labels.{IsLedTo, IsStemCell, IsStrokeCell, LabelsStand, PlacedLabel, StandsIn, is_cell_of}
 use Rattle.snippet_marks.specs.Painting.{StandsWhole}
 use Rattle.snippet_marks.specs.Positions.{ArePlaced, HasItsLabel, has_label, label_place}
 use Rattle.snippet_strokes.specs.Strokes.{label_write}
 use Rattle.snippet_strokes.specs.Reach.{Reaches}
 use Rattle.snippet_strokes.proofs.StrokeCells.{BesideLabels}
+use Rattle.snippet_strokes.proofs.StemCells.{IsHung}
 use Rattle.snippet_marks.proofs.LabelKept.{label_parts}
 use Rattle.snippet_strokes.proofs.LabelLaw.{placed_apart}
 use Rattle.snippet_view.proofs.EntryFacts.{count-map}
@@ -60,7 +61,8 @@ reordered f xs ys moved =
 
 -- ---- a test that at most one passes
 
-none_pass : {X : Type 0} (q : X → Bool) (xs : List X) → ((j : ℕ) (d : X) → j < length xs → q (get_or xs j d) ≡ false) → count_by q xs ≡ 0
+-- where no element passes a test, none is counted
+pub none_pass : {X : Type 0} (q : X → Bool) (xs : List X) → ((j : ℕ) (d : X) → j < length xs → q (get_or xs j d) ≡ false) → count_by q xs ≡ 0
 none_pass q [] none = refl
 none_pass q (x ∷ xs) none =
     let here : ◌≡◌ {A = ℕ} (cond (q x) 1 0) 0 = ap (λ b. cond b 1 0) (none 0 x (omega arith)) in
@@ -160,14 +162,18 @@ HasStrokesBeside layout row placed rows =
 -- labels that stand whole in the rows from `row` on stand so in those rows alone, for each entry as it is given
 pub LabelsStand-placed : (layout : Layout) (row : ℕ) (es : List LineAnnotation) (placed : List PlacedEntry) (rows below : List (List Cell))
     → ArePlaced es placed → All (λ (e : PlacedEntry). HasPlace e.entry) placed → All (StandsWhole layout row rows) placed
-    → HasStrokesBeside layout row placed rows → ((r c : ℕ) → cell_at below r c ≡ cell_at rows (row + r) c) → LabelsStand layout es below
-LabelsStand-placed layout row es placed rows below is places stands beside same =
+    → HasStrokesBeside layout row placed rows → All (IsHung layout row placed rows) placed
+    → ((r c : ℕ) → cell_at below r c ≡ cell_at rows (row + r) c) → LabelsStand layout es below
+LabelsStand-placed layout row es placed rows below is places stands beside hung same =
     let f : PlacedEntry → LineAnnotation = λ e. e.entry in
     let moved : Reordered f placed es = reordered f placed es (IsPermutation-sym es (map f placed) is.same) in
     let order : List PlacedEntry = moved.order in
     let g : PlacedEntry → PlacedLabel = placed_label layout in
     let has : All HasItsLabel order = All-permutation HasItsLabel placed order moved.same is.labels in
     let stand : All (StandsWhole layout row rows) order = All-permutation (StandsWhole layout row rows) placed order moved.same stands in
+    let leads : All (IsHung layout row placed rows) order = All-permutation (IsHung layout row placed rows) placed order moved.same hung in
+    let counted : (r c : ℕ) → count_by (λ e. is_cell_of r c (g e)) placed ≡ count_by (is_cell_of r c) (map g order) = λ r c.
+    sym (sum_by-IsPermutation (λ e. cond (is_cell_of r c (g e)) 1 0) placed order moved.same) ∙ sym (count-map (is_cell_of r c) g order) in
     record {
       labels = map g order;
       are = entries order ∙ moved.are;
@@ -177,6 +183,17 @@ LabelsStand-placed layout row es placed rows below is places stands beside same 
             whole = λ n inside. same (label_place e).0 (layout.code + (label_place e).1 + n) ∙ stand k d within (shows_label e (has k d within) some) n inside;
             place = stands_at layout e;
           });
+      led = All-map (λ (l : PlacedLabel). 0 < length (label_text l.entry) → IsLedTo layout.decor (map g order) below l) g order (λ k d within some r under above none.
+          let e : PlacedEntry = get_or order k d in
+          let c : ℕ = layout.code + (label_place e).1 in
+          let stem : IsStemCell layout.decor (cell_at rows (row + r) c) = elim (label_parts e) [
+            | inl at ↦ absurd (omega (arith, at.row, above, under))
+            | inr at ↦
+                let here : layout.code + e.entry.start.display ≡ c = omega (arith, at.column) in
+                let clear : BesideLabels layout row (row + r) c placed = beside_labels layout row r c placed (counted r c ∙ none) in
+                subst (λ n. IsStemCell layout.decor (cell_at rows (row + r) n)) here (leads k d within (shows_label e (has k d within) some) r under (omega (arith, above, at.row)) (subst (λ n. BesideLabels layout row (row + r) n placed) (sym here) clear))
+          ] in
+          subst (IsStemCell layout.decor) (sym (same r c)) stem);
       apart = λ r c.
           let q : PlacedEntry → Bool = λ e. is_cell_of r c (g e) in
           let few : count_by q placed ≤ 1 = one_passes q placed (λ i j d d2 before within one other.
@@ -188,9 +205,7 @@ LabelsStand-placed layout row es placed rows below is places stands beside same 
           let kept : count_by q order ≡ count_by q placed = sum_by-IsPermutation (λ e. cond (q e) 1 0) placed order moved.same in
           omega (arith, few, kept, count-map (is_cell_of r c) g order);
       others = λ r c right none.
-          let q : PlacedEntry → Bool = λ e. is_cell_of r c (g e) in
-          let kept : count_by q order ≡ count_by q placed = sum_by-IsPermutation (λ e. cond (q e) 1 0) placed order moved.same in
-          subst (IsStrokeCell layout.decor) (sym (same r c)) (beside r c right (beside_labels layout row r c placed (sym kept ∙ sym (count-map (is_cell_of r c) g order) ∙ none)));
+          subst (IsStrokeCell layout.decor) (sym (same r c)) (beside r c right (beside_labels layout row r c placed (counted r c ∙ none)));
     }
   where
     entries : (xs : List PlacedEntry) → map (λ (l : PlacedLabel). l.entry) (map (placed_label layout) xs) ≡ map (λ (e : PlacedEntry). e.entry) xs
@@ -205,6 +220,7 @@ LabelsStand-none layout es rows none blank =
       labels = map g es;
       are = entries es;
       stand = All-map (λ (l : PlacedLabel). 0 < length (label_text l.entry) → StandsIn layout rows l) g es (λ k d within some. absurd (omega (arith, some, ap length (none k d within))));
+      led = All-map (λ (l : PlacedLabel). 0 < length (label_text l.entry) → IsLedTo layout.decor (map g es) rows l) g es (λ k d within some. absurd (omega (arith, some, ap length (none k d within))));
       apart = λ r c.
           let empty : count_by (λ e. is_cell_of r c (g e)) es ≡ 0 = none_pass (λ e. is_cell_of r c (g e)) es (λ j d within. no_cell r c (length (label_text (get_or es j d))) (ap length (none j d within))) in
           omega (arith, empty, count-map (is_cell_of r c) g es);
@@ -230,6 +246,11 @@ LabelsStand-kept layout es old new is same =
             whole = λ n inside. same (get_or is.labels k d).row ((get_or is.labels k d).cell + n) (right (get_or is.labels k d) n stands.place) ∙ stands.whole n inside;
             place = stands.place;
           };
+      led = λ k d within some r under above none.
+          let l : PlacedLabel = get_or is.labels k d in
+          let first : l.cell + 0 ≡ l.cell = omega arith in
+          let inside : layout.code ≤ l.cell = omega (arith, first, right l 0 (is.stand k d within some).place) in
+          subst (IsStemCell layout.decor) (sym (same r l.cell inside)) (is.led k d within some r under above none);
       apart = is.apart;
       others = λ r c right none. subst (IsStrokeCell layout.decor) (sym (same r c right)) (is.others r c right none);
     }

@@ -1,5 +1,5 @@
 -- The writes of labels.
-use Rattle.std.proofs.Common.{◌≡◌, ℕ, ◌+◌, ◌<◌, cond, true, false, List, [], ◌∷◌, ◌++◌, get_or, refl, sym, ap, ◌∙◌, subst, arith, inl, inr, All}
+use Rattle.std.proofs.Common.{◌≡◌, ℕ, ◌+◌, ◌<◌, cond, true, false, List, [], ◌∷◌, ◌++◌, length, get_or, refl, sym, ap, ◌∙◌, subst, arith, inl, inr, All}
 use Rattle.std.proofs.lemmas.Bool.{cases_Bool}
 use Rattle.std.proofs.lemmas.List.Elements.{All-cons, All-nil}
 use Rattle.snippet_model.specs.declared.snippet.AnnotationKind.{AnnotationKind}
@@ -10,14 +10,14 @@ use Rattle.snippet_grid.specs.Layout.{Layout}
 use Rattle.snippet_marks.specs.declared.positions.PlacedEntry.{PlacedEntry}
 use Rattle.snippet_marks.specs.Entries.{HasPlace, label_role, label_text}
 use Rattle.snippet_strokes.specs.EntryMarks.{has_mark_role}
-use Rattle.snippet_strokes.specs.Drawing.{HasRows, MarksStarts, StandsFrom}
+use Rattle.snippet_strokes.specs.Drawing.{DrawsFrom, HasRows, MarksStarts, StandsFrom}
 use Rattle.snippet_marks.specs.Positions.{has_label}
 use Rattle.snippet_marks.specs.Writes.{Write, painted}
 use Rattle.snippet_strokes.specs.Reach.{Reaches, IsWithin, cell_of_write}
 use Rattle.snippet_strokes.specs.Strokes.{label_write, label_of, labels_of}
 use Rattle.snippet_strokes.proofs.PositionLemmas.{label_beside, label_column, label_stands}
 use Rattle.snippet_strokes.proofs.TextLemmas.{free_label_text}
-use Rattle.snippet_strokes.proofs.WriteLaws.{All-flat_map, flat_map-none, painted-cell}
+use Rattle.snippet_strokes.proofs.WriteLaws.{All-flat_map, DrawsFrom-painted, flat_map-none, painted-cell}
 
 -- what holds of the write of a label holds of those of all
 pub All-label_of : (P : Write → Type 0) (layout : Layout) (row : ℕ) (e : PlacedEntry) → (has_label e ≡ true → P (label_write layout row e)) → All P (label_of layout row e)
@@ -38,6 +38,11 @@ labels_within layout row count from es places rows stand =
       right = omega (arith, stand k d within, (label_column e (places k d within)).0);
       free = free_label_text e.entry;
     }))
+
+-- so labels are drawn there
+pub DrawsFrom-labels : (layout : Layout) (row from : ℕ) (es : List PlacedEntry) (old : List (List Cell)) → All (λ e. HasPlace e.entry) es → All (HasRows row (length old)) es → All (λ e. StandsFrom layout.code from e.entry) es → DrawsFrom row from old (painted (labels_of layout row es) old)
+DrawsFrom-labels layout row from es old places rows stand =
+    DrawsFrom-painted row from (labels_of layout row es) old (labels_within layout row (length old) from es places rows stand)
 
 -- a label is in no role of marks
 label_unmarked : (kind : AnnotationKind) → has_mark_role (unlinked_cell (label_role kind) 32) ≡ false

@@ -16,6 +16,7 @@ pub mod PlainMarks
 pub mod MarkLemmas
 pub mod ShiftLemmas
 pub mod BegunLemmas
+pub mod ReadyRows
 pub mod StrokeCells
 pub mod StrokeLemmas
 pub mod NoStrokes
@@ -32,3 +33,10 @@ pub mod BarRows
 pub mod LowerWrites
 pub mod LineRowLemmas
 pub mod LineRowLaws
+pub mod HeldStrokes
+pub mod LineValueLaws
+pub mod LineExamples
+pub mod StemCells
+pub mod StemLaws
+pub mod AmongLaws
+pub mod EndBarLaws

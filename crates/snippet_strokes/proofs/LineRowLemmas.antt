@@ -1,6 +1,6 @@
 -- The rows of a line, as they are drawn below those that are there.
 use Rattle.std.proofs.Common.{◌≡◌, ℕ, ◌+◌, ◌-◌, ◌<◌, Bool, true, false, List, [], ◌∷◌, ◌++◌, length, map, replicate, drop, get_or, refl, sym, ap, ◌∙◌, subst, arith, inl, inr}
-use Rattle.std.specs.Prelude.{IsPermutation, if◌then◌else◌}
+use Rattle.std.specs.Prelude.{if◌then◌else◌}
 use Rattle.std.specs.List.{list_any}
 use Rattle.std.proofs.lemmas.List.Sorted.{list_any-IsPermutation}
 use Rattle.std.proofs.lemmas.Bool.{false≢true, cases_Bool}
@@ -20,12 +20,14 @@ use Rattle.snippet_marks.specs.Painting.{painting_order}
 use Rattle.snippet_marks.specs.Positions.{ArePlaced}
 use Rattle.snippet_strokes.specs.Drawing.{row_count}
 use Rattle.snippet_strokes.specs.Cuts.{Stretch, cut_row, cut_rows, cuts_of, is_wide_at, overlapped}
-use Rattle.snippet_strokes.specs.Rows.{CutsRows}
+use Rattle.snippet_strokes.specs.Rows.{IsCut}
 use Rattle.snippet_marks.specs.SourceRows.{bare_row}
 use Rattle.snippet_strokes.specs.Strokes.{AddsPainted, begun_rows, strokes_of}
 use Rattle.snippet_marks.specs.Writes.{Write, painted}
+use Rattle.snippet_marks.proofs.OrderLemmas.{IsPermutation-painting_order}
 use Rattle.snippet_strokes.proofs.BarRows.{barred-below}
-use Rattle.snippet_strokes.proofs.CutLemmas.{cut_rows-here, cuts_of-narrow}
+use Rattle.snippet_strokes.proofs.BegunLemmas.{wide_entries-order}
+use Rattle.snippet_strokes.proofs.CutLemmas.{IsCut-cuts, cut_rows-here, cuts_of-narrow}
 use Rattle.snippet_strokes.proofs.LowerWrites.{painted-below, strokes-lowered}
 use Rattle.snippet_strokes.proofs.PositionLemmas.{row_count_some}
 
@@ -48,18 +50,17 @@ same_after [] a b same = same
 same_after (x ∷ front) a b same = same_after front a b (cc same)
 
 -- the strokes of a line, painted and then cut, are its rows
-module _ (layout : Layout) (room : ℕ) (closes : Bool) (es : List LineAnnotation) (placed order : List PlacedEntry) (flags : List Bool) (above : List (List Cell)) (source : List Cell) (old new final : List (List Cell)) (row wide : ℕ)
+module _ (layout : Layout) (room : ℕ) (closes : Bool) (es : List LineAnnotation) (placed : List PlacedEntry) (flags : List Bool) (above : List (List Cell)) (source : List Cell) (old new final : List (List Cell)) (row : ℕ)
     (are : ArePlaced es placed)
-    (order_is : order ≡ painting_order placed)
     (old_is : old ≡ above ++ source ∷ [])
     (row_is : row ≡ length above)
     (long : length new ≡ length old + row_count placed)
-    (new_is : new ≡ painted (strokes_of layout row (length old + row_count placed) placed order) (old ++ replicate (row_count placed - 1) (separator_row layout.decor layout.gutter) ++ bare_row layout.decor layout.gutter closes ∷ []))
-    (wide_is : wide ≡ wide_entries room layout.decor es)
-    (same : IsPermutation placed order)
+    (new_is : new ≡ painted (strokes_of layout row (length old + row_count placed) placed (painting_order placed)) (old ++ replicate (row_count placed - 1) (separator_row layout.decor layout.gutter) ++ bare_row layout.decor layout.gutter closes ∷ []))
     (flags_are : list_any (is_wide_at room layout.decor) placed ≡ true → flags ≡ overlapped placed)
-    (final_is : final ≡ cut_rows layout.decor row (cuts_of layout room order flags) new)
-    (cuts : (up : List (List Cell)) (top marks : List Cell) (lower : List (List Cell)) → length up ≡ row → new ≡ up ++ top ∷ marks ∷ lower → CutsRows layout wide up top marks lower final) where
+    (final_is : final ≡ cut_rows layout.decor row (cuts_of layout room (painting_order placed) flags) new) where
+  abbrev order : List PlacedEntry
+  order = painting_order placed
+
   abbrev count : ℕ
   count = row_count placed
 
@@ -89,13 +90,13 @@ module _ (layout : Layout) (room : ℕ) (closes : Bool) (es : List LineAnnotatio
       new_is ∙ by_row ∙ by_count ∙ by_rows ∙ lower ∙ painted-below above strokes bare
 
   -- what is cut: where an entry is wide, it is known which are overlapped
-  cuts_are : cuts_of layout room order flags ≡ cuts_of layout room (painting_order placed) (overlapped placed)
+  cuts_are : cuts_of layout room order flags ≡ cuts_of layout room order (overlapped placed)
   cuts_are =
       elim (cases_Bool (list_any (is_wide_at room layout.decor) placed)) [
-        | inl wide_one ↦ ap (cuts_of layout room order) (flags_are wide_one) ∙ ap (λ os. cuts_of layout room os (overlapped placed)) order_is
+        | inl wide_one ↦ ap (cuts_of layout room order) (flags_are wide_one)
         | inr narrow ↦
-            let none : list_any (is_wide_at room layout.decor) order ≡ false = sym (list_any-IsPermutation (is_wide_at room layout.decor) placed order same) ∙ narrow in
-            cuts_of-narrow layout room order flags none ∙ sym (cuts_of-narrow layout room (painting_order placed) (overlapped placed) (ap (list_any (is_wide_at room layout.decor)) (sym order_is) ∙ none))
+            let none : list_any (is_wide_at room layout.decor) order ≡ false = sym (list_any-IsPermutation (is_wide_at room layout.decor) placed order (IsPermutation-painting_order placed)) ∙ narrow in
+            cuts_of-narrow layout room order flags none ∙ sym (cuts_of-narrow layout room order (overlapped placed) none)
       ]
 
   -- the rows of a line are its strokes, painted, and cut where entries are wide
@@ -107,30 +108,29 @@ module _ (layout : Layout) (room : ℕ) (closes : Bool) (es : List LineAnnotatio
       let lower : List (List Cell) = drop 2 own in
       let parts : own ≡ top ∷ marks ∷ lower = two_more own (omega (arith, many, row_count_some placed)) in
       let few : length (top ∷ marks ∷ lower) ≡ count + 1 = sym (ap length parts) ∙ many in
-      let cut : CutsRows layout wide above top marks lower final = cuts above top marks lower (sym row_is) (new_below ∙ ap (λ rs. above ++ rs) parts) in
-      let exact : CutsRows layout (wide_entries room layout.decor es) above top marks lower final = subst (λ w. CutsRows layout w above top marks lower final) wide_is cut in
-      let stretches : List Stretch = cuts_of layout room (painting_order placed) (overlapped placed) in
+      let stretches : List Stretch = cuts_of layout room order (overlapped placed) in
       let change : List Cell → List Cell = cut_row layout.decor stretches in
       let of_stretches = final_is ∙ ap (λ cs. cut_rows layout.decor row cs new) cuts_are in
       let of_parts = ap (cut_rows layout.decor row stretches) (new_below ∙ ap (λ rs. above ++ rs) parts) in
       let by_row : final ≡ above ++ change top ∷ change marks ∷ lower = of_stretches ∙ of_parts ∙ cut_rows-here layout row stretches above top marks lower (sym row_is) in
+      let is_cut : (row : List Cell) → IsCut layout (wide_entries room layout.decor es) row (change row) = λ row. subst (λ n. IsCut layout n row (change row)) (wide_entries-order room layout.decor es placed are) (IsCut-cuts layout room order (overlapped placed) row) in
       record {
-        rows = exact.source_now ∷ exact.marks_now ∷ lower;
-        added = exact.new_is;
+        rows = change top ∷ change marks ∷ lower;
+        added = by_row;
         painted_are = record {
           placed = placed;
           are = are;
           top = top;
           marks = marks;
           lower = lower;
-          painted_are = sym parts ∙ ap (λ os. painted (strokes_of layout 0 (count + 1) placed os) bare) order_is;
-          rows_are = same_after above (exact.source_now ∷ exact.marks_now ∷ lower) (cut_row layout.decor stretches top ∷ cut_row layout.decor stretches marks ∷ lower) (sym exact.new_is ∙ by_row);
+          painted_are = sym parts;
+          rows_are = refl;
           cut = record {
-            source_now = exact.source_now;
-            marks_now = exact.marks_now;
+            source_now = change top;
+            marks_now = change marks;
             new_is = refl;
-            source_cut = exact.source_cut;
-            marks_cut = exact.marks_cut;
+            source_cut = is_cut top;
+            marks_cut = is_cut marks;
           };
           count = few;
         };

@@ -10,13 +10,13 @@ use Rattle.snippet_grid.specs.Layout.{Layout}
 use Rattle.snippet_marks.specs.declared.positions.PlacedEntry.{PlacedEntry}
 use Rattle.snippet_strokes.specs.EntryMarks.{has_mark_role}
 use Rattle.snippet_model.specs.AnnotationKind.{is_primary}
-use Rattle.snippet_strokes.specs.Drawing.{HasRows, MarksStarts, StandsFrom, foot_glyph}
+use Rattle.snippet_strokes.specs.Drawing.{DrawsFrom, HasRows, MarksStarts, StandsFrom, foot_glyph}
 use Rattle.snippet_marks.specs.Positions.{has_label, has_stem}
 use Rattle.snippet_marks.specs.Writes.{Write, painted}
 use Rattle.snippet_strokes.specs.Reach.{Reaches, IsWithin, cell_of_write}
 use Rattle.snippet_strokes.specs.Strokes.{is_hidden, stem_write, stem_of, stems_of}
 use Rattle.snippet_strokes.proofs.TextLemmas.{free_foot, free_stem}
-use Rattle.snippet_strokes.proofs.WriteLaws.{painted-cell, painted-count}
+use Rattle.snippet_strokes.proofs.WriteLaws.{DrawsFrom-painted, painted-cell, painted-count}
 use Rattle.snippet_marks.proofs.WriteLemmas.{painted-append}
 
 -- what holds of each cell of a stem holds of those of all
@@ -61,6 +61,11 @@ stem_within layout row count from e rows stand =
 pub stems_within : (layout : Layout) (row count from : ℕ) (es : List PlacedEntry) → All (HasRows row count) es → All (λ e. StandsFrom layout.code from e.entry) es → All (IsWithin row count from) (stems_of layout row es)
 stems_within layout row count from es rows stand =
     All-stems_of (IsWithin row count from) layout row es (λ k d within. stem_within layout row count from (get_or es k d) (rows k d within) (stand k d within))
+
+-- so stems are drawn there
+pub DrawsFrom-stems : (layout : Layout) (row from : ℕ) (es : List PlacedEntry) (old : List (List Cell)) → All (HasRows row (length old)) es → All (λ e. StandsFrom layout.code from e.entry) es → DrawsFrom row from old (painted (stems_of layout row es) old)
+DrawsFrom-stems layout row from es old rows stand =
+    DrawsFrom-painted row from (stems_of layout row es) old (stems_within layout row (length old) from es rows stand)
 
 -- a stem adds no row
 pub stem_count : (layout : Layout) (row : ℕ) (e : PlacedEntry) (rows : List (List Cell)) → HasRows row (length rows) e → length (painted (stem_of layout row e) rows) ≡ length rows

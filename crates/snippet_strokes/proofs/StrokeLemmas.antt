@@ -1,5 +1,5 @@
 -- The rows of a line's strokes, once all are drawn.
-use Rattle.std.proofs.Common.{◌≡◌, ◌≢◌, ℕ, zero, suc, ◌+◌, ◌-◌, ◌<◌, ◌≤◌, ◌==◌, ◌&&◌, max, not, Bool, true, false, List, [], ◌∷◌, ◌++◌, length, map, take, drop, replicate, get_or, refl, sym, ap, ◌∙◌, subst, arith, inl, inr, All, Contains, chars}
+use Rattle.std.proofs.Common.{◌≡◌, ◌≢◌, ℕ, zero, suc, ◌+◌, ◌-◌, ◌<◌, ◌≤◌, ◌==◌, ◌&&◌, max, not, Bool, true, false, List, [], ◌∷◌, ◌++◌, length, map, take, drop, replicate, get_or, refl, sym, ap, ◌∙◌, subst, arith, inl, inr, All, chars}
 use Rattle.std.specs.List.{slice_index_or}
 use Rattle.std.specs.List.Sorted.{IsPermutation}
 use Rattle.std.specs.Cow.{cow_str_bytes}
@@ -7,7 +7,7 @@ use Rattle.std.proofs.lemmas.Bool.{cases_lt}
 use Rattle.std.proofs.lemmas.Bool.Decides.{nat_tests}
 use Rattle.std.proofs.lemmas.List.{length-append, length-replicate, length-map, length-drop, get_or_append_left, get_or_past, get_or_push, length_push, get_or-drop, drop_more, take-take}
 use Rattle.std.proofs.lemmas.List.Elements.{All-from_get_or, All-nil, All-cons}
-use Rattle.std.proofs.lemmas.List.Sorted.{IsPermutation-map, IsPermutation-trans, length_permutation, Contains-permutation}
+use Rattle.std.proofs.lemmas.List.Sorted.{IsPermutation-map, IsPermutation-trans, length_permutation}
 use Rattle.snippet_view.specs.declared.entries.LineAnnotation.{LineAnnotation}
 use Rattle.snippet_view.specs.Window.{AreReplaced}
 use Rattle.snippet_style.specs.Glyphs.{placeholder_of}
@@ -18,47 +18,50 @@ use Rattle.snippet_grid.proofs.GridLemmas.{row_at-cells_written_same}
 use Rattle.snippet_style.proofs.CellLemmas.{length-written}
 use Rattle.snippet_grid.specs.Layout.{Layout}
 use Rattle.snippet_marks.specs.declared.positions.PlacedEntry.{PlacedEntry}
-use Rattle.snippet_strokes.specs.EntryMarks.{EntryCovers, IsBarCell, are_plain, is_single, has_mark_role, wide_entries}
+use Rattle.snippet_strokes.specs.EntryMarks.{EntryCovers, HasBarCell, IsBarCell, are_plain, is_single, has_mark_role, wide_entries}
 use Rattle.snippet_marks.specs.Entries.{HasPlace, label_text, label_role}
 use Rattle.snippet_model.specs.Rows.{IsFreeCell, IsFree}
-use Rattle.snippet_marks.specs.Painting.{IsPaintedAt, AreMarked, mark_end, StandsWhole}
-use Rattle.snippet_strokes.specs.Drawing.{DrawsFrom, DrawsBarCells, KeepsBarCells, MarksStarts, StandsFrom, row_count}
+use Rattle.snippet_marks.specs.Painting.{IsPaintedAt, AreMarked, mark_end, marks_of, painting_order, StandsWhole}
+use Rattle.snippet_marks.specs.Writes.{painted}
+use Rattle.snippet_strokes.specs.Drawing.{DrawsFrom, DrawsBarCells, HasRows, KeepsBarCells, MarksStarts, StandsFrom, row_count}
 use Rattle.snippet_marks.specs.Positions.{HasItsLabel, has_label, has_stem, takes_space, positions, line_positions, ArePlaced}
 use Rattle.snippet_marks.specs.SourceRows.{bare_row}
+use Rattle.snippet_strokes.specs.Cuts.{cut_rows, cuts_of}
 use Rattle.snippet_strokes.specs.Rows.{CutsRows, IsBeside, IsCut, HasNoBars, IsStrokeRow, AddsStrokes, ShowsMarks}
 use Rattle.snippet_style.specs.Separators.{separator_row}
 use Rattle.snippet_strokes.proofs.DrawLemmas.{DrawsFrom-more, bar_space}
 use Rattle.snippet_strokes.specs.Labels.{IsStrokeCell}
+use Rattle.snippet_strokes.specs.Strokes.{connectors_of, corners_of, labels_of, stems_of, strokes_of}
 use Rattle.snippet_strokes.proofs.LabelPlaces.{HasStrokesBeside, LabelsStand-placed}
-use Rattle.snippet_strokes.proofs.StrokeCells.{BesideLabels}
+use Rattle.snippet_strokes.proofs.StrokeCells.{cell_of_strokes}
+use Rattle.snippet_strokes.proofs.StemCells.{IsHung, all_hung}
 use Rattle.snippet_strokes.proofs.MarkLemmas.{mark_shown}
 use Rattle.snippet_strokes.proofs.PlainMarks.{IsPlainEntry, covered_painted, mark_end_plain, spaceless}
 use Rattle.snippet_marks.proofs.PlacedLemmas.{entries_all}
-use Rattle.snippet_strokes.proofs.PositionLemmas.{line_positions_low, of_positions, positions-unlabelled, positions_sole, row_count_one, row_count_some, stemless_bare, stemless_beside}
+use Rattle.snippet_marks.proofs.LabelKept.{labels_kept}
+use Rattle.snippet_marks.proofs.MarkWrites.{AreMarked-marks}
+use Rattle.snippet_strokes.proofs.BarWrites.{DrawsBarCells-corners, DrawsFrom-connectors, KeepsBarCells-connectors, connectors_none, corners_none}
+use Rattle.snippet_strokes.proofs.StemWrites.{DrawsFrom-stems, stems_none, stems_start}
+use Rattle.snippet_strokes.proofs.LabelWrites.{DrawsFrom-labels, label_lone, labels_none, labels_unmarked}
+use Rattle.snippet_strokes.proofs.LabelLaw.{labels_stand}
+use Rattle.snippet_strokes.proofs.StrokeWrites.{strokes_painted}
+use Rattle.snippet_strokes.proofs.PositionLemmas.{HasRows-row_count, line_positions_low, of_positions, positions-unlabelled, positions_sole, row_count_one, row_count_some, stemless_bare, stemless_beside}
 use Rattle.snippet_strokes.proofs.RowLemmas.{bare_row_short, bare_row_right, free_bare_row}
-use Rattle.snippet_strokes.proofs.BegunLemmas.{kept_above, begun_row, written_far, same_after, free_cell, sole, plain_entries, plain_narrow, cut_left, IsStrokeRow-cut, same_front}
+use Rattle.snippet_strokes.proofs.BegunLemmas.{kept_above, begun_row, written_far, same_after, free_cell, sole, plain_entries, plain_narrow, cut_left, IsStrokeRow-cut, same_front, sole_same, wide_entries-order}
+use Rattle.snippet_strokes.proofs.CutLemmas.{CutsRows-cuts}
 
 module _ (layout : Layout) (room : ℕ) (closes : Bool) (es : List LineAnnotation) (placed : List PlacedEntry) (above_rows : List (List Cell)) (plain_row : List Cell) (begun joined barred stemmed labelled new : List (List Cell))
     (place : layout.gutter + 3 ≤ layout.code)
     (is : ArePlaced es placed)
     (places : All (λ (e : PlacedEntry). HasPlace e.entry) placed)
+    (bar_cells : All (λ (e : PlacedEntry). HasBarCell layout e.entry) placed)
     (bare_bars : HasNoBars layout plain_row)
     (begins : begun ≡ (above_rows ++ plain_row ∷ []) ++ replicate (row_count placed - 1) (separator_row layout.decor layout.gutter) ++ bare_row layout.decor layout.gutter closes ∷ [])
-    (lines : DrawsFrom (length above_rows + 1) (layout.gutter + 3) begun joined)
-    (line_bar_cells : KeepsBarCells layout begun joined)
-    (no_lines : All (λ (e : PlacedEntry). is_single e.entry ≡ true) placed → joined ≡ begun)
-    (bars : DrawsBarCells layout (length above_rows) joined barred)
-    (no_bars : All (λ (e : PlacedEntry). is_single e.entry ≡ true) placed → barred ≡ joined)
-    (stems : (from : ℕ) → All (λ (e : PlacedEntry). StandsFrom layout.code from e.entry) placed → DrawsFrom (length above_rows + 1) from barred stemmed)
-    (no_stems : All (λ e. has_stem e ≡ false) placed → stemmed ≡ barred)
-    (labels : (from : ℕ) → All (λ (e : PlacedEntry). StandsFrom layout.code from e.entry) placed → DrawsFrom (length above_rows + 1) from stemmed labelled)
-    (stem_starts : MarksStarts layout.code placed barred stemmed)
-    (label_starts : MarksStarts layout.code [] stemmed labelled)
-    (no_labels : All (λ e. has_label e ≡ false) placed → labelled ≡ stemmed)
-    (lone_label : (e : PlacedEntry) → placed ≡ e ∷ [] → e.position ≡ 0 → 0 < e.entry.end.display → has_label e ≡ true → labelled ≡ cells_written stemmed (length above_rows + 1) (layout.code + e.entry.end.display + 1) (text_cells (label_role e.entry.kind) (label_text e.entry)))
-    (marked : AreMarked layout placed (length above_rows + 1) labelled new)
-    (stands : All (StandsWhole layout (length above_rows + 1) new) placed)
-    (strokes : (r c : ℕ) → layout.code ≤ c → IsStrokeCell layout.decor (cell_at begun r c) → BesideLabels layout (length above_rows + 1) r c placed → IsStrokeCell layout.decor (cell_at new r c)) where
+    (lines_are : joined ≡ painted (connectors_of layout (length above_rows + 1) placed) begun)
+    (bars_are : barred ≡ painted (corners_of layout (length above_rows) (length joined) placed) joined)
+    (stems_are : stemmed ≡ painted (stems_of layout (length above_rows + 1) placed) barred)
+    (labels_are : labelled ≡ painted (labels_of layout (length above_rows + 1) placed) stemmed)
+    (marks_are : new ≡ painted (marks_of layout (length above_rows + 1) (painting_order placed)) labelled) where
   -- the rows that were there
   abbrev old : List (List Cell)
   old = above_rows ++ plain_row ∷ []
@@ -88,6 +91,72 @@ module _ (layout : Layout) (room : ℕ) (closes : Bool) (es : List LineAnnotatio
   long_but_last =
       length-append old (replicate (row_count placed - 1) (separator_row layout.decor layout.gutter)) ∙ ap (λ n. length old + n) (length-replicate (row_count placed - 1) (separator_row layout.decor layout.gutter))
 
+  long_begun : length begun ≡ row + row_count placed
+  long_begun =
+      omega (arith, ap length begins, length_push but_last end, long_but_last, row_count_some placed, last)
+
+  -- each entry has the rows that it needs, as long as no row is added
+  enough : (rows : List (List Cell)) → length rows ≡ length begun → All (HasRows row (length rows)) placed
+  enough rows same = HasRows-row_count row (length rows) placed (omega (arith, same, long_begun))
+
+  -- ---- what each list of strokes draws
+
+  lines : DrawsFrom row (layout.gutter + 3) begun joined
+  lines = subst (DrawsFrom row (layout.gutter + 3) begun) (sym lines_are) (DrawsFrom-connectors layout row placed begun (enough begun refl))
+
+  line_bar_cells : KeepsBarCells layout begun joined
+  line_bar_cells = subst (KeepsBarCells layout begun) (sym lines_are) (KeepsBarCells-connectors layout row placed begun)
+
+  no_lines : All (λ (e : PlacedEntry). is_single e.entry ≡ true) placed → joined ≡ begun
+  no_lines single = lines_are ∙ ap (λ ws. painted ws begun) (connectors_none layout row placed single)
+
+  bars : DrawsBarCells layout (length above_rows) joined barred
+  bars =
+      subst (DrawsBarCells layout (length above_rows) joined) (sym bars_are) (DrawsBarCells-corners layout (length above_rows) placed joined bar_cells (enough joined lines.count))
+
+  no_bars : All (λ (e : PlacedEntry). is_single e.entry ≡ true) placed → barred ≡ joined
+  no_bars single = bars_are ∙ ap (λ ws. painted ws joined) (corners_none layout (length above_rows) (length joined) placed single)
+
+  stems : (from : ℕ) → All (λ (e : PlacedEntry). StandsFrom layout.code from e.entry) placed → DrawsFrom row from barred stemmed
+  stems from stand =
+      subst (DrawsFrom row from barred) (sym stems_are) (DrawsFrom-stems layout row from placed barred (enough barred (bars.draws.count ∙ lines.count)) stand)
+
+  stem_starts : MarksStarts layout.code placed barred stemmed
+  stem_starts = subst (MarksStarts layout.code placed barred) (sym stems_are) (stems_start layout row placed barred)
+
+  no_stems : All (λ e. has_stem e ≡ false) placed → stemmed ≡ barred
+  no_stems none = stems_are ∙ ap (λ ws. painted ws barred) (stems_none layout row placed none)
+
+  labels : (from : ℕ) → All (λ (e : PlacedEntry). StandsFrom layout.code from e.entry) placed → DrawsFrom row from stemmed labelled
+  labels from stand =
+      let same : length stemmed ≡ length begun = (stems 0 (λ k d within. omega arith)).count ∙ bars.draws.count ∙ lines.count in
+      subst (DrawsFrom row from stemmed) (sym labels_are) (DrawsFrom-labels layout row from placed stemmed places (enough stemmed same) stand)
+
+  label_starts : MarksStarts layout.code [] stemmed labelled
+  label_starts = subst (MarksStarts layout.code [] stemmed) (sym labels_are) (labels_unmarked layout row placed stemmed)
+
+  no_labels : All (λ e. has_label e ≡ false) placed → labelled ≡ stemmed
+  no_labels none = labels_are ∙ ap (λ ws. painted ws stemmed) (labels_none layout row placed none)
+
+  lone_label : (e : PlacedEntry) → placed ≡ e ∷ [] → e.position ≡ 0 → 0 < e.entry.end.display → has_label e ≡ true → labelled ≡ cells_written stemmed row (layout.code + e.entry.end.display + 1) (text_cells (label_role e.entry.kind) (label_text e.entry))
+  lone_label e one beside some has =
+      labels_are ∙ ap (λ xs. painted (labels_of layout row xs) stemmed) one ∙ label_lone layout row e stemmed beside some has
+
+  marked : AreMarked layout placed row labelled new
+  marked = subst (AreMarked layout placed row labelled) (sym marks_are) (AreMarked-marks layout row placed labelled)
+
+  -- each label stands whole once all are written, and once the marks are painted
+  stands : All (StandsWhole layout row new) placed
+  stands =
+      labels_kept layout row es placed labelled new is places marked (subst (λ rows. All (StandsWhole layout row rows) placed) (sym labels_are) (labels_stand layout row es placed stemmed is places))
+
+  -- all strokes, as one list
+  new_is : new ≡ painted (strokes_of layout (length above_rows) (length begun) placed (painting_order placed)) begun
+  new_is =
+      strokes_painted layout (length above_rows) row (length joined) (length begun) placed (painting_order placed) begun begun joined barred stemmed labelled new refl lines.count refl lines_are bars_are stems_are labels_are marks_are
+
+  -- ---- the rows once all are drawn
+
   abbrev f : PlacedEntry → LineAnnotation
   f e = e.entry
 
@@ -99,10 +168,6 @@ module _ (layout : Layout) (room : ℕ) (closes : Bool) (es : List LineAnnotatio
 
   right_of : DrawsFrom row layout.code barred labelled
   right_of = drawn_from layout.code (λ k d within. omega arith)
-
-  long_begun : length begun ≡ row + row_count placed
-  long_begun =
-      omega (arith, ap length begins, length_push but_last end, long_but_last, row_count_some placed, last)
 
   there : row < length labelled
   there = omega (arith, right_of.count, bars.draws.count, lines.count, long_begun, row_count_some placed)
@@ -275,27 +340,16 @@ module _ (layout : Layout) (room : ℕ) (closes : Bool) (es : List LineAnnotatio
       let long : length placed ≡ 1 = sym (length-map placed f) ∙ length_permutation es (map f placed) is.same ∙ ap length one in
       let found = sole placed long in
       let q : PlacedEntry = found.0 in
-      let entry : q.entry ≡ e = sole_entry q e (subst (λ xs. IsPermutation xs (q.entry ∷ [])) one (subst (λ ps. IsPermutation es (map f ps)) found.1 is.same)) in
+      let entry : q.entry ≡ e = sole_same e q.entry (subst (λ xs. IsPermutation xs (q.entry ∷ [])) one (subst (λ ps. IsPermutation es (map f ps)) found.1 is.same)) in
       let at : All (λ (x : PlacedEntry). x.position ≤ 0) placed = highest (subst (λ ps. All (λ q. q ≤ 0) (positions 0 ps)) (sym found.1) (subst (All (λ q. q ≤ 0)) (sym (positions_sole q)) (All-cons (λ q. q ≤ 0) 0 [] (omega arith) (All-nil (λ q. q ≤ 0))))) in
       let first : q.position ≤ 0 = subst (All (λ (x : PlacedEntry). x.position ≤ 0)) found.1 at 0 q (omega arith) in
       (q, found.1, entry, omega (arith, first))
-    where
-      sole_entry : (q : PlacedEntry) (e : LineAnnotation) → IsPermutation (e ∷ []) (q.entry ∷ []) → q.entry ≡ e
-      sole_entry q e same = in_one (Contains-permutation (e ∷ []) (q.entry ∷ []) e same (0, omega arith, refl))
-        where
-          in_one : Contains (q.entry ∷ []) e → q.entry ≡ e
-          in_one (zero, within, here) = here
-          in_one (suc k, within, here) = absurd (omega arith)
 
   lone_order : (q : PlacedEntry) → placed ≡ q ∷ [] → marked.order ≡ q ∷ []
   lone_order q one =
       let long : length marked.order ≡ 1 = length_permutation placed marked.order marked.same ∙ ap length one in
       let found = sole marked.order long in
-      found.1 ∙ ap (λ x. x ∷ []) (in_one found.0 (Contains-permutation (q ∷ []) (found.0 ∷ []) q (subst (λ xs. IsPermutation xs (found.0 ∷ [])) one (subst (IsPermutation placed) found.1 marked.same)) (0, omega arith, refl)))
-    where
-      in_one : (x : PlacedEntry) → Contains (x ∷ []) q → x ≡ q
-      in_one x (zero, within, here) = here
-      in_one x (suc k, within, here) = absurd (omega arith)
+      found.1 ∙ ap (λ x. x ∷ []) (sole_same q found.0 (subst (λ xs. IsPermutation xs (found.0 ∷ [])) one (subst (IsPermutation placed) found.1 marked.same)))
 
   -- after the mark of a line's one entry stand a space and its label
   lone : plain ≡ true → (e : LineAnnotation) → es ≡ e ∷ [] → e.start.display < e.end.display → 0 < length (label_text e) → drop (layout.code + e.end.display) (row_at new row) ≡ SPACE ∷ text_cells (label_role e.kind) (label_text e)
@@ -402,7 +456,7 @@ module _ (layout : Layout) (room : ℕ) (closes : Bool) (es : List LineAnnotatio
   -- so in each cell that no label has stands a space or a stroke
   beside_labels : HasStrokesBeside layout row placed new
   beside_labels k c right beside =
-      strokes (row + k) c right (inl (begun_space k c right)) beside
+      subst (λ rows. IsStrokeCell layout.decor (cell_at rows (row + k) c)) (sym new_is) (cell_of_strokes layout (row + k) c right (length above_rows) (length begun) placed (painting_order placed) begun bar_cells (inl (begun_space k c right)) beside)
 
   -- the rows of a line's strokes are added, once those of the source and of the marks are cut where entries are wide
   pub strokes_added : (final : List (List Cell)) → 0 < length es → CutsRows layout (wide_entries room layout.decor es) above_rows source (row_at new row) lower final → AddsStrokes layout room es closes above_rows plain_row final
@@ -422,7 +476,7 @@ module _ (layout : Layout) (room : ℕ) (closes : Bool) (es : List LineAnnotatio
           lone = λ flat one. long ∙ one_row_lone one;
           bare = λ flat none. omega (arith, long, one_row_bare flat none);
           marks = λ flat. subst (ShowsMarks layout.decor layout.code es) (sym (cuts.marks_cut.uncut (narrow flat))) (shows_marks flat);
-          labels = λ uncut _. LabelsStand-placed layout row es placed new rows is places stands beside_labels (rows_new cuts.marks_now (cuts.marks_cut.uncut uncut));
+          labels = λ uncut _. LabelsStand-placed layout row es placed new rows is places stands beside_labels (subst (λ rows. All (IsHung layout row placed rows) placed) (sym new_is) (all_hung layout (length above_rows) (length begun) placed (painting_order placed) begun)) (rows_new cuts.marks_now (cuts.marks_cut.uncut uncut));
           are = λ k inside. subst (λ n. IsStrokeRow layout plain es (closes && k + 1 == n) (row_at rows k)) (sym long) (stroke_rows wide narrow cuts.marks_now cuts.marks_cut k (omega (arith, inside, long)));
         };
       }
@@ -433,10 +487,11 @@ module _ (layout : Layout) (room : ℕ) (closes : Bool) (es : List LineAnnotatio
       stroke_rows wide narrow marks_now cut (suc k) within =
           subst (IsStrokeRow layout plain es (closes && suc k + 1 == row_count placed)) (sym (lower_at k)) (stroke_row (suc k) within)
 
-  -- the same, from what the cut says of any rows above, between and below
-  pub strokes_drawn : (final : List (List Cell)) (wide : ℕ) → 0 < length es → wide ≡ wide_entries room layout.decor es
-      → ((above : List (List Cell)) (source marks : List Cell) (below : List (List
-      Cell)) → length above ≡ length above_rows → new ≡ above ++ source ∷ marks ∷ below → CutsRows layout wide above source marks below final)
-      → AddsStrokes layout room es closes above_rows plain_row final
-  strokes_drawn final wide some same cut =
-      strokes_added final some (subst (λ n. CutsRows layout n above_rows source (row_at new row) lower final) same (cut above_rows source (row_at new row) lower refl rows_split))
+  -- the same, where it is known what is cut
+  pub strokes_drawn : (final : List (List Cell)) (flags : List Bool) → 0 < length es → final ≡ cut_rows layout.decor (length above_rows) (cuts_of layout room (painting_order placed) flags) new → AddsStrokes layout room es closes above_rows plain_row final
+  strokes_drawn final flags some final_is =
+      let order = painting_order placed in
+      let n : ℕ = length above_rows in
+      let marks_row : List Cell = row_at new row in
+      let parts : final ≡ cut_rows layout.decor n (cuts_of layout room order flags) (above_rows ++ source ∷ marks_row ∷ lower) = final_is ∙ ap (cut_rows layout.decor n (cuts_of layout room order flags)) rows_split in
+      strokes_added final some (subst (λ wide. CutsRows layout wide above_rows source marks_row lower final) (wide_entries-order room layout.decor es placed is) (subst (CutsRows layout (wide_entries room layout.decor (map f order)) above_rows source marks_row lower) (sym parts) (CutsRows-cuts layout room n order flags above_rows source marks_row lower refl)))

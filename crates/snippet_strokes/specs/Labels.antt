@@ -38,12 +38,29 @@ abbrev pub IsStrokeCell : DecorStyle → Cell → Type 0
 IsStrokeCell decor cell =
     (cell ≡ SPACE) ⊎ ((list_any (λ g. cell.ch == g) (stroke_glyphs decor) ≡ true) × (has_mark_role cell ≡ true))
 
+-- the glyphs of stems, and of their feet, where lines that lead to bars meet them
+abbrev pub stem_glyphs : DecorStyle → List ℕ
+stem_glyphs Ascii = codes "|"
+stem_glyphs Unicode = codes "│┘┙┥┤"
+
+-- a cell in which a stem stands, in a role of marks
+abbrev pub IsStemCell : DecorStyle → Cell → Type 0
+IsStemCell decor cell =
+    (list_any (λ g. cell.ch == g) (stem_glyphs decor) ≡ true) × (has_mark_role cell ≡ true)
+
+-- a stem leads from the mark down to the label, if the label hangs below it: one stands in each row between, in the label's first cell,
+-- but where that cell is one of these labels'
+abbrev pub IsLedTo : DecorStyle → List PlacedLabel → List (List Cell) → PlacedLabel → Type 0
+IsLedTo decor labels rows l =
+    (r : ℕ) → 0 < r → r < l.row → count_by (is_cell_of r l.cell) labels ≡ 0 → IsStemCell decor (cell_at rows r l.cell)
+
 -- the labels of a line's entries stand in the rows of its strokes, one for each entry, in their order: each that shows anything
--- stands whole, no cell is one of two labels, and each that is of none is a space or a stroke's
+-- stands whole, and a stem leads to it; no cell is one of two labels, and each that is of none is a space or a stroke's
 pub record LabelsStand (layout : Layout) (es : List LineAnnotation) (rows : List (List Cell)) : Type 0 where
   pub labels : List PlacedLabel
   pub are : map (λ (l : PlacedLabel). l.entry) labels ≡ es
   pub stand : All (λ l. 0 < length (label_text l.entry) → StandsIn layout rows l) labels
+  pub led : All (λ l. 0 < length (label_text l.entry) → IsLedTo layout.decor labels rows l) labels
   pub apart : (r c : ℕ) → count_by (is_cell_of r c) labels ≤ 1
   pub others : (r c : ℕ) → layout.code ≤ c → count_by (is_cell_of r c) labels ≡ 0 → IsStrokeCell layout.decor (cell_at rows r c)
 

@@ -8,3 +8,4 @@ pub mod Snippet
 pub mod Bars
 pub mod LineRows
 pub mod Cuts
+pub mod EndBars

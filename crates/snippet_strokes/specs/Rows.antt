@@ -1,6 +1,6 @@
 -- The rows of a line that is shown: its source row with what stands in it, and the rows of its strokes below it.
-use Rattle.std.specs.Prelude.{◌≡◌, ℕ, ◌≢◌, ◌+◌, ◌-◌, ◌<◌, ◌≤◌, ◌==◌, ◌&&◌, nat_le, nat_lt, Bool, true, false, List, [], ◌∷◌, ◌++◌, All, length, max, take, drop, replicate, if◌then◌else◌}
-use Rattle.std.specs.List.{slice_index_or, list_any}
+use Rattle.std.specs.Prelude.{◌≡◌, ℕ, ◌≢◌, ◌+◌, ◌-◌, ◌<◌, ◌≤◌, ◌==◌, ◌&&◌, nat_le, nat_lt, Bool, true, false, List, [], ◌∷◌, ◌++◌, All, length, map, max, take, drop, replicate, if◌then◌else◌}
+use Rattle.std.specs.List.{slice_index_or, list_any, range_with_len}
 use Rattle.snippet_model.specs.declared.snippet.AnnotationKind.{AnnotationKind}
 use Rattle.snippet_view.specs.declared.entries.LineAnnotation.{LineAnnotation}
 use Rattle.snippet_view.specs.Window.{AreReplaced}
@@ -116,6 +116,11 @@ highlights code dropped c e = e.highlight_source && holds_character code dropped
 abbrev pub role_in_source : ℕ → ℕ → List LineAnnotation → ℕ → ElementStyle → ElementStyle
 role_in_source code dropped es c role =
     if list_any (λ e. is_primary e.kind && highlights code dropped c e) es then UnderlinePrimary else (if list_any (highlights code dropped c) es && gives_way role then UnderlineSecondary else role)
+
+-- a source row with the characters highlighted that entries ask for
+abbrev pub highlighted_row : ℕ → ℕ → List LineAnnotation → List Cell → List Cell
+highlighted_row code dropped es plain =
+    map (λ c. let cell = slice_index_or plain c SPACE in record cell { role = role_in_source code dropped es c cell.role }) (range_with_len 0 (length plain))
 
 -- the row is this source row, with the characters highlighted that entries ask for
 pub record IsHighlighted (code dropped : ℕ) (es : List LineAnnotation) (plain row : List Cell) : Type 0 where

@@ -1,6 +1,6 @@
 -- What is written for the strokes of a line, as lists of writes: its labels, its stems, the lines that lead to bars, the bars of
 -- the spans that begin or end on it, and all of them, over which its marks are painted.
-use Rattle.std.specs.Prelude.{ℕ, ◌+◌, ◌-◌, ◌≡◌, List, [], ◌∷◌, map, if◌then◌else◌, ◌==◌, ◌&&◌, nat_le, Bool, false, ◌++◌, length, replicate}
+use Rattle.std.specs.Prelude.{ℕ, ◌+◌, ◌-◌, ◌≡◌, List, [], ◌∷◌, map, if◌then◌else◌, ◌==◌, ◌&&◌, nat_le, Bool, false, ◌++◌, length, replicate, drop, take}
 use Rattle.std.specs.List.{range_with_len, flat_map}
 use Rattle.snippet_style.specs.declared.role.ElementStyle.{ElementStyle}
 use Rattle.snippet_marks.specs.Writes.{Write, glyph_at, painted, stretch_of}
@@ -17,7 +17,7 @@ use Rattle.snippet_style.specs.Cell.{Cell}
 use Rattle.snippet_style.specs.Separators.{separator_row}
 use Rattle.snippet_strokes.specs.Drawing.{foot_glyph, row_count}
 use Rattle.snippet_marks.specs.Painting.{painting_order, marks_of, stroke_role}
-use Rattle.snippet_marks.specs.Positions.{ArePlaced, has_label, has_stem, label_place}
+use Rattle.snippet_marks.specs.Positions.{ArePlaced, has_label, has_stem, label_place, placed_of}
 use Rattle.snippet_strokes.specs.Cuts.{cut_row, cuts_of, overlapped}
 use Rattle.snippet_strokes.specs.Rows.{CutsRows}
 use Rattle.snippet_marks.specs.SourceRows.{bare_row}
@@ -139,9 +139,21 @@ abbrev pub begun_rows : Layout → Bool → ℕ → List Cell → List (List Cel
 begun_rows layout closes count source =
     source ∷ (replicate (count - 1) (separator_row layout.decor layout.gutter) ++ bare_row layout.decor layout.gutter closes ∷ [])
 
--- the rows of a line with the strokes of these entries, of which this is the source row: as many as the entries ask for, and over
--- them all strokes. The entries are placed from right to left, and their marks painted in the order of painting. Of the first two
--- rows, the source row and that of the marks, stretches are cut where entries are wide (`cut` follows from `rows_are`)
+-- the rows of a line with the strokes of these entries, of which this is the source row: all strokes painted over the bare rows, of
+-- which there are as many as the entries ask for, and of the first two, the source row and that of the marks, what is cut where
+-- entries are wide. The placeholder comes last, over all that is painted
+abbrev pub stroke_rows : Layout → ℕ → Bool → List LineAnnotation → List Cell → List (List Cell)
+stroke_rows layout room closes es source =
+    let placed = placed_of es in
+    let order = painting_order placed in
+    let count = row_count placed in
+    let whole = painted (strokes_of layout 0 (count + 1) placed order) (begun_rows layout closes count source) in
+    let cuts = cuts_of layout room order (overlapped placed) in
+    map (cut_row layout.decor cuts) (take 2 whole) ++ drop 2 whole
+
+-- what is known of rows that are those, whatever the placed entries hold their labels in: as many as the entries ask for, and over them
+-- all strokes. The entries are placed from right to left, and their marks painted in the order of painting. Of the first two rows, the
+-- source row and that of the marks, stretches are cut where entries are wide (`cut` follows from `rows_are`)
 pub record StrokesPainted (layout : Layout) (room : ℕ) (closes : Bool) (es : List LineAnnotation) (source : List Cell) (rows : List (List Cell)) : Type 0 where
   pub placed : List PlacedEntry
   pub are : ArePlaced es placed

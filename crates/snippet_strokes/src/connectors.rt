@@ -1,8 +1,8 @@
 //! The lines that lead from the ends of spans of several lines to their bars.
-ghost use Rattle.std.specs.Prelude.{◌≡◌, ◌+◌, ◌^◌, ◌<◌, ◌≤◌, All, OnOk, length, true};
+ghost use Rattle.std.specs.Prelude.{◌≡◌, ◌+◌, ◌^◌, ◌<◌, ◌≤◌, All, OnOk, length};
 ghost use Rattle.snippet_marks.specs.Entries.{HasPlace};
-ghost use Rattle.snippet_strokes.specs.EntryMarks.{HasBarCell, is_single};
-ghost use Rattle.snippet_strokes.specs.Drawing.{DrawsFrom, HasRows, KeepsBarCells};
+ghost use Rattle.snippet_strokes.specs.EntryMarks.{HasBarCell};
+ghost use Rattle.snippet_strokes.specs.Drawing.{HasRows};
 ghost use Rattle.snippet_strokes.specs.Strokes.{connector_of, connectors_of, line_to};
 ghost use Rattle.snippet_marks.specs.Writes.{painted};
 
@@ -35,9 +35,6 @@ pub(crate) fn draw_connectors(
     requires small { length buffer.old ≤ 2 ^ 60 }
     requires rows { All (HasRows row (length buffer.old)) placed.now }
     ensures painted { OnOk result (buffer.new ≡ painted (connectors_of layout row placed.now) buffer.old) }
-    ensures draws { OnOk result (DrawsFrom row (layout.gutter + 3) buffer.old buffer.new) }
-    ensures bar_cells { OnOk result (KeepsBarCells layout buffer.old buffer.new) }
-    ensures none { OnOk result (All (λ e. is_single e.entry ≡ true) placed.now → buffer.new ≡ buffer.old) }
 {
     for entry in placed {
         draw_connector(alloc, buffer, layout, row, entry)?;

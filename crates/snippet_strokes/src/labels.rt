@@ -1,16 +1,11 @@
 //! The labels of marks.
-ghost use Rattle.std.specs.Prelude.{◌≡◌, ◌+◌, ◌^◌, ◌<◌, ◌≤◌, ◌∷◌, [], All, List, OnOk, false, true, length, ℕ};
-ghost use Rattle.snippet_view.specs.declared.entries.LineAnnotation.{LineAnnotation};
-ghost use Rattle.snippet_grid.specs.Grid.{cells_written};
-ghost use Rattle.snippet_style.specs.Cell.{text_cells};
-ghost use Rattle.snippet_marks.specs.Entries.{HasPlace, label_role, label_text};
-ghost use Rattle.snippet_strokes.specs.Drawing.{DrawsFrom, HasRows, MarksStarts, StandsFrom};
+ghost use Rattle.std.specs.Prelude.{◌≡◌, ◌+◌, ◌^◌, ◌<◌, ◌≤◌, All, OnOk, length};
+ghost use Rattle.snippet_marks.specs.Entries.{HasPlace, label_text};
+ghost use Rattle.snippet_strokes.specs.Drawing.{HasRows};
 ghost use Rattle.snippet_marks.specs.Positions as spec;
-ghost use Rattle.snippet_marks.specs.Positions.{ArePlaced, HasItsLabel};
-ghost use Rattle.snippet_marks.specs.Painting.{StandsWhole};
+ghost use Rattle.snippet_marks.specs.Positions.{HasItsLabel};
 ghost use Rattle.snippet_strokes.specs.Strokes.{label_of, labels_of};
 ghost use Rattle.snippet_marks.specs.Writes.{painted};
-ghost use Rattle.snippet_marks.specs.declared.positions.PlacedEntry.{PlacedEntry};
 
 use snippet_grid::StyledBuffer;
 use snippet_marks::{Layout, PlacedEntry, label_role};
@@ -39,15 +34,6 @@ pub(crate) fn draw_labels(
     requires labels { All HasItsLabel placed.now }
     requires short { All (λ e. length (label_text e.entry) < 2 ^ 60) placed.now }
     ensures painted { OnOk result (buffer.new ≡ painted (labels_of layout row placed.now) buffer.old) }
-    ensures stand { OnOk result ((es : List LineAnnotation) → ArePlaced es placed.now
-        → All (StandsWhole layout row buffer.new) placed.now) }
-    ensures draws { OnOk result ((from : ℕ) → All (λ e. StandsFrom layout.code from e.entry) placed.now
-        → DrawsFrom row from buffer.old buffer.new) }
-    ensures starts { OnOk result (MarksStarts layout.code [] buffer.old buffer.new) }
-    ensures none { OnOk result (All (λ e. spec.has_label e ≡ false) placed.now → buffer.new ≡ buffer.old) }
-    ensures lone { OnOk result ((e : PlacedEntry) → placed.now ≡ e ∷ [] → e.position ≡ 0 → 0 < e.entry.end.display → spec.has_label e ≡ true
-        → buffer.new ≡ cells_written buffer.old row (layout.code + e.entry.end.display + 1)
-        (text_cells (label_role e.entry.kind) (label_text e.entry))) }
 {
     for entry in placed {
         draw_label(buffer, layout, row, entry)?;

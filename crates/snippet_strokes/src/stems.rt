@@ -1,8 +1,7 @@
 //! The stems that lead from marks down to their labels, or to the lines to their bars.
-ghost use Rattle.std.specs.Prelude.{◌≡◌, ◌+◌, ◌^◌, ◌<◌, ◌≤◌, ◌==◌, ◌∷◌, [], if◌then◌else◌, All, OnOk, false, length, ℕ};
+ghost use Rattle.std.specs.Prelude.{◌≡◌, ◌+◌, ◌^◌, ◌<◌, ◌≤◌, ◌==◌, ◌∷◌, [], if◌then◌else◌, All, OnOk, length};
 ghost use Rattle.snippet_marks.specs.Entries.{HasPlace};
-ghost use Rattle.snippet_strokes.specs.Drawing.{DrawsFrom, HasRows, MarksStarts, StandsFrom, foot_glyph};
-ghost use Rattle.snippet_marks.specs.Positions as spec;
+ghost use Rattle.snippet_strokes.specs.Drawing.{HasRows, foot_glyph};
 ghost use Rattle.snippet_marks.specs.Writes.{painted};
 ghost use Rattle.snippet_strokes.specs.Strokes.{is_hidden, stem_of, stems_of};
 
@@ -34,10 +33,6 @@ pub(crate) fn draw_stems(
     requires small { length buffer.old ≤ 2 ^ 60 }
     requires rows { All (HasRows row (length buffer.old)) placed.now }
     ensures painted { OnOk result (buffer.new ≡ painted (stems_of layout row placed.now) buffer.old) }
-    ensures draws { OnOk result ((from : ℕ) → All (λ e. StandsFrom layout.code from e.entry) placed.now
-        → DrawsFrom row from buffer.old buffer.new) }
-    ensures starts { OnOk result (MarksStarts layout.code placed.now buffer.old buffer.new) }
-    ensures none { OnOk result (All (λ e. spec.has_stem e ≡ false) placed.now → buffer.new ≡ buffer.old) }
 {
     for i in 0..placed.len() {
         let entry = &placed[i];

@@ -1,5 +1,5 @@
 //! The rows of a group's elements, one below the other.
-ghost use Rattle.std.specs.Prelude.{◌≡◌, ◌+◌, ◌<◌, ◌≤◌, ◌^◌, ◌++◌, All, List, OnOk, map};
+ghost use Rattle.std.specs.Prelude.{◌≡◌, ◌+◌, ◌<◌, ◌≤◌, ◌^◌, ◌++◌, ◌∷◌, [], All, List, OnOk, map, true};
 ghost use Rattle.std.specs.Option.{option_copied};
 ghost use Rattle.snippet_style.specs.Cell.{Cell};
 ghost use Rattle.snippet_suggest.specs.Rows.{IsTail};
@@ -65,9 +65,10 @@ fn draw_element<'a>(
     requires room { HasRoomFor renderer.now frame (element_of element) }
     requires around { CanStandIn around (element_of element) }
     requires narrow { frame.code < 2 ^ 63 + 2 ^ 32 }
-    ensures added { (above tail : List (List Cell)) → buffer.old ≡ above ++ tail
+    ensures added { (above tail : List (List Cell)) (found : List Cell) → buffer.old ≡ above ++ tail
         → IsTail renderer.now.decor_style frame.gutter (begins_in_row_above around) tail
-        → OnOk result (AddsElement renderer.now frame around (element_of element.entry) above buffer.new) }
+        → (begins_in_row_above around ≡ true → tail ≡ found ∷ [])
+        → OnOk result (AddsElement renderer.now frame around found (element_of element.entry) above buffer.new) }
 {
     match element {
         PreparedElement::Message(message) => {

@@ -6,7 +6,7 @@
 //!  1 | foo(x)             the lines as they will be
 //!    |     +
 //! ```
-ghost use Rattle.std.specs.Prelude.{◌≡◌, ◌≤◌, ◌++◌, List, OnOk};
+ghost use Rattle.std.specs.Prelude.{◌≡◌, ◌≤◌, ◌++◌, ◌∷◌, [], List, OnOk, true};
 ghost use Rattle.snippet_model.specs.declared.snippet.Element.TheVariants.{Suggestion};
 ghost use Rattle.snippet_style.specs.Cell.{Cell};
 ghost use Rattle.snippet_suggest.specs.Prepared.{IsPrepared};
@@ -41,9 +41,10 @@ pub fn draw_patches(
     requires prepared { IsPrepared suggestion.now }
     requires room { HasRoomFor renderer.now frame (Suggestion suggestion.now.snippet.now) }
     requires path { HasPathFor around.start suggestion.now.snippet.now }
-    ensures added { (above tail : List (List Cell)) → buffer.old ≡ above ++ tail
+    ensures added { (above tail : List (List Cell)) (found : List Cell) → buffer.old ≡ above ++ tail
         → IsTail renderer.now.decor_style frame.gutter (begins_in_row_above around) tail
-        → OnOk result (AddsElement renderer.now frame around (Suggestion suggestion.now.snippet.now) above buffer.new) }
+        → (begins_in_row_above around ≡ true → tail ≡ found ∷ [])
+        → OnOk result (AddsElement renderer.now frame around found (Suggestion suggestion.now.snippet.now) above buffer.new) }
 {
     if around.start == SuggestionStart::Path {
         draw_path(alloc, buffer, renderer, frame, around.first, suggestion)?;

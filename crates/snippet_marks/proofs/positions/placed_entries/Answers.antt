@@ -29,7 +29,7 @@ returns c =
     record {
       placed = subst (ArePlaced es) (sym (written_back placed sorted.items sorted.len sorted.ok.0 kept))
           (ArePlaced-from es c.in_ok-placed.placed.items sorted.items placed c.deref-2.result.now c.in_ok-placed.ensures.entries
-          c.in_ok-placed.ensures.labels c.in_ok-sort_by_key.ensures.permutation
+          c.in_ok-placed.ensures.labels c.in_ok-placed.ensures.bytes c.in_ok-sort_by_key.ensures.permutation
           (order_of_sort c.in_ok-placed.placed.items sorted.items
           (c.in_ok-sort_by_key.ensures.sorted place_key (answers_always _ _ _ (λ f a r g h. search rules)))
           (c.sort_by_key.ensures.stable place_key (answers_always _ _ _ (λ f a r g h. search rules))))

@@ -1,24 +1,20 @@
-use Rattle.std.proofs.Common.{◌≡◌, ◌∙◌, ◌+◌, ◌<◌, List, ℕ, ap, refl, sym, subst, arith, length, take, All}
+use Rattle.std.proofs.Common.{◌≡◌, ◌∙◌, List, ℕ, ap, sym, subst, arith, length, take, All}
 use Rattle.std.proofs.lemmas.List.{take_all}
-use Rattle.std.proofs.lemmas.List.Elements.{All-take, All-weaker}
+use Rattle.std.proofs.lemmas.List.Elements.{All-take}
 use Rattle.snippet_style.specs.Cell.{Cell}
 use Rattle.snippet_grid.specs.Layout.{Layout}
 use Rattle.snippet_marks.specs.declared.positions.PlacedEntry.{PlacedEntry}
-use Rattle.snippet_strokes.specs.Drawing.{DrawsFrom, HasRows, KeepsBarCells}
+use Rattle.snippet_strokes.specs.Drawing.{HasRows}
 use Rattle.snippet_strokes.specs.Strokes.{connector_of, connectors_of}
-use Rattle.snippet_strokes.specs.Reach.{IsWithin}
-use Rattle.snippet_marks.specs.Writes.{Write, painted}
-use Rattle.snippet_strokes.proofs.BarWrites.{KeepsBarCells-painted, connectors_none, connectors_bar_cells, connectors_within}
-use Rattle.snippet_strokes.proofs.WriteLaws.{DrawsFrom-painted, painted-count}
+use Rattle.snippet_marks.specs.Writes.{painted}
+use Rattle.snippet_strokes.proofs.BarWrites.{DrawsFrom-connectors}
 use Rattle.snippet_marks.proofs.WriteLemmas.{painted_more}
 use Rattle.snippet_strokes.proofs.connectors.draw_connectors.Goals as goal
 
 -- lines to bars add no row
 count_kept : (layout : Layout) (row i : ℕ) (es : List PlacedEntry) (old mid : List (List Cell)) → mid ≡ painted (connectors_of layout row (take i es)) old → All (HasRows row (length old)) es → length mid ≡ length old
 count_kept layout row i es old mid so_far rows =
-    let n = length old in
-    let ws : List Write = connectors_of layout row (take i es) in
-    ap length so_far ∙ painted-count ws old n refl (All-weaker (IsWithin row n (layout.gutter + 3)) (λ (w : Write). w.row < n) (λ w is. is.there) ws (connectors_within layout row n (take i es) (All-take (HasRows row n) i es rows)))
+    ap length so_far ∙ (DrawsFrom-connectors layout row (take i es) old (All-take (HasRows row (length old)) i es rows)).count
 
 pub draw_connector-requires-clause-small : goal.draw_connector-requires-clause-small
 draw_connector-requires-clause-small c =
@@ -38,15 +34,6 @@ loop-entry-preserved c =
 
 pub returns : goal.returns
 returns c =
-    let es = c.args.placed.now in
-    let old = c.args.buffer.now in
-    let layout = c.args.layout in
-    let row = c.args.row in
-    let ws : List Write = connectors_of layout row es in
-    let is : c.loop-entry.buffer ≡ painted ws old = c.loop-entry.invariant ∙ ap (λ xs. painted (connectors_of layout row xs) old) (take_all c.loop-entry.entry-index es (omega (arith, c.loop-entry-test.false))) in
     record {
-      painted = is;
-      draws = subst (DrawsFrom row (layout.gutter + 3) old) (sym is) (DrawsFrom-painted row (layout.gutter + 3) ws old (connectors_within layout row (length old) es c.requires.rows));
-      bar_cells = subst (KeepsBarCells layout old) (sym is) (KeepsBarCells-painted layout ws old (connectors_bar_cells layout row es));
-      none = λ none. is ∙ ap (λ xs. painted xs old) (connectors_none layout row es none);
+      painted = c.loop-entry.invariant ∙ ap (λ xs. painted (connectors_of c.args.layout c.args.row xs) c.args.buffer.now) (take_all c.loop-entry.entry-index c.args.placed.now (omega (arith, c.loop-entry-test.false)));
     }

@@ -1,14 +1,14 @@
-use Rattle.std.proofs.Common.{◌≡◌, ◌∙◌, ◌+◌, List, ℕ, ap, refl, sym, subst, arith, length, take, All}
+use Rattle.std.proofs.Common.{◌≡◌, ◌∙◌, ◌+◌, List, ℕ, ap, sym, subst, arith, length, take, All}
 use Rattle.std.proofs.lemmas.List.{take_all}
 use Rattle.std.proofs.lemmas.List.Elements.{All-take}
 use Rattle.snippet_style.specs.Cell.{Cell}
 use Rattle.snippet_grid.specs.Layout.{Layout}
 use Rattle.snippet_marks.specs.declared.positions.PlacedEntry.{PlacedEntry}
 use Rattle.snippet_strokes.specs.EntryMarks.{HasBarCell}
-use Rattle.snippet_strokes.specs.Drawing.{DrawsBarCells, HasRows}
+use Rattle.snippet_strokes.specs.Drawing.{HasRows}
 use Rattle.snippet_strokes.specs.Strokes.{corner_of, corners_of}
-use Rattle.snippet_marks.specs.Writes.{Write, painted}
-use Rattle.snippet_strokes.proofs.BarWrites.{DrawsBarCells-painted, corners_bars, corners_none}
+use Rattle.snippet_marks.specs.Writes.{painted}
+use Rattle.snippet_strokes.proofs.BarWrites.{DrawsBarCells-corners}
 use Rattle.snippet_marks.proofs.WriteLemmas.{painted_more}
 use Rattle.snippet_strokes.proofs.corners.draw_corners.Goals as goal
 
@@ -16,8 +16,7 @@ use Rattle.snippet_strokes.proofs.corners.draw_corners.Goals as goal
 count_kept : (layout : Layout) (row i : ℕ) (es : List PlacedEntry) (old mid : List (List Cell)) → mid ≡ painted (corners_of layout row (length old) (take i es)) old → All (λ (e : PlacedEntry). HasBarCell layout e.entry) es → All (HasRows (row + 1) (length old)) es → length mid ≡ length old
 count_kept layout row i es old mid so_far bar_cells rows =
     let n = length old in
-    let ws : List Write = corners_of layout row n (take i es) in
-    ap length so_far ∙ (DrawsBarCells-painted layout row n ws old refl (corners_bars layout row n (take i es) (All-take (λ (e : PlacedEntry). HasBarCell layout e.entry) i es bar_cells) (All-take (HasRows (row + 1) n) i es rows))).draws.count
+    ap length so_far ∙ (DrawsBarCells-corners layout row (take i es) old (All-take (λ (e : PlacedEntry). HasBarCell layout e.entry) i es bar_cells) (All-take (HasRows (row + 1) n) i es rows)).draws.count
 
 pub draw_corner-requires-clause-small : goal.draw_corner-requires-clause-small
 draw_corner-requires-clause-small c =
@@ -42,15 +41,7 @@ loop-entry-preserved c =
 
 pub returns : goal.returns
 returns c =
-    let es = c.args.placed.now in
     let old = c.args.buffer.now in
-    let layout = c.args.layout in
-    let row = c.args.row in
-    let n = length old in
-    let ws : List Write = corners_of layout row n es in
-    let is : c.loop-entry.buffer ≡ painted ws old = c.loop-entry.invariant ∙ ap (λ xs. painted (corners_of layout row n xs) old) (take_all c.loop-entry.entry-index es (omega (arith, c.loop-entry-test.false))) in
     record {
-      painted = is;
-      draws = subst (DrawsBarCells layout row old) (sym is) (DrawsBarCells-painted layout row n ws old refl (corners_bars layout row n es c.requires.bar_cells c.requires.rows));
-      none = λ none. is ∙ ap (λ xs. painted xs old) (corners_none layout row n es none);
+      painted = c.loop-entry.invariant ∙ ap (λ xs. painted (corners_of c.args.layout c.args.row (length old) xs) old) (take_all c.loop-entry.entry-index c.args.placed.now (omega (arith, c.loop-entry-test.false)));
     }

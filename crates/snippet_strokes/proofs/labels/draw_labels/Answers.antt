@@ -1,29 +1,21 @@
-use Rattle.std.proofs.Common.{◌≡◌, ◌∙◌, ◌<◌, [], ap, sym, subst, arith, length, take, refl, All, ℕ, List}
+use Rattle.std.proofs.Common.{◌≡◌, ◌∙◌, ap, sym, subst, arith, length, take, All, ℕ, List}
 use Rattle.std.proofs.lemmas.List.{take_all}
-use Rattle.std.proofs.lemmas.List.Elements.{All-take, All-weaker}
+use Rattle.std.proofs.lemmas.List.Elements.{All-take}
 use Rattle.snippet_style.specs.Cell.{Cell}
 use Rattle.snippet_grid.specs.Layout.{Layout}
 use Rattle.snippet_marks.specs.declared.positions.PlacedEntry.{PlacedEntry}
 use Rattle.snippet_marks.specs.Entries.{HasPlace}
-use Rattle.snippet_strokes.specs.Drawing.{DrawsFrom, HasRows, MarksStarts}
-use Rattle.snippet_strokes.specs.Reach.{IsWithin}
-use Rattle.snippet_marks.specs.Writes.{Write, painted}
-use Rattle.snippet_marks.specs.Painting.{StandsWhole}
+use Rattle.snippet_strokes.specs.Drawing.{HasRows}
+use Rattle.snippet_marks.specs.Writes.{painted}
 use Rattle.snippet_strokes.specs.Strokes.{label_of, labels_of}
-use Rattle.snippet_strokes.proofs.LabelWrites.{label_lone, labels_none, labels_unmarked, labels_within}
-use Rattle.snippet_strokes.proofs.WriteLaws.{DrawsFrom-painted, painted-count}
+use Rattle.snippet_strokes.proofs.LabelWrites.{DrawsFrom-labels}
 use Rattle.snippet_marks.proofs.WriteLemmas.{painted_more}
-use Rattle.snippet_strokes.proofs.LabelLaw.{labels_stand}
 use Rattle.snippet_strokes.proofs.labels.draw_labels.Goals as goal
 
 -- labels add no row
 count_kept : (layout : Layout) (row i : ℕ) (es : List PlacedEntry) (old mid : List (List Cell)) → mid ≡ painted (labels_of layout row (take i es)) old → All (λ e. HasPlace e.entry) es → All (HasRows row (length old)) es → length mid ≡ length old
 count_kept layout row i es old mid so_far places rows =
-    ap length so_far ∙ painted-count (labels_of layout row (take i es)) old (length old)
-    refl (All-weaker (IsWithin row (length old)
-    0) (λ (w : Write). w.row < length old) (λ w is. is.there) (labels_of layout row (take i es))
-    (labels_within layout row (length old) 0 (take i es) (All-take (λ (e : PlacedEntry). HasPlace e.entry) i es places) (All-take
-    (HasRows row (length old)) i es rows) (λ k d within. omega arith)))
+    ap length so_far ∙ (DrawsFrom-labels layout row 0 (take i es) old (All-take (λ (e : PlacedEntry). HasPlace e.entry) i es places) (All-take (HasRows row (length old)) i es rows) (λ k d within. omega arith)).count
 
 pub draw_label-requires-clause-small : goal.draw_label-requires-clause-small
 draw_label-requires-clause-small c =
@@ -43,16 +35,6 @@ loop-entry-preserved c =
 
 pub returns : goal.returns
 returns c =
-    let es = c.args.placed.now in
-    let old = c.args.buffer.now in
-    let layout = c.args.layout in
-    let row = c.args.row in
-    let is : c.loop-entry.buffer ≡ painted (labels_of layout row es) old = c.loop-entry.invariant ∙ ap (λ xs. painted (labels_of layout row xs) old) (take_all c.loop-entry.entry-index es (omega (arith, c.loop-entry-test.false))) in
     record {
-      painted = is;
-      stand = λ given are. subst (λ rows. All (StandsWhole layout row rows) es) (sym is) (labels_stand layout row given es old are c.requires.columns);
-      draws = λ from stand. subst (DrawsFrom row from old) (sym is) (DrawsFrom-painted row from (labels_of layout row es) old (labels_within layout row (length old) from es c.requires.columns c.requires.rows stand));
-      starts = subst (MarksStarts layout.code [] old) (sym is) (labels_unmarked layout row es old);
-      none = λ none. is ∙ ap (λ ws. painted ws old) (labels_none layout row es none);
-      lone = λ e one zero some has. is ∙ ap (λ xs. painted (labels_of layout row xs) old) one ∙ label_lone layout row e old zero some has;
+      painted = c.loop-entry.invariant ∙ ap (λ xs. painted (labels_of c.args.layout c.args.row xs) c.args.buffer.now) (take_all c.loop-entry.entry-index c.args.placed.now (omega (arith, c.loop-entry-test.false)));
     }

@@ -1,10 +1,9 @@
 use Rattle.std.proofs.Common.{◌≡◌, ◌∙◌, ◌+◌, ◌-◌, ◌∷◌, false, true, ap, sym, subst, arith, drop, length, take}
 use Rattle.std.proofs.lemmas.List.{drop_more, drop_all, length-drop, take_all}
-use Rattle.snippet_strokes.specs.Drawing.{DrawsFrom, HasRows, MarksStarts}
+use Rattle.snippet_strokes.specs.Drawing.{HasRows}
 use Rattle.snippet_strokes.specs.Strokes.{is_hidden, stems_of}
 use Rattle.snippet_marks.specs.Writes.{painted}
-use Rattle.snippet_strokes.proofs.StemWrites.{stem_count, stems_next, stems_none, stems_skip, stems_start, stems_within}
-use Rattle.snippet_strokes.proofs.WriteLaws.{DrawsFrom-painted}
+use Rattle.snippet_strokes.proofs.StemWrites.{stem_count, stems_next, stems_skip}
 use Rattle.snippet_strokes.proofs.stems.draw_stems.Goals.{then-not-is_hidden+in_ok-draw_stem, else-not-is_hidden}
 use Rattle.snippet_strokes.proofs.stems.draw_stems.Goals as goal
 
@@ -37,15 +36,7 @@ loop-i-preserved c =
 
 pub returns : goal.returns
 returns c =
-    let es = c.args.placed.now in
-    let old = c.args.buffer.now in
     let layout = c.args.layout in
     let row = c.args.row in
-    let none = drop_all c.loop-i.i es (omega (arith, c.loop-i-test.false)) in
-    let is : c.loop-i.buffer ≡ painted (stems_of layout row es) old = sym (ap (λ xs. painted (stems_of layout row xs) c.loop-i.buffer) none) ∙ c.loop-i.invariant.0 in
-    record {
-      painted = is;
-      draws = λ from stand. subst (DrawsFrom row from old) (sym is) (DrawsFrom-painted row from (stems_of layout row es) old (stems_within layout row (length old) from es c.requires.rows stand));
-      starts = subst (MarksStarts layout.code es old) (sym is) (stems_start layout row es old);
-      none = λ none. is ∙ ap (λ ws. painted ws old) (stems_none layout row es none);
-    }
+    let none = drop_all c.loop-i.i c.args.placed.now (omega (arith, c.loop-i-test.false)) in
+    record { painted = sym (ap (λ xs. painted (stems_of layout row xs) c.loop-i.buffer) none) ∙ c.loop-i.invariant.0 }

@@ -1,33 +1,31 @@
-use Rattle.std.proofs.Common.{◌≡◌, ◌∙◌, ◌+◌, ◌-◌, ◌<◌, ◌≤◌, ◌^◌, List, ◌++◌, ◌∷◌, [], Bool, true, false, ℕ, refl, All, map, replicate, ap, sym, subst, arith, length}
+use Rattle.std.proofs.Common.{◌≡◌, ◌∙◌, ◌+◌, ◌-◌, ◌<◌, ◌^◌, List, ◌++◌, ◌∷◌, [], Bool, true, ℕ, refl, All, map, replicate, ap, sym, subst, arith, length}
 use Rattle.std.proofs.lemmas.Result.{on_ok_weaker}
 use Rattle.snippet_grid.specs.Layout.{Layout}
-use Rattle.snippet_grid.proofs.OutcomeLemmas.{on_ok_two}
 use Rattle.std.proofs.lemmas.List.{length_push, length-map}
-use Rattle.std.proofs.lemmas.List.Sorted.{All-permutation, IsPermutation-map, IsPermutation-trans, length_permutation}
+use Rattle.std.proofs.lemmas.List.Sorted.{All-permutation, length_permutation}
 use Rattle.snippet_view.specs.declared.entries.LineAnnotation.{LineAnnotation}
 use Rattle.snippet_marks.specs.declared.positions.PlacedEntry.{PlacedEntry}
-use Rattle.snippet_marks.specs.Painting.{AreMarked, StandsWhole}
-use Rattle.snippet_strokes.specs.Drawing.{HasRows, MarksStarts, StandsFrom, DrawsFrom, DrawsBarCells, row_count}
-use Rattle.snippet_marks.specs.Positions.{HasItsLabel, has_label, has_stem, ArePlaced}
-use Rattle.snippet_grid.specs.Grid.{cell_at, cells_written}
-use Rattle.snippet_style.specs.Cell.{text_cells, Cell}
-use Rattle.snippet_marks.specs.Entries.{HasPlace, label_role, label_text, shifted}
-use Rattle.snippet_strokes.specs.EntryMarks.{HasBarCell, is_single, wide_entries}
-use Rattle.snippet_strokes.proofs.ShiftLemmas.{shifted_places, shifted_bars}
+use Rattle.snippet_marks.specs.Painting.{marks_of, painting_order}
+use Rattle.snippet_marks.specs.Positions.{HasItsLabel}
+use Rattle.snippet_strokes.specs.Drawing.{row_count}
+use Rattle.snippet_style.specs.Cell.{Cell}
+use Rattle.snippet_marks.specs.Entries.{HasPlace, label_text, shifted}
+use Rattle.snippet_strokes.specs.EntryMarks.{HasBarCell}
+use Rattle.snippet_strokes.proofs.ShiftLemmas.{shifted_places}
 use Rattle.std.specs.List.{list_any}
 use Rattle.snippet_strokes.specs.Cuts.{cut_rows, cuts_of, is_wide_at, overlapped}
 use Rattle.snippet_marks.specs.SourceRows.{bare_row}
 use Rattle.snippet_style.specs.Separators.{separator_row}
+use Rattle.snippet_marks.proofs.OrderLemmas.{IsPermutation-painting_order}
 use Rattle.snippet_marks.proofs.PlacedLemmas.{entries_all}
 use Rattle.snippet_strokes.proofs.PositionLemmas.{row_count_some, positions_of_placed}
-use Rattle.snippet_strokes.proofs.BegunLemmas.{rows_begun, rows_ready, wide_entries-permutation}
+use Rattle.snippet_strokes.proofs.BegunLemmas.{rows_begun}
+use Rattle.snippet_strokes.proofs.ReadyRows.{count_connectors, count_corners, count_labels, count_marks, count_stems, enough_begun, rows_beside, rows_for}
 use Rattle.snippet_strokes.proofs.StrokeLemmas.{strokes_drawn}
 use Rattle.snippet_strokes.proofs.NoStrokes.{strokes_none}
 use Rattle.snippet_strokes.proofs.TextLemmas.{labels_short}
-use Rattle.snippet_strokes.specs.Labels.{IsStrokeCell}
 use Rattle.snippet_strokes.specs.Strokes.{connectors_of, corners_of, labels_of, stems_of, strokes_of}
 use Rattle.snippet_marks.specs.Writes.{painted}
-use Rattle.snippet_strokes.proofs.StrokeCells.{BesideLabels, cell_of_strokes}
 use Rattle.snippet_strokes.proofs.StrokeWrites.{strokes_painted}
 use Rattle.snippet_strokes.proofs.LineRowLemmas.{painted_added}
 use Rattle.snippet_strokes.proofs.strokes.draw_strokes.Goals as goal
@@ -47,76 +45,87 @@ overlapping-requires c =
 
 pub draw_connectors-requires-clause-columns : goal.draw_connectors-requires-clause-columns
 draw_connectors-requires-clause-columns c =
-    subst (All (λ (e : PlacedEntry). HasPlace e.entry)) (sym c.deref-3.ensures.value)
-    (entries_all HasPlace (map (shifted c.args.dropped) c.args.entries.now)
-    c.in_ok-placed.placed.items c.in_ok-placed.ensures.placed.same (shifted_places c.args.dropped c.args.entries.now c.requires.columns))
+    let enough = enough_begun c.args.layout c.args.dropped c.args.entries.now c.args.buffer.now c.begin_rows.new.buffer _ _ c.requires.columns
+    c.requires.bar_cells c.in_ok-placed.ensures.placed (c.row_count.ensures.value ∙ ap row_count c.deref-2.ensures.value) c.requires.last c.in_ok-below.ensures.row c.in_ok-below.ensures.added c.in_ok-below.ensures.small in
+    subst (All (λ (e : PlacedEntry). HasPlace e.entry)) (sym c.deref-3.ensures.value) enough.places
 
 pub draw_connectors-requires-clause-bar_cells : goal.draw_connectors-requires-clause-bar_cells
 draw_connectors-requires-clause-bar_cells c =
-    subst (All (λ (e : PlacedEntry). HasBarCell c.args.layout e.entry)) (sym c.deref-3.ensures.value)
-    (entries_all (HasBarCell c.args.layout) (map (shifted c.args.dropped) c.args.entries.now)
-    c.in_ok-placed.placed.items c.in_ok-placed.ensures.placed.same
-    (shifted_bars c.args.layout c.args.dropped c.args.entries.now c.requires.bar_cells))
+    let enough = enough_begun c.args.layout c.args.dropped c.args.entries.now c.args.buffer.now c.begin_rows.new.buffer _ _ c.requires.columns
+    c.requires.bar_cells c.in_ok-placed.ensures.placed (c.row_count.ensures.value ∙ ap row_count c.deref-2.ensures.value) c.requires.last c.in_ok-below.ensures.row c.in_ok-below.ensures.added c.in_ok-below.ensures.small in
+    subst (All (λ (e : PlacedEntry). HasBarCell c.args.layout e.entry)) (sym c.deref-3.ensures.value) enough.bar_cells
 
 pub draw_connectors-requires-clause-rows : goal.draw_connectors-requires-clause-rows
 draw_connectors-requires-clause-rows c =
-    subst (All (HasRows c.in_ok-below.below (length c.begin_rows.new.buffer))) (sym c.deref-3.ensures.value)
-    (rows_ready c.in_ok-placed.placed.items c.args.buffer.now c.begin_rows.new.buffer (separator_row c.args.layout.decor c.args.layout.gutter)
-    (bare_row c.args.layout.decor c.args.layout.gutter c.args.closes) c.row_count.result c.in_ok-below.below (length c.begin_rows.new.buffer)
-    (c.row_count.ensures.value ∙ ap row_count c.deref-2.ensures.value) c.in_ok-below.ensures.row c.in_ok-below.ensures.added refl)
+    let enough = enough_begun c.args.layout c.args.dropped c.args.entries.now c.args.buffer.now c.begin_rows.new.buffer _ _ c.requires.columns
+    c.requires.bar_cells c.in_ok-placed.ensures.placed (c.row_count.ensures.value ∙ ap row_count c.deref-2.ensures.value) c.requires.last c.in_ok-below.ensures.row c.in_ok-below.ensures.added c.in_ok-below.ensures.small in
+    rows_for enough c.begin_rows.new.buffer refl c.deref-3.ensures.value
 
 pub draw_corners-requires-clause-bar_cells : goal.draw_corners-requires-clause-bar_cells
 draw_corners-requires-clause-bar_cells c =
-    subst (All (λ (e : PlacedEntry). HasBarCell c.args.layout e.entry)) (sym c.deref-4.ensures.value)
-    (entries_all (HasBarCell c.args.layout) (map (shifted c.args.dropped) c.args.entries.now)
-    c.in_ok-placed.placed.items c.in_ok-placed.ensures.placed.same
-    (shifted_bars c.args.layout c.args.dropped c.args.entries.now c.requires.bar_cells))
+    let enough = enough_begun c.args.layout c.args.dropped c.args.entries.now c.args.buffer.now c.begin_rows.new.buffer _ _ c.requires.columns
+    c.requires.bar_cells c.in_ok-placed.ensures.placed (c.row_count.ensures.value ∙ ap row_count c.deref-2.ensures.value) c.requires.last c.in_ok-below.ensures.row c.in_ok-below.ensures.added c.in_ok-below.ensures.small in
+    subst (All (λ (e : PlacedEntry). HasBarCell c.args.layout e.entry)) (sym c.deref-4.ensures.value) enough.bar_cells
 
 pub draw_corners-requires-clause-small : goal.draw_corners-requires-clause-small
-draw_corners-requires-clause-small c = omega (arith, c.in_ok-draw_connectors.ensures.draws.count, c.in_ok-below.ensures.small)
+draw_corners-requires-clause-small c =
+    let enough = enough_begun c.args.layout c.args.dropped c.args.entries.now c.args.buffer.now c.begin_rows.new.buffer _ _ c.requires.columns
+    c.requires.bar_cells c.in_ok-placed.ensures.placed (c.row_count.ensures.value ∙ ap row_count c.deref-2.ensures.value) c.requires.last c.in_ok-below.ensures.row c.in_ok-below.ensures.added c.in_ok-below.ensures.small in
+    let joined = count_connectors enough c.begin_rows.new.buffer refl c.deref-3.ensures.value c.draw_connectors.new.buffer c.in_ok-draw_connectors.ensures.painted in
+    omega (arith, joined, enough.small)
 
 pub draw_corners-requires-clause-rows : goal.draw_corners-requires-clause-rows
 draw_corners-requires-clause-rows c =
-    subst (All (HasRows (c.args.row + 1) (length c.draw_connectors.new.buffer))) (sym c.deref-4.ensures.value)
-    (rows_ready c.in_ok-placed.placed.items c.args.buffer.now c.begin_rows.new.buffer (separator_row c.args.layout.decor c.args.layout.gutter)
-    (bare_row c.args.layout.decor c.args.layout.gutter c.args.closes) c.row_count.result (c.args.row + 1) (length c.draw_connectors.new.buffer)
-    (c.row_count.ensures.value ∙ ap row_count c.deref-2.ensures.value) (sym c.requires.last)
-    c.in_ok-below.ensures.added c.in_ok-draw_connectors.ensures.draws.count)
+    let enough = enough_begun c.args.layout c.args.dropped c.args.entries.now c.args.buffer.now c.begin_rows.new.buffer _ _ c.requires.columns
+    c.requires.bar_cells c.in_ok-placed.ensures.placed (c.row_count.ensures.value ∙ ap row_count c.deref-2.ensures.value) c.requires.last c.in_ok-below.ensures.row c.in_ok-below.ensures.added c.in_ok-below.ensures.small in
+    let joined = count_connectors enough c.begin_rows.new.buffer refl c.deref-3.ensures.value c.draw_connectors.new.buffer c.in_ok-draw_connectors.ensures.painted in
+    rows_beside enough c.draw_connectors.new.buffer joined c.deref-4.ensures.value
 
 pub draw_stems-requires-clause-columns : goal.draw_stems-requires-clause-columns
-draw_stems-requires-clause-columns c = subst (All (λ (e : PlacedEntry). HasPlace e.entry)) (sym c.deref-5.ensures.value)
-    (entries_all HasPlace (map (shifted c.args.dropped) c.args.entries.now)
-    c.in_ok-placed.placed.items c.in_ok-placed.ensures.placed.same (shifted_places c.args.dropped c.args.entries.now c.requires.columns))
+draw_stems-requires-clause-columns c =
+    let enough = enough_begun c.args.layout c.args.dropped c.args.entries.now c.args.buffer.now c.begin_rows.new.buffer _ _ c.requires.columns
+    c.requires.bar_cells c.in_ok-placed.ensures.placed (c.row_count.ensures.value ∙ ap row_count c.deref-2.ensures.value) c.requires.last c.in_ok-below.ensures.row c.in_ok-below.ensures.added c.in_ok-below.ensures.small in
+    subst (All (λ (e : PlacedEntry). HasPlace e.entry)) (sym c.deref-5.ensures.value) enough.places
 
 pub draw_stems-requires-clause-small : goal.draw_stems-requires-clause-small
-draw_stems-requires-clause-small c = omega (arith, c.in_ok-draw_connectors.ensures.draws.count, c.in_ok-draw_corners.ensures.draws.draws.count, c.in_ok-below.ensures.small)
+draw_stems-requires-clause-small c =
+    let enough = enough_begun c.args.layout c.args.dropped c.args.entries.now c.args.buffer.now c.begin_rows.new.buffer _ _ c.requires.columns
+    c.requires.bar_cells c.in_ok-placed.ensures.placed (c.row_count.ensures.value ∙ ap row_count c.deref-2.ensures.value) c.requires.last c.in_ok-below.ensures.row c.in_ok-below.ensures.added c.in_ok-below.ensures.small in
+    let joined = count_connectors enough c.begin_rows.new.buffer refl c.deref-3.ensures.value c.draw_connectors.new.buffer c.in_ok-draw_connectors.ensures.painted in
+    let barred = count_corners enough c.draw_connectors.new.buffer joined c.deref-4.ensures.value c.draw_corners.new.buffer c.in_ok-draw_corners.ensures.painted in
+    omega (arith, barred, enough.small)
 
 pub draw_stems-requires-clause-rows : goal.draw_stems-requires-clause-rows
 draw_stems-requires-clause-rows c =
-    subst (All (HasRows c.in_ok-below.below (length c.draw_corners.new.buffer))) (sym c.deref-5.ensures.value)
-    (rows_ready c.in_ok-placed.placed.items c.args.buffer.now c.begin_rows.new.buffer (separator_row c.args.layout.decor c.args.layout.gutter)
-    (bare_row c.args.layout.decor c.args.layout.gutter c.args.closes) c.row_count.result c.in_ok-below.below (length c.draw_corners.new.buffer)
-    (c.row_count.ensures.value ∙ ap row_count c.deref-2.ensures.value)
-    c.in_ok-below.ensures.row c.in_ok-below.ensures.added
-    (c.in_ok-draw_corners.ensures.draws.draws.count ∙ c.in_ok-draw_connectors.ensures.draws.count))
+    let enough = enough_begun c.args.layout c.args.dropped c.args.entries.now c.args.buffer.now c.begin_rows.new.buffer _ _ c.requires.columns
+    c.requires.bar_cells c.in_ok-placed.ensures.placed (c.row_count.ensures.value ∙ ap row_count c.deref-2.ensures.value) c.requires.last c.in_ok-below.ensures.row c.in_ok-below.ensures.added c.in_ok-below.ensures.small in
+    let joined = count_connectors enough c.begin_rows.new.buffer refl c.deref-3.ensures.value c.draw_connectors.new.buffer c.in_ok-draw_connectors.ensures.painted in
+    let barred = count_corners enough c.draw_connectors.new.buffer joined c.deref-4.ensures.value c.draw_corners.new.buffer c.in_ok-draw_corners.ensures.painted in
+    rows_for enough c.draw_corners.new.buffer barred c.deref-5.ensures.value
 
 pub draw_labels-requires-clause-columns : goal.draw_labels-requires-clause-columns
-draw_labels-requires-clause-columns c = subst (All (λ (e : PlacedEntry). HasPlace e.entry)) (sym c.deref-6.ensures.value)
-    (entries_all HasPlace (map (shifted c.args.dropped) c.args.entries.now)
-    c.in_ok-placed.placed.items c.in_ok-placed.ensures.placed.same (shifted_places c.args.dropped c.args.entries.now c.requires.columns))
+draw_labels-requires-clause-columns c =
+    let enough = enough_begun c.args.layout c.args.dropped c.args.entries.now c.args.buffer.now c.begin_rows.new.buffer _ _ c.requires.columns
+    c.requires.bar_cells c.in_ok-placed.ensures.placed (c.row_count.ensures.value ∙ ap row_count c.deref-2.ensures.value) c.requires.last c.in_ok-below.ensures.row c.in_ok-below.ensures.added c.in_ok-below.ensures.small in
+    subst (All (λ (e : PlacedEntry). HasPlace e.entry)) (sym c.deref-6.ensures.value) enough.places
 
 pub draw_labels-requires-clause-small : goal.draw_labels-requires-clause-small
-draw_labels-requires-clause-small c = omega (arith, c.in_ok-draw_connectors.ensures.draws.count, c.in_ok-draw_corners.ensures.draws.draws.count, (c.in_ok-draw_stems.ensures.draws 0 (λ k d within. omega arith)).count, c.in_ok-below.ensures.small)
+draw_labels-requires-clause-small c =
+    let enough = enough_begun c.args.layout c.args.dropped c.args.entries.now c.args.buffer.now c.begin_rows.new.buffer _ _ c.requires.columns
+    c.requires.bar_cells c.in_ok-placed.ensures.placed (c.row_count.ensures.value ∙ ap row_count c.deref-2.ensures.value) c.requires.last c.in_ok-below.ensures.row c.in_ok-below.ensures.added c.in_ok-below.ensures.small in
+    let joined = count_connectors enough c.begin_rows.new.buffer refl c.deref-3.ensures.value c.draw_connectors.new.buffer c.in_ok-draw_connectors.ensures.painted in
+    let barred = count_corners enough c.draw_connectors.new.buffer joined c.deref-4.ensures.value c.draw_corners.new.buffer c.in_ok-draw_corners.ensures.painted in
+    let stemmed = count_stems enough c.draw_corners.new.buffer barred c.deref-5.ensures.value c.draw_stems.new.buffer c.in_ok-draw_stems.ensures.painted in
+    omega (arith, stemmed, enough.small)
 
 pub draw_labels-requires-clause-rows : goal.draw_labels-requires-clause-rows
 draw_labels-requires-clause-rows c =
-    subst (All (HasRows c.in_ok-below.below (length c.draw_stems.new.buffer))) (sym c.deref-6.ensures.value)
-    (rows_ready c.in_ok-placed.placed.items c.args.buffer.now c.begin_rows.new.buffer (separator_row c.args.layout.decor c.args.layout.gutter)
-    (bare_row c.args.layout.decor c.args.layout.gutter c.args.closes) c.row_count.result c.in_ok-below.below (length c.draw_stems.new.buffer)
-    (c.row_count.ensures.value ∙ ap row_count c.deref-2.ensures.value)
-    c.in_ok-below.ensures.row c.in_ok-below.ensures.added
-    ((c.in_ok-draw_stems.ensures.draws 0 (λ k d within. omega arith)).count ∙ c.in_ok-draw_corners.ensures.draws.draws.count
-    ∙ c.in_ok-draw_connectors.ensures.draws.count))
+    let enough = enough_begun c.args.layout c.args.dropped c.args.entries.now c.args.buffer.now c.begin_rows.new.buffer _ _ c.requires.columns
+    c.requires.bar_cells c.in_ok-placed.ensures.placed (c.row_count.ensures.value ∙ ap row_count c.deref-2.ensures.value) c.requires.last c.in_ok-below.ensures.row c.in_ok-below.ensures.added c.in_ok-below.ensures.small in
+    let joined = count_connectors enough c.begin_rows.new.buffer refl c.deref-3.ensures.value c.draw_connectors.new.buffer c.in_ok-draw_connectors.ensures.painted in
+    let barred = count_corners enough c.draw_connectors.new.buffer joined c.deref-4.ensures.value c.draw_corners.new.buffer c.in_ok-draw_corners.ensures.painted in
+    let stemmed = count_stems enough c.draw_corners.new.buffer barred c.deref-5.ensures.value c.draw_stems.new.buffer c.in_ok-draw_stems.ensures.painted in
+    rows_for enough c.draw_stems.new.buffer stemmed c.deref-6.ensures.value
 
 pub draw_labels-requires-clause-labels : goal.draw_labels-requires-clause-labels
 draw_labels-requires-clause-labels c =
@@ -128,47 +137,46 @@ draw_labels-requires-clause-short c =
     subst (All (λ (e : PlacedEntry). Q e.entry)) (sym c.deref-6.ensures.value) (entries_all Q (map (shifted c.args.dropped) c.args.entries.now) c.in_ok-placed.placed.items c.in_ok-placed.ensures.placed.same (labels_short c.args.dropped c.args.entries.now c.requires.labels))
 
 pub draw_marks-requires-clause-columns : goal.draw_marks-requires-clause-columns
-draw_marks-requires-clause-columns c = λ k d within. ((entries_all HasPlace (map (shifted c.args.dropped) c.args.entries.now) c.in_ok-placed.placed.items c.in_ok-placed.ensures.placed.same (shifted_places c.args.dropped c.args.entries.now c.requires.columns)) k d within).near
+draw_marks-requires-clause-columns c =
+    let enough = enough_begun c.args.layout c.args.dropped c.args.entries.now c.args.buffer.now c.begin_rows.new.buffer _ _ c.requires.columns
+    c.requires.bar_cells c.in_ok-placed.ensures.placed (c.row_count.ensures.value ∙ ap row_count c.deref-2.ensures.value) c.requires.last c.in_ok-below.ensures.row c.in_ok-below.ensures.added c.in_ok-below.ensures.small in
+    λ k d within. (enough.places k d within).near
 
 -- the entries in the order of painting
 pub cut_wide-requires-clause-columns : goal.cut_wide-requires-clause-columns
 cut_wide-requires-clause-columns c =
-    subst (All (λ (e : PlacedEntry). HasPlace e.entry)) (sym c.deref-7.ensures.value)
-    (All-permutation (λ (e : PlacedEntry). HasPlace
-    e.entry) c.in_ok-placed.placed.items c.draw_marks.new.placed.items c.in_ok-draw_marks.ensures.same
-    (entries_all HasPlace (map (shifted c.args.dropped) c.args.entries.now)
-    c.in_ok-placed.placed.items c.in_ok-placed.ensures.placed.same (shifted_places c.args.dropped c.args.entries.now c.requires.columns)))
+    let enough = enough_begun c.args.layout c.args.dropped c.args.entries.now c.args.buffer.now c.begin_rows.new.buffer _ _ c.requires.columns
+    c.requires.bar_cells c.in_ok-placed.ensures.placed (c.row_count.ensures.value ∙ ap row_count c.deref-2.ensures.value) c.requires.last c.in_ok-below.ensures.row c.in_ok-below.ensures.added c.in_ok-below.ensures.small in
+    let placed = c.in_ok-placed.placed.items in
+    subst (All (λ (e : PlacedEntry). HasPlace e.entry)) (sym (c.deref-7.ensures.value ∙ c.in_ok-draw_marks.ensures.order)) (All-permutation (λ (e : PlacedEntry). HasPlace e.entry) placed (painting_order placed) (IsPermutation-painting_order placed) enough.places)
 
 pub cut_wide-requires-clause-count : goal.cut_wide-requires-clause-count
 cut_wide-requires-clause-count c =
-    ap length c.deref-8.ensures.value ∙ c.in_ok-overlapped.ensures.count ∙ ap length c.deref.ensures.value ∙ sym (length_permutation c.in_ok-placed.placed.items c.draw_marks.new.placed.items c.in_ok-draw_marks.ensures.same) ∙ sym (ap length c.deref-7.ensures.value)
+    let placed = c.in_ok-placed.placed.items in
+    ap length c.deref-8.ensures.value ∙ c.in_ok-overlapped.ensures.count ∙ ap length c.deref.ensures.value ∙ sym (length_permutation placed (painting_order placed) (IsPermutation-painting_order placed)) ∙ sym (ap length (c.deref-7.ensures.value ∙ c.in_ok-draw_marks.ensures.order))
 
 -- no row is added or taken after those that are begun
 pub cut_wide-requires-clause-rows : goal.cut_wide-requires-clause-rows
 cut_wide-requires-clause-rows c =
-    let count = c.row_count.ensures.value ∙ ap row_count c.deref-2.ensures.value in
-    let begun = rows_begun c.args.buffer.now c.begin_rows.new.buffer (separator_row c.args.layout.decor c.args.layout.gutter)
-    (bare_row c.args.layout.decor c.args.layout.gutter c.args.closes)
-    c.row_count.result (omega (arith, count, row_count_some c.in_ok-placed.placed.items)) c.in_ok-below.ensures.added in
-    let long : length c.draw_labels.new.buffer ≡ length c.args.buffer.now + c.row_count.result =
-    (c.in_ok-draw_labels.ensures.draws 0 (λ k d within. omega arith)).count
-    ∙ (c.in_ok-draw_stems.ensures.draws 0 (λ k d within. omega arith)).count ∙ c.in_ok-draw_corners.ensures.draws.draws.count
-    ∙ c.in_ok-draw_connectors.ensures.draws.count ∙ begun in
-    let there : c.in_ok-below.below < length c.draw_labels.new.buffer = omega (arith, long, c.in_ok-below.ensures.row, count, row_count_some c.in_ok-placed.placed.items) in
-    omega (arith, c.in_ok-draw_marks.ensures.marked.painted.count there, there, c.in_ok-below.ensures.row, c.requires.last)
+    let enough = enough_begun c.args.layout c.args.dropped c.args.entries.now c.args.buffer.now c.begin_rows.new.buffer _ _ c.requires.columns
+    c.requires.bar_cells c.in_ok-placed.ensures.placed (c.row_count.ensures.value ∙ ap row_count c.deref-2.ensures.value) c.requires.last c.in_ok-below.ensures.row c.in_ok-below.ensures.added c.in_ok-below.ensures.small in
+    let joined = count_connectors enough c.begin_rows.new.buffer refl c.deref-3.ensures.value c.draw_connectors.new.buffer c.in_ok-draw_connectors.ensures.painted in
+    let barred = count_corners enough c.draw_connectors.new.buffer joined c.deref-4.ensures.value c.draw_corners.new.buffer c.in_ok-draw_corners.ensures.painted in
+    let stemmed = count_stems enough c.draw_corners.new.buffer barred c.deref-5.ensures.value c.draw_stems.new.buffer c.in_ok-draw_stems.ensures.painted in
+    let labelled = count_labels enough c.draw_stems.new.buffer stemmed c.deref-6.ensures.value c.draw_labels.new.buffer c.in_ok-draw_labels.ensures.painted in
+    let marked = count_marks enough _ c.draw_labels.new.buffer c.draw_marks.new.buffer labelled c.in_ok-draw_marks.ensures.painted in
+    omega (arith, marked, enough.there, enough.is)
 
 pub cut_wide-requires-clause-small : goal.cut_wide-requires-clause-small
 cut_wide-requires-clause-small c =
-    let count = c.row_count.ensures.value ∙ ap row_count c.deref-2.ensures.value in
-    let begun = rows_begun c.args.buffer.now c.begin_rows.new.buffer (separator_row c.args.layout.decor c.args.layout.gutter)
-    (bare_row c.args.layout.decor c.args.layout.gutter c.args.closes)
-    c.row_count.result (omega (arith, count, row_count_some c.in_ok-placed.placed.items)) c.in_ok-below.ensures.added in
-    let same : length c.draw_labels.new.buffer ≡ length c.begin_rows.new.buffer =
-    (c.in_ok-draw_labels.ensures.draws 0 (λ k d within. omega arith)).count
-    ∙ (c.in_ok-draw_stems.ensures.draws 0 (λ k d within. omega arith)).count ∙ c.in_ok-draw_corners.ensures.draws.draws.count
-    ∙ c.in_ok-draw_connectors.ensures.draws.count in
-    let there : c.in_ok-below.below < length c.draw_labels.new.buffer = omega (arith, same, begun, c.in_ok-below.ensures.row, count, row_count_some c.in_ok-placed.placed.items) in
-    omega (arith, c.in_ok-draw_marks.ensures.marked.painted.count there, same, c.in_ok-below.ensures.small)
+    let enough = enough_begun c.args.layout c.args.dropped c.args.entries.now c.args.buffer.now c.begin_rows.new.buffer _ _ c.requires.columns
+    c.requires.bar_cells c.in_ok-placed.ensures.placed (c.row_count.ensures.value ∙ ap row_count c.deref-2.ensures.value) c.requires.last c.in_ok-below.ensures.row c.in_ok-below.ensures.added c.in_ok-below.ensures.small in
+    let joined = count_connectors enough c.begin_rows.new.buffer refl c.deref-3.ensures.value c.draw_connectors.new.buffer c.in_ok-draw_connectors.ensures.painted in
+    let barred = count_corners enough c.draw_connectors.new.buffer joined c.deref-4.ensures.value c.draw_corners.new.buffer c.in_ok-draw_corners.ensures.painted in
+    let stemmed = count_stems enough c.draw_corners.new.buffer barred c.deref-5.ensures.value c.draw_stems.new.buffer c.in_ok-draw_stems.ensures.painted in
+    let labelled = count_labels enough c.draw_stems.new.buffer stemmed c.deref-6.ensures.value c.draw_labels.new.buffer c.in_ok-draw_labels.ensures.painted in
+    let marked = count_marks enough _ c.draw_labels.new.buffer c.draw_marks.new.buffer labelled c.in_ok-draw_marks.ensures.painted in
+    omega (arith, marked, enough.small)
 
 pub returns-then-is_empty : goal.returns-then-is_empty
 returns-then-is_empty c =
@@ -186,8 +194,9 @@ returns c =
     let es = map (shifted c.args.dropped) c.args.entries.now in
     let layout = c.args.layout in
     let placed = c.in_ok-placed.placed.items in
-    let after = c.draw_marks.new.placed.items in
+    let after = painting_order placed in
     let f : PlacedEntry → LineAnnotation = λ e. e.entry in
+    let old = c.args.buffer.now in
     let sep = separator_row layout.decor layout.gutter in
     let end = bare_row layout.decor layout.gutter c.args.closes in
     let given : 0 < length c.args.entries.now = grind arith in
@@ -200,82 +209,49 @@ returns c =
     let labelled = c.draw_labels.new.buffer in
     let new = c.draw_marks.new.buffer in
     let below = c.in_ok-below.below in
-    let no_lines = subst (λ (ps : List PlacedEntry). All (λ (e : PlacedEntry). is_single e.entry ≡ true) ps → joined ≡ begun) c.deref-3.ensures.value c.in_ok-draw_connectors.ensures.none in
-    let no_bars = subst (λ (ps : List PlacedEntry). All (λ (e : PlacedEntry). is_single e.entry ≡ true) ps → barred ≡ joined) c.deref-4.ensures.value c.in_ok-draw_corners.ensures.none in
-    let stems = subst (λ ps. (from : ℕ) → All (λ (e : PlacedEntry). StandsFrom layout.code from e.entry) ps → DrawsFrom below from barred stemmed) c.deref-5.ensures.value c.in_ok-draw_stems.ensures.draws in
-    let no_stems = subst (λ ps. All (λ e. has_stem e ≡ false) ps → stemmed ≡ barred) c.deref-5.ensures.value c.in_ok-draw_stems.ensures.none in
-    let labels = subst (λ ps. (from : ℕ) → All (λ (e : PlacedEntry). StandsFrom layout.code from e.entry) ps → DrawsFrom below from stemmed labelled) c.deref-6.ensures.value c.in_ok-draw_labels.ensures.draws in
-    let stem_starts = subst (λ ps. MarksStarts layout.code ps barred stemmed) c.deref-5.ensures.value c.in_ok-draw_stems.ensures.starts in
-    let no_labels = subst (λ ps. All (λ e. has_label e ≡ false) ps → labelled ≡ stemmed) c.deref-6.ensures.value c.in_ok-draw_labels.ensures.none in
-    let lone = subst (λ ps. (e : PlacedEntry) → ps ≡ e ∷ [] → e.position ≡ 0 → 0 < e.entry.end.display → has_label e ≡ true
-    → labelled ≡ cells_written stemmed below (layout.code + e.entry.end.display + 1) (text_cells (label_role e.entry.kind) (label_text e.entry)))
-    c.deref-6.ensures.value c.in_ok-draw_labels.ensures.lone in
-    let wide : wide_entries c.args.room layout.decor (map f c.deref-7.result.now) ≡ wide_entries c.args.room layout.decor es =
-    ap (λ ps. wide_entries c.args.room layout.decor (map f ps)) c.deref-7.ensures.value
-    ∙ wide_entries-permutation c.args.room layout.decor es (map f after)
-    (IsPermutation-trans es (map f placed) (map f after)
-    c.in_ok-placed.ensures.placed.same (IsPermutation-map f placed after c.in_ok-draw_marks.ensures.same)) in
-    let places : All (λ (e : PlacedEntry). HasPlace e.entry) placed = entries_all HasPlace es placed c.in_ok-placed.ensures.placed.same (shifted_places c.args.dropped c.args.entries.now c.requires.columns) in
-    let written : All (StandsWhole layout below labelled) placed = subst (λ (ps : List PlacedEntry). ArePlaced es ps → All (StandsWhole layout below labelled) ps) c.deref-6.ensures.value (c.in_ok-draw_labels.ensures.stand es) c.in_ok-placed.ensures.placed in
-    let stands : All (StandsWhole layout below new) placed = c.in_ok-draw_marks.ensures.stand es c.in_ok-placed.ensures.placed places written in
-    let rows : List (List Cell) = c.args.buffer.now ++ replicate (row_count placed - 1) sep ++ end ∷ [] in
-    let begun_is : begun ≡ rows = c.in_ok-below.ensures.added ∙ ap (λ n. c.args.buffer.now ++ replicate (n - 1) sep ++ end ∷ []) count in
-    let long : length begun ≡ length c.args.buffer.now + row_count placed = rows_begun c.args.buffer.now begun sep end c.row_count.result (omega (arith, count, row_count_some placed)) c.in_ok-below.ensures.added ∙ ap (λ n. length c.args.buffer.now + n) count in
-    let joined_long : length joined ≡ length begun = c.in_ok-draw_connectors.ensures.draws.count in
-    let row_is : below ≡ c.args.row + 1 = c.in_ok-below.ensures.row ∙ c.requires.last in
+    let are = c.in_ok-placed.ensures.placed in
+    let enough = enough_begun c.args.layout c.args.dropped c.args.entries.now c.args.buffer.now c.begin_rows.new.buffer _ _ c.requires.columns
+    c.requires.bar_cells c.in_ok-placed.ensures.placed (c.row_count.ensures.value ∙ ap row_count c.deref-2.ensures.value) c.requires.last c.in_ok-below.ensures.row c.in_ok-below.ensures.added c.in_ok-below.ensures.small in
+    let rows : List (List Cell) = old ++ replicate (row_count placed - 1) sep ++ end ∷ [] in
+    let begun_is : begun ≡ rows = c.in_ok-below.ensures.added ∙ ap (λ n. old ++ replicate (n - 1) sep ++ end ∷ []) count in
+    let long : length begun ≡ length old + row_count placed = rows_begun old begun sep end c.row_count.result (omega (arith, count, row_count_some placed)) c.in_ok-below.ensures.added ∙ ap (λ n. length old + n) count in
     let lines : joined ≡ painted (connectors_of layout below placed) begun = c.in_ok-draw_connectors.ensures.painted ∙ ap (λ xs. painted (connectors_of layout below xs) begun) c.deref-3.ensures.value in
     let bars : barred ≡ painted (corners_of layout c.args.row (length joined) placed) joined = c.in_ok-draw_corners.ensures.painted ∙ ap (λ xs. painted (corners_of layout c.args.row (length joined) xs) joined) c.deref-4.ensures.value in
-    let hung : stemmed ≡ painted (stems_of layout below placed) barred = c.in_ok-draw_stems.ensures.painted ∙ ap (λ xs. painted (stems_of layout below xs) barred) c.deref-5.ensures.value in
-    let named : labelled ≡ painted (labels_of layout below placed) stemmed = c.in_ok-draw_labels.ensures.painted ∙ ap (λ xs. painted (labels_of layout below xs) stemmed) c.deref-6.ensures.value in
-    let all : ℕ = length c.args.buffer.now + row_count placed in
-    let new_is : new ≡ painted (strokes_of layout c.args.row all placed after) rows =
-    strokes_painted layout c.args.row below (length joined)
-    all placed after rows begun joined barred stemmed labelled new row_is (joined_long ∙ long)
-    begun_is lines bars hung named c.in_ok-draw_marks.ensures.painted in
-    let bar_cells : All (λ (e : PlacedEntry). HasBarCell layout e.entry) placed = entries_all (HasBarCell layout) es placed c.in_ok-placed.ensures.placed.same (shifted_bars layout c.args.dropped c.args.entries.now c.requires.bar_cells) in
-    let IsBeside : ℕ → ℕ → ℕ → Type 0 = λ n r at. BesideLabels layout n r at placed in
-    let IsStroke : List (List Cell) → ℕ → ℕ → Type 0 = λ g r at. IsStrokeCell layout.decor (cell_at g r at) in
-    let cells : (r at : ℕ) → layout.code ≤ at → IsStroke begun r at → IsBeside below r at → IsStroke new r at =
-    λ r at right before beside. subst (λ g. IsStroke g r at) (sym new_is)
-    (cell_of_strokes layout r at right c.args.row all placed after rows bar_cells (subst (λ g. IsStroke g r at) begun_is before)
-    (subst (λ n. IsBeside n r at) row_is beside)) in
+    let stems : stemmed ≡ painted (stems_of layout below placed) barred = c.in_ok-draw_stems.ensures.painted ∙ ap (λ xs. painted (stems_of layout below xs) barred) c.deref-5.ensures.value in
+    let labels : labelled ≡ painted (labels_of layout below placed) stemmed = c.in_ok-draw_labels.ensures.painted ∙ ap (λ xs. painted (labels_of layout below xs) stemmed) c.deref-6.ensures.value in
+    let marks : new ≡ painted (marks_of layout below after) labelled = c.in_ok-draw_marks.ensures.painted ∙ ap (λ xs. painted (marks_of layout below xs) labelled) c.in_ok-draw_marks.ensures.order in
+    let flags = c.in_ok-overlapped.overlapped.items in
+    let final = c.cut_wide.new.buffer in
+    let cut_to : List PlacedEntry → List Bool → List (List Cell) = λ ps fs. cut_rows layout.decor c.args.row (cuts_of layout c.args.room ps fs) new in
+    let final_is : final ≡ cut_to c.deref-7.result.now c.deref-8.result.now → final ≡ cut_to after flags = λ value. value ∙ ap (λ ps. cut_to ps c.deref-8.result.now) (c.deref-7.ensures.value ∙ c.in_ok-draw_marks.ensures.order) ∙ ap (cut_to after) c.deref-8.ensures.value in
     record {
-      added = on_ok_weaker c.cut_wide.result (λ cut above plain old_is bare_bars.
-          let long : length above + 1 ≡ length c.args.buffer.now = sym (ap length old_is ∙ length_push above plain) in
-          let source_row : c.args.row ≡ length above = omega (arith, long, c.requires.last) in
-          let marks_row : below ≡ length above + 1 = c.in_ok-below.ensures.row ∙ sym long in
-          let begins : begun ≡ (above ++ plain ∷ []) ++ replicate (row_count placed - 1) sep ++ end ∷ [] = c.in_ok-below.ensures.added ∙ ap (λ n. c.args.buffer.now ++ replicate (n - 1) sep ++ end ∷ []) count ∙ ap (λ old. old ++ replicate (row_count placed - 1) sep ++ end ∷ []) old_is in
+      added = on_ok_weaker c.cut_wide.result (λ value above plain old_is bare_bars.
+          let last : length above + 1 ≡ length old = sym (ap length old_is ∙ length_push above plain) in
+          let source_row : c.args.row ≡ length above = omega (arith, last, c.requires.last) in
+          let marks_row : below ≡ length above + 1 = c.in_ok-below.ensures.row ∙ sym last in
           strokes_drawn layout c.args.room c.args.closes es placed above plain begun joined barred stemmed labelled new c.requires.place
-          c.in_ok-placed.ensures.placed places bare_bars begins
-          (subst (λ n. DrawsFrom n (layout.gutter + 3) begun joined) marks_row c.in_ok-draw_connectors.ensures.draws)
-          c.in_ok-draw_connectors.ensures.bar_cells no_lines
-          (subst (λ n. DrawsBarCells layout n joined barred) source_row c.in_ok-draw_corners.ensures.draws)
-          no_bars (subst (λ n. (from : ℕ) → All (λ (e : PlacedEntry). StandsFrom layout.code from e.entry) placed
-          → DrawsFrom n from barred stemmed) marks_row stems)
-          no_stems (subst (λ n. (from : ℕ) → All (λ (e : PlacedEntry). StandsFrom layout.code from e.entry) placed
-          → DrawsFrom n from stemmed labelled) marks_row labels)
-          stem_starts c.in_ok-draw_labels.ensures.starts no_labels
-          (subst (λ n. (e : PlacedEntry) → placed ≡ e ∷ [] → e.position ≡ 0 → 0 < e.entry.end.display → has_label e ≡ true
-          → labelled ≡ cells_written stemmed n (layout.code + e.entry.end.display + 1)
-          (text_cells (label_role e.entry.kind) (label_text e.entry))) marks_row lone)
-          (subst (λ n. AreMarked layout placed n labelled new) marks_row c.in_ok-draw_marks.ensures.marked)
-          (subst (λ n. All (StandsWhole layout n new) placed) marks_row stands)
-          (λ r at right before beside. cells r at right before (subst (λ n. IsBeside n r at) (sym marks_row) beside))
-          c.cut_wide.new.buffer (wide_entries c.args.room layout.decor (map f c.deref-7.result.now))
-          some wide (λ up source marks rest same. cut up source marks rest (same ∙ sym source_row))) c.cut_wide.ensures.cut;
-      none = on_ok_weaker c.cut_wide.result (λ _ none. absurd (omega (arith, given, none))) c.cut_wide.ensures.cut;
-      painted = on_ok_two c.cut_wide.result (λ cut value _ above plain old_is.
-          let same_long : length labelled ≡ length begun = (c.in_ok-draw_labels.ensures.draws 0 (λ k d within. omega arith)).count ∙ (c.in_ok-draw_stems.ensures.draws 0 (λ k d within. omega arith)).count ∙ c.in_ok-draw_corners.ensures.draws.draws.count ∙ joined_long in
-          let there : below < length labelled = omega (arith, same_long, long, c.in_ok-below.ensures.row, row_count_some placed) in
+          are enough.places enough.bar_cells bare_bars (begun_is ∙ ap (λ top. top ++ replicate (row_count placed - 1) sep ++ end ∷ []) old_is)
+          (lines ∙ ap (λ n. painted (connectors_of layout n placed) begun) marks_row)
+          (bars ∙ ap (λ n. painted (corners_of layout n (length joined) placed) joined) source_row)
+          (stems ∙ ap (λ n. painted (stems_of layout n placed) barred) marks_row)
+          (labels ∙ ap (λ n. painted (labels_of layout n placed) stemmed) marks_row)
+          (marks ∙ ap (λ n. painted (marks_of layout n after) labelled) marks_row)
+          final flags some (final_is value ∙ ap (λ n. cut_rows layout.decor n (cuts_of layout c.args.room after flags) new) source_row)) c.cut_wide.ensures.value;
+      none = on_ok_weaker c.cut_wide.result (λ _ none. absurd (omega (arith, given, none))) c.cut_wide.ensures.value;
+      painted = on_ok_weaker c.cut_wide.result (λ value _ above plain old_is.
           let last_row : c.args.row ≡ length above = omega (arith, c.requires.last, ap length old_is, length_push above plain) in
-          let all_rows : length new ≡ all = c.in_ok-draw_marks.ensures.marked.painted.count there ∙ same_long ∙ long in
-          let wide_count : ℕ = wide_entries c.args.room layout.decor (map f c.deref-7.result.now) in
-          let marked = c.in_ok-draw_marks.ensures in
-          let flags = c.in_ok-overlapped.overlapped.items in
+          let all : ℕ = length old + row_count placed in
+          let lined : length joined ≡ length begun = count_connectors enough c.begin_rows.new.buffer refl c.deref-3.ensures.value c.draw_connectors.new.buffer c.in_ok-draw_connectors.ensures.painted in
+          let new_is : new ≡ painted (strokes_of layout c.args.row all placed after) rows =
+          strokes_painted layout c.args.row below (length joined) all placed after rows begun joined barred stemmed labelled new enough.is
+          (lined ∙ long) begun_is lines bars stems labels marks in
+          let barred_long = count_corners enough c.draw_connectors.new.buffer lined c.deref-4.ensures.value c.draw_corners.new.buffer c.in_ok-draw_corners.ensures.painted in
+          let stemmed_long = count_stems enough c.draw_corners.new.buffer barred_long c.deref-5.ensures.value c.draw_stems.new.buffer c.in_ok-draw_stems.ensures.painted in
+          let labelled_long = count_labels enough c.draw_stems.new.buffer stemmed_long c.deref-6.ensures.value c.draw_labels.new.buffer c.in_ok-draw_labels.ensures.painted in
+          let all_rows : length new ≡ all = count_marks enough _ c.draw_labels.new.buffer c.draw_marks.new.buffer labelled_long c.in_ok-draw_marks.ensures.painted ∙ long in
           let is_wide : PlacedEntry → Bool = is_wide_at c.args.room layout.decor in
-          let flags_are : list_any is_wide placed ≡ true → flags ≡ overlapped placed = λ some_wide. c.in_ok-overlapped.ensures.value (ap (λ (l : Layout). list_any (is_wide_at c.args.room l.decor) c.deref.result.now) c.layout.view_is ∙ ap (list_any is_wide) c.deref.ensures.value ∙ some_wide) ∙ ap overlapped c.deref.ensures.value in
-          let cut_to : List PlacedEntry → List Bool → List (List Cell) = λ ps fs. cut_rows layout.decor c.args.row (cuts_of layout c.args.room ps fs) new in
-          let final_is = value ∙ ap (λ ps. cut_to ps c.deref-8.result.now) c.deref-7.ensures.value ∙ ap (cut_to after) c.deref-8.ensures.value in
-          painted_added layout c.args.room c.args.closes es placed after flags above plain c.args.buffer.now new c.cut_wide.new.buffer c.args.row wide_count
-          c.in_ok-placed.ensures.placed marked.order old_is last_row all_rows new_is wide marked.same flags_are final_is cut) c.cut_wide.ensures.cut c.cut_wide.ensures.value;
+          let flags_are : list_any is_wide placed ≡ true → flags ≡ overlapped placed =
+          λ some_wide. c.in_ok-overlapped.ensures.value (ap (λ (l : Layout). list_any (is_wide_at c.args.room l.decor) c.deref.result.now) c.layout.view_is ∙ ap (list_any is_wide) c.deref.ensures.value ∙ some_wide) ∙ ap overlapped c.deref.ensures.value in
+          painted_added layout c.args.room c.args.closes es placed flags above plain old new final c.args.row
+          are old_is last_row all_rows new_is flags_are (final_is value)) c.cut_wide.ensures.value;
     }

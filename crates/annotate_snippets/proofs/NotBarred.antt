@@ -1,0 +1,115 @@
+-- Rows without the bars of spans: each contradicts what is said of bars.
+use Rattle.std.proofs.Common.{◌≡◌, ℕ, ◌+◌, ◌<◌, ◌≤◌, Bool, true, false, List, ◌∷◌, ◌++◌, Contains, sym, ap, ◌∙◌, arith, inl, inr}
+use Rattle.std.specs.List.{slice_index_or}
+use Rattle.std.specs.Cow.{cow_str_bytes}
+use Rattle.std.proofs.lemmas.Bool.{cases_eq}
+use Rattle.snippet_model.specs.declared.snippet.Annotation.{Annotation}
+use Rattle.snippet_model.specs.declared.snippet.Snippet.{Snippet}
+use Rattle.snippet_style.specs.Cell.{Cell, SPACE}
+use Rattle.snippet_style.specs.Glyphs.{glyph_of}
+use Rattle.snippet_style.specs.declared.glyphs.DecorStyle.{DecorStyle}
+use Rattle.snippet_style.specs.declared.glyphs.DecorStyle.TheVariants.{Ascii, Unicode}
+use Rattle.snippet_view.specs.Annotated.{is_long}
+use Rattle.snippet_view.specs.Marked.{first_line, last_line}
+use Rattle.snippet_grid.specs.Grid.{cell_at}
+use Rattle.snippet_grid.specs.Layout.{Layout}
+use Rattle.snippet_strokes.specs.Bars.{Bar}
+use Rattle.snippet_strokes.specs.EndBars.{dotted_bar, end_corner, solid_bar}
+use Rattle.annotate_snippets.specs.declared.renderer.Renderer.{Renderer}
+use Rattle.annotate_snippets.specs.declared.renderer.frame.Frame.{Frame}
+use Rattle.annotate_snippets.specs.Drawn.{layout_in}
+use Rattle.annotate_snippets.specs.Page.{Elision, NamedRow, OfferedLine, Other, RemovedLine, RowName, SourceRow, rows_below}
+use Rattle.annotate_snippets.specs.SpanBars.{ShowsBars, bar_beside, bar_cell_of, bar_of_span, line_beside}
+
+-- no bar is a space
+no_space : (layout : Layout) (name : RowName) (bar : Bar) → bar_beside layout name bar ≡ SPACE → ⊥
+no_space layout name bar same = by_name name same
+  where
+    glyph : (decor : DecorStyle) (primary : Bool) (unicode unicode_context : ℕ) → 32 < unicode → 32 < unicode_context → glyph_of decor primary 124 124 unicode unicode_context ≡ 32 → ⊥
+    glyph Ascii true u v some more is = omega (arith, is)
+    glyph Ascii false u v some more is = omega (arith, is)
+    glyph Unicode true u v some more is = omega (arith, is, some)
+    glyph Unicode false u v some more is = omega (arith, is, more)
+
+    letter : (cell : Cell) → cell ≡ SPACE → cell.ch ≡ 32
+    letter cell is = ap (λ (c : Cell). c.ch) is
+
+    by_name : (x : RowName) → bar_beside layout x bar ≡ SPACE → ⊥
+    by_name (SourceRow k) is = glyph layout.decor bar.primary 0x2503 0x2502 (omega arith) (omega arith) (letter (solid_bar layout bar) is)
+    by_name Elision is = glyph layout.decor bar.primary 0x2507 0x2506 (omega arith) (omega arith) (letter (dotted_bar layout bar) is)
+    by_name (OfferedLine j) is = glyph layout.decor bar.primary 0x2503 0x2502 (omega arith) (omega arith) (letter (solid_bar layout bar) is)
+    by_name (RemovedLine i) is = glyph layout.decor bar.primary 0x2503 0x2502 (omega arith) (omega arith) (letter (solid_bar layout bar) is)
+    by_name Other is = glyph layout.decor bar.primary 0x2503 0x2502 (omega arith) (omega arith) (letter (solid_bar layout bar) is)
+
+module _ (r : Renderer) (frame : Frame) (s : Snippet Annotation) (rows : List NamedRow) (shown : ShowsBars r frame s rows) (above : List NamedRow) (row : NamedRow) (below : List NamedRow) (is : rows ≡ above ++ row ∷ below) where
+  -- the row stands between the lines of a span of several lines
+  record GoesPast (a : Annotation) : Type 0 where
+    among : Contains s.markers.items a
+    long : is_long (cow_str_bytes s.source) a ≡ true
+    first : first_line (cow_str_bytes s.source) a < line_beside above row.name
+    last : line_beside above row.name < last_line (cow_str_bytes s.source) a
+
+  has_bar : (a : Annotation) → GoesPast a → slice_index_or row.cells (bar_cell_of frame s a) SPACE ≡ SPACE → ⊥
+  has_bar a past empty =
+      let bar = shown.stand a past.among past.long above row below is past.first past.last in
+      no_space (layout_in r frame) row.name (bar_of_span s a) (sym bar ∙ empty)
+
+  -- a space in the cell of a bar, beside a line between the first and the last of its span:
+  --
+  --     1 |   a {
+  --       |  ___^
+  --     2 |     b
+  --     3 | | }
+  --       | |_^
+  pub bar_left_out : (a : Annotation) → Contains s.markers.items a → is_long (cow_str_bytes s.source) a ≡ true
+      → first_line (cow_str_bytes s.source) a < line_beside above row.name → line_beside above row.name < last_line (cow_str_bytes s.source) a
+      → slice_index_or row.cells (bar_cell_of frame s a) SPACE ≡ SPACE → ⊥
+  bar_left_out a among long first last empty = has_bar a (record { among = among; long = long; first = first; last = last }) empty
+
+  -- a space in the cell of a bar, beside the last line of its span:
+  --
+  --     1 |   a {
+  --       |  ___^
+  --     2 |   }
+  --       | |_^
+  pub bar_left_out_at_its_end : (a : Annotation) → Contains s.markers.items a → is_long (cow_str_bytes s.source) a ≡ true → row.name ≡ SourceRow (last_line (cow_str_bytes s.source) a) → slice_index_or row.cells (bar_cell_of frame s a) SPACE ≡ SPACE → ⊥
+  bar_left_out_at_its_end a among long last empty =
+      let ends = shown.end a among long above row below is last in
+      no_space (layout_in r frame) Other (bar_of_span s a) (sym (ends.beside 0 ends.below) ∙ empty)
+
+  -- no corner at which the bar ends, in any row of the last line of its span:
+  --
+  --     2 ┃   }
+  --       ┃━━━┛
+  pub corner_left_out : (a : Annotation) → Contains s.markers.items a → is_long (cow_str_bytes s.source) a ≡ true → row.name ≡ SourceRow (last_line (cow_str_bytes s.source) a)
+      → ((i : ℕ) → cell_at (row.cells ∷ rows_below below) i (bar_cell_of frame s a) ≡ end_corner (layout_in r frame) (bar_of_span s a) → ⊥) → ⊥
+  corner_left_out a among long last none =
+      let ends = shown.end a among long above row below is last in
+      none ends.corner ends.corner_is
+
+  -- the bars of two spans in one cell, beside a line between the first and the last of both, so that spaces stand in all other cells of
+  -- bars:
+  --
+  --     1 |   a {
+  --       |  ___^
+  --     2 | | b {
+  --       | |___^
+  --     3 | |   c
+  pub bars_all_in_one_column : (a b : Annotation) → Contains s.markers.items a → Contains s.markers.items b → is_long (cow_str_bytes s.source) a ≡ true → is_long (cow_str_bytes s.source) b ≡ true
+      → first_line (cow_str_bytes s.source) a < line_beside above row.name → line_beside above row.name < last_line (cow_str_bytes s.source) a
+      → first_line (cow_str_bytes s.source) b < line_beside above row.name → line_beside above row.name < last_line (cow_str_bytes s.source) b
+      → (a.span.start ≡ b.span.start → a.span.end ≡ b.span.end → ⊥)
+      → (column : ℕ) → ((c : ℕ) → frame.gutter + 3 ≤ c → c < frame.code → (c ≡ column → ⊥) → slice_index_or row.cells c SPACE ≡ SPACE) → ⊥
+  bars_all_in_one_column a b among-a among-b long-a long-b first-a last-a first-b last-b differ column spaces =
+      let at-a : bar_cell_of frame s a ≡ column = in_column a (record { among = among-a; long = long-a; first = first-a; last = last-a }) in
+      let at-b : bar_cell_of frame s b ≡ column = in_column b (record { among = among-b; long = long-b; first = first-b; last = last-b }) in
+      let same = shown.apart a b among-a among-b long-a long-b (omega (arith, first-a, last-b)) (omega (arith, first-b, last-a)) (at-a ∙ sym at-b) in
+      differ same.0 same.1
+    where
+      in_column : (x : Annotation) → GoesPast x → bar_cell_of frame s x ≡ column
+      in_column x past =
+          let within = shown.within x past.among past.long in
+          elim (cases_eq (bar_cell_of frame s x) column) [
+            | inl same ↦ same
+            | inr apart ↦ absurd (has_bar x past (spaces (bar_cell_of frame s x) within.0 (omega (arith, within.1)) apart))
+          ]

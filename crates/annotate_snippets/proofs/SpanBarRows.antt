@@ -1,0 +1,386 @@
+-- Beside the rows of a snippet's lines stand the bars of its spans.
+use Rattle.std.proofs.Common.{◌≡◌, ℕ, zero, suc, ◌+◌, ◌-◌, ◌<◌, ◌≤◌, ◌==◌, ◌&&◌, Bool, true, false, not, cond, eqb, List, [], ◌∷◌, ◌++◌, ◌⊎◌, fold, map, length, get_or, inl, inr, refl, sym, ap, subst, ◌∙◌, arith}
+use Rattle.std.specs.List.{All, Contains, filter}
+use Rattle.std.specs.Cow.{cow_str_bytes}
+use Rattle.std.proofs.lemmas.Bool.{and_from, and_parts, cond_both, eq-eqb, eqb-true}
+use Rattle.std.proofs.lemmas.Bool.Decides.{nat_tests}
+use Rattle.std.proofs.lemmas.List.Elements.{All-contains, All-filter, All-head, All-nil, All-tail}
+use Rattle.snippet_model.specs.AnnotationKind.{is_primary}
+use Rattle.snippet_model.specs.declared.snippet.Annotation.{Annotation}
+use Rattle.snippet_model.specs.declared.snippet.AnnotationKind.{AnnotationKind}
+use Rattle.snippet_model.specs.declared.snippet.AnnotationKind.TheVariants.{Primary, Context, Visible}
+use Rattle.snippet_model.specs.declared.snippet.Snippet.{Snippet}
+use Rattle.snippet_style.specs.Cell.{Cell, SPACE}
+use Rattle.snippet_lines.specs.declared.place.Loc.{Loc}
+use Rattle.snippet_lines.specs.Lines.{Source, source_lines}
+use Rattle.snippet_lines.specs.Place.{end_location, line_of, location_of, locations_of, start_location}
+use Rattle.snippet_lines.specs.Span.{IsSpan}
+use Rattle.snippet_view.specs.declared.depths.LongExtent.{LongExtent}
+use Rattle.snippet_view.specs.Annotated.{PartEntry, deepest, depth_of, is_long, long_entry, long_place, long_spans, seen_part, stands_before}
+use Rattle.snippet_view.specs.Depths.{same_place}
+use Rattle.snippet_view.specs.declared.entries.LineAnnotation.{LineAnnotation}
+use Rattle.snippet_view.specs.declared.entries.LineAnnotationType.{LineAnnotationType}
+use Rattle.snippet_view.specs.declared.entries.LineAnnotationType.TheVariants.{MultilineEnd, MultilineStart}
+use Rattle.snippet_view.specs.Mark.{is_marking, is_single_line}
+use Rattle.snippet_view.specs.Marked.{Entry, first_line, last_line}
+use Rattle.snippet_view.proofs.AmongLemmas.{Among, among_filter, among_in_order, among_map, any_among, any_cases, filter_cases, in_order_cases, map_cases}
+use Rattle.snippet_view.proofs.EntryFacts.{depth-within}
+use Rattle.snippet_view.proofs.PartLemmas.{All-unmapped}
+use Rattle.snippet_view.proofs.RawDepthLemmas.{same-refl, same-true}
+use Rattle.snippet_strokes.specs.Bars.{Bar, HasOwnDepth, bars_apart, ends_of_bars, has_depth}
+use Rattle.snippet_strokes.specs.Rows.{bare_elision_row}
+use Rattle.snippet_strokes.specs.EndBars.{BarBegins, BarEnds}
+use Rattle.snippet_strokes.proofs.AmongLaws.{all_from_among, among_contains, contains_among}
+use Rattle.snippet_strokes.proofs.EndBarLaws.{bar_begins, bar_ends, elision_stands}
+use Rattle.annotate_snippets.specs.declared.renderer.Renderer.{Renderer}
+use Rattle.annotate_snippets.specs.declared.renderer.frame.Frame.{Frame}
+use Rattle.annotate_snippets.specs.Drawn.{layout_in}
+use Rattle.annotate_snippets.specs.Gutter.{code_after, numbered_source}
+use Rattle.annotate_snippets.specs.LineRows.{AreRowsDrawn, IsRowDrawn, bars_on, entries_on, open_after}
+use Rattle.annotate_snippets.specs.Page.{Elision, IsAscending, NamedRow, OfferedLine, Other, RemovedLine, RowName, SourceRow, lines_named, rows_below}
+use Rattle.annotate_snippets.specs.Shown.{AreRowsOf}
+use Rattle.annotate_snippets.specs.SpanBars.{ShowsBars, bar_beside, bar_cell_of, bar_of_span, is_bar_primary, line_beside}
+use Rattle.annotate_snippets.proofs.DrawnLines.{bar_shown, bars_seen}
+use Rattle.annotate_snippets.proofs.LabelLemmas.{head_same, tail_same}
+use Rattle.annotate_snippets.proofs.SpanOpen.{AreOpen, alone, bar_at_place, end_here, goes_past, longer, no_end, no_start, none_open, one_place, open_lower, open_next, own_on_line, place_in, start_here}
+use Rattle.annotate_snippets.proofs.SpanParts.{is_primary_at}
+
+-- ---- the place of a span is its bytes
+
+starts_at : (s : Source) (start end : ℕ) → (locations_of s start end).0.byte ≡ start
+unfolding locations_of start_location location_of
+starts_at s start end = refl
+
+ends_at : (s : Source) (start end : ℕ) → (locations_of s start end).1.byte ≡ end
+unfolding locations_of start_location end_location location_of
+ends_at s start end =
+    cond_both (eqb start end) (start_location s start) (end_location s start end) (λ (l : Loc). l.byte ≡ end) (λ same. eqb-true start end same) (λ _. refl)
+
+place_from : Source → ℕ → ℕ → LongExtent
+place_from s start end =
+    let at = locations_of s start end in
+    record { from = at.0.byte; to = at.1.byte; first = at.0.line; last = at.1.line }
+
+-- spans of the same bytes have one place
+same_bytes : (s : Source) (a b : Annotation) → a.span.start ≡ b.span.start → a.span.end ≡ b.span.end → place_in s a ≡ place_in s b
+unfolding place_from
+same_bytes s a b starts ends =
+    ap (λ n. place_from s n a.span.end) starts ∙ ap (λ n. place_from s b.span.start n) ends
+
+-- and spans of one place the same bytes
+bytes_same : (s : Source) (a b : Annotation) → place_in s a ≡ place_in s b → (a.span.start ≡ b.span.start) × (a.span.end ≡ b.span.end)
+bytes_same s a b same =
+    (sym (starts_at s a.span.start a.span.end) ∙ ap (λ (p : LongExtent). p.from) same ∙ starts_at s b.span.start b.span.end, sym (ends_at s a.span.start a.span.end) ∙ ap (λ (p : LongExtent). p.to) same ∙ ends_at s b.span.start b.span.end)
+
+-- primary spans are marked
+primary_marks : (k : AnnotationKind) → is_primary k ≡ true → is_marking k ≡ true
+primary_marks Primary is = refl
+primary_marks Context is = cc
+primary_marks Visible is = cc
+
+-- a span of the bytes of one of several lines is of several lines
+long_too : (source : List ℕ) (a b : Annotation) → is_long source a ≡ true → is_marking b.kind ≡ true → b.span.start ≡ a.span.start → b.span.end ≡ a.span.end → is_long source b ≡ true
+long_too source a b long marking starts ends =
+    let first : first_line source b ≡ first_line source a = ap (line_of (source_lines source)) starts in
+    let last : last_line source b ≡ last_line source a = ap (line_of (source_lines source)) ends in
+    let single : is_single_line source b ≡ is_single_line source a = ap (λ n. n == first_line source b) last ∙ ap (λ n. last_line source a == n) first in
+    let parts = and_parts (is_marking a.kind) (not (is_single_line source a)) long in
+    and_from (is_marking b.kind) (not (is_single_line source b)) marking (ap not single ∙ parts.1)
+
+-- tests that pass where the other does are the same
+pass_alike : (x y : Bool) → (x ≡ true → y ≡ true) → (y ≡ true → x ≡ true) → x ≡ y
+pass_alike true y there back = sym (there refl)
+pass_alike false true there back = back refl
+pass_alike false false there back = refl
+
+module _ (s : Snippet Annotation) where
+  abbrev source : Source
+  source = numbered_source s
+
+  abbrev marks : List Annotation
+  marks = s.markers.items
+
+  abbrev bar_by_place : Annotation → Bar
+  bar_by_place a = bar_at_place source marks (place_in source a)
+
+  -- the bar of a span's place is primary where one of the spans of its bytes is
+  bar_given : (a : Annotation) → is_long source.text a ≡ true → bar_by_place a ≡ bar_of_span s a
+  bar_given a long =
+      ap (λ b. record { depth = depth_of source marks a; primary = b }) (pass_alike (is_primary_at (long_spans source marks) (place_in source a)) (is_bar_primary s a) given back)
+    where
+      given : is_primary_at (long_spans source marks) (place_in source a) ≡ true → is_bar_primary s a ≡ true
+      given there =
+          let d = any_cases (λ (d : Entry). is_primary d.kind && same_place (place_in source a) (long_place d)) (long_spans source marks) there in
+          let made = map_cases (long_entry source) (filter (is_long source.text) marks) d.0 (in_order_cases stands_before (map (long_entry source) (filter (is_long source.text) marks)) d.0 d.1) in
+          let b : Annotation = made.0 in
+          let among = filter_cases (is_long source.text) marks b made.1 in
+          let parts = and_parts (is_primary d.0.kind) (same_place (place_in source a) (long_place d.0)) d.2 in
+          let bytes = bytes_same source b a (ap long_place made.2 ∙ sym (same-true (place_in source a) (long_place d.0) parts.1)) in
+          let primary : is_primary b.kind ≡ true = ap (λ (e : Entry). is_primary e.kind) made.2 ∙ parts.0 in
+          any_among (λ (b : Annotation). is_primary b.kind && (b.span.start == a.span.start && b.span.end == a.span.end)) marks b among.0
+          (and_from (is_primary b.kind) (b.span.start == a.span.start && b.span.end == a.span.end) primary
+          (and_from (b.span.start == a.span.start) (b.span.end == a.span.end) (eq-eqb b.span.start a.span.start bytes.0) (eq-eqb b.span.end a.span.end bytes.1)))
+
+      back : is_bar_primary s a ≡ true → is_primary_at (long_spans source marks) (place_in source a) ≡ true
+      back there =
+          let found = any_cases (λ (b : Annotation). is_primary b.kind && (b.span.start == a.span.start && b.span.end == a.span.end)) marks there in
+          let b : Annotation = found.0 in
+          let parts = and_parts (is_primary b.kind) (b.span.start == a.span.start && b.span.end == a.span.end) found.2 in
+          let bytes = and_parts (b.span.start == a.span.start) (b.span.end == a.span.end) parts.1 in
+          let starts : b.span.start ≡ a.span.start = eqb-true b.span.start a.span.start bytes.0 in
+          let ends : b.span.end ≡ a.span.end = eqb-true b.span.end a.span.end bytes.1 in
+          let among = among_filter (is_long source.text) marks b found.1 (long_too source.text a b long (primary_marks b.kind parts.0) starts ends) in
+          let ordered = among_in_order stands_before (map (long_entry source) (filter (is_long source.text) marks)) (long_entry source b) (among_map (long_entry source) (filter (is_long source.text) marks) b among) in
+          let same : same_place (place_in source a) (place_in source b) ≡ true = ap (same_place (place_in source a)) (same_bytes source b a starts ends) ∙ same-refl (place_in source a) in
+          any_among (λ (d : Entry). is_primary d.kind && same_place (place_in source a) (long_place d)) (long_spans source marks) (long_entry source b) ordered (and_from (is_primary b.kind) (same_place (place_in source a) (place_in source b)) parts.0 same)
+
+-- ---- the lines that are left
+
+-- the numbers ascend from one on
+abbrev Climbs : ℕ → List ℕ → Type 0
+Climbs n [] = Unit {0}
+Climbs n (k ∷ ks) = (n ≤ k) × Climbs (k + 1) ks
+
+climbs_least : (n : ℕ) (ks : List ℕ) (k : ℕ) → Climbs n ks → Among ks k → n ≤ k
+climbs_least n [] k climbs here = absurd here
+climbs_least n (j ∷ ks) k climbs (inl same) = omega (arith, same, climbs.0)
+climbs_least n (j ∷ ks) k climbs (inr later) = omega (arith, climbs.0, climbs_least (j + 1) ks k climbs.1 later)
+
+climbs_from : (n : ℕ) (ks : List ℕ) → ((k : ℕ) (more : List ℕ) → ks ≡ k ∷ more → n ≤ k) → IsAscending ks → Climbs n ks
+climbs_from n [] first ascends = tt
+climbs_from n (j ∷ []) first ascends = (first j [] refl, tt)
+climbs_from n (j ∷ k ∷ ks) first ascends =
+    (first j (k ∷ ks) refl, climbs_from (j + 1) (k ∷ ks) (λ m more same. omega (arith, ascends.0, head_same k m ks more same)) ascends.1)
+
+-- a line stands above these, or is one of them
+abbrev IsPast : ℕ → List ℕ → ℕ → Type 0
+IsPast n ks line = (line < n) ⊎ Among ks line
+
+-- where it isn't the next it stands above it or below
+past_next : (n k : ℕ) (ks : List ℕ) (line : ℕ) → Climbs n (k ∷ ks) → IsPast n (k ∷ ks) line → (line < n) ⊎ (k ≤ line)
+past_next n k ks line climbs (inl before) = inl before
+past_next n k ks line climbs (inr (inl same)) = inr (omega (arith, same))
+past_next n k ks line climbs (inr (inr later)) = inr (omega (arith, climbs_least (k + 1) ks line climbs.1 later))
+
+past_after : (n k : ℕ) (ks : List ℕ) (line : ℕ) → n ≤ k → IsPast n (k ∷ ks) line → IsPast (k + 1) ks line
+past_after n k ks line up (inl before) = inl (omega (arith, before, up))
+past_after n k ks line up (inr (inl same)) = inl (omega (arith, same))
+past_after n k ks line up (inr (inr later)) = inr later
+
+-- the first line that comes after a row of this name, where that comes after those above it
+abbrev next_line : ℕ → RowName → ℕ
+next_line n (SourceRow k) = k + 1
+next_line n Elision = n
+next_line n (OfferedLine j) = n
+next_line n (RemovedLine i) = n
+next_line n Other = n
+
+-- the line beside which a row of this name stands, where that line comes after those above it
+abbrev here_line : ℕ → RowName → ℕ
+here_line n (SourceRow k) = k
+here_line n Elision = n
+here_line n (OfferedLine j) = n - 1
+here_line n (RemovedLine i) = n - 1
+here_line n Other = n - 1
+
+abbrev line_from : ℕ → List NamedRow → RowName → ℕ
+line_from n above name = here_line (fold (λ before k. k + 1) n (lines_named above)) name
+
+from_start : (above : List NamedRow) (name : RowName) → line_from 0 above name ≡ line_beside above name
+from_start above (SourceRow k) = refl
+from_start above Elision = refl
+from_start above (OfferedLine j) = refl
+from_start above (RemovedLine i) = refl
+from_start above Other = refl
+
+from_later : (n : ℕ) (first : RowName) (cells : List Cell) (above : List NamedRow) (name : RowName) → line_from n (record { name = first; cells = cells } ∷ above) name ≡ line_from (next_line n first) above name
+from_later n (SourceRow k) cells above name = refl
+from_later n Elision cells above name = refl
+from_later n (OfferedLine j) cells above name = refl
+from_later n (RemovedLine i) cells above name = refl
+from_later n Other cells above name = refl
+
+-- ---- the rows
+
+module _ (r : Renderer) (frame : Frame) (closes : Bool) (s : Snippet Annotation) (spans : All (λ a. IsSpan (cow_str_bytes s.source) a.span.start a.span.end) s.markers.items) where
+  abbrev Open : ℕ → List Bar → Type 0
+  Open k bars = AreOpen (source s) (marks s) k bars
+
+  -- a row beside line k has the bars of the spans that begin above it and end below
+  abbrev HasBars : RowName → ℕ → List Cell → Type 0
+  HasBars name k cells =
+      (a : Annotation) → Contains (marks s) a → is_long (cow_str_bytes s.source) a ≡ true → first_line (cow_str_bytes s.source) a < k → k < last_line (cow_str_bytes s.source) a
+      → get_or cells (bar_cell_of frame s a) SPACE ≡ bar_beside (layout_in r frame) name (bar_by_place s a)
+
+  -- so has each row of a line that is drawn
+  line_bars : (open_bars : List Bar) (k : ℕ) (row : List Cell) (rows : List NamedRow) → IsRowDrawn r frame closes s open_bars (SourceRow k) row rows → Open k open_bars → All (HasBars Other k) (row ∷ rows_below rows)
+  line_bars open_bars k row rows drawn are_open i d within a among long above below =
+      let all : List (List Cell) = row ∷ rows_below rows in
+      let bar : Bar = bar_by_place s a in
+      let past : Contains (bars_apart open_bars (bars_on s k)) bar = among_contains (bars_apart open_bars (bars_on s k)) bar (goes_past (source s) (marks s) spans k open_bars are_open a among long above below) in
+      let own : HasOwnDepth bar open_bars = alone (source s) (marks s) spans k open_bars are_open a among long above (omega (arith, below)) in
+      let only : HasOwnDepth bar (bars_apart open_bars (bars_on s k)) = All-filter (λ (b : Bar). not (has_depth (bars_on s k) b.depth)) (λ (b : Bar). b.depth ≡ bar.depth → b ≡ bar) open_bars own in
+      ap (λ (cells : List Cell). get_or cells (bar_cell_of frame s a) SPACE) (get_or_any all i d [] within) ∙ bar_shown r frame (closes && length (rows_below rows) == length rows) s open_bars k all drawn bar past only i within
+    where
+      get_or_any : (xs : List (List Cell)) (i : ℕ) (x y : List Cell) → i < length xs → get_or xs i x ≡ get_or xs i y
+      get_or_any [] i x y within = absurd (omega (arith, within))
+      get_or_any (z ∷ xs) zero x y within = refl
+      get_or_any (z ∷ xs) (suc i) x y within = get_or_any xs i x y (omega (arith, within))
+
+  -- and a row in place of lines
+  elision_bars : (open_bars : List Bar) (n : ℕ) (row : List Cell) (rows : List NamedRow) → IsRowDrawn r frame closes s open_bars Elision row rows → Open n open_bars → HasBars Elision n row
+  elision_bars open_bars n row rows drawn are_open a among long above below =
+      let layout = layout_in r frame in
+      let bar : Bar = bar_by_place s a in
+      let here : Contains open_bars bar = among_contains open_bars bar (are_open.all a among long above (omega (arith, below))) in
+      let own : HasOwnDepth bar open_bars = alone (source s) (marks s) spans n open_bars are_open a among long above (omega (arith, below)) in
+      ap (λ (cells : List Cell). get_or cells (bar_cell_of frame s a) SPACE) drawn.0 ∙ elision_stands layout bar open_bars (bare_elision_row r.decor_style frame.gutter) own here
+
+  -- what is known above some rows: which lines are left, and which bars are open
+  record IsReady (open_bars : List Bar) (n : ℕ) (rows : List NamedRow) : Type 0 where
+    named : AreRowsOf r frame closes s rows
+    drawn : AreRowsDrawn r frame closes s open_bars rows
+    are_open : Open n open_bars
+    lines : Climbs n (lines_named rows)
+    ends : (a : Annotation) → Contains (marks s) a → is_long (cow_str_bytes s.source) a ≡ true → IsPast n (lines_named rows) (first_line (cow_str_bytes s.source) a) × IsPast n (lines_named rows) (last_line (cow_str_bytes s.source) a)
+    below : All (HasBars Other (n - 1)) (rows_below rows)
+
+  -- a row has its bars, and the same is known below it
+  one_row : (open_bars : List Bar) (n : ℕ) (name : RowName) (cells : List Cell) (rows : List NamedRow) → IsReady open_bars n (record { name = name; cells = cells } ∷ rows)
+      → HasBars name (here_line n name) cells × IsReady (open_after s name open_bars) (next_line n name) rows
+  one_row open_bars n (SourceRow k) cells rows ready =
+      let ks : List ℕ = lines_named rows in
+      let up : n ≤ k = ready.lines.0 in
+      let here : Open k open_bars = open_lower (source s) (marks s) spans n k open_bars ready.are_open up (λ a among long.
+      let ends = ready.ends a among long in
+      (past_next n k ks (first_line (cow_str_bytes s.source) a) ready.lines ends.0, past_next n k ks (last_line (cow_str_bytes s.source) a) ready.lines ends.1)) in
+      let bars : All (HasBars Other k) (cells ∷ rows_below rows) = line_bars open_bars k cells rows ready.drawn.0 here in
+      let last : k ≡ k + 1 - 1 = omega arith in (
+        All-head (HasBars Other k) cells (rows_below rows) bars,
+        record {
+          named = ready.named.1;
+          drawn = ready.drawn.1;
+          are_open = open_next (source s) (marks s) spans k open_bars here;
+          lines = ready.lines.1;
+          ends = λ a among long. let ends = ready.ends a among long in (past_after n k ks (first_line (cow_str_bytes s.source) a) up ends.0, past_after n k ks (last_line (cow_str_bytes s.source) a) up ends.1);
+          below = subst (λ m. All (HasBars Other m) (rows_below rows)) last (All-tail (HasBars Other k) cells (rows_below rows) bars);
+        },
+      )
+  one_row open_bars n Elision cells rows ready = (
+    elision_bars open_bars n cells rows ready.drawn.0 ready.are_open,
+    record {
+      named = ready.named.1;
+      drawn = ready.drawn.1;
+      are_open = ready.are_open;
+      lines = ready.lines;
+      ends = ready.ends;
+      below = subst (All (HasBars Other (n - 1))) (sym ready.drawn.0.1) (All-nil (HasBars Other (n - 1)));
+    },
+  )
+  one_row open_bars n (OfferedLine j) cells rows ready = absurd ready.named.0
+  one_row open_bars n (RemovedLine i) cells rows ready = absurd ready.named.0
+  one_row open_bars n Other cells rows ready = (
+    All-head (HasBars Other (n - 1)) cells (rows_below rows) ready.below,
+    record {
+      named = ready.named.1;
+      drawn = ready.drawn.1;
+      are_open = ready.are_open;
+      lines = ready.lines;
+      ends = ready.ends;
+      below = All-tail (HasBars Other (n - 1)) cells (rows_below rows) ready.below;
+    },
+  )
+
+  all_rows : (open_bars : List Bar) (n : ℕ) (rows : List NamedRow) → IsReady open_bars n rows → (above : List NamedRow) (row : NamedRow) (below : List NamedRow) → rows ≡ above ++ row ∷ below → HasBars row.name (line_from n above row.name) row.cells
+  all_rows open_bars n [] ready [] row below is = cc
+  all_rows open_bars n [] ready (x ∷ above) row below is = cc
+  all_rows open_bars n (x ∷ rows) ready [] row below is =
+      subst (λ (y : NamedRow). HasBars y.name (here_line n y.name) y.cells) (head_same x row rows below is) (one_row open_bars n x.name x.cells rows ready).0
+  all_rows open_bars n (x ∷ rows) ready (y ∷ above) row below is =
+      let same : x ≡ y = head_same x y rows (above ++ row ∷ below) is in
+      let rest = all_rows (open_after s x.name open_bars) (next_line n x.name) rows (one_row open_bars n x.name x.cells rows ready).1 above row below (tail_same x y rows (above ++ row ∷ below) is) in
+      let line : line_from (next_line n x.name) above row.name ≡ line_from n (y ∷ above) row.name = sym (from_later n x.name x.cells above row.name) ∙ ap (λ z. line_from n (z ∷ above) row.name) same in
+      subst (λ k. HasBars row.name k row.cells) line rest
+
+  -- each row is drawn, where some bars are open above it
+  row_drawn : (open_bars : List Bar) (rows : List NamedRow) → AreRowsDrawn r frame closes s open_bars rows → (above : List NamedRow) (row : NamedRow) (below : List NamedRow) → rows ≡ above ++ row ∷ below → (bars : List Bar) × IsRowDrawn r frame closes s bars row.name row.cells below
+  row_drawn open_bars [] drawn [] row below is = cc
+  row_drawn open_bars [] drawn (y ∷ above) row below is = cc
+  row_drawn open_bars (x ∷ rows) drawn [] row below is =
+      let first : IsRowDrawn r frame closes s open_bars row.name row.cells rows = subst (λ (y : NamedRow). IsRowDrawn r frame closes s open_bars y.name y.cells rows) (head_same x row rows below is) drawn.0 in
+      (open_bars, subst (λ more. IsRowDrawn r frame closes s open_bars row.name row.cells more) (tail_same x row rows below is) first)
+  row_drawn open_bars (x ∷ rows) drawn (y ∷ above) row below is =
+      row_drawn (open_after s x.name open_bars) rows drawn.1 above row below (tail_same x y rows (above ++ row ∷ below) is)
+
+  module _ (a : Annotation) (among : Contains (marks s) a) (long : is_long (cow_str_bytes s.source) a ≡ true) (room : frame.gutter + 2 + depth_of (source s) (marks s) a < frame.code) where
+    abbrev bar : Bar
+    bar = bar_by_place s a
+
+    -- no entry of line k stands for this part of a span, where none of those of its spans does
+    none_there : (k : ℕ) (part : LineAnnotationType) (es : List LineAnnotation) → map seen_part es ≡ entries_on s k → ((p : PartEntry) → Among (entries_on s k) p → p.part ≡ part → ⊥) → All (λ (e : LineAnnotation). e.annotation_type ≡ part → ⊥) es
+    none_there k part es are none =
+        let P : PartEntry → Type 0 = λ p. p.part ≡ part → ⊥ in
+        All-unmapped P seen_part es (subst (All P) (sym are) (all_from_among P (entries_on s k) none))
+
+    -- the bar begins in the rows of the span's first line
+    line_begins : (open_bars : List Bar) (k : ℕ) (row : List Cell) (rows : List NamedRow) → IsRowDrawn r frame closes s open_bars (SourceRow k) row rows → first_line (cow_str_bytes s.source) a ≡ k → BarBegins (layout_in r frame) bar (row ∷ rows_below rows)
+    line_begins open_bars k row rows line here =
+        let ends : bars_on s k ≡ ends_of_bars line.entries = sym (bars_seen s k line.entries line.are) in
+        let own : Contains (ends_of_bars line.entries) bar = subst (λ bs. Contains bs bar) ends (among_contains (bars_on s k) bar (start_here (source s) (marks s) k a among long here)) in
+        let only : HasOwnDepth bar (ends_of_bars line.entries) = subst (HasOwnDepth bar) ends (own_on_line (source s) (marks s) spans k a among long (omega (arith, here)) (omega (arith, here, longer (source s) (marks s) spans a among long))) in
+        let none = none_there k (MultilineEnd bar.depth) line.entries line.are (no_end (source s) (marks s) spans k a among long here) in
+        bar_begins (layout_in r frame) bar room line.entries own only line.margin.term_width (closes && length (rows_below rows) == length rows) line.text line.dropped open_bars line.highlighted (row ∷ rows_below rows) line.drawn none
+
+    -- and ends in those of the last
+    line_ends : (open_bars : List Bar) (k : ℕ) (row : List Cell) (rows : List NamedRow) → IsRowDrawn r frame closes s open_bars (SourceRow k) row rows → last_line (cow_str_bytes s.source) a ≡ k → BarEnds (layout_in r frame) bar (row ∷ rows_below rows)
+    line_ends open_bars k row rows line here =
+        let ends : bars_on s k ≡ ends_of_bars line.entries = sym (bars_seen s k line.entries line.are) in
+        let own : Contains (ends_of_bars line.entries) bar = subst (λ bs. Contains bs bar) ends (among_contains (bars_on s k) bar (end_here (source s) (marks s) k a among long here)) in
+        let only : HasOwnDepth bar (ends_of_bars line.entries) = subst (HasOwnDepth bar) ends (own_on_line (source s) (marks s) spans k a among long (omega (arith, here, longer (source s) (marks s) spans a among long)) (omega (arith, here))) in
+        let none = none_there k (MultilineStart bar.depth) line.entries line.are (no_start (source s) (marks s) spans k a among long here) in
+        bar_ends (layout_in r frame) bar room line.entries own only line.margin.term_width (closes && length (rows_below rows) == length rows) line.text line.dropped open_bars line.highlighted (row ∷ rows_below rows) line.drawn none
+
+  -- so the rows of a snippet's lines show the bars of its spans
+  pub bars_shown : (rows : List NamedRow) → AreRowsOf r frame closes s rows → AreRowsDrawn r frame closes s [] rows → rows_below rows ≡ [] → IsAscending (lines_named rows)
+      → All (λ a. Contains (lines_named rows) (first_line (cow_str_bytes s.source) a) × Contains (lines_named rows) (last_line (cow_str_bytes s.source) a)) (marks s)
+      → code_after frame.gutter (deepest (source s) (marks s)) ≤ frame.code → ShowsBars r frame s rows
+  bars_shown rows named drawn begins ascends ends room =
+      let ks : List ℕ = lines_named rows in
+      let text : List ℕ = cow_str_bytes s.source in
+      let ready : IsReady [] 0 rows = record {
+        named = named;
+        drawn = drawn;
+        are_open = none_open (source s) (marks s) spans;
+        lines = climbs_from 0 ks (λ k more same. omega arith) ascends;
+        ends = λ a among long. let shown = All-contains (λ a. Contains ks (first_line text a) × Contains ks (last_line text a)) (marks s) a ends among in (inr (contains_among ks (first_line text a) shown.0), inr (contains_among ks (last_line text a) shown.1));
+        below = subst (All (HasBars Other 0)) (sym begins) (All-nil (HasBars Other 0));
+      } in
+      record {
+        stand = λ a among long above row below is begun ended.
+            let line : line_from 0 above row.name ≡ line_beside above row.name = from_start above row.name in
+            all_rows [] 0 rows ready above row below is a among long (omega (arith, line, begun)) (omega (arith, line, ended)) ∙ ap (bar_beside (layout_in r frame) row.name) (bar_given s a long);
+        begin = λ a among long above row below is name.
+            let found = row_drawn [] rows drawn above row below is in
+            let line = subst (λ named. IsRowDrawn r frame closes s found.0 named row.cells below) name found.1 in
+            subst (λ bar. BarBegins (layout_in r frame) bar (row.cells ∷ rows_below below)) (bar_given s a long) (line_begins a among long (deep a among long) found.0 (first_line text a) row.cells below line refl);
+        end = λ a among long above row below is name.
+            let found = row_drawn [] rows drawn above row below is in
+            let line = subst (λ named. IsRowDrawn r frame closes s found.0 named row.cells below) name found.1 in
+            subst (λ bar. BarEnds (layout_in r frame) bar (row.cells ∷ rows_below below)) (bar_given s a long) (line_ends a among long (deep a among long) found.0 (last_line text a) row.cells below line refl);
+        within = λ a among long. let depth = depth-within (source s) (marks s) a among long in inside (depth_of (source s) (marks s) a) depth.0 depth.1;
+        apart = λ a b among-a among-b long-a long-b from to same.
+            bytes_same (source s) a b (one_place (source s) (marks s) spans a b among-a among-b long-a long-b from to (omega (arith, same)));
+      }
+    where
+      inside : (depth : ℕ) → 0 < depth → depth ≤ deepest (source s) (marks s) → (frame.gutter + 3 ≤ frame.gutter + 2 + depth) × (frame.gutter + 2 + depth + 1 < frame.code)
+      inside depth some low = (omega (arith, some), omega (arith, some, low, wide (deepest (source s) (marks s)) (omega (arith, some, low)), room))
+        where
+          wide : (n : ℕ) → 0 < n → code_after frame.gutter n ≡ frame.gutter + 3 + n + 1
+          wide n more =
+              let other : (n == 0) ≡ false = grind (arith, nat_tests, more) in
+              ap (λ b. cond b (frame.gutter + 3) (frame.gutter + 3 + n + 1)) other
+
+      deep : (a : Annotation) → Contains (marks s) a → is_long (cow_str_bytes s.source) a ≡ true → frame.gutter + 2 + depth_of (source s) (marks s) a < frame.code
+      deep a among long =
+          let depth = depth-within (source s) (marks s) a among long in
+          omega (arith, (inside (depth_of (source s) (marks s) a) depth.0 depth.1).1)

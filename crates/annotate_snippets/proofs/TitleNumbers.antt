@@ -1,0 +1,102 @@
+-- No row of a title that begins with a word begins with a number.
+use Rattle.std.proofs.Common.{◌≡◌, ℕ, zero, suc, ◌+◌, ◌<◌, ◌≤◌, ◌==◌, ◌||◌, not, Bool, true, false, cond, Option, None, Some, List, [], ◌∷◌, ◌++◌, All, chars, get_or, length, map, replicate, take, refl, sym, ap, subst, ◌∙◌, arith}
+use Rattle.std.specs.Char.{is_ascii_alphanumeric, is_ascii_digit}
+use Rattle.std.specs.Int.{is_in_range}
+use Rattle.std.specs.List.{slice_index_or}
+use Rattle.std.proofs.lemmas.List.{append_assoc}
+use Rattle.std.proofs.lemmas.List.Elements.{All-append, All-cons, All-from_get_or, All-nil}
+use Rattle.snippet_grid.specs.Print.{row_text}
+use Rattle.snippet_model.specs.Heading.{Heading, heading_of_title, is_hidden}
+use Rattle.snippet_model.specs.Level.{name_of}
+use Rattle.snippet_model.specs.Rows.{HasNoNumber}
+use Rattle.snippet_model.specs.declared.snippet.Title.{Title}
+use Rattle.snippet_style.specs.Cell.{Cell, SPACE}
+use Rattle.snippet_text.specs.Normalized.{norm}
+use Rattle.snippet_titles.specs.Heading.{colon_of, heading_lines, id_text, label_text, label_width}
+use Rattle.snippet_titles.specs.Shown.{heading_texts, texts_below}
+use Rattle.snippet_titles.specs.declared.style.TitleStyle.TheVariants as style
+use Rattle.snippet_titles.proofs.OriginNumbers.{closing_row-unnumbered, separator_row-unnumbered}
+use Rattle.annotate_snippets.specs.Numbers.{IsTitleOfWords, IsUnnumbered, begins_with_number, begins_with_word}
+use Rattle.annotate_snippets.specs.Rows.{closing_rows, rows_after_title, separator_rows}
+use Rattle.annotate_snippets.specs.Shown.{ShowsTitlePart}
+use Rattle.annotate_snippets.specs.declared.renderer.Renderer.{Renderer}
+use Rattle.annotate_snippets.specs.declared.renderer.frame.Frame.{Frame}
+use Rattle.annotate_snippets.specs.declared.renderer.element_context.GroupPosition.{GroupPosition}
+use Rattle.annotate_snippets.specs.declared.renderer.element_context.Next.{Next}
+
+-- a character that is neither a space nor a digit begins no number
+no_number : (space digit rest : Bool) → not (space || digit) ≡ true → cond space rest digit ≡ false
+no_number true digit rest word = cc
+no_number false true rest word = cc
+no_number false false rest word = refl
+
+-- what begins with a word begins with no number
+word_first : (n : ℕ) (name rest : List ℕ) → begins_with_word name ≡ true → begins_with_number (take n (name ++ rest)) ≡ false
+word_first zero name rest word = refl
+word_first (suc n) [] rest word = cc
+word_first (suc n) (c ∷ cs) rest word = no_number (c == 32) (is_ascii_digit c) (begins_with_number (take n (cs ++ rest))) word
+
+-- nor do spaces
+spaces_first : (n w : ℕ) (rest : List ℕ) → n ≤ w → begins_with_number (take n (map (λ (cell : Cell). cell.ch) (replicate w SPACE) ++ rest)) ≡ false
+spaces_first zero w rest fits = refl
+spaces_first (suc n) zero rest fits = absurd (omega (arith, fits))
+spaces_first (suc n) (suc w) rest fits = spaces_first n w rest (omega (arith, fits))
+
+-- nor does a row without letters and digits there
+none_there : (space alphanumeric digit rest : Bool) → (digit ≡ true → alphanumeric ≡ true) → alphanumeric ≡ false → rest ≡ false → cond space rest digit ≡ false
+none_there true alphanumeric digit rest more none later = later
+none_there false alphanumeric true rest more none later = let never : ◌≡◌ {A = Bool} true false = sym (more refl) ∙ none in cc
+none_there false alphanumeric false rest more none later = refl
+
+digit_too : (c : ℕ) → is_ascii_digit c ≡ true → is_ascii_alphanumeric c ≡ true
+digit_too c is = ap (λ (b : Bool). (b || is_in_range 65 90 c) || is_in_range 97 122 c) is
+
+unnumbered_row : (n : ℕ) (row : List Cell) → ((c : ℕ) → c < n → is_ascii_alphanumeric (get_or row c SPACE).ch ≡ false) → begins_with_number (take n (row_text row)) ≡ false
+unnumbered_row zero row none = refl
+unnumbered_row (suc n) [] none = refl
+unnumbered_row (suc n) (cell ∷ cells) none =
+    none_there (cell.ch == 32) (is_ascii_alphanumeric cell.ch) (is_ascii_digit cell.ch) (begins_with_number (take n (row_text cells))) (digit_too cell.ch) (none 0 (omega arith)) (unnumbered_row n cells (λ c within. none (suc c) (omega (arith, within))))
+
+unnumbered : (gutter : ℕ) (row : List Cell) → HasNoNumber gutter row → IsUnnumbered gutter row
+unnumbered gutter row none = unnumbered_row (gutter + 1) row (λ c within. none c (omega (arith, within)))
+
+-- the rows below a title
+after_title : (r : Renderer) (frame : Frame) (sets_off closes : Bool) → All (IsUnnumbered frame.gutter) (cond sets_off (separator_rows r frame) (cond closes (closing_rows r frame) []))
+after_title r frame true closes = All-cons (IsUnnumbered frame.gutter) _ [] (unnumbered frame.gutter _ (separator_row-unnumbered r.decor_style frame.gutter)) (All-nil (IsUnnumbered frame.gutter))
+after_title r frame false true = All-cons (IsUnnumbered frame.gutter) _ [] (unnumbered frame.gutter _ (closing_row-unnumbered r.decor_style frame.gutter)) (All-nil (IsUnnumbered frame.gutter))
+after_title r frame false false = All-nil (IsUnnumbered frame.gutter)
+
+-- each text of a title's rows begins with its level's name, or with as many spaces as what stands before its text is wide
+module _ (n : ℕ) (name more : List ℕ) (width : ℕ) (word : begins_with_word name ≡ true) (wide : n ≤ width) where
+  text_further : (lines : List (List ℕ)) (i : ℕ) → begins_with_number (take n (slice_index_or (map (λ l. map (λ (cell : Cell). cell.ch) (replicate width SPACE) ++ l) lines) i [])) ≡ false
+  text_further [] i = none_taken n
+    where
+      none_taken : (k : ℕ) → begins_with_number (take k []) ≡ false
+      none_taken zero = refl
+      none_taken (suc k) = refl
+  text_further (line ∷ lines) zero = spaces_first n width line wide
+  text_further (line ∷ lines) (suc i) = text_further lines i
+
+  text_of_row : (lines : List (List ℕ)) (i : ℕ) → begins_with_number (take n (slice_index_or (texts_below (name ++ more) (map (λ (cell : Cell). cell.ch) (replicate width SPACE)) lines) i [])) ≡ false
+  text_of_row [] i = text_further [] i
+  text_of_row (line ∷ lines) zero = ap (λ text. begins_with_number (take n text)) (append_assoc name more line) ∙ word_first n name (more ++ line) word
+  text_of_row (line ∷ lines) (suc i) = text_further lines i
+
+-- no row of such a title begins with a number
+pub title_unnumbered : (r : Renderer) (frame : Frame) (place : GroupPosition) (follows : Next) (title : Title) (rows : List (List Cell)) → ShowsTitlePart r frame place follows (Some title) rows → IsTitleOfWords frame.gutter title → All (IsUnnumbered frame.gutter) rows
+title_unnumbered r frame place follows title rows shown words =
+    let heading : Heading = heading_of_title title in
+    let hidden : Bool = is_hidden title.level.name in
+    let after_name : List ℕ = id_text hidden title.id ++ colon_of hidden title.id in
+    let label : label_text heading ≡ norm (chars (name_of title.level)) ++ after_name = append_assoc (norm (chars (name_of title.level))) (id_text hidden title.id) (colon_of hidden title.id) in
+    let text_at : List ℕ → ℕ → List ℕ = λ first i. slice_index_or (texts_below first (row_text (replicate (label_width heading) SPACE)) (heading_lines heading)) i [] in
+    let each : (i : ℕ) → i < length shown.own → IsUnnumbered frame.gutter (get_or shown.own i []) =
+    λ i within. ap (λ text. begins_with_number (take (frame.gutter + 1) text)) (shown.shows.texts i ∙ ap (λ first. text_at first i) label)
+    ∙ text_of_row (frame.gutter + 1) (norm (chars (name_of title.level))) after_name (label_width heading) words.word (omega (arith, words.wide)) (heading_lines heading) i in
+    subst (All (IsUnnumbered frame.gutter)) (sym shown.rows_are) (All-append (IsUnnumbered frame.gutter) shown.own (rows_after_title r frame place follows title.allows_styling) (All-from_get_or (IsUnnumbered frame.gutter) shown.own [] each) (after_title r frame _ _))
+
+-- the same of the title that a group has
+pub group_title_unnumbered : (r : Renderer) (frame : Frame) (place : GroupPosition) (follows : Next) (own : Option Title) (title : Title) (rows : List (List Cell))
+    → ShowsTitlePart r frame place follows own rows → own ≡ Some title → IsTitleOfWords frame.gutter title → All (IsUnnumbered frame.gutter) rows
+group_title_unnumbered r frame place follows own title rows shown is words =
+    title_unnumbered r frame place follows title rows (subst (λ t. ShowsTitlePart r frame place follows t rows) is shown) words

@@ -1,0 +1,146 @@
+-- The graphic form of a report, as a value: a page, each row of which is made from the report by the rule of its part.
+use Rattle.std.specs.Prelude.{◌≡◌, ℕ, ◌+◌, ◌-◌, ◌==◌, ◌&&◌, nat_lt, not, List, [], ◌∷◌, ◌++◌, Bool, Option, filter, length, map, if◌then◌else◌}
+use Rattle.std.specs.Borrow.{Bor}
+use Rattle.std.specs.Cow.{cow_str_bytes}
+use Rattle.std.specs.List.{enumerate_from}
+use Rattle.std.specs.Option.{option_map}
+use Rattle.snippet_style.specs.Cell.{Cell}
+use Rattle.snippet_model.specs.declared.snippet.Annotation.{Annotation}
+use Rattle.snippet_model.specs.declared.snippet.Element.{Element}
+use Rattle.snippet_model.specs.declared.snippet.Element.TheVariants as element
+use Rattle.snippet_model.specs.declared.snippet.Group.{Group}
+use Rattle.snippet_model.specs.declared.snippet.Patch.{Patch}
+use Rattle.snippet_model.specs.declared.snippet.Snippet.{Snippet}
+use Rattle.snippet_text.specs.Normalized.{norm}
+use Rattle.snippet_text.specs.Width.{width_of}
+use Rattle.snippet_view.specs.Annotated.{PartEntry}
+use Rattle.snippet_view.specs.Kept.{shown_lines}
+use Rattle.snippet_view.specs.Margin.{bounds_of}
+use Rattle.snippet_view.specs.Measures.{margin_of}
+use Rattle.snippet_view.specs.Window.{chars_at, dropped_part}
+use Rattle.snippet_view.specs.declared.entries.LineAnnotation.{LineAnnotation}
+use Rattle.snippet_view.specs.declared.margin.Margin.{Margin}
+use Rattle.snippet_marks.specs.Entries.{is_end_part}
+use Rattle.snippet_marks.specs.SourceRows.{source_row, window_cells}
+use Rattle.snippet_strokes.specs.Bars.{Bar, open_past}
+use Rattle.snippet_strokes.specs.LineRows.{line_rows}
+use Rattle.snippet_strokes.specs.Rows.{highlighted_row}
+use Rattle.snippet_strokes.specs.Snippet.{gap_row}
+use Rattle.snippet_suggest.specs.Given.{first_given}
+use Rattle.snippet_suggest.specs.Order.{Begins, Empty, Ends, Offers, Removes, Skips, SuggestionRow}
+use Rattle.snippet_titles.specs.Origin.{padding_row}
+use Rattle.annotate_snippets.specs.declared.renderer.Renderer.{Renderer}
+use Rattle.annotate_snippets.specs.declared.renderer.frame.Frame.{Frame}
+use Rattle.annotate_snippets.specs.declared.renderer.element_context.GroupPosition.{GroupPosition}
+use Rattle.annotate_snippets.specs.declared.renderer.element_context.ElementContext.{ElementContext}
+use Rattle.annotate_snippets.specs.Around.{closes_with, context_at, drawn_elements, file_of_group, is_end, next_of, place_at, suggestion_rows}
+use Rattle.annotate_snippets.specs.Drawn.{found_at, layout_in, suggestion_lines}
+use Rattle.annotate_snippets.specs.Gutter.{frame_of, number_text, numbered_source}
+use Rattle.annotate_snippets.specs.LineRows.{bars_on, entries_on}
+use Rattle.annotate_snippets.specs.Page.{Elision, GroupPage, NamedRow, OfferedLine, Other, Page, RemovedLine, RowName, SourceRow, others}
+use Rattle.annotate_snippets.specs.Rows.{cause_head, message_rows, origin_rows, rows_after_cause, suggestion_head, title_part}
+
+-- ---- lines
+
+-- the bounds between which a snippet's lines are shown, in a room of what is left of the width
+abbrev pub margin_in : Renderer → Frame → Snippet Annotation → Margin
+margin_in r frame s =
+    let room = r.term_width - frame.code in
+    let bounds = margin_of room s.fold (numbered_source s) s.markers.items in
+    record { computed_left = bounds.left; computed_right = bounds.right; term_width = room }
+
+-- a text that is lent, from wherever it stands
+abbrev pub lent : List ℕ → Bor (List ℕ)
+lent text = record { ref_ptr = (0, 0); now = text }
+
+-- an entry as it is drawn
+abbrev pub line_entry : PartEntry → LineAnnotation
+line_entry p =
+    record { start = p.entry.start; end = p.entry.end; kind = p.entry.kind; label = option_map lent p.entry.label; annotation_type = p.part; highlight_source = p.entry.highlight_source }
+
+-- the rows of line k of a snippet, where these bars are open above it: what its entries make of the row that holds its number, the
+-- separator and its window, with the roles that entries highlight. The group's window may close with the line
+abbrev pub rows_of_line : Renderer → Frame → Bool → Snippet Annotation → List Bar → ℕ → List (List Cell)
+rows_of_line r frame closes s open_bars k =
+    let layout = layout_in r frame in
+    let margin = margin_in r frame s in
+    let text = norm (chars_at (cow_str_bytes s.source) k) in
+    let dropped = width_of (dropped_part (bounds_of margin).left text) in
+    let entries = map line_entry (entries_on s k) in
+    let plain = source_row layout (number_text r s.line_numbering frame.gutter (s.line_start + k)) (window_cells r.decor_style margin text) in
+    line_rows layout margin.term_width closes text dropped open_bars entries (highlighted_row frame.code dropped (filter (λ e. not (is_end_part e.annotation_type)) entries) plain)
+
+-- the rows of line k with their names: the first shows the line
+abbrev pub named_line : ℕ → List (List Cell) → List NamedRow
+named_line k [] = []
+named_line k (row ∷ below) = record { name = SourceRow k; cells = row } ∷ others below
+
+-- what stands between the rows of line j and those of the next of these lines: where lines are left out, one row, with the bars that run
+-- past them
+abbrev pub gap_below : Renderer → Frame → List Bar → ℕ → List ℕ → List NamedRow
+gap_below r frame open_bars j [] = []
+gap_below r frame open_bars j (k ∷ ks) =
+    if nat_lt (j + 1) k then record { name = Elision; cells = gap_row (layout_in r frame) open_bars } ∷ [] else []
+
+-- the rows of these lines of a snippet, above the first of which these bars are open. The group's window may close with the last
+abbrev pub rows_of_lines : Renderer → Frame → Bool → Snippet Annotation → List Bar → List ℕ → List NamedRow
+rows_of_lines r frame closes s open_bars [] = []
+rows_of_lines r frame closes s open_bars (k ∷ ks) =
+    let below = open_past open_bars (bars_on s k) in
+    named_line k (rows_of_line r frame (closes && length ks == 0) s open_bars k) ++ (gap_below r frame below k ks ++ rows_of_lines r frame closes s below ks)
+
+-- ---- elements
+
+-- the rows of an annotated snippet: those that it begins with, those of the lines that are shown, and what stands below
+abbrev pub snippet_rows : Renderer → Frame → ElementContext → Snippet Annotation → List NamedRow
+snippet_rows r frame around s =
+    others (cause_head r frame around s) ++ (rows_of_lines r frame (closes_with around) s [] (shown_lines s.fold (cow_str_bytes s.source) s.markers.items) ++ others (rows_after_cause r frame around))
+
+-- what the row of a suggestion is named by
+abbrev pub name_of_row : Snippet Patch → SuggestionRow → RowName
+name_of_row s (Begins start) = Other
+name_of_row s (Offers k) = OfferedLine (first_given s + k)
+name_of_row s Skips = Other
+name_of_row s (Removes i number text) = RemovedLine i
+name_of_row s Empty = Other
+name_of_row s (Ends follows) = Other
+
+-- rows of a suggestion with their names
+abbrev pub named_rows : Snippet Patch → List SuggestionRow → List (List Cell) → List NamedRow
+named_rows s [] rows = []
+named_rows s (shows ∷ shown) [] = []
+named_rows s (shows ∷ shown) (row ∷ rows) =
+    record { name = name_of_row s shows; cells = row } ∷ named_rows s shown rows
+
+-- the rows of a suggestion: that of its path, where it names that, and those of its lines, where this stands in the row in which the
+-- element before ends
+abbrev pub patch_rows : Renderer → Frame → ElementContext → List Cell → Snippet Patch → List NamedRow
+patch_rows r frame around found s =
+    others (suggestion_head r frame around s) ++ named_rows s (suggestion_rows around s) (suggestion_lines r frame around found s)
+
+-- the rows of an element
+abbrev pub element_rows : Renderer → Frame → ElementContext → List Cell → Element → List NamedRow
+element_rows r frame around found (element.Message message) = others (message_rows r frame around message)
+element_rows r frame around found (element.Cause snippet) = snippet_rows r frame around snippet
+element_rows r frame around found (element.Suggestion snippet) = patch_rows r frame around found snippet
+element_rows r frame around found (element.Origin origin) = others (origin_rows r frame around origin)
+element_rows r frame around found (element.Padding padding) =
+    others (padding_row r.decor_style frame.gutter (is_end around.next) ∷ [])
+
+-- ---- groups
+
+-- the rows of each of these elements of a group, which are all that it draws
+abbrev pub rows_of_elements : Renderer → Frame → GroupPosition → Option (List ℕ) → List Element → List (List NamedRow)
+rows_of_elements r frame place file es =
+    map (λ pair. element_rows r frame (context_at place file es pair.0 pair.1) (found_at r frame es pair.0) pair.1) (enumerate_from 0 es)
+
+-- the page of a group that stands at this place: the rows of its title, and those of each element that is drawn
+abbrev pub group_page : Renderer → Frame → GroupPosition → Option (List ℕ) → Group → GroupPage
+group_page r frame place file g =
+    let es = drawn_elements g in
+    record { title = title_part r frame place (next_of es) g.title; elements = rows_of_elements r frame place file es }
+
+-- the page of a report
+abbrev pub graphic_form : Renderer → List Group → Page
+graphic_form r groups =
+    map (λ pair. group_page r (frame_of r groups pair.1) (place_at (length groups) pair.0) (file_of_group groups pair.1) pair.1) (enumerate_from 0 groups)

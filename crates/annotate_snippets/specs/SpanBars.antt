@@ -1,0 +1,70 @@
+-- The bars of spans of several lines: in which cell each stands, of which kind it is, and beside which rows it stands.
+use Rattle.std.specs.Prelude.{◌≡◌, ℕ, ◌+◌, ◌-◌, ◌<◌, ◌≤◌, ◌==◌, ◌&&◌, Bool, true, List, ◌∷◌, ◌++◌, Contains, fold}
+use Rattle.std.specs.List.{list_any, slice_index_or}
+use Rattle.std.specs.Cow.{cow_str_bytes}
+use Rattle.snippet_model.specs.AnnotationKind.{is_primary}
+use Rattle.snippet_model.specs.declared.snippet.Annotation.{Annotation}
+use Rattle.snippet_model.specs.declared.snippet.Snippet.{Snippet}
+use Rattle.snippet_style.specs.Cell.{Cell, SPACE}
+use Rattle.snippet_grid.specs.Layout.{Layout}
+use Rattle.snippet_view.specs.Annotated.{depth_of, is_long}
+use Rattle.snippet_view.specs.Marked.{first_line, last_line}
+use Rattle.snippet_strokes.specs.Bars.{Bar}
+use Rattle.snippet_strokes.specs.EndBars.{BarBegins, BarEnds, dotted_bar, solid_bar}
+use Rattle.annotate_snippets.specs.declared.renderer.Renderer.{Renderer}
+use Rattle.annotate_snippets.specs.declared.renderer.frame.Frame.{Frame}
+use Rattle.annotate_snippets.specs.Drawn.{layout_in}
+use Rattle.annotate_snippets.specs.Gutter.{numbered_source}
+use Rattle.annotate_snippets.specs.Page.{RowName, SourceRow, Elision, OfferedLine, RemovedLine, Other, NamedRow, lines_named, rows_below}
+
+-- whether the bar of a span is primary: that span is, or another one with its place in the source, since these share a bar
+abbrev pub is_bar_primary : Snippet Annotation → Annotation → Bool
+is_bar_primary s a =
+    list_any (λ b. is_primary b.kind && (b.span.start == a.span.start && b.span.end == a.span.end)) s.markers.items
+
+-- the bar of a span
+abbrev pub bar_of_span : Snippet Annotation → Annotation → Bar
+bar_of_span s a =
+    record { depth = depth_of (numbered_source s) s.markers.items a; primary = is_bar_primary s a }
+
+-- the cell of a row in which it stands: at depth 1 that after the separator and the two spaces
+abbrev pub bar_cell_of : Frame → Snippet Annotation → Annotation → ℕ
+bar_cell_of frame s a = frame.gutter + 2 + depth_of (numbered_source s) s.markers.items a
+
+-- the line after that of the last source row among some rows: 0 where there is none
+abbrev pub line_after : List NamedRow → ℕ
+line_after rows = fold (λ before k. k + 1) 0 (lines_named rows)
+
+-- the line beside which a row of this name stands, below some rows: its own; for a row in place of lines the first of these; and for
+-- a row below a line that line
+abbrev pub line_beside : List NamedRow → RowName → ℕ
+line_beside above (SourceRow k) = k
+line_beside above Elision = line_after above
+line_beside above (OfferedLine j) = line_after above - 1
+line_beside above (RemovedLine i) = line_after above - 1
+line_beside above Other = line_after above - 1
+
+-- the cell of a bar beside a row of this name: dotted beside one in place of lines
+abbrev pub bar_beside : Layout → RowName → Bar → Cell
+bar_beside layout (SourceRow k) bar = solid_bar layout bar
+bar_beside layout Elision bar = dotted_bar layout bar
+bar_beside layout (OfferedLine j) bar = solid_bar layout bar
+bar_beside layout (RemovedLine i) bar = solid_bar layout bar
+bar_beside layout Other bar = solid_bar layout bar
+
+-- the rows, those of a snippet's lines, have the bars of its spans of several lines. In each row between the first and the last line of
+-- such a span its bar stands in its own cell and in its kind, whatever else the row holds. In the rows of the first line it begins, in
+-- those of the last it ends. The cell is one of those between the separator and the code. Two such spans that share a line, be it the
+-- last of one and the first of the other, have cells of their own, unless they have the same place in the source
+pub record ShowsBars (r : Renderer) (frame : Frame) (s : Snippet Annotation) (rows : List NamedRow) : Type 0 where
+  pub stand : (a : Annotation) → Contains s.markers.items a → is_long (cow_str_bytes s.source) a ≡ true → (above : List NamedRow) (row : NamedRow) (below : List NamedRow)
+      → rows ≡ above ++ row ∷ below → first_line (cow_str_bytes s.source) a < line_beside above row.name → line_beside above row.name < last_line (cow_str_bytes s.source) a
+      → slice_index_or row.cells (bar_cell_of frame s a) SPACE ≡ bar_beside (layout_in r frame) row.name (bar_of_span s a)
+  pub begin : (a : Annotation) → Contains s.markers.items a → is_long (cow_str_bytes s.source) a ≡ true → (above : List NamedRow) (row : NamedRow) (below : List NamedRow)
+      → rows ≡ above ++ row ∷ below → row.name ≡ SourceRow (first_line (cow_str_bytes s.source) a) → BarBegins (layout_in r frame) (bar_of_span s a) (row.cells ∷ rows_below below)
+  pub end : (a : Annotation) → Contains s.markers.items a → is_long (cow_str_bytes s.source) a ≡ true → (above : List NamedRow) (row : NamedRow) (below : List NamedRow)
+      → rows ≡ above ++ row ∷ below → row.name ≡ SourceRow (last_line (cow_str_bytes s.source) a) → BarEnds (layout_in r frame) (bar_of_span s a) (row.cells ∷ rows_below below)
+  pub within : (a : Annotation) → Contains s.markers.items a → is_long (cow_str_bytes s.source) a ≡ true → (frame.gutter + 3 ≤ bar_cell_of frame s a) × (bar_cell_of frame s a + 1 < frame.code)
+  pub apart : (a b : Annotation) → Contains s.markers.items a → Contains s.markers.items b → is_long (cow_str_bytes s.source) a ≡ true → is_long (cow_str_bytes s.source) b ≡ true
+      → first_line (cow_str_bytes s.source) a ≤ last_line (cow_str_bytes s.source) b → first_line (cow_str_bytes s.source) b ≤ last_line (cow_str_bytes s.source) a → bar_cell_of frame s a ≡ bar_cell_of frame s b
+      → (a.span.start ≡ b.span.start) × (a.span.end ≡ b.span.end)

@@ -1,0 +1,124 @@
+-- How an entry holds its label, and from where a text is lent, makes no difference to what is drawn of a line.
+use Rattle.std.proofs.Common.{◌≡◌, ℕ, ◌+◌, ◌==◌, ◌&&◌, ◌||◌, nat_le, nat_lt, not, cond, Bool, List, [], ◌∷◌, ◌++◌, None, Some, length, map, max, take, drop, get_or, refl, ap, ◌∙◌}
+use Rattle.std.specs.List.{flat_map, list_any, position, position_or_len, zip}
+use Rattle.std.proofs.lemmas.List.{length-map}
+use Rattle.std.specs.List.{drop-map, take-map}
+use Rattle.std.proofs.lemmas.List.Folds.{flat_map-map, fold-map}
+use Rattle.snippet_view.proofs.PartLemmas.{list_any-map}
+use Rattle.snippet_grid.specs.Layout.{Layout}
+use Rattle.snippet_marks.specs.declared.positions.PlacedEntry.{PlacedEntry}
+use Rattle.snippet_marks.specs.Writes.{Write}
+use Rattle.snippet_marks.specs.Painting.{marks_of}
+use Rattle.snippet_marks.specs.Positions.{are_starts, crosses, do_overlap, has_label, label_place, position_after, position_at}
+use Rattle.snippet_marks.specs.Entries.{label_role}
+use Rattle.snippet_marks.proofs.HeldLemmas.{are_starts-held, held, label_text-plain, marks_of-held, position_after-held, position_at-held}
+use Rattle.snippet_strokes.specs.Cuts.{cut_of, cuts_of, is_met, is_overlapped, look_ends, looked_after, meets, overlapped, overlapped_by, up_to}
+use Rattle.snippet_strokes.specs.Drawing.{lowest_position, row_count}
+use Rattle.snippet_strokes.specs.Strokes.{connector_of, connectors_of, corner_of, corners_of, is_hidden, label_of, labels_of, stem_of, stems_of, strokes_of}
+
+-- ---- how many rows there are
+
+lowest_position-held : (es : List PlacedEntry) → lowest_position (map held es) ≡ lowest_position es
+lowest_position-held es = fold-map (λ (lowest : ℕ) (e : PlacedEntry). max lowest e.position) held 0 es
+
+pub row_count-held : (es : List PlacedEntry) → row_count (map held es) ≡ row_count es
+row_count-held es =
+    ap (λ n. cond (n == 0) 1 (cond (are_starts (map held es)) (n + 1) (n + 2))) (lowest_position-held es)
+    ∙ ap (λ b. cond (lowest_position es == 0) 1 (cond b (lowest_position es + 1) (lowest_position es + 2))) (are_starts-held es)
+
+-- ---- strokes
+
+is_hidden-held : (e : PlacedEntry) (later : List PlacedEntry) → is_hidden (held e) (map held later) ≡ is_hidden e later
+is_hidden-held e [] = refl
+is_hidden-held e (next ∷ later) = refl
+
+module _ (layout : Layout) (row : ℕ) where
+  stems_of-held : (es : List PlacedEntry) → stems_of layout row (map held es) ≡ stems_of layout row es
+  stems_of-held [] = refl
+  stems_of-held (e ∷ later) =
+      ap (λ b. cond b [] (stem_of layout row e) ++ stems_of layout row (map held later)) (is_hidden-held e later)
+      ∙ ap (λ ws. cond (is_hidden e later) [] (stem_of layout row e) ++ ws) (stems_of-held later)
+
+  labels_of-held : (es : List PlacedEntry) → labels_of layout row (map held es) ≡ labels_of layout row es
+  labels_of-held [] = refl
+  labels_of-held (e ∷ es) =
+      let at : List ℕ → Write = λ text. record { row = row + (label_place e).0; cell = layout.code + (label_place e).1; text = text; role = label_role e.entry.kind } in
+      ap (λ ws. label_of layout row (held e) ++ ws) (labels_of-held es) ∙ ap (λ text. cond (has_label e) (at text ∷ []) [] ++ labels_of layout row es) (label_text-plain e.entry)
+
+  connectors_of-held : (es : List PlacedEntry) → connectors_of layout row (map held es) ≡ connectors_of layout row es
+  connectors_of-held es = flat_map-map (connector_of layout row) held es
+
+  corners_of-held : (count : ℕ) (es : List PlacedEntry) → corners_of layout row count (map held es) ≡ corners_of layout row count es
+  corners_of-held count es = flat_map-map (corner_of layout row count) held es
+
+-- all strokes of a line
+pub strokes_of-held : (layout : Layout) (row count : ℕ) (placed order : List PlacedEntry) → strokes_of layout row count (map held placed) (map held order) ≡ strokes_of layout row count placed order
+strokes_of-held layout row count placed order =
+    let lines = connectors_of layout (row + 1) placed in
+    let bars = corners_of layout row count placed in
+    let stems = stems_of layout (row + 1) placed in
+    let labels = labels_of layout (row + 1) placed in
+    let others = map held placed in
+    ap (λ ws. ws ++ corners_of layout row count others ++ stems_of layout (row + 1) others ++ labels_of layout (row + 1) others ++ marks_of layout (row + 1) (map held order)) (connectors_of-held layout (row + 1) placed)
+    ∙ ap (λ ws. lines ++ ws ++ stems_of layout (row + 1) others ++ labels_of layout (row + 1) others ++ marks_of layout (row + 1) (map held order)) (corners_of-held layout row count placed)
+    ∙ ap (λ ws. lines ++ bars ++ ws ++ labels_of layout (row + 1) others ++ marks_of layout (row + 1) (map held order)) (stems_of-held layout (row + 1) placed)
+    ∙ ap (λ ws. lines ++ bars ++ stems ++ ws ++ marks_of layout (row + 1) (map held order)) (labels_of-held layout (row + 1) placed)
+    ∙ ap (λ ws. lines ++ bars ++ stems ++ labels ++ ws) (marks_of-held layout (row + 1) order)
+
+-- ---- what is cut
+
+position_or_len-map : {X Y : Type 0} (p : Y → Bool) (f : X → Y) (xs : List X) → position_or_len p (map f xs) ≡ position_or_len (λ x. p (f x)) xs
+position_or_len-map p f [] = refl
+position_or_len-map p f (x ∷ xs) = ap (λ n. cond (not (p (f x))) (1 + n) 0) (position_or_len-map p f xs)
+
+position-held : (e : PlacedEntry) (others : List PlacedEntry) → position (crosses (held e)) (map held others) ≡ position (crosses e) others
+position-held e others =
+    ap (λ n. cond (nat_lt n (length (map held others))) (Some n) None) (position_or_len-map (crosses (held e)) held others)
+    ∙ ap (λ n. cond (nat_lt (position_or_len (crosses e) others) n) (Some (position_or_len (crosses e) others)) None) (length-map others held)
+
+looked_after-held : (reached : ℕ) (e : PlacedEntry) (others : List PlacedEntry) → looked_after reached (held e) (map held others) ≡ looked_after reached e others
+looked_after-held reached e others =
+    ap (λ n. cond ((reached == 0) && has_label e) (up_to (position (crosses (held e)) (map held others)) n) n) (length-map others held)
+    ∙ ap (λ at. cond ((reached == 0) && has_label e) (up_to at (length others)) (length others)) (position-held e others)
+
+look_ends-held : (i reached : ℕ) (es : List PlacedEntry) → look_ends i reached (map held es) ≡ look_ends i reached es
+look_ends-held i reached [] = refl
+look_ends-held i reached (e ∷ others) =
+    let here = position_at reached e others in
+    let looked = i + 1 + looked_after reached e others in
+    ap (λ n. (i + 1 + n) ∷ look_ends (i + 1) (position_after (position_at reached (held e) (map held others)) (held e) (map held others)) (map held others)) (looked_after-held reached e others)
+    ∙ ap (λ p. looked ∷ look_ends (i + 1) (position_after p (held e) (map held others)) (map held others)) (position_at-held reached e others)
+    ∙ ap (λ p. looked ∷ look_ends (i + 1) p (map held others)) (position_after-held here e others)
+    ∙ ap (λ ns. looked ∷ ns) (look_ends-held (i + 1) (position_after here e others) others)
+
+zip-held : {Y : Type 0} (es : List PlacedEntry) (ys : List Y) → zip (map held es) ys ≡ map (λ (pair : PlacedEntry × Y). (held pair.0, pair.1)) (zip es ys)
+zip-held [] ys = refl
+zip-held (e ∷ es) [] = refl
+zip-held (e ∷ es) (y ∷ ys) = ap (λ pairs. (held e, y) ∷ pairs) (zip-held es ys)
+
+meets-held : (e : PlacedEntry) (looked : List PlacedEntry) → meets (held e) (map held looked) ≡ meets e looked
+meets-held e looked =
+    ap (list_any (λ (other : PlacedEntry). do_overlap other 0 e)) (drop-map held 2 looked) ∙ list_any-map (λ (other : PlacedEntry). do_overlap other 0 e) held (drop 2 looked)
+
+is_met-held : (k : ℕ) (e : PlacedEntry) (placed : List PlacedEntry) (ends : List ℕ) → is_met k (held e) (map held placed) ends ≡ is_met k e placed ends
+is_met-held k e placed ends =
+    let met : PlacedEntry × ℕ → Bool = λ pair. nat_lt k pair.1 && do_overlap e 0 pair.0 in
+    ap (list_any met) (zip-held placed ends) ∙ list_any-map met (λ (pair : PlacedEntry × ℕ). (held pair.0, pair.1)) (zip placed ends)
+
+overlapped_by-held : (placed : List PlacedEntry) (ends : List ℕ) (k : ℕ) (es : List PlacedEntry) → overlapped_by (map held placed) ends k (map held es) ≡ overlapped_by placed ends k es
+overlapped_by-held placed ends k [] = refl
+overlapped_by-held placed ends k (e ∷ es) =
+    let n = get_or ends k 0 in
+    let before : meets (held e) (take n (map held placed)) ≡ meets e (take n placed) = ap (meets (held e)) (take-map held n placed) ∙ meets-held e (take n placed) in
+    let rest = overlapped_by (map held placed) ends (k + 1) (map held es) in
+    ap (λ b. (b || (nat_le 2 k && is_met k (held e) (map held placed) ends)) ∷ rest) before
+    ∙ ap (λ b. (meets e (take n placed) || (nat_le 2 k && b)) ∷ rest) (is_met-held k e placed ends)
+    ∙ ap (λ bs. is_overlapped placed ends k e ∷ bs) (overlapped_by-held placed ends (k + 1) es)
+
+pub overlapped-held : (placed : List PlacedEntry) → overlapped (map held placed) ≡ overlapped placed
+overlapped-held placed =
+    ap (λ ends. overlapped_by (map held placed) ends 0 (map held placed)) (look_ends-held 0 0 placed) ∙ overlapped_by-held placed (look_ends 0 0 placed) 0 placed
+
+pub cuts_of-held : (layout : Layout) (room : ℕ) (order : List PlacedEntry) (flags : List Bool) → cuts_of layout room (map held order) flags ≡ cuts_of layout room order flags
+cuts_of-held layout room order flags =
+    ap (flat_map (cut_of layout room)) (zip-held order flags) ∙ flat_map-map (cut_of layout room) (λ (pair : PlacedEntry × Bool). (held pair.0, pair.1)) (zip order flags)

@@ -1,0 +1,59 @@
+-- Rows in which no stem leads to a label contradict what is promised of labels.
+use Rattle.std.proofs.Common.{◌≡◌, ℕ, ◌+◌, ◌-◌, ◌<◌, ◌≤◌, ◌==◌, ◌&&◌, nat_le, nat_lt, true, false, List, length, count_by, get_or, refl, sym, ap, ◌∙◌, arith, inl, inr}
+use Rattle.std.proofs.lemmas.Bool.{and_parts, cases_Bool, false≢true}
+use Rattle.std.proofs.lemmas.Bool.Decides.{nat_tests}
+use Rattle.snippet_grid.specs.Grid.{cell_at}
+use Rattle.snippet_model.specs.declared.snippet.AnnotationKind.{AnnotationKind}
+use Rattle.snippet_model.specs.declared.snippet.AnnotationKind.TheVariants.{Primary, Context, Visible}
+use Rattle.snippet_style.specs.Cell.{Cell, SPACE, gives_way}
+use Rattle.snippet_view.specs.declared.entries.LineAnnotation.{LineAnnotation}
+use Rattle.snippet_grid.specs.Layout.{Layout}
+use Rattle.snippet_marks.specs.Entries.{label_role, label_text}
+use Rattle.snippet_strokes.specs.EntryMarks.{has_mark_role}
+use Rattle.snippet_strokes.specs.Labels.{LabelsStand, PlacedLabel, StandsIn, is_cell_of}
+use Rattle.snippet_strokes.proofs.LabelPlaces.{none_pass}
+
+-- no cell of a label is a space between other parts
+label_role_keeps : (kind : AnnotationKind) → gives_way (label_role kind) ≡ false
+label_role_keeps Primary = refl
+label_role_keeps Context = refl
+label_role_keeps Visible = refl
+
+no_space : (layout : Layout) (rows : List (List Cell)) (l : PlacedLabel) (r c : ℕ) → (0 < length (label_text l.entry) → StandsIn layout rows l) → is_cell_of r c l ≡ true → cell_at rows r c ≡ SPACE → ⊥
+no_space layout rows l r c stands is blank =
+    let n : ℕ = length (label_text l.entry) in
+    let outer = and_parts (l.row == r) (nat_le l.cell c && nat_lt c (l.cell + n)) is in
+    let inner = and_parts (nat_le l.cell c) (nat_lt c (l.cell + n)) outer.1 in
+    let from : l.cell ≤ c = le l.cell c inner.0 in
+    let to : c < l.cell + n = lt c (l.cell + n) inner.1 in
+    let at : l.cell + (c - l.cell) ≡ c = omega (arith, from) in
+    let row : l.row ≡ r = same l.row r outer.0 in
+    let whole = (stands (omega (arith, from, to))).whole (c - l.cell) (omega (arith, from, to)) in
+    let here : cell_at rows l.row (l.cell + (c - l.cell)) ≡ SPACE = ap (cell_at rows l.row) at ∙ ap (λ m. cell_at rows m c) row ∙ blank in
+    false≢true (sym (label_role_keeps l.entry.kind) ∙ sym (ap (λ (cell : Cell). gives_way cell.role) whole) ∙ ap (λ (cell : Cell). gives_way cell.role) here)
+  where
+    same : (a b : ℕ) → (a == b) ≡ true → a ≡ b
+    same a b is = grind (arith, nat_tests, is)
+
+    le : (a b : ℕ) → nat_le a b ≡ true → a ≤ b
+    le a b is = grind (arith, nat_tests, is)
+
+    lt : (a b : ℕ) → nat_lt a b ≡ true → a < b
+    lt a b is = grind (arith, nat_tests, is)
+
+-- rows with a space between a mark and the label that hangs from it:
+--
+--     1 | ab cd
+--       | -- ^^ y
+--       |
+--       | x
+pub stem_left_out : (layout : Layout) (es : List LineAnnotation) (rows : List (List Cell)) (stand : LabelsStand layout es rows) (k : ℕ) (d : PlacedLabel)
+    → k < length stand.labels → 0 < length (label_text (get_or stand.labels k d).entry) → (r : ℕ) → 0 < r → r < (get_or stand.labels k d).row
+    → cell_at rows r (get_or stand.labels k d).cell ≡ SPACE → ⊥
+stem_left_out layout es rows stand k d within some r under above blank =
+    let c : ℕ = (get_or stand.labels k d).cell in
+    let none : count_by (is_cell_of r c) stand.labels ≡ 0 = none_pass (is_cell_of r c) stand.labels (λ j x inside. elim (cases_Bool (is_cell_of r c (get_or stand.labels j x))) [
+      | inl holds ↦ absurd (no_space layout rows (get_or stand.labels j x) r c (stand.stand j x inside) holds blank)
+      | inr not ↦ not
+    ]) in
+    false≢true (sym (ap has_mark_role blank) ∙ (stand.led k d within some r under above none).1)

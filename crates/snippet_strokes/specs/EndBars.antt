@@ -1,0 +1,53 @@
+-- The bar of a span of several lines: its cells, and where it stands in the rows of the lines on which the span begins and ends.
+use Rattle.std.specs.Prelude.{◌≡◌, ◌⊎◌, ℕ, ◌+◌, ◌<◌, List, length}
+use Rattle.snippet_style.specs.Glyphs.{glyph_of, underline_role}
+use Rattle.snippet_style.specs.Cell.{Cell, unlinked_cell}
+use Rattle.snippet_grid.specs.Grid.{cell_at}
+use Rattle.snippet_grid.specs.Layout.{Layout}
+use Rattle.snippet_strokes.specs.declared.bars.BarStroke.TheVariants.{Top, Solid, Dotted}
+use Rattle.snippet_strokes.specs.Bars.{Bar, bar_part}
+
+-- the cell of a bar beside a row of a line, and beside a row in place of lines that are left out
+abbrev pub solid_bar : Layout → Bar → Cell
+solid_bar layout bar = bar_part layout Solid bar
+
+abbrev pub dotted_bar : Layout → Bar → Cell
+dotted_bar layout bar = bar_part layout Dotted bar
+
+-- the cell of its top beside a line that is marked as a whole
+abbrev pub bar_top : Layout → Bar → Cell
+bar_top layout bar = bar_part layout Top bar
+
+-- the corner at which a bar begins, left of the line that leads to the span's first mark: in ASCII a space
+abbrev pub start_corner : Layout → Bar → Cell
+start_corner layout bar = unlinked_cell (underline_role bar.primary) (glyph_of layout.decor bar.primary 32 32 0x250F 0x250C)
+
+-- the corner at which it ends, left of the line that leads to the span's last mark: in ASCII a part of the bar
+abbrev pub end_corner : Layout → Bar → Cell
+end_corner layout bar = unlinked_cell (underline_role bar.primary) (glyph_of layout.decor bar.primary 124 124 0x2517 0x2514)
+
+-- in the rows of a line the bar begins: in one below the source row stands its corner, and in each row below that the bar
+pub record BeginsBelow (layout : Layout) (bar : Bar) (rows : List (List Cell)) : Type 0 where
+  pub corner : ℕ
+  pub below : 0 < corner
+  pub within : corner < length rows
+  pub corner_is : cell_at rows corner (layout.gutter + 2 + bar.depth) ≡ start_corner layout bar
+  pub beside : (i : ℕ) → corner < i → i < length rows → cell_at rows i (layout.gutter + 2 + bar.depth) ≡ solid_bar layout bar
+
+-- or its top stands in the source row, below which the line has none
+pub record BeginsBeside (layout : Layout) (bar : Bar) (rows : List (List Cell)) : Type 0 where
+  pub alone : length rows ≡ 1
+  pub top : cell_at rows 0 (layout.gutter + 2 + bar.depth) ≡ bar_top layout bar
+
+-- in the rows of a line the bar begins, in one of these ways
+abbrev pub BarBegins : Layout → Bar → List (List Cell) → Type 0
+BarBegins layout bar rows = BeginsBeside layout bar rows ⊎ BeginsBelow layout bar rows
+
+-- in the rows of a line the bar ends: in one below the source row stands its corner, and in each row above that, from the source row on,
+-- the bar
+pub record BarEnds (layout : Layout) (bar : Bar) (rows : List (List Cell)) : Type 0 where
+  pub corner : ℕ
+  pub below : 0 < corner
+  pub within : corner < length rows
+  pub corner_is : cell_at rows corner (layout.gutter + 2 + bar.depth) ≡ end_corner layout bar
+  pub beside : (i : ℕ) → i < corner → cell_at rows i (layout.gutter + 2 + bar.depth) ≡ solid_bar layout bar
