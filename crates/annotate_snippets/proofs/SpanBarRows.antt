@@ -33,8 +33,7 @@ use Rattle.snippet_strokes.specs.EndBars.{BarBegins, BarEnds}
 use Rattle.snippet_strokes.proofs.AmongLaws.{all_from_among, among_contains, contains_among}
 use Rattle.snippet_strokes.proofs.EndBarLaws.{bar_begins, bar_ends, elision_stands}
 use Rattle.annotate_snippets.specs.declared.renderer.Renderer.{Renderer}
-use Rattle.annotate_snippets.specs.declared.renderer.frame.Frame.{Frame}
-use Rattle.annotate_snippets.specs.Drawn.{layout_in}
+use Rattle.snippet_grid.specs.Layout.{Layout}
 use Rattle.annotate_snippets.specs.Gutter.{code_after, numbered_source}
 use Rattle.annotate_snippets.specs.LineRows.{AreRowsDrawn, IsRowDrawn, bars_on, entries_on, open_after}
 use Rattle.annotate_snippets.specs.Page.{Elision, IsAscending, NamedRow, OfferedLine, Other, RemovedLine, RowName, SourceRow, lines_named, rows_below}
@@ -202,7 +201,7 @@ from_later n Other cells above name = refl
 
 -- ---- the rows
 
-module _ (r : Renderer) (frame : Frame) (closes : Bool) (s : Snippet Annotation) (spans : All (λ a. IsSpan (cow_str_bytes s.source) a.span.start a.span.end) s.markers.items) where
+module _ (r : Renderer) (frame : Layout) (closes : Bool) (s : Snippet Annotation) (spans : All (λ a. IsSpan (cow_str_bytes s.source) a.span.start a.span.end) s.markers.items) where
   abbrev Open : ℕ → List Bar → Type 0
   Open k bars = AreOpen (source s) (marks s) k bars
 
@@ -210,7 +209,7 @@ module _ (r : Renderer) (frame : Frame) (closes : Bool) (s : Snippet Annotation)
   abbrev HasBars : RowName → ℕ → List Cell → Type 0
   HasBars name k cells =
       (a : Annotation) → Contains (marks s) a → is_long (cow_str_bytes s.source) a ≡ true → first_line (cow_str_bytes s.source) a < k → k < last_line (cow_str_bytes s.source) a
-      → get_or cells (bar_cell_of frame s a) SPACE ≡ bar_beside (layout_in r frame) name (bar_by_place s a)
+      → get_or cells (bar_cell_of frame s a) SPACE ≡ bar_beside frame name (bar_by_place s a)
 
   -- so has each row of a line that is drawn
   line_bars : (open_bars : List Bar) (k : ℕ) (row : List Cell) (rows : List NamedRow) → IsRowDrawn r frame closes s open_bars (SourceRow k) row rows → Open k open_bars → All (HasBars Other k) (row ∷ rows_below rows)
@@ -230,11 +229,11 @@ module _ (r : Renderer) (frame : Frame) (closes : Bool) (s : Snippet Annotation)
   -- and a row in place of lines
   elision_bars : (open_bars : List Bar) (n : ℕ) (row : List Cell) (rows : List NamedRow) → IsRowDrawn r frame closes s open_bars Elision row rows → Open n open_bars → HasBars Elision n row
   elision_bars open_bars n row rows drawn are_open a among long above below =
-      let layout = layout_in r frame in
+      let layout = frame in
       let bar : Bar = bar_by_place s a in
       let here : Contains open_bars bar = among_contains open_bars bar (are_open.all a among long above (omega (arith, below))) in
       let own : HasOwnDepth bar open_bars = alone (source s) (marks s) spans n open_bars are_open a among long above (omega (arith, below)) in
-      ap (λ (cells : List Cell). get_or cells (bar_cell_of frame s a) SPACE) drawn.0 ∙ elision_stands layout bar open_bars (bare_elision_row r.decor_style frame.gutter) own here
+      ap (λ (cells : List Cell). get_or cells (bar_cell_of frame s a) SPACE) drawn.0 ∙ elision_stands layout bar open_bars (bare_elision_row frame.decor frame.gutter) own here
 
   -- what is known above some rows: which lines are left, and which bars are open
   record IsReady (open_bars : List Bar) (n : ℕ) (rows : List NamedRow) : Type 0 where
@@ -323,22 +322,22 @@ module _ (r : Renderer) (frame : Frame) (closes : Bool) (s : Snippet Annotation)
         All-unmapped P seen_part es (subst (All P) (sym are) (all_from_among P (entries_on s k) none))
 
     -- the bar begins in the rows of the span's first line
-    line_begins : (open_bars : List Bar) (k : ℕ) (row : List Cell) (rows : List NamedRow) → IsRowDrawn r frame closes s open_bars (SourceRow k) row rows → first_line (cow_str_bytes s.source) a ≡ k → BarBegins (layout_in r frame) bar (row ∷ rows_below rows)
+    line_begins : (open_bars : List Bar) (k : ℕ) (row : List Cell) (rows : List NamedRow) → IsRowDrawn r frame closes s open_bars (SourceRow k) row rows → first_line (cow_str_bytes s.source) a ≡ k → BarBegins frame bar (row ∷ rows_below rows)
     line_begins open_bars k row rows line here =
         let ends : bars_on s k ≡ ends_of_bars line.entries = sym (bars_seen s k line.entries line.are) in
         let own : Contains (ends_of_bars line.entries) bar = subst (λ bs. Contains bs bar) ends (among_contains (bars_on s k) bar (start_here (source s) (marks s) k a among long here)) in
         let only : HasOwnDepth bar (ends_of_bars line.entries) = subst (HasOwnDepth bar) ends (own_on_line (source s) (marks s) spans k a among long (omega (arith, here)) (omega (arith, here, longer (source s) (marks s) spans a among long))) in
         let none = none_there k (MultilineEnd bar.depth) line.entries line.are (no_end (source s) (marks s) spans k a among long here) in
-        bar_begins (layout_in r frame) bar room line.entries own only line.margin.term_width (closes && length (rows_below rows) == length rows) line.text line.dropped open_bars line.highlighted (row ∷ rows_below rows) line.drawn none
+        bar_begins frame bar room line.entries own only line.margin.term_width (closes && length (rows_below rows) == length rows) line.text line.dropped open_bars line.highlighted (row ∷ rows_below rows) line.drawn none
 
     -- and ends in those of the last
-    line_ends : (open_bars : List Bar) (k : ℕ) (row : List Cell) (rows : List NamedRow) → IsRowDrawn r frame closes s open_bars (SourceRow k) row rows → last_line (cow_str_bytes s.source) a ≡ k → BarEnds (layout_in r frame) bar (row ∷ rows_below rows)
+    line_ends : (open_bars : List Bar) (k : ℕ) (row : List Cell) (rows : List NamedRow) → IsRowDrawn r frame closes s open_bars (SourceRow k) row rows → last_line (cow_str_bytes s.source) a ≡ k → BarEnds frame bar (row ∷ rows_below rows)
     line_ends open_bars k row rows line here =
         let ends : bars_on s k ≡ ends_of_bars line.entries = sym (bars_seen s k line.entries line.are) in
         let own : Contains (ends_of_bars line.entries) bar = subst (λ bs. Contains bs bar) ends (among_contains (bars_on s k) bar (end_here (source s) (marks s) k a among long here)) in
         let only : HasOwnDepth bar (ends_of_bars line.entries) = subst (HasOwnDepth bar) ends (own_on_line (source s) (marks s) spans k a among long (omega (arith, here, longer (source s) (marks s) spans a among long)) (omega (arith, here))) in
         let none = none_there k (MultilineStart bar.depth) line.entries line.are (no_start (source s) (marks s) spans k a among long here) in
-        bar_ends (layout_in r frame) bar room line.entries own only line.margin.term_width (closes && length (rows_below rows) == length rows) line.text line.dropped open_bars line.highlighted (row ∷ rows_below rows) line.drawn none
+        bar_ends frame bar room line.entries own only line.margin.term_width (closes && length (rows_below rows) == length rows) line.text line.dropped open_bars line.highlighted (row ∷ rows_below rows) line.drawn none
 
   -- so the rows of a snippet's lines show the bars of its spans
   pub bars_shown : (rows : List NamedRow) → AreRowsOf r frame closes s rows → AreRowsDrawn r frame closes s [] rows → rows_below rows ≡ [] → IsAscending (lines_named rows)
@@ -358,15 +357,15 @@ module _ (r : Renderer) (frame : Frame) (closes : Bool) (s : Snippet Annotation)
       record {
         stand = λ a among long above row below is begun ended.
             let line : line_from 0 above row.name ≡ line_beside above row.name = from_start above row.name in
-            all_rows [] 0 rows ready above row below is a among long (omega (arith, line, begun)) (omega (arith, line, ended)) ∙ ap (bar_beside (layout_in r frame) row.name) (bar_given s a long);
+            all_rows [] 0 rows ready above row below is a among long (omega (arith, line, begun)) (omega (arith, line, ended)) ∙ ap (bar_beside frame row.name) (bar_given s a long);
         begin = λ a among long above row below is name.
             let found = row_drawn [] rows drawn above row below is in
             let line = subst (λ named. IsRowDrawn r frame closes s found.0 named row.cells below) name found.1 in
-            subst (λ bar. BarBegins (layout_in r frame) bar (row.cells ∷ rows_below below)) (bar_given s a long) (line_begins a among long (deep a among long) found.0 (first_line text a) row.cells below line refl);
+            subst (λ bar. BarBegins frame bar (row.cells ∷ rows_below below)) (bar_given s a long) (line_begins a among long (deep a among long) found.0 (first_line text a) row.cells below line refl);
         end = λ a among long above row below is name.
             let found = row_drawn [] rows drawn above row below is in
             let line = subst (λ named. IsRowDrawn r frame closes s found.0 named row.cells below) name found.1 in
-            subst (λ bar. BarEnds (layout_in r frame) bar (row.cells ∷ rows_below below)) (bar_given s a long) (line_ends a among long (deep a among long) found.0 (last_line text a) row.cells below line refl);
+            subst (λ bar. BarEnds frame bar (row.cells ∷ rows_below below)) (bar_given s a long) (line_ends a among long (deep a among long) found.0 (last_line text a) row.cells below line refl);
         within = λ a among long. let depth = depth-within (source s) (marks s) a among long in inside (depth_of (source s) (marks s) a) depth.0 depth.1;
         apart = λ a b among-a among-b long-a long-b from to same.
             bytes_same (source s) a b (one_place (source s) (marks s) spans a b among-a among-b long-a long-b from to (omega (arith, same)));
