@@ -12,7 +12,7 @@ use Rattle.snippet_suggest.specs.Rows.{AddsEnd, AddsRow, AddsRows, AddsSuggestio
 use Rattle.snippet_suggest.proofs.BareLemmas.{stroke_none}
 
 -- what is added below so many empty rows
-pub end_row : (layout : SuggestionLayout) (glyph : List ℕ) (skipped : ℕ) (old new : List (List Cell)) → AddsEnd layout glyph skipped old new → AddsRow (IsStrokeRow layout.decor layout.gutter (beside_gutter layout.gutter glyph)) (old ++ replicate skipped []) new
+pub end_row : (layout : SuggestionLayout) (glyph : List ℕ) (skipped : ℕ) (old new : List (List Cell)) → AddsEnd layout glyph skipped old new → AddsRow (IsStrokeRow layout.frame.decor layout.frame.gutter (beside_gutter layout.frame.gutter glyph)) (old ++ replicate skipped []) new
 end_row layout glyph skipped old new adds =
     record {
       row = adds.last;
@@ -31,7 +31,7 @@ empty_below layout first lines begin above new adds =
     record {
       rows = adds.row ∷ [] ∷ [];
       added = ap (λ rows. rows ++ [] ∷ []) adds.added ∙ append_assoc above (adds.row ∷ []) ([] ∷ []);
-      are = (adds.is, (stroke_none layout.decor layout.gutter, tt));
+      are = (adds.is, (stroke_none layout.frame.decor layout.frame.gutter, tt));
     }
 
 -- the rows of a suggestion, the last of which is what it ends with

@@ -64,14 +64,14 @@ mark_of decor source e = if adds_text source e then 43 else changed_mark_of deco
 -- a row with a mark in the columns from one to before another, as far as there are columns
 unfoldable pub with_mark : SuggestionLayout → ℕ → ℕ → ℕ → List Cell → List Cell
 with_mark layout mark start end row =
-    put Addition (replicate (min end (2 ^ 60) - start) mark) (layout.gutter + 3 + start) row
+    put Addition (replicate (min end (2 ^ 60) - start) mark) (layout.frame.gutter + 3 + start) row
 
 -- a row with the marks of some edits of a source, after others with these columns
 unfoldable pub with_marks : SuggestionLayout → Source → List PatchColumns → List Edit → List Cell → List Cell
 with_marks layout s earlier [] row = row
 with_marks layout s earlier (e ∷ es) row =
     let c = columns_of s e in
-    with_marks layout s (earlier ++ c ∷ []) es (with_mark layout (mark_of layout.decor s.text e) (mark_start earlier c e.text) (mark_end earlier c e.text) row)
+    with_marks layout s (earlier ++ c ∷ []) es (with_mark layout (mark_of layout.frame.decor s.text e) (mark_start earlier c e.text) (mark_end earlier c e.text) row)
 
 -- the edits that some trimmed patches are
 abbrev pub edits_at : List TrimmedPatch → List Edit

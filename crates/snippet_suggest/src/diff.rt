@@ -37,23 +37,22 @@ use std::alloc::{AllocError, Global};
 pub(crate) fn draw_diff(
     alloc: Global,
     buffer: &mut StyledBuffer,
-    layout: SuggestionLayout,
+    layout: &SuggestionLayout,
     first: usize,
     removed: &[LineInfo<'_>],
     replaced: &[Vec<SubstitutionHighlight>],
     line: &str,
     added: &[SubstitutionHighlight],
 ) -> Result<(), AllocError>
-    requires narrow { layout.gutter < 2 ^ 32 }
     requires some { 0 < length removed.now }
     // Below the row that the suggestion begins with, in which roles may change.
     ensures added { let left = unless_stays (bytes_eq line.now (last_removed removed.now)) (texts_at removed.now) in
         (above : List (List Cell)) (last : List Cell) (begin : SuggestionRow) (i : ℕ) → buffer.old ≡ above ++ last ∷ []
-        → Shows layout first (line.now ∷ []) begin last → NumberFits layout first (Line 0)
-        → OnOk result (AddsRows layout first (line.now ∷ []) (begin ∷ changed_rows true
+        → Shows layout.now first (line.now ∷ []) begin last → NumberFits layout.now first (Line 0)
+        → OnOk result (AddsRows layout.now first (line.now ∷ []) (begin ∷ changed_rows true
         (is_left_out Diff (line.now ∷ []) (last_removed removed.now)) (removed_from i (counted_from first 0 left))) above buffer.new) }
     ensures cells { (above : List (List Cell)) (last : List Cell) → buffer.old ≡ above ++ last ∷ []
-        → OnOk result (buffer.new ≡ above ++ diff_cells layout first removed.now (line_stretches replaced.now) line.now added.now last) }
+        → OnOk result (buffer.new ≡ above ++ diff_cells layout.now first removed.now (line_stretches replaced.now) line.now added.now last) }
 {
     let stays = is_last(removed, line);
     let count = removed.len().saturating_sub(usize::from(stays));
@@ -71,20 +70,19 @@ pub(crate) fn draw_diff(
 fn draw_diff_line(
     alloc: Global,
     buffer: &mut StyledBuffer,
-    layout: SuggestionLayout,
+    layout: &SuggestionLayout,
     first: usize,
     line: &str,
     left_out: bool,
     added: &[SubstitutionHighlight],
 ) -> Result<(), AllocError>
-    requires narrow { layout.gutter < 2 ^ 32 }
     ensures left { (above : List (List Cell)) (last : List Cell) → left_out ≡ true → buffer.old ≡ above ++ last ∷ []
         → OnOk result (IsRepainted above last buffer.new) }
-    ensures added { left_out ≡ false → NumberFits layout first (Line 0)
-        → OnOk result (AddsRows layout first (line.now ∷ []) (Offers 0 ∷ []) buffer.old buffer.new) }
+    ensures added { left_out ≡ false → NumberFits layout.now first (Line 0)
+        → OnOk result (AddsRows layout.now first (line.now ∷ []) (Offers 0 ∷ []) buffer.old buffer.new) }
     ensures left_cells { (above : List (List Cell)) (last : List Cell) → left_out ≡ true → buffer.old ≡ above ++ last ∷ []
-        → OnOk result (buffer.new ≡ above ++ with_stretches Addition layout.gutter (chars line.now) added.now last ∷ []) }
-    ensures cells { left_out ≡ false → OnOk result (buffer.new ≡ buffer.old ++ offered_cells layout Diff 1 first line.now added.now ∷ []) }
+        → OnOk result (buffer.new ≡ above ++ with_stretches Addition layout.now.frame.gutter (chars line.now) added.now last ∷ []) }
+    ensures cells { left_out ≡ false → OnOk result (buffer.new ≡ buffer.old ++ offered_cells layout.now Diff 1 first line.now added.now ∷ []) }
 {
     if !left_out {
         draw_line(alloc, buffer, layout, SuggestionGlyph::Added, first, line)?;
@@ -95,7 +93,7 @@ fn draw_diff_line(
 /// Gives the cells of stretches of a line, which stands in the last row, a role.
 fn paint_last(
     buffer: &mut StyledBuffer,
-    layout: SuggestionLayout,
+    layout: &SuggestionLayout,
     line: &str,
     stretches: &[SubstitutionHighlight],
     role: ElementStyle,
@@ -103,7 +101,7 @@ fn paint_last(
     ensures repaints { (above : List (List Cell)) (last : List Cell) → buffer.old ≡ above ++ last ∷ []
         → OnOk result (IsRepainted above last buffer.new) }
     ensures cells { (above : List (List Cell)) (last : List Cell) → buffer.old ≡ above ++ last ∷ []
-        → OnOk result (buffer.new ≡ above ++ with_stretches role layout.gutter (chars line.now) stretches.now last ∷ []) }
+        → OnOk result (buffer.new ≡ above ++ with_stretches role layout.now.frame.gutter (chars line.now) stretches.now last ∷ []) }
 {
     let row = buffer.num_lines().saturating_sub(1);
     paint_stretches(buffer, layout, row, line, stretches, role)
@@ -142,14 +140,13 @@ fn diff_stretches<'a>(
 fn draw_diff_removed(
     alloc: Global,
     buffer: &mut StyledBuffer,
-    layout: SuggestionLayout,
+    layout: &SuggestionLayout,
     first: usize,
     removed: &[LineInfo<'_>],
     replaced: &[Vec<SubstitutionHighlight>],
 ) -> Result<(), AllocError>
-    requires narrow { layout.gutter < 2 ^ 32 }
-    ensures added { OnOk result (AddsRemoved layout (counted_from first 0 (texts_at removed.now)) buffer.old buffer.new) }
-    ensures cells { OnOk result (buffer.new ≡ buffer.old ++ taken_cells layout first (line_stretches replaced.now) 0 removed.now) }
+    ensures added { OnOk result (AddsRemoved layout.now (counted_from first 0 (texts_at removed.now)) buffer.old buffer.new) }
+    ensures cells { OnOk result (buffer.new ≡ buffer.old ++ taken_cells layout.now first (line_stretches replaced.now) 0 removed.now) }
 {
     for i in 0..removed.len() {
         let info = removed[i];

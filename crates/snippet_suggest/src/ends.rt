@@ -28,15 +28,14 @@ use std::alloc::AllocError;
 /// There is no memory for the row.
 pub(crate) fn draw_head(
     buffer: &mut StyledBuffer,
-    layout: SuggestionLayout,
+    layout: &SuggestionLayout,
     start: SuggestionStart,
 ) -> Result<(), AllocError>
-    requires narrow { layout.gutter < 2 ^ 32 }
-    ensures added { (above tail : List (List Cell)) → buffer.old ≡ above ++ tail → IsStart layout start tail
-        → OnOk result (AddsRow (IsStrokeRow layout.decor layout.gutter
-        (beside_gutter layout.gutter (begin_glyph layout.decor start))) above buffer.new) }
+    ensures added { (above tail : List (List Cell)) → buffer.old ≡ above ++ tail → IsStart layout.now start tail
+        → OnOk result (AddsRow (IsStrokeRow layout.now.frame.decor layout.now.frame.gutter
+        (beside_gutter layout.now.frame.gutter (begin_glyph layout.now.frame.decor start))) above buffer.new) }
     ensures cells { (above tail : List (List Cell)) → buffer.old ≡ above ++ tail → length tail ≡ rows_shared start
-        → OnOk result (buffer.new ≡ above ++ begin_cells layout start (row_at tail 0) ∷ []) }
+        → OnOk result (buffer.new ≡ above ++ begin_cells layout.now start (row_at tail 0) ∷ []) }
 {
     let rows = buffer.num_lines();
     match start {
@@ -52,26 +51,26 @@ pub(crate) fn draw_head(
 /// Draws a glyph that is no line's after the gutter of a row, which stands alone unless the row is one that is there.
 fn draw_glyph(
     buffer: &mut StyledBuffer,
-    layout: SuggestionLayout,
+    layout: &SuggestionLayout,
     row: usize,
     glyph: SuggestionGlyph,
 ) -> Result<(), AllocError>
-    requires narrow { layout.gutter < 2 ^ 32 }
     requires row { row + 1 < 2 ^ 64 }
     ensures added { is_begin glyph ≡ true → (above tail : List (List Cell)) (shares : Bool) → row ≡ length above → buffer.old ≡ above ++ tail
-        → IsTail layout.decor layout.gutter shares tail → OnOk result (AddsRow (IsStrokeRow layout.decor layout.gutter
-        (beside_gutter layout.gutter (glyph_of layout.decor glyph))) above buffer.new) }
+        → IsTail layout.now.frame.decor layout.now.frame.gutter shares tail → OnOk result (AddsRow (IsStrokeRow layout.now.frame.decor layout.now.frame.gutter
+        (beside_gutter layout.now.frame.gutter (glyph_of layout.now.frame.decor glyph))) above buffer.new) }
     ensures end { is_sign glyph ≡ false → (skipped : ℕ) → row ≡ length buffer.old + skipped
-        → OnOk result (AddsEnd layout (glyph_of layout.decor glyph) skipped buffer.old buffer.new) }
+        → OnOk result (AddsEnd layout.now (glyph_of layout.now.frame.decor glyph) skipped buffer.old buffer.new) }
     ensures over { (above tail : List (List Cell)) → row ≡ length above → buffer.old ≡ above ++ tail → length tail ≤ 1
-        → OnOk result (buffer.new ≡ above ++ put LineNumber (glyph_of layout.decor glyph) (layout.gutter + 1) (row_at tail 0) ∷ []) }
+        → OnOk result (buffer.new ≡ above ++ put LineNumber (glyph_of layout.now.frame.decor glyph) (layout.now.frame.gutter + 1) (row_at tail 0) ∷ []) }
     ensures below { (skipped : ℕ) → row ≡ length buffer.old + skipped → OnOk result (buffer.new
-        ≡ (buffer.old ++ replicate skipped []) ++ put LineNumber (glyph_of layout.decor glyph) (layout.gutter + 1) [] ∷ []) }
+        ≡ (buffer.old ++ replicate skipped []) ++ put LineNumber (glyph_of layout.now.frame.decor glyph) (layout.now.frame.gutter + 1) [] ∷ []) }
 {
+    let frame = layout.frame;
     buffer.puts(
         row,
-        layout.gutter + 1,
-        glyph.text(layout.decor),
+        frame.gutter + 1,
+        glyph.text(frame.decor),
         ElementStyle::LineNumber,
     )?;
     Ok(())
@@ -89,14 +88,13 @@ fn draw_glyph(
 /// There is no memory for the row.
 pub(crate) fn draw_end(
     buffer: &mut StyledBuffer,
-    layout: SuggestionLayout,
+    layout: &SuggestionLayout,
     skipped: usize,
     follows: bool,
 ) -> Result<usize, AllocError>
-    requires narrow { layout.gutter < 2 ^ 32 }
     requires few { skipped < 2 }
-    ensures added { OnOk result (AddsEnd layout (end_glyph layout.decor follows) skipped buffer.old buffer.new) }
-    ensures cells { OnOk result (buffer.new ≡ (buffer.old ++ replicate skipped []) ++ end_cells layout follows ∷ []) }
+    ensures added { OnOk result (AddsEnd layout.now (end_glyph layout.now.frame.decor follows) skipped buffer.old buffer.new) }
+    ensures cells { OnOk result (buffer.new ≡ (buffer.old ++ replicate skipped []) ++ end_cells layout.now follows ∷ []) }
     ensures row { IfOk result (λ row. (row ≡ length buffer.old + skipped) × (row + 1 < 2 ^ 64)) }
 {
     let row = buffer.num_lines() + skipped;

@@ -1,22 +1,20 @@
 //! Where the parts of a suggestion's rows stand, and how it begins.
 
+use snippet_grid::Layout;
 use snippet_lines::LineNumbers;
-use snippet_style::DecorStyle;
 
-/// Where the parts of a suggestion's rows stand, in cells from 0, and the glyphs of its strokes.
+/// Where the parts of a suggestion's rows stand, in cells from 0, and what its gutter shows.
 ///
 /// ```text
-///     1 - let x = 1;       a line's number is right-aligned in the first `gutter` cells, its glyph stands at `gutter + 1`,
-///     1 + let x = 2;       and the line from `gutter + 3` on
+///     1 - let x = 1;       a line's number is right-aligned in the first `frame.gutter` cells, its glyph stands at
+///     1 + let x = 2;       `frame.gutter + 1`, and the line from `frame.gutter + 3` on
 /// ```
 #[derive(Clone, Copy, Debug)]
 pub struct SuggestionLayout {
-    /// The number of cells that line numbers are right-aligned in.
-    pub gutter: usize,
-    /// What stands in these cells beside lines.
+    /// Where the parts of the group's rows stand.
+    pub frame: Layout,
+    /// What stands in the gutter beside lines.
     pub numbers: LineNumbers,
-    /// The glyphs of the strokes.
-    pub decor: DecorStyle,
 }
 
 /// How a suggestion begins.

@@ -53,7 +53,7 @@ pub(crate) fn text_lines<'a>(alloc: Global, text: &'a str) -> Result<Vec<&'a str
 pub(crate) fn draw_lines(
     alloc: Global,
     buffer: &mut StyledBuffer,
-    layout: SuggestionLayout,
+    layout: &SuggestionLayout,
     kind: DisplaySuggestion,
     first: usize,
     lines: &[&str],
@@ -61,12 +61,11 @@ pub(crate) fn draw_lines(
     stretches: &[Vec<SubstitutionHighlight>],
     fold: bool,
 ) -> Result<(), AllocError>
-    requires narrow { layout.gutter < 2 ^ 32 }
     ensures added { let shown = shown_lines (is_touched fold ranges.now) (length lines.now) in
-        ((k : ℕ) → k < length lines.now → NumberFits layout first (Line k))
-        → OnOk result (AddsShown layout first (map (λ l. l.now) lines.now) shown buffer.old buffer.new) }
+        ((k : ℕ) → k < length lines.now → NumberFits layout.now first (Line k))
+        → OnOk result (AddsShown layout.now first (map (λ l. l.now) lines.now) shown buffer.old buffer.new) }
     ensures cells { OnOk result (buffer.new ≡ buffer.old ++ map
-        (shown_cells layout kind first (map (λ l. l.now) lines.now) (line_stretches stretches.now))
+        (shown_cells layout.now kind first (map (λ l. l.now) lines.now) (line_stretches stretches.now))
         (shown_lines (is_touched fold ranges.now) (length lines.now))) }
 {
     let shown = shown_lines(alloc, lines.len(), ranges, fold)?;
@@ -78,18 +77,17 @@ pub(crate) fn draw_lines(
 fn draw_shown(
     alloc: Global,
     buffer: &mut StyledBuffer,
-    layout: SuggestionLayout,
+    layout: &SuggestionLayout,
     kind: DisplaySuggestion,
     first: usize,
     lines: &[&str],
     stretches: &[Vec<SubstitutionHighlight>],
     shown: &[ShownLine],
 ) -> Result<(), AllocError>
-    requires narrow { layout.gutter < 2 ^ 32 }
-    ensures added { All (NumberFits layout first) shown.now
-        → OnOk result (AddsShown layout first (map (λ l. l.now) lines.now) shown.now buffer.old buffer.new) }
+    ensures added { All (NumberFits layout.now first) shown.now
+        → OnOk result (AddsShown layout.now first (map (λ l. l.now) lines.now) shown.now buffer.old buffer.new) }
     ensures cells { OnOk result (buffer.new ≡ buffer.old ++ map
-        (shown_cells layout kind first (map (λ l. l.now) lines.now) (line_stretches stretches.now)) shown.now) }
+        (shown_cells layout.now kind first (map (λ l. l.now) lines.now) (line_stretches stretches.now)) shown.now) }
 {
     for line in shown {
         draw_shown_line(alloc, buffer, layout, kind, first, lines, stretches, *line)?;
@@ -101,18 +99,17 @@ fn draw_shown(
 fn draw_shown_line(
     alloc: Global,
     buffer: &mut StyledBuffer,
-    layout: SuggestionLayout,
+    layout: &SuggestionLayout,
     kind: DisplaySuggestion,
     first: usize,
     lines: &[&str],
     stretches: &[Vec<SubstitutionHighlight>],
     line: ShownLine,
 ) -> Result<(), AllocError>
-    requires narrow { layout.gutter < 2 ^ 32 }
-    ensures added { NumberFits layout first line
-        → OnOk result (AddsRow (IsShownRow layout first (map (λ l. l.now) lines.now) line) buffer.old buffer.new) }
+    ensures added { NumberFits layout.now first line
+        → OnOk result (AddsRow (IsShownRow layout.now first (map (λ l. l.now) lines.now) line) buffer.old buffer.new) }
     ensures cells { OnOk result (buffer.new ≡ buffer.old
-        ++ shown_cells layout kind first (map (λ l. l.now) lines.now) (line_stretches stretches.now) line ∷ []) }
+        ++ shown_cells layout.now kind first (map (λ l. l.now) lines.now) (line_stretches stretches.now) line ∷ []) }
 {
     match line {
         ShownLine::Line(k) => {
@@ -126,19 +123,18 @@ fn draw_shown_line(
 fn draw_text_line(
     alloc: Global,
     buffer: &mut StyledBuffer,
-    layout: SuggestionLayout,
+    layout: &SuggestionLayout,
     kind: DisplaySuggestion,
     first: usize,
     lines: &[&str],
     stretches: &[Vec<SubstitutionHighlight>],
     k: usize,
 ) -> Result<(), AllocError>
-    requires narrow { layout.gutter < 2 ^ 32 }
-    ensures added { length (shown_number layout.numbers layout.gutter (number_after first k)) ≤ layout.gutter + 1
-        → OnOk result (AddsRow (IsLineRow layout.decor layout.gutter (shown_number layout.numbers layout.gutter (number_after first k))
+    ensures added { length (shown_number layout.now.numbers layout.now.frame.gutter (number_after first k)) ≤ layout.now.frame.gutter + 1
+        → OnOk result (AddsRow (IsLineRow layout.now.frame.decor layout.now.frame.gutter (shown_number layout.now.numbers layout.now.frame.gutter (number_after first k))
         (norm (chars (slice_index_or (map (λ l. l.now) lines.now) k [])))) buffer.old buffer.new) }
     ensures cells { OnOk result (buffer.new ≡ buffer.old
-        ++ shown_cells layout kind first (map (λ l. l.now) lines.now) (line_stretches stretches.now) (Line k) ∷ []) }
+        ++ shown_cells layout.now kind first (map (λ l. l.now) lines.now) (line_stretches stretches.now) (Line k) ∷ []) }
 {
     let line = line_at(lines, k);
     let stretches = stretches_of(stretches, k);

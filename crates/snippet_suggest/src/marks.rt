@@ -134,19 +134,18 @@ impl Moves {
 pub(crate) fn draw_marks(
     alloc: Global,
     buffer: &mut StyledBuffer,
-    layout: SuggestionLayout,
+    layout: &SuggestionLayout,
     row: usize,
     map: &SourceMap<'_>,
     patches: &[TrimmedPatch<'_>],
 ) -> Result<(), AllocError>
-    requires narrow { layout.gutter < 2 ^ 32 }
     requires row { row + 1 < 2 ^ 64 }
     requires spans { All (λ p. IsSpan map.now.text p.span.start p.span.end) patches.now }
     // Into the last row, which shows no line.
     ensures marked { (above : List (List Cell)) (last : List Cell) (left : List ℕ) → row ≡ length above → buffer.old ≡ above ++ last ∷ []
-        → IsStrokeRow layout.decor layout.gutter left last → OnOk result (AddsRow (IsStrokeRow layout.decor layout.gutter left) above buffer.new) }
+        → IsStrokeRow layout.now.frame.decor layout.now.frame.gutter left last → OnOk result (AddsRow (IsStrokeRow layout.now.frame.decor layout.now.frame.gutter left) above buffer.new) }
     ensures cells { (above : List (List Cell)) (last : List Cell) → row ≡ length above → buffer.old ≡ above ++ last ∷ []
-        → OnOk result (buffer.new ≡ above ++ with_marks layout map.now [] (edits_at patches.now) last ∷ []) }
+        → OnOk result (buffer.new ≡ above ++ with_marks layout.now map.now [] (edits_at patches.now) last ∷ []) }
 {
     let mut moves = Moves::none(alloc);
     for patch in patches {
@@ -160,37 +159,38 @@ pub(crate) fn draw_marks(
 }
 
 /// The mark below what a patch puts in.
-fn patch_mark(layout: SuggestionLayout, map: &SourceMap<'_>, patch: &TrimmedPatch<'_>) -> char
-    ensures mark { IsMarkOrSpace layout.decor result }
+fn patch_mark(layout: &SuggestionLayout, map: &SourceMap<'_>, patch: &TrimmedPatch<'_>) -> char
+    ensures mark { IsMarkOrSpace layout.now.frame.decor result }
     ensures value { IsSpan map.now.text patch.now.span.start patch.now.span.end
-        → result ≡ mark_of layout.decor map.now.text (trimmed_edit_of patch.now) }
+        → result ≡ mark_of layout.now.frame.decor map.now.text (trimmed_edit_of patch.now) }
 {
+    let frame = layout.frame;
     if is_addition(map.source(), patch) {
         '+'
     } else {
-        changed_mark(layout.decor)
+        changed_mark(frame.decor)
     }
 }
 
 /// Draws a mark into the columns from `start` to before `end` of a row, which shows no line.
 fn draw_mark(
     buffer: &mut StyledBuffer,
-    layout: SuggestionLayout,
+    layout: &SuggestionLayout,
     row: usize,
     start: usize,
     end: usize,
     mark: char,
 ) -> Result<(), AllocError>
-    requires narrow { layout.gutter < 2 ^ 32 }
     requires row { row + 1 < 2 ^ 64 }
     ensures marked { (above : List (List Cell)) (last : List Cell) (left : List ℕ) → row ≡ length above → buffer.old ≡ above ++ last ∷ []
-        → IsStrokeRow layout.decor layout.gutter left last → IsMarkOrSpace layout.decor mark
-        → OnOk result (AddsRow (IsStrokeRow layout.decor layout.gutter left) above buffer.new) }
+        → IsStrokeRow layout.now.frame.decor layout.now.frame.gutter left last → IsMarkOrSpace layout.now.frame.decor mark
+        → OnOk result (AddsRow (IsStrokeRow layout.now.frame.decor layout.now.frame.gutter left) above buffer.new) }
     ensures cells { (above : List (List Cell)) (last : List Cell) → row ≡ length above → buffer.old ≡ above ++ last ∷ []
-        → OnOk result (buffer.new ≡ above ++ with_mark layout mark start end last ∷ []) }
+        → OnOk result (buffer.new ≡ above ++ with_mark layout.now mark start end last ∷ []) }
 {
+    let frame = layout.frame;
     for column in start..end.min(MAX_COLUMN) {
-        let cell = layout.gutter + 3 + column;
+        let cell = frame.gutter + 3 + column;
         buffer.putc(row, cell, mark, ElementStyle::Addition)?;
     }
     Ok(())

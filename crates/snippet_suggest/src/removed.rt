@@ -26,18 +26,17 @@ use std::alloc::{AllocError, Global};
 pub(crate) fn draw_removed_lines(
     alloc: Global,
     buffer: &mut StyledBuffer,
-    layout: SuggestionLayout,
+    layout: &SuggestionLayout,
     row: usize,
     lines: &[LineInfo<'_>],
 ) -> Result<(), AllocError>
-    requires narrow { layout.gutter < 2 ^ 32 }
     requires row { row < 2 ^ 60 }
     requires some { 0 < length lines.now }
     // Below some rows, the first of them perhaps over a row that shows no line.
     ensures added { (above tail : List (List Cell)) (shares : Bool) → row ≡ length above → buffer.old ≡ above ++ tail
-        → IsTail layout.decor layout.gutter shares tail → OnOk result (AddsRemoved layout (numbered_at lines.now) above buffer.new) }
+        → IsTail layout.now.frame.decor layout.now.frame.gutter shares tail → OnOk result (AddsRemoved layout.now (numbered_at lines.now) above buffer.new) }
     ensures cells { (above tail : List (List Cell)) → row ≡ length above → buffer.old ≡ above ++ tail → length tail ≤ 1
-        → OnOk result (buffer.new ≡ above ++ emptied_cells layout (numbered_at lines.now) (row_at tail 0)) }
+        → OnOk result (buffer.new ≡ above ++ emptied_cells layout.now (numbered_at lines.now) (row_at tail 0)) }
 {
     let mut row = row;
     for info in lines {

@@ -16,7 +16,7 @@ use std::str::Chars;
 /// Gives the cells of stretches of a line, which stands in this row, a role.
 pub(crate) fn paint_stretches(
     buffer: &mut StyledBuffer,
-    layout: SuggestionLayout,
+    layout: &SuggestionLayout,
     row: usize,
     line: &str,
     stretches: &[SubstitutionHighlight],
@@ -25,7 +25,7 @@ pub(crate) fn paint_stretches(
     ensures repaints { OnOk result ((above : List (List Cell)) (last : List Cell) → row ≡ length above
         → buffer.old ≡ above ++ last ∷ [] → IsRepainted above last buffer.new) }
     ensures cells { OnOk result ((above : List (List Cell)) (last : List Cell) → row ≡ length above → buffer.old ≡ above ++ last ∷ []
-        → buffer.new ≡ above ++ with_stretches role layout.gutter (chars line.now) stretches.now last ∷ []) }
+        → buffer.new ≡ above ++ with_stretches role layout.now.frame.gutter (chars line.now) stretches.now last ∷ []) }
 {
     let mut tabs = TabCursor::new(line);
     for stretch in stretches {
@@ -39,10 +39,11 @@ pub(crate) fn paint_stretches(
 }
 
 /// The cell of a character with this many tabs before it, each of which takes four cells.
-fn stretch_cell(layout: SuggestionLayout, character: usize, tabs: usize) -> usize
-    ensures value { (n : ℕ) → tabs ≡ capped n → result ≡ capped (layout.gutter + 3 + character + 3 * n) }
+fn stretch_cell(layout: &SuggestionLayout, character: usize, tabs: usize) -> usize
+    ensures value { (n : ℕ) → tabs ≡ capped n → result ≡ capped (layout.now.frame.gutter + 3 + character + 3 * n) }
 {
-    layout
+    let frame = layout.frame;
+    frame
         .gutter
         .saturating_add(3)
         .saturating_add(character)

@@ -28,25 +28,25 @@ use std::alloc::{AllocError, Global};
 pub(crate) fn draw_line(
     alloc: Global,
     buffer: &mut StyledBuffer,
-    layout: SuggestionLayout,
+    layout: &SuggestionLayout,
     glyph: SuggestionGlyph,
     number: usize,
     line: &str,
 ) -> Result<usize, AllocError>
-    requires narrow { layout.gutter < 2 ^ 32 }
     requires sign { is_sign glyph ≡ true }
-    ensures added { let shown = shown_number layout.numbers layout.gutter number in length shown ≤ layout.gutter + 1
-        → OnOk result (AddsRow (IsLineRow layout.decor layout.gutter shown (norm (chars line.now))) buffer.old buffer.new) }
-    ensures cells { OnOk result (buffer.new ≡ buffer.old ++ line_cells layout glyph number line.now ∷ []) }
+    ensures added { let shown = shown_number layout.now.numbers layout.now.frame.gutter number in length shown ≤ layout.now.frame.gutter + 1
+        → OnOk result (AddsRow (IsLineRow layout.now.frame.decor layout.now.frame.gutter shown (norm (chars line.now))) buffer.old buffer.new) }
+    ensures cells { OnOk result (buffer.new ≡ buffer.old ++ line_cells layout.now glyph number line.now ∷ []) }
     ensures row { IfOk result (λ row. row ≡ length buffer.old) }
 {
     let row = buffer.num_lines();
-    let sign = glyph.text(layout.decor);
-    buffer.puts(row, layout.gutter + 1, sign, glyph.role())?;
-    let number = number_text(alloc, layout.numbers, layout.gutter, number)?;
+    let frame = layout.frame;
+    let sign = glyph.text(frame.decor);
+    buffer.puts(row, frame.gutter + 1, sign, glyph.role())?;
+    let number = number_text(alloc, layout.numbers, frame.gutter, number)?;
     buffer.puts(row, 0, number.as_str(), ElementStyle::LineNumber)?;
     let text = normalized(alloc, line)?;
-    buffer.puts(row, layout.gutter + 3, text.as_str(), ElementStyle::NoStyle)?;
+    buffer.puts(row, frame.gutter + 3, text.as_str(), ElementStyle::NoStyle)?;
     Ok(row)
 }
 
@@ -62,25 +62,25 @@ pub(crate) fn draw_line(
 pub(crate) fn draw_removed_line(
     alloc: Global,
     buffer: &mut StyledBuffer,
-    layout: SuggestionLayout,
+    layout: &SuggestionLayout,
     row: usize,
     number: usize,
     line: &str,
     role: ElementStyle,
 ) -> Result<(), AllocError>
-    requires narrow { layout.gutter < 2 ^ 32 }
     requires row { row + 1 < 2 ^ 64 }
     // In a row of its own, or over one that shows no line.
     ensures added { (above tail : List (List Cell)) (shares : Bool) → row ≡ length above → buffer.old ≡ above ++ tail
-        → IsTail layout.decor layout.gutter shares tail → OnOk result (AddsRow (IsRowOfRemoved layout (number, line.now)) above buffer.new) }
+        → IsTail layout.now.frame.decor layout.now.frame.gutter shares tail → OnOk result (AddsRow (IsRowOfRemoved layout.now (number, line.now)) above buffer.new) }
     ensures cells { (above tail : List (List Cell)) → row ≡ length above → buffer.old ≡ above ++ tail → length tail ≤ 1
-        → OnOk result (buffer.new ≡ above ++ removed_cells layout role number line.now (row_at tail 0) ∷ []) }
+        → OnOk result (buffer.new ≡ above ++ removed_cells layout.now role number line.now (row_at tail 0) ∷ []) }
 {
-    let number = number_text(alloc, layout.numbers, layout.gutter, number)?;
+    let frame = layout.frame;
+    let number = number_text(alloc, layout.numbers, frame.gutter, number)?;
     buffer.puts(row, 0, number.as_str(), ElementStyle::LineNumber)?;
-    buffer.puts(row, layout.gutter + 1, "- ", ElementStyle::Removal)?;
+    buffer.puts(row, frame.gutter + 1, "- ", ElementStyle::Removal)?;
     let text = normalized(alloc, line)?;
-    buffer.puts(row, layout.gutter + 3, text.as_str(), role)?;
+    buffer.puts(row, frame.gutter + 3, text.as_str(), role)?;
     Ok(())
 }
 
@@ -95,15 +95,15 @@ pub(crate) fn draw_removed_line(
 /// There is no memory for the row.
 pub(crate) fn draw_gap(
     buffer: &mut StyledBuffer,
-    layout: SuggestionLayout,
+    layout: &SuggestionLayout,
 ) -> Result<(), AllocError>
-    requires narrow { layout.gutter < 2 ^ 32 }
-    ensures added { OnOk result (AddsRow (IsStrokeRow layout.decor layout.gutter (gap_left layout.decor layout.gutter)) buffer.old buffer.new) }
-    ensures cells { OnOk result (buffer.new ≡ buffer.old ++ gap_cells layout ∷ []) }
+    ensures added { OnOk result (AddsRow (IsStrokeRow layout.now.frame.decor layout.now.frame.gutter (gap_left layout.now.frame.decor layout.now.frame.gutter)) buffer.old buffer.new) }
+    ensures cells { OnOk result (buffer.new ≡ buffer.old ++ gap_cells layout.now ∷ []) }
 {
     let row = buffer.num_lines();
-    let placeholder = layout.decor.placeholder();
-    let cell = layout.gutter.saturating_sub(str_width(placeholder));
+    let frame = layout.frame;
+    let placeholder = frame.decor.placeholder();
+    let cell = frame.gutter.saturating_sub(str_width(placeholder));
     buffer.puts(row, cell, placeholder, ElementStyle::LineNumber)?;
     Ok(())
 }

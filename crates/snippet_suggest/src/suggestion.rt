@@ -49,21 +49,20 @@ use std::ops::Range;
 pub fn draw_suggestion(
     alloc: Global,
     buffer: &mut StyledBuffer,
-    layout: SuggestionLayout,
+    layout: &SuggestionLayout,
     suggestion: &PreparedSuggestion<'_>,
     start: SuggestionStart,
     follows: bool,
 ) -> Result<(), AllocError>
-    requires narrow { layout.gutter < 2 ^ 32 }
     requires prepared { IsPrepared suggestion.now }
     // Where the gutter has room for the number that it counts: the rows that it has, in their order, and nothing else, below what
     // stands there.
-    ensures added { HasGutter layout suggestion.now.snippet.now
-        → (above tail : List (List Cell)) → buffer.old ≡ above ++ tail → IsStart layout start tail
-        → OnOk result (AddsSuggestion layout start follows suggestion.now.snippet.now above buffer.new) }
+    ensures added { HasGutter layout.now suggestion.now.snippet.now
+        → (above tail : List (List Cell)) → buffer.old ≡ above ++ tail → IsStart layout.now start tail
+        → OnOk result (AddsSuggestion layout.now start follows suggestion.now.snippet.now above buffer.new) }
     // These rows are a value, cell by cell.
     ensures cells { (above tail : List (List Cell)) → buffer.old ≡ above ++ tail → length tail ≡ rows_shared start
-        → OnOk result (buffer.new ≡ above ++ suggestion_cells layout start follows suggestion.now.snippet.now (row_at tail 0)) }
+        → OnOk result (buffer.new ≡ above ++ suggestion_cells layout.now start follows suggestion.now.snippet.now (row_at tail 0)) }
 {
     let lines = text_lines(alloc, suggestion.splice.complete.as_str())?;
     let skipped = draw_body(alloc, buffer, layout, suggestion, &lines, start)?;
@@ -79,23 +78,22 @@ pub fn draw_suggestion(
 fn draw_body(
     alloc: Global,
     buffer: &mut StyledBuffer,
-    layout: SuggestionLayout,
+    layout: &SuggestionLayout,
     suggestion: &PreparedSuggestion<'_>,
     lines: &[&str],
     start: SuggestionStart,
 ) -> Result<usize, AllocError>
-    requires narrow { layout.gutter < 2 ^ 32 }
     requires prepared { IsPrepared suggestion.now }
     requires lines { map (λ l. l.now) lines.now ≡ given_lines suggestion.now.snippet.now }
     ensures few { IfOk result (λ skipped. skipped < 2) }
     // Its rows, once those that stay empty stand there.
-    ensures added { let s = suggestion.now.snippet.now in HasGutter layout s
-        → (above tail : List (List Cell)) → buffer.old ≡ above ++ tail → IsStart layout start tail
-        → IfOk result (λ skipped. AddsRows layout (s.line_start + first_given s) (given_lines s) (rows_of_suggestion start s)
+    ensures added { let s = suggestion.now.snippet.now in HasGutter layout.now s
+        → (above tail : List (List Cell)) → buffer.old ≡ above ++ tail → IsStart layout.now start tail
+        → IfOk result (λ skipped. AddsRows layout.now (s.line_start + first_given s) (given_lines s) (rows_of_suggestion start s)
         above (buffer.new ++ replicate skipped [])) }
     ensures cells { let s = suggestion.now.snippet.now in
         (above tail : List (List Cell)) → buffer.old ≡ above ++ tail → length tail ≡ rows_shared start
-        → IfOk result (λ skipped. buffer.new ++ replicate skipped [] ≡ above ++ body_cells layout start s (row_at tail 0)) }
+        → IfOk result (λ skipped. buffer.new ++ replicate skipped [] ≡ above ++ body_cells layout.now start s (row_at tail 0)) }
 {
     let Some(line) = lines.first() else {
         draw_emptied(alloc, buffer, layout, suggestion, start)?;
@@ -127,26 +125,25 @@ fn draw_body(
 fn draw_changed(
     alloc: Global,
     buffer: &mut StyledBuffer,
-    layout: SuggestionLayout,
+    layout: &SuggestionLayout,
     suggestion: &PreparedSuggestion<'_>,
     first: usize,
     line: &str,
 ) -> Result<usize, AllocError>
-    requires narrow { layout.gutter < 2 ^ 32 }
     requires prepared { IsPrepared suggestion.now }
     requires line { given_lines suggestion.now.snippet.now ≡ line.now ∷ [] }
     requires diff { suggestion.now.kind ≡ Diff }
     requires first { first ≡ suggestion.now.snippet.now.line_start + first_given suggestion.now.snippet.now }
     ensures few { IfOk result (λ skipped. skipped < 2) }
     // Below the row that the suggestion begins with.
-    ensures added { let s = suggestion.now.snippet.now in NumberFits layout first (Line 0)
+    ensures added { let s = suggestion.now.snippet.now in NumberFits layout.now first (Line 0)
         → (above : List (List Cell)) (last : List Cell) (start : SuggestionStart) → buffer.old ≡ above ++ last ∷ []
-        → Shows layout first (given_lines s) (Begins start) last
-        → IfOk result (λ skipped. AddsRows layout first (given_lines s) (rows_of_suggestion start s)
+        → Shows layout.now first (given_lines s) (Begins start) last
+        → IfOk result (λ skipped. AddsRows layout.now first (given_lines s) (rows_of_suggestion start s)
         above (buffer.new ++ replicate skipped [])) }
     ensures cells { let s = suggestion.now.snippet.now in
-        (above : List (List Cell)) (under : List Cell) (start : SuggestionStart) → buffer.old ≡ above ++ begin_cells layout start under ∷ []
-        → IfOk result (λ skipped. buffer.new ++ replicate skipped [] ≡ above ++ body_cells layout start s under) }
+        (above : List (List Cell)) (under : List Cell) (start : SuggestionStart) → buffer.old ≡ above ++ begin_cells layout.now start under ∷ []
+        → IfOk result (λ skipped. buffer.new ++ replicate skipped [] ≡ above ++ body_cells layout.now start s under) }
 {
     let splice = &suggestion.splice;
     let map = &suggestion.map;
@@ -167,19 +164,18 @@ fn draw_changed(
 fn draw_emptied(
     alloc: Global,
     buffer: &mut StyledBuffer,
-    layout: SuggestionLayout,
+    layout: &SuggestionLayout,
     suggestion: &PreparedSuggestion<'_>,
     start: SuggestionStart,
 ) -> Result<(), AllocError>
-    requires narrow { layout.gutter < 2 ^ 32 }
     requires prepared { IsPrepared suggestion.now }
     requires none { given_lines suggestion.now.snippet.now ≡ [] }
     ensures added { let s = suggestion.now.snippet.now in (above tail : List (List Cell)) → buffer.old ≡ above ++ tail
-        → IsStart layout start tail
-        → OnOk result (AddsRows layout (s.line_start + first_given s) (given_lines s) (rows_of_suggestion start s) above buffer.new) }
+        → IsStart layout.now start tail
+        → OnOk result (AddsRows layout.now (s.line_start + first_given s) (given_lines s) (rows_of_suggestion start s) above buffer.new) }
     ensures cells { let s = suggestion.now.snippet.now in
         (above tail : List (List Cell)) → buffer.old ≡ above ++ tail → length tail ≡ rows_shared start
-        → OnOk result (buffer.new ≡ above ++ body_cells layout start s (row_at tail 0)) }
+        → OnOk result (buffer.new ≡ above ++ body_cells layout.now start s (row_at tail 0)) }
 {
     let map = &suggestion.map;
     let patches = &suggestion.splice.patches;

@@ -48,7 +48,7 @@ impl HeadingKind {
         ensures value { result ≡ spec.roles_of self level trusted }
     {
         match self {
-            HeadingKind::Title => snippet_titles::roles_of(TitleStyle::Title, level, trusted),
+            HeadingKind::Title => snippet_titles::roles_of(&TitleStyle::Title, level, trusted),
             HeadingKind::Message => HeadingRoles {
                 label: ElementStyle::MainHeaderMsg,
                 colon: ElementStyle::NoStyle,

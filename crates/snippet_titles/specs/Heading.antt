@@ -120,14 +120,14 @@ note_bar_of Unicode false = SPACE
 abbrev pub gutter_of : TitleStyle → ℕ
 gutter_of Title = 0
 gutter_of Short = 0
-gutter_of (Message place) = place.gutter
+gutter_of (Message place) = place.frame.gutter
 
 -- what a heading's first row begins with: nothing for a title, and for a message the sign after the gutter
 abbrev pub sign_cells : TitleStyle → List Cell
 sign_cells Title = []
 sign_cells Short = []
 sign_cells (Message place) =
-    replicate (place.gutter + 1) SPACE ++ text_cells role.LineNumber (note_sign_of place.decor place.followed)
+    replicate (place.frame.gutter + 1) SPACE ++ text_cells role.LineNumber (note_sign_of place.frame.decor place.followed)
 
 -- what a further row begins with, below a label of this width: as many spaces, and in a message three more than the gutter is
 -- wide, of which one gives its place to the stroke
@@ -135,7 +135,7 @@ abbrev pub indent_cells : TitleStyle → ℕ → List Cell
 indent_cells Title width = replicate width SPACE
 indent_cells Short width = replicate width SPACE
 indent_cells (Message place) width =
-    replicate (place.gutter + 1) SPACE ++ note_bar_of place.decor place.followed ∷ replicate (width + 1) SPACE
+    replicate (place.frame.gutter + 1) SPACE ++ note_bar_of place.frame.decor place.followed ∷ replicate (width + 1) SPACE
 
 -- the rows of lines: the first line stands after these cells, each further one after those
 abbrev pub lines_below : List Cell → List Cell → ElementStyle → List (List ℕ) → List (List Cell)

@@ -26,11 +26,11 @@ pub fn draw_opening_head(
     layout: OriginLayout,
     first: bool,
 ) -> Result<(), AllocError>
-    requires narrow { layout.gutter < 2 ^ 63 + 2 ^ 32 }
     ensures rows { OnOk result (buffer.new ≡ buffer.old ++ opening_head layout first) }
 {
-    match layout.decor {
-        DecorStyle::Ascii => draw_separator(buffer, layout.gutter, layout.decor),
+    let frame = layout.frame;
+    match frame.decor {
+        DecorStyle::Ascii => draw_separator(buffer, layout.frame),
         DecorStyle::Unicode => {
             begin_file_row(buffer, layout, primary_start(first))?;
             Ok(())
@@ -57,11 +57,11 @@ pub fn draw_primary_head(
     path: &str,
     place: OriginLocation,
 ) -> Result<(), AllocError>
-    requires narrow { layout.gutter < 2 ^ 63 + 2 ^ 32 }
     ensures rows { OnOk result (buffer.new ≡ buffer.old ++ primary_head layout first path.now place) }
 {
+    let frame = layout.frame;
     draw_origin(alloc, buffer, layout, primary_start(first), path, place)?;
-    draw_separator(buffer, layout.gutter, layout.decor)
+    draw_separator(buffer, frame)
 }
 
 /// Draws what any other snippet with a path begins with, below all that stands in the grid.
@@ -82,12 +82,12 @@ pub fn draw_secondary_head(
     path: &str,
     place: OriginLocation,
 ) -> Result<(), AllocError>
-    requires narrow { layout.gutter < 2 ^ 63 + 2 ^ 32 }
     ensures rows { OnOk result (buffer.new ≡ buffer.old ++ secondary_head layout path.now place) }
 {
-    draw_separator(buffer, layout.gutter, layout.decor)?;
+    let frame = layout.frame;
+    draw_separator(buffer, frame)?;
     draw_origin(alloc, buffer, layout, FileStart::Secondary, path, place)?;
-    draw_separator(buffer, layout.gutter, layout.decor)
+    draw_separator(buffer, frame)
 }
 
 /// Draws what a snippet without a path begins with where it isn't the group's primary one, below all that stands in the
@@ -102,10 +102,9 @@ pub fn draw_secondary_head(
 ///
 /// There is no memory for the rows. The grid may then hold some of them.
 pub fn draw_nameless_head(buffer: &mut StyledBuffer, layout: OriginLayout) -> Result<(), AllocError>
-    requires narrow { layout.gutter < 2 ^ 63 + 2 ^ 32 }
     ensures rows { OnOk result (buffer.new ≡ buffer.old ++ nameless_head layout) }
 {
-    draw_separator(buffer, layout.gutter, layout.decor)?;
+    draw_separator(buffer, layout.frame)?;
     begin_file_row(buffer, layout, FileStart::Secondary)?;
     Ok(())
 }

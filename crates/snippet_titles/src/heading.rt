@@ -42,7 +42,6 @@ pub fn draw_heading<'a>(
     heading: &'a dyn MessageOrTitle,
 ) -> Result<(), AllocError>
     requires fits { HeadingFits (heading_of heading.now) }
-    requires narrow { gutter_of style < 2 ^ 32 }
     ensures rows { OnOk result (buffer.new ≡ buffer.old ++ heading_rows hyperlink style (heading_of heading.now)) }
     // What the rows that are added show.
     ensures texts { OnOk result ((k : ℕ) → row_text (row_at (drop (length buffer.old) buffer.new) k)
@@ -51,10 +50,10 @@ pub fn draw_heading<'a>(
     ensures links { OnOk result (LinksId hyperlink style (heading_of heading.now) (drop (length buffer.old) buffer.new)) }
 {
     let row = buffer.num_lines();
-    let roles = roles_of(style, heading.level().kind, heading.allows_styling());
-    draw_sign(buffer, row, style)?;
+    let roles = roles_of(&style, heading.level().kind, heading.allows_styling());
+    draw_sign(buffer, row, &style)?;
     draw_label(alloc, buffer, row, style.start(), hyperlink, roles, heading)?;
-    draw_text(alloc, buffer, row, style, roles.text, heading)
+    draw_text(alloc, buffer, row, &style, roles.text, heading)
 }
 
 /// Draws what stands before a heading's text after the cells of a row, of which there are `start`.
@@ -159,16 +158,15 @@ pub(crate) fn draw_text(
     alloc: Global,
     buffer: &mut StyledBuffer,
     row: usize,
-    style: TitleStyle,
+    style: &TitleStyle,
     role: ElementStyle,
     heading: &dyn MessageOrTitle,
 ) -> Result<(), AllocError>
     requires row { row < 2 ^ 60 }
     requires last { IsAtEnd row buffer.old }
-    requires narrow { gutter_of style < 2 ^ 32 }
     requires fits { HeadingFits (heading_of heading.now) }
     ensures rows { OnOk result (buffer.new ≡ take row buffer.old
-        ++ trimmed (spec.lines_below (row_at buffer.old row) (indent_cells style (spec.label_width (heading_of heading.now))) role (spec.heading_lines (heading_of heading.now)))) }
+        ++ trimmed (spec.lines_below (row_at buffer.old row) (indent_cells style.now (spec.label_width (heading_of heading.now))) role (spec.heading_lines (heading_of heading.now)))) }
 {
     let text = text_of(alloc, heading)?;
     draw_lines(buffer, row, style, role, heading, text.as_str())
@@ -179,17 +177,16 @@ pub(crate) fn draw_text(
 fn draw_lines(
     buffer: &mut StyledBuffer,
     row: usize,
-    style: TitleStyle,
+    style: &TitleStyle,
     role: ElementStyle,
     heading: &dyn MessageOrTitle,
     text: &str,
 ) -> Result<(), AllocError>
     requires row { row < 2 ^ 60 }
     requires last { IsAtEnd row buffer.old }
-    requires narrow { gutter_of style < 2 ^ 32 }
     requires fits { HeadingFits (heading_of heading.now) }
     ensures rows { OnOk result (buffer.new ≡ take row buffer.old
-        ++ trimmed (spec.lines_below (row_at buffer.old row) (indent_cells style (spec.label_width (heading_of heading.now))) role (map chars (slice_split (λ b. b == 10) text.now)))) }
+        ++ trimmed (spec.lines_below (row_at buffer.old row) (indent_cells style.now (spec.label_width (heading_of heading.now))) role (map chars (slice_split (λ b. b == 10) text.now)))) }
 {
     let Some((first, rest)) = text.split_once('\n') else {
         extend_row(buffer, row, text, role)?;
@@ -207,16 +204,15 @@ fn draw_lines(
 fn draw_further_line(
     buffer: &mut StyledBuffer,
     row: usize,
-    style: TitleStyle,
+    style: &TitleStyle,
     width: usize,
     role: ElementStyle,
     line: &str,
 ) -> Result<(), AllocError>
     requires row { row + 1 < 2 ^ 64 }
     requires empty { row_at buffer.old row ≡ [] }
-    requires narrow { gutter_of style < 2 ^ 32 }
     requires width { width < 2 ^ 62 }
-    ensures drawn { OnOk result (buffer.new ≡ appended buffer.old row (indent_cells style width ++ text_cells role (chars line.now))) }
+    ensures drawn { OnOk result (buffer.new ≡ appended buffer.old row (indent_cells style.now width ++ text_cells role (chars line.now))) }
 {
     draw_indent(buffer, row, style, width)?;
     extend_row(buffer, row, line, role)?;

@@ -4,7 +4,7 @@ ghost use Rattle.snippet_text.specs.Normalized.{norm};
 ghost use Rattle.snippet_titles.specs.Origin as spec;
 ghost use Rattle.snippet_titles.specs.Origin.{file_glyph, file_row, origin_row, place_text};
 
-use snippet_grid::StyledBuffer;
+use snippet_grid::{Layout, StyledBuffer};
 use snippet_style::{DecorStyle, ElementStyle};
 use snippet_text::normalize_untrusted_str;
 use std::alloc::{AllocError, Global};
@@ -35,15 +35,12 @@ pub struct OriginLocation {
 /// Where the rows of a path stand, and how they are drawn.
 ///
 /// ```text
-///   --> src/main.rs:3:5     what leads to the path stands from cell `gutter` on
-///    |                      the separator stands at cell `gutter + 1`
+///   --> src/main.rs:3:5     what leads to the path stands from cell `frame.gutter` on
 /// ```
 #[derive(Clone, Copy, Debug)]
 pub struct OriginLayout {
-    /// The number of cells that line numbers are right-aligned in.
-    pub gutter: usize,
-    /// The glyphs of the strokes.
-    pub decor: DecorStyle,
+    /// Where the parts of the group's rows stand.
+    pub frame: Layout,
     /// Whether each line after a path is named `LL`.
     pub anonymized: bool,
 }
@@ -132,7 +129,6 @@ pub fn draw_origin(
     path: &str,
     place: OriginLocation,
 ) -> Result<(), AllocError>
-    requires narrow { layout.gutter < 2 ^ 63 + 2 ^ 32 }
     ensures row { OnOk result (buffer.new ≡ buffer.old ++ origin_row layout start path.now place ∷ []) }
 {
     let text = origin_text(alloc, path, place, layout.anonymized)?;
@@ -150,13 +146,13 @@ pub(crate) fn begin_file_row(
     layout: OriginLayout,
     start: FileStart,
 ) -> Result<usize, AllocError>
-    requires narrow { layout.gutter < 2 ^ 63 + 2 ^ 32 }
     ensures added { OnOk result (buffer.new ≡ buffer.old ++ file_row layout start ∷ []) }
     ensures row { IfOk result (λ row. row ≡ length buffer.old) }
     ensures small { length buffer.old < 2 ^ 60 }
 {
     let row = buffer.num_lines();
-    let glyph = start.glyph(layout.decor);
-    buffer.puts(row, layout.gutter, glyph, ElementStyle::LineNumber)?;
+    let frame = layout.frame;
+    let glyph = start.glyph(frame.decor);
+    buffer.puts(row, frame.gutter, glyph, ElementStyle::LineNumber)?;
     Ok(row)
 }

@@ -3,8 +3,8 @@ ghost use Rattle.std.specs.Prelude.{◌≡◌, ◌+◌, ◌^◌, ◌<◌, ◌∷
 ghost use Rattle.snippet_titles.specs.Origin.{padding_row};
 ghost use Rattle.snippet_style.specs.Separators.{closing_row, separator_row};
 
-use snippet_grid::StyledBuffer;
-use snippet_style::{DecorStyle, ElementStyle};
+use snippet_grid::{Layout, StyledBuffer};
+use snippet_style::ElementStyle;
 use std::alloc::AllocError;
 
 /// Draws the row of a padding below all that stands in the grid: the separator alone, or the closing glyph alone where it
@@ -13,19 +13,13 @@ use std::alloc::AllocError;
 /// # Errors
 ///
 /// There is no memory for the row.
-pub fn draw_padding(
-    buffer: &mut StyledBuffer,
-    gutter: usize,
-    decor: DecorStyle,
-    last: bool,
-) -> Result<(), AllocError>
-    requires narrow { gutter < 2 ^ 63 + 2 ^ 32 }
-    ensures row { OnOk result (buffer.new ≡ buffer.old ++ padding_row decor gutter last ∷ []) }
+pub fn draw_padding(buffer: &mut StyledBuffer, layout: Layout, last: bool) -> Result<(), AllocError>
+    ensures row { OnOk result (buffer.new ≡ buffer.old ++ padding_row layout.decor layout.gutter last ∷ []) }
 {
     if last {
-        draw_closing(buffer, gutter, decor)
+        draw_closing(buffer, layout)
     } else {
-        draw_separator(buffer, gutter, decor)
+        draw_separator(buffer, layout)
     }
 }
 
@@ -38,16 +32,16 @@ pub fn draw_padding(
 /// # Errors
 ///
 /// There is no memory for the row.
-pub fn draw_separator(
-    buffer: &mut StyledBuffer,
-    gutter: usize,
-    decor: DecorStyle,
-) -> Result<(), AllocError>
-    requires narrow { gutter < 2 ^ 63 + 2 ^ 32 }
-    ensures row { OnOk result (buffer.new ≡ buffer.old ++ separator_row decor gutter ∷ []) }
+pub fn draw_separator(buffer: &mut StyledBuffer, layout: Layout) -> Result<(), AllocError>
+    ensures row { OnOk result (buffer.new ≡ buffer.old ++ separator_row layout.decor layout.gutter ∷ []) }
 {
     let row = buffer.num_lines();
-    buffer.putc(row, gutter + 1, decor.separator(), ElementStyle::LineNumber)
+    buffer.putc(
+        row,
+        layout.gutter + 1,
+        layout.decor.separator(),
+        ElementStyle::LineNumber,
+    )
 }
 
 /// Draws a row with the closing glyph alone below all that stands in the grid.
@@ -59,14 +53,14 @@ pub fn draw_separator(
 /// # Errors
 ///
 /// There is no memory for the row.
-pub fn draw_closing(
-    buffer: &mut StyledBuffer,
-    gutter: usize,
-    decor: DecorStyle,
-) -> Result<(), AllocError>
-    requires narrow { gutter < 2 ^ 63 + 2 ^ 32 }
-    ensures row { OnOk result (buffer.new ≡ buffer.old ++ closing_row decor gutter ∷ []) }
+pub fn draw_closing(buffer: &mut StyledBuffer, layout: Layout) -> Result<(), AllocError>
+    ensures row { OnOk result (buffer.new ≡ buffer.old ++ closing_row layout.decor layout.gutter ∷ []) }
 {
     let row = buffer.num_lines();
-    buffer.puts(row, gutter + 1, decor.closing(), ElementStyle::LineNumber)
+    buffer.puts(
+        row,
+        layout.gutter + 1,
+        layout.decor.closing(),
+        ElementStyle::LineNumber,
+    )
 }

@@ -62,17 +62,17 @@ pub(crate) fn add_spaces(
 pub(crate) fn draw_sign(
     buffer: &mut StyledBuffer,
     row: usize,
-    style: TitleStyle,
+    style: &TitleStyle,
 ) -> Result<(), AllocError>
     requires row { row + 1 < 2 ^ 64 }
     requires empty { row_at buffer.old row ≡ [] }
-    requires narrow { gutter_of style < 2 ^ 32 }
-    ensures extended { OnOk result (buffer.new ≡ appended buffer.old row (sign_cells style)) }
+    ensures extended { OnOk result (buffer.new ≡ appended buffer.old row (sign_cells style.now)) }
 {
     if let TitleStyle::Message(place) = style {
+        let frame = place.frame;
         buffer.puts(
             row,
-            place.gutter + 1,
+            frame.gutter + 1,
             place.sign(),
             ElementStyle::LineNumber,
         )?;
@@ -84,21 +84,21 @@ pub(crate) fn draw_sign(
 pub(crate) fn draw_indent(
     buffer: &mut StyledBuffer,
     row: usize,
-    style: TitleStyle,
+    style: &TitleStyle,
     width: usize,
 ) -> Result<(), AllocError>
     requires row { row + 1 < 2 ^ 64 }
     requires empty { row_at buffer.old row ≡ [] }
-    requires narrow { gutter_of style < 2 ^ 32 }
     requires width { width < 2 ^ 62 }
-    ensures extended { OnOk result (buffer.new ≡ appended buffer.old row (indent_cells style width)) }
+    ensures extended { OnOk result (buffer.new ≡ appended buffer.old row (indent_cells style.now width)) }
 {
     match style {
         TitleStyle::Title | TitleStyle::Short => add_spaces(buffer, row, 0, width)?,
         TitleStyle::Message(place) => {
+            let frame = place.frame;
             let (glyph, role) = place.bar();
-            buffer.putc(row, place.gutter + 1, glyph, role)?;
-            add_spaces(buffer, row, place.gutter + 2, width + 1)?;
+            buffer.putc(row, frame.gutter + 1, glyph, role)?;
+            add_spaces(buffer, row, frame.gutter + 2, width + 1)?;
         }
     }
     Ok(())

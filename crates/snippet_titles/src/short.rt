@@ -32,7 +32,7 @@ pub fn draw_short<'a>(
 {
     let row = buffer.num_lines();
     let roles = roles_of(
-        TitleStyle::Short,
+        &TitleStyle::Short,
         heading.level().kind,
         heading.allows_styling(),
     );
@@ -46,6 +46,6 @@ pub fn draw_short<'a>(
         roles,
         heading,
     )?;
-    draw_text(alloc, buffer, row, TitleStyle::Short, roles.text, heading)?;
+    draw_text(alloc, buffer, row, &TitleStyle::Short, roles.text, heading)?;
     extend_row(buffer, row, after, ElementStyle::NoStyle)
 }

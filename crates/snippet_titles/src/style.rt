@@ -4,15 +4,14 @@ ghost use Rattle.snippet_style.specs.Cell.{unlinked_cell};
 ghost use Rattle.snippet_titles.specs.Heading as spec;
 ghost use Rattle.snippet_style.specs.declared.role.ElementStyle.TheVariants.{Level};
 
+use snippet_grid::Layout;
 use snippet_style::{DecorStyle, ElementStyle, LevelInner};
 
 /// The place of a message, below the rows of an element of its group.
 #[derive(Clone, Copy)]
 pub struct MessageContext {
-    /// The cells of the gutter.
-    pub gutter: usize,
-    /// The strokes that are drawn.
-    pub decor: DecorStyle,
+    /// Where the parts of the group's rows stand.
+    pub frame: Layout,
     /// Whether an element of the group follows, to which a stroke leads.
     pub followed: bool,
 }
@@ -40,8 +39,8 @@ pub struct HeadingRoles {
 }
 
 /// The roles of a heading of this kind, whose text is trusted or not.
-pub fn roles_of(style: TitleStyle, kind: LevelInner, trusted: bool) -> HeadingRoles
-    ensures value { result ≡ spec.roles_of style kind trusted }
+pub fn roles_of(style: &TitleStyle, kind: LevelInner, trusted: bool) -> HeadingRoles
+    ensures value { result ≡ spec.roles_of style.now kind trusted }
 {
     match style {
         TitleStyle::Title => title_roles(false, kind, trusted),
@@ -75,10 +74,11 @@ fn title_roles(short: bool, kind: LevelInner, trusted: bool) -> HeadingRoles
 impl MessageContext {
     /// What leads from the gutter to the message.
     pub(crate) fn sign(self) -> &'static str
-        ensures value { chars result.now ≡ spec.note_sign_of self.decor self.followed }
+        ensures value { chars result.now ≡ spec.note_sign_of self.frame.decor self.followed }
         ensures some { 0 < length result.now }
     {
-        match (self.decor, self.followed) {
+        let frame = self.frame;
+        match (frame.decor, self.followed) {
             (DecorStyle::Ascii, _) => "= ",
             (DecorStyle::Unicode, true) => "├ ",
             (DecorStyle::Unicode, false) => "╰ ",
@@ -87,9 +87,10 @@ impl MessageContext {
 
     /// What stands below its first character in the message's further rows, and its role.
     pub(crate) fn bar(self) -> (char, ElementStyle)
-        ensures value { unlinked_cell result.1 result.0 ≡ spec.note_bar_of self.decor self.followed }
+        ensures value { unlinked_cell result.1 result.0 ≡ spec.note_bar_of self.frame.decor self.followed }
     {
-        match (self.decor, self.followed) {
+        let frame = self.frame;
+        match (frame.decor, self.followed) {
             (DecorStyle::Unicode, true) => ('│', ElementStyle::LineNumber),
             (DecorStyle::Unicode, false) | (DecorStyle::Ascii, _) => (' ', ElementStyle::NoStyle),
         }
@@ -98,14 +99,16 @@ impl MessageContext {
 
 impl TitleStyle {
     /// How many cells the first row begins with before its label.
-    pub(crate) fn start(self) -> usize
-        requires narrow { spec.gutter_of self < 2 ^ 32 }
-        ensures value { result ≡ length (spec.sign_cells self) }
+    pub(crate) fn start(&self) -> usize
+        ensures value { result ≡ length (spec.sign_cells self.now) }
         ensures small { result < 2 ^ 33 }
     {
         match self {
             TitleStyle::Title | TitleStyle::Short => 0,
-            TitleStyle::Message(place) => place.gutter + 3,
+            TitleStyle::Message(place) => {
+                let frame = place.frame;
+                frame.gutter + 3
+            }
         }
     }
 }

@@ -1,5 +1,9 @@
-use Rattle.std.proofs.Common.{◌+◌, arith, ap, chars, length}
+use Rattle.std.proofs.Common.{◌∙◌, ◌+◌, arith, ap, chars, length}
+use Rattle.snippet_style.specs.Cell.{text_cells}
+use Rattle.snippet_grid.specs.Grid.{cells_written}
+use Rattle.snippet_grid.specs.Layout.{Layout}
 use Rattle.snippet_style.specs.declared.role.ElementStyle.TheVariants.{LineNumber}
+use Rattle.snippet_suggest.specs.Glyphs.{glyph_of}
 use Rattle.snippet_suggest.proofs.PutLemmas.{glyph_below, glyph_over}
 use Rattle.snippet_suggest.proofs.GlyphLemmas.{glyph_short}
 use Rattle.snippet_suggest.proofs.TailLemmas.{end_added, glyph_added}
@@ -7,14 +11,15 @@ use Rattle.snippet_suggest.proofs.ends.draw_glyph.Goals as goal
 
 pub puts-requires-clause-end : goal.puts-requires-clause-end
 puts-requires-clause-end c =
-    omega (arith, glyph_short c.args.layout.decor c.args.glyph, ap length c.text.ensures.value)
+    omega (arith, glyph_short c.frame.inside.decor c.args.glyph, ap length c.text.ensures.value)
 
 pub returns : goal.returns
 returns c =
-    let drawn = c.in_ok-puts.ensures.ok c.text.ensures.some in
+    let shown = c.text.ensures.value ∙ ap (λ (l : Layout). glyph_of l.decor c.args.glyph) c.frame.view_is in
+    let drawn = c.in_ok-puts.ensures.ok c.text.ensures.some ∙ ap (λ (l : Layout). cells_written c.args.buffer.now c.args.row (l.gutter + 1) (text_cells LineNumber (chars c.text.result.now))) c.frame.view_is in
     record {
-      added = λ other above tail shares. glyph_added c.args.layout shares c.args.glyph above tail c.args.buffer.now c.puts.new.self c.args.row c.text.result.now other c.text.ensures.value drawn;
-      end = λ other skipped. end_added c.args.layout c.args.glyph skipped c.args.buffer.now c.puts.new.self c.args.row c.text.result.now other c.text.ensures.value drawn;
-      over = λ above tail here is few. glyph_over LineNumber c.args.layout.decor c.args.glyph (chars c.text.result.now) (c.args.layout.gutter + 1) c.args.row above tail c.args.buffer.now c.puts.new.self c.text.ensures.value here is few drawn;
-      below = λ skipped here. glyph_below LineNumber c.args.layout.decor c.args.glyph (chars c.text.result.now) (c.args.layout.gutter + 1) c.args.row skipped c.args.buffer.now c.puts.new.self c.text.ensures.value here drawn;
+      added = λ other above tail shares. glyph_added c.args.layout.now shares c.args.glyph above tail c.args.buffer.now c.puts.new.self c.args.row c.text.result.now other shown drawn;
+      end = λ other skipped. end_added c.args.layout.now c.args.glyph skipped c.args.buffer.now c.puts.new.self c.args.row c.text.result.now other shown drawn;
+      over = λ above tail here is few. glyph_over LineNumber c.args.layout.now.frame.decor c.args.glyph (chars c.text.result.now) (c.args.layout.now.frame.gutter + 1) c.args.row above tail c.args.buffer.now c.puts.new.self shown here is few drawn;
+      below = λ skipped here. glyph_below LineNumber c.args.layout.now.frame.decor c.args.glyph (chars c.text.result.now) (c.args.layout.now.frame.gutter + 1) c.args.row skipped c.args.buffer.now c.puts.new.self shown here drawn;
     }

@@ -9,7 +9,7 @@ use Rattle.snippet_suggest.proofs.lines.draw_shown.Goals as goal
 pub loop-line-init : goal.loop-line-init
 loop-line-init c =
     record {
-      added = λ rooms. shown_none c.args.layout c.args.first (map (λ t. t.now) c.args.lines.now) c.args.buffer.now;
+      added = λ rooms. shown_none c.args.layout.now c.args.first (map (λ t. t.now) c.args.lines.now) c.args.buffer.now;
       cells = sym (append-nil c.args.buffer.now);
     }
 
@@ -19,6 +19,6 @@ loop-line-preserved c =
     let i = c.loop-line.line-index in
     let lines = map (λ t. t.now) a.lines.now in
     record {
-      added = λ rooms. shown_next a.layout a.first lines a.shown.now i _ a.buffer.now c.loop-line.buffer c.draw_shown_line.new.buffer c.loop-line-test.true (c.loop-line.invariant.added rooms) (c.in_ok-draw_shown_line.ensures.added (rooms i _ c.loop-line-test.true));
-      cells = drawn_next (shown_cells a.layout a.kind a.first lines (line_stretches a.stretches.now)) a.shown.now i _ a.buffer.now c.loop-line.buffer c.draw_shown_line.new.buffer c.loop-line-test.true c.loop-line.invariant.cells c.in_ok-draw_shown_line.ensures.cells;
+      added = λ rooms. shown_next a.layout.now a.first lines a.shown.now i _ a.buffer.now c.loop-line.buffer c.draw_shown_line.new.buffer c.loop-line-test.true (c.loop-line.invariant.added rooms) (c.in_ok-draw_shown_line.ensures.added (rooms i _ c.loop-line-test.true));
+      cells = drawn_next (shown_cells a.layout.now a.kind a.first lines (line_stretches a.stretches.now)) a.shown.now i _ a.buffer.now c.loop-line.buffer c.draw_shown_line.new.buffer c.loop-line-test.true c.loop-line.invariant.cells c.in_ok-draw_shown_line.ensures.cells;
     }

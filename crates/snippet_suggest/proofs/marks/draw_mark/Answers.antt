@@ -1,4 +1,7 @@
-use Rattle.std.proofs.Common.{◌-◌, ◌+◌, arith}
+use Rattle.std.proofs.Common.{◌∙◌, ◌-◌, ◌+◌, ◌∷◌, [], ap, arith}
+use Rattle.snippet_style.specs.Cell.{unlinked_cell}
+use Rattle.snippet_grid.specs.Grid.{cells_written}
+use Rattle.snippet_grid.specs.Layout.{Layout}
 use Rattle.snippet_style.specs.declared.role.ElementStyle.TheVariants.{Addition}
 use Rattle.snippet_suggest.proofs.MarkLemmas.{marks_more}
 use Rattle.snippet_suggest.proofs.MarksDrawn.{marks_begun, marks_done, marks_next}
@@ -9,7 +12,7 @@ loop-column-init c =
     record {
       marked = λ above last left here is stroke mark. record { row = last; added = is; is = stroke };
       within = omega arith;
-      cells = λ above last here is. marks_begun c.args.mark (c.args.layout.gutter + 3 + c.args.start) (c.args.start - c.args.start) above last c.args.buffer.now (omega arith) is;
+      cells = λ above last here is. marks_begun c.args.mark (c.args.layout.now.frame.gutter + 3 + c.args.start) (c.args.start - c.args.start) above last c.args.buffer.now (omega arith) is;
     }
 
 pub loop-column-preserved : goal.loop-column-preserved
@@ -17,19 +20,20 @@ loop-column-preserved c =
     let inv = c.loop-column.invariant in
     let column = c.loop-column.column in
     let start = c.args.start in
+    let written = c.in_ok-putc.ensures.ok ∙ ap (λ (l : Layout). cells_written c.loop-column.buffer c.args.row (l.gutter + 3 + column) (unlinked_cell Addition c.args.mark ∷ [])) c.frame.view_is in
     record {
-      marked = λ above last left here is bare mark. marks_more c.args.layout.decor c.args.layout.gutter _ Addition c.args.mark left above c.loop-column.buffer c.putc.new.self c.args.row here (omega arith) mark (inv.marked above last left here is bare mark) c.in_ok-putc.ensures.ok;
+      marked = λ above last left here is bare mark. marks_more c.args.layout.now.frame.decor c.args.layout.now.frame.gutter _ Addition c.args.mark left above c.loop-column.buffer c.putc.new.self c.args.row here (omega arith) mark (inv.marked above last left here is bare mark) written;
       within = omega arith;
-      cells = λ above last here is. marks_next c.args.mark (c.args.layout.gutter + 3 + start) (c.args.layout.gutter + 3 + column) (column - start)
+      cells = λ above last here is. marks_next c.args.mark (c.args.layout.now.frame.gutter + 3 + start) (c.args.layout.now.frame.gutter + 3 + column) (column - start)
           (column + 1 - start) c.args.row above last c.loop-column.buffer c.putc.new.self here (omega arith) (omega arith)
-          (inv.cells above last here is) c.in_ok-putc.ensures.ok;
+          (inv.cells above last here is) written;
     }
 
 pub returns : goal.returns
 returns c =
     record {
       marked = c.loop-column.invariant.marked;
-      cells = λ above last here is. marks_done c.args.layout c.args.mark c.args.start c.args.end (c.loop-column.column - c.args.start)
+      cells = λ above last here is. marks_done c.args.layout.now c.args.mark c.args.start c.args.end (c.loop-column.column - c.args.start)
           above last c.loop-column.buffer
           (omega (arith, c.loop-column.invariant.within, c.loop-column-test.false, c.loop-column.auto.column, c.min-column-end.ensures))
           (c.loop-column.invariant.cells above last here is);

@@ -39,8 +39,8 @@ loop-patch-preserved c =
       of = subst (λ (cs : List PatchColumns). AreMoves cs c.push.new.self) (sym (more ∙ ap (λ (x : PatchColumns). earlier ++ x ∷ []) (sym columns))) (c.in_ok-push.ensures.of earlier inv.of);
       cells = λ above last here is.
           let so_far = inv.cells above last here is in
-          marked_next a.layout m earlier (map f (take (i + 1) ps)) e (map trimmed_edit_of (drop i ps)) (map trimmed_edit_of (drop (i + 1) ps))
-          (with_marks a.layout m [] (map trimmed_edit_of ps) last)
+          marked_next a.layout.now m earlier (map f (take (i + 1) ps)) e (map trimmed_edit_of (drop i ps)) (map trimmed_edit_of (drop (i + 1) ps))
+          (with_marks a.layout.now m [] (map trimmed_edit_of ps) last)
           above c.loop-patch.buffer c.draw_mark.new.buffer c.patch_mark-mark.result c.marked_columns-start.result.0
           c.marked_columns-start.result.1 so_far (ap (map trimmed_edit_of) (drop_more ps i d within))
           more (c.patch_mark-mark.ensures.value (c.requires.spans i d within))
@@ -53,5 +53,5 @@ pub returns : goal.returns
 returns c =
     record {
       marked = c.loop-patch.invariant.marked;
-      cells = λ above last here is. marked_done c.args.layout c.args.map.now _ _ _ above c.loop-patch.buffer (ap (map trimmed_edit_of) (drop_all c.loop-patch.patch-index c.args.patches.now c.loop-patch-test.false)) (c.loop-patch.invariant.cells above last here is);
+      cells = λ above last here is. marked_done c.args.layout.now c.args.map.now _ _ _ above c.loop-patch.buffer (ap (map trimmed_edit_of) (drop_all c.loop-patch.patch-index c.args.patches.now c.loop-patch-test.false)) (c.loop-patch.invariant.cells above last here is);
     }

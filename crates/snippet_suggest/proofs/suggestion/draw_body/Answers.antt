@@ -37,7 +37,7 @@ pub returns-in_default-clause-added : goal.returns-in_default-clause-added
 returns-in_default-clause-added c = λ room above tail is shared.
     let a = c.args in
     let s = a.suggestion.now.snippet.now in
-    none_empty a.layout (s.line_start + first_given s) (given_lines s) (rows_of_suggestion a.start s) above c.draw_emptied.new.buffer (c.in_ok-draw_emptied.ensures.added above tail is shared)
+    none_empty a.layout.now (s.line_start + first_given s) (given_lines s) (rows_of_suggestion a.start s) above c.draw_emptied.new.buffer (c.in_ok-draw_emptied.ensures.added above tail is shared)
 
 pub first_number-first-requires-clause-some : goal.first_number-first-requires-clause-some
 first_number-first-requires-clause-some c =
@@ -52,7 +52,6 @@ draw_changed-requires c =
     let p = c.args.suggestion.now in
     let diff : p.kind ≡ Diff = same_true the_type (search rules) p.kind Diff (sym c.if-eq.ensures) in
     record {
-      narrow = c.requires.narrow;
       prepared = c.requires.prepared;
       line = known_one p c.requires.prepared diff (λ l. l.now) c.args.lines.now c.in-Some.line.now (sym c.in-Some.ensures.value) c.requires.lines;
       diff = diff;
@@ -69,9 +68,9 @@ returns-then-eq-clause-added c = λ room above tail is shared.
     let n : ℕ = c.first_number-first.result in
     let first : n ≡ s.line_start + first_given s = c.first_number-first.ensures.value ∙ ap (λ ps. p.map.first + (if s.fold then line_of (source_lines p.map.text) (first_original ps) else 0)) c.deref.ensures.value ∙ known_first p c.requires.prepared in
     let some : 0 < length lines = omega (arith, ap length c.requires.lines, length-map a.lines.now (λ l. l.now), c.in-Some.ensures.item.3.0) in
-    let fits : NumberFits a.layout n (Line 0) = subst (λ (m : ℕ). NumberFits a.layout m (Line 0)) (sym first) (numbers_fit a.layout s c.requires.prepared.suggestible room 0 some) in
+    let fits : NumberFits a.layout.now n (Line 0) = subst (λ (m : ℕ). NumberFits a.layout.now m (Line 0)) (sym first) (numbers_fit a.layout.now s c.requires.prepared.suggestible room 0 some) in
     let head = c.in_ok-draw_head.ensures.added above tail is shared in
-    let Adds : ℕ → ℕ → Type 0 = λ m skipped. AddsRows a.layout m lines (rows_of_suggestion a.start s) above (new ++ replicate skipped []) in
+    let Adds : ℕ → ℕ → Type 0 = λ m skipped. AddsRows a.layout.now m lines (rows_of_suggestion a.start s) above (new ++ replicate skipped []) in
     IfOk-weaker c.draw_changed.result (Adds n) (Adds (s.line_start + first_given s)) (λ skipped adds. subst (λ (m : ℕ). Adds m skipped) first adds) (c.draw_changed.ensures.added fits above head.row a.start head.added head.is)
 
 pub returns-clause-added : goal.returns-clause-added
@@ -79,7 +78,7 @@ returns-clause-added c = λ room above tail is shared.
     let a = c.args in
     let p = a.suggestion.now in
     let s = p.snippet.now in
-    let l = a.layout in
+    let l = a.layout.now in
     let at : ℕ = s.line_start + first_given s in
     let lines = given_lines s in
     let mid = c.draw_head.new.buffer in
@@ -117,7 +116,7 @@ returns-clause-cells c = λ above tail is count.
     let a = c.args in
     let p = a.suggestion.now in
     let s = p.snippet.now in
-    let l = a.layout in
+    let l = a.layout.now in
     let at : ℕ = s.line_start + first_given s in
     let lines = given_lines s in
     let new = c.draw_lines.new.buffer in

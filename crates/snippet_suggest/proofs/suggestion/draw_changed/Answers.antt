@@ -35,9 +35,9 @@ trimmed_span-requires c =
       spans = subst (λ (ps : List TrimmedPatch). All (λ p. IsSpan c.args.suggestion.now.map.text p.span.start p.span.end) ps) (sym c.deref-2.ensures.value) (known_spans c.args.suggestion.now c.requires.prepared);
     }
 
-pub draw_diff-requires-clause-some : goal.draw_diff-requires-clause-some
-draw_diff-requires-clause-some c =
-    subst (λ (infos : List LineInfo). 0 < length infos) (sym c.deref-4.ensures.value) (touched_some c.args.suggestion.now.map c.in_ok-removed.removed.items c.trimmed_span.result.start c.trimmed_span.result.end c.trimmed_span.ensures.span.ordered c.in_ok-removed.ensures.lines)
+pub draw_diff-requires : goal.draw_diff-requires
+draw_diff-requires c =
+    record { some = subst (λ (infos : List LineInfo). 0 < length infos) (sym c.deref-4.ensures.value) (touched_some c.args.suggestion.now.map c.in_ok-removed.removed.items c.trimmed_span.result.start c.trimmed_span.result.end c.trimmed_span.ensures.span.ordered c.in_ok-removed.ensures.lines) }
 
 pub returns-then-not-is_touched-clause-added : goal.returns-then-not-is_touched-clause-added
 returns-then-not-is_touched-clause-added c = λ fits above last start is shows.
@@ -46,8 +46,8 @@ returns-then-not-is_touched-clause-added c = λ fits above last start is shows.
     let s = p.snippet.now in
     let touches : is_touched s.fold (given_ranges s) 0 ≡ false = ap (λ rs. is_touched s.fold rs 0) (sym c.requires.prepared.ranges ∙ sym c.deref.ensures.value) ∙ sym c.is_touched.ensures.value ∙ c.if-not-is_touched.true in
     let rows = rows_diff start s a.line.now [] false (is_left_out Diff (a.line.now ∷ []) (last_reached s)) c.requires.line (sym c.requires.prepared.kind ∙ c.requires.diff) touches refl in
-    let below = empty_below a.layout a.first (given_lines s) (Begins start) above a.buffer.now (record { row = last; added = is; is = shows }) in
-    subst (λ rs. AddsRows a.layout a.first (given_lines s) rs above (a.buffer.now ++ replicate 1 [])) (sym rows) below
+    let below = empty_below a.layout.now a.first (given_lines s) (Begins start) above a.buffer.now (record { row = last; added = is; is = shows }) in
+    subst (λ rs. AddsRows a.layout.now a.first (given_lines s) rs above (a.buffer.now ++ replicate 1 [])) (sym rows) below
 
 pub returns-clause-added : goal.returns-clause-added
 returns-clause-added c = λ fits above last start is shows.
@@ -74,20 +74,20 @@ returns-clause-added c = λ fits above last start is shows.
     let leaves_is : is_left_out Diff (a.line.now ∷ []) (last_reached s) ≡ leaves = ap (is_left_out Diff (a.line.now ∷ [])) (sym reached ∙ ap last_removed (sym c.deref-4.ensures.value)) in
     let rows = rows_diff start s a.line.now [] true leaves c.requires.line (sym c.requires.prepared.kind ∙ c.requires.diff) (ap (λ rs. is_touched s.fold rs 0) (sym c.requires.prepared.ranges) ∙ sym touches) leaves_is in
     let drawn = c.in_ok-draw_diff.ensures.added above last (Begins start) i is shows fits in
-    let Adds : List (List ℕ) → List SuggestionRow → Type 0 = λ ls rs. AddsRows a.layout a.first ls rs above new in
+    let Adds : List (List ℕ) → List SuggestionRow → Type 0 = λ ls rs. AddsRows a.layout.now a.first ls rs above new in
     let here : Adds (given_lines s) (Begins start ∷ changed_rows true leaves (Removed left)) = subst (λ ls. Adds ls (Begins start ∷ changed_rows true leaves (Removed left))) (sym c.requires.line) drawn in
-    none_empty a.layout a.first (given_lines s) (rows_of_suggestion start s) above new (subst (Adds (given_lines s)) (ap (λ rs. Begins start ∷ changed_rows true leaves rs) removed ∙ sym rows) here)
+    none_empty a.layout.now a.first (given_lines s) (rows_of_suggestion start s) above new (subst (Adds (given_lines s)) (ap (λ rs. Begins start ∷ changed_rows true leaves rs) removed ∙ sym rows) here)
 
 pub returns-then-not-is_touched-clause-cells : goal.returns-then-not-is_touched-clause-cells
 returns-then-not-is_touched-clause-cells c = λ above under start is.
     let a = c.args in
     let p = a.suggestion.now in
     let s = p.snippet.now in
-    let begin : List Cell = begin_cells a.layout start under in
+    let begin : List Cell = begin_cells a.layout.now start under in
     let diff : shown_kind s ≡ Diff = sym c.requires.prepared.kind ∙ c.requires.diff in
     let touches : is_touched s.fold (given_ranges s) 0 ≡ false = ap (λ rs. is_touched s.fold rs 0) (sym c.requires.prepared.ranges ∙ sym c.deref.ensures.value) ∙ sym c.is_touched.ensures.value ∙ c.if-not-is_touched.true in
     let rows = rows_diff start s a.line.now [] false (is_left_out Diff (a.line.now ∷ []) (last_reached s)) c.requires.line diff touches refl in
-    ap (λ (rs : List (List Cell)). rs ++ [] ∷ []) is ∙ append_assoc above (begin ∷ []) ([] ∷ []) ∙ ap (λ (rs : List (List Cell)). above ++ rs) (body_untouched a.layout start s under a.line.now c.requires.line diff touches rows)
+    ap (λ (rs : List (List Cell)). rs ++ [] ∷ []) is ∙ append_assoc above (begin ∷ []) ([] ∷ []) ∙ ap (λ (rs : List (List Cell)). above ++ rs) (body_untouched a.layout.now start s under a.line.now c.requires.line diff touches rows)
 
 pub returns-clause-cells : goal.returns-clause-cells
 returns-clause-cells c = λ above under start is.
@@ -111,14 +111,14 @@ returns-clause-cells c = λ above under start is.
       numbered = c.requires.first;
       small = c.ranges.first.fits;
     } in
-    let begin : List Cell = begin_cells a.layout start under in
+    let begin : List Cell = begin_cells a.layout.now start under in
     let replaced = line_stretches c.deref-5.result.now in
     let added = c.stretches_of-added.result.now in
     let same : (j : ℕ) → replaced j ≡ replaced_on s j = λ j. ap (λ vs. line_stretches vs j) c.deref-5.ensures.value ∙ c.requires.prepared.replaced j in
     let new : added ≡ new_on s 0 = c.stretches_of-added.ensures.value ∙ ap (λ vs. line_stretches vs 0) c.deref-3.ensures.value ∙ c.requires.prepared.new 0 in
-    let Drawn : ℕ → List LineInfo → List (List Cell) = λ n is. above ++ diff_cells a.layout n is replaced a.line.now added begin in
+    let Drawn : ℕ → List LineInfo → List (List Cell) = λ n is. above ++ diff_cells a.layout.now n is replaced a.line.now added begin in
     append-nil c.draw_diff.new.buffer ∙ c.in_ok-draw_diff.ensures.cells above begin is ∙ ap (Drawn a.first) c.deref-4.ensures.value
     ∙ ap (λ n. Drawn n infos) c.requires.first
     ∙ ap (λ (rs : List (List Cell)). above ++ rs)
-    (body_diff a.layout s a.line.now _ _ _ infos replaced (known_diff p a.line.now infos span.start span.end a.first diff)
+    (body_diff a.layout.now s a.line.now _ _ _ infos replaced (known_diff p a.line.now infos span.start span.end a.first diff)
     same start under added new (known_diff_rows p a.line.now infos span.start span.end a.first diff start))

@@ -60,13 +60,13 @@ returns-then-eq c =
           ap (λ is. removed_from i (numbered_at is)) c.deref-then-eq.ensures.value
           ∙ known_emptied_rows p c.requires.prepared infos span.start span.end c.requires.none starts ends c.in_ok-removed.ensures.lines in
           let rows = rows_none_diff a.start s c.requires.none (sym c.requires.prepared.kind ∙ diff) in
-          let Adds : List SuggestionRow → Type 0 = λ rs. AddsRows a.layout first (given_lines s) rs above new in
-          let head = row_alone a.layout first (given_lines s) (Begins a.start) above mid (c.in_ok-draw_head.ensures.added above tail is shared) in
+          let Adds : List SuggestionRow → Type 0 = λ rs. AddsRows a.layout.now first (given_lines s) rs above new in
+          let head = row_alone a.layout.now first (given_lines s) (Begins a.start) above mid (c.in_ok-draw_head.ensures.added above tail is shared) in
           let below = c.draw_removed_lines.ensures.added mid [] false c.num_lines-row.ensures.count (sym (append-nil mid)) refl in
           on_ok_weaker c.draw_removed_lines.result
           (λ adds. subst Adds (ap (λ rs. Begins a.start ∷ rs) removed ∙ sym rows)
-          (rows_append a.layout first (given_lines s) (Begins a.start ∷ []) (removed_from i (numbered_at c.deref-then-eq.result.now))
-          above mid new head (removed_rows a.layout first (given_lines s) i (numbered_at c.deref-then-eq.result.now) mid new adds))) below;
+          (rows_append a.layout.now first (given_lines s) (Begins a.start ∷ []) (removed_from i (numbered_at c.deref-then-eq.result.now))
+          above mid new head (removed_rows a.layout.now first (given_lines s) i (numbered_at c.deref-then-eq.result.now) mid new adds))) below;
       cells = λ above tail is count.
           let a = c.args in
           let p = a.suggestion.now in
@@ -83,11 +83,11 @@ returns-then-eq c =
           let removed : removed_from i lines ≡ map (removed_row s) (removed_lines s) = ap (λ is. removed_from i (numbered_at is)) c.deref-then-eq.ensures.value ∙ known_emptied_rows p c.requires.prepared infos span.start span.end c.requires.none starts ends c.in_ok-removed.ensures.lines in
           let rows = rows_none_diff a.start s c.requires.none (sym c.requires.prepared.kind ∙ diff) ∙ ap (λ rs. Begins a.start ∷ rs) (sym removed) in
           let begun = c.in_ok-draw_head.ensures.cells above tail is count in
-          let begin : List Cell = begin_cells a.layout a.start (row_at tail 0) in
+          let begin : List Cell = begin_cells a.layout.now a.start (row_at tail 0) in
           on_ok_weaker c.draw_removed_lines.result
-          (λ drawn. drawn ∙ ap (λ rs. rs ++ emptied_cells a.layout lines []) begun
-          ∙ append_assoc above (begin ∷ []) (emptied_cells a.layout lines [])
-          ∙ ap (λ rs. above ++ rs) (body_emptied_diff a.layout a.start s (row_at tail 0) i lines c.requires.none rows))
+          (λ drawn. drawn ∙ ap (λ rs. rs ++ emptied_cells a.layout.now lines []) begun
+          ∙ append_assoc above (begin ∷ []) (emptied_cells a.layout.now lines [])
+          ∙ ap (λ rs. above ++ rs) (body_emptied_diff a.layout.now a.start s (row_at tail 0) i lines c.requires.none rows))
           (c.draw_removed_lines.ensures.cells mid [] c.num_lines-row.ensures.count (sym (append-nil mid)) (omega arith));
     }
 
@@ -111,12 +111,12 @@ returns c =
           ap (λ is. removed_from i (numbered_at is)) c.deref-2.ensures.value
           ∙ known_emptied_rows p c.requires.prepared infos span.start span.end c.requires.none starts ends c.in_ok-removed.ensures.lines in
           let rows = rows_none a.start s c.requires.none (λ diff. other (c.requires.prepared.kind ∙ diff)) in
-          let Adds : List SuggestionRow → Type 0 = λ rs. AddsRows a.layout first (given_lines s) rs above new in
-          let row = tail_row a.layout (begins_in_last a.start) above tail a.buffer.now c.first_row-row.result is (start_tail a.layout a.start tail shared) c.first_row-row.ensures.value in
+          let Adds : List SuggestionRow → Type 0 = λ rs. AddsRows a.layout.now first (given_lines s) rs above new in
+          let row = tail_row a.layout.now (begins_in_last a.start) above tail a.buffer.now c.first_row-row.result is (start_tail a.layout.now a.start tail shared) c.first_row-row.ensures.value in
           on_ok_weaker c.draw_removed_lines-2.result
           (λ adds. subst Adds (removed ∙ sym rows)
-          (removed_rows a.layout first (given_lines s) i (numbered_at c.deref-2.result.now) above new adds))
-          (c.draw_removed_lines-2.ensures.added above tail (begins_in_last a.start) row is (start_tail a.layout a.start tail shared));
+          (removed_rows a.layout.now first (given_lines s) i (numbered_at c.deref-2.result.now) above new adds))
+          (c.draw_removed_lines-2.ensures.added above tail (begins_in_last a.start) row is (start_tail a.layout.now a.start tail shared));
       cells = λ above tail is count.
           let a = c.args in
           let p = a.suggestion.now in
@@ -133,5 +133,5 @@ returns c =
           let rows = rows_none a.start s c.requires.none (λ diff. other (c.requires.prepared.kind ∙ diff)) ∙ sym removed in
           let row : c.first_row-row.result ≡ length above = omega (arith, c.first_row-row.ensures.value, ap length is, count, length-append above tail) in
           let few : length tail ≤ 1 = shared_few a.start (length tail) count in
-          on_ok_weaker c.draw_removed_lines-2.result (λ drawn. drawn ∙ ap (λ rs. above ++ rs) (body_emptied a.layout a.start s (row_at tail 0) i lines c.requires.none rows)) (c.draw_removed_lines-2.ensures.cells above tail row is few);
+          on_ok_weaker c.draw_removed_lines-2.result (λ drawn. drawn ∙ ap (λ rs. above ++ rs) (body_emptied a.layout.now a.start s (row_at tail 0) i lines c.requires.none rows)) (c.draw_removed_lines-2.ensures.cells above tail row is few);
     }

@@ -28,14 +28,14 @@ returns c =
     record {
       added = λ room above tail is shared.
           let a = c.args in
-          let l = a.layout in
+          let l = a.layout.now in
           let s = a.suggestion.now.snippet.now in
           let skipped = c.in_ok-skipped.skipped in
           let mid = c.draw_body.new.buffer in
           let before : List (List Cell) = mid ++ replicate skipped [] in
-          let glyph : List ℕ = end_glyph l.decor a.follows in
-          let left : List ℕ = beside_gutter l.gutter glyph in
-          let Ended : List (List Cell) → Type 0 = λ rows. AddsRow (IsStrokeRow l.decor l.gutter left) before rows in
+          let glyph : List ℕ = end_glyph l.frame.decor a.follows in
+          let left : List ℕ = beside_gutter l.frame.gutter glyph in
+          let Ended : List (List Cell) → Type 0 = λ rows. AddsRow (IsStrokeRow l.frame.decor l.frame.gutter left) before rows in
           let ended : Ended c.draw_end.new.buffer = end_row l glyph skipped mid c.draw_end.new.buffer c.in_ok-row.ensures.added in
           let last : Ended c.if-eq.buffer = elim c.if-eq.branch [
             | then-eq+in_ok-draw_marks w ↦
@@ -45,7 +45,7 @@ returns c =
           suggestion_added l a.start a.follows s skipped above mid c.if-eq.buffer (c.in_ok-skipped.ensures.added room above tail is shared) last;
       cells = λ above tail is count.
           let a = c.args in
-          let l = a.layout in
+          let l = a.layout.now in
           let p = a.suggestion.now in
           let s = p.snippet.now in
           let skipped = c.in_ok-skipped.skipped in

@@ -41,5 +41,5 @@ returns g c =
     let all = YieldsList-end (YieldsList-from_enumerate (YieldsList-from_str_split 10 c.in-Some.rest.now (lit< tt) (cc) (cc) (cc)) (cc)) c.loop-index.yielded _ c.loop-index.yielded_by _ _ c.in-None.is c.next.ensures.steps in
     let drawn = several_lines _ _ _ a.row _ a.role a.text.now _ c.in-Some.rest.now c.loop-index.yielded c.requires.last (lines_at-first a.text.now _ c.in-Some.rest.now parts.0 parts.1) c.in_ok-extend_row-2.ensures.extended c.loop-index.invariant all.0 in
     record {
-      rows = drawn ∙ ap (λ n. take a.row a.buffer.now ++ trimmed (lines_below (row_at a.buffer.now a.row) (indent_cells a.style n) a.role (map chars (lines_at a.text.now)))) c.label_width-width.ensures.value;
+      rows = drawn ∙ ap (λ n. take a.row a.buffer.now ++ trimmed (lines_below (row_at a.buffer.now a.row) (indent_cells a.style.now n) a.role (map chars (lines_at a.text.now)))) c.label_width-width.ensures.value;
     }
