@@ -34,3 +34,4 @@ pub mod LineRowLemmas
 pub mod LineRowLaws
 pub mod AmongLaws
 pub mod EndBarLaws
+pub mod SourceCellLaws
