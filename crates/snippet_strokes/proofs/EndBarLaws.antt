@@ -106,7 +106,7 @@ column_stands start (suc n) cell glyph role rows r from to =
 -- ---- the bars of a line's entries
 
 -- whether the start or the end of a span has this depth
-pub is_at : ℕ → LineAnnotationType → Bool
+unfoldable pub is_at : ℕ → LineAnnotationType → Bool
 is_at depth Singleline = false
 is_at depth (MultilineStart d) = d == depth
 is_at depth (MultilineEnd d) = d == depth
@@ -121,15 +121,17 @@ module _ (layout : Layout) (bar : Bar) (room : layout.gutter + 2 + bar.depth < l
   abbrev Leaves : ℕ → Write → Type 0
   Leaves r w = Reaches r cell w → ⊥
 
-  -- stems, labels and marks stand right of it
+  -- stems stand right of it
   pub stems_right : (r : ℕ) → All (Leaves r) (stems_of layout 1 placed)
   stems_right r =
       All-stems_of (Leaves r) layout 1 placed (λ k d within. All-stem_of (Leaves r) layout 1 (get_or placed k d) (λ b low there. omega (arith, there.from, room)))
 
+  -- labels do
   pub labels_right : (r : ℕ) → All (Leaves r) (labels_of layout 1 placed)
   labels_right r =
       All-flat_map (Leaves r) (label_of layout 1) placed (λ k d within. All-label_of (Leaves r) layout 1 (get_or placed k d) (λ has there. omega (arith, there.from, room)))
 
+  -- and marks
   pub marks_right : (r : ℕ) → All (Leaves r) (marks_of layout 1 order)
   marks_right r =
       All-flat_map (Leaves r) (mark_of layout 1) order (λ k d within. mark (get_or order k d))
@@ -145,7 +147,7 @@ module _ (layout : Layout) (bar : Bar) (room : layout.gutter + 2 + bar.depth < l
             | false ↦ All-nil (Leaves r)
           ]
 
-  -- the bar of another depth leaves it too
+  -- a glyph at another depth leaves it
   glyph_leaves : (r row depth glyph : ℕ) (role : ElementStyle) → depth ≢ bar.depth → Leaves r (glyph_at row (layout.gutter + 2 + depth) glyph role)
   glyph_leaves r row depth glyph role other there = other (omega (arith, there.from, there.to))
 
@@ -153,6 +155,7 @@ module _ (layout : Layout) (bar : Bar) (room : layout.gutter + 2 + bar.depth < l
   column_leaves r start end depth glyph role other =
       All-column_of (Leaves r) start end (layout.gutter + 2 + depth) glyph role (λ n from to. glyph_leaves r n depth glyph role other)
 
+  -- and so does what is drawn for the bar of an entry of another depth
   pub part_leaves : (r : ℕ) (e : PlacedEntry) (part : LineAnnotationType) → is_at bar.depth part ≡ false → All (Leaves r) (corner_by layout 0 count e part)
   unfolding is_at
   part_leaves r e Singleline other = All-nil (Leaves r)

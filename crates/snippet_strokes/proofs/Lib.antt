@@ -40,3 +40,4 @@ pub mod StemCells
 pub mod StemLaws
 pub mod AmongLaws
 pub mod EndBarLaws
+pub mod SourceCellLaws

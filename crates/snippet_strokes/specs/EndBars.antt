@@ -7,10 +7,11 @@ use Rattle.snippet_grid.specs.Layout.{Layout}
 use Rattle.snippet_strokes.specs.declared.bars.BarStroke.TheVariants.{Top, Solid, Dotted}
 use Rattle.snippet_strokes.specs.Bars.{Bar, bar_part}
 
--- the cell of a bar beside a row of a line, and beside a row in place of lines that are left out
+-- the cell of a bar in a row of a line
 abbrev pub solid_bar : Layout → Bar → Cell
 solid_bar layout bar = bar_part layout Solid bar
 
+-- the cell of a bar in a row in place of lines that are left out
 abbrev pub dotted_bar : Layout → Bar → Cell
 dotted_bar layout bar = bar_part layout Dotted bar
 
