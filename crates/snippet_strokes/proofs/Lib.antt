@@ -35,6 +35,7 @@ pub mod LineRowLemmas
 pub mod LineRowLaws
 pub mod HeldStrokes
 pub mod LineValueLaws
+pub mod HighlightLaws
 pub mod LineExamples
 pub mod StemCells
 pub mod StemLaws
