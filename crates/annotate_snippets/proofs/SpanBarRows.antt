@@ -36,9 +36,9 @@ use Rattle.snippet_strokes.specs.Bars.{Bar, HasOwnDepth, bars_apart, ends_of_bar
 use Rattle.snippet_strokes.specs.Rows.{bare_elision_row}
 use Rattle.snippet_strokes.specs.EndBars.{BarBegins, BarEnds}
 use Rattle.snippet_strokes.proofs.AmongLaws.{all_from_among, among_contains, contains_among}
-use Rattle.snippet_strokes.proofs.EndBarLaws.{bar_begins, bar_ends, elision_stands}
+use Rattle.snippet_strokes.proofs.EndBarLaws.{bar_ends, elision_stands}
 use Rattle.snippet_strokes.proofs.SnippetLemmas.{highlighted_left}
-use Rattle.snippet_strokes.proofs.SourceCellLaws.{gap_space, line_source}
+use Rattle.snippet_strokes.proofs.SourceCellLaws.{begins, gap_space, line_source}
 use Rattle.snippet_marks.specs.Entries.{is_end_part}
 use Rattle.annotate_snippets.specs.declared.renderer.Renderer.{Renderer}
 use Rattle.annotate_snippets.specs.declared.renderer.frame.Frame.{Frame}
@@ -265,16 +265,20 @@ module _ (r : Renderer) (frame : Frame) (closes : Bool) (s : Snippet Annotation)
   HasSpaces k cells =
       (depth : ℕ) → 0 < depth → frame.gutter + 2 + depth < frame.code → IsFreeAt (source s) (marks s) spans k depth → get_or cells (frame.gutter + 2 + depth) SPACE ≡ SPACE
 
-  -- so are those of a line's source row
-  line_spaces : (open_bars : List Bar) (k : ℕ) (row : List Cell) (rows : List NamedRow) → IsRowOf r frame closes s (SourceRow k) row rows → IsRowDrawn r frame closes s open_bars (SourceRow k) row rows → Open k open_bars → HasSpaces k row
-  line_spaces open_bars k row rows shows line are_open depth some within free =
+  -- in the row that shows a line alone spaces stand in the cells of bars
+  line_blank : (open_bars : List Bar) (k : ℕ) (row : List Cell) (rows : List NamedRow) → IsRowOf r frame closes s (SourceRow k) row rows → (line : IsRowDrawn r frame closes s open_bars (SourceRow k) row rows) → (depth : ℕ) → 0 < depth → frame.gutter + 2 + depth < frame.code
+      → get_or line.highlighted (frame.gutter + 2 + depth) SPACE ≡ SPACE
+  line_blank open_bars k row rows shows line depth some within =
       let cell : ℕ = frame.gutter + 2 + depth in
       let short = short_number r.decor_style frame.gutter (number_text r s.line_numbering frame.gutter (s.line_start + k)) row shows.line.left in
+      highlighted_left frame.code line.dropped (filter (λ e. not (is_end_part e.annotation_type)) line.entries) line.plain line.highlighted line.highlights cell within ∙ line.shows.blank cell (omega (arith, short)) (λ same. omega (arith, same)) within
+
+  -- so do they in a line's source row
+  line_spaces : (open_bars : List Bar) (k : ℕ) (row : List Cell) (rows : List NamedRow) → IsRowOf r frame closes s (SourceRow k) row rows → IsRowDrawn r frame closes s open_bars (SourceRow k) row rows → Open k open_bars → HasSpaces k row
+  line_spaces open_bars k row rows shows line are_open depth some within free =
       let ends : All (λ (b : Bar). b.depth ≢ depth) (ends_of_bars line.entries) = subst (All (λ (b : Bar). b.depth ≢ depth)) (sym (bars_seen s k line.entries line.are)) (ends_apart (source s) (marks s) spans k depth free) in
       let others = open_apart (source s) (marks s) spans k depth open_bars are_open free in
-      line_source (layout_in r frame) depth within line.margin.term_width (closes && length (rows_below rows) == length rows) line.text line.dropped line.entries line.highlighted ends open_bars (row ∷ rows_below rows) line.drawn others (omega arith)
-      ∙ highlighted_left frame.code line.dropped (filter (λ e. not (is_end_part e.annotation_type)) line.entries) line.plain line.highlighted line.highlights cell within
-      ∙ line.shows.blank cell (omega (arith, short)) (λ same. omega (arith, same)) within
+      line_source (layout_in r frame) depth within line.margin.term_width (closes && length (rows_below rows) == length rows) line.text line.dropped line.entries line.highlighted ends open_bars (row ∷ rows_below rows) line.drawn others (omega arith) ∙ line_blank open_bars k row rows shows line depth some within
 
   -- and those of a row in place of lines
   elision_spaces : (open_bars : List Bar) (n : ℕ) (row : List Cell) (rows : List NamedRow) → IsRowDrawn r frame closes s open_bars Elision row rows → Open n open_bars → HasSpaces n row
@@ -352,15 +356,25 @@ module _ (r : Renderer) (frame : Frame) (closes : Bool) (s : Snippet Annotation)
       let line : line_from (next_line n x.name) above row.name ≡ line_from n (y ∷ above) row.name = sym (from_later n x.name x.cells above row.name) ∙ ap (λ z. line_from n (z ∷ above) row.name) same in
       subst (λ k. IsShown row.name k row.cells) line rest
 
-  -- each row is drawn, where some bars are open above it
-  row_drawn : (open_bars : List Bar) (rows : List NamedRow) → AreRowsDrawn r frame closes s open_bars rows → (above : List NamedRow) (row : NamedRow) (below : List NamedRow) → rows ≡ above ++ row ∷ below → (bars : List Bar) × IsRowDrawn r frame closes s bars row.name row.cells below
-  row_drawn open_bars [] drawn [] row below is = cc
-  row_drawn open_bars [] drawn (y ∷ above) row below is = cc
-  row_drawn open_bars (x ∷ rows) drawn [] row below is =
-      let first : IsRowDrawn r frame closes s open_bars row.name row.cells rows = subst (λ (y : NamedRow). IsRowDrawn r frame closes s open_bars y.name y.cells rows) (head_same x row rows below is) drawn.0 in
-      (open_bars, subst (λ more. IsRowDrawn r frame closes s open_bars row.name row.cells more) (tail_same x row rows below is) first)
-  row_drawn open_bars (x ∷ rows) drawn (y ∷ above) row below is =
-      row_drawn (open_after s x.name open_bars) rows drawn.1 above row below (tail_same x y rows (above ++ row ∷ below) is)
+  -- what is known of one row: what its name says, and that it is drawn, where some bars are open above it
+  record IsKnown (row : NamedRow) (below : List NamedRow) : Type 0 where
+    named : IsRowOf r frame closes s row.name row.cells below
+    bars : List Bar
+    drawn : IsRowDrawn r frame closes s bars row.name row.cells below
+
+  row_known : (open_bars : List Bar) (rows : List NamedRow) → AreRowsOf r frame closes s rows → AreRowsDrawn r frame closes s open_bars rows → (above : List NamedRow) (row : NamedRow) (below : List NamedRow) → rows ≡ above ++ row ∷ below → IsKnown row below
+  row_known open_bars [] named drawn [] row below is = cc
+  row_known open_bars [] named drawn (y ∷ above) row below is = cc
+  row_known open_bars (x ∷ rows) named drawn [] row below is =
+      let own : IsKnown x rows = record { named = named.0; bars = open_bars; drawn = drawn.0 } in
+      subst (λ more. IsKnown row more) (tail_same x row rows below is) (subst (λ (y : NamedRow). IsKnown y rows) (head_same x row rows below is) own)
+  row_known open_bars (x ∷ rows) named drawn (y ∷ above) row below is =
+      row_known (open_after s x.name open_bars) rows named.1 drawn.1 above row below (tail_same x y rows (above ++ row ∷ below) is)
+
+  -- it is the same for a row of this name
+  renamed : (name : RowName) (row : NamedRow) (below : List NamedRow) → row.name ≡ name → IsKnown row below → IsKnown (record { name = name; cells = row.cells }) below
+  renamed name row below is known =
+      record { named = subst (λ n. IsRowOf r frame closes s n row.cells below) is known.named; bars = known.bars; drawn = subst (λ n. IsRowDrawn r frame closes s known.bars n row.cells below) is known.drawn }
 
   module _ (a : Annotation) (among : Contains (marks s) a) (long : is_long (cow_str_bytes s.source) a ≡ true) (room : frame.gutter + 2 + depth_of (source s) (marks s) a < frame.code) where
     abbrev bar : Bar
@@ -373,13 +387,14 @@ module _ (r : Renderer) (frame : Frame) (closes : Bool) (s : Snippet Annotation)
         All-unmapped P seen_part es (subst (All P) (sym are) (all_from_among P (entries_on s k) none))
 
     -- the bar begins in the rows of the span's first line
-    line_begins : (open_bars : List Bar) (k : ℕ) (row : List Cell) (rows : List NamedRow) → IsRowDrawn r frame closes s open_bars (SourceRow k) row rows → first_line (cow_str_bytes s.source) a ≡ k → BarBegins (layout_in r frame) bar (row ∷ rows_below rows)
-    line_begins open_bars k row rows line here =
+    line_begins : (open_bars : List Bar) (k : ℕ) (row : List Cell) (rows : List NamedRow) → IsRowOf r frame closes s (SourceRow k) row rows → IsRowDrawn r frame closes s open_bars (SourceRow k) row rows → first_line (cow_str_bytes s.source) a ≡ k → BarBegins (layout_in r frame) bar (row ∷ rows_below rows)
+    line_begins open_bars k row rows shows line here =
         let ends : bars_on s k ≡ ends_of_bars line.entries = sym (bars_seen s k line.entries line.are) in
         let own : Contains (ends_of_bars line.entries) bar = subst (λ bs. Contains bs bar) ends (among_contains (bars_on s k) bar (start_here (source s) (marks s) k a among long here)) in
         let only : HasOwnDepth bar (ends_of_bars line.entries) = subst (HasOwnDepth bar) ends (own_on_line (source s) (marks s) spans k a among long (omega (arith, here)) (omega (arith, here, longer (source s) (marks s) spans a among long))) in
         let none = none_there k (MultilineEnd bar.depth) line.entries line.are (no_end (source s) (marks s) spans k a among long here) in
-        bar_begins (layout_in r frame) bar room line.entries own only line.margin.term_width (closes && length (rows_below rows) == length rows) line.text line.dropped open_bars line.highlighted (row ∷ rows_below rows) line.drawn none
+        let blank = line_blank open_bars k row rows shows line bar.depth (depth-within (source s) (marks s) a among long).0 room in
+        begins (layout_in r frame) bar room line.entries own only line.margin.term_width (closes && length (rows_below rows) == length rows) line.text line.dropped open_bars line.highlighted (row ∷ rows_below rows) line.drawn none blank
 
     -- and ends in those of the last
     line_ends : (open_bars : List Bar) (k : ℕ) (row : List Cell) (rows : List NamedRow) → IsRowDrawn r frame closes s open_bars (SourceRow k) row rows → last_line (cow_str_bytes s.source) a ≡ k → BarEnds (layout_in r frame) bar (row ∷ rows_below rows)
@@ -394,7 +409,7 @@ module _ (r : Renderer) (frame : Frame) (closes : Bool) (s : Snippet Annotation)
   pub bars_shown : (rows : List NamedRow) → AreRowsOf r frame closes s rows → AreRowsDrawn r frame closes s [] rows → rows_below rows ≡ [] → IsAscending (lines_named rows)
       → All (λ a. Contains (lines_named rows) (first_line (cow_str_bytes s.source) a) × Contains (lines_named rows) (last_line (cow_str_bytes s.source) a)) (marks s)
       → code_after frame.gutter (deepest (source s) (marks s)) ≤ frame.code → ShowsBars r frame s rows
-  bars_shown rows named drawn begins ascends ends room =
+  bars_shown rows named drawn none_above ascends ends room =
       let ks : List ℕ = lines_named rows in
       let text : List ℕ = cow_str_bytes s.source in
       let ready : IsReady [] 0 rows = record {
@@ -403,20 +418,18 @@ module _ (r : Renderer) (frame : Frame) (closes : Bool) (s : Snippet Annotation)
         are_open = none_open (source s) (marks s) spans;
         lines = climbs_from 0 ks (λ k more same. omega arith) ascends;
         ends = λ a among long. let shown = All-contains (λ a. Contains ks (first_line text a) × Contains ks (last_line text a)) (marks s) a ends among in (inr (contains_among ks (first_line text a) shown.0), inr (contains_among ks (last_line text a) shown.1));
-        below = subst (All (HasBars Other 0)) (sym begins) (All-nil (HasBars Other 0));
+        below = subst (All (HasBars Other 0)) (sym none_above) (All-nil (HasBars Other 0));
       } in
       record {
         stand = λ a among long above row below is begun ended.
             let line : line_from 0 above row.name ≡ line_beside above row.name = from_start above row.name in
             (all_rows [] 0 rows ready above row below is).bars a among long (omega (arith, line, begun)) (omega (arith, line, ended)) ∙ ap (bar_beside (layout_in r frame) row.name) (bar_given s a long);
         begin = λ a among long above row below is name.
-            let found = row_drawn [] rows drawn above row below is in
-            let line = subst (λ named. IsRowDrawn r frame closes s found.0 named row.cells below) name found.1 in
-            subst (λ bar. BarBegins (layout_in r frame) bar (row.cells ∷ rows_below below)) (bar_given s a long) (line_begins a among long (deep a among long) found.0 (first_line text a) row.cells below line refl);
+            let line = renamed (SourceRow (first_line text a)) row below name (row_known [] rows named drawn above row below is) in
+            subst (λ bar. BarBegins (layout_in r frame) bar (row.cells ∷ rows_below below)) (bar_given s a long) (line_begins a among long (deep a among long) line.bars (first_line text a) row.cells below line.named line.drawn refl);
         end = λ a among long above row below is name.
-            let found = row_drawn [] rows drawn above row below is in
-            let line = subst (λ named. IsRowDrawn r frame closes s found.0 named row.cells below) name found.1 in
-            subst (λ bar. BarEnds (layout_in r frame) bar (row.cells ∷ rows_below below)) (bar_given s a long) (line_ends a among long (deep a among long) found.0 (last_line text a) row.cells below line refl);
+            let line = renamed (SourceRow (last_line text a)) row below name (row_known [] rows named drawn above row below is) in
+            subst (λ bar. BarEnds (layout_in r frame) bar (row.cells ∷ rows_below below)) (bar_given s a long) (line_ends a among long (deep a among long) line.bars (last_line text a) row.cells below line.drawn refl);
         within = λ a among long. let depth = depth-within (source s) (marks s) a among long in inside (depth_of (source s) (marks s) a) depth.0 depth.1;
         spaces = λ above row below is shows c from to others.
             let k : ℕ = line_beside above row.name in

@@ -315,14 +315,15 @@ module _ (layout : Layout) (bar : Bar) (room : layout.gutter + 2 + bar.depth < l
           let at : List (List Cell) → Cell = λ all. cell_at all r (layout.gutter + 2 + bar.depth) in
           ap at drawn.cut.new_is ∙ uncut r drawn.top drawn.marks drawn.cut.source_now drawn.cut.marks_now drawn.lower drawn.cut.source_cut.left drawn.cut.marks_cut.left ∙ ap at drawn.painted_are
 
-  own_begins : (rows : List (List Cell)) → HasOwn (MultilineStart bar.depth) rows → BeginsBelow layout bar rows
-  own_begins rows own =
+  own_begins : (rows : List (List Cell)) → HasOwn (MultilineStart bar.depth) rows → cell_at rows 0 (layout.gutter + 2 + bar.depth) ≡ SPACE → BeginsBelow layout bar rows
+  own_begins rows own blank =
       let drawn = start_drawn layout bar room own.count [] [] [] own.entry own.old own.kind in
       record {
         corner = 1 + own.entry.position;
         below = omega arith;
         within = omega (arith, own.within, own.long);
         corner_is = own.stands (1 + own.entry.position) ∙ drawn.0;
+        source = blank;
         beside = λ i lower within. own.stands i ∙ drawn.1 i lower (omega (arith, within, own.long));
       }
 
@@ -362,7 +363,7 @@ module _ (layout : Layout) (bar : Bar) (room : layout.gutter + 2 + bar.depth < l
     some_has = let found = one_has in any_among is_its es found.0 found.1 found.2
 
     -- the bars that run past have other depths
-    past_apart : (open_bars : List Bar) → All (λ b. b.depth ≢ bar.depth) (bars_apart open_bars (ends_of_bars es))
+    pub past_apart : (open_bars : List Bar) → All (λ b. b.depth ≢ bar.depth) (bars_apart open_bars (ends_of_bars es))
     past_apart open_bars =
         let ends : List Bar = ends_of_bars es in
         let test : Bar → Bool = λ b. not (has_depth ends b.depth) in
@@ -416,12 +417,13 @@ module _ (layout : Layout) (bar : Bar) (room : layout.gutter + 2 + bar.depth < l
           let row : row_at rows i ≡ rule (row_at drawn.own i) = ap (λ rs. row_at rs i) drawn.rows_are ∙ get_or-map rule drawn.own i [] [] (omega (arith, within, as_many)) in
           ap (λ cells. get_or cells (layout.gutter + 2 + bar.depth) SPACE) row ∙ passed_by Solid past (row_at drawn.own i) (past_apart open_bars)
 
-      some_entries : 0 < length es
+      -- the line has entries
+      pub some_entries : 0 < length es
       some_entries = let found = among_contains es one_has.0 one_has.1 in omega (arith, found.1)
 
-      -- the bar of a span that begins on a line begins in the line's rows
-      pub bar_begins : All (λ e. e.annotation_type ≡ MultilineEnd bar.depth → ⊥) es → BarBegins layout bar rows
-      bar_begins none =
+      -- the bar of a span that begins on a line begins in the line's rows, if nothing stands beside it in the source row
+      pub bar_begins : All (λ e. e.annotation_type ≡ MultilineEnd bar.depth → ⊥) es → (is_whole_line text es ≡ false → cell_at rows 0 (layout.gutter + 2 + bar.depth) ≡ SPACE) → BarBegins layout bar rows
+      bar_begins none blank =
           elim (cases_Bool (is_whole_line text es)) [
             | inl whole ↦
                 let one = drawn.are.whole whole in
@@ -431,12 +433,14 @@ module _ (layout : Layout) (bar : Bar) (room : layout.gutter + 2 + bar.depth < l
                   top = own_cell 0 (omega (arith, alone_there)) ∙ ap (λ rs. cell_at rs 0 (layout.gutter + 2 + bar.depth)) one ∙ bar_stands layout Top bar (ends_of_bars es) source alone among;
                 })
             | inr other ↦
-                let own : BeginsBelow layout bar drawn.own = own_begins drawn.own (own_of width closes dropped es source drawn.own (MultilineStart bar.depth) (drawn.are.strokes other some_entries) (all_starts none) some_has) in
+                let has = own_of width closes dropped es source drawn.own (MultilineStart bar.depth) (drawn.are.strokes other some_entries) (all_starts none) some_has in
+                let own : BeginsBelow layout bar drawn.own = own_begins drawn.own has (sym (own_cell 0 (omega (arith, as_many, has.long, has.within))) ∙ blank other) in
                 inr (record {
                   corner = own.corner;
                   below = own.below;
                   within = omega (arith, own.within, as_many);
                   corner_is = own_cell own.corner (omega (arith, own.within, as_many)) ∙ own.corner_is;
+                  source = blank other;
                   beside = λ i lower within. own_cell i within ∙ own.beside i lower (omega (arith, within, as_many));
                 })
           ]
