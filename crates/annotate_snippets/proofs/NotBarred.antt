@@ -1,8 +1,9 @@
--- Rows without the bars of spans: each contradicts what is said of bars.
-use Rattle.std.proofs.Common.{◌≡◌, ℕ, ◌+◌, ◌<◌, ◌≤◌, Bool, true, false, List, ◌∷◌, ◌++◌, Contains, sym, ap, ◌∙◌, arith, inl, inr}
+-- Rows without the bars of spans, and with others: each contradicts what is said of bars.
+use Rattle.std.proofs.Common.{◌≡◌, ◌≢◌, ℕ, ◌+◌, ◌<◌, ◌≤◌, Bool, true, false, List, ◌∷◌, ◌++◌, All, Contains, sym, ap, ◌∙◌, arith, inl, inr}
 use Rattle.std.specs.List.{slice_index_or}
 use Rattle.std.specs.Cow.{cow_str_bytes}
-use Rattle.std.proofs.lemmas.Bool.{cases_eq}
+use Rattle.std.proofs.lemmas.Bool.{both_ways, cases_eq}
+use Rattle.std.proofs.lemmas.List.Elements.{All-weaker}
 use Rattle.snippet_model.specs.declared.snippet.Annotation.{Annotation}
 use Rattle.snippet_model.specs.declared.snippet.Snippet.{Snippet}
 use Rattle.snippet_style.specs.Cell.{Cell, SPACE}
@@ -10,13 +11,14 @@ use Rattle.snippet_style.specs.Glyphs.{glyph_of}
 use Rattle.snippet_style.specs.declared.glyphs.DecorStyle.{DecorStyle}
 use Rattle.snippet_style.specs.declared.glyphs.DecorStyle.TheVariants.{Ascii, Unicode}
 use Rattle.snippet_view.specs.Annotated.{is_long}
+use Rattle.snippet_view.specs.Mark.{touches}
 use Rattle.snippet_view.specs.Marked.{first_line, last_line}
 use Rattle.snippet_grid.specs.Grid.{cell_at}
 use Rattle.snippet_grid.specs.Layout.{Layout}
 use Rattle.snippet_strokes.specs.Bars.{Bar}
 use Rattle.snippet_strokes.specs.EndBars.{dotted_bar, end_corner, solid_bar}
 use Rattle.annotate_snippets.specs.declared.renderer.Renderer.{Renderer}
-use Rattle.annotate_snippets.specs.Page.{Elision, NamedRow, OfferedLine, Other, RemovedLine, RowName, SourceRow, rows_below}
+use Rattle.annotate_snippets.specs.Page.{Elision, NamedRow, OfferedLine, Other, RemovedLine, RowName, SourceRow, rows_below, shows_lines}
 use Rattle.annotate_snippets.specs.SpanBars.{ShowsBars, bar_beside, bar_cell_of, bar_of_span, line_beside}
 
 -- no bar is a space
@@ -63,6 +65,14 @@ module _ (r : Renderer) (frame : Layout) (s : Snippet Annotation) (rows : List N
       → first_line (cow_str_bytes s.source) a < line_beside above row.name → line_beside above row.name < last_line (cow_str_bytes s.source) a
       → slice_index_or row.cells (bar_cell_of frame s a) SPACE ≡ SPACE → ⊥
   bar_left_out a among long first last empty = has_bar a (record { among = among; long = long; first = first; last = last }) empty
+
+  -- a bar of no span, beside a line or lines that are left out, in a snippet that has no span of several lines:
+  --
+  --     2 ┃ b
+  pub bar_of_no_span : All (λ a. is_long (cow_str_bytes s.source) a ≡ false) s.markers.items → shows_lines row.name ≡ true → (c : ℕ) → frame.gutter + 3 ≤ c → c < frame.code → (slice_index_or row.cells c SPACE ≡ SPACE → ⊥) → ⊥
+  bar_of_no_span none shows c from to filled =
+      filled (shown.spaces above row below is shows c from to (All-weaker (λ (a : Annotation). is_long (cow_str_bytes s.source) a ≡ false)
+      (λ a. is_long (cow_str_bytes s.source) a ≡ true → touches (cow_str_bytes s.source) a (line_beside above row.name) ≡ true → bar_cell_of frame s a ≢ c) (λ a short long touched same. both_ways (is_long (cow_str_bytes s.source) a) short long) s.markers.items none))
 
   -- a space in the cell of a bar, beside the last line of its span:
   --

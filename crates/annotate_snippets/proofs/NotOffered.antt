@@ -144,7 +144,8 @@ old_lines_repeated : {found : List Cell} (s : Snippet Patch) → IsSnippetOf s (
 old_lines_repeated s is frame narrow ascii around row before after row_is shown =
     let rows : List NamedRow = before ++ (row ∷ after) in
     let same : shown.after ≡ rows = append_cancel_left (others (suggestion_head plain_settings frame around s)) shown.after rows (sym shown.rows_are) in
-    let named : All (λ r. IsSuggestionRow plain_settings Ascii 1 s r.name r.cells) rows = subst (λ gutter. All (λ r. IsSuggestionRow plain_settings Ascii gutter s r.name r.cells) rows) narrow (subst (λ decor. All (λ r. IsSuggestionRow plain_settings decor frame.gutter s r.name r.cells) rows) ascii (subst (All (λ r. IsSuggestionRow plain_settings frame.decor frame.gutter s r.name r.cells)) same shown.named)) in
+    let named : All (λ r. IsSuggestionRow plain_settings Ascii 1 s r.name r.cells) rows = subst (λ gutter. All (λ r. IsSuggestionRow plain_settings Ascii gutter s r.name r.cells) rows) narrow (subst (λ decor. All
+    (λ r. IsSuggestionRow plain_settings decor frame.gutter s r.name r.cells) rows) ascii (subst (All (λ r. IsSuggestionRow plain_settings frame.decor frame.gutter s r.name r.cells)) same shown.named)) in
     old_row_named s is row.name row.cells row_is (row_named s before row after named).0
 
 -- so no rows that offer it twice show the suggestion, after the row of its path, where that is named:
@@ -159,7 +160,8 @@ second_copy_offered : {found : List Cell} (s : Snippet Patch) → IsSnippetOf s 
 second_copy_offered s is frame narrow ascii around row copy before between after row_is copy_is shown =
     let rows : List NamedRow = before ++ (row ∷ (between ++ (copy ∷ after))) in
     let same : shown.after ≡ rows = append_cancel_left (others (suggestion_head plain_settings frame around s)) shown.after rows (sym shown.rows_are) in
-    let named : All (λ r. IsSuggestionRow plain_settings Ascii 1 s r.name r.cells) rows = subst (λ gutter. All (λ r. IsSuggestionRow plain_settings Ascii gutter s r.name r.cells) rows) narrow (subst (λ decor. All (λ r. IsSuggestionRow plain_settings decor frame.gutter s r.name r.cells) rows) ascii (subst (All (λ r. IsSuggestionRow plain_settings frame.decor frame.gutter s r.name r.cells)) same shown.named)) in
+    let named : All (λ r. IsSuggestionRow plain_settings Ascii 1 s r.name r.cells) rows = subst (λ gutter. All (λ r. IsSuggestionRow plain_settings Ascii gutter s r.name r.cells) rows) narrow (subst (λ decor. All
+    (λ r. IsSuggestionRow plain_settings decor frame.gutter s r.name r.cells) rows) ascii (subst (All (λ r. IsSuggestionRow plain_settings frame.decor frame.gutter s r.name r.cells)) same shown.named)) in
     let ordered : IsAscending (lines_offered rows) = subst (λ all. IsAscending (lines_offered all)) same shown.ordered in
     let first = row_named s before row (between ++ (copy ∷ after)) named in
     let second = row_named s between copy after first.1 in
@@ -353,7 +355,8 @@ module _ (v : Vec Patch Global) (frame : Layout) (narrow : frame.gutter ≡ 1) (
       ap (λ rows. rows ++ (if around.shared then [] else Ends (not (is_end around.next)) ∷ [])) (ap (λ at. rows_of_suggestion at foo) opens ∙ (one_word_gives v).rows_are)
 
   -- rows that show it, after the row of its path: the second is that of the removed line, whatever it holds
-  second_removed : {found : List Cell} → frame.decor ≡ Ascii → (first row : NamedRow) (rest : List NamedRow) → ShowsSuggestion plain_settings frame around found foo (others (suggestion_head plain_settings frame around foo) ++ (first ∷ row ∷ rest)) → IsSuggestionRow plain_settings Ascii 1 foo (RemovedLine 0) row.cells
+  second_removed : {found : List Cell} → frame.decor ≡ Ascii → (first row : NamedRow) (rest : List NamedRow) → ShowsSuggestion plain_settings frame around found foo (others (suggestion_head plain_settings frame around foo) ++ (first ∷ row ∷ rest))
+      → IsSuggestionRow plain_settings Ascii 1 foo (RemovedLine 0) row.cells
   second_removed ascii first row rest shown =
       let rows : List NamedRow = first ∷ row ∷ rest in
       let same : shown.after ≡ rows = append_cancel_left (others (suggestion_head plain_settings frame around foo)) shown.after rows (sym shown.rows_are) in
@@ -406,7 +409,8 @@ module _ (v : Vec Patch Global) (frame : Layout) (narrow : frame.gutter ≡ 1) (
   --     1 - foo
   --     1 + bar
   --       |
-  gap_row_over_separator : {found : List Cell} → frame.decor ≡ Ascii → (first : NamedRow) (rest : List NamedRow) → first.cells ≡ text_cells LineNumber (codes "...") → ShowsSuggestion plain_settings frame around found foo (others (suggestion_head plain_settings frame around foo) ++ (first ∷ rest)) → ⊥
+  gap_row_over_separator : {found : List Cell} → frame.decor ≡ Ascii → (first : NamedRow) (rest : List NamedRow) → first.cells ≡ text_cells LineNumber (codes "...")
+      → ShowsSuggestion plain_settings frame around found foo (others (suggestion_head plain_settings frame around foo) ++ (first ∷ rest)) → ⊥
   gap_row_over_separator ascii first rest is shown =
       let P : List Cell → Type 0 = λ cells. (get_or cells 2 SPACE).ch ≡ 124 in
       let dot : ◌≡◌ {A = ℕ} 46 124 = subst P is (subst (λ d. HasStrokes d 1 (Begins Opening) first.cells) ascii (first_begins plain_settings first rest shown) 2 (omega arith)) in

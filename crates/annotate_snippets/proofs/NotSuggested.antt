@@ -46,7 +46,9 @@ rows_alone frame around found s lines layout_is alone shown =
 -- with a gutter of one cell its rows stand as in ASCII
 narrow_layout : (frame : Layout) (s : Snippet Patch) → frame.gutter ≡ 1 → frame.decor ≡ Ascii → s.line_numbering ≡ true → suggestion_layout plain_settings frame s ≡ ascii frame.code
 narrow_layout frame s narrow plain numbered =
-    ap (λ (d : DecorStyle). record { frame = record { gutter = frame.gutter; code = frame.code; decor = d }; numbers = line_numbers plain_settings s.line_numbering }) plain ∙ ap (λ (g : ℕ). record { frame = record { gutter = g; code = frame.code; decor = Ascii }; numbers = line_numbers plain_settings s.line_numbering }) narrow ∙ ap (λ (b : Bool). record { frame = record { gutter = 1; code = frame.code; decor = Ascii }; numbers = line_numbers plain_settings b }) numbered
+    ap (λ (d : DecorStyle). record { frame = record { gutter = frame.gutter; code = frame.code; decor = d }; numbers = line_numbers plain_settings s.line_numbering }) plain
+    ∙ ap (λ (g : ℕ). record { frame = record { gutter = g; code = frame.code; decor = Ascii }; numbers = line_numbers plain_settings s.line_numbering }) narrow
+    ∙ ap (λ (b : Bool). record { frame = record { gutter = 1; code = frame.code; decor = Ascii }; numbers = line_numbers plain_settings b }) numbered
 
 -- ---- a mark beside what it belongs to
 

@@ -1,8 +1,8 @@
 -- Beside the rows of a snippet's lines stand the bars of its spans.
-use Rattle.std.proofs.Common.{◌≡◌, ℕ, zero, suc, ◌+◌, ◌-◌, ◌<◌, ◌≤◌, ◌==◌, ◌&&◌, Bool, true, false, not, cond, eqb, List, [], ◌∷◌, ◌++◌, ◌⊎◌, fold, map, length, get_or, inl, inr, refl, sym, ap, subst, ◌∙◌, arith}
+use Rattle.std.proofs.Common.{◌≡◌, ℕ, zero, suc, ◌+◌, ◌-◌, ◌<◌, ◌≤◌, ◌==◌, ◌&&◌, Bool, true, false, not, cond, eqb, leb, take, replicate, ◌≢◌, List, [], ◌∷◌, ◌++◌, ◌⊎◌, fold, map, length, get_or, inl, inr, refl, sym, ap, subst, ◌∙◌, arith}
 use Rattle.std.specs.List.{All, Contains, filter}
 use Rattle.std.specs.Cow.{cow_str_bytes}
-use Rattle.std.proofs.lemmas.Bool.{and_from, and_parts, cond_both, eq-eqb, eqb-true}
+use Rattle.std.proofs.lemmas.Bool.{le-leb, and_from, and_parts, cond_both, eq-eqb, eqb-true}
 use Rattle.std.proofs.lemmas.Bool.Decides.{nat_tests}
 use Rattle.std.proofs.lemmas.List.Elements.{All-contains, All-filter, All-head, All-nil, All-tail}
 use Rattle.snippet_model.specs.AnnotationKind.{is_primary}
@@ -10,7 +10,12 @@ use Rattle.snippet_model.specs.declared.snippet.Annotation.{Annotation}
 use Rattle.snippet_model.specs.declared.snippet.AnnotationKind.{AnnotationKind}
 use Rattle.snippet_model.specs.declared.snippet.AnnotationKind.TheVariants.{Primary, Context, Visible}
 use Rattle.snippet_model.specs.declared.snippet.Snippet.{Snippet}
-use Rattle.snippet_style.specs.Cell.{Cell, SPACE}
+use Rattle.snippet_style.specs.Cell.{Cell, SPACE, text_cells}
+use Rattle.snippet_style.specs.Glyphs.{separator_of}
+use Rattle.snippet_style.specs.declared.glyphs.DecorStyle.{DecorStyle}
+use Rattle.snippet_style.specs.declared.role.ElementStyle.TheVariants.{LineNumber}
+use Rattle.snippet_style.proofs.CellLemmas.{length-text_cells}
+use Rattle.std.proofs.lemmas.List.{length-append, length-replicate, length-take}
 use Rattle.snippet_lines.specs.declared.place.Loc.{Loc}
 use Rattle.snippet_lines.specs.Lines.{Source, source_lines}
 use Rattle.snippet_lines.specs.Place.{end_location, line_of, location_of, locations_of, start_location}
@@ -21,7 +26,7 @@ use Rattle.snippet_view.specs.Depths.{same_place}
 use Rattle.snippet_view.specs.declared.entries.LineAnnotation.{LineAnnotation}
 use Rattle.snippet_view.specs.declared.entries.LineAnnotationType.{LineAnnotationType}
 use Rattle.snippet_view.specs.declared.entries.LineAnnotationType.TheVariants.{MultilineEnd, MultilineStart}
-use Rattle.snippet_view.specs.Mark.{is_marking, is_single_line}
+use Rattle.snippet_view.specs.Mark.{is_marking, is_single_line, touches}
 use Rattle.snippet_view.specs.Marked.{Entry, first_line, last_line}
 use Rattle.snippet_view.proofs.AmongLemmas.{Among, among_filter, among_in_order, among_map, any_among, any_cases, filter_cases, in_order_cases, map_cases}
 use Rattle.snippet_view.proofs.EntryFacts.{depth-within}
@@ -31,17 +36,20 @@ use Rattle.snippet_strokes.specs.Bars.{Bar, HasOwnDepth, bars_apart, ends_of_bar
 use Rattle.snippet_strokes.specs.Rows.{bare_elision_row}
 use Rattle.snippet_strokes.specs.EndBars.{BarBegins, BarEnds}
 use Rattle.snippet_strokes.proofs.AmongLaws.{all_from_among, among_contains, contains_among}
-use Rattle.snippet_strokes.proofs.EndBarLaws.{bar_begins, bar_ends, elision_stands}
+use Rattle.snippet_strokes.proofs.EndBarLaws.{bar_ends, elision_stands}
+use Rattle.snippet_strokes.proofs.SnippetLemmas.{highlighted_left}
+use Rattle.snippet_strokes.proofs.SourceCellLaws.{begins, gap_space, line_source}
+use Rattle.snippet_marks.specs.Entries.{is_end_part}
 use Rattle.annotate_snippets.specs.declared.renderer.Renderer.{Renderer}
 use Rattle.snippet_grid.specs.Layout.{Layout}
-use Rattle.annotate_snippets.specs.Gutter.{code_after, numbered_source}
+use Rattle.annotate_snippets.specs.Gutter.{code_after, number_text, numbered_source}
 use Rattle.annotate_snippets.specs.LineRows.{AreRowsDrawn, IsRowDrawn, bars_on, entries_on, open_after}
-use Rattle.annotate_snippets.specs.Page.{Elision, IsAscending, NamedRow, OfferedLine, Other, RemovedLine, RowName, SourceRow, lines_named, rows_below}
-use Rattle.annotate_snippets.specs.Shown.{AreRowsOf}
+use Rattle.annotate_snippets.specs.Page.{Elision, IsAscending, NamedRow, OfferedLine, Other, RemovedLine, RowName, SourceRow, lines_named, rows_below, shows_lines}
+use Rattle.annotate_snippets.specs.Shown.{AreRowsOf, IsRowOf, cells_left}
 use Rattle.annotate_snippets.specs.SpanBars.{ShowsBars, bar_beside, bar_cell_of, bar_of_span, is_bar_primary, line_beside}
 use Rattle.annotate_snippets.proofs.DrawnLines.{bar_shown, bars_seen}
 use Rattle.annotate_snippets.proofs.LabelLemmas.{head_same, tail_same}
-use Rattle.annotate_snippets.proofs.SpanOpen.{AreOpen, alone, bar_at_place, end_here, goes_past, longer, no_end, no_start, none_open, one_place, open_lower, open_next, own_on_line, place_in, start_here}
+use Rattle.annotate_snippets.proofs.SpanOpen.{AreOpen, IsFreeAt, alone, ends_apart, open_apart, bar_at_place, end_here, goes_past, longer, no_end, no_start, none_open, one_place, open_lower, open_next, own_on_line, place_in, start_here}
 use Rattle.annotate_snippets.proofs.SpanParts.{is_primary_at}
 
 -- ---- the place of a span is its bytes
@@ -199,6 +207,22 @@ from_later n (OfferedLine j) cells above name = refl
 from_later n (RemovedLine i) cells above name = refl
 from_later n Other cells above name = refl
 
+-- what stands in the gutter beside a line is no wider than the gutter
+short_number : (decor : DecorStyle) (gutter : ℕ) (shown : List ℕ) (row : List Cell) → take (gutter + 2) row ≡ cells_left decor gutter shown → length shown ≤ gutter + 1
+short_number decor gutter shown row same =
+    let spaces : List Cell = replicate (gutter + 1 - length shown) SPACE in
+    let separator : List Cell = text_cells LineNumber (separator_of decor ∷ []) in
+    omega (
+      arith,
+      ap length same,
+      length-take (gutter + 2) row,
+      length-append (text_cells LineNumber shown) (spaces ++ separator),
+      length-append spaces separator,
+      length-text_cells LineNumber shown,
+      length-text_cells LineNumber (separator_of decor ∷ []),
+      length-replicate (gutter + 1 - length shown) SPACE,
+    )
+
 -- ---- the rows
 
 module _ (r : Renderer) (frame : Layout) (closes : Bool) (s : Snippet Annotation) (spans : All (λ a. IsSpan (cow_str_bytes s.source) a.span.start a.span.end) s.markers.items) where
@@ -235,6 +259,36 @@ module _ (r : Renderer) (frame : Layout) (closes : Bool) (s : Snippet Annotation
       let own : HasOwnDepth bar open_bars = alone (source s) (marks s) spans n open_bars are_open a among long above (omega (arith, below)) in
       ap (λ (cells : List Cell). get_or cells (bar_cell_of frame s a) SPACE) drawn.0 ∙ elision_stands layout bar open_bars (bare_elision_row frame.decor frame.gutter) own here
 
+  -- a cell of bars is a space that has the depth of no span which touches line k
+  abbrev HasSpaces : ℕ → List Cell → Type 0
+  HasSpaces k cells =
+      (depth : ℕ) → 0 < depth → frame.gutter + 2 + depth < frame.code → IsFreeAt (source s) (marks s) spans k depth → get_or cells (frame.gutter + 2 + depth) SPACE ≡ SPACE
+
+  -- in the row that shows a line alone spaces stand in the cells of bars
+  line_blank : (open_bars : List Bar) (k : ℕ) (row : List Cell) (rows : List NamedRow) → IsRowOf r frame closes s (SourceRow k) row rows → (line : IsRowDrawn r frame closes s open_bars (SourceRow k) row rows) → (depth : ℕ) → 0 < depth → frame.gutter + 2 + depth < frame.code
+      → get_or line.highlighted (frame.gutter + 2 + depth) SPACE ≡ SPACE
+  line_blank open_bars k row rows shows line depth some within =
+      let cell : ℕ = frame.gutter + 2 + depth in
+      let short = short_number frame.decor frame.gutter (number_text r s.line_numbering frame.gutter (s.line_start + k)) row shows.line.left in
+      highlighted_left frame.code line.dropped (filter (λ e. not (is_end_part e.annotation_type)) line.entries) line.plain line.highlighted line.highlights cell within ∙ line.shows.blank cell (omega (arith, short)) (λ same. omega (arith, same)) within
+
+  -- so do they in a line's source row
+  line_spaces : (open_bars : List Bar) (k : ℕ) (row : List Cell) (rows : List NamedRow) → IsRowOf r frame closes s (SourceRow k) row rows → IsRowDrawn r frame closes s open_bars (SourceRow k) row rows → Open k open_bars → HasSpaces k row
+  line_spaces open_bars k row rows shows line are_open depth some within free =
+      let ends : All (λ (b : Bar). b.depth ≢ depth) (ends_of_bars line.entries) = subst (All (λ (b : Bar). b.depth ≢ depth)) (sym (bars_seen s k line.entries line.are)) (ends_apart (source s) (marks s) spans k depth free) in
+      let others = open_apart (source s) (marks s) spans k depth open_bars are_open free in
+      line_source frame depth within line.margin.term_width (closes && length (rows_below rows) == length rows) line.text line.dropped line.entries line.highlighted ends open_bars (row ∷ rows_below rows) line.drawn others (omega arith) ∙ line_blank open_bars k row rows shows line depth some within
+
+  -- and those of a row in place of lines
+  elision_spaces : (open_bars : List Bar) (n : ℕ) (row : List Cell) (rows : List NamedRow) → IsRowDrawn r frame closes s open_bars Elision row rows → Open n open_bars → HasSpaces n row
+  elision_spaces open_bars n row rows drawn are_open depth some within free =
+      ap (λ (cells : List Cell). get_or cells (frame.gutter + 2 + depth) SPACE) drawn.0 ∙ gap_space frame depth within open_bars (open_apart (source s) (marks s) spans n depth open_bars are_open free) some
+
+  -- a row of this name beside line k has its bars, and where it stands for lines spaces beside them
+  record IsShown (name : RowName) (k : ℕ) (cells : List Cell) : Type 0 where
+    bars : HasBars name k cells
+    spaces : shows_lines name ≡ true → HasSpaces k cells
+
   -- what is known above some rows: which lines are left, and which bars are open
   record IsReady (open_bars : List Bar) (n : ℕ) (rows : List NamedRow) : Type 0 where
     named : AreRowsOf r frame closes s rows
@@ -246,7 +300,7 @@ module _ (r : Renderer) (frame : Layout) (closes : Bool) (s : Snippet Annotation
 
   -- a row has its bars, and the same is known below it
   one_row : (open_bars : List Bar) (n : ℕ) (name : RowName) (cells : List Cell) (rows : List NamedRow) → IsReady open_bars n (record { name = name; cells = cells } ∷ rows)
-      → HasBars name (here_line n name) cells × IsReady (open_after s name open_bars) (next_line n name) rows
+      → IsShown name (here_line n name) cells × IsReady (open_after s name open_bars) (next_line n name) rows
   one_row open_bars n (SourceRow k) cells rows ready =
       let ks : List ℕ = lines_named rows in
       let up : n ≤ k = ready.lines.0 in
@@ -255,7 +309,7 @@ module _ (r : Renderer) (frame : Layout) (closes : Bool) (s : Snippet Annotation
       (past_next n k ks (first_line (cow_str_bytes s.source) a) ready.lines ends.0, past_next n k ks (last_line (cow_str_bytes s.source) a) ready.lines ends.1)) in
       let bars : All (HasBars Other k) (cells ∷ rows_below rows) = line_bars open_bars k cells rows ready.drawn.0 here in
       let last : k ≡ k + 1 - 1 = omega arith in (
-        All-head (HasBars Other k) cells (rows_below rows) bars,
+        record { bars = All-head (HasBars Other k) cells (rows_below rows) bars; spaces = λ _. line_spaces open_bars k cells rows ready.named.0 ready.drawn.0 here },
         record {
           named = ready.named.1;
           drawn = ready.drawn.1;
@@ -266,7 +320,7 @@ module _ (r : Renderer) (frame : Layout) (closes : Bool) (s : Snippet Annotation
         },
       )
   one_row open_bars n Elision cells rows ready = (
-    elision_bars open_bars n cells rows ready.drawn.0 ready.are_open,
+    record { bars = elision_bars open_bars n cells rows ready.drawn.0 ready.are_open; spaces = λ _. elision_spaces open_bars n cells rows ready.drawn.0 ready.are_open },
     record {
       named = ready.named.1;
       drawn = ready.drawn.1;
@@ -279,7 +333,7 @@ module _ (r : Renderer) (frame : Layout) (closes : Bool) (s : Snippet Annotation
   one_row open_bars n (OfferedLine j) cells rows ready = absurd ready.named.0
   one_row open_bars n (RemovedLine i) cells rows ready = absurd ready.named.0
   one_row open_bars n Other cells rows ready = (
-    All-head (HasBars Other (n - 1)) cells (rows_below rows) ready.below,
+    record { bars = All-head (HasBars Other (n - 1)) cells (rows_below rows) ready.below; spaces = λ wrong. cc wrong },
     record {
       named = ready.named.1;
       drawn = ready.drawn.1;
@@ -290,26 +344,36 @@ module _ (r : Renderer) (frame : Layout) (closes : Bool) (s : Snippet Annotation
     },
   )
 
-  all_rows : (open_bars : List Bar) (n : ℕ) (rows : List NamedRow) → IsReady open_bars n rows → (above : List NamedRow) (row : NamedRow) (below : List NamedRow) → rows ≡ above ++ row ∷ below → HasBars row.name (line_from n above row.name) row.cells
+  all_rows : (open_bars : List Bar) (n : ℕ) (rows : List NamedRow) → IsReady open_bars n rows → (above : List NamedRow) (row : NamedRow) (below : List NamedRow) → rows ≡ above ++ row ∷ below → IsShown row.name (line_from n above row.name) row.cells
   all_rows open_bars n [] ready [] row below is = cc
   all_rows open_bars n [] ready (x ∷ above) row below is = cc
   all_rows open_bars n (x ∷ rows) ready [] row below is =
-      subst (λ (y : NamedRow). HasBars y.name (here_line n y.name) y.cells) (head_same x row rows below is) (one_row open_bars n x.name x.cells rows ready).0
+      subst (λ (y : NamedRow). IsShown y.name (here_line n y.name) y.cells) (head_same x row rows below is) (one_row open_bars n x.name x.cells rows ready).0
   all_rows open_bars n (x ∷ rows) ready (y ∷ above) row below is =
       let same : x ≡ y = head_same x y rows (above ++ row ∷ below) is in
       let rest = all_rows (open_after s x.name open_bars) (next_line n x.name) rows (one_row open_bars n x.name x.cells rows ready).1 above row below (tail_same x y rows (above ++ row ∷ below) is) in
       let line : line_from (next_line n x.name) above row.name ≡ line_from n (y ∷ above) row.name = sym (from_later n x.name x.cells above row.name) ∙ ap (λ z. line_from n (z ∷ above) row.name) same in
-      subst (λ k. HasBars row.name k row.cells) line rest
+      subst (λ k. IsShown row.name k row.cells) line rest
 
-  -- each row is drawn, where some bars are open above it
-  row_drawn : (open_bars : List Bar) (rows : List NamedRow) → AreRowsDrawn r frame closes s open_bars rows → (above : List NamedRow) (row : NamedRow) (below : List NamedRow) → rows ≡ above ++ row ∷ below → (bars : List Bar) × IsRowDrawn r frame closes s bars row.name row.cells below
-  row_drawn open_bars [] drawn [] row below is = cc
-  row_drawn open_bars [] drawn (y ∷ above) row below is = cc
-  row_drawn open_bars (x ∷ rows) drawn [] row below is =
-      let first : IsRowDrawn r frame closes s open_bars row.name row.cells rows = subst (λ (y : NamedRow). IsRowDrawn r frame closes s open_bars y.name y.cells rows) (head_same x row rows below is) drawn.0 in
-      (open_bars, subst (λ more. IsRowDrawn r frame closes s open_bars row.name row.cells more) (tail_same x row rows below is) first)
-  row_drawn open_bars (x ∷ rows) drawn (y ∷ above) row below is =
-      row_drawn (open_after s x.name open_bars) rows drawn.1 above row below (tail_same x y rows (above ++ row ∷ below) is)
+  -- what is known of one row: what its name says, and that it is drawn, where some bars are open above it
+  record IsKnown (row : NamedRow) (below : List NamedRow) : Type 0 where
+    named : IsRowOf r frame closes s row.name row.cells below
+    bars : List Bar
+    drawn : IsRowDrawn r frame closes s bars row.name row.cells below
+
+  row_known : (open_bars : List Bar) (rows : List NamedRow) → AreRowsOf r frame closes s rows → AreRowsDrawn r frame closes s open_bars rows → (above : List NamedRow) (row : NamedRow) (below : List NamedRow) → rows ≡ above ++ row ∷ below → IsKnown row below
+  row_known open_bars [] named drawn [] row below is = cc
+  row_known open_bars [] named drawn (y ∷ above) row below is = cc
+  row_known open_bars (x ∷ rows) named drawn [] row below is =
+      let own : IsKnown x rows = record { named = named.0; bars = open_bars; drawn = drawn.0 } in
+      subst (λ more. IsKnown row more) (tail_same x row rows below is) (subst (λ (y : NamedRow). IsKnown y rows) (head_same x row rows below is) own)
+  row_known open_bars (x ∷ rows) named drawn (y ∷ above) row below is =
+      row_known (open_after s x.name open_bars) rows named.1 drawn.1 above row below (tail_same x y rows (above ++ row ∷ below) is)
+
+  -- it is the same for a row of this name
+  renamed : (name : RowName) (row : NamedRow) (below : List NamedRow) → row.name ≡ name → IsKnown row below → IsKnown (record { name = name; cells = row.cells }) below
+  renamed name row below is known =
+      record { named = subst (λ n. IsRowOf r frame closes s n row.cells below) is known.named; bars = known.bars; drawn = subst (λ n. IsRowDrawn r frame closes s known.bars n row.cells below) is known.drawn }
 
   module _ (a : Annotation) (among : Contains (marks s) a) (long : is_long (cow_str_bytes s.source) a ≡ true) (room : frame.gutter + 2 + depth_of (source s) (marks s) a < frame.code) where
     abbrev bar : Bar
@@ -322,13 +386,14 @@ module _ (r : Renderer) (frame : Layout) (closes : Bool) (s : Snippet Annotation
         All-unmapped P seen_part es (subst (All P) (sym are) (all_from_among P (entries_on s k) none))
 
     -- the bar begins in the rows of the span's first line
-    line_begins : (open_bars : List Bar) (k : ℕ) (row : List Cell) (rows : List NamedRow) → IsRowDrawn r frame closes s open_bars (SourceRow k) row rows → first_line (cow_str_bytes s.source) a ≡ k → BarBegins frame bar (row ∷ rows_below rows)
-    line_begins open_bars k row rows line here =
+    line_begins : (open_bars : List Bar) (k : ℕ) (row : List Cell) (rows : List NamedRow) → IsRowOf r frame closes s (SourceRow k) row rows → IsRowDrawn r frame closes s open_bars (SourceRow k) row rows → first_line (cow_str_bytes s.source) a ≡ k → BarBegins frame bar (row ∷ rows_below rows)
+    line_begins open_bars k row rows shows line here =
         let ends : bars_on s k ≡ ends_of_bars line.entries = sym (bars_seen s k line.entries line.are) in
         let own : Contains (ends_of_bars line.entries) bar = subst (λ bs. Contains bs bar) ends (among_contains (bars_on s k) bar (start_here (source s) (marks s) k a among long here)) in
         let only : HasOwnDepth bar (ends_of_bars line.entries) = subst (HasOwnDepth bar) ends (own_on_line (source s) (marks s) spans k a among long (omega (arith, here)) (omega (arith, here, longer (source s) (marks s) spans a among long))) in
         let none = none_there k (MultilineEnd bar.depth) line.entries line.are (no_end (source s) (marks s) spans k a among long here) in
-        bar_begins frame bar room line.entries own only line.margin.term_width (closes && length (rows_below rows) == length rows) line.text line.dropped open_bars line.highlighted (row ∷ rows_below rows) line.drawn none
+        let blank = line_blank open_bars k row rows shows line bar.depth (depth-within (source s) (marks s) a among long).0 room in
+        begins frame bar room line.entries own only line.margin.term_width (closes && length (rows_below rows) == length rows) line.text line.dropped open_bars line.highlighted (row ∷ rows_below rows) line.drawn none blank
 
     -- and ends in those of the last
     line_ends : (open_bars : List Bar) (k : ℕ) (row : List Cell) (rows : List NamedRow) → IsRowDrawn r frame closes s open_bars (SourceRow k) row rows → last_line (cow_str_bytes s.source) a ≡ k → BarEnds frame bar (row ∷ rows_below rows)
@@ -343,7 +408,7 @@ module _ (r : Renderer) (frame : Layout) (closes : Bool) (s : Snippet Annotation
   pub bars_shown : (rows : List NamedRow) → AreRowsOf r frame closes s rows → AreRowsDrawn r frame closes s [] rows → rows_below rows ≡ [] → IsAscending (lines_named rows)
       → All (λ a. Contains (lines_named rows) (first_line (cow_str_bytes s.source) a) × Contains (lines_named rows) (last_line (cow_str_bytes s.source) a)) (marks s)
       → code_after frame.gutter (deepest (source s) (marks s)) ≤ frame.code → ShowsBars r frame s rows
-  bars_shown rows named drawn begins ascends ends room =
+  bars_shown rows named drawn none_above ascends ends room =
       let ks : List ℕ = lines_named rows in
       let text : List ℕ = cow_str_bytes s.source in
       let ready : IsReady [] 0 rows = record {
@@ -352,21 +417,30 @@ module _ (r : Renderer) (frame : Layout) (closes : Bool) (s : Snippet Annotation
         are_open = none_open (source s) (marks s) spans;
         lines = climbs_from 0 ks (λ k more same. omega arith) ascends;
         ends = λ a among long. let shown = All-contains (λ a. Contains ks (first_line text a) × Contains ks (last_line text a)) (marks s) a ends among in (inr (contains_among ks (first_line text a) shown.0), inr (contains_among ks (last_line text a) shown.1));
-        below = subst (All (HasBars Other 0)) (sym begins) (All-nil (HasBars Other 0));
+        below = subst (All (HasBars Other 0)) (sym none_above) (All-nil (HasBars Other 0));
       } in
       record {
         stand = λ a among long above row below is begun ended.
             let line : line_from 0 above row.name ≡ line_beside above row.name = from_start above row.name in
-            all_rows [] 0 rows ready above row below is a among long (omega (arith, line, begun)) (omega (arith, line, ended)) ∙ ap (bar_beside frame row.name) (bar_given s a long);
+            (all_rows [] 0 rows ready above row below is).bars a among long (omega (arith, line, begun)) (omega (arith, line, ended)) ∙ ap (bar_beside frame row.name) (bar_given s a long);
         begin = λ a among long above row below is name.
-            let found = row_drawn [] rows drawn above row below is in
-            let line = subst (λ named. IsRowDrawn r frame closes s found.0 named row.cells below) name found.1 in
-            subst (λ bar. BarBegins frame bar (row.cells ∷ rows_below below)) (bar_given s a long) (line_begins a among long (deep a among long) found.0 (first_line text a) row.cells below line refl);
+            let line = renamed (SourceRow (first_line text a)) row below name (row_known [] rows named drawn above row below is) in
+            subst (λ bar. BarBegins frame bar (row.cells ∷ rows_below below)) (bar_given s a long) (line_begins a among long (deep a among long) line.bars (first_line text a) row.cells below line.named line.drawn refl);
         end = λ a among long above row below is name.
-            let found = row_drawn [] rows drawn above row below is in
-            let line = subst (λ named. IsRowDrawn r frame closes s found.0 named row.cells below) name found.1 in
-            subst (λ bar. BarEnds frame bar (row.cells ∷ rows_below below)) (bar_given s a long) (line_ends a among long (deep a among long) found.0 (last_line text a) row.cells below line refl);
+            let line = renamed (SourceRow (last_line text a)) row below name (row_known [] rows named drawn above row below is) in
+            subst (λ bar. BarEnds frame bar (row.cells ∷ rows_below below)) (bar_given s a long) (line_ends a among long (deep a among long) line.bars (last_line text a) row.cells below line.drawn refl);
         within = λ a among long. let depth = depth-within (source s) (marks s) a among long in inside (depth_of (source s) (marks s) a) depth.0 depth.1;
+        spaces = λ above row below is shows c from to others.
+            let k : ℕ = line_beside above row.name in
+            let line : line_from 0 above row.name ≡ k = from_start above row.name in
+            let depth : ℕ = c - (frame.gutter + 2) in
+            let cell : frame.gutter + 2 + depth ≡ c = omega (arith, from) in
+            let free : IsFreeAt (source s) (marks s) spans (line_from 0 above row.name) depth = λ a among long first last same.
+            let up : leb (first_line text a) k ≡ true = le-leb (first_line text a) k (omega (arith, first, line)) in
+            let down : leb k (last_line text a) ≡ true = le-leb k (last_line text a) (omega (arith, last, line)) in
+            let touched : touches text a k ≡ true = and_from (leb (first_line text a) k) (leb k (last_line text a)) up down in
+            All-contains (λ a. is_long text a ≡ true → touches text a k ≡ true → bar_cell_of frame s a ≢ c) (marks s) a others among long touched (omega (arith, same, cell)) in
+            ap (λ n. get_or row.cells n SPACE) (sym cell) ∙ (all_rows [] 0 rows ready above row below is).spaces shows depth (omega (arith, from)) (omega (arith, to, cell)) free;
         apart = λ a b among-a among-b long-a long-b from to same.
             bytes_same (source s) a b (one_place (source s) (marks s) spans a b among-a among-b long-a long-b from to (omega (arith, same)));
       }

@@ -1,5 +1,5 @@
 -- Which bars are open above a line: those of the spans of several lines that begin above it and don't end above it.
-use Rattle.std.proofs.Common.{◌≡◌, ℕ, ◌+◌, ◌<◌, ◌≤◌, ◌==◌, Bool, true, false, not, leb, Option, Some, None, List, [], ◌⊎◌, map, inl, inr, refl, sym, ap, ◌∙◌, arith}
+use Rattle.std.proofs.Common.{◌≡◌, ◌≢◌, ℕ, ◌+◌, ◌<◌, ◌≤◌, ◌==◌, Bool, true, false, not, leb, Option, Some, None, List, [], ◌⊎◌, map, inl, inr, refl, sym, ap, ◌∙◌, arith}
 use Rattle.std.specs.List.{All, Contains, filter, filter_map}
 use Rattle.std.proofs.lemmas.Bool.{and_from, and_parts, cases_eq, cases_lt, eq-eqb, eqb-true, false_from_ne_true, le-leb, not-true, both_ways}
 use Rattle.std.proofs.lemmas.List.Elements.{All-contains}
@@ -125,7 +125,7 @@ module _ (s : Source) (marks : List Annotation) where
   gives_bar k p place among line is =
       among_filter_map has (parts_on s marks k) p (bar_at_place s marks place) (among_filter (on_line k) (made_parts s marks) p (among_right singles longs p among) (eq-eqb p.entry.start.line (s.first + k) line)) is
 
-  -- where a span begins its bar is one of the line's, and where it ends
+  -- where a span begins its bar is one of the line's
   pub start_here : (k : ℕ) (a : Annotation) → Contains marks a → is_long s.text a ≡ true → first_line s.text a ≡ k → Among (bars_of_line s marks k) (bar_at_place s marks (place_in s a))
   start_here k a among long here =
       let place : LongExtent = place_in s a in
@@ -135,6 +135,7 @@ module _ (s : Source) (marks : List Annotation) where
       let first : (long_entry s a).start.line ≡ s.first + first_line s.text a = start-line s a.span.start a.span.end in
       gives_bar k (start_part ends.span depth) place ends.start (omega (arith, line, first, here)) (ap (λ b. Some (record { depth = depth; primary = b })) ends.primary)
 
+  -- and where it ends
   pub end_here : (k : ℕ) (a : Annotation) → Contains marks a → is_long s.text a ≡ true → last_line s.text a ≡ k → Among (bars_of_line s marks k) (bar_at_place s marks (place_in s a))
   end_here k a among long here =
       let place : LongExtent = place_in s a in
@@ -208,7 +209,31 @@ module _ (s : Source) (marks : List Annotation) (spans : All (λ a. IsSpan s.tex
       let last-b : (place_in s b).last ≡ s.first + last_line s.text b = end-line s b.span.start b.span.end in
       (omega (arith, first-a, first-b, ap (λ (p : LongExtent). p.first) same), omega (arith, last-a, last-b, ap (λ (p : LongExtent). p.last) same))
 
+  -- a cell's depth is none of those of the spans of several lines that touch line k
+  abbrev pub IsFreeAt : ℕ → ℕ → Type 0
+  IsFreeAt k depth =
+      (a : Annotation) → Contains marks a → is_long s.text a ≡ true → first_line s.text a ≤ k → k ≤ last_line s.text a → depth_of s marks a ≢ depth
+
   module _ (k : ℕ) where
+    -- then no bar that is open above the line has it
+    pub open_apart : (depth : ℕ) (bars : List Bar) → AreOpen s marks k bars → IsFreeAt k depth → All (λ (b : Bar). b.depth ≢ depth) bars
+    open_apart depth bars are free =
+        all_from_among (λ (b : Bar). b.depth ≢ depth) bars (λ b here same.
+        let o = are.own b here in
+        free o.span o.among o.long (omega (arith, o.above)) o.below (sym (ap (λ (x : Bar). x.depth) o.bar_is) ∙ same))
+
+    -- and none of the line's
+    pub ends_apart : (depth : ℕ) → IsFreeAt k depth → All (λ (b : Bar). b.depth ≢ depth) (bars_of_line s marks k)
+    ends_apart depth free =
+        all_from_among (λ (b : Bar). b.depth ≢ depth) (bars_of_line s marks k) (λ b here same.
+        let is = end_bar s marks k b here in
+        let order = longer is.span is.among is.long in
+        let deep : depth_of s marks is.span ≡ depth = sym (ap (λ (x : Bar). x.depth) is.bar_is) ∙ same in
+        elim is.line [
+          | inl first ↦ free is.span is.among is.long (omega (arith, first)) (omega (arith, first, order)) deep
+          | inr last ↦ free is.span is.among is.long (omega (arith, last, order)) (omega (arith, last)) deep
+        ])
+
     -- of the bars of a line no other has the depth of a span's that the line touches
     pub own_on_line : (a : Annotation) → Contains marks a → is_long s.text a ≡ true → first_line s.text a ≤ k → k ≤ last_line s.text a → HasOwnDepth (bar_at_place s marks (place_in s a)) (bars_of_line s marks k)
     own_on_line a among long from to =
@@ -224,7 +249,7 @@ module _ (s : Source) (marks : List Annotation) (spans : All (λ a. IsSpan s.tex
         touch-to : {b : Bar} (is : IsBarOf s marks k b) → first_line s.text is.span < last_line s.text is.span → first_line s.text a ≤ last_line s.text is.span
         touch-to is order = elim is.line [ inl first ↦ omega (arith, first, order, from) | inr last ↦ omega (arith, last, from) ]
 
-    -- where a span begins no end has its depth, and where it ends no start
+    -- where a span begins no end of a span has its depth
     pub no_end : (a : Annotation) → Contains marks a → is_long s.text a ≡ true → first_line s.text a ≡ k → (p : PartEntry) → Among (parts_on s marks k) p → p.part ≡ MultilineEnd (depth_of s marks a) → ⊥
     no_end a among long here p on end =
         let b : Bar = record { depth = depth_of s marks a; primary = is_primary p.entry.kind } in
@@ -240,6 +265,7 @@ module _ (s : Source) (marks : List Annotation) (spans : All (λ a. IsSpan s.tex
         two_parts : {d e : ℕ} → MultilineStart d ≡ MultilineEnd e → ⊥
         two_parts wrong = cc wrong
 
+    -- and where it ends no start
     pub no_start : (a : Annotation) → Contains marks a → is_long s.text a ≡ true → last_line s.text a ≡ k → (p : PartEntry) → Among (parts_on s marks k) p → p.part ≡ MultilineStart (depth_of s marks a) → ⊥
     no_start a among long here p on start =
         let b : Bar = record { depth = depth_of s marks a; primary = is_primary p.entry.kind } in

@@ -1,5 +1,5 @@
 -- The bars of spans of several lines: in which cell each stands, of which kind it is, and beside which rows it stands.
-use Rattle.std.specs.Prelude.{◌≡◌, ℕ, ◌+◌, ◌-◌, ◌<◌, ◌≤◌, ◌==◌, ◌&&◌, Bool, true, List, ◌∷◌, ◌++◌, Contains, fold}
+use Rattle.std.specs.Prelude.{◌≡◌, ◌≢◌, ℕ, ◌+◌, ◌-◌, ◌<◌, ◌≤◌, ◌==◌, ◌&&◌, Bool, true, List, ◌∷◌, ◌++◌, All, Contains, fold}
 use Rattle.std.specs.List.{list_any, slice_index_or}
 use Rattle.std.specs.Cow.{cow_str_bytes}
 use Rattle.snippet_model.specs.AnnotationKind.{is_primary}
@@ -8,12 +8,13 @@ use Rattle.snippet_model.specs.declared.snippet.Snippet.{Snippet}
 use Rattle.snippet_style.specs.Cell.{Cell, SPACE}
 use Rattle.snippet_grid.specs.Layout.{Layout}
 use Rattle.snippet_view.specs.Annotated.{depth_of, is_long}
+use Rattle.snippet_view.specs.Mark.{touches}
 use Rattle.snippet_view.specs.Marked.{first_line, last_line}
 use Rattle.snippet_strokes.specs.Bars.{Bar}
 use Rattle.snippet_strokes.specs.EndBars.{BarBegins, BarEnds, dotted_bar, solid_bar}
 use Rattle.annotate_snippets.specs.declared.renderer.Renderer.{Renderer}
 use Rattle.annotate_snippets.specs.Gutter.{numbered_source}
-use Rattle.annotate_snippets.specs.Page.{RowName, SourceRow, Elision, OfferedLine, RemovedLine, Other, NamedRow, lines_named, rows_below}
+use Rattle.annotate_snippets.specs.Page.{RowName, SourceRow, Elision, OfferedLine, RemovedLine, Other, NamedRow, lines_named, rows_below, shows_lines}
 
 -- whether the bar of a span is primary: that span is, or another one with its place in the source, since these share a bar
 abbrev pub is_bar_primary : Snippet Annotation → Annotation → Bool
@@ -25,7 +26,7 @@ abbrev pub bar_of_span : Snippet Annotation → Annotation → Bar
 bar_of_span s a =
     record { depth = depth_of (numbered_source s) s.markers.items a; primary = is_bar_primary s a }
 
--- the cell of a row in which it stands: at depth 1 that after the separator and the two spaces
+-- the cell of a row in which it stands: at depth 1 the second after the separator
 abbrev pub bar_cell_of : Layout → Snippet Annotation → Annotation → ℕ
 bar_cell_of frame s a = frame.gutter + 2 + depth_of (numbered_source s) s.markers.items a
 
@@ -53,7 +54,8 @@ bar_beside layout Other bar = solid_bar layout bar
 -- the rows, those of a snippet's lines, have the bars of its spans of several lines. In each row between the first and the last line of
 -- such a span its bar stands in its own cell and in its kind, whatever else the row holds. In the rows of the first line it begins, in
 -- those of the last it ends. The cell is one of those between the separator and the code. Two such spans that share a line, be it the
--- last of one and the first of the other, have cells of their own, unless they have the same place in the source
+-- last of one and the first of the other, have cells of their own, unless they have the same place in the source. In a row that shows a
+-- line, or stands in place of lines, a space stands in each of those cells that no such span has which touches the line
 pub record ShowsBars (r : Renderer) (frame : Layout) (s : Snippet Annotation) (rows : List NamedRow) : Type 0 where
   pub stand : (a : Annotation) → Contains s.markers.items a → is_long (cow_str_bytes s.source) a ≡ true → (above : List NamedRow) (row : NamedRow) (below : List NamedRow)
       → rows ≡ above ++ row ∷ below → first_line (cow_str_bytes s.source) a < line_beside above row.name → line_beside above row.name < last_line (cow_str_bytes s.source) a
@@ -66,3 +68,6 @@ pub record ShowsBars (r : Renderer) (frame : Layout) (s : Snippet Annotation) (r
   pub apart : (a b : Annotation) → Contains s.markers.items a → Contains s.markers.items b → is_long (cow_str_bytes s.source) a ≡ true → is_long (cow_str_bytes s.source) b ≡ true
       → first_line (cow_str_bytes s.source) a ≤ last_line (cow_str_bytes s.source) b → first_line (cow_str_bytes s.source) b ≤ last_line (cow_str_bytes s.source) a → bar_cell_of frame s a ≡ bar_cell_of frame s b
       → (a.span.start ≡ b.span.start) × (a.span.end ≡ b.span.end)
+  pub spaces : (above : List NamedRow) (row : NamedRow) (below : List NamedRow) → rows ≡ above ++ row ∷ below → shows_lines row.name ≡ true → (c : ℕ) → frame.gutter + 3 ≤ c → c < frame.code
+      → All (λ a. is_long (cow_str_bytes s.source) a ≡ true → touches (cow_str_bytes s.source) a (line_beside above row.name) ≡ true → bar_cell_of frame s a ≢ c) s.markers.items
+      → slice_index_or row.cells c SPACE ≡ SPACE

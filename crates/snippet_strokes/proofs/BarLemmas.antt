@@ -1,15 +1,16 @@
 -- What drawing bars keeps.
 use Rattle.std.proofs.Common.{◌≡◌, ℕ, ◌+◌, ◌-◌, ◌<◌, ◌≤◌, ◌==◌, ◌&&◌, max, true, false, Bool, None, List, [], ◌∷◌, ◌++◌, length, take, drop, get_or, refl, sym, ap, ◌∙◌, subst, arith, inl, inr, All}
 use Rattle.std.specs.List.{list_any, slice_index_or}
-use Rattle.std.proofs.lemmas.Bool.{cases_lt, cases_eq}
+use Rattle.std.proofs.lemmas.Bool.{cases_lt}
 use Rattle.std.proofs.lemmas.List.{places, same_lists, get_or_at, get_or_default, get_or_append_left, get_or_past, get_or-drop, get_or-take, length-drop, length-take, length-append, length-take-le, ext_get_or, drop-drop, drop_more}
-use Rattle.std.proofs.lemmas.List.Elements.{All-get_or, All-from_get_or}
+use Rattle.std.proofs.lemmas.List.Elements.{All-cons, All-from_get_or, All-get_or, All-head, All-nil, All-tail}
 use Rattle.snippet_view.specs.declared.entries.LineAnnotation.{LineAnnotation}
 use Rattle.snippet_view.specs.Window.{AreReplaced}
 use Rattle.snippet_style.specs.declared.glyphs.DecorStyle.{DecorStyle}
 use Rattle.snippet_style.specs.declared.glyphs.DecorStyle.TheVariants.{Ascii, Unicode}
 use Rattle.snippet_style.specs.Glyphs.{bar_glyphs, placeholder_of}
-use Rattle.snippet_grid.specs.Grid.{WritesCells, row_at, cell_at}
+use Rattle.snippet_grid.specs.Grid.{WritesCells, row_at, cell_at, cells_written}
+use Rattle.snippet_grid.proofs.GridLemmas.{WritesCells-cells_written, row_at-cells_written_same}
 use Rattle.snippet_style.specs.Cell.{Cell, SPACE}
 use Rattle.snippet_grid.specs.Print.{row_text}
 use Rattle.snippet_text.specs.Normalized.{is_listed}
@@ -18,10 +19,11 @@ use Rattle.snippet_strokes.specs.declared.bars.BarStroke.{BarStroke}
 use Rattle.snippet_strokes.specs.declared.bars.BarStroke.TheVariants.{Top, Solid, Dotted}
 use Rattle.snippet_strokes.specs.EntryMarks.{IsBarCell, IsMarkCell, are_plain, has_mark_role, wide_entries}
 use Rattle.snippet_model.specs.Rows.{IsFreeCell}
-use Rattle.snippet_strokes.specs.Bars.{BarsDrawn, DrawsBars, StandsBeside, bar_glyph}
+use Rattle.snippet_strokes.specs.Bars.{BarsDrawn, DrawsBars, HasRoom, StandsBeside, bar_glyph, bar_part, barred, with_bar, with_bars}
 use Rattle.snippet_strokes.specs.declared.bars.OpenBar.{OpenBar}
 use Rattle.snippet_strokes.proofs.LabelPlaces.{LabelsStand-kept}
 use Rattle.snippet_strokes.specs.Rows.{AddsStrokes, AreStrokes, IsBeside, IsStrokeRow, ShowsMarks}
+use Rattle.snippet_strokes.proofs.BarRows.{changed-above, changed-count, changed-row}
 use Rattle.snippet_strokes.proofs.DrawLemmas.{written_cell}
 
 -- each part of a bar is one of the glyphs that bars are drawn with, and not listed
@@ -91,24 +93,6 @@ BarsDrawn-more layout old mid new done more =
       free = λ free. more.free (done.free free);
     }
 
--- where rows stay, no bar is drawn, which is a way to draw bars
-pub DrawsBars-none : (layout : Layout) (row : ℕ) (rows : List (List Cell)) → DrawsBars layout row rows rows
-DrawsBars-none layout row rows =
-    record {
-      above = λ r _. refl;
-      rows = λ r. BarsDrawn-none layout (row_at rows r);
-      count = refl;
-    }
-
--- bars drawn and further ones drawn are bars drawn
-pub DrawsBars-more : (layout : Layout) (row : ℕ) (old mid new : List (List Cell)) → DrawsBars layout row old mid → DrawsBars layout row mid new → DrawsBars layout row old new
-DrawsBars-more layout row old mid new done more =
-    record {
-      above = λ r high. more.above r high ∙ done.above r high;
-      rows = λ r. BarsDrawn-more layout (row_at old r) (row_at mid r) (row_at new r) (done.rows r) (more.rows r);
-      count = more.count ∙ done.count;
-    }
-
 -- what stands where a list has no bar
 abbrev pub no_bar : OpenBar
 no_bar = record { depth = 0; primary = false }
@@ -159,21 +143,36 @@ BarsDrawn-write layout old new row at cells writes right near bar_cell clean =
       ]));
     }
 
--- cells of bars that are written between the gutter and the code are bars drawn
-pub DrawsBars-writes : (layout : Layout) (row r at : ℕ) (old new : List (List Cell)) (cells : List Cell) → WritesCells old new r at cells → row ≤ r
-    → r < length old → layout.gutter + 3 ≤ at → at + length cells ≤ layout.code → All (IsBarCell layout.decor) cells → All IsFreeCell cells
-    → DrawsBars layout row old new
-DrawsBars-writes layout row r at old new cells writes lower within right near bar_cell clean =
-    record {
-      above = λ k high. writes.others k (λ same. omega (arith, same, high, lower));
-      rows = λ k. elim (cases_eq k r) [
-        | inl here ↦
-            subst (λ n. BarsDrawn layout (row_at old n) (row_at new n)) (sym here) (BarsDrawn-write layout old new r at cells writes right near bar_cell clean)
-        | inr other ↦
-            subst (λ cells. BarsDrawn layout (row_at old k) cells) (sym (writes.others k other)) (BarsDrawn-none layout (row_at old k))
-      ];
-      count = omega (arith, writes.count, within);
-    }
+-- a row with parts of bars
+BarsDrawn-with_bar : (layout : Layout) (stroke : BarStroke) (bar : OpenBar) (row : List Cell) → HasRoom layout bar → BarsDrawn layout row (with_bar layout stroke row bar)
+BarsDrawn-with_bar layout stroke bar row room =
+    let part : Cell = bar_part layout stroke bar in
+    let at : ℕ = layout.gutter + 2 + bar.depth in
+    let is : IsBarCell layout.decor part = record { glyph = bar_glyph_known stroke layout.decor bar.primary; link = refl } in
+    let free : IsFreeCell part = (bar_glyph_free stroke layout.decor bar.primary, refl) in
+    let new : List (List Cell) = cells_written (row ∷ []) 0 at (part ∷ []) in
+    subst (BarsDrawn layout row) (row_at-cells_written_same (row ∷ []) 0 at (part ∷ []))
+    (BarsDrawn-write layout (row ∷ []) new 0 at (part ∷ []) (WritesCells-cells_written (row ∷ []) 0 at (part ∷ [])) (omega (arith, room.0))
+    (omega (arith, room.1)) (All-cons (IsBarCell layout.decor) part [] is (All-nil (IsBarCell layout.decor)))
+    (All-cons IsFreeCell part [] free (All-nil IsFreeCell)))
+
+BarsDrawn-with_bars : (layout : Layout) (stroke : BarStroke) (bars : List OpenBar) (row : List Cell) → All (HasRoom layout) bars → BarsDrawn layout row (with_bars layout stroke bars row)
+BarsDrawn-with_bars layout stroke [] row room = BarsDrawn-none layout row
+BarsDrawn-with_bars layout stroke (bar ∷ bars) row room =
+    let mid : List Cell = with_bar layout stroke row bar in
+    BarsDrawn-more layout row mid (with_bars layout stroke bars mid)
+    (BarsDrawn-with_bar layout stroke bar row (All-head (HasRoom layout) bar bars room))
+    (BarsDrawn-with_bars layout stroke bars mid (All-tail (HasRoom layout) bar bars room))
+
+-- rows with parts of bars in each from one on: bars are drawn there, and nothing else
+pub DrawsBars-barred : (layout : Layout) (stroke : BarStroke) (bars : List OpenBar) (row : ℕ) (old new : List (List Cell)) → All (HasRoom layout) bars → new ≡ barred layout stroke bars row old → DrawsBars layout row old new
+DrawsBars-barred layout stroke bars row old new room is =
+    let rule : List Cell → List Cell = with_bars layout stroke bars in
+    subst (DrawsBars layout row old) (sym is) (record {
+      above = changed-above rule row old;
+      rows = changed-row (BarsDrawn layout) rule row old (BarsDrawn-none layout) (λ cells. BarsDrawn-with_bars layout stroke bars cells room);
+      count = changed-count rule row old;
+    })
 
 -- the cells from the code on are as they were
 drawn_right : (layout : Layout) (old new : List Cell) → BarsDrawn layout old new → (c : ℕ) → layout.code ≤ c → slice_index_or new c SPACE ≡ slice_index_or old c SPACE

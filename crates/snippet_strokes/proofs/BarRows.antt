@@ -11,25 +11,22 @@ use Rattle.snippet_style.proofs.CellLemmas.{length-written, slice_index_or-writt
 use Rattle.snippet_grid.specs.Layout.{Layout}
 use Rattle.snippet_strokes.specs.declared.bars.BarStroke.{BarStroke}
 use Rattle.snippet_strokes.specs.declared.bars.OpenBar.{OpenBar}
-use Rattle.snippet_strokes.specs.Bars.{ChangesRows, StandsBeside, bar_glyph, bar_part, barred, with_bar, with_bars}
+use Rattle.snippet_strokes.specs.Bars.{StandsBeside, bar_glyph, bar_part, barred, changed_from, with_bar, with_bars}
 
 -- ---- rows that were changed by a rule
+
+-- each row from one to before another, as far as there are rows, was changed by this rule, and nothing else
+pub record ChangesRows (rule : List Cell → List Cell) (row end : ℕ) (old new : List (List Cell)) : Type 0 where
+  pub inside : (r : ℕ) → row ≤ r → r < end → r < length old → row_at new r ≡ rule (row_at old r)
+  pub before : (r : ℕ) → r < row → row_at new r ≡ row_at old r
+  pub after : (r : ℕ) → end ≤ r → row_at new r ≡ row_at old r
+  pub count : length new ≡ length old
 
 -- rows stay where the end is at the first row or above it
 pub ChangesRows-none : (rule : List Cell → List Cell) (row end : ℕ) (rows : List (List Cell)) → end ≤ row → ChangesRows rule row end rows rows
 ChangesRows-none rule row end rows none =
     record {
       inside = λ r from to there. absurd (omega (arith, from, to, none));
-      before = λ r above. refl;
-      after = λ r below. refl;
-      count = refl;
-    }
-
--- a rule that changes nothing
-pub ChangesRows-start : (rule : List Cell → List Cell) (row end : ℕ) (rows : List (List Cell)) → ((cells : List Cell) → rule cells ≡ cells) → ChangesRows rule row end rows rows
-ChangesRows-start rule row end rows same =
-    record {
-      inside = λ r from to there. sym (same (row_at rows r));
       before = λ r above. refl;
       after = λ r below. refl;
       count = refl;
@@ -53,31 +50,19 @@ ChangesRows-next at cells row r old mid new low there done writes =
     beside : (n : ℕ) → (n ≡ r → ⊥) → row_at new n ≡ row_at mid n
     beside n other = ap (λ rows. row_at rows n) writes ∙ row_at-cells_written_other mid r at cells n other
 
--- one rule after another, where a third one does what both do
-pub ChangesRows-more : (first second both : List Cell → List Cell) (row end : ℕ) (old mid new : List (List Cell)) → end ≡ length old
-    → ((cells : List Cell) → second (first cells) ≡ both cells) → ChangesRows first row end old mid → ChangesRows second row (length mid) mid new
-    → ChangesRows both row end old new
-ChangesRows-more first second both row end old mid new all same done more =
-    record {
-      inside = λ r from to there. more.inside r from (omega (arith, there, done.count)) (omega (arith, there, done.count)) ∙ ap second (done.inside r from to there) ∙ same (row_at old r);
-      before = λ r above. more.before r above ∙ done.before r above;
-      after = λ r below. more.after r (omega (arith, below, all, done.count)) ∙ done.after r below;
-      count = more.count ∙ done.count;
-    }
-
 -- where all rows from `row` on were changed, they are a value
-pub barred-is : (layout : Layout) (stroke : BarStroke) (bars : List OpenBar) (row : ℕ) (old new : List (List Cell)) → ChangesRows (with_bars layout stroke bars) row (length old) old new → new ≡ barred layout stroke bars row old
-barred-is layout stroke bars row old new changes =
+pub changed-is : (rule : List Cell → List Cell) (row end : ℕ) (old new : List (List Cell)) → length old ≤ end → ChangesRows rule row end old new → new ≡ changed_from rule row old
+changed-is rule row end old new all changes =
     elim (cases_lt row (length old)) [
       | inl inside ↦
           let short : length (take row old) ≡ row = length-take-le row old (omega (arith, inside)) in
-          ext_get_or [] new (barred layout stroke bars row old) (omega (arith, changes.count, length-append (take row old) (map rule (drop row old)), length-map (drop row old) rule, length-drop row old, short, inside)) (λ r within. elim (cases_lt r row) [
+          ext_get_or [] new (changed_from rule row old) (omega (arith, changes.count, length-append (take row old) (map rule (drop row old)), length-map (drop row old) rule, length-drop row old, short, inside)) (λ r within. elim (cases_lt r row) [
             | inl above ↦
                 changes.before r above ∙ sym (get_or_append_left (take row old) (map rule (drop row old)) [] r (omega (arith, short, above)) ∙ get_or-take row old r [] above)
             | inr low ↦
                 let there : r < length old = omega (arith, within, changes.count) in
                 let place : row + (r - row) ≡ r = omega (arith, low) in
-                changes.inside r low there there
+                changes.inside r low (omega (arith, there, all)) there
                 ∙ sym (get_or-append_right (take row old) (map rule (drop row old)) row r [] short low
                 ∙ get_or-map rule (drop row old) (r - row) [] [] (omega (arith, length-drop row old, there, low))
                 ∙ ap rule (get_or-drop row old (r - row) [] ∙ ap (row_at old) place))
@@ -88,12 +73,45 @@ barred-is layout stroke bars row old new changes =
           ext_get_or [] new old changes.count (λ r within. changes.before r (omega (arith, within, changes.count, past))) ∙ sym (ap (λ rows. take row old ++ map rule rows) none ∙ append_none (take row old) ∙ whole)
     ]
   where
-    rule : List Cell → List Cell
-    rule = with_bars layout stroke bars
-
     append_none : (rows : List (List Cell)) → rows ++ [] ≡ rows
     append_none [] = refl
     append_none (x ∷ rows) = ap (λ rs. x ∷ rs) (append_none rows)
+
+-- a rule that changes nothing
+pub changed-same : (rule : List Cell → List Cell) (row : ℕ) (rows : List (List Cell)) → ((cells : List Cell) → rule cells ≡ cells) → changed_from rule row rows ≡ rows
+changed-same rule zero [] same = refl
+changed-same rule zero (x ∷ rows) same = ap (λ y. y ∷ map rule rows) (same x) ∙ ap (λ rs. x ∷ rs) (changed-same rule zero rows same)
+changed-same rule (suc row) [] same = refl
+changed-same rule (suc row) (x ∷ rows) same = ap (λ rs. x ∷ rs) (changed-same rule row rows same)
+
+-- one rule after another, where a third one does what both do
+pub changed-more : (first second both : List Cell → List Cell) (row : ℕ) (rows : List (List Cell)) → ((cells : List Cell) → second (first cells) ≡ both cells) → changed_from second row (changed_from first row rows) ≡ changed_from both row rows
+changed-more first second both zero [] same = refl
+changed-more first second both zero (x ∷ rows) same =
+    ap (λ y. y ∷ map second (map first rows)) (same x) ∙ ap (λ rs. both x ∷ rs) (changed-more first second both zero rows same)
+changed-more first second both (suc row) [] same = refl
+changed-more first second both (suc row) (x ∷ rows) same = ap (λ rs. x ∷ rs) (changed-more first second both row rows same)
+
+-- the rows above stay, and there are no more
+pub changed-above : (rule : List Cell → List Cell) (row : ℕ) (rows : List (List Cell)) (r : ℕ) → r < row → row_at (changed_from rule row rows) r ≡ row_at rows r
+changed-above rule zero rows r above = absurd (omega (arith, above))
+changed-above rule (suc row) [] r above = refl
+changed-above rule (suc row) (x ∷ rows) zero above = refl
+changed-above rule (suc row) (x ∷ rows) (suc r) above = changed-above rule row rows r (omega (arith, above))
+
+pub changed-count : (rule : List Cell → List Cell) (row : ℕ) (rows : List (List Cell)) → length (changed_from rule row rows) ≡ length rows
+changed-count rule zero rows = length-map rows rule
+changed-count rule (suc row) [] = refl
+changed-count rule (suc row) (x ∷ rows) = ap suc (changed-count rule row rows)
+
+-- each row is as it was, or changed by the rule
+pub changed-row : (P : List Cell → List Cell → Type 0) (rule : List Cell → List Cell) (row : ℕ) (rows : List (List Cell)) → ((cells : List Cell) → P cells cells) → ((cells : List Cell) → P cells (rule cells)) → (r : ℕ) → P (row_at rows r) (row_at (changed_from rule row rows) r)
+changed-row P rule zero [] stays changes r = stays []
+changed-row P rule zero (x ∷ rows) stays changes zero = changes x
+changed-row P rule zero (x ∷ rows) stays changes (suc r) = changed-row P rule zero rows stays changes r
+changed-row P rule (suc row) [] stays changes r = stays []
+changed-row P rule (suc row) (x ∷ rows) stays changes zero = stays x
+changed-row P rule (suc row) (x ∷ rows) stays changes (suc r) = changed-row P rule row rows stays changes r
 
 -- bars beside the rows that stand below others
 pub barred-below : (layout : Layout) (stroke : BarStroke) (bars : List OpenBar) (above rows : List (List Cell)) → barred layout stroke bars (length above) (above ++ rows) ≡ above ++ map (with_bars layout stroke bars) rows

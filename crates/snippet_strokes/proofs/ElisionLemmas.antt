@@ -37,11 +37,12 @@ pub elision_some : (decor : DecorStyle) → 0 < length (elision_of decor)
 elision_some Ascii = omega arith
 elision_some Unicode = omega arith
 
--- it is short and holds no listed character
-bare_elision_short : (decor : DecorStyle) (gutter : ℕ) → length (bare_elision_row decor gutter) ≤ gutter + 3
+-- it is short
+pub bare_elision_short : (decor : DecorStyle) (gutter : ℕ) → length (bare_elision_row decor gutter) ≤ gutter + 3
 bare_elision_short Ascii gutter = omega (arith, length-text_cells LineNumber (elision_of Ascii))
 bare_elision_short Unicode gutter = omega (arith, length-led (gutter + 1) (elision_of Unicode))
 
+-- and holds no listed character
 free_bare_elision : (decor : DecorStyle) (gutter : ℕ) → IsFree (bare_elision_row decor gutter)
 free_bare_elision Ascii gutter =
     let P : ℕ → Type 0 = λ c. is_listed c ≡ false in

@@ -106,7 +106,7 @@ column_stands start (suc n) cell glyph role rows r from to =
 -- ---- the bars of a line's entries
 
 -- whether the start or the end of a span has this depth
-pub is_at : ℕ → LineAnnotationType → Bool
+unfoldable pub is_at : ℕ → LineAnnotationType → Bool
 is_at depth Singleline = false
 is_at depth (MultilineStart d) = d == depth
 is_at depth (MultilineEnd d) = d == depth
@@ -121,15 +121,17 @@ module _ (layout : Layout) (bar : Bar) (room : layout.gutter + 2 + bar.depth < l
   abbrev Leaves : ℕ → Write → Type 0
   Leaves r w = Reaches r cell w → ⊥
 
-  -- stems, labels and marks stand right of it
+  -- stems stand right of it
   pub stems_right : (r : ℕ) → All (Leaves r) (stems_of layout 1 placed)
   stems_right r =
       All-stems_of (Leaves r) layout 1 placed (λ k d within. All-stem_of (Leaves r) layout 1 (get_or placed k d) (λ b low there. omega (arith, there.from, room)))
 
+  -- labels do
   pub labels_right : (r : ℕ) → All (Leaves r) (labels_of layout 1 placed)
   labels_right r =
       All-flat_map (Leaves r) (label_of layout 1) placed (λ k d within. All-label_of (Leaves r) layout 1 (get_or placed k d) (λ has there. omega (arith, there.from, room)))
 
+  -- and marks
   pub marks_right : (r : ℕ) → All (Leaves r) (marks_of layout 1 order)
   marks_right r =
       All-flat_map (Leaves r) (mark_of layout 1) order (λ k d within. mark (get_or order k d))
@@ -145,7 +147,7 @@ module _ (layout : Layout) (bar : Bar) (room : layout.gutter + 2 + bar.depth < l
             | false ↦ All-nil (Leaves r)
           ]
 
-  -- the bar of another depth leaves it too
+  -- a glyph at another depth leaves it
   glyph_leaves : (r row depth glyph : ℕ) (role : ElementStyle) → depth ≢ bar.depth → Leaves r (glyph_at row (layout.gutter + 2 + depth) glyph role)
   glyph_leaves r row depth glyph role other there = other (omega (arith, there.from, there.to))
 
@@ -153,6 +155,7 @@ module _ (layout : Layout) (bar : Bar) (room : layout.gutter + 2 + bar.depth < l
   column_leaves r start end depth glyph role other =
       All-column_of (Leaves r) start end (layout.gutter + 2 + depth) glyph role (λ n from to. glyph_leaves r n depth glyph role other)
 
+  -- and so does what is drawn for the bar of an entry of another depth
   pub part_leaves : (r : ℕ) (e : PlacedEntry) (part : LineAnnotationType) → is_at bar.depth part ≡ false → All (Leaves r) (corner_by layout 0 count e part)
   unfolding is_at
   part_leaves r e Singleline other = All-nil (Leaves r)
@@ -312,14 +315,15 @@ module _ (layout : Layout) (bar : Bar) (room : layout.gutter + 2 + bar.depth < l
           let at : List (List Cell) → Cell = λ all. cell_at all r (layout.gutter + 2 + bar.depth) in
           ap at drawn.cut.new_is ∙ uncut r drawn.top drawn.marks drawn.cut.source_now drawn.cut.marks_now drawn.lower drawn.cut.source_cut.left drawn.cut.marks_cut.left ∙ ap at drawn.painted_are
 
-  own_begins : (rows : List (List Cell)) → HasOwn (MultilineStart bar.depth) rows → BeginsBelow layout bar rows
-  own_begins rows own =
+  own_begins : (rows : List (List Cell)) → HasOwn (MultilineStart bar.depth) rows → cell_at rows 0 (layout.gutter + 2 + bar.depth) ≡ SPACE → BeginsBelow layout bar rows
+  own_begins rows own blank =
       let drawn = start_drawn layout bar room own.count [] [] [] own.entry own.old own.kind in
       record {
         corner = 1 + own.entry.position;
         below = omega arith;
         within = omega (arith, own.within, own.long);
         corner_is = own.stands (1 + own.entry.position) ∙ drawn.0;
+        source = blank;
         beside = λ i lower within. own.stands i ∙ drawn.1 i lower (omega (arith, within, own.long));
       }
 
@@ -359,7 +363,7 @@ module _ (layout : Layout) (bar : Bar) (room : layout.gutter + 2 + bar.depth < l
     some_has = let found = one_has in any_among is_its es found.0 found.1 found.2
 
     -- the bars that run past have other depths
-    past_apart : (open_bars : List Bar) → All (λ b. b.depth ≢ bar.depth) (bars_apart open_bars (ends_of_bars es))
+    pub past_apart : (open_bars : List Bar) → All (λ b. b.depth ≢ bar.depth) (bars_apart open_bars (ends_of_bars es))
     past_apart open_bars =
         let ends : List Bar = ends_of_bars es in
         let test : Bar → Bool = λ b. not (has_depth ends b.depth) in
@@ -413,12 +417,13 @@ module _ (layout : Layout) (bar : Bar) (room : layout.gutter + 2 + bar.depth < l
           let row : row_at rows i ≡ rule (row_at drawn.own i) = ap (λ rs. row_at rs i) drawn.rows_are ∙ get_or-map rule drawn.own i [] [] (omega (arith, within, as_many)) in
           ap (λ cells. get_or cells (layout.gutter + 2 + bar.depth) SPACE) row ∙ passed_by Solid past (row_at drawn.own i) (past_apart open_bars)
 
-      some_entries : 0 < length es
+      -- the line has entries
+      pub some_entries : 0 < length es
       some_entries = let found = among_contains es one_has.0 one_has.1 in omega (arith, found.1)
 
-      -- the bar of a span that begins on a line begins in the line's rows
-      pub bar_begins : All (λ e. e.annotation_type ≡ MultilineEnd bar.depth → ⊥) es → BarBegins layout bar rows
-      bar_begins none =
+      -- the bar of a span that begins on a line begins in the line's rows, if nothing stands beside it in the source row
+      pub bar_begins : All (λ e. e.annotation_type ≡ MultilineEnd bar.depth → ⊥) es → (is_whole_line text es ≡ false → cell_at rows 0 (layout.gutter + 2 + bar.depth) ≡ SPACE) → BarBegins layout bar rows
+      bar_begins none blank =
           elim (cases_Bool (is_whole_line text es)) [
             | inl whole ↦
                 let one = drawn.are.whole whole in
@@ -428,12 +433,14 @@ module _ (layout : Layout) (bar : Bar) (room : layout.gutter + 2 + bar.depth < l
                   top = own_cell 0 (omega (arith, alone_there)) ∙ ap (λ rs. cell_at rs 0 (layout.gutter + 2 + bar.depth)) one ∙ bar_stands layout Top bar (ends_of_bars es) source alone among;
                 })
             | inr other ↦
-                let own : BeginsBelow layout bar drawn.own = own_begins drawn.own (own_of width closes dropped es source drawn.own (MultilineStart bar.depth) (drawn.are.strokes other some_entries) (all_starts none) some_has) in
+                let has = own_of width closes dropped es source drawn.own (MultilineStart bar.depth) (drawn.are.strokes other some_entries) (all_starts none) some_has in
+                let own : BeginsBelow layout bar drawn.own = own_begins drawn.own has (sym (own_cell 0 (omega (arith, as_many, has.long, has.within))) ∙ blank other) in
                 inr (record {
                   corner = own.corner;
                   below = own.below;
                   within = omega (arith, own.within, as_many);
                   corner_is = own_cell own.corner (omega (arith, own.within, as_many)) ∙ own.corner_is;
+                  source = blank other;
                   beside = λ i lower within. own_cell i within ∙ own.beside i lower (omega (arith, within, as_many));
                 })
           ]

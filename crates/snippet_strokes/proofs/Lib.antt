@@ -35,8 +35,10 @@ pub mod LineRowLemmas
 pub mod LineRowLaws
 pub mod HeldStrokes
 pub mod LineValueLaws
+pub mod HighlightLaws
 pub mod LineExamples
 pub mod StemCells
 pub mod StemLaws
 pub mod AmongLaws
 pub mod EndBarLaws
+pub mod SourceCellLaws

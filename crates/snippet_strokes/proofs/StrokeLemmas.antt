@@ -107,15 +107,9 @@ module _ (layout : Layout) (room : ℕ) (closes : Bool) (es : List LineAnnotatio
   line_bar_cells : KeepsBarCells layout begun joined
   line_bar_cells = subst (KeepsBarCells layout begun) (sym lines_are) (KeepsBarCells-connectors layout row placed begun)
 
-  no_lines : All (λ (e : PlacedEntry). is_single e.entry ≡ true) placed → joined ≡ begun
-  no_lines single = lines_are ∙ ap (λ ws. painted ws begun) (connectors_none layout row placed single)
-
   bars : DrawsBarCells layout (length above_rows) joined barred
   bars =
       subst (DrawsBarCells layout (length above_rows) joined) (sym bars_are) (DrawsBarCells-corners layout (length above_rows) placed joined bar_cells (enough joined lines.count))
-
-  no_bars : All (λ (e : PlacedEntry). is_single e.entry ≡ true) placed → barred ≡ joined
-  no_bars single = bars_are ∙ ap (λ ws. painted ws joined) (corners_none layout (length above_rows) (length joined) placed single)
 
   stems : (from : ℕ) → All (λ (e : PlacedEntry). StandsFrom layout.code from e.entry) placed → DrawsFrom row from barred stemmed
   stems from stand =
@@ -271,7 +265,7 @@ module _ (layout : Layout) (room : ℕ) (closes : Bool) (es : List LineAnnotatio
   barless : plain ≡ true → barred ≡ begun
   barless flat =
       let all : All (λ (e : PlacedEntry). is_single e.entry ≡ true) placed = λ k d within. (single flat k d within).0 in
-      no_bars all ∙ no_lines all
+      bars_are ∙ ap (λ ws. painted ws joined) (corners_none layout (length above_rows) (length joined) placed all) ∙ lines_are ∙ ap (λ ws. painted ws begun) (connectors_none layout row placed all)
 
   spaceless_all : plain ≡ true → All (λ e. takes_space e ≡ false) placed
   spaceless_all flat k d within = spaceless (get_or placed k d) (single flat k d within)
@@ -463,6 +457,7 @@ module _ (layout : Layout) (room : ℕ) (closes : Bool) (es : List LineAnnotatio
   strokes_added final some cuts =
       let wide : ℕ = wide_entries room layout.decor es in
       let narrow : plain ≡ true → wide ≡ 0 = plain_narrow room layout.decor es in
+      let hung : List (List Cell) → Type 0 = λ drawn. All (IsHung layout row placed drawn) placed in
       let rows : List (List Cell) = cuts.marks_now ∷ lower in
       let long : length rows ≡ row_count placed = long_rows cuts.marks_now in
       record {
@@ -476,7 +471,7 @@ module _ (layout : Layout) (room : ℕ) (closes : Bool) (es : List LineAnnotatio
           lone = λ flat one. long ∙ one_row_lone one;
           bare = λ flat none. omega (arith, long, one_row_bare flat none);
           marks = λ flat. subst (ShowsMarks layout.decor layout.code es) (sym (cuts.marks_cut.uncut (narrow flat))) (shows_marks flat);
-          labels = λ uncut _. LabelsStand-placed layout row es placed new rows is places stands beside_labels (subst (λ rows. All (IsHung layout row placed rows) placed) (sym new_is) (all_hung layout (length above_rows) (length begun) placed (painting_order placed) begun)) (rows_new cuts.marks_now (cuts.marks_cut.uncut uncut));
+          labels = λ uncut _. LabelsStand-placed layout row es placed new rows is places stands beside_labels (subst hung (sym new_is) (all_hung layout (length above_rows) (length begun) placed (painting_order placed) begun)) (rows_new cuts.marks_now (cuts.marks_cut.uncut uncut));
           are = λ k inside. subst (λ n. IsStrokeRow layout plain es (closes && k + 1 == n) (row_at rows k)) (sym long) (stroke_rows wide narrow cuts.marks_now cuts.marks_cut k (omega (arith, inside, long)));
         };
       }
@@ -494,4 +489,6 @@ module _ (layout : Layout) (room : ℕ) (closes : Bool) (es : List LineAnnotatio
       let n : ℕ = length above_rows in
       let marks_row : List Cell = row_at new row in
       let parts : final ≡ cut_rows layout.decor n (cuts_of layout room order flags) (above_rows ++ source ∷ marks_row ∷ lower) = final_is ∙ ap (cut_rows layout.decor n (cuts_of layout room order flags)) rows_split in
-      strokes_added final some (subst (λ wide. CutsRows layout wide above_rows source marks_row lower final) (wide_entries-order room layout.decor es placed is) (subst (CutsRows layout (wide_entries room layout.decor (map f order)) above_rows source marks_row lower) (sym parts) (CutsRows-cuts layout room n order flags above_rows source marks_row lower refl)))
+      let Cut : ℕ → List (List Cell) → Type 0 = λ wide drawn. CutsRows layout wide above_rows source marks_row lower drawn in
+      let given = wide_entries room layout.decor (map f order) in
+      strokes_added final some (subst (λ wide. Cut wide final) (wide_entries-order room layout.decor es placed is) (subst (Cut given) (sym parts) (CutsRows-cuts layout room n order flags above_rows source marks_row lower refl)))

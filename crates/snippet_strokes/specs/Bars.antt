@@ -87,16 +87,13 @@ with_bar layout stroke row bar =
 abbrev pub with_bars : Layout → BarStroke → List OpenBar → List Cell → List Cell
 with_bars layout stroke bars row = fold (with_bar layout stroke) row bars
 
+-- rows of which each from `row` on is changed by a rule
+abbrev pub changed_from : (List Cell → List Cell) → ℕ → List (List Cell) → List (List Cell)
+changed_from rule row rows = take row rows ++ map rule (drop row rows)
+
 -- rows with parts of these bars in each from `row` on
 abbrev pub barred : Layout → BarStroke → List OpenBar → ℕ → List (List Cell) → List (List Cell)
-barred layout stroke bars row rows = take row rows ++ map (with_bars layout stroke bars) (drop row rows)
-
--- each row from one to before another, as far as there are rows, was changed by this rule, and nothing else
-pub record ChangesRows (rule : List Cell → List Cell) (row end : ℕ) (old new : List (List Cell)) : Type 0 where
-  pub inside : (r : ℕ) → row ≤ r → r < end → r < length old → row_at new r ≡ rule (row_at old r)
-  pub before : (r : ℕ) → r < row → row_at new r ≡ row_at old r
-  pub after : (r : ℕ) → end ≤ r → row_at new r ≡ row_at old r
-  pub count : length new ≡ length old
+barred layout stroke bars row rows = changed_from (with_bars layout stroke bars) row rows
 
 -- whether an entry of this line is drawn by bars alone: it is a bar, or a start with nothing but whitespace before it
 abbrev pub is_beside : List ℕ → LineAnnotation → Bool

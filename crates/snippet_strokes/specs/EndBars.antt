@@ -1,16 +1,17 @@
 -- The bar of a span of several lines: its cells, and where it stands in the rows of the lines on which the span begins and ends.
 use Rattle.std.specs.Prelude.{◌≡◌, ◌⊎◌, ℕ, ◌+◌, ◌<◌, List, length}
 use Rattle.snippet_style.specs.Glyphs.{glyph_of, underline_role}
-use Rattle.snippet_style.specs.Cell.{Cell, unlinked_cell}
+use Rattle.snippet_style.specs.Cell.{Cell, SPACE, unlinked_cell}
 use Rattle.snippet_grid.specs.Grid.{cell_at}
 use Rattle.snippet_grid.specs.Layout.{Layout}
 use Rattle.snippet_strokes.specs.declared.bars.BarStroke.TheVariants.{Top, Solid, Dotted}
 use Rattle.snippet_strokes.specs.Bars.{Bar, bar_part}
 
--- the cell of a bar beside a row of a line, and beside a row in place of lines that are left out
+-- the cell of a bar in a row of a line
 abbrev pub solid_bar : Layout → Bar → Cell
 solid_bar layout bar = bar_part layout Solid bar
 
+-- the cell of a bar in a row in place of lines that are left out
 abbrev pub dotted_bar : Layout → Bar → Cell
 dotted_bar layout bar = bar_part layout Dotted bar
 
@@ -26,12 +27,14 @@ start_corner layout bar = unlinked_cell (underline_role bar.primary) (glyph_of l
 abbrev pub end_corner : Layout → Bar → Cell
 end_corner layout bar = unlinked_cell (underline_role bar.primary) (glyph_of layout.decor bar.primary 124 124 0x2517 0x2514)
 
--- in the rows of a line the bar begins: in one below the source row stands its corner, and in each row below that the bar
+-- in the rows of a line the bar begins: in one below the source row stands its corner, and in each row below that the bar; in the
+-- source row a space stands in its cell
 pub record BeginsBelow (layout : Layout) (bar : Bar) (rows : List (List Cell)) : Type 0 where
   pub corner : ℕ
   pub below : 0 < corner
   pub within : corner < length rows
   pub corner_is : cell_at rows corner (layout.gutter + 2 + bar.depth) ≡ start_corner layout bar
+  pub source : cell_at rows 0 (layout.gutter + 2 + bar.depth) ≡ SPACE
   pub beside : (i : ℕ) → corner < i → i < length rows → cell_at rows i (layout.gutter + 2 + bar.depth) ≡ solid_bar layout bar
 
 -- or its top stands in the source row, below which the line has none

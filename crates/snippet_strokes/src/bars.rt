@@ -2,7 +2,7 @@
 ghost use Rattle.std.specs.Prelude.{◌≡◌, ◌+◌, ◌-◌, ◌^◌, ◌<◌, ◌≤◌, ℕ, true, All, IfOk, OnOk, length, replicate, slice_index_or};
 ghost use Rattle.snippet_strokes.specs.declared.bars.OpenBar.{OpenBar};
 ghost use Rattle.snippet_strokes.specs.Bars as spec;
-ghost use Rattle.snippet_strokes.specs.Bars.{ChangesRows, DrawsBars, HasRoom, StandsBeside, bar_part, barred, ends_of_bars};
+ghost use Rattle.snippet_strokes.specs.Bars.{HasRoom, StandsBeside, bar_part, barred, changed_from, ends_of_bars};
 ghost use Rattle.snippet_style.specs.Cell.{SPACE, written};
 
 use snippet_grid::StyledBuffer;
@@ -123,7 +123,6 @@ pub(crate) fn draw_bars(
     stroke: BarStroke,
 ) -> Result<(), AllocError>
     requires room { All (HasRoom layout) bars.now }
-    ensures draws { OnOk result (DrawsBars layout row buffer.old buffer.new) }
     ensures value { OnOk result (buffer.new ≡ barred layout stroke bars.now row buffer.old) }
 {
     let mut from = 0;
@@ -172,10 +171,9 @@ fn draw_side(
     requires left { 0 < first.depth }
     requires room { layout.gutter + 2 + first.depth + count < layout.code }
     requires some { 0 < count }
-    ensures draws { OnOk result (DrawsBars layout row buffer.old buffer.new) }
-    ensures changes { OnOk result (ChangesRows
+    ensures value { OnOk result (buffer.new ≡ changed_from
         (λ cells. written SPACE cells (layout.gutter + 2 + first.depth) (replicate count (bar_part layout stroke first)))
-        row (length buffer.old) buffer.old buffer.new) }
+        row buffer.old) }
 {
     let glyph = stroke.glyph(layout.decor, first.primary);
     let role = layout.decor.underline(first.primary).style;

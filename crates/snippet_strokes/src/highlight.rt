@@ -1,8 +1,8 @@
 //! The parts of the source that are coloured as their marks are.
-ghost use Rattle.std.specs.Prelude.{◌+◌, ◌≡◌, ◌≢◌, ◌^◌, ◌<◌, OnOk, filter, length, not, ℕ};
+ghost use Rattle.std.specs.Prelude.{◌+◌, ◌≡◌, ◌^◌, ◌<◌, OnOk, filter, length, not};
 ghost use Rattle.snippet_marks.specs.Entries as spec;
-ghost use Rattle.snippet_grid.specs.Grid.{row_at};
-ghost use Rattle.snippet_strokes.specs.Rows.{IsHighlighted, Restyled};
+ghost use Rattle.snippet_grid.specs.Grid.{changed_within, row_at};
+ghost use Rattle.snippet_strokes.specs.Rows.{Restyled, highlighted_row};
 
 use snippet_grid::StyledBuffer;
 use snippet_marks::{Layout, is_primary};
@@ -24,10 +24,8 @@ pub(crate) fn highlight_source(
 ) -> Result<(), AllocError>
     requires short { length (row_at buffer.old row) < 2 ^ 63 + 2 ^ 62 }
     requires near { dropped < 2 ^ 61 }
-    ensures highlighted { OnOk result (IsHighlighted layout.code dropped
-        (filter (λ e. not (spec.is_end_part e.annotation_type)) entries.now) (row_at buffer.old row) (row_at buffer.new row)) }
-    ensures others { OnOk result ((r : ℕ) → r ≢ row → row_at buffer.new r ≡ row_at buffer.old r) }
-    ensures count { OnOk result (length buffer.new ≡ length buffer.old) }
+    ensures value { OnOk result (buffer.new ≡ changed_within (highlighted_row layout.code dropped
+        (filter (λ e. not (spec.is_end_part e.annotation_type)) entries.now)) row (row + 1) buffer.old) }
 {
     for entry in entries {
         if entry.highlight_source && !is_end_part(entry.annotation_type) {

@@ -31,4 +31,5 @@ module _ (P : List Cell → Type 0) (layout : OriginLayout) (separator : P (sepa
     -- and of another file
     pub secondary_head-each : All P (secondary_head layout path place)
     secondary_head-each =
-        All-cons P (separator_row layout.frame.decor layout.frame.gutter) (origin_row layout Secondary path place ∷ separator_row layout.frame.decor layout.frame.gutter ∷ []) separator (All-cons P (origin_row layout Secondary path place) (separator_row layout.frame.decor layout.frame.gutter ∷ []) (origin Secondary) ends)
+        All-cons P (separator_row layout.frame.decor layout.frame.gutter) (origin_row layout Secondary path place ∷ separator_row layout.frame.decor layout.frame.gutter ∷ []) separator (All-cons P (origin_row layout Secondary path place)
+        (separator_row layout.frame.decor layout.frame.gutter ∷ []) (origin Secondary) ends)

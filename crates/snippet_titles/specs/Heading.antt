@@ -116,12 +116,6 @@ note_bar_of Ascii followed = SPACE
 note_bar_of Unicode true = unlinked_cell role.LineNumber 0x2502
 note_bar_of Unicode false = SPACE
 
--- the cells of the gutter that a heading stands after
-abbrev pub gutter_of : TitleStyle → ℕ
-gutter_of Title = 0
-gutter_of Short = 0
-gutter_of (Message place) = place.frame.gutter
-
 -- what a heading's first row begins with: nothing for a title, and for a message the sign after the gutter
 abbrev pub sign_cells : TitleStyle → List Cell
 sign_cells Title = []

@@ -7,7 +7,7 @@ ghost use Rattle.snippet_model.specs.Fits.{IdFits};
 ghost use Rattle.snippet_model.specs.Heading.{HeadingFits};
 ghost use Rattle.snippet_model.specs.Heading as model;
 ghost use Rattle.snippet_titles.specs.Appended.{IsAtEnd, appended};
-ghost use Rattle.snippet_titles.specs.Heading.{shown_text, gutter_of, heading_rows, indent_cells, label_cells, trimmed};
+ghost use Rattle.snippet_titles.specs.Heading.{shown_text, heading_rows, indent_cells, label_cells, trimmed};
 ghost use Rattle.snippet_titles.specs.Heading as spec;
 ghost use Rattle.snippet_titles.specs.Shown.{IsFreeButText, LinksId, heading_texts};
 ghost use Rattle.snippet_grid.specs.Grid.{row_at};

@@ -1,16 +1,16 @@
-use Rattle.std.proofs.Common.{◌≡◌, ◌-◌, ◌+◌, ◌<◌, ℕ, [], get_or, length, take, refl, subst, arith}
+use Rattle.std.proofs.Common.{◌≡◌, ◌∙◌, ◌-◌, ◌+◌, ◌<◌, ℕ, List, [], ap, sym, get_or, replicate, take, refl, subst, arith}
 use Rattle.std.proofs.lemmas.List.{get_or_default, take_all}
 use Rattle.snippet_strokes.specs.declared.bars.OpenBar.{OpenBar}
-use Rattle.snippet_strokes.specs.Bars.{ChangesRows, StandsBeside, with_bars}
-use Rattle.snippet_strokes.proofs.BarRows.{ChangesRows-more, ChangesRows-start, barred-is, side_drawn}
-use Rattle.snippet_strokes.proofs.BarLemmas.{DrawsBars-none, DrawsBars-more, no_bar}
+use Rattle.snippet_style.specs.Cell.{Cell, SPACE, written}
+use Rattle.snippet_strokes.specs.Bars.{StandsBeside, bar_part, barred, changed_from, with_bars}
+use Rattle.snippet_strokes.proofs.BarRows.{changed-more, changed-same, side_drawn}
+use Rattle.snippet_strokes.proofs.BarLemmas.{no_bar}
 use Rattle.snippet_strokes.proofs.bars.draw_bars.Goals as goal
 
 pub loop-from-init : goal.loop-from-init
 loop-from-init c = (
-  DrawsBars-none c.args.layout c.args.row c.args.buffer.now,
   omega arith,
-  ChangesRows-start (with_bars c.args.layout c.args.stroke []) c.args.row (length c.args.buffer.now) c.args.buffer.now (λ cells. refl),
+  sym (changed-same (with_bars c.args.layout c.args.stroke []) c.args.row c.args.buffer.now (λ cells. refl)),
 )
 
 pub side_end-to-requires-clause-right : goal.side_end-to-requires-clause-right
@@ -33,32 +33,25 @@ pub loop-from-preserved : goal.loop-from-preserved
 loop-from-preserved c =
     let layout = c.args.layout in
     let bars = c.args.bars.now in
-    let old = c.args.buffer.now in
-    let mid = c.loop-from.buffer in
-    let new = c.draw_side.new.buffer in
     let from = c.loop-from.from in
     let to = c.side_end-to in
     let first = get_or bars from no_bar in
+    let side : List Cell → List Cell = λ cells. written SPACE cells (layout.gutter + 2 + first.depth) (replicate (to.result - from) (bar_part layout c.args.stroke first)) in
     let beside : (k : ℕ) (d : OpenBar) → k < to.result - from → StandsBeside first k (get_or bars (from + k) d) = λ k d low.
     let place : from + k - from ≡ k = omega arith in
     let one = to.ensures.beside (from + k) d (omega arith) (omega (arith, low)) in
     let own : get_or bars from d ≡ first = get_or_default bars from d no_bar (omega (arith, c.loop-from-test.true)) in
     subst (λ n. StandsBeside first n (get_or bars (from + k) d)) place (subst (λ b. StandsBeside b (from + k - from) (get_or bars (from + k) d)) own one) in (
-      DrawsBars-more layout c.args.row old mid new c.loop-from.invariant.0 c.in_ok-draw_side.ensures.draws,
       to.ensures.within,
-      ChangesRows-more (with_bars layout c.args.stroke (take from bars)) _ (with_bars layout c.args.stroke (take to.result bars))
-          c.args.row (length old) old mid new refl
-          (λ cells. side_drawn layout c.args.stroke bars from to.result first cells to.ensures.more to.ensures.within beside)
-          c.loop-from.invariant.2 c.in_ok-draw_side.ensures.changes,
+      c.in_ok-draw_side.ensures.value
+          ∙ ap (changed_from side c.args.row) c.loop-from.invariant.1
+          ∙ changed-more (with_bars layout c.args.stroke (take from bars)) side (with_bars layout c.args.stroke (take to.result bars)) c.args.row c.args.buffer.now
+          (λ cells. side_drawn layout c.args.stroke bars from to.result first cells to.ensures.more to.ensures.within beside),
     )
 
 pub returns : goal.returns
 returns c =
-    let layout = c.args.layout in
-    let old = c.args.buffer.now in
     let all : take c.loop-from.from c.args.bars.now ≡ c.args.bars.now = take_all c.loop-from.from c.args.bars.now (omega (arith, c.loop-from-test.false)) in
-    let changes = subst (λ bars. ChangesRows (with_bars layout c.args.stroke bars) c.args.row (length old) old c.loop-from.buffer) all c.loop-from.invariant.2 in
     record {
-      draws = c.loop-from.invariant.0;
-      value = barred-is layout c.args.stroke c.args.bars.now c.args.row old c.loop-from.buffer changes;
+      value = c.loop-from.invariant.1 ∙ ap (λ bars. barred c.args.layout c.args.stroke bars c.args.row c.args.buffer.now) all;
     }

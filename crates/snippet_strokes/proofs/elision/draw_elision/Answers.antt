@@ -1,12 +1,16 @@
-use Rattle.snippet_grid.proofs.OutcomeLemmas.{on_ok_two}
+use Rattle.std.proofs.lemmas.Result.{on_ok_weaker}
+use Rattle.snippet_strokes.specs.declared.bars.BarStroke.TheVariants.{Dotted}
+use Rattle.snippet_strokes.proofs.BarLemmas.{DrawsBars-barred}
 use Rattle.snippet_strokes.proofs.ElisionLemmas.{elision_added}
 use Rattle.snippet_strokes.proofs.elision.draw_elision.Goals as goal
 
 pub returns : goal.returns
 returns c =
+    let begun = c.begin_elision_row.new.buffer in
+    let new = c.draw_bars.new.buffer in
+    let row = c.num_lines-row.result in
     record {
-      added = on_ok_two c.draw_bars.result
-          (λ draws value. elision_added c.args.layout c.args.open_bars.now c.args.buffer.now c.begin_elision_row.new.buffer c.draw_bars.new.buffer
-          c.num_lines-row.result c.num_lines-row.ensures.count c.requires.place c.in_ok-begin_elision_row.ensures.added draws value)
-          c.draw_bars.ensures.draws c.draw_bars.ensures.value;
+      added = on_ok_weaker c.draw_bars.result
+          (λ value. elision_added c.args.layout c.args.open_bars.now c.args.buffer.now begun new row c.num_lines-row.ensures.count c.requires.place
+          c.in_ok-begin_elision_row.ensures.added (DrawsBars-barred c.args.layout Dotted c.args.open_bars.now row begun new c.requires.room value) value) c.draw_bars.ensures.value;
     }

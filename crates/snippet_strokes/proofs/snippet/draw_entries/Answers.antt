@@ -1,4 +1,4 @@
-use Rattle.std.proofs.Common.{◌≡◌, ◌∙◌, ◌<◌, List, ap, sym, subst, arith, length, map, chars, false, true}
+use Rattle.std.proofs.Common.{◌≡◌, ◌∙◌, ◌<◌, All, List, ap, sym, subst, arith, length, map, chars, false, true}
 use Rattle.std.proofs.lemmas.List.{length_push}
 use Rattle.snippet_strokes.specs.declared.bars.BarStroke.TheVariants.{Top}
 use Rattle.std.proofs.lemmas.List.Elements.{All-same}
@@ -9,6 +9,7 @@ use Rattle.snippet_strokes.specs.Strokes.{AddsPainted}
 use Rattle.snippet_style.specs.Cell.{Cell}
 use Rattle.snippet_view.specs.declared.entries.LineAnnotation.{LineAnnotation}
 use Rattle.snippet_strokes.specs.Bars.{HasRoom, barred, ends_of_bars, is_whole_line}
+use Rattle.snippet_strokes.proofs.BarLemmas.{DrawsBars-barred}
 use Rattle.snippet_strokes.proofs.LineRowLemmas.{own_strokes, own_whole}
 use Rattle.snippet_strokes.proofs.OpenLemmas.{room_ends}
 use Rattle.snippet_strokes.proofs.WholeLineLemmas.{whole_added}
@@ -26,7 +27,10 @@ returns-then-is_whole_line c =
     let text = norm (chars c.args.info.now.line.now) in
     let whole : is_whole_line text es ≡ true = ap (is_whole_line text) (sym c.deref.ensures.value) ∙ sym c.is_whole_line.ensures.value ∙ c.if-is_whole_line.true in
     record {
-      added = on_ok_weaker c.draw_bars.result (λ draws above plain is bare. whole_added c.args.layout text c.args.room c.args.dropped c.args.closes es above plain c.args.buffer.now c.draw_bars.new.buffer c.args.row whole c.requires.last draws is bare) c.draw_bars.ensures.draws;
+      added = on_ok_weaker c.draw_bars.result (λ value above plain is bare.
+          let room : All (HasRoom c.args.layout) c.args.ends.now = All-same (HasRoom c.args.layout) c.args.ends.now (ends_of_bars es) c.requires.ends (room_ends c.args.layout es c.requires.bar_cells) in
+          let draws = DrawsBars-barred c.args.layout Top c.args.ends.now c.args.row c.args.buffer.now c.draw_bars.new.buffer room value in
+          whole_added c.args.layout text c.args.room c.args.dropped c.args.closes es above plain c.args.buffer.now c.draw_bars.new.buffer c.args.row whole c.requires.last draws is bare) c.draw_bars.ensures.value;
       own = on_ok_weaker c.draw_bars.result (λ value above plain is.
           let last : c.args.row ≡ length above = omega (arith, c.requires.last, ap length is, length_push above plain) in
           own_whole c.args.layout c.args.room c.args.closes text c.args.dropped es above plain c.args.buffer.now c.draw_bars.new.buffer c.args.row whole is last (value ∙ ap (λ bars. barred c.args.layout Top bars c.args.row c.args.buffer.now) c.requires.ends)) c.draw_bars.ensures.value;

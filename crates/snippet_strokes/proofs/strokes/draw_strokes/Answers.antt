@@ -45,74 +45,85 @@ overlapping-requires c =
 
 pub draw_connectors-requires-clause-columns : goal.draw_connectors-requires-clause-columns
 draw_connectors-requires-clause-columns c =
-    let enough = enough_begun c.args.layout c.args.dropped c.args.entries.now c.args.buffer.now c.begin_rows.new.buffer _ _ c.requires.columns
-    c.requires.bar_cells c.in_ok-placed.ensures.placed (c.row_count.ensures.value ∙ ap row_count c.deref-2.ensures.value) c.requires.last c.in_ok-below.ensures.row c.in_ok-below.ensures.added c.in_ok-below.ensures.small in
+    let enough = enough_begun c.args.layout c.args.dropped c.args.entries.now c.args.buffer.now c.begin_rows.new.buffer _ _
+    c.requires.columns c.requires.bar_cells c.in_ok-placed.ensures.placed (c.row_count.ensures.value ∙ ap row_count c.deref-2.ensures.value)
+    c.requires.last c.in_ok-below.ensures.row c.in_ok-below.ensures.added c.in_ok-below.ensures.small in
     subst (All (λ (e : PlacedEntry). HasPlace e.entry)) (sym c.deref-3.ensures.value) enough.places
 
 pub draw_connectors-requires-clause-bar_cells : goal.draw_connectors-requires-clause-bar_cells
 draw_connectors-requires-clause-bar_cells c =
-    let enough = enough_begun c.args.layout c.args.dropped c.args.entries.now c.args.buffer.now c.begin_rows.new.buffer _ _ c.requires.columns
-    c.requires.bar_cells c.in_ok-placed.ensures.placed (c.row_count.ensures.value ∙ ap row_count c.deref-2.ensures.value) c.requires.last c.in_ok-below.ensures.row c.in_ok-below.ensures.added c.in_ok-below.ensures.small in
+    let enough = enough_begun c.args.layout c.args.dropped c.args.entries.now c.args.buffer.now c.begin_rows.new.buffer _ _
+    c.requires.columns c.requires.bar_cells c.in_ok-placed.ensures.placed (c.row_count.ensures.value ∙ ap row_count c.deref-2.ensures.value)
+    c.requires.last c.in_ok-below.ensures.row c.in_ok-below.ensures.added c.in_ok-below.ensures.small in
     subst (All (λ (e : PlacedEntry). HasBarCell c.args.layout e.entry)) (sym c.deref-3.ensures.value) enough.bar_cells
 
 pub draw_connectors-requires-clause-rows : goal.draw_connectors-requires-clause-rows
 draw_connectors-requires-clause-rows c =
-    let enough = enough_begun c.args.layout c.args.dropped c.args.entries.now c.args.buffer.now c.begin_rows.new.buffer _ _ c.requires.columns
-    c.requires.bar_cells c.in_ok-placed.ensures.placed (c.row_count.ensures.value ∙ ap row_count c.deref-2.ensures.value) c.requires.last c.in_ok-below.ensures.row c.in_ok-below.ensures.added c.in_ok-below.ensures.small in
+    let enough = enough_begun c.args.layout c.args.dropped c.args.entries.now c.args.buffer.now c.begin_rows.new.buffer _ _
+    c.requires.columns c.requires.bar_cells c.in_ok-placed.ensures.placed (c.row_count.ensures.value ∙ ap row_count c.deref-2.ensures.value)
+    c.requires.last c.in_ok-below.ensures.row c.in_ok-below.ensures.added c.in_ok-below.ensures.small in
     rows_for enough c.begin_rows.new.buffer refl c.deref-3.ensures.value
 
 pub draw_corners-requires-clause-bar_cells : goal.draw_corners-requires-clause-bar_cells
 draw_corners-requires-clause-bar_cells c =
-    let enough = enough_begun c.args.layout c.args.dropped c.args.entries.now c.args.buffer.now c.begin_rows.new.buffer _ _ c.requires.columns
-    c.requires.bar_cells c.in_ok-placed.ensures.placed (c.row_count.ensures.value ∙ ap row_count c.deref-2.ensures.value) c.requires.last c.in_ok-below.ensures.row c.in_ok-below.ensures.added c.in_ok-below.ensures.small in
+    let enough = enough_begun c.args.layout c.args.dropped c.args.entries.now c.args.buffer.now c.begin_rows.new.buffer _ _
+    c.requires.columns c.requires.bar_cells c.in_ok-placed.ensures.placed (c.row_count.ensures.value ∙ ap row_count c.deref-2.ensures.value)
+    c.requires.last c.in_ok-below.ensures.row c.in_ok-below.ensures.added c.in_ok-below.ensures.small in
     subst (All (λ (e : PlacedEntry). HasBarCell c.args.layout e.entry)) (sym c.deref-4.ensures.value) enough.bar_cells
 
 pub draw_corners-requires-clause-small : goal.draw_corners-requires-clause-small
 draw_corners-requires-clause-small c =
-    let enough = enough_begun c.args.layout c.args.dropped c.args.entries.now c.args.buffer.now c.begin_rows.new.buffer _ _ c.requires.columns
-    c.requires.bar_cells c.in_ok-placed.ensures.placed (c.row_count.ensures.value ∙ ap row_count c.deref-2.ensures.value) c.requires.last c.in_ok-below.ensures.row c.in_ok-below.ensures.added c.in_ok-below.ensures.small in
+    let enough = enough_begun c.args.layout c.args.dropped c.args.entries.now c.args.buffer.now c.begin_rows.new.buffer _ _
+    c.requires.columns c.requires.bar_cells c.in_ok-placed.ensures.placed (c.row_count.ensures.value ∙ ap row_count c.deref-2.ensures.value)
+    c.requires.last c.in_ok-below.ensures.row c.in_ok-below.ensures.added c.in_ok-below.ensures.small in
     let joined = count_connectors enough c.begin_rows.new.buffer refl c.deref-3.ensures.value c.draw_connectors.new.buffer c.in_ok-draw_connectors.ensures.painted in
     omega (arith, joined, enough.small)
 
 pub draw_corners-requires-clause-rows : goal.draw_corners-requires-clause-rows
 draw_corners-requires-clause-rows c =
-    let enough = enough_begun c.args.layout c.args.dropped c.args.entries.now c.args.buffer.now c.begin_rows.new.buffer _ _ c.requires.columns
-    c.requires.bar_cells c.in_ok-placed.ensures.placed (c.row_count.ensures.value ∙ ap row_count c.deref-2.ensures.value) c.requires.last c.in_ok-below.ensures.row c.in_ok-below.ensures.added c.in_ok-below.ensures.small in
+    let enough = enough_begun c.args.layout c.args.dropped c.args.entries.now c.args.buffer.now c.begin_rows.new.buffer _ _
+    c.requires.columns c.requires.bar_cells c.in_ok-placed.ensures.placed (c.row_count.ensures.value ∙ ap row_count c.deref-2.ensures.value)
+    c.requires.last c.in_ok-below.ensures.row c.in_ok-below.ensures.added c.in_ok-below.ensures.small in
     let joined = count_connectors enough c.begin_rows.new.buffer refl c.deref-3.ensures.value c.draw_connectors.new.buffer c.in_ok-draw_connectors.ensures.painted in
     rows_beside enough c.draw_connectors.new.buffer joined c.deref-4.ensures.value
 
 pub draw_stems-requires-clause-columns : goal.draw_stems-requires-clause-columns
 draw_stems-requires-clause-columns c =
-    let enough = enough_begun c.args.layout c.args.dropped c.args.entries.now c.args.buffer.now c.begin_rows.new.buffer _ _ c.requires.columns
-    c.requires.bar_cells c.in_ok-placed.ensures.placed (c.row_count.ensures.value ∙ ap row_count c.deref-2.ensures.value) c.requires.last c.in_ok-below.ensures.row c.in_ok-below.ensures.added c.in_ok-below.ensures.small in
+    let enough = enough_begun c.args.layout c.args.dropped c.args.entries.now c.args.buffer.now c.begin_rows.new.buffer _ _
+    c.requires.columns c.requires.bar_cells c.in_ok-placed.ensures.placed (c.row_count.ensures.value ∙ ap row_count c.deref-2.ensures.value)
+    c.requires.last c.in_ok-below.ensures.row c.in_ok-below.ensures.added c.in_ok-below.ensures.small in
     subst (All (λ (e : PlacedEntry). HasPlace e.entry)) (sym c.deref-5.ensures.value) enough.places
 
 pub draw_stems-requires-clause-small : goal.draw_stems-requires-clause-small
 draw_stems-requires-clause-small c =
-    let enough = enough_begun c.args.layout c.args.dropped c.args.entries.now c.args.buffer.now c.begin_rows.new.buffer _ _ c.requires.columns
-    c.requires.bar_cells c.in_ok-placed.ensures.placed (c.row_count.ensures.value ∙ ap row_count c.deref-2.ensures.value) c.requires.last c.in_ok-below.ensures.row c.in_ok-below.ensures.added c.in_ok-below.ensures.small in
+    let enough = enough_begun c.args.layout c.args.dropped c.args.entries.now c.args.buffer.now c.begin_rows.new.buffer _ _
+    c.requires.columns c.requires.bar_cells c.in_ok-placed.ensures.placed (c.row_count.ensures.value ∙ ap row_count c.deref-2.ensures.value)
+    c.requires.last c.in_ok-below.ensures.row c.in_ok-below.ensures.added c.in_ok-below.ensures.small in
     let joined = count_connectors enough c.begin_rows.new.buffer refl c.deref-3.ensures.value c.draw_connectors.new.buffer c.in_ok-draw_connectors.ensures.painted in
     let barred = count_corners enough c.draw_connectors.new.buffer joined c.deref-4.ensures.value c.draw_corners.new.buffer c.in_ok-draw_corners.ensures.painted in
     omega (arith, barred, enough.small)
 
 pub draw_stems-requires-clause-rows : goal.draw_stems-requires-clause-rows
 draw_stems-requires-clause-rows c =
-    let enough = enough_begun c.args.layout c.args.dropped c.args.entries.now c.args.buffer.now c.begin_rows.new.buffer _ _ c.requires.columns
-    c.requires.bar_cells c.in_ok-placed.ensures.placed (c.row_count.ensures.value ∙ ap row_count c.deref-2.ensures.value) c.requires.last c.in_ok-below.ensures.row c.in_ok-below.ensures.added c.in_ok-below.ensures.small in
+    let enough = enough_begun c.args.layout c.args.dropped c.args.entries.now c.args.buffer.now c.begin_rows.new.buffer _ _
+    c.requires.columns c.requires.bar_cells c.in_ok-placed.ensures.placed (c.row_count.ensures.value ∙ ap row_count c.deref-2.ensures.value)
+    c.requires.last c.in_ok-below.ensures.row c.in_ok-below.ensures.added c.in_ok-below.ensures.small in
     let joined = count_connectors enough c.begin_rows.new.buffer refl c.deref-3.ensures.value c.draw_connectors.new.buffer c.in_ok-draw_connectors.ensures.painted in
     let barred = count_corners enough c.draw_connectors.new.buffer joined c.deref-4.ensures.value c.draw_corners.new.buffer c.in_ok-draw_corners.ensures.painted in
     rows_for enough c.draw_corners.new.buffer barred c.deref-5.ensures.value
 
 pub draw_labels-requires-clause-columns : goal.draw_labels-requires-clause-columns
 draw_labels-requires-clause-columns c =
-    let enough = enough_begun c.args.layout c.args.dropped c.args.entries.now c.args.buffer.now c.begin_rows.new.buffer _ _ c.requires.columns
-    c.requires.bar_cells c.in_ok-placed.ensures.placed (c.row_count.ensures.value ∙ ap row_count c.deref-2.ensures.value) c.requires.last c.in_ok-below.ensures.row c.in_ok-below.ensures.added c.in_ok-below.ensures.small in
+    let enough = enough_begun c.args.layout c.args.dropped c.args.entries.now c.args.buffer.now c.begin_rows.new.buffer _ _
+    c.requires.columns c.requires.bar_cells c.in_ok-placed.ensures.placed (c.row_count.ensures.value ∙ ap row_count c.deref-2.ensures.value)
+    c.requires.last c.in_ok-below.ensures.row c.in_ok-below.ensures.added c.in_ok-below.ensures.small in
     subst (All (λ (e : PlacedEntry). HasPlace e.entry)) (sym c.deref-6.ensures.value) enough.places
 
 pub draw_labels-requires-clause-small : goal.draw_labels-requires-clause-small
 draw_labels-requires-clause-small c =
-    let enough = enough_begun c.args.layout c.args.dropped c.args.entries.now c.args.buffer.now c.begin_rows.new.buffer _ _ c.requires.columns
-    c.requires.bar_cells c.in_ok-placed.ensures.placed (c.row_count.ensures.value ∙ ap row_count c.deref-2.ensures.value) c.requires.last c.in_ok-below.ensures.row c.in_ok-below.ensures.added c.in_ok-below.ensures.small in
+    let enough = enough_begun c.args.layout c.args.dropped c.args.entries.now c.args.buffer.now c.begin_rows.new.buffer _ _
+    c.requires.columns c.requires.bar_cells c.in_ok-placed.ensures.placed (c.row_count.ensures.value ∙ ap row_count c.deref-2.ensures.value)
+    c.requires.last c.in_ok-below.ensures.row c.in_ok-below.ensures.added c.in_ok-below.ensures.small in
     let joined = count_connectors enough c.begin_rows.new.buffer refl c.deref-3.ensures.value c.draw_connectors.new.buffer c.in_ok-draw_connectors.ensures.painted in
     let barred = count_corners enough c.draw_connectors.new.buffer joined c.deref-4.ensures.value c.draw_corners.new.buffer c.in_ok-draw_corners.ensures.painted in
     let stemmed = count_stems enough c.draw_corners.new.buffer barred c.deref-5.ensures.value c.draw_stems.new.buffer c.in_ok-draw_stems.ensures.painted in
@@ -120,8 +131,9 @@ draw_labels-requires-clause-small c =
 
 pub draw_labels-requires-clause-rows : goal.draw_labels-requires-clause-rows
 draw_labels-requires-clause-rows c =
-    let enough = enough_begun c.args.layout c.args.dropped c.args.entries.now c.args.buffer.now c.begin_rows.new.buffer _ _ c.requires.columns
-    c.requires.bar_cells c.in_ok-placed.ensures.placed (c.row_count.ensures.value ∙ ap row_count c.deref-2.ensures.value) c.requires.last c.in_ok-below.ensures.row c.in_ok-below.ensures.added c.in_ok-below.ensures.small in
+    let enough = enough_begun c.args.layout c.args.dropped c.args.entries.now c.args.buffer.now c.begin_rows.new.buffer _ _
+    c.requires.columns c.requires.bar_cells c.in_ok-placed.ensures.placed (c.row_count.ensures.value ∙ ap row_count c.deref-2.ensures.value)
+    c.requires.last c.in_ok-below.ensures.row c.in_ok-below.ensures.added c.in_ok-below.ensures.small in
     let joined = count_connectors enough c.begin_rows.new.buffer refl c.deref-3.ensures.value c.draw_connectors.new.buffer c.in_ok-draw_connectors.ensures.painted in
     let barred = count_corners enough c.draw_connectors.new.buffer joined c.deref-4.ensures.value c.draw_corners.new.buffer c.in_ok-draw_corners.ensures.painted in
     let stemmed = count_stems enough c.draw_corners.new.buffer barred c.deref-5.ensures.value c.draw_stems.new.buffer c.in_ok-draw_stems.ensures.painted in
@@ -138,15 +150,17 @@ draw_labels-requires-clause-short c =
 
 pub draw_marks-requires-clause-columns : goal.draw_marks-requires-clause-columns
 draw_marks-requires-clause-columns c =
-    let enough = enough_begun c.args.layout c.args.dropped c.args.entries.now c.args.buffer.now c.begin_rows.new.buffer _ _ c.requires.columns
-    c.requires.bar_cells c.in_ok-placed.ensures.placed (c.row_count.ensures.value ∙ ap row_count c.deref-2.ensures.value) c.requires.last c.in_ok-below.ensures.row c.in_ok-below.ensures.added c.in_ok-below.ensures.small in
+    let enough = enough_begun c.args.layout c.args.dropped c.args.entries.now c.args.buffer.now c.begin_rows.new.buffer _ _
+    c.requires.columns c.requires.bar_cells c.in_ok-placed.ensures.placed (c.row_count.ensures.value ∙ ap row_count c.deref-2.ensures.value)
+    c.requires.last c.in_ok-below.ensures.row c.in_ok-below.ensures.added c.in_ok-below.ensures.small in
     λ k d within. (enough.places k d within).near
 
 -- the entries in the order of painting
 pub cut_wide-requires-clause-columns : goal.cut_wide-requires-clause-columns
 cut_wide-requires-clause-columns c =
-    let enough = enough_begun c.args.layout c.args.dropped c.args.entries.now c.args.buffer.now c.begin_rows.new.buffer _ _ c.requires.columns
-    c.requires.bar_cells c.in_ok-placed.ensures.placed (c.row_count.ensures.value ∙ ap row_count c.deref-2.ensures.value) c.requires.last c.in_ok-below.ensures.row c.in_ok-below.ensures.added c.in_ok-below.ensures.small in
+    let enough = enough_begun c.args.layout c.args.dropped c.args.entries.now c.args.buffer.now c.begin_rows.new.buffer _ _
+    c.requires.columns c.requires.bar_cells c.in_ok-placed.ensures.placed (c.row_count.ensures.value ∙ ap row_count c.deref-2.ensures.value)
+    c.requires.last c.in_ok-below.ensures.row c.in_ok-below.ensures.added c.in_ok-below.ensures.small in
     let placed = c.in_ok-placed.placed.items in
     subst (All (λ (e : PlacedEntry). HasPlace e.entry)) (sym (c.deref-7.ensures.value ∙ c.in_ok-draw_marks.ensures.order)) (All-permutation (λ (e : PlacedEntry). HasPlace e.entry) placed (painting_order placed) (IsPermutation-painting_order placed) enough.places)
 
@@ -158,8 +172,9 @@ cut_wide-requires-clause-count c =
 -- no row is added or taken after those that are begun
 pub cut_wide-requires-clause-rows : goal.cut_wide-requires-clause-rows
 cut_wide-requires-clause-rows c =
-    let enough = enough_begun c.args.layout c.args.dropped c.args.entries.now c.args.buffer.now c.begin_rows.new.buffer _ _ c.requires.columns
-    c.requires.bar_cells c.in_ok-placed.ensures.placed (c.row_count.ensures.value ∙ ap row_count c.deref-2.ensures.value) c.requires.last c.in_ok-below.ensures.row c.in_ok-below.ensures.added c.in_ok-below.ensures.small in
+    let enough = enough_begun c.args.layout c.args.dropped c.args.entries.now c.args.buffer.now c.begin_rows.new.buffer _ _
+    c.requires.columns c.requires.bar_cells c.in_ok-placed.ensures.placed (c.row_count.ensures.value ∙ ap row_count c.deref-2.ensures.value)
+    c.requires.last c.in_ok-below.ensures.row c.in_ok-below.ensures.added c.in_ok-below.ensures.small in
     let joined = count_connectors enough c.begin_rows.new.buffer refl c.deref-3.ensures.value c.draw_connectors.new.buffer c.in_ok-draw_connectors.ensures.painted in
     let barred = count_corners enough c.draw_connectors.new.buffer joined c.deref-4.ensures.value c.draw_corners.new.buffer c.in_ok-draw_corners.ensures.painted in
     let stemmed = count_stems enough c.draw_corners.new.buffer barred c.deref-5.ensures.value c.draw_stems.new.buffer c.in_ok-draw_stems.ensures.painted in
@@ -169,8 +184,9 @@ cut_wide-requires-clause-rows c =
 
 pub cut_wide-requires-clause-small : goal.cut_wide-requires-clause-small
 cut_wide-requires-clause-small c =
-    let enough = enough_begun c.args.layout c.args.dropped c.args.entries.now c.args.buffer.now c.begin_rows.new.buffer _ _ c.requires.columns
-    c.requires.bar_cells c.in_ok-placed.ensures.placed (c.row_count.ensures.value ∙ ap row_count c.deref-2.ensures.value) c.requires.last c.in_ok-below.ensures.row c.in_ok-below.ensures.added c.in_ok-below.ensures.small in
+    let enough = enough_begun c.args.layout c.args.dropped c.args.entries.now c.args.buffer.now c.begin_rows.new.buffer _ _
+    c.requires.columns c.requires.bar_cells c.in_ok-placed.ensures.placed (c.row_count.ensures.value ∙ ap row_count c.deref-2.ensures.value)
+    c.requires.last c.in_ok-below.ensures.row c.in_ok-below.ensures.added c.in_ok-below.ensures.small in
     let joined = count_connectors enough c.begin_rows.new.buffer refl c.deref-3.ensures.value c.draw_connectors.new.buffer c.in_ok-draw_connectors.ensures.painted in
     let barred = count_corners enough c.draw_connectors.new.buffer joined c.deref-4.ensures.value c.draw_corners.new.buffer c.in_ok-draw_corners.ensures.painted in
     let stemmed = count_stems enough c.draw_corners.new.buffer barred c.deref-5.ensures.value c.draw_stems.new.buffer c.in_ok-draw_stems.ensures.painted in
@@ -210,8 +226,9 @@ returns c =
     let new = c.draw_marks.new.buffer in
     let below = c.in_ok-below.below in
     let are = c.in_ok-placed.ensures.placed in
-    let enough = enough_begun c.args.layout c.args.dropped c.args.entries.now c.args.buffer.now c.begin_rows.new.buffer _ _ c.requires.columns
-    c.requires.bar_cells c.in_ok-placed.ensures.placed (c.row_count.ensures.value ∙ ap row_count c.deref-2.ensures.value) c.requires.last c.in_ok-below.ensures.row c.in_ok-below.ensures.added c.in_ok-below.ensures.small in
+    let enough = enough_begun c.args.layout c.args.dropped c.args.entries.now c.args.buffer.now c.begin_rows.new.buffer _ _
+    c.requires.columns c.requires.bar_cells c.in_ok-placed.ensures.placed (c.row_count.ensures.value ∙ ap row_count c.deref-2.ensures.value)
+    c.requires.last c.in_ok-below.ensures.row c.in_ok-below.ensures.added c.in_ok-below.ensures.small in
     let rows : List (List Cell) = old ++ replicate (row_count placed - 1) sep ++ end ∷ [] in
     let begun_is : begun ≡ rows = c.in_ok-below.ensures.added ∙ ap (λ n. old ++ replicate (n - 1) sep ++ end ∷ []) count in
     let long : length begun ≡ length old + row_count placed = rows_begun old begun sep end c.row_count.result (omega (arith, count, row_count_some placed)) c.in_ok-below.ensures.added ∙ ap (λ n. length old + n) count in

@@ -15,4 +15,5 @@ pub returns-clause-cells : goal.returns-clause-cells
 returns-clause-cells c =
     let a = c.args in
     let above : List (List Cell) = a.buffer.now ++ replicate a.skipped [] in
-    c.in_ok-draw_glyph.ensures.below a.skipped (omega (arith, c.num_lines.ensures.count)) ∙ ap (λ (cs : List ℕ). above ++ put LineNumber cs (a.layout.now.frame.gutter + 1) [] ∷ []) (c.end_glyph.ensures.value a.layout.now.frame.decor) ∙ ap (λ (row : List Cell). above ++ row ∷ []) (end_is a.layout.now a.follows)
+    c.in_ok-draw_glyph.ensures.below a.skipped (omega (arith, c.num_lines.ensures.count)) ∙ ap (λ (cs : List ℕ). above ++ put LineNumber cs (a.layout.now.frame.gutter + 1) [] ∷ []) (c.end_glyph.ensures.value a.layout.now.frame.decor)
+    ∙ ap (λ (row : List Cell). above ++ row ∷ []) (end_is a.layout.now a.follows)

@@ -36,7 +36,8 @@ returns-clause-added c fits =
     let is_sign = c.text-sign.ensures.value ∙ ap (λ (l : Layout). glyph_of l.decor c.args.glyph) c.frame.view_is in
     let led = sign_row g c.role.result sign in
     let numbered = texted number led 0 (text_cells LineNumber (chars number)) in
-    let is_number : chars number ≡ shown = ap chars (c.as_str.ensures.value ∙ c.in_ok-number.ensures.text) ∙ chars-shown_number c.args.layout.now.numbers c.frame.inside.gutter c.args.number (omega arith) ∙ ap (λ (l : Layout). shown_number c.args.layout.now.numbers l.gutter c.args.number) c.frame.view_is in
+    let is_number : chars number ≡ shown = ap chars (c.as_str.ensures.value ∙ c.in_ok-number.ensures.text) ∙ chars-shown_number c.args.layout.now.numbers c.frame.inside.gutter c.args.number (omega arith)
+    ∙ ap (λ (l : Layout). shown_number c.args.layout.now.numbers l.gutter c.args.number) c.frame.view_is in
     let is_text : chars text ≡ norm (chars c.args.line.now) = ap chars c.as_str-2.ensures.value ∙ c.in_ok-text.ensures.value in
     let gutter : c.frame.inside.gutter ≡ g = ap (λ (l : Layout). l.gutter) c.frame.view_is in
     let signed = c.in_ok-puts.ensures.ok c.text-sign.ensures.some ∙ ap (λ n. cells_written old c.num_lines-row.result (n + 1) (text_cells c.role.result sign)) gutter in
@@ -55,7 +56,8 @@ returns-clause-added c fits =
 pub returns-clause-cells : goal.returns-clause-cells
 returns-clause-cells c =
     let a = c.args in
-    let is_number : chars c.as_str.result.now ≡ shown_number a.layout.now.numbers a.layout.now.frame.gutter a.number = ap chars (c.as_str.ensures.value ∙ c.in_ok-number.ensures.text) ∙ chars-shown_number a.layout.now.numbers c.frame.inside.gutter a.number (omega arith) ∙ ap (λ (l : Layout). shown_number a.layout.now.numbers l.gutter a.number) c.frame.view_is in
+    let is_number : chars c.as_str.result.now ≡ shown_number a.layout.now.numbers a.layout.now.frame.gutter a.number = ap chars (c.as_str.ensures.value ∙ c.in_ok-number.ensures.text) ∙ chars-shown_number a.layout.now.numbers c.frame.inside.gutter a.number (omega arith)
+    ∙ ap (λ (l : Layout). shown_number a.layout.now.numbers l.gutter a.number) c.frame.view_is in
     let is_text : chars c.as_str-2.result.now ≡ norm (chars a.line.now) = ap chars c.as_str-2.ensures.value ∙ c.in_ok-text.ensures.value in
     let is_sign = c.text-sign.ensures.value ∙ ap (λ (l : Layout). glyph_of l.decor c.args.glyph) c.frame.view_is in
     let signed = c.in_ok-puts.ensures.ok c.text-sign.ensures.some ∙ ap (λ (l : Layout). cells_written a.buffer.now c.num_lines-row.result (l.gutter + 1) (text_cells c.role.result (chars c.text-sign.result.now))) c.frame.view_is in

@@ -4,4 +4,7 @@ use Rattle.snippet_titles.proofs.padding.draw_closing.Goals as goal
 
 pub returns : goal.returns
 returns c =
-    rw (← c.layout.view_is) (record { row = on_ok_weaker c.puts.result (λ writes. closing_row-begun c.args.buffer.now c.puts.new.self c.num_lines-row.result c.layout.inside.gutter c.closing.result.now c.layout.inside.decor c.num_lines-row.ensures.count c.closing.ensures.value writes) c.puts.ensures.ok })
+    rw (← c.layout.view_is) (record {
+      row = on_ok_weaker c.puts.result
+          (λ writes. closing_row-begun c.args.buffer.now c.puts.new.self c.num_lines-row.result c.layout.inside.gutter c.closing.result.now c.layout.inside.decor c.num_lines-row.ensures.count c.closing.ensures.value writes) c.puts.ensures.ok;
+    })

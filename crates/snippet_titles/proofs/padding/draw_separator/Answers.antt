@@ -4,4 +4,7 @@ use Rattle.snippet_titles.proofs.padding.draw_separator.Goals as goal
 
 pub returns : goal.returns
 returns c =
-    rw (← c.layout.view_is) (record { row = on_ok_weaker c.putc.result (λ writes. separator_row-begun c.args.buffer.now c.putc.new.self c.num_lines-row.result c.layout.inside.gutter c.separator.result c.layout.inside.decor c.num_lines-row.ensures.count c.separator.ensures.value writes) c.putc.ensures.ok })
+    rw (← c.layout.view_is) (record {
+      row = on_ok_weaker c.putc.result
+          (λ writes. separator_row-begun c.args.buffer.now c.putc.new.self c.num_lines-row.result c.layout.inside.gutter c.separator.result c.layout.inside.decor c.num_lines-row.ensures.count c.separator.ensures.value writes) c.putc.ensures.ok;
+    })

@@ -11,7 +11,8 @@ returns-in_ok-add_spaces-in-Message c =
     let gutter = c.in-Message.place.frame.gutter + 1 in
     record {
       extended = rw c.in-Message.is
-          (bar_drawn _ _ _ _ gutter (c.args.width + 1) _ c.requires.empty (c.in_ok-putc-in-Message.ensures.ok ∙ ap (λ (l : Layout). cells_written c.args.buffer.now c.args.row (l.gutter + 1) (unlinked_cell c.bar-glyph.result.1 c.bar-glyph.result.0 ∷ [])) c.frame.view_is) c.in_ok-add_spaces-in-Message.ensures.extended
+          (bar_drawn _ _ _ _ gutter (c.args.width + 1) _ c.requires.empty (c.in_ok-putc-in-Message.ensures.ok
+          ∙ ap (λ (l : Layout). cells_written c.args.buffer.now c.args.row (l.gutter + 1) (unlinked_cell c.bar-glyph.result.1 c.bar-glyph.result.0 ∷ [])) c.frame.view_is) c.in_ok-add_spaces-in-Message.ensures.extended
           ∙ ap (λ (cell : Cell). appended c.args.buffer.now c.args.row (replicate gutter SPACE ++ cell ∷ replicate (c.args.width + 1) SPACE))
           c.bar-glyph.ensures.value);
     }
