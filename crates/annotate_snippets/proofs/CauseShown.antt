@@ -28,10 +28,10 @@ use Rattle.snippet_titles.specs.declared.origin.OriginLocation.{OriginLocation}
 use Rattle.snippet_titles.proofs.HeadFacts.{origin_row-text, snippet_head-free}
 use Rattle.snippet_titles.proofs.OriginFree.{closing_row-free, separator_row-free}
 use Rattle.annotate_snippets.specs.declared.renderer.Renderer.{Renderer}
-use Rattle.annotate_snippets.specs.declared.renderer.frame.Frame.{Frame}
+use Rattle.snippet_grid.specs.Layout.{Layout}
 use Rattle.annotate_snippets.specs.declared.renderer.element_context.ElementContext.{ElementContext}
 use Rattle.annotate_snippets.specs.Around.{closes_after, closes_with, is_before_message, is_first_group, path_bytes}
-use Rattle.annotate_snippets.specs.Drawn.{AreCauseRows, HasRoomFor, IsCauseDrawn, layout_in}
+use Rattle.annotate_snippets.specs.Drawn.{AreCauseRows, HasRoomFor, IsCauseDrawn}
 use Rattle.annotate_snippets.specs.Gutter.{code_after, depth_of_element, line_numbers, numbered_source}
 use Rattle.annotate_snippets.specs.Page.{IsAscending, NamedRow, cells_of, lines_named, others}
 use Rattle.annotate_snippets.specs.Prepared.{IsDrawable}
@@ -74,7 +74,7 @@ free_named [] free = All-nil (λ (row : NamedRow). IsFree row.cells)
 free_named (row ∷ part) free =
     All-cons (λ (r : NamedRow). IsFree r.cells) row part (All-head IsFree row.cells (cells_of part) free) (free_named part (All-tail IsFree row.cells (cells_of part) free))
 
-module _ (r : Renderer) (frame : Frame) (around : ElementContext) (s : Snippet Annotation) where
+module _ (r : Renderer) (frame : Layout) (around : ElementContext) (s : Snippet Annotation) where
   -- no row that stands below the lines holds a listed character, or a link
   after_free : All IsFree (rows_after_cause r frame around)
   after_free = either (is_first_group around.place && is_before_message around.next) (closes_after around)
@@ -83,8 +83,8 @@ module _ (r : Renderer) (frame : Frame) (around : ElementContext) (s : Snippet A
       one row free = All-cons IsFree row [] free (All-nil IsFree)
 
       either : (sets_off closes : Bool) → All IsFree (cond sets_off (separator_rows r frame) (cond closes (closing_rows r frame) []))
-      either true closes = one _ (separator_row-free r.decor_style frame.gutter)
-      either false true = one _ (closing_row-free r.decor_style frame.gutter)
+      either true closes = one _ (separator_row-free frame.decor frame.gutter)
+      either false true = one _ (closing_row-free frame.decor frame.gutter)
       either false false = All-nil IsFree
 
   head_free : All IsFree (cause_head r frame around s)
@@ -116,7 +116,7 @@ code_right gutter depth = either (depth == 0)
     either false = omega arith
 
 -- the rows of a snippet, with their names, show it
-pub cause_shown : (r : Renderer) (frame : Frame) (around : ElementContext) (found : List Cell) (s : Snippet Annotation) (rows : List (List Cell)) → IsDrawable s → HasRoomFor r frame (Cause s) → IsCauseDrawn r frame around s rows → ElementShown r frame around found (Cause s) rows
+pub cause_shown : (r : Renderer) (frame : Layout) (around : ElementContext) (found : List Cell) (s : Snippet Annotation) (rows : List (List Cell)) → IsDrawable s → HasRoomFor r frame (Cause s) → IsCauseDrawn r frame around s rows → ElementShown r frame around found (Cause s) rows
 cause_shown r frame around found s rows drawable room drawn =
     let src = numbered_source s in
     let are : AreCauseRows r frame (closes_with around) s drawn.lines = drawn.are in
@@ -131,7 +131,7 @@ cause_shown r frame around found s rows drawable room drawn =
     ∙ ap (λ rs. rs ++ cells_of (named.part ++ others tail)) (cells_of-others head)
     ∙ ap (λ rs. head ++ rs) (cells_of-append named.part (others tail) ∙ ap (λ rs. rs ++ cells_of (others tail)) named.cells
     ∙ ap (λ rs. drawn.lines ++ rs) (cells_of-others tail)) ∙ sym drawn.rows_are in
-    let lines_free : All IsFree drawn.lines = free_from_AreLinesShown (layout_in r frame) are.margin (line_numbers r s.line_numbering) (closes_with around) [] are.infos drawn.lines are.shown in
+    let lines_free : All IsFree drawn.lines = free_from_AreLinesShown frame are.margin (line_numbers r s.line_numbering) (closes_with around) [] are.infos drawn.lines are.shown in
     let all_free : All IsFree (head ++ (drawn.lines ++ tail)) = All-append IsFree head (drawn.lines ++ tail) (head_free r frame around s) (All-append IsFree drawn.lines tail lines_free (after_free r frame around s)) in
     let text : List ℕ = cow_str_bytes s.source in
     let Ends : List ℕ → Type 0 = λ js. All (λ a. Contains js (first_line text a) × Contains js (last_line text a)) s.markers.items in

@@ -12,7 +12,7 @@ use Rattle.snippet_suggest.specs.Rows.{IsTail}
 use Rattle.annotate_snippets.specs.Around.{CanStandIn, begins_in_row_above, context_at, first_two_share}
 use Rattle.annotate_snippets.specs.Drawn.{AddsElement, AddsElements, IsElementDrawn, found_at, last_row}
 use Rattle.annotate_snippets.specs.declared.renderer.Renderer.{Renderer}
-use Rattle.annotate_snippets.specs.declared.renderer.frame.Frame.{Frame}
+use Rattle.snippet_grid.specs.Layout.{Layout}
 use Rattle.annotate_snippets.specs.Prepared.{AreAround, element_of}
 use Rattle.annotate_snippets.specs.declared.renderer.preprocess.PreparedElement.{PreparedElement}
 use Rattle.annotate_snippets.specs.declared.renderer.element_context.GroupPosition.{GroupPosition}
@@ -21,17 +21,17 @@ use Rattle.annotate_snippets.proofs.AroundLaws.{begins_is, can_stand, shared_goe
 
 -- the rows of the first so many of these elements stand below some rows, and nothing else, but the row in which the next one begins,
 -- where it shares that
-pub record DrawnSoFar (r : Renderer) (frame : Frame) (place : GroupPosition) (file : Option (List ℕ)) (es : List Element) (n : ℕ) (old new : List (List Cell)) : Type 0 where
+pub record DrawnSoFar (r : Renderer) (frame : Layout) (place : GroupPosition) (file : Option (List ℕ)) (es : List Element) (n : ℕ) (old new : List (List Cell)) : Type 0 where
   pub parts : List (List (List Cell))
   pub tail : List (List Cell)
   pub added : new ≡ (old ++ flat_map (λ part. part) parts) ++ tail
   pub count : length parts ≡ n
   pub each : (i : ℕ) (e : Element) → i < n → slice_get es i ≡ Some e → IsElementDrawn r frame (context_at place file es i e) (found_at r frame es i) e (slice_index_or parts i [])
-  pub ends : IsTail r.decor_style frame.gutter (shares_before es n) tail
+  pub ends : IsTail frame.decor frame.gutter (shares_before es n) tail
   pub last : shares_before es n ≡ true → tail ≡ found_at r frame es n ∷ []
 
 -- before the first element nothing is drawn
-pub drawn_none : (r : Renderer) (frame : Frame) (place : GroupPosition) (file : Option (List ℕ)) (es : List Element) (old : List (List Cell)) → DrawnSoFar r frame place file es 0 old old
+pub drawn_none : (r : Renderer) (frame : Layout) (place : GroupPosition) (file : Option (List ℕ)) (es : List Element) (old : List (List Cell)) → DrawnSoFar r frame place file es 0 old old
 drawn_none r frame place file es old =
     record {
       parts = [];
@@ -44,7 +44,7 @@ drawn_none r frame place file es old =
     }
 
 -- one more
-pub drawn_more : (r : Renderer) (frame : Frame) (place : GroupPosition) (file : Option (List ℕ)) (es : List Element) (n : ℕ) (e : Element)
+pub drawn_more : (r : Renderer) (frame : Layout) (place : GroupPosition) (file : Option (List ℕ)) (es : List Element) (n : ℕ) (e : Element)
     (old mid new : List (List Cell)) (before : DrawnSoFar r frame place file es n old mid) → slice_get es n ≡ Some e
     → AddsElement r frame (context_at place file es n e) (found_at r frame es n) e (old ++ flat_map (λ part. part) before.parts) new
     → DrawnSoFar r frame place file es (n + 1) old new
@@ -67,7 +67,7 @@ drawn_more r frame place file es n e old mid new before here adds =
                 let same : e ≡ x = same_element es n i e x at here is in
                 subst (λ j. Holds j x) at (subst (λ y. Holds n y) same (subst (λ part. IsElementDrawn r frame (context_at place file es n e) (found_at r frame es n) e part) (sym last) adds.is))
           ];
-      ends = subst (λ b. IsTail r.decor_style frame.gutter b adds.tail) (sym (shares_after es n)) adds.ends;
+      ends = subst (λ b. IsTail frame.decor frame.gutter b adds.tail) (sym (shares_after es n)) adds.ends;
       last = λ shares.
           let shared : first_two_share (drop n es) ≡ true = sym (shares_after es n) ∙ shares in
           adds.last shared ∙ ap (λ ends. last_row r frame (not ends) (Some e) ∷ []) (shared_goes_on es n shared) ∙ ap (λ x. last_row r frame true x ∷ []) (sym here ∙ ap (slice_get es) (one_back n));
@@ -88,9 +88,9 @@ drawn_more r frame place file es n e old mid new before here adds =
         cc
 
 -- all of them
-pub drawn_all : (r : Renderer) (frame : Frame) (place : GroupPosition) (file : Option (List ℕ)) (es : List Element) (n : ℕ) (old new : List (List Cell)) → n ≡ length es → DrawnSoFar r frame place file es n old new → AddsElements r frame place file es old new
+pub drawn_all : (r : Renderer) (frame : Layout) (place : GroupPosition) (file : Option (List ℕ)) (es : List Element) (n : ℕ) (old new : List (List Cell)) → n ≡ length es → DrawnSoFar r frame place file es n old new → AddsElements r frame place file es old new
 drawn_all r frame place file es n old new all drawn =
-    let none : drawn.tail ≡ [] = subst (λ b. IsTail r.decor_style frame.gutter b drawn.tail) (ap (shares_before es) all ∙ shares_end es) drawn.ends in
+    let none : drawn.tail ≡ [] = subst (λ b. IsTail frame.decor frame.gutter b drawn.tail) (ap (shares_before es) all ∙ shares_end es) drawn.ends in
     record {
       parts = drawn.parts;
       added = drawn.added ∙ ap (λ rows. (old ++ flat_map (λ part. part) drawn.parts) ++ rows) none ∙ append-nil (old ++ flat_map (λ part. part) drawn.parts);
@@ -142,12 +142,12 @@ turn_stands place file ps around n i p at are turn is =
     subst (λ a. CanStandIn a (element_of p)) (sym (turn_around place file ps around n i p at are turn is)) (can_stand place file (map element_of ps) n (element_of p) (get-mapped element_of ps n p item.1))
 
 -- its rows stand below those before it
-pub turn_drawn : (r : Renderer) (frame : Frame) (place : GroupPosition) (file : Option (List ℕ)) (ps : List PreparedElement)
+pub turn_drawn : (r : Renderer) (frame : Layout) (place : GroupPosition) (file : Option (List ℕ)) (ps : List PreparedElement)
     (around : List ElementContext) (n m i : ℕ) (p : PreparedElement) (at : ElementContext) (old mid new : List (List Cell))
     → AreAround place file (map element_of ps) around → (n < length (enumerate_from 0 ps)) × ((i, p) ≡ get_or (enumerate_from 0 ps) n (i, p))
     → at ≡ slice_index_or around i at → m ≡ n + 1 → DrawnSoFar r frame place file (map element_of ps) n old mid
     → ((above tail : List (List Cell)) (found : List Cell) → mid ≡ above ++ tail
-    → IsTail r.decor_style frame.gutter (begins_in_row_above at) tail → (begins_in_row_above at ≡ true → tail ≡ found ∷ [])
+    → IsTail frame.decor frame.gutter (begins_in_row_above at) tail → (begins_in_row_above at ≡ true → tail ≡ found ∷ [])
     → AddsElement r frame at found (element_of p) above new) → DrawnSoFar r frame place file (map element_of ps) m old new
 turn_drawn r frame place file ps around n m i p at old mid new are turn is next before adds =
     let es : List Element = map element_of ps in
@@ -156,11 +156,11 @@ turn_drawn r frame place file ps around n m i p at old mid new are turn is next 
     let at_is : at ≡ context_at place file es n e = turn_around place file ps around n i p at are turn is in
     let begins : begins_in_row_above at ≡ shares_before es n = ap begins_in_row_above at_is ∙ begins_is place file es n e here in
     let above : List (List Cell) = old ++ flat_map (λ part. part) before.parts in
-    let added : AddsElement r frame at (found_at r frame es n) e above new = adds above before.tail (found_at r frame es n) before.added (subst (λ b. IsTail r.decor_style frame.gutter b before.tail) (sym begins) before.ends) (λ starts. before.last (sym begins ∙ starts)) in
+    let added : AddsElement r frame at (found_at r frame es n) e above new = adds above before.tail (found_at r frame es n) before.added (subst (λ b. IsTail frame.decor frame.gutter b before.tail) (sym begins) before.ends) (λ starts. before.last (sym begins ∙ starts)) in
     subst (λ k. DrawnSoFar r frame place file es k old new) (sym next) (drawn_more r frame place file es n e old mid new before here (subst (λ a. AddsElement r frame a (found_at r frame es n) e above new) at_is added))
 
 -- after the last all are drawn
-pub turns_all : (r : Renderer) (frame : Frame) (place : GroupPosition) (file : Option (List ℕ)) (ps : List PreparedElement) (n : ℕ)
+pub turns_all : (r : Renderer) (frame : Layout) (place : GroupPosition) (file : Option (List ℕ)) (ps : List PreparedElement) (n : ℕ)
     (old new : List (List Cell)) → n ≡ length (enumerate_from 0 ps) → DrawnSoFar r frame place file (map element_of ps) n old new
     → AddsElements r frame place file (map element_of ps) old new
 turns_all r frame place file ps n old new all drawn =

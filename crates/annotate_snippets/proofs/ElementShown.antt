@@ -7,12 +7,12 @@ use Rattle.annotate_snippets.specs.GraphicForm.{element_rows}
 use Rattle.annotate_snippets.specs.Page.{NamedRow, cells_of}
 use Rattle.annotate_snippets.specs.Shown.{IsFreeElement, ShowsElement}
 use Rattle.annotate_snippets.specs.declared.renderer.Renderer.{Renderer}
-use Rattle.annotate_snippets.specs.declared.renderer.frame.Frame.{Frame}
+use Rattle.snippet_grid.specs.Layout.{Layout}
 use Rattle.annotate_snippets.specs.declared.renderer.element_context.ElementContext.{ElementContext}
 
 -- rows that show an element once they have names, with which they are those of its value; and they hold no listed character but a message's own; and no line feed, where its texts
 -- bring none
-pub record ElementShown (r : Renderer) (frame : Frame) (around : ElementContext) (found : List Cell) (e : Element) (rows : List (List Cell)) : Type 0 where
+pub record ElementShown (r : Renderer) (frame : Layout) (around : ElementContext) (found : List Cell) (e : Element) (rows : List (List Cell)) : Type 0 where
   pub part : List NamedRow
   pub value : part ≡ element_rows r frame around found e
   pub cells : cells_of part ≡ rows

@@ -13,7 +13,7 @@ use Rattle.snippet_style.specs.declared.role.ElementStyle.TheVariants.{LineNumbe
 use Rattle.snippet_strokes.specs.EntryMarks.{IsBarCell}
 use Rattle.snippet_strokes.specs.Rows.{bare_elision_row}
 use Rattle.snippet_marks.specs.SourceRows.{bare_row}
-use Rattle.annotate_snippets.specs.declared.renderer.frame.Frame.{Frame}
+use Rattle.snippet_grid.specs.Layout.{Layout}
 use Rattle.annotate_snippets.specs.Feeds.{HasNoFeed, HoldsNoFeed, IsNoFeed}
 use Rattle.annotate_snippets.specs.Shown.{IsElided}
 use Rattle.annotate_snippets.proofs.ListLemmas.{from_any}
@@ -71,7 +71,7 @@ bare_elision Unicode gutter =
     after_spaces (gutter + 1) (text_cells LineNumber (elision_of Unicode)) (one (unlinked_cell LineNumber 0x2506) refl)
 
 -- a row in place of lines that are left out holds none
-pub elided : (decor : DecorStyle) (frame : Frame) (row : List Cell) → IsElided decor frame row → HasNoFeed row
+pub elided : (decor : DecorStyle) (frame : Layout) (row : List Cell) → IsElided decor frame row → HasNoFeed row
 elided decor frame row shown =
     All-from_get_or HoldsNoFeed row SPACE (λ c within. elim (cases_lt c (frame.gutter + 3)) [
       | inl left ↦ subst HoldsNoFeed (sym (shown.is.left c left)) (at_any (bare_elision_row decor frame.gutter) (bare_elision decor frame.gutter) c)

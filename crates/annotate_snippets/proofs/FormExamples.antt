@@ -1,8 +1,9 @@
 -- The graphic form, computed on small sources. In these LF is 10.
-use Rattle.std.proofs.Common.{◌≡◌, ℕ, ◌<◌, ◌^◌, Bool, true, false, None, Some, Vec, List, [], ◌∷◌, ◌++◌, codes, length, map, refl, arith}
+use Rattle.std.proofs.Common.{◌≡◌, ℕ, ◌<◌, ◌^◌, true, false, None, Some, Vec, List, [], ◌∷◌, codes, length, map, refl, arith}
 use Rattle.std.specs.declared.alloc.Global.{Global}
 use Rattle.std.specs.Fmt.{digits}
 use Rattle.std.specs.Str.{chars}
+use Rattle.snippet_style.specs.declared.glyphs.DecorStyle.TheVariants.{Ascii}
 use Rattle.snippet_grid.specs.Print.{row_text}
 use Rattle.snippet_model.specs.declared.snippet.Annotation.{Annotation}
 use Rattle.snippet_model.specs.declared.snippet.AnnotationKind.{AnnotationKind}
@@ -78,7 +79,7 @@ names_of_rows v = refl
 --     2 | | b
 --     3 | | c
 --       | |_^
-one_bar : (v : Vec Annotation Global) → texts_of (rows_of_lines plain_settings (record { gutter = 1; code = 6 }) false (marked v (codes "a\nb\nc") (span_of Primary 0 5 ∷ []) (omega arith)) [] (0 ∷ 1 ∷ 2 ∷ [])) ≡ codes "1 | / a" ∷ codes "2 | | b" ∷ codes "3 | | c" ∷ codes "  | |_^" ∷ []
+one_bar : (v : Vec Annotation Global) → texts_of (rows_of_lines plain_settings (record { gutter = 1; code = 6; decor = Ascii }) false (marked v (codes "a\nb\nc") (span_of Primary 0 5 ∷ []) (omega arith)) [] (0 ∷ 1 ∷ 2 ∷ [])) ≡ codes "1 | / a" ∷ codes "2 | | b" ∷ codes "3 | | c" ∷ codes "  | |_^" ∷ []
 unfolding place_of line_of start_of chars char_width unicode_width norm locations_of start_location location_of end_location steps_after_text written digits
 one_bar v = refl
 

@@ -8,12 +8,13 @@ use Rattle.std.proofs.lemmas.List.FromFn.{length-enumerate_from}
 use Rattle.std.proofs.lemmas.Option.{slice_get-get_or, slice_get_within}
 use Rattle.snippet_model.specs.declared.snippet.Group.{Group}
 use Rattle.snippet_view.proofs.PartLemmas.{All-unmapped}
+use Rattle.snippet_style.specs.declared.glyphs.DecorStyle.{DecorStyle}
 use Rattle.annotate_snippets.specs.Around.{drawn_elements, file_of_group, place_at}
 use Rattle.annotate_snippets.specs.Drawn.{AreGridsOf, HasRoomFor, IsGroupGrid}
 use Rattle.annotate_snippets.specs.Gutter.{code_after, depth_of_group, frame_of, gutter_of_report}
 use Rattle.annotate_snippets.specs.Prepared.{IsGroupDrawable, IsGroupPrepared, element_of}
 use Rattle.annotate_snippets.specs.declared.renderer.Renderer.{Renderer}
-use Rattle.annotate_snippets.specs.declared.renderer.frame.Frame.{Frame}
+use Rattle.snippet_grid.specs.Layout.{Layout}
 use Rattle.annotate_snippets.specs.declared.renderer.graphic.GroupGrid.{GroupGrid}
 use Rattle.annotate_snippets.specs.declared.renderer.preprocess.PreparedGroup.{PreparedGroup}
 use Rattle.annotate_snippets.specs.declared.renderer.element_context.GroupPosition.{GroupPosition}
@@ -45,16 +46,16 @@ copied_or None b = refl
 copied_or (Some x) b = refl
 
 -- a frame, by its parts
-abbrev framed : ℕ → ℕ → Frame
-framed gutter code = record { gutter = gutter; code = code }
+abbrev framed : ℕ → ℕ → DecorStyle → Layout
+framed gutter code decor = record { gutter = gutter; code = code; decor = decor }
 
 -- the frame is the one that the report gives the group
-pub frame_is : (r : Renderer) (groups gs : List Group) (g : Group) (frame : Frame) (gutter depth : ℕ) → gs ≡ groups → gutter ≡ gutter_of_report r gs → depth ≡ depth_of_group g → frame.gutter ≡ gutter → frame.code ≡ code_after gutter depth → frame ≡ frame_of r groups g
-frame_is r groups gs g frame gutter depth same wide deep left code =
+pub frame_is : (r : Renderer) (groups gs : List Group) (g : Group) (frame : Layout) (gutter depth : ℕ) → gs ≡ groups → gutter ≡ gutter_of_report r gs → depth ≡ depth_of_group g → frame.gutter ≡ gutter → frame.code ≡ code_after gutter depth → frame.decor ≡ r.decor_style → frame ≡ frame_of r groups g
+frame_is r groups gs g frame gutter depth same wide deep left code decor =
     let wanted : gutter ≡ gutter_of_report r groups = wide ∙ ap (gutter_of_report r) same in
     let after : frame.code ≡ code_after (gutter_of_report r groups) (depth_of_group g) = code ∙ ap (λ w. code_after w depth) wanted ∙ ap (code_after (gutter_of_report r groups)) deep in
-    let first : ◌≡◌ {A = Frame} frame (record { gutter = gutter_of_report r groups; code = frame.code }) = ap (λ w. framed w frame.code) (left ∙ wanted) in
-    first ∙ ap (framed (gutter_of_report r groups)) after
+    let first : ◌≡◌ {A = Layout} frame (record { gutter = gutter_of_report r groups; code = frame.code; decor = frame.decor }) = ap (λ w. framed w frame.code frame.decor) (left ∙ wanted) in
+    first ∙ ap (λ c. framed (gutter_of_report r groups) c frame.decor) after ∙ ap (framed (gutter_of_report r groups) (code_after (gutter_of_report r groups) (depth_of_group g))) decor
 
 -- an iteration's group is the next of the report
 pub turn_group : (groups : List Group) (ps : List PreparedGroup) (n i : ℕ) (p : PreparedGroup) → map group_of ps ≡ groups → (n < length (enumerate_from 0 ps)) × ((i, p) ≡ get_or (enumerate_from 0 ps) n (i, p)) → slice_get groups n ≡ Some p.group.now
@@ -71,7 +72,7 @@ turn_prepared ps n i p all turn =
     subst IsGroupPrepared is (all n p within)
 
 -- the frame has room for its elements
-pub turn_room : (r : Renderer) (groups : List Group) (ps : List PreparedGroup) (n i : ℕ) (p : PreparedGroup) (frame : Frame)
+pub turn_room : (r : Renderer) (groups : List Group) (ps : List PreparedGroup) (n i : ℕ) (p : PreparedGroup) (frame : Layout)
     → All IsGroupDrawable groups → IsGroupPrepared p → map group_of ps ≡ groups
     → (n < length (enumerate_from 0 ps)) × ((i, p) ≡ get_or (enumerate_from 0 ps) n (i, p)) → frame ≡ frame_of r groups p.group.now
     → All (λ e. HasRoomFor r frame (element_of e)) p.elements.items
@@ -79,7 +80,7 @@ turn_room r groups ps n i p frame drawable prepared same turn is =
     All-unmapped (HasRoomFor r frame) element_of p.elements.items (subst (λ es. All (HasRoomFor r frame) es) (sym prepared.elements_are) (subst (λ f. All (HasRoomFor r f) (drawn_elements p.group.now)) (sym is) (room_in_report r groups drawable n p.group.now (turn_group groups ps n i p same turn))))
 
 -- one more grid
-pub turn_grid : (r : Renderer) (groups : List Group) (ps : List PreparedGroup) (n m i : ℕ) (p : PreparedGroup) (frame : Frame) (place : GroupPosition)
+pub turn_grid : (r : Renderer) (groups : List Group) (ps : List PreparedGroup) (n m i : ℕ) (p : PreparedGroup) (frame : Layout) (place : GroupPosition)
     (file : Option (List ℕ)) (grid : GroupGrid) (grids new : List GroupGrid) → map group_of ps ≡ groups
     → (n < length (enumerate_from 0 ps)) × ((i, p) ≡ get_or (enumerate_from 0 ps) n (i, p)) → frame ≡ frame_of r groups p.group.now
     → place ≡ place_at (length groups) i → file ≡ file_of_group groups p.group.now → grid.level ≡ p.group.now.level

@@ -33,7 +33,7 @@ use Rattle.annotate_snippets.specs.Prepared.{IsElementDrawable, IsGroupDrawable}
 use Rattle.annotate_snippets.specs.Rows.{rows_after_title, title_part}
 use Rattle.annotate_snippets.specs.Shown.{IsFreeBut, IsFreeElement, ShowsElement}
 use Rattle.annotate_snippets.specs.declared.renderer.Renderer.{Renderer}
-use Rattle.annotate_snippets.specs.declared.renderer.frame.Frame.{Frame}
+use Rattle.snippet_grid.specs.Layout.{Layout}
 use Rattle.annotate_snippets.specs.declared.renderer.element_context.GroupPosition.{GroupPosition}
 use Rattle.annotate_snippets.specs.declared.renderer.element_context.Next.{Next}
 use Rattle.annotate_snippets.specs.declared.renderer.element_context.ElementContext.{ElementContext}
@@ -47,7 +47,7 @@ use Rattle.annotate_snippets.proofs.SuggestionShown.{suggestion_shown}
 use Rattle.annotate_snippets.proofs.TrustedLemmas.{AreTextsAmong, IsFreeRow, after_title-free, element-free, free_text, texts_among, title_part-free}
 
 -- the rows of an element that is drawn show it
-pub element_shown : (r : Renderer) (frame : Frame) (around : ElementContext) (found : List Cell) (e : Element) (rows : List (List Cell)) → IsElementDrawable e → is_drawn e ≡ true → HasRoomFor r frame e → IsElementDrawn r frame around found e rows → ElementShown r frame around found e rows
+pub element_shown : (r : Renderer) (frame : Layout) (around : ElementContext) (found : List Cell) (e : Element) (rows : List (List Cell)) → IsElementDrawable e → is_drawn e ≡ true → HasRoomFor r frame e → IsElementDrawn r frame around found e rows → ElementShown r frame around found e rows
 element_shown r frame around found (Message message) rows drawable drawn room is = message_shown r frame around found message rows is
 element_shown r frame around found (Cause snippet) rows drawable drawn room is = cause_shown r frame around found snippet rows drawable room is
 element_shown r frame around found (Suggestion snippet) rows drawable drawn room is =
@@ -101,9 +101,9 @@ no_links rows none =
         ]
 
 -- the rows of an element link to nothing
-element-unlinked : (r : Renderer) (frame : Frame) (around : ElementContext) (found : List Cell) (e : Element) (part : List NamedRow) → ShowsElement r frame around found e part → IsFreeElement e part → All IsUnlinked (cells_of part)
+element-unlinked : (r : Renderer) (frame : Layout) (around : ElementContext) (found : List Cell) (e : Element) (part : List NamedRow) → ShowsElement r frame around found e part → IsFreeElement e part → All IsUnlinked (cells_of part)
 element-unlinked r frame around found (Message message) part shows free =
-    subst (All IsUnlinked) (sym shows.shows.rows_are) (message_rows-unlinked r.hyperlink (record { gutter = frame.gutter; decor = r.decor_style; followed = not (is_end around.next) }) (heading_of_message message) refl)
+    subst (All IsUnlinked) (sym shows.shows.rows_are) (message_rows-unlinked r.hyperlink (record { frame = frame; followed = not (is_end around.next) }) (heading_of_message message) refl)
 element-unlinked r frame around found (Cause snippet) part shows free =
     free_unlinked (cells_of part) (All-map IsFree (λ (row : NamedRow). row.cells) part free)
 element-unlinked r frame around found (Suggestion snippet) part shows free =
@@ -119,13 +119,13 @@ links-append xs ys none =
     flat_map-append (λ row. links_after None row) xs ys ∙ ap (λ urls. links_of xs ++ urls) (no_links ys none) ∙ append-nil (links_of xs)
 
 -- a title's part of a group links to what the title's id links to
-title_part-links : (r : Renderer) (frame : Frame) (place : GroupPosition) (follows : Next) (title : Option Title) → links_of (title_part r frame place follows title) ≡ flat_map (λ (t : Title). id_links r.hyperlink t.id) (option_to_list title)
+title_part-links : (r : Renderer) (frame : Layout) (place : GroupPosition) (follows : Next) (title : Option Title) → links_of (title_part r frame place follows title) ≡ flat_map (λ (t : Title). id_links r.hyperlink t.id) (option_to_list title)
 title_part-links r frame place follows None = refl
 title_part-links r frame place follows (Some title) =
     let after : List (List Cell) = rows_after_title r frame place follows title.allows_styling in
     links-append (title_rows r.hyperlink title) after (free_unlinked after (after_title-free r frame place follows title.allows_styling)) ∙ title_rows-links r.hyperlink title ∙ sym (append-nil (id_links r.hyperlink title.id))
 
-module _ (r : Renderer) (frame : Frame) (place : GroupPosition) (file : Option (List ℕ)) (es : List Element) (parts : List (List (List Cell))) where
+module _ (r : Renderer) (frame : Layout) (place : GroupPosition) (file : Option (List ℕ)) (es : List Element) (parts : List (List (List Cell))) where
   -- rows with names that show element i, and are part i without them
   record IsPartShown (i : ℕ) (e : Element) (part : List NamedRow) : Type 0 where
     value : part ≡ element_rows r frame (context_at place file es i e) (found_at r frame es i) e
@@ -225,7 +225,7 @@ module _ (r : Renderer) (frame : Frame) (place : GroupPosition) (file : Option (
           (names.each i e.0 e.1).one_line (subst IsOneLineElement own (All-get_or IsOneLineElement es i e.0 (slice_get_within es i e.0 e.1) plain))
 
 -- the rows of a group show it: each part that is drawn shows its element
-pub group_shown : (r : Renderer) (frame : Frame) (place : GroupPosition) (file : Option (List ℕ)) (g : Group) (rows : List (List Cell)) → IsGroupDrawable g → All (HasRoomFor r frame) (drawn_elements g) → IsGroupGrid r frame place file g rows → GroupShown r frame place file g rows
+pub group_shown : (r : Renderer) (frame : Layout) (place : GroupPosition) (file : Option (List ℕ)) (g : Group) (rows : List (List Cell)) → IsGroupDrawable g → All (HasRoomFor r frame) (drawn_elements g) → IsGroupGrid r frame place file g rows → GroupShown r frame place file g rows
 group_shown r frame place file g rows drawable room grid =
     let es : List Element = drawn_elements g in
     let parts : List (List (List Cell)) = grid.parts in

@@ -14,12 +14,12 @@ use Rattle.annotate_snippets.specs.GraphicForm.{group_page}
 use Rattle.annotate_snippets.specs.Page.{GroupPage, group_rows}
 use Rattle.annotate_snippets.specs.Shown.{IsFreeBut, ShowsGroup}
 use Rattle.annotate_snippets.specs.declared.renderer.Renderer.{Renderer}
-use Rattle.annotate_snippets.specs.declared.renderer.frame.Frame.{Frame}
+use Rattle.snippet_grid.specs.Layout.{Layout}
 use Rattle.annotate_snippets.specs.declared.renderer.element_context.GroupPosition.{GroupPosition}
 
 -- rows that show a group once they have names, with which they are its page: they link to what its title links to, and each listed character of them is one of
 -- its trusted texts; and they hold no line feed, where its texts bring none
-pub record GroupShown (r : Renderer) (frame : Frame) (place : GroupPosition) (file : Option (List ℕ)) (g : Group) (rows : List (List Cell)) : Type 0 where
+pub record GroupShown (r : Renderer) (frame : Layout) (place : GroupPosition) (file : Option (List ℕ)) (g : Group) (rows : List (List Cell)) : Type 0 where
   pub page : GroupPage
   pub value : page ≡ group_page r frame place file g
   pub rows_are : rows ≡ group_rows page

@@ -33,7 +33,7 @@ use Rattle.annotate_snippets.specs.Drawn.{HasRoomFor}
 use Rattle.annotate_snippets.specs.Prepared.{IsDrawable}
 use Rattle.annotate_snippets.specs.Gutter.{gutter_of, line_numbers, numbered_source}
 use Rattle.annotate_snippets.specs.declared.renderer.Renderer.{Renderer}
-use Rattle.annotate_snippets.specs.declared.renderer.frame.Frame.{Frame}
+use Rattle.snippet_grid.specs.Layout.{Layout}
 use Rattle.snippet_model.specs.declared.snippet.Element.TheVariants.{Cause}
 use Rattle.annotate_snippets.proofs.ListLemmas.{from_any}
 use Rattle.annotate_snippets.proofs.PartsFacts.{shown_within}
@@ -205,7 +205,7 @@ length-shown Anonymized gutter number fits =
 length-shown Hidden gutter number fits = omega (arith, length-replicate {A = ℕ} gutter 32)
 
 -- a frame with room for a snippet has it for the number counted
-pub counted-width : (r : Renderer) (frame : Frame) (s : Snippet Annotation) → HasRoomFor r frame (Cause s) → number_width (line_numbers r s.line_numbering) (counted_number s) ≤ frame.gutter
+pub counted-width : (r : Renderer) (frame : Layout) (s : Snippet Annotation) → HasRoomFor r frame (Cause s) → number_width (line_numbers r s.line_numbering) (counted_number s) ≤ frame.gutter
 counted-width r frame s room = by_cases s.line_numbering refl r.anonymized_snippet_line_numbers refl
   where
     by_cases : (numbered : Bool) → s.line_numbering ≡ numbered → (anonymized : Bool) → r.anonymized_snippet_line_numbers ≡ anonymized → number_width (cond numbered (cond anonymized Anonymized Shown) Hidden) (counted_number s) ≤ frame.gutter
@@ -224,7 +224,7 @@ counted-small s fits =
     omega (arith, length-source_lines source)
 
 -- what the gutter shows beside the lines of a snippet takes at most one cell more than the gutter has
-pub numbers_fit : (r : Renderer) (frame : Frame) (s : Snippet Annotation) (infos : List AnnotatedLineInfo) → HasRoomFor r frame (Cause s)
+pub numbers_fit : (r : Renderer) (frame : Layout) (s : Snippet Annotation) (infos : List AnnotatedLineInfo) → HasRoomFor r frame (Cause s)
     → IsDrawable s → map seen_kept infos ≡ map (kept_line (numbered_source s) s.markers.items)
     (shown_lines s.fold (cow_str_bytes s.source) s.markers.items)
     → All (λ info. length (shown_number (line_numbers r s.line_numbering) frame.gutter info.line_index) ≤ frame.gutter + 1) infos

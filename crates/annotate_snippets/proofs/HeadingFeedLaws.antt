@@ -23,7 +23,7 @@ use Rattle.snippet_titles.specs.declared.style.TitleStyle.{TitleStyle}
 use Rattle.snippet_titles.specs.declared.style.TitleStyle.TheVariants.{Message, Short, Title}
 use Rattle.snippet_titles.proofs.FreeLemmas.{All-trimmed}
 use Rattle.annotate_snippets.specs.declared.renderer.Renderer.{Renderer}
-use Rattle.annotate_snippets.specs.declared.renderer.frame.Frame.{Frame}
+use Rattle.snippet_grid.specs.Layout.{Layout}
 use Rattle.annotate_snippets.specs.declared.renderer.element_context.GroupPosition.{GroupPosition}
 use Rattle.annotate_snippets.specs.declared.renderer.element_context.Next.{Next as NextElement}
 use Rattle.annotate_snippets.specs.Around.{is_before_message}
@@ -86,8 +86,8 @@ sign_plain : (style : TitleStyle) → HasNoFeed (sign_cells style)
 sign_plain Title = All-nil HoldsNoFeed
 sign_plain Short = All-nil HoldsNoFeed
 sign_plain (Message place) =
-    let sign : List ℕ = note_sign_of place.decor place.followed in
-    after_spaces (place.gutter + 1) (text_cells LineNumber sign) (cells_plain LineNumber sign (by_decor place.decor place.followed))
+    let sign : List ℕ = note_sign_of place.frame.decor place.followed in
+    after_spaces (place.frame.gutter + 1) (text_cells LineNumber sign) (cells_plain LineNumber sign (by_decor place.frame.decor place.followed))
   where
     by_decor : (decor : DecorStyle) (followed : Bool) → All IsNoFeed (note_sign_of decor followed)
     by_decor Ascii followed = All-cons IsNoFeed 61 (32 ∷ []) refl (alone 32 refl)
@@ -98,8 +98,8 @@ indent_plain : (style : TitleStyle) (width : ℕ) → HasNoFeed (indent_cells st
 indent_plain Title width = blank width
 indent_plain Short width = blank width
 indent_plain (Message place) width =
-    let bar : Cell = note_bar_of place.decor place.followed in
-    after_spaces (place.gutter + 1) (bar ∷ replicate (width + 1) SPACE) (All-cons HoldsNoFeed bar (replicate (width + 1) SPACE) (by_decor place.decor place.followed) (blank (width + 1)))
+    let bar : Cell = note_bar_of place.frame.decor place.followed in
+    after_spaces (place.frame.gutter + 1) (bar ∷ replicate (width + 1) SPACE) (All-cons HoldsNoFeed bar (replicate (width + 1) SPACE) (by_decor place.frame.decor place.followed) (blank (width + 1)))
   where
     by_decor : (decor : DecorStyle) (followed : Bool) → HoldsNoFeed (note_bar_of decor followed)
     by_decor Ascii followed = refl
@@ -148,7 +148,7 @@ heading_one_line hyperlink style heading plain =
     All-trimmed HasNoFeed (lines_below (sign ++ label) indent roles.text (heading_lines heading)) (lines_plain (sign ++ label) indent roles.text (heading_lines heading) begun (indent_plain style (label_width heading)) (parts_plain (shown_text heading)))
 
 -- so no row of a group's title does, and none below it
-pub title_part-one_line : (r : Renderer) (frame : Frame) (place : GroupPosition) (follows : NextElement) (title : Option TitleGiven) → IfSome title IsOneLineTitle → All HasNoFeed (title_part r frame place follows title)
+pub title_part-one_line : (r : Renderer) (frame : Layout) (place : GroupPosition) (follows : NextElement) (title : Option TitleGiven) → IfSome title IsOneLineTitle → All HasNoFeed (title_part r frame place follows title)
 title_part-one_line r frame place follows None plain = All-nil HasNoFeed
 title_part-one_line r frame place follows (Some title) plain =
     let own : List (List Cell) = title_rows r.hyperlink title in
@@ -156,5 +156,5 @@ title_part-one_line r frame place follows (Some title) plain =
     All-append HasNoFeed own after (heading_one_line r.hyperlink Title (heading_of_title title) plain) (below (is_before_message follows) _)
   where
     below : (before closes : Bool) → All HasNoFeed (cond before (separator_rows r frame) (cond closes (closing_rows r frame) []))
-    below true closes = All-cons HasNoFeed _ [] (bare_plain r.decor_style frame.gutter false) (All-nil HasNoFeed)
+    below true closes = All-cons HasNoFeed _ [] (bare_plain frame.decor frame.gutter false) (All-nil HasNoFeed)
     below false closes = closing_rows-plain r frame closes

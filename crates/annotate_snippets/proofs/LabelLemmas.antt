@@ -28,7 +28,6 @@ use Rattle.snippet_marks.specs.Entries.{label_role, label_text, shifted}
 use Rattle.snippet_strokes.specs.Labels.{IsLabelledAtEnd, IsLedTo, LabelsStand, PlacedLabel, StandsIn, is_cell_of}
 use Rattle.snippet_marks.specs.Positions.{is_start_part}
 use Rattle.snippet_grid.specs.Layout.{Layout}
-use Rattle.annotate_snippets.specs.declared.renderer.frame.Frame.{Frame}
 use Rattle.annotate_snippets.specs.Shown.{HasStem, ShowsLabel, ShowsLabels, ShownLabel, SpanLabel, promoted_spans, is_in_label, label_of_end, label_of_span, normalized_chars, shown_label}
 use Rattle.annotate_snippets.proofs.MarkLemmas.{end_of_entry, label_is, start_of_entry}
 
@@ -107,7 +106,7 @@ labels_are (e ∷ es) (l ∷ ls) long =
     both true rest = ap (λ xs. label_of_part (seen_part e) ∷ xs) rest
     both false rest = rest
 
-module _ (dropped : ℕ) (frame : Frame) (layout : Layout) (code : layout.code ≡ frame.code) (rows : List (List Cell)) where
+module _ (dropped : ℕ) (frame : Layout) (layout : Layout) (code : layout.code ≡ frame.code) (rows : List (List Cell)) where
   abbrev IsClear : LineAnnotation → Type 0
   IsClear e = is_bar e.annotation_type ≡ false → dropped ≤ e.start.display
 
@@ -298,7 +297,7 @@ single_labels s k (a ∷ marked) own =
 -- ---- the labels of a line
 
 -- the labels of the spans that end on line k stand below it, whatever other entries the line has
-pub labels_shown : (sn : Snippet Annotation) (k dropped : ℕ) (frame : Frame) (layout : Layout) (es : List LineAnnotation) (rows : List (List Cell))
+pub labels_shown : (sn : Snippet Annotation) (k dropped : ℕ) (frame : Layout) (layout : Layout) (es : List LineAnnotation) (rows : List (List Cell))
     → layout.code ≡ frame.code → map seen_part es ≡ parts_on (numbered_source sn) sn.markers.items k
     → All (λ e. is_bar e.annotation_type ≡ false → dropped ≤ e.start.display) es → LabelsStand layout (map (shifted dropped) es) rows
     → ShowsLabels layout.decor frame sn k dropped rows

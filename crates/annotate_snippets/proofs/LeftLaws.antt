@@ -16,7 +16,6 @@ use Rattle.snippet_strokes.specs.Rows.{bare_elision_row}
 use Rattle.snippet_grid.specs.Layout.{Layout}
 use Rattle.snippet_strokes.proofs.BegunLemmas.{same_front}
 use Rattle.snippet_strokes.proofs.RowLemmas.{bare_row_left}
-use Rattle.annotate_snippets.specs.declared.renderer.frame.Frame.{Frame}
 use Rattle.annotate_snippets.specs.Shown.{IsElided, IsRowBelow, cells_left}
 use Rattle.snippet_grid.proofs.RowLemmas.{row_text-text_cells}
 
@@ -105,7 +104,7 @@ module _ (layout : Layout) (shown : List ℕ) (cells plain row : List Cell) (fit
       same (layout.gutter + 2) (omega arith) ∙ is.blank (layout.gutter + 2) (omega (arith, fits)) (λ at. omega (arith, at)) (omega (arith, place))
 
 -- no row below a line holds a letter or digit in the gutter
-pub unnumbered_below : (decor : DecorStyle) (frame : Frame) (closes : Bool) (row : List Cell) → IsRowBelow decor frame closes row → HasNoNumber frame.gutter row
+pub unnumbered_below : (decor : DecorStyle) (frame : Layout) (closes : Bool) (row : List Cell) → IsRowBelow decor frame closes row → HasNoNumber frame.gutter row
 unnumbered_below decor frame closes row is c left =
     ap (λ (cell : Cell). is_ascii_alphanumeric cell.ch) (is.left c (omega (arith, left)) ∙ bare_row_left decor frame.gutter closes c left)
 
@@ -119,7 +118,7 @@ bare_unnumbered Unicode gutter c left =
     ap (λ (cell : Cell). is_ascii_alphanumeric cell.ch) (get_or_append_left (replicate (gutter + 1) SPACE) (text_cells LineNumber (elision_of Unicode)) SPACE c (omega (arith, left, length-replicate (gutter + 1) SPACE)) ∙ get_or-replicate (gutter + 1) c SPACE SPACE (omega (arith, left)))
 
 -- the row for lines that are left out has no number
-pub unnumbered_elided : (decor : DecorStyle) (frame : Frame) (row : List Cell) → IsElided decor frame row → HasNoNumber frame.gutter row
+pub unnumbered_elided : (decor : DecorStyle) (frame : Layout) (row : List Cell) → IsElided decor frame row → HasNoNumber frame.gutter row
 unnumbered_elided decor frame row shown c left =
     ap (λ (cell : Cell). is_ascii_alphanumeric cell.ch) (shown.is.left c (omega (arith, left))) ∙ bare_unnumbered decor frame.gutter c left
 

@@ -49,8 +49,6 @@ use Rattle.snippet_marks.proofs.PlacedLemmas.{entries_all}
 use Rattle.snippet_strokes.proofs.StemWrites.{All-stem_of, All-stems_of}
 use Rattle.snippet_strokes.proofs.WriteLaws.{All-flat_map, painted-cell}
 use Rattle.annotate_snippets.specs.declared.renderer.Renderer.{Renderer}
-use Rattle.annotate_snippets.specs.declared.renderer.frame.Frame.{Frame}
-use Rattle.annotate_snippets.specs.Drawn.{layout_in}
 use Rattle.annotate_snippets.specs.Feeds.{HasNoFeed, HoldsNoFeed, IsNoFeed, IsOneLineLabel, IsOneLineText}
 use Rattle.annotate_snippets.specs.Gutter.{numbered_source}
 use Rattle.annotate_snippets.specs.LineRows.{AreRowsDrawn, IsLineDrawn, IsRowDrawn, entries_on, open_after}
@@ -362,10 +360,10 @@ entries_plain s k es are plain =
 abbrev IsRowOfText : NamedRow → Type 0
 IsRowOfText row = HasNoFeed row.cells
 
-module _ (r : Renderer) (frame : Frame) (closes : Bool) (s : Snippet Annotation) (utf8 : IsUtf8 (cow_str_bytes s.source)) (plain : All IsOneLineLabel s.markers.items) where
+module _ (r : Renderer) (frame : Layout) (closes : Bool) (s : Snippet Annotation) (utf8 : IsUtf8 (cow_str_bytes s.source)) (plain : All IsOneLineLabel s.markers.items) where
   line_below : (open_bars : List Bar) (k : ℕ) (row : List Cell) (below : List (List Cell)) (ends : Bool) → IsLineDrawn r frame ends s open_bars k (row ∷ below) → All HasNoFeed below
   line_below open_bars k row below ends drawn =
-      below_plain (layout_in r frame) drawn.margin.term_width ends drawn.text drawn.dropped open_bars drawn.entries drawn.highlighted row below drawn.drawn (entries_plain s k drawn.entries drawn.are plain)
+      below_plain frame drawn.margin.term_width ends drawn.text drawn.dropped open_bars drawn.entries drawn.highlighted row below drawn.drawn (entries_plain s k drawn.entries drawn.are plain)
 
   one_row : (open_bars : List Bar) (name : RowName) (cells : List Cell) (rows : List NamedRow) → IsRowOf r frame closes s name cells rows
       → IsRowDrawn r frame closes s open_bars name cells rows → All HasNoFeed (rows_below (record { name = name; cells = cells } ∷ rows))
@@ -373,7 +371,7 @@ module _ (r : Renderer) (frame : Frame) (closes : Bool) (s : Snippet Annotation)
   one_row open_bars (SourceRow k) cells rows shows drawn below =
       (source_one_line r frame s k shows.dropped cells shows.line (line_plain (cow_str_bytes s.source) k utf8), line_below open_bars k cells (rows_below rows) _ drawn)
   one_row open_bars Elision cells rows shows drawn below =
-      (elided r.decor_style frame cells shows, subst (All HasNoFeed) (sym drawn.1) (All-nil HasNoFeed))
+      (elided frame.decor frame cells shows, subst (All HasNoFeed) (sym drawn.1) (All-nil HasNoFeed))
   one_row open_bars (OfferedLine j) cells rows shows drawn below = absurd shows
   one_row open_bars (RemovedLine i) cells rows shows drawn below = absurd shows
   one_row open_bars Other cells rows shows drawn below =
@@ -386,7 +384,7 @@ module _ (r : Renderer) (frame : Frame) (closes : Bool) (s : Snippet Annotation)
       All-cons IsRowOfText row rows own.0 (all_rows (open_after s row.name open_bars) rows shows.1 drawn.1 own.1)
 
 -- where no label holds a line feed, no row of a snippet's lines holds one: each is one line of the text
-pub lines_one_line : (r : Renderer) (frame : Frame) (closes : Bool) (s : Snippet Annotation) (rows : List NamedRow)
+pub lines_one_line : (r : Renderer) (frame : Layout) (closes : Bool) (s : Snippet Annotation) (rows : List NamedRow)
     → AreRowsOf r frame closes s rows → AreRowsDrawn r frame closes s [] rows → rows_below rows ≡ []
     → IsUtf8 (cow_str_bytes s.source) → All IsOneLineLabel s.markers.items → All HasNoFeed (cells_of rows)
 lines_one_line r frame closes s rows shows drawn begins utf8 plain =

@@ -41,8 +41,6 @@ use Rattle.snippet_strokes.specs.Bars.{Bar}
 use Rattle.snippet_grid.specs.Layout.{Layout}
 use Rattle.snippet_strokes.proofs.SnippetLemmas.{highlighted_left, highlighted_text}
 use Rattle.annotate_snippets.specs.declared.renderer.Renderer.{Renderer}
-use Rattle.annotate_snippets.specs.declared.renderer.frame.Frame.{Frame}
-use Rattle.annotate_snippets.specs.Drawn.{layout_in}
 use Rattle.annotate_snippets.specs.Gutter.{line_numbers, number_text, numbered_source}
 use Rattle.annotate_snippets.specs.Shown.{IsRowBelow, ShowsLabels, ShowsMarksOf, ShowsSourceLine, bounds_in, cells_left, room_of, shown_label, wide_spans}
 use Rattle.annotate_snippets.proofs.LabelLemmas.{labelled_at_end, labels_shown, head_same, tail_same}
@@ -53,7 +51,7 @@ use Rattle.annotate_snippets.proofs.WindowLemmas.{dropped-none}
 use Rattle.snippet_grid.proofs.RowLemmas.{row_text-text_cells}
 
 -- a row that is as a bare one left of the bars is a row below a line
-pub row_below : (decor : DecorStyle) (frame : Frame) (closes plain : Bool) (es : List LineAnnotation) (rows : List (List Cell)) (i : ℕ)
+pub row_below : (decor : DecorStyle) (frame : Layout) (closes plain : Bool) (es : List LineAnnotation) (rows : List (List Cell)) (i : ℕ)
     → IsStrokeRow (record { gutter = frame.gutter; code = frame.code; decor = decor }) plain es (closes && i + 1 == length rows) (row_at rows i)
     → IsRowBelow decor frame (closes && i + 1 == length rows) (row_at rows i)
 row_below decor frame closes plain es rows i is =
@@ -146,15 +144,15 @@ single_columns dropped es all clear = λ i d within.
     no_bar (MultilineEnd depth) is = refl
     no_bar (MultilineLine depth) is = cc
 
-module _ (r : Renderer) (frame : Frame) (s : Snippet Annotation)
+module _ (r : Renderer) (frame : Layout) (s : Snippet Annotation)
     (spans : All (λ a. IsSpan (cow_str_bytes s.source) a.span.start a.span.end) s.markers.items) (margin : Margin)
     (room : margin.term_width ≡ room_of r frame) (bounds : bounds_of margin ≡ bounds_in r frame s)
     (ordered : (bounds_of margin).left ≤ (bounds_of margin).right) where
   abbrev row_shows : Bool → List Bar → AnnotatedLineInfo → List (List Cell) → Type 0
-  row_shows closes open_bars info rows = strokes.ShowsLine (layout_in r frame) margin (line_numbers r s.line_numbering) closes open_bars info rows
+  row_shows closes open_bars info rows = strokes.ShowsLine frame margin (line_numbers r s.line_numbering) closes open_bars info rows
 
   abbrev placeholder_width : ℕ
-  placeholder_width = length (placeholder_of r.decor_style)
+  placeholder_width = length (placeholder_of frame.decor)
 
   module _ (closes : Bool) (open_bars : List Bar) (k : ℕ) (info : AnnotatedLineInfo) (rows : List (List Cell))
       (within : k < length (source_lines (cow_str_bytes s.source))) (seen : seen_kept info ≡ kept_line (numbered_source s) s.markers.items k)
@@ -176,7 +174,7 @@ module _ (r : Renderer) (frame : Frame) (s : Snippet Annotation)
     line_text = ap (λ bytes. norm (chars bytes)) (ap (λ (l : KeptLine). l.text) seen)
 
     -- as many entries are wide as spans
-    wide_is : wide_entries margin.term_width r.decor_style (map (shifted shows.dropped) es) ≡ wide_spans (room_of r frame) placeholder_width s k
+    wide_is : wide_entries margin.term_width frame.decor (map (shifted shows.dropped) es) ≡ wide_spans (room_of r frame) placeholder_width s k
     wide_is = wide-shifted shows.dropped margin.term_width placeholder_width es shows.clear ∙ ap (λ n. count_by (is_wide_entry n placeholder_width) es) room ∙ wide_on_line (numbered_source s) s.markers.items spans k info (room_of r frame) placeholder_width seen
 
     -- left of the bars the row is as drawn, whatever is highlighted
@@ -194,14 +192,14 @@ module _ (r : Renderer) (frame : Frame) (s : Snippet Annotation)
             ]
 
     -- the text of the line before it is cut where spans are wide
-    window_text : row_text (drop frame.code shows.highlighted) ≡ window (placeholder_of r.decor_style) (room_of r frame) (bounds_in r frame s).left (bounds_in r frame s).right text
+    window_text : row_text (drop frame.code shows.highlighted) ≡ window (placeholder_of frame.decor) (room_of r frame) (bounds_in r frame s).left (bounds_in r frame s).right text
     window_text =
         sym (drop-map (λ (cell : Cell). cell.ch) frame.code shows.highlighted)
         ∙ ap (drop frame.code) (highlighted_text frame.code shows.dropped _ shows.plain shows.highlighted shows.highlights)
         ∙ drop-map (λ (cell : Cell). cell.ch) frame.code shows.plain ∙ shows.text
-        ∙ ap (λ n. window (placeholder_of r.decor_style) n (bounds_of margin).left (bounds_of margin).right (norm (chars info.line.now))) room
-        ∙ ap (λ (b : Bounds). window (placeholder_of r.decor_style) (room_of r frame) b.left b.right (norm (chars info.line.now))) bounds
-        ∙ ap (λ cs. window (placeholder_of r.decor_style) (room_of r frame) (bounds_in r frame s).left (bounds_in r frame s).right cs) line_text
+        ∙ ap (λ n. window (placeholder_of frame.decor) n (bounds_of margin).left (bounds_of margin).right (norm (chars info.line.now))) room
+        ∙ ap (λ (b : Bounds). window (placeholder_of frame.decor) (room_of r frame) b.left b.right (norm (chars info.line.now))) bounds
+        ∙ ap (λ cs. window (placeholder_of frame.decor) (room_of r frame) (bounds_in r frame s).left (bounds_in r frame s).right cs) line_text
 
     dropped_here : shows.dropped ≡ width_of (dropped_part (bounds_in r frame s).left text)
     dropped_here =
@@ -230,33 +228,33 @@ module _ (r : Renderer) (frame : Frame) (s : Snippet Annotation)
     -- the source row shows its line
     pub source_line : frame.gutter + 3 ≤ frame.code → ShowsSourceLine r frame s k shows.dropped shows.source
     source_line place =
-        let layout : Layout = layout_in r frame in
-        let cells : List Cell = window_cells r.decor_style margin (norm (chars info.line.now)) in
+        let layout : Layout = frame in
+        let cells : List Cell = window_cells frame.decor margin (norm (chars info.line.now)) in
         let same : (c : ℕ) → c < frame.gutter + 3 → get_or shows.source c SPACE ≡ get_or shows.plain c SPACE = λ c beside. left_cell c beside (omega (arith, beside, place)) in
         record {
           within = within;
-          left = left_of_source layout shown cells shows.plain shows.source fits place shows.shows same ∙ ap (cells_left r.decor_style frame.gutter) same_number;
+          left = left_of_source layout shown cells shows.plain shows.source fits place shows.shows same ∙ ap (cells_left frame.decor frame.gutter) same_number;
           space = space_of_source layout shown cells shows.plain shows.source fits place shows.shows same;
           bars = shows.beside.bar_cells;
           window = record {
             ordered = omega (arith, ordered, ap (λ (b : Bounds). b.left) bounds, ap (λ (b : Bounds). b.right) bounds);
             dropped_is = dropped_here;
-            shown_is = subst (λ n. AreReplaced (placeholder_of r.decor_style)
-                n (window (placeholder_of r.decor_style) (room_of r frame) (bounds_in r frame s).left (bounds_in r frame s).right text)
+            shown_is = subst (λ n. AreReplaced (placeholder_of frame.decor)
+                n (window (placeholder_of frame.decor) (room_of r frame) (bounds_in r frame s).left (bounds_in r frame s).right text)
                 (row_text (drop frame.code shows.source)))
-                wide_is (subst (λ before. AreReplaced (placeholder_of r.decor_style)
-                (wide_entries margin.term_width r.decor_style (map (shifted shows.dropped) es)) before (row_text (drop frame.code shows.source)))
+                wide_is (subst (λ before. AreReplaced (placeholder_of frame.decor)
+                (wide_entries margin.term_width frame.decor (map (shifted shows.dropped) es)) before (row_text (drop frame.code shows.source)))
                 window_text shows.beside.text);
           };
           whole = whole_text;
         }
 
     -- no label of the spans that end on the line is lost, where none of its spans is cut
-    pub labels_of_line : wide_spans (room_of r frame) placeholder_width s k ≡ 0 → ShowsLabels r.decor_style frame s k shows.dropped shows.below
+    pub labels_of_line : wide_spans (room_of r frame) placeholder_width s k ≡ 0 → ShowsLabels frame.decor frame s k shows.dropped shows.below
     labels_of_line uncut =
         let parts : map seen_part es ≡ parts_on (numbered_source s) s.markers.items k = ap (λ (l : KeptLine). l.parts) seen in
         let stand = shows.strokes.labels (wide_is ∙ uncut) (labelled_at_end (numbered_source s) s.markers.items k shows.dropped es parts) in
-        labels_shown s k shows.dropped frame (layout_in r frame) es shows.below refl parts shows.clear stand
+        labels_shown s k shows.dropped frame frame es shows.below refl parts shows.clear stand
 
     -- where the line qualifies, its strokes are those of whole spans
     module _ (qualifies : qualifies_for_marks (room_of r frame) placeholder_width (cow_str_bytes s.source) s.markers.items k ≡ true) where
@@ -294,11 +292,11 @@ module _ (r : Renderer) (frame : Frame) (s : Snippet Annotation)
           let is : IsEntryOf (numbered_source s) k own.0 e = own.2 in
           lt-ltb (e.start.display - shows.dropped) (e.end.display - shows.dropped) (omega (arith, clear i d inside, is.start, is.end))))
 
-      plain : are_plain margin.term_width r.decor_style moved ≡ true
+      plain : are_plain margin.term_width frame.decor moved ≡ true
       plain =
           let none : wide_spans (room_of r frame) placeholder_width s k ≡ 0 = count-none (λ a. is_marked_on (cow_str_bytes s.source) k a && is_wide (room_of r frame) placeholder_width (cow_str_bytes s.source) a) s.markers.items qualified_parts.1 in
-          let narrow : (wide_entries margin.term_width r.decor_style moved == 0) ≡ true = eq-eqb (wide_entries margin.term_width r.decor_style moved) 0 (wide_is ∙ none) in
-          and_from (list_all is_single moved) (list_all has_column moved && wide_entries margin.term_width r.decor_style moved == 0) (single-shifted shows.dropped es single) (and_from (list_all has_column moved) (wide_entries margin.term_width r.decor_style moved == 0) columns narrow)
+          let narrow : (wide_entries margin.term_width frame.decor moved == 0) ≡ true = eq-eqb (wide_entries margin.term_width frame.decor moved) 0 (wide_is ∙ none) in
+          and_from (list_all is_single moved) (list_all has_column moved && wide_entries margin.term_width frame.decor moved == 0) (single-shifted shows.dropped es single) (and_from (list_all has_column moved) (wide_entries margin.term_width frame.decor moved == 0) columns narrow)
 
       -- there is a row below
       pub marks_there : 0 < length shows.below
@@ -307,17 +305,17 @@ module _ (r : Renderer) (frame : Frame) (s : Snippet Annotation)
           shows.strokes.some plain (omega (arith, some, length-map es (shifted shows.dropped)))
 
       -- and it has the marks of the line
-      pub marks_of_line : ShowsMarksOf r.decor_style frame s k shows.dropped (row_at shows.below 0)
+      pub marks_of_line : ShowsMarksOf frame.decor frame s k shows.dropped (row_at shows.below 0)
       marks_of_line =
           let row : List Cell = row_at shows.below 0 in
           let d : ℕ = shows.dropped in
-          let marks_are : ShowsMarks r.decor_style frame.code moved row = shows.strokes.marks plain in
+          let marks_are : ShowsMarks frame.decor frame.code moved row = shows.strokes.marks plain in
           let strokes_row = shows.strokes.are 0 marks_there in
           record {
             marks = λ p kind mark.
                 let own : IsEntryMark es p kind = mark_of_entries (numbered_source s) s.markers.items k es same p kind mark in
                 let right : d ≤ p = omega (arith, All-contains (λ (e : LineAnnotation). d ≤ e.start.display) es own.entry clear own.among, own.covers.0) in
-                subst (λ c. IsMarkCell r.decor_style kind (get_or row c SPACE)) (omega (arith, right)) (marks_are.marks (p - d) kind (shifted_mark d es clear p kind own));
+                subst (λ c. IsMarkCell frame.decor kind (get_or row c SPACE)) (omega (arith, right)) (marks_are.marks (p - d) kind (shifted_mark d es clear p kind own));
             unmarked = λ p right none. subst (λ c. has_mark_role (get_or row c SPACE) ≡ false) (omega (arith, right)) (marks_are.unmarked (p - d) (shifted_unmarked d es clear p right (unmarked_by_entries (numbered_source s) s.markers.items k es same p none)));
             before = λ p right left. subst (λ c. get_or row c SPACE ≡ SPACE) (omega (arith, right))
                 (strokes_row.before plain (frame.code + (p - d)) (frame.code + (p - d) + 1) (omega arith) (omega arith)

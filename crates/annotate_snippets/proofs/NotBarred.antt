@@ -18,8 +18,6 @@ use Rattle.snippet_grid.specs.Layout.{Layout}
 use Rattle.snippet_strokes.specs.Bars.{Bar}
 use Rattle.snippet_strokes.specs.EndBars.{dotted_bar, end_corner, solid_bar}
 use Rattle.annotate_snippets.specs.declared.renderer.Renderer.{Renderer}
-use Rattle.annotate_snippets.specs.declared.renderer.frame.Frame.{Frame}
-use Rattle.annotate_snippets.specs.Drawn.{layout_in}
 use Rattle.annotate_snippets.specs.Page.{Elision, NamedRow, OfferedLine, Other, RemovedLine, RowName, SourceRow, rows_below, shows_lines}
 use Rattle.annotate_snippets.specs.SpanBars.{ShowsBars, bar_beside, bar_cell_of, bar_of_span, line_beside}
 
@@ -43,7 +41,7 @@ no_space layout name bar same = by_name name same
     by_name (RemovedLine i) is = glyph layout.decor bar.primary 0x2503 0x2502 (omega arith) (omega arith) (letter (solid_bar layout bar) is)
     by_name Other is = glyph layout.decor bar.primary 0x2503 0x2502 (omega arith) (omega arith) (letter (solid_bar layout bar) is)
 
-module _ (r : Renderer) (frame : Frame) (s : Snippet Annotation) (rows : List NamedRow) (shown : ShowsBars r frame s rows) (above : List NamedRow) (row : NamedRow) (below : List NamedRow) (is : rows ≡ above ++ row ∷ below) where
+module _ (r : Renderer) (frame : Layout) (s : Snippet Annotation) (rows : List NamedRow) (shown : ShowsBars r frame s rows) (above : List NamedRow) (row : NamedRow) (below : List NamedRow) (is : rows ≡ above ++ row ∷ below) where
   -- the row stands between the lines of a span of several lines
   record GoesPast (a : Annotation) : Type 0 where
     among : Contains s.markers.items a
@@ -54,7 +52,7 @@ module _ (r : Renderer) (frame : Frame) (s : Snippet Annotation) (rows : List Na
   has_bar : (a : Annotation) → GoesPast a → slice_index_or row.cells (bar_cell_of frame s a) SPACE ≡ SPACE → ⊥
   has_bar a past empty =
       let bar = shown.stand a past.among past.long above row below is past.first past.last in
-      no_space (layout_in r frame) row.name (bar_of_span s a) (sym bar ∙ empty)
+      no_space frame row.name (bar_of_span s a) (sym bar ∙ empty)
 
   -- a space in the cell of a bar, beside a line between the first and the last of its span:
   --
@@ -85,14 +83,14 @@ module _ (r : Renderer) (frame : Frame) (s : Snippet Annotation) (rows : List Na
   pub bar_left_out_at_its_end : (a : Annotation) → Contains s.markers.items a → is_long (cow_str_bytes s.source) a ≡ true → row.name ≡ SourceRow (last_line (cow_str_bytes s.source) a) → slice_index_or row.cells (bar_cell_of frame s a) SPACE ≡ SPACE → ⊥
   bar_left_out_at_its_end a among long last empty =
       let ends = shown.end a among long above row below is last in
-      no_space (layout_in r frame) Other (bar_of_span s a) (sym (ends.beside 0 ends.below) ∙ empty)
+      no_space frame Other (bar_of_span s a) (sym (ends.beside 0 ends.below) ∙ empty)
 
   -- no corner at which the bar ends, in any row of the last line of its span:
   --
   --     2 ┃   }
   --       ┃━━━┛
   pub corner_left_out : (a : Annotation) → Contains s.markers.items a → is_long (cow_str_bytes s.source) a ≡ true → row.name ≡ SourceRow (last_line (cow_str_bytes s.source) a)
-      → ((i : ℕ) → cell_at (row.cells ∷ rows_below below) i (bar_cell_of frame s a) ≡ end_corner (layout_in r frame) (bar_of_span s a) → ⊥) → ⊥
+      → ((i : ℕ) → cell_at (row.cells ∷ rows_below below) i (bar_cell_of frame s a) ≡ end_corner frame (bar_of_span s a) → ⊥) → ⊥
   corner_left_out a among long last none =
       let ends = shown.end a among long above row below is last in
       none ends.corner ends.corner_is

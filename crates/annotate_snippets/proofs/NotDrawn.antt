@@ -19,10 +19,9 @@ use Rattle.snippet_strokes.specs.Bars.{Bar}
 use Rattle.snippet_strokes.proofs.LineRowLaws.{bar_beside, lone_rows}
 use Rattle.snippet_strokes.proofs.RowLemmas.{bare_row_left}
 use Rattle.annotate_snippets.specs.declared.renderer.Renderer.{Renderer}
-use Rattle.annotate_snippets.specs.declared.renderer.frame.Frame.{Frame}
+use Rattle.snippet_grid.specs.Layout.{Layout}
 use Rattle.annotate_snippets.specs.declared.renderer.element_context.ElementContext.{ElementContext}
 use Rattle.annotate_snippets.specs.Around.{closes_with}
-use Rattle.annotate_snippets.specs.Drawn.{layout_in}
 use Rattle.annotate_snippets.specs.LineRows.{AreRowsDrawn, IsLineDrawn, IsRowDrawn, bars_on, entries_on}
 use Rattle.annotate_snippets.specs.Page.{Elision, NamedRow, OfferedLine, Other, RemovedLine, RowName, SourceRow, line_named, names_in, names_of_lines, others, rows_below, shows_lines}
 use Rattle.annotate_snippets.specs.Rows.{cause_head, rows_after_cause}
@@ -37,21 +36,21 @@ use Rattle.annotate_snippets.proofs.NotWhole.{IsLineA, unnamed}
 --     1 | ab cd
 --       | ^^
 --       |
-pub row_doubled : (r : Renderer) (frame : Frame) (closes : Bool) (s : Snippet Annotation) (open_bars : List Bar) (k : ℕ) (rows : List (List Cell)) → IsLineDrawn r frame closes s open_bars k rows → length (entries_on s k) ≡ 1 → 2 < length rows → ⊥
+pub row_doubled : (r : Renderer) (frame : Layout) (closes : Bool) (s : Snippet Annotation) (open_bars : List Bar) (k : ℕ) (rows : List (List Cell)) → IsLineDrawn r frame closes s open_bars k rows → length (entries_on s k) ≡ 1 → 2 < length rows → ⊥
 row_doubled r frame closes s open_bars k rows line lone many =
     let one : length line.entries ≡ 1 = sym (length-map line.entries seen_part) ∙ ap length line.are ∙ lone in
-    omega (arith, many, lone_rows (layout_in r frame) line.margin.term_width closes line.text line.dropped line.highlighted rows open_bars line.entries line.drawn one)
+    omega (arith, many, lone_rows frame line.margin.term_width closes line.text line.dropped line.highlighted rows open_bars line.entries line.drawn one)
 
 -- beside a line on which no bar begins or ends, and above which one is open, a cell at its depth in another role than that of the
 -- bar's kind, be it of the other kind or a space:
 --
 --     2 ┃ b         where the span is for context
-pub bar_of_other_kind : (r : Renderer) (frame : Frame) (closes : Bool) (s : Snippet Annotation) (bar : Bar) (k : ℕ) (rows : List (List Cell))
+pub bar_of_other_kind : (r : Renderer) (frame : Layout) (closes : Bool) (s : Snippet Annotation) (bar : Bar) (k : ℕ) (rows : List (List Cell))
     → IsLineDrawn r frame closes s (bar ∷ []) k rows → bars_on s k ≡ [] → (i : ℕ) → i < length rows
     → ((cell_at rows i (frame.gutter + 2 + bar.depth)).role ≡ underline_role bar.primary → ⊥) → ⊥
 bar_of_other_kind r frame closes s bar k rows line none i within other =
     let ends = bars_seen s k line.entries line.are ∙ none in
-    other (ap (λ (cell : Cell). cell.role) (bar_beside (layout_in r frame) line.margin.term_width closes line.text line.dropped line.highlighted rows bar line.entries line.drawn ends i within))
+    other (ap (λ (cell : Cell). cell.role) (bar_beside frame line.margin.term_width closes line.text line.dropped line.highlighted rows bar line.entries line.drawn ends i within))
 
 -- ---- rows that no line has
 
@@ -95,7 +94,7 @@ row_above_the_first_line s is around row more none shown =
 --     ...
 --       |
 --     9 | b
-pub row_below_an_elision : (r : Renderer) (frame : Frame) (closes : Bool) (s : Snippet Annotation) (open_bars : List Bar) (above row : NamedRow) (more : List NamedRow) → above.name ≡ Elision → shows_lines row.name ≡ false → AreRowsDrawn r frame closes s open_bars (above ∷ row ∷ more) → ⊥
+pub row_below_an_elision : (r : Renderer) (frame : Layout) (closes : Bool) (s : Snippet Annotation) (open_bars : List Bar) (above row : NamedRow) (more : List NamedRow) → above.name ≡ Elision → shows_lines row.name ≡ false → AreRowsDrawn r frame closes s open_bars (above ∷ row ∷ more) → ⊥
 row_below_an_elision r frame closes s open_bars above row more elided other drawn =
     let own : IsRowDrawn r frame closes s open_bars Elision above.cells (row ∷ more) = subst (λ name. IsRowDrawn r frame closes s open_bars name above.cells (row ∷ more)) elided drawn.0 in
     let one : row.cells ∷ rows_below more ≡ [] = sym (ap (λ b. cond b [] (row.cells ∷ rows_below more)) other) ∙ own.1 in

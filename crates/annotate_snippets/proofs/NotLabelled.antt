@@ -19,7 +19,7 @@ use Rattle.snippet_strokes.proofs.MarkLemmas.{from_map}
 use Rattle.snippet_strokes.specs.EntryMarks.{has_mark_role, is_mark_role}
 use Rattle.snippet_strokes.specs.Labels.{IsStemCell}
 use Rattle.snippet_marks.specs.Entries.{label_role}
-use Rattle.annotate_snippets.specs.declared.renderer.frame.Frame.{Frame}
+use Rattle.snippet_grid.specs.Layout.{Layout}
 use Rattle.annotate_snippets.specs.Shown.{HasStem, ShowsLabel, ShowsLabels, ShownLabel, SpanLabel, is_in_label, labels_ending_on}
 
 -- whether a role is that of labels
@@ -34,7 +34,7 @@ label_role_is Context = refl
 label_role_is Visible = refl
 
 -- a label that stands begins with a cell in such a role
-begins : (frame : Frame) (dropped : ℕ) (rows : List (List Cell)) (l : ShownLabel) → 0 < length l.label.text → ShowsLabel frame dropped rows l → is_label_role (cell_at rows l.row l.cell).role ≡ true
+begins : (frame : Layout) (dropped : ℕ) (rows : List (List Cell)) (l : ShownLabel) → 0 < length l.label.text → ShowsLabel frame dropped rows l → is_label_role (cell_at rows l.row l.cell).role ≡ true
 begins frame dropped rows l some shows =
     let first : l.cell + 0 ≡ l.cell = omega arith in
     ap (λ c. is_label_role (cell_at rows l.row c).role) (sym first) ∙ ap (λ (cell : Cell). is_label_role cell.role) (shows.whole 0 some) ∙ label_role_is l.label.kind
@@ -43,7 +43,7 @@ begins frame dropped rows l some shows =
 --
 --     1 | ab cd
 --       | ^^ --
-pub label_left_out : (decor : DecorStyle) (frame : Frame) (s : Snippet Annotation) (k dropped : ℕ) (rows : List (List Cell))
+pub label_left_out : (decor : DecorStyle) (frame : Layout) (s : Snippet Annotation) (k dropped : ℕ) (rows : List (List Cell))
     → ShowsLabels decor frame s k dropped rows → (a : SpanLabel) → Contains (labels_ending_on s k) a → 0 < length a.text
     → ((r c : ℕ) → is_label_role (cell_at rows r c).role ≡ false) → ⊥
 label_left_out decor frame s k dropped rows shows a among some none =
@@ -54,7 +54,7 @@ label_left_out decor frame s k dropped rows shows a among some none =
     false≢true (sym (none l.row l.cell) ∙ begins frame dropped rows l own (All-contains P shows.labels l shows.stand found.1 own))
 
 -- the label stands, if it has anything to show
-abbrev Stands : Frame → ℕ → List (List Cell) → ShownLabel → Type 0
+abbrev Stands : Layout → ℕ → List (List Cell) → ShownLabel → Type 0
 Stands frame dropped rows l = 0 < length l.label.text → ShowsLabel frame dropped rows l
 
 -- rows with one such cell alone, below a line on which two spans end that have a label, be it the same one: the labels stand over one
@@ -62,7 +62,7 @@ Stands frame dropped rows l = 0 < length l.label.text → ShowsLabel frame dropp
 --
 --     1 | ab cd
 --       | ^^ -- x
-pub label_over_another : (decor : DecorStyle) (frame : Frame) (s : Snippet Annotation) (k dropped : ℕ) (rows : List (List Cell))
+pub label_over_another : (decor : DecorStyle) (frame : Layout) (s : Snippet Annotation) (k dropped : ℕ) (rows : List (List Cell))
     → ShowsLabels decor frame s k dropped rows → (a b : SpanLabel) → labels_ending_on s k ≡ a ∷ b ∷ [] → 0 < length a.text → 0 < length b.text
     → (row cell : ℕ) → ((r c : ℕ) → is_label_role (cell_at rows r c).role ≡ true → (r ≡ row) × (c ≡ cell)) → ⊥
 label_over_another decor frame s k dropped rows shows a b spans some_a some_b row cell alone =
@@ -102,7 +102,7 @@ label_over_another decor frame s k dropped rows shows a b spans some_a some_b ro
 --       | -- ^^ y
 --       |
 --       | x
-pub stem_left_out : (decor : DecorStyle) (frame : Frame) (s : Snippet Annotation) (k dropped : ℕ) (rows : List (List Cell))
+pub stem_left_out : (decor : DecorStyle) (frame : Layout) (s : Snippet Annotation) (k dropped : ℕ) (rows : List (List Cell))
     → (shows : ShowsLabels decor frame s k dropped rows) → (l : ShownLabel) → Contains shows.labels l → 0 < length l.label.text → (r : ℕ) → 0 < r
     → r < l.row → count_by (is_in_label r l.cell) shows.labels ≡ 0 → cell_at rows r l.cell ≡ SPACE → ⊥
 stem_left_out decor frame s k dropped rows shows l among some r below above none blank =
@@ -118,7 +118,7 @@ HasNoLabel s k = All (λ (l : SpanLabel). l.text ≡ []) (labels_ending_on s k)
 --
 --     1 | ab
 --       | ^^ x
-pub stray_word_below_a_line : (decor : DecorStyle) (frame : Frame) (s : Snippet Annotation) (k dropped : ℕ) (rows : List (List Cell)) → ShowsLabels decor frame s k dropped rows → HasNoLabel s k → (r c : ℕ) → frame.code ≤ c → is_label_role (cell_at rows r c).role ≡ true → ⊥
+pub stray_word_below_a_line : (decor : DecorStyle) (frame : Layout) (s : Snippet Annotation) (k dropped : ℕ) (rows : List (List Cell)) → ShowsLabels decor frame s k dropped rows → HasNoLabel s k → (r c : ℕ) → frame.code ≤ c → is_label_role (cell_at rows r c).role ≡ true → ⊥
 stray_word_below_a_line decor frame s k dropped rows shows none r c right label =
     elim (shows.others r c right (no_cells shows.labels (subst (All (λ (l : SpanLabel). l.text ≡ [])) (sym shows.spans) none))) [
       | inl space ↦ false≢true (sym (ap (λ (cell : Cell). is_label_role cell.role) space) ∙ label)

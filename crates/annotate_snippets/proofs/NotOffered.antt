@@ -39,7 +39,7 @@ use Rattle.annotate_snippets.specs.declared.renderer.Renderer.{Renderer}
 use Rattle.annotate_snippets.specs.Page.{Elision, NamedRow, OfferedLine, RemovedLine, Other, RowName, IsAscending, SourceRow, cells_of, lines_offered, others}
 use Rattle.annotate_snippets.specs.Rows.{suggestion_head}
 use Rattle.annotate_snippets.specs.Settings.{plain_settings}
-use Rattle.annotate_snippets.specs.declared.renderer.frame.Frame.{Frame}
+use Rattle.snippet_grid.specs.Layout.{Layout}
 use Rattle.annotate_snippets.specs.declared.renderer.element_context.ElementContext.{ElementContext}
 use Rattle.annotate_snippets.specs.Shown.{HasStrokes, IsOfferedRow, IsSuggestionRow, ShowsSuggestion, name_of_row}
 use Rattle.annotate_snippets.proofs.NotShown.{two_of_one}
@@ -78,7 +78,7 @@ gives_ac false = refl
 -- so no row offers the line as it was, whatever line it is said to be:
 --
 --     1 + ab
-old_line_offered : (s : Snippet Patch) → IsSnippetOf s (codes "ab") one_edit → (j : ℕ) → IsOfferedRow plain_settings 1 s j (offering_row (codes "ab")) → ⊥
+old_line_offered : (s : Snippet Patch) → IsSnippetOf s (codes "ab") one_edit → (j : ℕ) → IsOfferedRow plain_settings Ascii 1 s j (offering_row (codes "ab")) → ⊥
 unfolding char_width unicode_width norm chars
 old_line_offered s is j offers =
     let given : given_lines s ≡ codes "ac" ∷ [] = given_by s (codes "ab") one_edit (codes "ac" ∷ []) is gives_ac in
@@ -95,7 +95,7 @@ from_first true = refl
 from_first false = refl
 
 -- a row `1 + ac` can only be named as that of the first line of `ac`: it has a digit in the gutter, and `+` after it
-named_first : (s : Snippet Patch) → IsSnippetOf s (codes "ab") one_edit → (name : RowName) (cells : List Cell) → cells ≡ offering_row (codes "ac") → IsSuggestionRow plain_settings 1 s name cells → name ≡ OfferedLine 0
+named_first : (s : Snippet Patch) → IsSnippetOf s (codes "ab") one_edit → (name : RowName) (cells : List Cell) → cells ≡ offering_row (codes "ac") → IsSuggestionRow plain_settings Ascii 1 s name cells → name ≡ OfferedLine 0
 named_first s is (SourceRow k) cells same shows = absurd shows
 named_first s is Elision cells same shows = absurd shows
 named_first s is (OfferedLine j) cells same shows =
@@ -113,19 +113,19 @@ named_first s is Other cells same shows =
 
 -- a row after others is what its name says, if all are, and so are those after it
 row_named : (s : Snippet Patch) (before : List NamedRow) (row : NamedRow) (after : List NamedRow)
-    → All (λ r. IsSuggestionRow plain_settings 1 s r.name r.cells) (before ++ (row ∷ after))
-    → IsSuggestionRow plain_settings 1 s row.name row.cells × All (λ r. IsSuggestionRow plain_settings 1 s r.name r.cells) after
+    → All (λ r. IsSuggestionRow plain_settings Ascii 1 s r.name r.cells) (before ++ (row ∷ after))
+    → IsSuggestionRow plain_settings Ascii 1 s row.name row.cells × All (λ r. IsSuggestionRow plain_settings Ascii 1 s r.name r.cells) after
 row_named s [] row after named =
-    (All-head (λ r. IsSuggestionRow plain_settings 1 s r.name r.cells) row after named, All-tail (λ r. IsSuggestionRow plain_settings 1 s r.name r.cells) row after named)
+    (All-head (λ r. IsSuggestionRow plain_settings Ascii 1 s r.name r.cells) row after named, All-tail (λ r. IsSuggestionRow plain_settings Ascii 1 s r.name r.cells) row after named)
 row_named s (first ∷ before) row after named =
-    row_named s before row after (All-tail (λ r. IsSuggestionRow plain_settings 1 s r.name r.cells) first (before ++ (row ∷ after)) named)
+    row_named s before row after (All-tail (λ r. IsSuggestionRow plain_settings Ascii 1 s r.name r.cells) first (before ++ (row ∷ after)) named)
 
 -- the row `1 + ab` is none of a suggestion that gives `ac`, whatever it is named
-old_row_named : (s : Snippet Patch) → IsSnippetOf s (codes "ab") one_edit → (name : RowName) (cells : List Cell) → cells ≡ offering_row (codes "ab") → IsSuggestionRow plain_settings 1 s name cells → ⊥
+old_row_named : (s : Snippet Patch) → IsSnippetOf s (codes "ab") one_edit → (name : RowName) (cells : List Cell) → cells ≡ offering_row (codes "ab") → IsSuggestionRow plain_settings Ascii 1 s name cells → ⊥
 old_row_named s is (SourceRow k) cells same shows = shows
 old_row_named s is Elision cells same shows = shows
 old_row_named s is (OfferedLine j) cells same shows =
-    old_line_offered s is j (subst (IsOfferedRow plain_settings 1 s j) same shows)
+    old_line_offered s is j (subst (IsOfferedRow plain_settings Ascii 1 s j) same shows)
 old_row_named s is (RemovedLine i) cells same shows =
     let P : List Cell → Type 0 = λ row. (get_or row 2 SPACE).ch ≡ 45 in
     let minus : ◌≡◌ {A = ℕ} 43 45 = subst P same shows.minus in
@@ -138,28 +138,28 @@ old_row_named s is Other cells same shows =
 --
 --     1 - ab
 --     1 + ab
-old_lines_repeated : {found : List Cell} (s : Snippet Patch) → IsSnippetOf s (codes "ab") one_edit → (frame : Frame) → frame.gutter ≡ 1
+old_lines_repeated : {found : List Cell} (s : Snippet Patch) → IsSnippetOf s (codes "ab") one_edit → (frame : Layout) → frame.gutter ≡ 1 → frame.decor ≡ Ascii
     → (around : ElementContext) (row : NamedRow) (before after : List NamedRow) → row.cells ≡ offering_row (codes "ab")
     → ShowsSuggestion plain_settings frame around found s (others (suggestion_head plain_settings frame around s) ++ (before ++ (row ∷ after))) → ⊥
-old_lines_repeated s is frame narrow around row before after row_is shown =
+old_lines_repeated s is frame narrow ascii around row before after row_is shown =
     let rows : List NamedRow = before ++ (row ∷ after) in
     let same : shown.after ≡ rows = append_cancel_left (others (suggestion_head plain_settings frame around s)) shown.after rows (sym shown.rows_are) in
-    let named : All (λ r. IsSuggestionRow plain_settings 1 s r.name r.cells) rows = subst (λ gutter. All (λ r. IsSuggestionRow plain_settings gutter s r.name r.cells) rows) narrow (subst (All (λ r. IsSuggestionRow plain_settings frame.gutter s r.name r.cells)) same shown.named) in
+    let named : All (λ r. IsSuggestionRow plain_settings Ascii 1 s r.name r.cells) rows = subst (λ gutter. All (λ r. IsSuggestionRow plain_settings Ascii gutter s r.name r.cells) rows) narrow (subst (λ decor. All (λ r. IsSuggestionRow plain_settings decor frame.gutter s r.name r.cells) rows) ascii (subst (All (λ r. IsSuggestionRow plain_settings frame.decor frame.gutter s r.name r.cells)) same shown.named)) in
     old_row_named s is row.name row.cells row_is (row_named s before row after named).0
 
 -- so no rows that offer it twice show the suggestion, after the row of its path, where that is named:
 --
 --     1 + ac
 --     1 + ac
-second_copy_offered : {found : List Cell} (s : Snippet Patch) → IsSnippetOf s (codes "ab") one_edit → (frame : Frame) → frame.gutter ≡ 1
+second_copy_offered : {found : List Cell} (s : Snippet Patch) → IsSnippetOf s (codes "ab") one_edit → (frame : Layout) → frame.gutter ≡ 1 → frame.decor ≡ Ascii
     → (around : ElementContext) (row copy : NamedRow) (before between after : List NamedRow) → row.cells ≡ offering_row (codes "ac")
     → copy.cells ≡ offering_row (codes "ac")
     → ShowsSuggestion plain_settings frame around found s
     (others (suggestion_head plain_settings frame around s) ++ (before ++ (row ∷ (between ++ (copy ∷ after))))) → ⊥
-second_copy_offered s is frame narrow around row copy before between after row_is copy_is shown =
+second_copy_offered s is frame narrow ascii around row copy before between after row_is copy_is shown =
     let rows : List NamedRow = before ++ (row ∷ (between ++ (copy ∷ after))) in
     let same : shown.after ≡ rows = append_cancel_left (others (suggestion_head plain_settings frame around s)) shown.after rows (sym shown.rows_are) in
-    let named : All (λ r. IsSuggestionRow plain_settings 1 s r.name r.cells) rows = subst (λ gutter. All (λ r. IsSuggestionRow plain_settings gutter s r.name r.cells) rows) narrow (subst (All (λ r. IsSuggestionRow plain_settings frame.gutter s r.name r.cells)) same shown.named) in
+    let named : All (λ r. IsSuggestionRow plain_settings Ascii 1 s r.name r.cells) rows = subst (λ gutter. All (λ r. IsSuggestionRow plain_settings Ascii gutter s r.name r.cells) rows) narrow (subst (λ decor. All (λ r. IsSuggestionRow plain_settings decor frame.gutter s r.name r.cells) rows) ascii (subst (All (λ r. IsSuggestionRow plain_settings frame.decor frame.gutter s r.name r.cells)) same shown.named)) in
     let ordered : IsAscending (lines_offered rows) = subst (λ all. IsAscending (lines_offered all)) same shown.ordered in
     let first = row_named s before row (between ++ (copy ∷ after)) named in
     let second = row_named s between copy after first.1 in
@@ -226,7 +226,7 @@ two_spliced false = refl
 -- so no rows show it that don't offer its second line, as where the text is cut off after the first:
 --
 --     1 ~ x
-touched_left_out : {found : List Cell} (s : Snippet Patch) → IsSnippetOf s two_lines two_edits → (frame : Frame) (around : ElementContext) (rows : List NamedRow)
+touched_left_out : {found : List Cell} (s : Snippet Patch) → IsSnippetOf s two_lines two_edits → (frame : Layout) (around : ElementContext) (rows : List NamedRow)
     → (Contains (lines_offered rows) 1 → ⊥) → ShowsSuggestion plain_settings frame around found s (others (suggestion_head plain_settings frame around s) ++ rows) → ⊥
 touched_left_out s is frame around rows out shown =
     let same : shown.after ≡ rows = append_cancel_left (others (suggestion_head plain_settings frame around s)) shown.after rows (sym shown.rows_are) in
@@ -287,7 +287,7 @@ rest_spliced false = refl
 -- so no rows show it that don't offer its second line, as where the text is cut off after the line feed with which it ends so far:
 --
 --     1 ~ xa
-line_lost : {found : List Cell} (s : Snippet Patch) → IsSnippetOf s lines_of_three put_in_and_deleted → (frame : Frame) (around : ElementContext) (rows : List NamedRow)
+line_lost : {found : List Cell} (s : Snippet Patch) → IsSnippetOf s lines_of_three put_in_and_deleted → (frame : Layout) (around : ElementContext) (rows : List NamedRow)
     → (Contains (lines_offered rows) 1 → ⊥) → ShowsSuggestion plain_settings frame around found s
     (others (suggestion_head plain_settings frame around s) ++ rows) → ⊥
 line_lost s is frame around rows out shown =
@@ -317,7 +317,7 @@ gives_xb false = refl
 -- so no row offers a line in which the replacement stands first, and what it replaced again after what is put in:
 --
 --     1 + bxa
-replacement_first : (s : Snippet Patch) → IsSnippetOf s (codes "a") replaced_and_put_in → (j : ℕ) → IsOfferedRow plain_settings 1 s j (offering_row (codes "bxa")) → ⊥
+replacement_first : (s : Snippet Patch) → IsSnippetOf s (codes "a") replaced_and_put_in → (j : ℕ) → IsOfferedRow plain_settings Ascii 1 s j (offering_row (codes "bxa")) → ⊥
 unfolding char_width unicode_width norm chars
 replacement_first s is j offers =
     let given : given_lines s ≡ codes "xb" ∷ [] = given_by s (codes "a") replaced_and_put_in (codes "xb" ∷ []) is gives_xb in
@@ -339,7 +339,7 @@ foo_number v = refl
 --     1 - foo
 --     1 + bar
 --       |
-module _ (v : Vec Patch Global) (frame : Frame) (narrow : frame.gutter ≡ 1) (around : ElementContext) (opens : around.start ≡ Opening) where
+module _ (v : Vec Patch Global) (frame : Layout) (narrow : frame.gutter ≡ 1) (around : ElementContext) (opens : around.start ≡ Opening) where
   abbrev foo : Snippet Patch
   foo = one_word v
 
@@ -353,15 +353,15 @@ module _ (v : Vec Patch Global) (frame : Frame) (narrow : frame.gutter ≡ 1) (a
       ap (λ rows. rows ++ (if around.shared then [] else Ends (not (is_end around.next)) ∷ [])) (ap (λ at. rows_of_suggestion at foo) opens ∙ (one_word_gives v).rows_are)
 
   -- rows that show it, after the row of its path: the second is that of the removed line, whatever it holds
-  second_removed : {found : List Cell} (first row : NamedRow) (rest : List NamedRow) → ShowsSuggestion plain_settings frame around found foo (others (suggestion_head plain_settings frame around foo) ++ (first ∷ row ∷ rest)) → IsSuggestionRow plain_settings 1 foo (RemovedLine 0) row.cells
-  second_removed first row rest shown =
+  second_removed : {found : List Cell} → frame.decor ≡ Ascii → (first row : NamedRow) (rest : List NamedRow) → ShowsSuggestion plain_settings frame around found foo (others (suggestion_head plain_settings frame around foo) ++ (first ∷ row ∷ rest)) → IsSuggestionRow plain_settings Ascii 1 foo (RemovedLine 0) row.cells
+  second_removed ascii first row rest shown =
       let rows : List NamedRow = first ∷ row ∷ rest in
       let same : shown.after ≡ rows = append_cancel_left (others (suggestion_head plain_settings frame around foo)) shown.after rows (sym shown.rows_are) in
-      let Named : ℕ → NamedRow → Type 0 = λ gutter r. IsSuggestionRow plain_settings gutter foo r.name r.cells in
-      let named : All (Named 1) rows = subst (λ gutter. All (Named gutter) rows) narrow (subst (All (Named frame.gutter)) same shown.named) in
+      let Named : DecorStyle → ℕ → NamedRow → Type 0 = λ decor gutter r. IsSuggestionRow plain_settings decor gutter foo r.name r.cells in
+      let named : All (Named Ascii 1) rows = subst (λ gutter. All (Named Ascii gutter) rows) narrow (subst (λ decor. All (Named decor frame.gutter) rows) ascii (subst (All (Named frame.decor frame.gutter)) same shown.named)) in
       let names : map (λ (r : NamedRow). r.name) rows ≡ map (name_of_row foo) foo_rows = ap (map (λ (r : NamedRow). r.name)) (sym same) ∙ shown.order ∙ ap (map (name_of_row foo)) foo_rows_are in
       let name : row.name ≡ RemovedLine 0 = ap (λ (ns : List RowName). get_or ns 1 Other) names in
-      subst (λ n. IsSuggestionRow plain_settings 1 foo n row.cells) name (All-head (Named 1) row rest (All-tail (Named 1) first (row ∷ rest) named))
+      subst (λ n. IsSuggestionRow plain_settings Ascii 1 foo n row.cells) name (All-head (Named Ascii 1) row rest (All-tail (Named Ascii 1) first (row ∷ rest) named))
 
   -- so no rows show it in which the new line stands above the removed one:
   --
@@ -369,10 +369,10 @@ module _ (v : Vec Patch Global) (frame : Frame) (narrow : frame.gutter ≡ 1) (a
   --     1 + bar
   --     1 - foo
   --       |
-  new_line_above_removed : {found : List Cell} (first row : NamedRow) (rest : List NamedRow) → row.cells ≡ offering_row (codes "bar") → ShowsSuggestion plain_settings frame around found foo (others (suggestion_head plain_settings frame around foo) ++ (first ∷ row ∷ rest)) → ⊥
-  new_line_above_removed first row rest is shown =
+  new_line_above_removed : {found : List Cell} → frame.decor ≡ Ascii → (first row : NamedRow) (rest : List NamedRow) → row.cells ≡ offering_row (codes "bar") → ShowsSuggestion plain_settings frame around found foo (others (suggestion_head plain_settings frame around foo) ++ (first ∷ row ∷ rest)) → ⊥
+  new_line_above_removed ascii first row rest is shown =
       let P : List Cell → Type 0 = λ cells. (get_or cells 2 SPACE).ch ≡ 45 in
-      let minus : ◌≡◌ {A = ℕ} 43 45 = subst P is (second_removed first row rest shown).minus in
+      let minus : ◌≡◌ {A = ℕ} 43 45 = subst P is (second_removed ascii first row rest shown).minus in
       absurd (omega (arith, minus))
 
   -- nor in which the removed line has another number:
@@ -381,22 +381,22 @@ module _ (v : Vec Patch Global) (frame : Frame) (narrow : frame.gutter ≡ 1) (a
   --     2 - foo
   --     1 + bar
   --       |
-  removed_number_wrong : {found : List Cell} (first row : NamedRow) (rest : List NamedRow)
+  removed_number_wrong : {found : List Cell} → frame.decor ≡ Ascii → (first row : NamedRow) (rest : List NamedRow)
       → row.cells ≡ text_cells LineNumber (codes "2") ++ SPACE ∷ text_cells Removal (codes "- ") ++ text_cells Quotation (codes "foo")
       → ShowsSuggestion plain_settings frame around found foo (others (suggestion_head plain_settings frame around foo) ++ (first ∷ row ∷ rest)) → ⊥
-  removed_number_wrong first row rest is shown =
+  removed_number_wrong ascii first row rest is shown =
       let one : number_text plain_settings true 1 1 ≡ codes "1" = ap (set_right 1) (decimal_digit 1 (omega arith)) in
       let number : number_text plain_settings true 1 (removed_number foo 0) ≡ codes "1" = ap (number_text plain_settings true 1) (foo_number v) ∙ one in
       let Begins_with : List ℕ → Type 0 = λ n. length n ≤ 2 → row_text (take (length n) row.cells) ≡ n in
-      let begins : row_text (take 1 row.cells) ≡ codes "1" = subst Begins_with number (second_removed first row rest shown).numbered (omega arith) in
+      let begins : row_text (take 1 row.cells) ≡ codes "1" = subst Begins_with number (second_removed ascii first row rest shown).numbered (omega arith) in
       let digit : ◌≡◌ {A = ℕ} 50 49 = ap (λ (cs : List ℕ). get_or cs 0 0) (sym (ap (λ cells. row_text (take 1 cells)) is) ∙ begins) in
       absurd (omega (arith, digit))
 
   -- the first is that which it begins with
-  first_begins : {found : List Cell} (r : Renderer) (first : NamedRow) (rest : List NamedRow) → ShowsSuggestion r frame around found foo (others (suggestion_head r frame around foo) ++ (first ∷ rest)) → HasStrokes r.decor_style 1 (Begins Opening) first.cells
+  first_begins : {found : List Cell} (r : Renderer) (first : NamedRow) (rest : List NamedRow) → ShowsSuggestion r frame around found foo (others (suggestion_head r frame around foo) ++ (first ∷ rest)) → HasStrokes frame.decor 1 (Begins Opening) first.cells
   first_begins r first rest shown =
       let same : shown.after ≡ first ∷ rest = append_cancel_left (others (suggestion_head r frame around foo)) shown.after (first ∷ rest) (sym shown.rows_are) in
-      let Strokes : ℕ → SuggestionRow → List Cell → Type 0 = HasStrokes r.decor_style in
+      let Strokes : ℕ → SuggestionRow → List Cell → Type 0 = HasStrokes frame.decor in
       let strokes : AllZip (Strokes frame.gutter) foo_rows (cells_of (first ∷ rest)) = subst (λ rows. AllZip (Strokes frame.gutter) rows (cells_of (first ∷ rest))) foo_rows_are (subst (λ rows. AllZip (Strokes frame.gutter) (suggestion_rows around foo) (cells_of rows)) same shown.strokes) in
       subst (λ gutter. Strokes gutter (Begins Opening) first.cells) narrow strokes.0
 
@@ -406,10 +406,10 @@ module _ (v : Vec Patch Global) (frame : Frame) (narrow : frame.gutter ≡ 1) (a
   --     1 - foo
   --     1 + bar
   --       |
-  gap_row_over_separator : {found : List Cell} (first : NamedRow) (rest : List NamedRow) → first.cells ≡ text_cells LineNumber (codes "...") → ShowsSuggestion plain_settings frame around found foo (others (suggestion_head plain_settings frame around foo) ++ (first ∷ rest)) → ⊥
-  gap_row_over_separator first rest is shown =
+  gap_row_over_separator : {found : List Cell} → frame.decor ≡ Ascii → (first : NamedRow) (rest : List NamedRow) → first.cells ≡ text_cells LineNumber (codes "...") → ShowsSuggestion plain_settings frame around found foo (others (suggestion_head plain_settings frame around foo) ++ (first ∷ rest)) → ⊥
+  gap_row_over_separator ascii first rest is shown =
       let P : List Cell → Type 0 = λ cells. (get_or cells 2 SPACE).ch ≡ 124 in
-      let dot : ◌≡◌ {A = ℕ} 46 124 = subst P is (first_begins plain_settings first rest shown 2 (omega arith)) in
+      let dot : ◌≡◌ {A = ℕ} 46 124 = subst P is (subst (λ d. HasStrokes d 1 (Begins Opening) first.cells) ascii (first_begins plain_settings first rest shown) 2 (omega arith)) in
       absurd (omega (arith, dot))
 
   -- nor does it close there:
@@ -418,7 +418,7 @@ module _ (v : Vec Patch Global) (frame : Frame) (narrow : frame.gutter ≡ 1) (a
   --     1 - foo
   --     1 + bar
   --       ╰╴
-  suggestion_closes_the_wrong_way : {found : List Cell} (r : Renderer) → r.decor_style ≡ Unicode → (first : NamedRow) (rest : List NamedRow)
+  suggestion_closes_the_wrong_way : {found : List Cell} (r : Renderer) → frame.decor ≡ Unicode → (first : NamedRow) (rest : List NamedRow)
       → first.cells ≡ SPACE ∷ SPACE ∷ text_cells LineNumber (codes "╰╴") → ShowsSuggestion r frame around found foo (others (suggestion_head r frame around foo) ++ (first ∷ rest)) → ⊥
   suggestion_closes_the_wrong_way r decor first rest is shown =
       let Begun : DecorStyle → Type 0 = λ d. HasStrokes d 1 (Begins Opening) first.cells in

@@ -32,7 +32,7 @@ use Rattle.annotate_snippets.specs.Page.{Elision, RowName, OfferedLine, RemovedL
 use Rattle.annotate_snippets.specs.Around.{closes_with}
 use Rattle.annotate_snippets.specs.Rows.{cause_head, rows_after_cause}
 use Rattle.annotate_snippets.specs.Settings.{plain_settings}
-use Rattle.annotate_snippets.specs.declared.renderer.frame.Frame.{Frame}
+use Rattle.snippet_grid.specs.Layout.{Layout}
 use Rattle.annotate_snippets.specs.declared.renderer.element_context.ElementContext.{ElementContext}
 use Rattle.snippet_style.specs.Glyphs.{placeholder_of}
 use Rattle.annotate_snippets.specs.Shown.{cell_of, room_of, normalized_chars, shown_label, ShowsSourceLine, ShowsMarksOf, ShowsLineAndMarks, IsRowBelow, IsRowOf, AreRowsOf, ShowsSnippet}
@@ -43,8 +43,8 @@ use Rattle.annotate_snippets.proofs.ListLemmas.{Contains-head, Contains-tail, Co
 -- ---- small reports, and their rows
 
 -- where their rows have their parts: one digit in the gutter, and the code from cell 4 on, as in `1 | code`
-abbrev pub frame : Frame
-frame = record { gutter = 1; code = 4 }
+abbrev pub frame : Layout
+frame = record { gutter = 1; code = 4; decor = Ascii }
 
 -- a source row of line 1, with this code
 abbrev source_row : List ℕ → List Cell

@@ -1,8 +1,9 @@
 -- Rows of suggestions with a wrong sign or a mark in a wrong place, on small reports, contradict the definitions of what rows show.
-use Rattle.std.proofs.Common.{◌≡◌, ◌∙◌, ℕ, not, Bool, false, true, refl, List, [], ◌∷◌, ◌++◌, Vec, codes, get_or, replicate, sym, ap, subst, arith, if◌then◌else◌}
+use Rattle.std.proofs.Common.{◌≡◌, ◌∙◌, ℕ, not, Bool, false, true, refl, List, [], ◌∷◌, ◌++◌, Vec, codes, get_or, replicate, sym, ap, arith, if◌then◌else◌}
 use Rattle.std.specs.declared.alloc.Global.{Global}
 use Rattle.snippet_grid.specs.Grid.{row_at}
 use Rattle.snippet_style.specs.Cell.{Cell, SPACE, text_cells}
+use Rattle.snippet_style.specs.declared.glyphs.DecorStyle.{DecorStyle}
 use Rattle.snippet_style.specs.declared.glyphs.DecorStyle.TheVariants.{Ascii}
 use Rattle.snippet_style.specs.declared.role.ElementStyle.TheVariants.{Addition, LineNumber, NoStyle, Removal}
 use Rattle.snippet_style.specs.declared.role.ElementStyle.{ElementStyle}
@@ -21,7 +22,7 @@ use Rattle.annotate_snippets.specs.Drawn.{suggestion_layout, suggestion_lines, u
 use Rattle.annotate_snippets.specs.Page.{NamedRow, cells_of}
 use Rattle.annotate_snippets.specs.Settings.{plain_settings}
 use Rattle.annotate_snippets.specs.Shown.{ShowsSuggestion}
-use Rattle.annotate_snippets.specs.declared.renderer.frame.Frame.{Frame}
+use Rattle.snippet_grid.specs.Layout.{Layout}
 use Rattle.annotate_snippets.specs.declared.renderer.element_context.ElementContext.{ElementContext}
 
 -- a suggestion that stands alone: it begins in a row of its own, and its last row is its own
@@ -30,9 +31,9 @@ record StandsAlone (around : ElementContext) : Type 0 where
   own : around.shared ≡ false
 
 -- its rows are those of its value, over nothing
-rows_alone : (frame : Frame) (around : ElementContext) (found : List Cell) (s : Snippet Patch) (lines : List (List Cell))
-    → suggestion_layout plain_settings frame s ≡ ascii → StandsAlone around → lines ≡ suggestion_lines plain_settings frame around found s
-    → lines ≡ suggestion_cells ascii Opening (not (is_end around.next)) s []
+rows_alone : (frame : Layout) (around : ElementContext) (found : List Cell) (s : Snippet Patch) (lines : List (List Cell))
+    → suggestion_layout plain_settings frame s ≡ ascii frame.code → StandsAlone around → lines ≡ suggestion_lines plain_settings frame around found s
+    → lines ≡ suggestion_cells (ascii frame.code) Opening (not (is_end around.next)) s []
 unfolding suggestion_cells
 rows_alone frame around found s lines layout_is alone shown =
     let next : Bool = not (is_end around.next) in
@@ -40,12 +41,12 @@ rows_alone frame around found s lines layout_is alone shown =
     let Rows : SuggestionLayout → SuggestionStart → List Cell → Bool → List (List Cell) = λ layout at row shared. body_cells layout at s row ++ (if shared then [] else row_cells layout s [] (Ends next) ∷ []) in
     let layout : SuggestionLayout = suggestion_layout plain_settings frame s in
     let below : List Cell = under_of plain_settings frame around.start found in
-    shown ∙ ap (λ l. Rows l around.start below around.shared) layout_is ∙ ap (λ at. Rows ascii at below around.shared) alone.start ∙ ap (λ row. Rows ascii Opening row around.shared) under ∙ ap (Rows ascii Opening []) alone.own
+    shown ∙ ap (λ l. Rows l around.start below around.shared) layout_is ∙ ap (λ at. Rows (ascii frame.code) at below around.shared) alone.start ∙ ap (λ row. Rows (ascii frame.code) Opening row around.shared) under ∙ ap (Rows (ascii frame.code) Opening []) alone.own
 
 -- with a gutter of one cell its rows stand as in ASCII
-narrow_layout : (frame : Frame) (s : Snippet Patch) → frame.gutter ≡ 1 → s.line_numbering ≡ true → suggestion_layout plain_settings frame s ≡ ascii
-narrow_layout frame s narrow numbered =
-    ap (λ (g : ℕ). record { gutter = g; numbers = line_numbers plain_settings s.line_numbering; decor = Ascii }) narrow ∙ ap (λ (b : Bool). record { gutter = 1; numbers = line_numbers plain_settings b; decor = Ascii }) numbered
+narrow_layout : (frame : Layout) (s : Snippet Patch) → frame.gutter ≡ 1 → frame.decor ≡ Ascii → s.line_numbering ≡ true → suggestion_layout plain_settings frame s ≡ ascii frame.code
+narrow_layout frame s narrow plain numbered =
+    ap (λ (d : DecorStyle). record { frame = record { gutter = frame.gutter; code = frame.code; decor = d }; numbers = line_numbers plain_settings s.line_numbering }) plain ∙ ap (λ (g : ℕ). record { frame = record { gutter = g; code = frame.code; decor = Ascii }; numbers = line_numbers plain_settings s.line_numbering }) narrow ∙ ap (λ (b : Bool). record { frame = record { gutter = 1; code = frame.code; decor = Ascii }; numbers = line_numbers plain_settings b }) numbered
 
 -- ---- a mark beside what it belongs to
 
@@ -53,12 +54,12 @@ narrow_layout frame s narrow numbered =
 --
 --     1 | foo(x)
 --       |      +
-marks_one_right : (v : Vec Patch Global) (frame : Frame) (around : ElementContext) (found : List Cell) (rows : List NamedRow) → frame.gutter ≡ 1 → StandsAlone around
+marks_one_right : (v : Vec Patch Global) (frame : Layout) (around : ElementContext) (found : List Cell) (rows : List NamedRow) → frame.gutter ≡ 1 → frame.decor ≡ Ascii → StandsAlone around
     → (shown : ShowsSuggestion plain_settings frame around found (text_put_in v) rows)
     → row_at (cells_of shown.after) 2 ≡ stroke ++ replicate 6 SPACE ++ text_cells Addition (codes "+") → ⊥
-marks_one_right v frame around found rows narrow alone shown wrong =
+marks_one_right v frame around found rows narrow plain alone shown wrong =
     let s : Snippet Patch = text_put_in v in
-    let all = rows_alone frame around found s (cells_of shown.after) (narrow_layout frame s narrow refl) alone shown.cells ∙ put_in_cells v (not (is_end around.next)) in
+    let all = rows_alone frame around found s (cells_of shown.after) (narrow_layout frame s narrow plain refl) alone shown.cells ∙ put_in_cells frame.code v (not (is_end around.next)) in
     let At : List Cell → ℕ = λ row. (get_or row 8 SPACE).ch in
     let mark : ◌≡◌ {A = ℕ} 32 43 = sym (ap At wrong) ∙ ap (λ (rs : List (List Cell)). At (row_at rs 2)) all in
     absurd (omega (arith, mark))
@@ -70,13 +71,13 @@ marks_one_right v frame around found rows narrow alone shown wrong =
 --     1 ~ a
 --     2 | b
 --     3 + x
-kept_shown_as_changed : (v : Vec Patch Global) (frame : Frame) (around : ElementContext) (found : List Cell) (rows : List NamedRow) → frame.gutter ≡ 1
+kept_shown_as_changed : (v : Vec Patch Global) (frame : Layout) (around : ElementContext) (found : List Cell) (rows : List NamedRow) → frame.gutter ≡ 1 → frame.decor ≡ Ascii
     → StandsAlone around → (shown : ShowsSuggestion plain_settings frame around found (third_unfolded v) rows)
     → row_at (cells_of shown.after) 1 ≡ text_cells LineNumber (codes "1") ++ SPACE ∷ text_cells Addition (codes "~ ")
     ++ text_cells NoStyle (codes "a") → ⊥
-kept_shown_as_changed v frame around found rows narrow alone shown wrong =
+kept_shown_as_changed v frame around found rows narrow plain alone shown wrong =
     let s : Snippet Patch = third_unfolded v in
-    let all = rows_alone frame around found s (cells_of shown.after) (narrow_layout frame s narrow refl) alone shown.cells ∙ unfolded_cells v (not (is_end around.next)) in
+    let all = rows_alone frame around found s (cells_of shown.after) (narrow_layout frame s narrow plain refl) alone shown.cells ∙ unfolded_cells frame.code v (not (is_end around.next)) in
     let At : List Cell → ℕ = λ row. (get_or row 2 SPACE).ch in
     let sign : ◌≡◌ {A = ℕ} 126 124 = sym (ap At wrong) ∙ ap (λ (rs : List (List Cell)). At (row_at rs 1)) all in
     absurd (omega (arith, sign))
@@ -84,12 +85,12 @@ kept_shown_as_changed v frame around found rows narrow alone shown wrong =
 -- nor in another role: what is put in place of `c` isn't shown as removed
 --
 --     3 + x
-removal_for_addition : (v : Vec Patch Global) (frame : Frame) (around : ElementContext) (found : List Cell) (rows : List NamedRow) → frame.gutter ≡ 1 → StandsAlone around
+removal_for_addition : (v : Vec Patch Global) (frame : Layout) (around : ElementContext) (found : List Cell) (rows : List NamedRow) → frame.gutter ≡ 1 → frame.decor ≡ Ascii → StandsAlone around
     → (shown : ShowsSuggestion plain_settings frame around found (third_unfolded v) rows)
     → (get_or (row_at (cells_of shown.after) 3) 4 SPACE).role ≡ Removal → ⊥
-removal_for_addition v frame around found rows narrow alone shown wrong =
+removal_for_addition v frame around found rows narrow plain alone shown wrong =
     let s : Snippet Patch = third_unfolded v in
-    let all = rows_alone frame around found s (cells_of shown.after) (narrow_layout frame s narrow refl) alone shown.cells ∙ unfolded_cells v (not (is_end around.next)) in
+    let all = rows_alone frame around found s (cells_of shown.after) (narrow_layout frame s narrow plain refl) alone shown.cells ∙ unfolded_cells frame.code v (not (is_end around.next)) in
     let Role : List (List Cell) → ElementStyle = λ rs. (get_or (row_at rs 3) 4 SPACE).role in
     let role : Removal ≡ Addition = sym wrong ∙ ap Role all in
     cc

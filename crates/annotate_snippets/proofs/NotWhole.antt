@@ -183,7 +183,7 @@ linked_elsewhere r text id trusted place follows rows url wrong shown =
 
     in_own : (own : List (List Cell)) → rows ≡ own ++ rows_after_title r frame place follows trusted → (cell_at own 0 0).link ≡ None → ⊥
     in_own [] same none =
-        let both : ◌≡◌ {A = Option (List ℕ)} (Some url) None = sym wrong ∙ ap (λ all. (cell_at all 0 0).link) same ∙ below r.decor_style (is_before_message follows) (is_end follows && is_first_of_several place && not trusted) in
+        let both : ◌≡◌ {A = Option (List ℕ)} (Some url) None = sym wrong ∙ ap (λ all. (cell_at all 0 0).link) same ∙ below frame.decor (is_before_message follows) (is_end follows && is_first_of_several place && not trusted) in
         cc
     in_own (row ∷ own) same none =
         let both : ◌≡◌ {A = Option (List ℕ)} (Some url) None = sym wrong ∙ ap (λ all. (cell_at all 0 0).link) same ∙ none in

@@ -29,7 +29,7 @@ use Rattle.snippet_titles.proofs.OriginNumbers.{closing_row-unnumbered, origin_r
 use Rattle.annotate_snippets.specs.declared.renderer.Renderer.{Renderer}
 use Rattle.annotate_snippets.specs.declared.renderer.element_context.ElementContext.{ElementContext}
 use Rattle.annotate_snippets.specs.declared.renderer.element_context.GroupPosition.{GroupPosition}
-use Rattle.annotate_snippets.specs.declared.renderer.frame.Frame.{Frame}
+use Rattle.snippet_grid.specs.Layout.{Layout}
 use Rattle.annotate_snippets.specs.Around.{closes_after, closes_with, context_at, is_before_message, is_end, is_first_group, path_bytes}
 use Rattle.annotate_snippets.specs.Drawn.{found_at}
 use Rattle.annotate_snippets.specs.Numbers.{HasNumbersOfLines, IsNumberedAsLine, shows_a_line}
@@ -85,54 +85,54 @@ others_numbered gutter (row ∷ rows) none =
 one_row : (gutter : ℕ) (row : List Cell) → HasNoNumber gutter row → All (HasNoNumber gutter) (row ∷ [])
 one_row gutter row none = All-cons (HasNoNumber gutter) row [] none (All-nil (HasNoNumber gutter))
 
-closing_unnumbered : (r : Renderer) (frame : Frame) (closes : Bool) → All (HasNoNumber frame.gutter) (cond closes (closing_rows r frame) [])
-closing_unnumbered r frame true = one_row frame.gutter _ (closing_row-unnumbered r.decor_style frame.gutter)
+closing_unnumbered : (r : Renderer) (frame : Layout) (closes : Bool) → All (HasNoNumber frame.gutter) (cond closes (closing_rows r frame) [])
+closing_unnumbered r frame true = one_row frame.gutter _ (closing_row-unnumbered frame.decor frame.gutter)
 closing_unnumbered r frame false = All-nil (HasNoNumber frame.gutter)
 
-after_unnumbered : (r : Renderer) (frame : Frame) (separates closes : Bool) → All (HasNoNumber frame.gutter) (cond separates (separator_rows r frame) (cond closes (closing_rows r frame) []))
-after_unnumbered r frame true closes = one_row frame.gutter _ (separator_row-unnumbered r.decor_style frame.gutter)
+after_unnumbered : (r : Renderer) (frame : Layout) (separates closes : Bool) → All (HasNoNumber frame.gutter) (cond separates (separator_rows r frame) (cond closes (closing_rows r frame) []))
+after_unnumbered r frame true closes = one_row frame.gutter _ (separator_row-unnumbered frame.decor frame.gutter)
 after_unnumbered r frame false closes = closing_unnumbered r frame closes
 
 -- ---- snippets
 
-row_numbered : (r : Renderer) (frame : Frame) (closes : Bool) (s : Snippet Annotation) (name : RowName) (cells : List Cell) (rows : List NamedRow) → IsRowOf r frame closes s name cells rows → shows_a_line name ≡ false → HasNoNumber frame.gutter cells
+row_numbered : (r : Renderer) (frame : Layout) (closes : Bool) (s : Snippet Annotation) (name : RowName) (cells : List Cell) (rows : List NamedRow) → IsRowOf r frame closes s name cells rows → shows_a_line name ≡ false → HasNoNumber frame.gutter cells
 row_numbered r frame closes s (SourceRow k) cells rows is none = absurd (false≢true (sym none))
-row_numbered r frame closes s Elision cells rows is none = unnumbered_elided r.decor_style frame cells is
+row_numbered r frame closes s Elision cells rows is none = unnumbered_elided frame.decor frame cells is
 row_numbered r frame closes s (OfferedLine j) cells rows is none = absurd is
 row_numbered r frame closes s (RemovedLine i) cells rows is none = absurd is
 row_numbered r frame closes s Other cells rows is none =
-    unnumbered_below r.decor_style frame (closes && length rows == 0) cells is
+    unnumbered_below frame.decor frame (closes && length rows == 0) cells is
 
-rows_numbered : (r : Renderer) (frame : Frame) (closes : Bool) (s : Snippet Annotation) (rows : List NamedRow) → AreRowsOf r frame closes s rows → All (IsNumberedAsLine frame.gutter) rows
+rows_numbered : (r : Renderer) (frame : Layout) (closes : Bool) (s : Snippet Annotation) (rows : List NamedRow) → AreRowsOf r frame closes s rows → All (IsNumberedAsLine frame.gutter) rows
 rows_numbered r frame closes s [] are = All-nil (IsNumberedAsLine frame.gutter)
 rows_numbered r frame closes s (row ∷ rows) are =
     All-cons (IsNumberedAsLine frame.gutter) row rows (row_numbered r frame closes s row.name row.cells rows are.0) (rows_numbered r frame closes s rows are.1)
 
 -- ---- suggestions
 
-suggested_numbered : (r : Renderer) (gutter : ℕ) (s : Snippet Patch) (name : RowName) (cells : List Cell) → IsSuggestionRow r gutter s name cells → shows_a_line name ≡ false → HasNoNumber gutter cells
-suggested_numbered r gutter s (SourceRow k) cells is none = absurd is
-suggested_numbered r gutter s Elision cells is none = absurd is
-suggested_numbered r gutter s (OfferedLine j) cells is none = absurd (false≢true (sym none))
-suggested_numbered r gutter s (RemovedLine i) cells is none = absurd (false≢true (sym none))
-suggested_numbered r gutter s Other cells is none =
-    λ c left. stroke_unnumbered r.decor_style (get_or cells c SPACE).ch (is.strokes c (omega (arith, left)))
+suggested_numbered : (r : Renderer) (decor : DecorStyle) (gutter : ℕ) (s : Snippet Patch) (name : RowName) (cells : List Cell) → IsSuggestionRow r decor gutter s name cells → shows_a_line name ≡ false → HasNoNumber gutter cells
+suggested_numbered r decor gutter s (SourceRow k) cells is none = absurd is
+suggested_numbered r decor gutter s Elision cells is none = absurd is
+suggested_numbered r decor gutter s (OfferedLine j) cells is none = absurd (false≢true (sym none))
+suggested_numbered r decor gutter s (RemovedLine i) cells is none = absurd (false≢true (sym none))
+suggested_numbered r decor gutter s Other cells is none =
+    λ c left. stroke_unnumbered decor (get_or cells c SPACE).ch (is.strokes c (omega (arith, left)))
 
-path_unnumbered : (r : Renderer) (frame : Frame) (first : Bool) (s : Snippet Patch) (path : Option (List ℕ)) → All (HasNoNumber frame.gutter) (path_row r frame first s path)
+path_unnumbered : (r : Renderer) (frame : Layout) (first : Bool) (s : Snippet Patch) (path : Option (List ℕ)) → All (HasNoNumber frame.gutter) (path_row r frame first s path)
 path_unnumbered r frame first s None = All-nil (HasNoNumber frame.gutter)
 path_unnumbered r frame first s (Some path) =
     one_row frame.gutter _ (origin_row-unnumbered (origin_layout r frame) (primary_start first) path (patch_place s))
 
-head_unnumbered : (begins : SuggestionStart) (r : Renderer) (frame : Frame) (first : Bool) (s : Snippet Patch) → All (HasNoNumber frame.gutter) (suggestion_head_at begins r frame first s)
+head_unnumbered : (begins : SuggestionStart) (r : Renderer) (frame : Layout) (first : Bool) (s : Snippet Patch) → All (HasNoNumber frame.gutter) (suggestion_head_at begins r frame first s)
 head_unnumbered start.Opening r frame first s = All-nil (HasNoNumber frame.gutter)
 head_unnumbered start.Next r frame first s = All-nil (HasNoNumber frame.gutter)
 head_unnumbered start.Path r frame first s = path_unnumbered r frame first s (path_bytes s.path)
 
 -- ---- elements
 
-element_numbered : (r : Renderer) (frame : Frame) (around : ElementContext) (found : List Cell) (e : Element) (rows : List NamedRow) → ShowsElement r frame around found e rows → All (IsNumberedAsLine frame.gutter) rows
+element_numbered : (r : Renderer) (frame : Layout) (around : ElementContext) (found : List Cell) (e : Element) (rows : List NamedRow) → ShowsElement r frame around found e rows → All (IsNumberedAsLine frame.gutter) rows
 element_numbered r frame around found (element.Message message) rows shown =
-    let place : MessageContext = record { gutter = frame.gutter; decor = r.decor_style; followed = not (is_end around.next) } in
+    let place : MessageContext = record { frame = frame; followed = not (is_end around.next) } in
     let none : All (HasNoNumber frame.gutter) (cells_of rows) = subst (All (HasNoNumber frame.gutter)) (sym shown.shows.rows_are) (message_rows-unnumbered r.hyperlink place (heading_of_message message)) in
     subst (All (IsNumberedAsLine frame.gutter)) (sym shown.named) (others_numbered frame.gutter (cells_of rows) none)
 element_numbered r frame around found (element.Cause s) rows shown =
@@ -147,18 +147,18 @@ element_numbered r frame around found (element.Suggestion s) rows shown =
     let P : NamedRow → Type 0 = IsNumberedAsLine frame.gutter in
     let head : List (List Cell) = suggestion_head r frame around s in
     let above : All P (others head) = others_numbered frame.gutter head (head_unnumbered around.start r frame around.first s) in
-    let lines : All P shown.after = All-weaker (λ row. IsSuggestionRow r frame.gutter s row.name row.cells) P (λ row is. suggested_numbered r frame.gutter s row.name row.cells is) shown.after shown.named in
+    let lines : All P shown.after = All-weaker (λ row. IsSuggestionRow r frame.decor frame.gutter s row.name row.cells) P (λ row is. suggested_numbered r frame.decor frame.gutter s row.name row.cells is) shown.after shown.named in
     subst (All P) (sym shown.rows_are) (All-append P (others head) shown.after above lines)
 element_numbered r frame around found (element.Origin origin) rows shown =
     let P : List Cell → Type 0 = HasNoNumber frame.gutter in
     let none : All P (origin_rows r frame around origin) = All-cons P _ _ (origin_row-unnumbered (origin_layout r frame) (origin_start around) (cow_str_bytes origin.path) (place_given origin)) (closing_unnumbered r frame (closes_after around)) in
     subst (All (IsNumberedAsLine frame.gutter)) (sym shown.rows_are) (others_numbered frame.gutter (origin_rows r frame around origin) none)
 element_numbered r frame around found (element.Padding padding) rows shown =
-    let row : List Cell = padding_row r.decor_style frame.gutter (is_end around.next) in
-    subst (All (IsNumberedAsLine frame.gutter)) (sym shown) (others_numbered frame.gutter (row ∷ []) (one_row frame.gutter row (padding_row-unnumbered r.decor_style frame.gutter (is_end around.next))))
+    let row : List Cell = padding_row frame.decor frame.gutter (is_end around.next) in
+    subst (All (IsNumberedAsLine frame.gutter)) (sym shown) (others_numbered frame.gutter (row ∷ []) (one_row frame.gutter row (padding_row-unnumbered frame.decor frame.gutter (is_end around.next))))
 
 -- a group's elements have numbers beside lines alone
-pub group_numbered : (r : Renderer) (frame : Frame) (place : GroupPosition) (file : Option (List ℕ)) (es : List Element) (g : GroupPage) → AreElementsShown r frame place file es g.elements → HasNumbersOfLines frame.gutter g
+pub group_numbered : (r : Renderer) (frame : Layout) (place : GroupPosition) (file : Option (List ℕ)) (es : List Element) (g : GroupPage) → AreElementsShown r frame place file es g.elements → HasNumbersOfLines frame.gutter g
 group_numbered r frame place file es g shown =
     All-from_get_or (λ rows. All (IsNumberedAsLine frame.gutter) rows) g.elements [] each
   where

@@ -21,8 +21,7 @@ use Rattle.snippet_strokes.specs.Bars.{Bar, open_below, open_past}
 use Rattle.snippet_strokes.specs.Snippet as strokes
 use Rattle.snippet_strokes.specs.Snippet.{gap_row}
 use Rattle.annotate_snippets.specs.declared.renderer.Renderer.{Renderer}
-use Rattle.annotate_snippets.specs.declared.renderer.frame.Frame.{Frame}
-use Rattle.annotate_snippets.specs.Drawn.{layout_in}
+use Rattle.snippet_grid.specs.Layout.{Layout}
 use Rattle.annotate_snippets.specs.GraphicForm.{gap_below, named_line, rows_of_line, rows_of_lines}
 use Rattle.annotate_snippets.specs.Gutter.{line_numbers, numbered_source}
 use Rattle.annotate_snippets.specs.LineRows.{AreRowsDrawn, IsLineDrawn, bars_on}
@@ -64,7 +63,7 @@ names_in-others (row ∷ rows) more = names_in-others rows more
 some_more : (m n : ℕ) → (suc m == 0) ≡ (suc n == 0)
 some_more m n = grind (arith, nat_tests)
 
-module _ (r : Renderer) (frame : Frame) (s : Snippet Annotation)
+module _ (r : Renderer) (frame : Layout) (s : Snippet Annotation)
     (spans : All (λ a. IsSpan (cow_str_bytes s.source) a.span.start a.span.end) s.markers.items) (margin : Margin)
     (room : margin.term_width ≡ room_of r frame) (bounds : bounds_of margin ≡ bounds_in r frame s)
     (ordered : (bounds_of margin).left ≤ (bounds_of margin).right) (place : frame.gutter + 3 ≤ frame.code) (closes : Bool) where
@@ -80,30 +79,30 @@ module _ (r : Renderer) (frame : Frame) (s : Snippet Annotation)
   -- the rows of a line show it, with the marks below
   line_and_marks : (last : Bool) (open_bars : List Bar) (k : ℕ) (info : AnnotatedLineInfo) (rows : List (List Cell)) (more : List NamedRow)
       → k < own_lines → seen_kept info ≡ line_of_snippet k → NumberFits info
-      → (shows : strokes.ShowsLine (layout_in r frame) margin (line_numbers r s.line_numbering) last open_bars info rows) → rows_below more ≡ []
+      → (shows : strokes.ShowsLine frame margin (line_numbers r s.line_numbering) last open_bars info rows) → rows_below more ≡ []
       → ShowsLineAndMarks r frame s k shows.source (cells_below (others shows.below ++ more)) (rows_below (others shows.below ++ more))
   line_and_marks last open_bars k info rows more within seen fits shows ends =
       record {
         dropped = shows.dropped;
         line = source_line r frame s spans margin room bounds ordered last open_bars k info rows within seen fits shows place;
-        marks = λ qualifies. subst (λ row. ShowsMarksOf r.decor_style frame s k shows.dropped row)
+        marks = λ qualifies. subst (λ row. ShowsMarksOf frame.decor frame s k shows.dropped row)
             (sym (below-first shows.below more
             (marks_there r frame s spans margin room bounds ordered last open_bars k info rows within seen fits shows qualifies)))
             (marks_of_line r frame s spans margin room bounds ordered last open_bars k info rows within seen fits shows qualifies);
-        labels = λ uncut. subst (λ lower. ShowsLabels r.decor_style frame s k shows.dropped lower) (sym (below-own shows.below more ends)) (labels_of_line r frame s spans margin room bounds ordered last open_bars k info rows within seen fits shows uncut);
+        labels = λ uncut. subst (λ lower. ShowsLabels frame.decor frame s k shows.dropped lower) (sym (below-own shows.below more ends)) (labels_of_line r frame s spans margin room bounds ordered last open_bars k info rows within seen fits shows uncut);
       }
 
   -- rows below a line, with the last of which the window closes where no row stands after
   others_are : (last : Bool) (rows : List (List Cell)) (more : List NamedRow) → (length more == 0) ≡ last
-      → ((i : ℕ) → i < length rows → IsRowBelow r.decor_style frame ((closes && last) && i + 1 == length rows) (row_at rows i))
+      → ((i : ℕ) → i < length rows → IsRowBelow frame.decor frame ((closes && last) && i + 1 == length rows) (row_at rows i))
       → AreRowsOf r frame closes s more → AreRowsOf r frame closes s (others rows ++ more)
   others_are last [] more ends below are = are
   others_are last (row ∷ rows) more ends below are =
-      let own : IsRowBelow r.decor_style frame ((closes && last) && 0 + 1 == length (row ∷ rows)) row = below 0 (omega arith) in
-      let further : (i : ℕ) → i < length rows → IsRowBelow r.decor_style frame ((closes && last) && i + 1 == length rows) (row_at rows i) =
-      λ i within. subst (λ b. IsRowBelow r.decor_style frame ((closes && last) && b) (row_at rows i)) (shifted i (length rows))
+      let own : IsRowBelow frame.decor frame ((closes && last) && 0 + 1 == length (row ∷ rows)) row = below 0 (omega arith) in
+      let further : (i : ℕ) → i < length rows → IsRowBelow frame.decor frame ((closes && last) && i + 1 == length rows) (row_at rows i) =
+      λ i within. subst (λ b. IsRowBelow frame.decor frame ((closes && last) && b) (row_at rows i)) (shifted i (length rows))
       (below (suc i) (omega (arith, within))) in
-      (subst (λ b. IsRowBelow r.decor_style frame b row) (with_last rows) own, others_are last rows more ends further are)
+      (subst (λ b. IsRowBelow frame.decor frame b row) (with_last rows) own, others_are last rows more ends further are)
     where
       shifted : (i n : ℕ) → (suc i + 1 == suc n) ≡ (i + 1 == n)
       shifted i n = grind (arith, nat_tests)
@@ -147,7 +146,7 @@ module _ (r : Renderer) (frame : Frame) (s : Snippet Annotation)
 
   gap_named : (open_bars : List Bar) (j : ℕ) (ks : List ℕ) (info : AnnotatedLineInfo) (infos : List AnnotatedLineInfo) (rows : List (List Cell))
       → seen_kept info ≡ line_of_snippet j → map seen_kept infos ≡ map line_of_snippet ks
-      → strokes.IsGap (layout_in r frame) open_bars info.line_index infos rows → IsGapNamed open_bars j ks rows
+      → strokes.IsGap frame open_bars info.line_index infos rows → IsGapNamed open_bars j ks rows
   gap_named open_bars j [] info [] rows here lines gap =
       record { gap = []; cells = sym gap; lines = λ more. refl; names = λ more none. ap (λ names. SourceRow j ∷ names) none; are = λ more are. are; ends = λ more same. same; begins = λ more none. none; drawn = λ more none drawn. drawn; value = refl }
   gap_named open_bars j [] info (next ∷ infos) rows here lines gap = cc
@@ -169,7 +168,7 @@ module _ (r : Renderer) (frame : Frame) (s : Snippet Annotation)
               ends = λ more same. some_more (length more) (length ks);
               begins = λ more none. refl;
               drawn = λ more none drawn. ((left_out.4, none), drawn);
-              value = ap gap_of left_out.4 ∙ sym (ap (λ b. cond b (gap_of (gap_row (layout_in r frame) open_bars)) []) far);
+              value = ap gap_of left_out.4 ∙ sym (ap (λ b. cond b (gap_of (gap_row frame open_bars)) []) far);
             }
         | inr next_to ↦
             let near : ltb (j + 1) k ≡ false = le-ltb (j + 1) k (omega (arith, own, its, next_to.0)) in
@@ -182,7 +181,7 @@ module _ (r : Renderer) (frame : Frame) (s : Snippet Annotation)
               ends = λ more same. same;
               begins = λ more none. none;
               drawn = λ more none drawn. drawn;
-              value = sym (ap (λ b. cond b (gap_of (gap_row (layout_in r frame) open_bars)) []) near);
+              value = sym (ap (λ b. cond b (gap_of (gap_row frame open_bars)) []) near);
             }
       ]
 
@@ -212,7 +211,7 @@ module _ (r : Renderer) (frame : Frame) (s : Snippet Annotation)
   -- the rows of kept lines have the names of their lines
   pub named_lines : (open_bars : List Bar) (ks : List ℕ) (infos : List AnnotatedLineInfo) (rows : List (List Cell)) → All (λ k. k < own_lines) ks
       → map seen_kept infos ≡ map line_of_snippet ks → All NumberFits infos
-      → strokes.AreLinesShown (layout_in r frame) margin (line_numbers r s.line_numbering) closes open_bars infos rows → AreNamed open_bars ks rows
+      → strokes.AreLinesShown frame margin (line_numbers r s.line_numbering) closes open_bars infos rows → AreNamed open_bars ks rows
   named_lines open_bars [] [] rows within lines fit shown = record { part = []; cells = sym shown; lines = refl; names = refl; are = tt; ends = refl; begins = refl; drawn = tt; value = refl }
   named_lines open_bars [] (info ∷ infos) rows within lines fit shown = cc
   named_lines open_bars (k ∷ ks) [] rows within lines fit shown = cc
@@ -222,7 +221,7 @@ module _ (r : Renderer) (frame : Frame) (s : Snippet Annotation)
       let open_now : List Bar = open_below open_bars info.annotations.items in
       let rest : AreNamed open_now ks shown.2 = named_lines open_now ks infos shown.2 (All-tail (λ j. j < own_lines) k ks within) further (All-tail NumberFits info infos fit) shown.6 in
       let last : Bool = length infos == 0 in
-      let shows : strokes.ShowsLine (layout_in r frame) margin (line_numbers r s.line_numbering) (closes && last) open_bars info shown.0 = shown.4 in
+      let shows : strokes.ShowsLine frame margin (line_numbers r s.line_numbering) (closes && last) open_bars info shown.0 = shown.4 in
       let source_row : NamedRow = record { name = SourceRow k; cells = shows.source } in
       let between : IsGapNamed open_now k ks shown.1 = gap_named open_now k ks info infos shown.1 here further shown.5 in
       let after : List NamedRow = between.gap ++ rest.part in
@@ -242,7 +241,7 @@ module _ (r : Renderer) (frame : Frame) (s : Snippet Annotation)
           line_and_marks (closes && last) open_bars k info shown.0 after (All-head (λ j. j < own_lines) k ks within)
               here (All-head NumberFits info infos fit) shows (between.begins rest.part rest.begins),
           others_are last shows.below after ends
-              (λ i inside. row_below r.decor_style frame (closes && last) _ _ shows.below i (shows.strokes.are i inside))
+              (λ i inside. row_below frame.decor frame (closes && last) _ _ shows.below i (shows.strokes.are i inside))
               (between.are rest.part rest.are),
         );
         ends = some_more (length (others shows.below ++ after)) (length ks);

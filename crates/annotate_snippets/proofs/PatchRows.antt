@@ -39,7 +39,7 @@ use Rattle.annotate_snippets.specs.Drawn.{AddsElement, HasRoomFor, suggestion_la
 use Rattle.annotate_snippets.specs.Gutter.{line_numbers}
 use Rattle.annotate_snippets.specs.Rows.{path_head, path_row, separator_rows, suggestion_head, suggestion_head_at}
 use Rattle.annotate_snippets.specs.declared.renderer.Renderer.{Renderer}
-use Rattle.annotate_snippets.specs.declared.renderer.frame.Frame.{Frame}
+use Rattle.snippet_grid.specs.Layout.{Layout}
 use Rattle.annotate_snippets.specs.declared.renderer.element_context.ElementContext.{ElementContext}
 
 -- the separator row shows no line
@@ -68,17 +68,17 @@ none_not : {A : Type 0} (xs : List A) → xs ≢ [] → nat_eq (length xs) 0 ≡
 none_not [] some = absurd (some refl)
 none_not (x ∷ xs) some = grind (arith, nat_tests)
 
-pub gutter_room : (r : Renderer) (frame : Frame) (s : Snippet Patch) → s.markers.items ≢ [] → HasRoomFor r frame (Suggestion s) → HasGutter (suggestion_layout r frame s) s
+pub gutter_room : (r : Renderer) (frame : Layout) (s : Snippet Patch) → s.markers.items ≢ [] → HasRoomFor r frame (Suggestion s) → HasGutter (suggestion_layout r frame s) s
 gutter_room r frame s some room =
     wide_enough s.line_numbering r.anonymized_snippet_line_numbers (nat_eq (length s.markers.items) 0) 0 frame.gutter (counted_line s) (none_not s.markers.items some) room.anonymized room.numbers
 
 -- the row of a path with the separator row below it
-path_head_is : (r : Renderer) (frame : Frame) (first : Bool) (s : Snippet Patch) (path : Option (List ℕ)) → is_some path ≡ true → flat_map (λ path. path_row r frame first s (Some path) ++ separator_rows r frame) (option_to_list path) ≡ path_row r frame first s path ++ separator_rows r frame
+path_head_is : (r : Renderer) (frame : Layout) (first : Bool) (s : Snippet Patch) (path : Option (List ℕ)) → is_some path ≡ true → flat_map (λ path. path_row r frame first s (Some path) ++ separator_rows r frame) (option_to_list path) ≡ path_row r frame first s path ++ separator_rows r frame
 path_head_is r frame first s None some = absurd (cc)
 path_head_is r frame first s (Some path) some = refl
 
 -- what stands below some rows where a suggestion begins: the row in which it begins, if it shares that
-pub record Begun (r : Renderer) (frame : Frame) (at : SuggestionStart) (layout : SuggestionLayout) (found : List Cell) (rows mid : List (List Cell)) : Type 0 where
+pub record Begun (r : Renderer) (frame : Layout) (at : SuggestionStart) (layout : SuggestionLayout) (found : List Cell) (rows mid : List (List Cell)) : Type 0 where
   pub end : List (List Cell)
   pub is : mid ≡ rows ++ end
   pub start : IsStart layout at end
@@ -86,8 +86,8 @@ pub record Begun (r : Renderer) (frame : Frame) (at : SuggestionStart) (layout :
   pub under : row_at end 0 ≡ under_of r frame at found
 
 -- so stand its head, and that row
-pub begun_below : (r : Renderer) (frame : Frame) (at : SuggestionStart) (first : Bool) (s : Snippet Patch) (found : List Cell) (above tail old mid : List (List Cell))
-    → old ≡ above ++ tail → IsTail r.decor_style frame.gutter (is_next_start at) tail → (is_next_start at ≡ true → tail ≡ found ∷ []) → HasPathFor at s
+pub begun_below : (r : Renderer) (frame : Layout) (at : SuggestionStart) (first : Bool) (s : Snippet Patch) (found : List Cell) (above tail old mid : List (List Cell))
+    → old ≡ above ++ tail → IsTail frame.decor frame.gutter (is_next_start at) tail → (is_next_start at ≡ true → tail ≡ found ∷ []) → HasPathFor at s
     → (at ≡ Path → mid ≡ old ++ path_head r frame first s) → ((at ≡ Path → ⊥) → mid ≡ old)
     → Begun r frame at (suggestion_layout r frame s) found (above ++ suggestion_head_at at r frame first s) mid
 begun_below r frame Opening first s found above tail old mid is tail_is found_is path headed same =
@@ -113,7 +113,7 @@ begun_below r frame Path first s found above tail old mid is tail_is found_is pa
     record {
       end = separator_rows r frame;
       is = headed refl ∙ ap (λ rows. rows ++ path_head r frame first s) old_is ∙ ap (λ rows. above ++ rows) head_is ∙ sym (append_assoc above head (separator_rows r frame));
-      start = (separator_row r.decor_style frame.gutter, refl, separator_stroke r.decor_style frame.gutter);
+      start = (separator_row frame.decor frame.gutter, refl, separator_stroke frame.decor frame.gutter);
       count = refl;
       under = refl;
     }
@@ -141,7 +141,7 @@ snoc_parts (a ∷ xs) (b ∷ ys) x y same =
     (ap (λ r. r ∷ xs) first ∙ ap (λ rs. b ∷ rs) later.0, later.1)
 
 -- the rows of a suggestion below those that it begins with are the element's: its last row is its own, or the next one begins in it
-pub suggestion_added : (r : Renderer) (frame : Frame) (around : ElementContext) (s : Snippet Patch) (found under : List Cell) (above new : List (List Cell))
+pub suggestion_added : (r : Renderer) (frame : Layout) (around : ElementContext) (s : Snippet Patch) (found under : List Cell) (above new : List (List Cell))
     → IsUtf8 (cow_str_bytes s.source) → IsUtf8 (given_text s) → under ≡ under_of r frame around.start found
     → AddsSuggestion (suggestion_layout r frame s) around.start (follows around) s (above ++ suggestion_head r frame around s) new
     → new ≡ (above ++ suggestion_head r frame around s) ++ suggestion_cells (suggestion_layout r frame s) around.start (follows around) s under
@@ -181,7 +181,7 @@ suggestion_added r frame around s found under above new utf8 given_utf8 under_is
             are = subst (λ shown. AllZip IsShown shown adds.rows) (sym (ap ends shares ∙ append-nil (rows_of_suggestion around.start s))) adds.are;
             cells = parts.0 ∙ sym (append-nil body) ∙ ap (λ (b : Bool). body ++ (if b then [] else last ∷ [])) (sym shares) ∙ over;
           };
-          ends = subst (λ b. IsTail r.decor_style frame.gutter b (adds.last ∷ [])) (sym shares) (adds.last, follows around, refl, adds.last_is);
+          ends = subst (λ b. IsTail frame.decor frame.gutter b (adds.last ∷ [])) (sym shares) (adds.last, follows around, refl, adds.last_is);
           last = λ shared. ap (λ (row : List Cell). row ∷ []) parts.1;
         }
     at false shares =
@@ -203,13 +203,13 @@ suggestion_added r frame around s found under above new utf8 given_utf8 under_is
             are = subst (λ shown. AllZip IsShown shown lines) (sym (ap ends shares)) (zip_push IsShown (rows_of_suggestion around.start s) adds.rows (Ends (follows around)) adds.last adds.are adds.last_is);
             cells = ap (λ rows. rows ++ adds.last ∷ []) parts.0 ∙ ap (λ (row : List Cell). body ++ row ∷ []) parts.1 ∙ ap (λ (b : Bool). body ++ (if b then [] else last ∷ [])) (sym shares) ∙ over;
           };
-          ends = subst (λ b. IsTail r.decor_style frame.gutter b []) (sym shares) refl;
+          ends = subst (λ b. IsTail frame.decor frame.gutter b []) (sym shares) refl;
           last = λ shared. let never : ◌≡◌ {A = Bool} true false = sym shared ∙ shares in cc;
         }
 
 -- the layout, where this stands in the gutter
-abbrev pub layout_with : Renderer → Frame → LineNumbers → SuggestionLayout
-layout_with r frame numbers = record { gutter = frame.gutter; numbers = numbers; decor = r.decor_style }
+abbrev pub layout_with : Renderer → Layout → LineNumbers → SuggestionLayout
+layout_with r frame numbers = record { frame = frame; numbers = numbers }
 
 -- what drawing a suggestion adds in a layout, if it succeeds
 abbrev pub DrawsBelow : Snippet Patch → SuggestionStart → Bool → List (List Cell) → List (List Cell) → Result (Unit {0}) AllocError → SuggestionLayout → Type 0
@@ -222,10 +222,10 @@ DrawsCells s at next mid new result layout =
     (above tail : List (List Cell)) → mid ≡ above ++ tail → length tail ≡ rows_shared at → OnOk result (new ≡ above ++ suggestion_cells layout at next s (row_at tail 0))
 
 -- the rows of a suggestion stand below what is there
-pub patches_added : (r : Renderer) (frame : Frame) (around : ElementContext) (s : Snippet Patch) (found : List Cell) (above tail old mid new : List (List Cell))
+pub patches_added : (r : Renderer) (frame : Layout) (around : ElementContext) (s : Snippet Patch) (found : List Cell) (above tail old mid new : List (List Cell))
     (numbers : LineNumbers) (next : Bool) (result : Result (Unit {0}) AllocError) → numbers ≡ line_numbers r s.line_numbering → next ≡ follows around
     → s.markers.items ≢ [] → IsUtf8 (cow_str_bytes s.source) → IsUtf8 (given_text s) → HasRoomFor r frame (Suggestion s) → old ≡ above ++ tail
-    → IsTail r.decor_style frame.gutter (begins_in_row_above around) tail → (begins_in_row_above around ≡ true → tail ≡ found ∷ []) → HasPathFor around.start s
+    → IsTail frame.decor frame.gutter (begins_in_row_above around) tail → (begins_in_row_above around ≡ true → tail ≡ found ∷ []) → HasPathFor around.start s
     → (around.start ≡ Path → mid ≡ old ++ path_head r frame around.first s) → ((around.start ≡ Path → ⊥) → mid ≡ old)
     → DrawsBelow s around.start next mid new result (layout_with r frame numbers)
     → DrawsCells s around.start next mid new result (layout_with r frame numbers) → OnOk result (AddsElement r frame around found (Suggestion s) above new)

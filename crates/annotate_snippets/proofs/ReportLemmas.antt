@@ -22,7 +22,7 @@ use Rattle.annotate_snippets.specs.Around.{drawn_elements, file_of_group, next_o
 use Rattle.annotate_snippets.specs.Drawn.{AreGridsOf}
 use Rattle.annotate_snippets.specs.Fault.{first_fault, first_refusal, form_of, missing_title}
 use Rattle.annotate_snippets.specs.Feeds.{HasOneLineRows, HasOneLineTexts, IsOneLineGroup}
-use Rattle.annotate_snippets.specs.GraphicForm.{graphic_form, group_page}
+use Rattle.annotate_snippets.specs.GraphicForm.{group_page}
 use Rattle.annotate_snippets.specs.Gutter.{frame_of}
 use Rattle.annotate_snippets.specs.Page.{ArePrinted, GroupPage, Page, PrintsGrids, PrintsPage, group_rows, page_links, page_text}
 use Rattle.annotate_snippets.specs.Prepared.{IsGroupDrawable}

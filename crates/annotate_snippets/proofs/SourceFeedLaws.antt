@@ -21,7 +21,7 @@ use Rattle.snippet_lines.specs.declared.number.LineNumbers.TheVariants.{Anonymiz
 use Rattle.snippet_model.specs.declared.snippet.Annotation.{Annotation}
 use Rattle.snippet_model.specs.declared.snippet.Snippet.{Snippet}
 use Rattle.annotate_snippets.specs.declared.renderer.Renderer.{Renderer}
-use Rattle.annotate_snippets.specs.declared.renderer.frame.Frame.{Frame}
+use Rattle.snippet_grid.specs.Layout.{Layout}
 use Rattle.annotate_snippets.specs.Gutter.{line_numbers, number_text}
 use Rattle.annotate_snippets.specs.Shown.{ShowsSourceLine, bounds_in, cells_left, room_of, wide_spans}
 use Rattle.annotate_snippets.specs.Feeds.{HasNoFeed, HoldsNoFeed, IsNoFeed}
@@ -124,25 +124,25 @@ code_plain code row plain c right within =
 
 -- a source row holds no line feed where the characters of its line hold none, and that is so where stretches gave their place to a
 -- placeholder too
-pub source_one_line : (r : Renderer) (frame : Frame) (s : Snippet Annotation) (k dropped : ℕ) (row : List Cell) → ShowsSourceLine r frame s k dropped row → All IsNoFeed (chars_at (cow_str_bytes s.source) k) → HasNoFeed row
+pub source_one_line : (r : Renderer) (frame : Layout) (s : Snippet Annotation) (k dropped : ℕ) (row : List Cell) → ShowsSourceLine r frame s k dropped row → All IsNoFeed (chars_at (cow_str_bytes s.source) k) → HasNoFeed row
 source_one_line r frame s k dropped row shows plain =
-    let placeholder : List ℕ = placeholder_of r.decor_style in
+    let placeholder : List ℕ = placeholder_of frame.decor in
     let room : ℕ = room_of r frame in
     let bounds : Bounds = bounds_in r frame s in
     let line : List ℕ = norm (chars_at (cow_str_bytes s.source) k) in
     let shown : List ℕ = row_text (drop frame.code row) in
-    let own : All IsNoFeed placeholder = placeholder_plain r.decor_style in
+    let own : All IsNoFeed placeholder = placeholder_plain frame.decor in
     let windowed : All IsNoFeed (window placeholder room bounds.left bounds.right line) = window_plain placeholder room bounds.left bounds.right line own (norm_plain (chars_at (cow_str_bytes s.source) k) plain) in
     let text : All IsNoFeed shown = replaced_plain placeholder (wide_spans room (length placeholder) s k) (window placeholder room bounds.left bounds.right line) shown own shows.window.shown_is windowed in
     let number : List ℕ = number_text r s.line_numbering frame.gutter (s.line_start + k) in
-    let left : HasNoFeed (cells_left r.decor_style frame.gutter number) = left_plain r.decor_style frame.gutter number (number_plain (line_numbers r s.line_numbering) frame.gutter (s.line_start + k)) in
+    let left : HasNoFeed (cells_left frame.decor frame.gutter number) = left_plain frame.decor frame.gutter number (number_plain (line_numbers r s.line_numbering) frame.gutter (s.line_start + k)) in
     All-from_get_or HoldsNoFeed row SPACE (λ c within. elim (cases_lt c (frame.gutter + 2)) [
-      | inl before ↦ subst HoldsNoFeed (ap (λ cells. get_or cells c SPACE) (sym shows.left) ∙ get_or-take (frame.gutter + 2) row c SPACE before) (at_any (cells_left r.decor_style frame.gutter number) left c)
+      | inl before ↦ subst HoldsNoFeed (ap (λ cells. get_or cells c SPACE) (sym shows.left) ∙ get_or-take (frame.gutter + 2) row c SPACE before) (at_any (cells_left frame.decor frame.gutter number) left c)
       | inr after ↦ elim (cases_lt c frame.code) [
         | inr right ↦ code_plain frame.code row text c (omega (arith, right)) within
         | inl bars ↦ elim (cases_lt c (frame.gutter + 3)) [
           | inl gap ↦ subst HoldsNoFeed (sym (ap (λ n. get_or row n SPACE) (at_gap c (omega (arith, after)) gap) ∙ shows.space)) refl
-          | inr past ↦ bar_cell r.decor_style (get_or row c SPACE) (shows.bars c (omega (arith, past)) bars)
+          | inr past ↦ bar_cell frame.decor (get_or row c SPACE) (shows.bars c (omega (arith, past)) bars)
         ]
       ]
     ])

@@ -41,8 +41,7 @@ use Rattle.snippet_strokes.proofs.SnippetLemmas.{highlighted_left}
 use Rattle.snippet_strokes.proofs.SourceCellLaws.{begins, gap_space, line_source}
 use Rattle.snippet_marks.specs.Entries.{is_end_part}
 use Rattle.annotate_snippets.specs.declared.renderer.Renderer.{Renderer}
-use Rattle.annotate_snippets.specs.declared.renderer.frame.Frame.{Frame}
-use Rattle.annotate_snippets.specs.Drawn.{layout_in}
+use Rattle.snippet_grid.specs.Layout.{Layout}
 use Rattle.annotate_snippets.specs.Gutter.{code_after, number_text, numbered_source}
 use Rattle.annotate_snippets.specs.LineRows.{AreRowsDrawn, IsRowDrawn, bars_on, entries_on, open_after}
 use Rattle.annotate_snippets.specs.Page.{Elision, IsAscending, NamedRow, OfferedLine, Other, RemovedLine, RowName, SourceRow, lines_named, rows_below, shows_lines}
@@ -226,7 +225,7 @@ short_number decor gutter shown row same =
 
 -- ---- the rows
 
-module _ (r : Renderer) (frame : Frame) (closes : Bool) (s : Snippet Annotation) (spans : All (λ a. IsSpan (cow_str_bytes s.source) a.span.start a.span.end) s.markers.items) where
+module _ (r : Renderer) (frame : Layout) (closes : Bool) (s : Snippet Annotation) (spans : All (λ a. IsSpan (cow_str_bytes s.source) a.span.start a.span.end) s.markers.items) where
   abbrev Open : ℕ → List Bar → Type 0
   Open k bars = AreOpen (source s) (marks s) k bars
 
@@ -234,7 +233,7 @@ module _ (r : Renderer) (frame : Frame) (closes : Bool) (s : Snippet Annotation)
   abbrev HasBars : RowName → ℕ → List Cell → Type 0
   HasBars name k cells =
       (a : Annotation) → Contains (marks s) a → is_long (cow_str_bytes s.source) a ≡ true → first_line (cow_str_bytes s.source) a < k → k < last_line (cow_str_bytes s.source) a
-      → get_or cells (bar_cell_of frame s a) SPACE ≡ bar_beside (layout_in r frame) name (bar_by_place s a)
+      → get_or cells (bar_cell_of frame s a) SPACE ≡ bar_beside frame name (bar_by_place s a)
 
   -- so has each row of a line that is drawn
   line_bars : (open_bars : List Bar) (k : ℕ) (row : List Cell) (rows : List NamedRow) → IsRowDrawn r frame closes s open_bars (SourceRow k) row rows → Open k open_bars → All (HasBars Other k) (row ∷ rows_below rows)
@@ -254,11 +253,11 @@ module _ (r : Renderer) (frame : Frame) (closes : Bool) (s : Snippet Annotation)
   -- and a row in place of lines
   elision_bars : (open_bars : List Bar) (n : ℕ) (row : List Cell) (rows : List NamedRow) → IsRowDrawn r frame closes s open_bars Elision row rows → Open n open_bars → HasBars Elision n row
   elision_bars open_bars n row rows drawn are_open a among long above below =
-      let layout = layout_in r frame in
+      let layout = frame in
       let bar : Bar = bar_by_place s a in
       let here : Contains open_bars bar = among_contains open_bars bar (are_open.all a among long above (omega (arith, below))) in
       let own : HasOwnDepth bar open_bars = alone (source s) (marks s) spans n open_bars are_open a among long above (omega (arith, below)) in
-      ap (λ (cells : List Cell). get_or cells (bar_cell_of frame s a) SPACE) drawn.0 ∙ elision_stands layout bar open_bars (bare_elision_row r.decor_style frame.gutter) own here
+      ap (λ (cells : List Cell). get_or cells (bar_cell_of frame s a) SPACE) drawn.0 ∙ elision_stands layout bar open_bars (bare_elision_row frame.decor frame.gutter) own here
 
   -- a cell of bars is a space that has the depth of no span which touches line k
   abbrev HasSpaces : ℕ → List Cell → Type 0
@@ -270,7 +269,7 @@ module _ (r : Renderer) (frame : Frame) (closes : Bool) (s : Snippet Annotation)
       → get_or line.highlighted (frame.gutter + 2 + depth) SPACE ≡ SPACE
   line_blank open_bars k row rows shows line depth some within =
       let cell : ℕ = frame.gutter + 2 + depth in
-      let short = short_number r.decor_style frame.gutter (number_text r s.line_numbering frame.gutter (s.line_start + k)) row shows.line.left in
+      let short = short_number frame.decor frame.gutter (number_text r s.line_numbering frame.gutter (s.line_start + k)) row shows.line.left in
       highlighted_left frame.code line.dropped (filter (λ e. not (is_end_part e.annotation_type)) line.entries) line.plain line.highlighted line.highlights cell within ∙ line.shows.blank cell (omega (arith, short)) (λ same. omega (arith, same)) within
 
   -- so do they in a line's source row
@@ -278,12 +277,12 @@ module _ (r : Renderer) (frame : Frame) (closes : Bool) (s : Snippet Annotation)
   line_spaces open_bars k row rows shows line are_open depth some within free =
       let ends : All (λ (b : Bar). b.depth ≢ depth) (ends_of_bars line.entries) = subst (All (λ (b : Bar). b.depth ≢ depth)) (sym (bars_seen s k line.entries line.are)) (ends_apart (source s) (marks s) spans k depth free) in
       let others = open_apart (source s) (marks s) spans k depth open_bars are_open free in
-      line_source (layout_in r frame) depth within line.margin.term_width (closes && length (rows_below rows) == length rows) line.text line.dropped line.entries line.highlighted ends open_bars (row ∷ rows_below rows) line.drawn others (omega arith) ∙ line_blank open_bars k row rows shows line depth some within
+      line_source frame depth within line.margin.term_width (closes && length (rows_below rows) == length rows) line.text line.dropped line.entries line.highlighted ends open_bars (row ∷ rows_below rows) line.drawn others (omega arith) ∙ line_blank open_bars k row rows shows line depth some within
 
   -- and those of a row in place of lines
   elision_spaces : (open_bars : List Bar) (n : ℕ) (row : List Cell) (rows : List NamedRow) → IsRowDrawn r frame closes s open_bars Elision row rows → Open n open_bars → HasSpaces n row
   elision_spaces open_bars n row rows drawn are_open depth some within free =
-      ap (λ (cells : List Cell). get_or cells (frame.gutter + 2 + depth) SPACE) drawn.0 ∙ gap_space (layout_in r frame) depth within open_bars (open_apart (source s) (marks s) spans n depth open_bars are_open free) some
+      ap (λ (cells : List Cell). get_or cells (frame.gutter + 2 + depth) SPACE) drawn.0 ∙ gap_space frame depth within open_bars (open_apart (source s) (marks s) spans n depth open_bars are_open free) some
 
   -- a row of this name beside line k has its bars, and where it stands for lines spaces beside them
   record IsShown (name : RowName) (k : ℕ) (cells : List Cell) : Type 0 where
@@ -387,23 +386,23 @@ module _ (r : Renderer) (frame : Frame) (closes : Bool) (s : Snippet Annotation)
         All-unmapped P seen_part es (subst (All P) (sym are) (all_from_among P (entries_on s k) none))
 
     -- the bar begins in the rows of the span's first line
-    line_begins : (open_bars : List Bar) (k : ℕ) (row : List Cell) (rows : List NamedRow) → IsRowOf r frame closes s (SourceRow k) row rows → IsRowDrawn r frame closes s open_bars (SourceRow k) row rows → first_line (cow_str_bytes s.source) a ≡ k → BarBegins (layout_in r frame) bar (row ∷ rows_below rows)
+    line_begins : (open_bars : List Bar) (k : ℕ) (row : List Cell) (rows : List NamedRow) → IsRowOf r frame closes s (SourceRow k) row rows → IsRowDrawn r frame closes s open_bars (SourceRow k) row rows → first_line (cow_str_bytes s.source) a ≡ k → BarBegins frame bar (row ∷ rows_below rows)
     line_begins open_bars k row rows shows line here =
         let ends : bars_on s k ≡ ends_of_bars line.entries = sym (bars_seen s k line.entries line.are) in
         let own : Contains (ends_of_bars line.entries) bar = subst (λ bs. Contains bs bar) ends (among_contains (bars_on s k) bar (start_here (source s) (marks s) k a among long here)) in
         let only : HasOwnDepth bar (ends_of_bars line.entries) = subst (HasOwnDepth bar) ends (own_on_line (source s) (marks s) spans k a among long (omega (arith, here)) (omega (arith, here, longer (source s) (marks s) spans a among long))) in
         let none = none_there k (MultilineEnd bar.depth) line.entries line.are (no_end (source s) (marks s) spans k a among long here) in
         let blank = line_blank open_bars k row rows shows line bar.depth (depth-within (source s) (marks s) a among long).0 room in
-        begins (layout_in r frame) bar room line.entries own only line.margin.term_width (closes && length (rows_below rows) == length rows) line.text line.dropped open_bars line.highlighted (row ∷ rows_below rows) line.drawn none blank
+        begins frame bar room line.entries own only line.margin.term_width (closes && length (rows_below rows) == length rows) line.text line.dropped open_bars line.highlighted (row ∷ rows_below rows) line.drawn none blank
 
     -- and ends in those of the last
-    line_ends : (open_bars : List Bar) (k : ℕ) (row : List Cell) (rows : List NamedRow) → IsRowDrawn r frame closes s open_bars (SourceRow k) row rows → last_line (cow_str_bytes s.source) a ≡ k → BarEnds (layout_in r frame) bar (row ∷ rows_below rows)
+    line_ends : (open_bars : List Bar) (k : ℕ) (row : List Cell) (rows : List NamedRow) → IsRowDrawn r frame closes s open_bars (SourceRow k) row rows → last_line (cow_str_bytes s.source) a ≡ k → BarEnds frame bar (row ∷ rows_below rows)
     line_ends open_bars k row rows line here =
         let ends : bars_on s k ≡ ends_of_bars line.entries = sym (bars_seen s k line.entries line.are) in
         let own : Contains (ends_of_bars line.entries) bar = subst (λ bs. Contains bs bar) ends (among_contains (bars_on s k) bar (end_here (source s) (marks s) k a among long here)) in
         let only : HasOwnDepth bar (ends_of_bars line.entries) = subst (HasOwnDepth bar) ends (own_on_line (source s) (marks s) spans k a among long (omega (arith, here, longer (source s) (marks s) spans a among long)) (omega (arith, here))) in
         let none = none_there k (MultilineStart bar.depth) line.entries line.are (no_start (source s) (marks s) spans k a among long here) in
-        bar_ends (layout_in r frame) bar room line.entries own only line.margin.term_width (closes && length (rows_below rows) == length rows) line.text line.dropped open_bars line.highlighted (row ∷ rows_below rows) line.drawn none
+        bar_ends frame bar room line.entries own only line.margin.term_width (closes && length (rows_below rows) == length rows) line.text line.dropped open_bars line.highlighted (row ∷ rows_below rows) line.drawn none
 
   -- so the rows of a snippet's lines show the bars of its spans
   pub bars_shown : (rows : List NamedRow) → AreRowsOf r frame closes s rows → AreRowsDrawn r frame closes s [] rows → rows_below rows ≡ [] → IsAscending (lines_named rows)
@@ -423,13 +422,13 @@ module _ (r : Renderer) (frame : Frame) (closes : Bool) (s : Snippet Annotation)
       record {
         stand = λ a among long above row below is begun ended.
             let line : line_from 0 above row.name ≡ line_beside above row.name = from_start above row.name in
-            (all_rows [] 0 rows ready above row below is).bars a among long (omega (arith, line, begun)) (omega (arith, line, ended)) ∙ ap (bar_beside (layout_in r frame) row.name) (bar_given s a long);
+            (all_rows [] 0 rows ready above row below is).bars a among long (omega (arith, line, begun)) (omega (arith, line, ended)) ∙ ap (bar_beside frame row.name) (bar_given s a long);
         begin = λ a among long above row below is name.
             let line = renamed (SourceRow (first_line text a)) row below name (row_known [] rows named drawn above row below is) in
-            subst (λ bar. BarBegins (layout_in r frame) bar (row.cells ∷ rows_below below)) (bar_given s a long) (line_begins a among long (deep a among long) line.bars (first_line text a) row.cells below line.named line.drawn refl);
+            subst (λ bar. BarBegins frame bar (row.cells ∷ rows_below below)) (bar_given s a long) (line_begins a among long (deep a among long) line.bars (first_line text a) row.cells below line.named line.drawn refl);
         end = λ a among long above row below is name.
             let line = renamed (SourceRow (last_line text a)) row below name (row_known [] rows named drawn above row below is) in
-            subst (λ bar. BarEnds (layout_in r frame) bar (row.cells ∷ rows_below below)) (bar_given s a long) (line_ends a among long (deep a among long) line.bars (last_line text a) row.cells below line.drawn refl);
+            subst (λ bar. BarEnds frame bar (row.cells ∷ rows_below below)) (bar_given s a long) (line_ends a among long (deep a among long) line.bars (last_line text a) row.cells below line.drawn refl);
         within = λ a among long. let depth = depth-within (source s) (marks s) a among long in inside (depth_of (source s) (marks s) a) depth.0 depth.1;
         spaces = λ above row below is shows c from to others.
             let k : ℕ = line_beside above row.name in

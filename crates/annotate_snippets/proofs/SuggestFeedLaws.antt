@@ -41,7 +41,7 @@ use Rattle.snippet_suggest.proofs.ComposeLemmas.{zip_append}
 use Rattle.snippet_suggest.proofs.OrderLaws.{IsRowOf}
 use Rattle.annotate_snippets.specs.declared.renderer.Renderer.{Renderer}
 use Rattle.annotate_snippets.specs.declared.renderer.element_context.ElementContext.{ElementContext}
-use Rattle.annotate_snippets.specs.declared.renderer.frame.Frame.{Frame}
+use Rattle.snippet_grid.specs.Layout.{Layout}
 use Rattle.annotate_snippets.specs.Around.{is_end, path_bytes, suggestion_rows}
 use Rattle.annotate_snippets.specs.Drawn.{IsSuggestionDrawn, suggestion_layout, suggestion_lines, under_of}
 use Rattle.annotate_snippets.specs.Feeds.{HasNoFeed, HoldsNoFeed, IsNoFeed, IsOneLineText}
@@ -174,10 +174,10 @@ stretches_plain role gutter line (s ∷ ss) row plain =
 line_row_plain : (layout : SuggestionLayout) (glyph : SuggestionGlyph) (number : ℕ) (line : List ℕ) → All IsNoFeed (chars line) → HasNoFeed (line_cells layout glyph number line)
 unfolding line_cells
 line_row_plain layout glyph number line plain =
-    let g : ℕ = layout.gutter in
-    let signed : List Cell = put (role_of glyph) (glyph_of layout.decor glyph) (g + 1) [] in
+    let g : ℕ = layout.frame.gutter in
+    let signed : List Cell = put (role_of glyph) (glyph_of layout.frame.decor glyph) (g + 1) [] in
     let digits : List ℕ = shown_number layout.numbers g number in
-    let signed_plain : HasNoFeed signed = put_plain (role_of glyph) (glyph_of layout.decor glyph) (g + 1) [] (All-nil HoldsNoFeed) (glyph_plain layout.decor glyph) in
+    let signed_plain : HasNoFeed signed = put_plain (role_of glyph) (glyph_of layout.frame.decor glyph) (g + 1) [] (All-nil HoldsNoFeed) (glyph_plain layout.frame.decor glyph) in
     let numbered_plain = put_plain LineNumber digits 0 signed signed_plain (number_plain layout.numbers g number) in
     put_plain NoStyle (norm (chars line)) (g + 3) (put LineNumber digits 0 signed) numbered_plain (norm_plain (chars line) plain)
 
@@ -210,7 +210,7 @@ module _ (layout : SuggestionLayout) (s : Snippet Patch) (utf8 : IsUtf8 (given_t
       let line : List ℕ = slice_index_or (given_lines s) k [] in
       let glyph : SuggestionGlyph = sign_of (shown_kind s) (length (given_lines s)) line (new_on s k) in
       let number : ℕ = number_after (s.line_start + first_given s) k in
-      stretches_plain Addition layout.gutter (chars line) (new_on s k) (line_cells layout glyph number line) (line_row_plain layout glyph number line (text_line_plain (given_text s) k utf8))
+      stretches_plain Addition layout.frame.gutter (chars line) (new_on s k) (line_cells layout glyph number line) (line_row_plain layout glyph number line (text_line_plain (given_text s) k utf8))
   offer_plain under Skips = tt
   offer_plain under (Removes i number text) = tt
   offer_plain under Empty = tt
@@ -245,9 +245,9 @@ module _ (layout : SuggestionLayout) (s : Snippet Patch) (utf8 : IsUtf8 (given_t
   offers_left_out [] shown rows plain = plain
   offers_left_out (line ∷ lines) shown rows plain =
       let gone : List SubstitutionHighlight = cond (bytes_eq line (last_reached s)) (replaced_on s (last_line_reached (cow_str_bytes s.source) (edits_of s) - first_given s)) [] in
-      let f : List Cell → List Cell = left_out_cells layout.gutter line gone (new_on s 0) in
+      let f : List Cell → List Cell = left_out_cells layout.frame.gutter line gone (new_on s 0) in
       let keeps : (row : List Cell) → HasNoFeed row → HasNoFeed (f row) =
-      λ row own. stretches_plain Addition layout.gutter (chars line) (new_on s 0) (with_stretches Removal layout.gutter (chars line) gone row) (stretches_plain Removal layout.gutter (chars line) gone row own) in
+      λ row own. stretches_plain Addition layout.frame.gutter (chars line) (new_on s 0) (with_stretches Removal layout.frame.gutter (chars line) gone row) (stretches_plain Removal layout.frame.gutter (chars line) gone row own) in
       let test : Bool = is_diff (shown_kind s) && is_touched s.fold (given_ranges s) 0 && is_left_out (shown_kind s) (line ∷ lines) (last_reached s) in
       elim test as (λ b. AllZip IsPlainOffer shown (cond b (on_last f rows) rows)) [
         | true ↦ offers_last f keeps shown rows plain
@@ -261,7 +261,7 @@ module _ (layout : SuggestionLayout) (s : Snippet Patch) (utf8 : IsUtf8 (given_t
 
 -- ---- all rows
 
-module _ (r : Renderer) (frame : Frame) (around : ElementContext) (found : List Cell) (s : Snippet Patch) where
+module _ (r : Renderer) (frame : Layout) (around : ElementContext) (found : List Cell) (s : Snippet Patch) where
   abbrev own_layout : SuggestionLayout
   own_layout = suggestion_layout r frame s
 
@@ -283,14 +283,14 @@ module _ (r : Renderer) (frame : Frame) (around : ElementContext) (found : List 
   IsShown = Shows own_layout (s.line_start + first_given s) (given_lines s)
 
   one_row : (shown : SuggestionRow) (row : List Cell) → IsUtf8 (cow_str_bytes s.source) → IsShown shown row → IsPlainOffer shown row → IsRowOf s shown → HasNoFeed row
-  one_row (Begins at) row utf8 is offer own = bare_one_line own_layout.decor own_layout.gutter row is.bare
+  one_row (Begins at) row utf8 is offer own = bare_one_line own_layout.frame.decor own_layout.frame.gutter row is.bare
   one_row (Offers k) row utf8 is offer own = offer
-  one_row Skips row utf8 is offer own = bare_one_line own_layout.decor own_layout.gutter row is.bare
+  one_row Skips row utf8 is offer own = bare_one_line own_layout.frame.decor own_layout.frame.gutter row is.bare
   one_row (Removes i number text) row utf8 is offer own =
       let plain : All IsNoFeed (chars text) = subst (λ t. All IsNoFeed (chars t)) (sym own.1) (line_plain (cow_str_bytes s.source) i utf8) in
-      removed_one_line own_layout.numbers own_layout.decor own_layout.gutter (shown_number own_layout.numbers own_layout.gutter number) (norm (chars text)) row is (norm_plain (chars text) plain)
-  one_row Empty row utf8 is offer own = bare_one_line own_layout.decor own_layout.gutter row is.bare
-  one_row (Ends follows) row utf8 is offer own = bare_one_line own_layout.decor own_layout.gutter row is.bare
+      removed_one_line own_layout.numbers own_layout.frame.decor own_layout.frame.gutter (shown_number own_layout.numbers own_layout.frame.gutter number) (norm (chars text)) row is (norm_plain (chars text) plain)
+  one_row Empty row utf8 is offer own = bare_one_line own_layout.frame.decor own_layout.frame.gutter row is.bare
+  one_row (Ends follows) row utf8 is offer own = bare_one_line own_layout.frame.decor own_layout.frame.gutter row is.bare
 
   all_rows : (shown : List SuggestionRow) (rows : List (List Cell)) → IsUtf8 (cow_str_bytes s.source) → AllZip IsShown shown rows → AllZip IsPlainOffer shown rows → All (IsRowOf s) shown → All HasNoFeed rows
   all_rows [] [] utf8 are offers own = All-nil HasNoFeed

@@ -22,7 +22,7 @@ use Rattle.annotate_snippets.specs.Gutter.{line_numbers, number_text}
 use Rattle.annotate_snippets.specs.Page.{IsAscending, NamedRow, OfferedLine, Other, RemovedLine, cells_of, lines_offered, lines_removed}
 use Rattle.annotate_snippets.specs.Shown.{HasStrokes, IsOfferedRow, IsSuggestionRow, name_of_row}
 use Rattle.annotate_snippets.specs.declared.renderer.Renderer.{Renderer}
-use Rattle.annotate_snippets.specs.declared.renderer.frame.Frame.{Frame}
+use Rattle.snippet_grid.specs.Layout.{Layout}
 use Rattle.snippet_suggest.proofs.RisingLemmas.{rising_bound as rising_within}
 
 -- numbers that rise between two bounds ascend
@@ -74,7 +74,7 @@ lines_removed-named P s (Removes i number text ∷ shown) (row ∷ part) are =
 lines_removed-named P s (Empty ∷ shown) (row ∷ part) are = lines_removed-named P s shown part are.1
 lines_removed-named P s (Ends follows ∷ shown) (row ∷ part) are = lines_removed-named P s shown part are.1
 
-module _ (r : Renderer) (frame : Frame) (s : Snippet Patch) where
+module _ (r : Renderer) (frame : Layout) (s : Snippet Patch) where
   -- the rows of a suggestion, each of which shows this
   abbrev pub AreShown : List SuggestionRow → List (List Cell) → Type 0
   AreShown shown rows =
@@ -96,13 +96,13 @@ module _ (r : Renderer) (frame : Frame) (s : Snippet Patch) where
       free_of (Ends follows) row is = is.bare.free
 
   -- and have left of the lines what they are to have there
-  pub strokes_shown : (shown : List SuggestionRow) (part : List (List Cell)) → AreShown shown part → AllZip (HasStrokes r.decor_style frame.gutter) shown part
+  pub strokes_shown : (shown : List SuggestionRow) (part : List (List Cell)) → AreShown shown part → AllZip (HasStrokes frame.decor frame.gutter) shown part
   strokes_shown [] [] are = tt
   strokes_shown [] (row ∷ part) are = absurd are
   strokes_shown (shows ∷ shown) [] are = absurd are
   strokes_shown (shows ∷ shown) (row ∷ part) are = (stroke_of shows row are.0, strokes_shown shown part are.1)
     where
-      stroke_of : (shows : SuggestionRow) (row : List Cell) → Shows (suggestion_layout r frame s) (s.line_start + first_given s) (given_lines s) shows row → HasStrokes r.decor_style frame.gutter shows row
+      stroke_of : (shows : SuggestionRow) (row : List Cell) → Shows (suggestion_layout r frame s) (s.line_start + first_given s) (given_lines s) shows row → HasStrokes frame.decor frame.gutter shows row
       stroke_of (Begins start) row is = is.left_is
       stroke_of (Offers k) row is = tt
       stroke_of Skips row is = is.left_is
@@ -118,7 +118,7 @@ module _ (r : Renderer) (frame : Frame) (s : Snippet Patch) where
         ap (shown_number (line_numbers r s.line_numbering) frame.gutter) same
 
     -- the row of a line that is given offers it
-    offered_row : (k : ℕ) (row : List Cell) → k < length (given_lines s) → Shows (suggestion_layout r frame s) (s.line_start + first_given s) (given_lines s) (Offers k) row → IsOfferedRow r frame.gutter s (first_given s + k) row
+    offered_row : (k : ℕ) (row : List Cell) → k < length (given_lines s) → Shows (suggestion_layout r frame s) (s.line_start + first_given s) (given_lines s) (Offers k) row → IsOfferedRow r frame.decor frame.gutter s (first_given s + k) row
     offered_row k row within shows =
         let number = number_is k within in
         let back : first_given s + k - first_given s ≡ k = omega arith in
@@ -136,13 +136,13 @@ module _ (r : Renderer) (frame : Frame) (s : Snippet Patch) where
         }
 
     abbrev IsNamed : NamedRow → Type 0
-    IsNamed row = IsSuggestionRow r frame.gutter s row.name row.cells
+    IsNamed row = IsSuggestionRow r frame.decor frame.gutter s row.name row.cells
 
     -- that of a line that is removed shows it
-    removed_row_shown : (i number : ℕ) (text : List ℕ) (row : List Cell) → IsRowOf s (Removes i number text) → Shows (suggestion_layout r frame s) (s.line_start + first_given s) (given_lines s) (Removes i number text) row → IsSuggestionRow r frame.gutter s (RemovedLine i) row
+    removed_row_shown : (i number : ℕ) (text : List ℕ) (row : List Cell) → IsRowOf s (Removes i number text) → Shows (suggestion_layout r frame s) (s.line_start + first_given s) (given_lines s) (Removes i number text) row → IsSuggestionRow r frame.decor frame.gutter s (RemovedLine i) row
     removed_row_shown i number text row of shows =
         let numbers = line_numbers r s.line_numbering in
-        let Is : ℕ → List ℕ → Type 0 = λ n t. IsRemovedRow numbers r.decor_style frame.gutter (shown_number numbers frame.gutter n) (norm (chars t)) row in
+        let Is : ℕ → List ℕ → Type 0 = λ n t. IsRemovedRow numbers frame.decor frame.gutter (shown_number numbers frame.gutter n) (norm (chars t)) row in
         subst (Is (removed_number s i)) of.1 (subst (λ (n : ℕ). Is n text) of.0 shows)
 
     -- so each row is what its name says

@@ -32,7 +32,7 @@ use Rattle.annotate_snippets.specs.Page.{IsAscending, NamedRow, cells_of, lines_
 use Rattle.annotate_snippets.specs.Rows.{origin_layout, patch_place, path_row, suggestion_head, suggestion_head_at}
 use Rattle.annotate_snippets.specs.Shown.{HasStrokes, ShowsSuggestion}
 use Rattle.annotate_snippets.specs.declared.renderer.Renderer.{Renderer}
-use Rattle.annotate_snippets.specs.declared.renderer.frame.Frame.{Frame}
+use Rattle.snippet_grid.specs.Layout.{Layout}
 use Rattle.annotate_snippets.specs.declared.renderer.element_context.ElementContext.{ElementContext}
 use Rattle.annotate_snippets.proofs.ElementShown.{ElementShown}
 use Rattle.annotate_snippets.proofs.PageLemmas.{cells_of-others}
@@ -40,12 +40,12 @@ use Rattle.annotate_snippets.proofs.SuggestFeedLaws.{suggestion_one_line}
 use Rattle.annotate_snippets.proofs.SuggestionLemmas.{cells_of-named, lines_free, lines_offered-named, lines_removed-named, names_of-named, rising_ascends, rows_named, strokes_shown}
 
 -- the row of its path holds no listed character and no link
-path_row-free : (r : Renderer) (frame : Frame) (first : Bool) (s : Snippet Patch) (path : Option (List ℕ)) → All IsFree (path_row r frame first s path)
+path_row-free : (r : Renderer) (frame : Layout) (first : Bool) (s : Snippet Patch) (path : Option (List ℕ)) → All IsFree (path_row r frame first s path)
 path_row-free r frame first s None = All-nil IsFree
 path_row-free r frame first s (Some path) =
     All-cons IsFree _ [] (origin_row-free (origin_layout r frame) (primary_start first) path (patch_place s)) (All-nil IsFree)
 
-suggestion_head-free : (r : Renderer) (frame : Frame) (begins : SuggestionStart) (first : Bool) (s : Snippet Patch) → All IsFree (suggestion_head_at begins r frame first s)
+suggestion_head-free : (r : Renderer) (frame : Layout) (begins : SuggestionStart) (first : Bool) (s : Snippet Patch) → All IsFree (suggestion_head_at begins r frame first s)
 suggestion_head-free r frame start.Opening first s = All-nil IsFree
 suggestion_head-free r frame start.Next first s = All-nil IsFree
 suggestion_head-free r frame start.Path first s = path_row-free r frame first s (path_bytes s.path)
@@ -86,7 +86,7 @@ ends_sign : (layout : SuggestionLayout) (s : Snippet Patch) (next shared : Bool)
 ends_sign layout s next true = tt
 ends_sign layout s next false = (tt, tt)
 
-signs_shown : (r : Renderer) (frame : Frame) (around : ElementContext) (found : List Cell) (s : Snippet Patch) (lines : List (List Cell)) → lines ≡ suggestion_lines r frame around found s → AllZip (HasSign (suggestion_layout r frame s) s) (suggestion_rows around s) lines
+signs_shown : (r : Renderer) (frame : Layout) (around : ElementContext) (found : List Cell) (s : Snippet Patch) (lines : List (List Cell)) → lines ≡ suggestion_lines r frame around found s → AllZip (HasSign (suggestion_layout r frame s) s) (suggestion_rows around s) lines
 signs_shown r frame around found s lines shown =
     let under : List Cell = under_of r frame around.start found in
     let layout : SuggestionLayout = suggestion_layout r frame s in
@@ -97,7 +97,7 @@ signs_shown r frame around found s lines shown =
     (body_signs layout around.start s under) (ends_sign layout s next around.shared))
 
 -- the rows of a suggestion show it, once they have names: after the row of its path those of its lines
-pub suggestion_shown : (r : Renderer) (frame : Frame) (around : ElementContext) (found : List Cell) (s : Snippet Patch) (rows : List (List Cell))
+pub suggestion_shown : (r : Renderer) (frame : Layout) (around : ElementContext) (found : List Cell) (s : Snippet Patch) (rows : List (List Cell))
     → IsSuggestible s → s.markers.items ≢ [] → HasRoomFor r frame (Suggestion s) → IsSuggestionDrawn r frame around found s rows → ElementShown r frame around found (Suggestion s) rows
 suggestion_shown r frame around found s rows suggestible some room drawn =
     let IsShown : SuggestionRow → List Cell → Type 0 = Shows (suggestion_layout r frame s) (s.line_start + first_given s) (given_lines s) in
@@ -121,7 +121,7 @@ suggestion_shown r frame around found s rows suggestible some room drawn =
       order = names_of-named IsShown s shown drawn.lines drawn.are;
       cells = cells_of-named IsShown s shown drawn.lines drawn.are ∙ drawn.cells;
       signs = subst (AllZip (HasSign (suggestion_layout r frame s) s) shown) (sym (cells_of-named IsShown s shown drawn.lines drawn.are)) (signs_shown r frame around found s drawn.lines drawn.cells);
-      strokes = subst (AllZip (HasStrokes r.decor_style frame.gutter) shown) (sym (cells_of-named IsShown s shown drawn.lines drawn.are)) (strokes_shown r frame s shown drawn.lines drawn.are);
+      strokes = subst (AllZip (HasStrokes frame.decor frame.gutter) shown) (sym (cells_of-named IsShown s shown drawn.lines drawn.are)) (strokes_shown r frame s shown drawn.lines drawn.are);
       removed = lines_removed-named IsShown s shown drawn.lines drawn.are ∙ all_take around s;
       named = rows_named r frame s suggestible some (first_given s) shown drawn.lines (subst (AreRising (first_given s) end) (sym same) (offered-ascends s)) (all_own around s) drawn.are;
     } in

@@ -1,5 +1,5 @@
 -- No row of a title that begins with a word begins with a number.
-use Rattle.std.proofs.Common.{◌≡◌, ℕ, zero, suc, ◌+◌, ◌<◌, ◌≤◌, ◌==◌, ◌||◌, not, Bool, true, false, cond, Option, None, Some, List, [], ◌∷◌, ◌++◌, All, chars, get_or, length, map, replicate, take, refl, sym, ap, subst, ◌∙◌, arith}
+use Rattle.std.proofs.Common.{◌≡◌, ℕ, zero, suc, ◌+◌, ◌<◌, ◌≤◌, ◌==◌, ◌||◌, not, Bool, true, false, cond, Option, Some, List, [], ◌∷◌, ◌++◌, All, chars, get_or, length, map, replicate, take, refl, sym, ap, subst, ◌∙◌, arith}
 use Rattle.std.specs.Char.{is_ascii_alphanumeric, is_ascii_digit}
 use Rattle.std.specs.Int.{is_in_range}
 use Rattle.std.specs.List.{slice_index_or}
@@ -13,14 +13,13 @@ use Rattle.snippet_model.specs.declared.snippet.Title.{Title}
 use Rattle.snippet_style.specs.Cell.{Cell, SPACE}
 use Rattle.snippet_text.specs.Normalized.{norm}
 use Rattle.snippet_titles.specs.Heading.{colon_of, heading_lines, id_text, label_text, label_width}
-use Rattle.snippet_titles.specs.Shown.{heading_texts, texts_below}
-use Rattle.snippet_titles.specs.declared.style.TitleStyle.TheVariants as style
+use Rattle.snippet_titles.specs.Shown.{texts_below}
 use Rattle.snippet_titles.proofs.OriginNumbers.{closing_row-unnumbered, separator_row-unnumbered}
 use Rattle.annotate_snippets.specs.Numbers.{IsTitleOfWords, IsUnnumbered, begins_with_number, begins_with_word}
 use Rattle.annotate_snippets.specs.Rows.{closing_rows, rows_after_title, separator_rows}
 use Rattle.annotate_snippets.specs.Shown.{ShowsTitlePart}
 use Rattle.annotate_snippets.specs.declared.renderer.Renderer.{Renderer}
-use Rattle.annotate_snippets.specs.declared.renderer.frame.Frame.{Frame}
+use Rattle.snippet_grid.specs.Layout.{Layout}
 use Rattle.annotate_snippets.specs.declared.renderer.element_context.GroupPosition.{GroupPosition}
 use Rattle.annotate_snippets.specs.declared.renderer.element_context.Next.{Next}
 
@@ -61,9 +60,9 @@ unnumbered : (gutter : ℕ) (row : List Cell) → HasNoNumber gutter row → IsU
 unnumbered gutter row none = unnumbered_row (gutter + 1) row (λ c within. none c (omega (arith, within)))
 
 -- the rows below a title
-after_title : (r : Renderer) (frame : Frame) (sets_off closes : Bool) → All (IsUnnumbered frame.gutter) (cond sets_off (separator_rows r frame) (cond closes (closing_rows r frame) []))
-after_title r frame true closes = All-cons (IsUnnumbered frame.gutter) _ [] (unnumbered frame.gutter _ (separator_row-unnumbered r.decor_style frame.gutter)) (All-nil (IsUnnumbered frame.gutter))
-after_title r frame false true = All-cons (IsUnnumbered frame.gutter) _ [] (unnumbered frame.gutter _ (closing_row-unnumbered r.decor_style frame.gutter)) (All-nil (IsUnnumbered frame.gutter))
+after_title : (r : Renderer) (frame : Layout) (sets_off closes : Bool) → All (IsUnnumbered frame.gutter) (cond sets_off (separator_rows r frame) (cond closes (closing_rows r frame) []))
+after_title r frame true closes = All-cons (IsUnnumbered frame.gutter) _ [] (unnumbered frame.gutter _ (separator_row-unnumbered frame.decor frame.gutter)) (All-nil (IsUnnumbered frame.gutter))
+after_title r frame false true = All-cons (IsUnnumbered frame.gutter) _ [] (unnumbered frame.gutter _ (closing_row-unnumbered frame.decor frame.gutter)) (All-nil (IsUnnumbered frame.gutter))
 after_title r frame false false = All-nil (IsUnnumbered frame.gutter)
 
 -- each text of a title's rows begins with its level's name, or with as many spaces as what stands before its text is wide
@@ -83,7 +82,7 @@ module _ (n : ℕ) (name more : List ℕ) (width : ℕ) (word : begins_with_word
   text_of_row (line ∷ lines) (suc i) = text_further lines i
 
 -- no row of such a title begins with a number
-pub title_unnumbered : (r : Renderer) (frame : Frame) (place : GroupPosition) (follows : Next) (title : Title) (rows : List (List Cell)) → ShowsTitlePart r frame place follows (Some title) rows → IsTitleOfWords frame.gutter title → All (IsUnnumbered frame.gutter) rows
+pub title_unnumbered : (r : Renderer) (frame : Layout) (place : GroupPosition) (follows : Next) (title : Title) (rows : List (List Cell)) → ShowsTitlePart r frame place follows (Some title) rows → IsTitleOfWords frame.gutter title → All (IsUnnumbered frame.gutter) rows
 title_unnumbered r frame place follows title rows shown words =
     let heading : Heading = heading_of_title title in
     let hidden : Bool = is_hidden title.level.name in
@@ -96,7 +95,7 @@ title_unnumbered r frame place follows title rows shown words =
     subst (All (IsUnnumbered frame.gutter)) (sym shown.rows_are) (All-append (IsUnnumbered frame.gutter) shown.own (rows_after_title r frame place follows title.allows_styling) (All-from_get_or (IsUnnumbered frame.gutter) shown.own [] each) (after_title r frame _ _))
 
 -- the same of the title that a group has
-pub group_title_unnumbered : (r : Renderer) (frame : Frame) (place : GroupPosition) (follows : Next) (own : Option Title) (title : Title) (rows : List (List Cell))
+pub group_title_unnumbered : (r : Renderer) (frame : Layout) (place : GroupPosition) (follows : Next) (own : Option Title) (title : Title) (rows : List (List Cell))
     → ShowsTitlePart r frame place follows own rows → own ≡ Some title → IsTitleOfWords frame.gutter title → All (IsUnnumbered frame.gutter) rows
 group_title_unnumbered r frame place follows own title rows shown is words =
     title_unnumbered r frame place follows title rows (subst (λ t. ShowsTitlePart r frame place follows t rows) is shown) words

@@ -25,7 +25,7 @@ use Rattle.annotate_snippets.specs.Page.{NamedRow, cells_of}
 use Rattle.annotate_snippets.specs.Rows.{closing_rows, rows_after_title, separator_rows, title_part}
 use Rattle.annotate_snippets.specs.Shown.{IsFreeBut, IsFreeElement}
 use Rattle.annotate_snippets.specs.declared.renderer.Renderer.{Renderer}
-use Rattle.annotate_snippets.specs.declared.renderer.frame.Frame.{Frame}
+use Rattle.snippet_grid.specs.Layout.{Layout}
 use Rattle.annotate_snippets.specs.declared.renderer.element_context.GroupPosition.{GroupPosition}
 use Rattle.annotate_snippets.specs.declared.renderer.element_context.Next.{Next}
 
@@ -93,19 +93,19 @@ pub message_among : (trusted : List (List ℕ)) (message : MessageGiven) → Are
 message_among trusted message among c is = among c (Contains-append_left (chars (cow_str_bytes message.text)) [] c is)
 
 -- the rows below a title
-pub after_title-free : (r : Renderer) (frame : Frame) (place : GroupPosition) (follows : Next) (trusted : Bool) → All IsFree (rows_after_title r frame place follows trusted)
+pub after_title-free : (r : Renderer) (frame : Layout) (place : GroupPosition) (follows : Next) (trusted : Bool) → All IsFree (rows_after_title r frame place follows trusted)
 after_title-free r frame place follows trusted = by (is_before_message follows) _
   where
     closing : (closes : Bool) → All IsFree (if closes then closing_rows r frame else [])
-    closing true = All-cons IsFree _ [] (closing_row-free r.decor_style frame.gutter) (All-nil IsFree)
+    closing true = All-cons IsFree _ [] (closing_row-free frame.decor frame.gutter) (All-nil IsFree)
     closing false = All-nil IsFree
 
     by : (before closes : Bool) → All IsFree (if before then separator_rows r frame else (if closes then closing_rows r frame else []))
-    by true closes = All-cons IsFree _ [] (separator_row-free r.decor_style frame.gutter) (All-nil IsFree)
+    by true closes = All-cons IsFree _ [] (separator_row-free frame.decor frame.gutter) (All-nil IsFree)
     by false closes = closing closes
 
 -- the listed characters of a title's part of a group are of its trusted text
-pub title_part-free : (r : Renderer) (frame : Frame) (place : GroupPosition) (follows : Next) (title : Option Title) (more : List (List ℕ)) → All (IsFreeRow (flat_map trusted_of_title (option_to_list title) ++ more)) (title_part r frame place follows title)
+pub title_part-free : (r : Renderer) (frame : Layout) (place : GroupPosition) (follows : Next) (title : Option Title) (more : List (List ℕ)) → All (IsFreeRow (flat_map trusted_of_title (option_to_list title) ++ more)) (title_part r frame place follows title)
 title_part-free r frame place follows None more = All-nil (IsFreeRow more)
 title_part-free r frame place follows (Some title) more =
     let trusted : List (List ℕ) = flat_map trusted_of_title (title ∷ []) ++ more in

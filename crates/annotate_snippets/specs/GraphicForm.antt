@@ -1,5 +1,5 @@
 -- The graphic form of a report, as a value: a page, each row of which is made from the report by the rule of its part.
-use Rattle.std.specs.Prelude.{◌≡◌, ℕ, ◌+◌, ◌-◌, ◌==◌, ◌&&◌, nat_lt, not, List, [], ◌∷◌, ◌++◌, Bool, Option, filter, length, map, if◌then◌else◌}
+use Rattle.std.specs.Prelude.{ℕ, ◌+◌, ◌-◌, ◌==◌, ◌&&◌, nat_lt, not, List, [], ◌∷◌, ◌++◌, Bool, Option, filter, length, map, if◌then◌else◌}
 use Rattle.std.specs.Borrow.{Bor}
 use Rattle.std.specs.Cow.{cow_str_bytes}
 use Rattle.std.specs.List.{enumerate_from}
@@ -30,11 +30,11 @@ use Rattle.snippet_suggest.specs.Given.{first_given}
 use Rattle.snippet_suggest.specs.Order.{Begins, Empty, Ends, Offers, Removes, Skips, SuggestionRow}
 use Rattle.snippet_titles.specs.Origin.{padding_row}
 use Rattle.annotate_snippets.specs.declared.renderer.Renderer.{Renderer}
-use Rattle.annotate_snippets.specs.declared.renderer.frame.Frame.{Frame}
+use Rattle.snippet_grid.specs.Layout.{Layout}
 use Rattle.annotate_snippets.specs.declared.renderer.element_context.GroupPosition.{GroupPosition}
 use Rattle.annotate_snippets.specs.declared.renderer.element_context.ElementContext.{ElementContext}
 use Rattle.annotate_snippets.specs.Around.{closes_with, context_at, drawn_elements, file_of_group, is_end, next_of, place_at, suggestion_rows}
-use Rattle.annotate_snippets.specs.Drawn.{found_at, layout_in, suggestion_lines}
+use Rattle.annotate_snippets.specs.Drawn.{found_at, suggestion_lines}
 use Rattle.annotate_snippets.specs.Gutter.{frame_of, number_text, numbered_source}
 use Rattle.annotate_snippets.specs.LineRows.{bars_on, entries_on}
 use Rattle.annotate_snippets.specs.Page.{Elision, GroupPage, NamedRow, OfferedLine, Other, Page, RemovedLine, RowName, SourceRow, others}
@@ -43,7 +43,7 @@ use Rattle.annotate_snippets.specs.Rows.{cause_head, message_rows, origin_rows, 
 -- ---- lines
 
 -- the bounds between which a snippet's lines are shown, in a room of what is left of the width
-abbrev pub margin_in : Renderer → Frame → Snippet Annotation → Margin
+abbrev pub margin_in : Renderer → Layout → Snippet Annotation → Margin
 margin_in r frame s =
     let room = r.term_width - frame.code in
     let bounds = margin_of room s.fold (numbered_source s) s.markers.items in
@@ -60,14 +60,14 @@ line_entry p =
 
 -- the rows of line k of a snippet, where these bars are open above it: what its entries make of the row that holds its number, the
 -- separator and its window, with the roles that entries highlight. The group's window may close with the line
-abbrev pub rows_of_line : Renderer → Frame → Bool → Snippet Annotation → List Bar → ℕ → List (List Cell)
+abbrev pub rows_of_line : Renderer → Layout → Bool → Snippet Annotation → List Bar → ℕ → List (List Cell)
 rows_of_line r frame closes s open_bars k =
-    let layout = layout_in r frame in
+    let layout = frame in
     let margin = margin_in r frame s in
     let text = norm (chars_at (cow_str_bytes s.source) k) in
     let dropped = width_of (dropped_part (bounds_of margin).left text) in
     let entries = map line_entry (entries_on s k) in
-    let plain = source_row layout (number_text r s.line_numbering frame.gutter (s.line_start + k)) (window_cells r.decor_style margin text) in
+    let plain = source_row layout (number_text r s.line_numbering frame.gutter (s.line_start + k)) (window_cells frame.decor margin text) in
     line_rows layout margin.term_width closes text dropped open_bars entries (highlighted_row frame.code dropped (filter (λ e. not (is_end_part e.annotation_type)) entries) plain)
 
 -- the rows of line k with their names: the first shows the line
@@ -77,13 +77,13 @@ named_line k (row ∷ below) = record { name = SourceRow k; cells = row } ∷ ot
 
 -- what stands between the rows of line j and those of the next of these lines: where lines are left out, one row, with the bars that run
 -- past them
-abbrev pub gap_below : Renderer → Frame → List Bar → ℕ → List ℕ → List NamedRow
+abbrev pub gap_below : Renderer → Layout → List Bar → ℕ → List ℕ → List NamedRow
 gap_below r frame open_bars j [] = []
 gap_below r frame open_bars j (k ∷ ks) =
-    if nat_lt (j + 1) k then record { name = Elision; cells = gap_row (layout_in r frame) open_bars } ∷ [] else []
+    if nat_lt (j + 1) k then record { name = Elision; cells = gap_row frame open_bars } ∷ [] else []
 
 -- the rows of these lines of a snippet, above the first of which these bars are open. The group's window may close with the last
-abbrev pub rows_of_lines : Renderer → Frame → Bool → Snippet Annotation → List Bar → List ℕ → List NamedRow
+abbrev pub rows_of_lines : Renderer → Layout → Bool → Snippet Annotation → List Bar → List ℕ → List NamedRow
 rows_of_lines r frame closes s open_bars [] = []
 rows_of_lines r frame closes s open_bars (k ∷ ks) =
     let below = open_past open_bars (bars_on s k) in
@@ -92,7 +92,7 @@ rows_of_lines r frame closes s open_bars (k ∷ ks) =
 -- ---- elements
 
 -- the rows of an annotated snippet: those that it begins with, those of the lines that are shown, and what stands below
-abbrev pub snippet_rows : Renderer → Frame → ElementContext → Snippet Annotation → List NamedRow
+abbrev pub snippet_rows : Renderer → Layout → ElementContext → Snippet Annotation → List NamedRow
 snippet_rows r frame around s =
     others (cause_head r frame around s) ++ (rows_of_lines r frame (closes_with around) s [] (shown_lines s.fold (cow_str_bytes s.source) s.markers.items) ++ others (rows_after_cause r frame around))
 
@@ -114,28 +114,28 @@ named_rows s (shows ∷ shown) (row ∷ rows) =
 
 -- the rows of a suggestion: that of its path, where it names that, and those of its lines, where this stands in the row in which the
 -- element before ends
-abbrev pub patch_rows : Renderer → Frame → ElementContext → List Cell → Snippet Patch → List NamedRow
+abbrev pub patch_rows : Renderer → Layout → ElementContext → List Cell → Snippet Patch → List NamedRow
 patch_rows r frame around found s =
     others (suggestion_head r frame around s) ++ named_rows s (suggestion_rows around s) (suggestion_lines r frame around found s)
 
 -- the rows of an element
-abbrev pub element_rows : Renderer → Frame → ElementContext → List Cell → Element → List NamedRow
+abbrev pub element_rows : Renderer → Layout → ElementContext → List Cell → Element → List NamedRow
 element_rows r frame around found (element.Message message) = others (message_rows r frame around message)
 element_rows r frame around found (element.Cause snippet) = snippet_rows r frame around snippet
 element_rows r frame around found (element.Suggestion snippet) = patch_rows r frame around found snippet
 element_rows r frame around found (element.Origin origin) = others (origin_rows r frame around origin)
 element_rows r frame around found (element.Padding padding) =
-    others (padding_row r.decor_style frame.gutter (is_end around.next) ∷ [])
+    others (padding_row frame.decor frame.gutter (is_end around.next) ∷ [])
 
 -- ---- groups
 
 -- the rows of each of these elements of a group, which are all that it draws
-abbrev pub rows_of_elements : Renderer → Frame → GroupPosition → Option (List ℕ) → List Element → List (List NamedRow)
+abbrev pub rows_of_elements : Renderer → Layout → GroupPosition → Option (List ℕ) → List Element → List (List NamedRow)
 rows_of_elements r frame place file es =
     map (λ pair. element_rows r frame (context_at place file es pair.0 pair.1) (found_at r frame es pair.0) pair.1) (enumerate_from 0 es)
 
 -- the page of a group that stands at this place: the rows of its title, and those of each element that is drawn
-abbrev pub group_page : Renderer → Frame → GroupPosition → Option (List ℕ) → Group → GroupPage
+abbrev pub group_page : Renderer → Layout → GroupPosition → Option (List ℕ) → Group → GroupPage
 group_page r frame place file g =
     let es = drawn_elements g in
     record { title = title_part r frame place (next_of es) g.title; elements = rows_of_elements r frame place file es }

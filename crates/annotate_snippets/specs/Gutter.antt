@@ -15,8 +15,8 @@ use Rattle.snippet_lines.specs.Number.{shown_number}
 use Rattle.snippet_lines.specs.declared.number.LineNumbers.{LineNumbers}
 use Rattle.snippet_lines.specs.declared.number.LineNumbers.TheVariants.{Shown, Anonymized, Hidden}
 use Rattle.snippet_suggest.specs.Given.{counted_line}
+use Rattle.snippet_grid.specs.Layout.{Layout}
 use Rattle.annotate_snippets.specs.declared.renderer.Renderer.{Renderer}
-use Rattle.annotate_snippets.specs.declared.renderer.frame.Frame.{Frame}
 
 -- the width that an annotated snippet wants: that of the greatest line number counted, or 0 where lines aren't numbered
 abbrev pub gutter_of : Snippet Annotation → ℕ
@@ -70,6 +70,6 @@ abbrev pub code_after : ℕ → ℕ → ℕ
 code_after gutter depth = if depth == 0 then gutter + 3 else gutter + 3 + depth + 1
 
 -- the frame of a group: the gutter is the report's
-abbrev pub frame_of : Renderer → List Group → Group → Frame
+abbrev pub frame_of : Renderer → List Group → Group → Layout
 frame_of r groups g =
-    record { gutter = gutter_of_report r groups; code = code_after (gutter_of_report r groups) (depth_of_group g) }
+    record { gutter = gutter_of_report r groups; code = code_after (gutter_of_report r groups) (depth_of_group g); decor = r.decor_style }

@@ -32,47 +32,47 @@ use Rattle.snippet_titles.specs.declared.style.TitleStyle.TheVariants as style
 use Rattle.annotate_snippets.specs.Around.{closes_after, is_before_message, is_end, is_first_group, is_first_of_several, path_bytes}
 use Rattle.annotate_snippets.specs.Gutter.{numbered_source}
 use Rattle.annotate_snippets.specs.declared.renderer.Renderer.{Renderer}
-use Rattle.annotate_snippets.specs.declared.renderer.frame.Frame.{Frame}
+use Rattle.snippet_grid.specs.Layout.{Layout}
 use Rattle.annotate_snippets.specs.declared.renderer.element_context.GroupPosition.{GroupPosition}
 use Rattle.annotate_snippets.specs.declared.renderer.element_context.Next.{Next}
 use Rattle.annotate_snippets.specs.declared.renderer.element_context.ElementContext.{ElementContext}
 
 -- the rows that set off and close, where they stand in this frame
-abbrev pub separator_rows : Renderer → Frame → List (List Cell)
-separator_rows r frame = separator_row r.decor_style frame.gutter ∷ []
+abbrev pub separator_rows : Renderer → Layout → List (List Cell)
+separator_rows r frame = separator_row frame.decor frame.gutter ∷ []
 
 -- the row that closes, alone
-abbrev pub closing_rows : Renderer → Frame → List (List Cell)
-closing_rows r frame = closing_row r.decor_style frame.gutter ∷ []
+abbrev pub closing_rows : Renderer → Layout → List (List Cell)
+closing_rows r frame = closing_row frame.decor frame.gutter ∷ []
 
 -- what stands below a title: a separator row before a message; and a closing row where nothing follows in the first of several
 -- groups, but not below a trusted title
-abbrev pub rows_after_title : Renderer → Frame → GroupPosition → Next → Bool → List (List Cell)
+abbrev pub rows_after_title : Renderer → Layout → GroupPosition → Next → Bool → List (List Cell)
 rows_after_title r frame place next trusted =
     if is_before_message next then separator_rows r frame
     else (if is_end next && is_first_of_several place && not trusted then closing_rows r frame else [])
 
 -- what stands below the lines of an annotated snippet: in the first group a separator row before a message, and a closing row
 -- where nothing follows in the first of several groups
-abbrev pub rows_after_cause : Renderer → Frame → ElementContext → List (List Cell)
+abbrev pub rows_after_cause : Renderer → Layout → ElementContext → List (List Cell)
 rows_after_cause r frame around =
     if is_first_group around.place && is_before_message around.next then separator_rows r frame
     else (if closes_after around then closing_rows r frame else [])
 
 -- where a message stands, and its rows
-abbrev pub message_style : Renderer → Frame → ElementContext → TitleStyle
+abbrev pub message_style : Renderer → Layout → ElementContext → TitleStyle
 message_style r frame around =
-    style.Message (record { gutter = frame.gutter; decor = r.decor_style; followed = not (is_end around.next) })
+    style.Message (record { frame = frame; followed = not (is_end around.next) })
 
 -- the rows of a message
-abbrev pub message_rows : Renderer → Frame → ElementContext → Message → List (List Cell)
+abbrev pub message_rows : Renderer → Layout → ElementContext → Message → List (List Cell)
 message_rows r frame around message =
     heading_rows r.hyperlink (message_style r frame around) (heading_of_message message)
 
 -- where the rows of paths stand
-abbrev pub origin_layout : Renderer → Frame → OriginLayout
+abbrev pub origin_layout : Renderer → Layout → OriginLayout
 origin_layout r frame =
-    record { gutter = frame.gutter; decor = r.decor_style; anonymized = r.anonymized_origin_line_numbers }
+    record { frame = frame; anonymized = r.anonymized_origin_line_numbers }
 
 -- what leads to the path of an origin: whether it is all that the group shows, or of the group's first element, or a later one,
 -- or of another file than the primary one
@@ -85,7 +85,7 @@ abbrev pub place_given : Origin → OriginLocation
 place_given origin = record { line = origin.line; column = origin.char_column }
 
 -- its rows: that of its path, and a closing row where nothing follows in the first of several groups
-abbrev pub origin_rows : Renderer → Frame → ElementContext → Origin → List (List Cell)
+abbrev pub origin_rows : Renderer → Layout → ElementContext → Origin → List (List Cell)
 origin_rows r frame around origin =
     origin_row (origin_layout r frame) (origin_start around) (cow_str_bytes origin.path) (place_given origin) ∷ (if closes_after around then closing_rows r frame else [])
 
@@ -99,7 +99,7 @@ abbrev pub place_named : Bool → List KeptLine → OriginLocation
 place_named primary lines = place_found (if primary then primary_place lines else secondary_place lines)
 
 -- what an annotated snippet begins with
-abbrev pub cause_head : Renderer → Frame → ElementContext → Snippet Annotation → List (List Cell)
+abbrev pub cause_head : Renderer → Layout → ElementContext → Snippet Annotation → List (List Cell)
 cause_head r frame around s =
     snippet_head (origin_layout r frame) around.primary around.first (path_bytes s.path) (place_named around.primary (annotated_lines s.fold (numbered_source s) s.markers.items))
 
@@ -110,29 +110,29 @@ patch_place s =
     record { line = Some at.line; column = Some (at.char + 1) }
 
 -- the row of a suggestion's path
-abbrev pub path_row : Renderer → Frame → Bool → Snippet Patch → Option (List ℕ) → List (List Cell)
+abbrev pub path_row : Renderer → Layout → Bool → Snippet Patch → Option (List ℕ) → List (List Cell)
 path_row r frame first s None = []
 path_row r frame first s (Some path) =
     origin_row (origin_layout r frame) (primary_start first) path (patch_place s) ∷ []
 
 -- what a suggestion begins with that names its path: the row of the path. In the separator row below it its lines may begin, so
 -- that one is the first of its own rows
-abbrev pub suggestion_head_at : SuggestionStart → Renderer → Frame → Bool → Snippet Patch → List (List Cell)
+abbrev pub suggestion_head_at : SuggestionStart → Renderer → Layout → Bool → Snippet Patch → List (List Cell)
 suggestion_head_at start.Opening r frame first s = []
 suggestion_head_at start.Next r frame first s = []
 suggestion_head_at start.Path r frame first s = path_row r frame first s (path_bytes s.path)
 
 -- the same, by what stands around the suggestion
-abbrev pub suggestion_head : Renderer → Frame → ElementContext → Snippet Patch → List (List Cell)
+abbrev pub suggestion_head : Renderer → Layout → ElementContext → Snippet Patch → List (List Cell)
 suggestion_head r frame around s = suggestion_head_at around.start r frame around.first s
 
 -- the row of its path, and the separator row below it
-abbrev pub path_head : Renderer → Frame → Bool → Snippet Patch → List (List Cell)
+abbrev pub path_head : Renderer → Layout → Bool → Snippet Patch → List (List Cell)
 path_head r frame first s =
     flat_map (λ path. path_row r frame first s (Some path) ++ separator_rows r frame) (option_to_list (path_bytes s.path))
 
 -- the rows of a group's title, and what stands below them, given what follows; none where there is no title
-abbrev pub title_part : Renderer → Frame → GroupPosition → Next → Option Title → List (List Cell)
+abbrev pub title_part : Renderer → Layout → GroupPosition → Next → Option Title → List (List Cell)
 title_part r frame place next None = []
 title_part r frame place next (Some title) =
     title_rows r.hyperlink title ++ rows_after_title r frame place next title.allows_styling

@@ -13,8 +13,6 @@ use Rattle.snippet_view.specs.Marked.{first_line, last_line}
 use Rattle.snippet_strokes.specs.Bars.{Bar}
 use Rattle.snippet_strokes.specs.EndBars.{BarBegins, BarEnds, dotted_bar, solid_bar}
 use Rattle.annotate_snippets.specs.declared.renderer.Renderer.{Renderer}
-use Rattle.annotate_snippets.specs.declared.renderer.frame.Frame.{Frame}
-use Rattle.annotate_snippets.specs.Drawn.{layout_in}
 use Rattle.annotate_snippets.specs.Gutter.{numbered_source}
 use Rattle.annotate_snippets.specs.Page.{RowName, SourceRow, Elision, OfferedLine, RemovedLine, Other, NamedRow, lines_named, rows_below, shows_lines}
 
@@ -29,7 +27,7 @@ bar_of_span s a =
     record { depth = depth_of (numbered_source s) s.markers.items a; primary = is_bar_primary s a }
 
 -- the cell of a row in which it stands: at depth 1 the second after the separator
-abbrev pub bar_cell_of : Frame → Snippet Annotation → Annotation → ℕ
+abbrev pub bar_cell_of : Layout → Snippet Annotation → Annotation → ℕ
 bar_cell_of frame s a = frame.gutter + 2 + depth_of (numbered_source s) s.markers.items a
 
 -- the line after that of the last source row among some rows: 0 where there is none
@@ -58,14 +56,14 @@ bar_beside layout Other bar = solid_bar layout bar
 -- those of the last it ends. The cell is one of those between the separator and the code. Two such spans that share a line, be it the
 -- last of one and the first of the other, have cells of their own, unless they have the same place in the source. In a row that shows a
 -- line, or stands in place of lines, a space stands in each of those cells that no such span has which touches the line
-pub record ShowsBars (r : Renderer) (frame : Frame) (s : Snippet Annotation) (rows : List NamedRow) : Type 0 where
+pub record ShowsBars (r : Renderer) (frame : Layout) (s : Snippet Annotation) (rows : List NamedRow) : Type 0 where
   pub stand : (a : Annotation) → Contains s.markers.items a → is_long (cow_str_bytes s.source) a ≡ true → (above : List NamedRow) (row : NamedRow) (below : List NamedRow)
       → rows ≡ above ++ row ∷ below → first_line (cow_str_bytes s.source) a < line_beside above row.name → line_beside above row.name < last_line (cow_str_bytes s.source) a
-      → slice_index_or row.cells (bar_cell_of frame s a) SPACE ≡ bar_beside (layout_in r frame) row.name (bar_of_span s a)
+      → slice_index_or row.cells (bar_cell_of frame s a) SPACE ≡ bar_beside frame row.name (bar_of_span s a)
   pub begin : (a : Annotation) → Contains s.markers.items a → is_long (cow_str_bytes s.source) a ≡ true → (above : List NamedRow) (row : NamedRow) (below : List NamedRow)
-      → rows ≡ above ++ row ∷ below → row.name ≡ SourceRow (first_line (cow_str_bytes s.source) a) → BarBegins (layout_in r frame) (bar_of_span s a) (row.cells ∷ rows_below below)
+      → rows ≡ above ++ row ∷ below → row.name ≡ SourceRow (first_line (cow_str_bytes s.source) a) → BarBegins frame (bar_of_span s a) (row.cells ∷ rows_below below)
   pub end : (a : Annotation) → Contains s.markers.items a → is_long (cow_str_bytes s.source) a ≡ true → (above : List NamedRow) (row : NamedRow) (below : List NamedRow)
-      → rows ≡ above ++ row ∷ below → row.name ≡ SourceRow (last_line (cow_str_bytes s.source) a) → BarEnds (layout_in r frame) (bar_of_span s a) (row.cells ∷ rows_below below)
+      → rows ≡ above ++ row ∷ below → row.name ≡ SourceRow (last_line (cow_str_bytes s.source) a) → BarEnds frame (bar_of_span s a) (row.cells ∷ rows_below below)
   pub within : (a : Annotation) → Contains s.markers.items a → is_long (cow_str_bytes s.source) a ≡ true → (frame.gutter + 3 ≤ bar_cell_of frame s a) × (bar_cell_of frame s a + 1 < frame.code)
   pub apart : (a b : Annotation) → Contains s.markers.items a → Contains s.markers.items b → is_long (cow_str_bytes s.source) a ≡ true → is_long (cow_str_bytes s.source) b ≡ true
       → first_line (cow_str_bytes s.source) a ≤ last_line (cow_str_bytes s.source) b → first_line (cow_str_bytes s.source) b ≤ last_line (cow_str_bytes s.source) a → bar_cell_of frame s a ≡ bar_cell_of frame s b

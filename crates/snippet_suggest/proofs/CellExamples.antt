@@ -1,5 +1,5 @@
 -- The rows of small suggestions, cell by cell, in ASCII and with a gutter of one cell.
-use Rattle.std.proofs.Common.{◌≡◌, Bool, true, false, Vec, List, [], ◌∷◌, ◌++◌, codes, refl, replicate}
+use Rattle.std.proofs.Common.{ℕ, ◌≡◌, Bool, true, false, Vec, List, [], ◌∷◌, ◌++◌, codes, refl, replicate}
 use Rattle.std.specs.declared.alloc.Global.{Global}
 use Rattle.std.specs.Fmt.{digits}
 use Rattle.std.specs.Str.{chars, trim_end, trim_start}
@@ -27,8 +27,8 @@ use Rattle.snippet_suggest.specs.Suggested.{body_cells, cells_of, suggestion_cel
 use Rattle.snippet_suggest.proofs.Examples.{deleted_line, first_line_deleted, one_word, text_put_in, third_unfolded, two_lines}
 
 -- suggestions in ASCII, with a gutter of one digit
-abbrev pub ascii : SuggestionLayout
-ascii = record { frame = record { gutter = 1; code = 4; decor = Ascii }; numbers = Shown }
+abbrev pub ascii : ℕ → SuggestionLayout
+ascii code = record { frame = record { gutter = 1; code = code; decor = Ascii }; numbers = Shown }
 
 -- the row that a suggestion begins and ends with, where no mark stands in it
 abbrev pub stroke : List Cell
@@ -40,16 +40,16 @@ stroke = SPACE ∷ SPACE ∷ text_cells LineNumber (codes "|")
 --       |
 --     1 | foo(x)
 --       |     +
-pub put_in_cells : (v : Vec Patch Global) (follows : Bool)
-    → suggestion_cells ascii Opening follows (text_put_in v) []
+pub put_in_cells : (code : ℕ) (v : Vec Patch Global) (follows : Bool)
+    → suggestion_cells (ascii code) Opening follows (text_put_in v) []
     ≡ stroke ∷ (text_cells LineNumber (codes "1") ++ SPACE ∷ text_cells LineNumber (codes "| ") ++ text_cells NoStyle (codes "foo(")
     ++ text_cells Addition (codes "x") ++ text_cells NoStyle (codes ")")) ∷ (stroke ++ replicate 5 SPACE ++ text_cells Addition (codes "+")) ∷ []
 unfolding suggestion_cells body_cells cells_of begin_cells end_cells line_cells offered_cells put sign_of with_stretches with_mark with_marks
     changed_within written new_stretches norm digits char_width unicode_width locations_of location_of start_location end_location place_of
     steps_after_text shown_text trimmed_edit sandwich kept_before start_of line_of chars last_line_reached newline_count trim_start trim_end
     lib.Utf8.encode
-put_in_cells v true = refl
-put_in_cells v false = refl
+put_in_cells code v true = refl
+put_in_cells code v false = refl
 
 -- `foo` with `bar` in its place: what is removed and what is put in its place have their roles, with their signs
 --
@@ -57,16 +57,16 @@ put_in_cells v false = refl
 --     1 - foo
 --     1 + bar
 --       |
-word_cells : (v : Vec Patch Global) (follows : Bool)
-    → suggestion_cells ascii Opening follows (one_word v) []
+word_cells : (code : ℕ) (v : Vec Patch Global) (follows : Bool)
+    → suggestion_cells (ascii code) Opening follows (one_word v) []
     ≡ stroke ∷ (text_cells LineNumber (codes "1") ++ SPACE ∷ text_cells Removal (codes "- foo"))
     ∷ (text_cells LineNumber (codes "1") ++ SPACE ∷ text_cells Addition (codes "+ bar")) ∷ stroke ∷ []
 unfolding suggestion_cells body_cells cells_of begin_cells end_cells line_cells offered_cells removed_cells on_last put sign_of with_stretches
     with_mark with_marks changed_within written new_stretches replaced_stretches norm digits char_width unicode_width locations_of location_of
     start_location end_location place_of steps_after_text shown_text trimmed_edit sandwich kept_before start_of line_of chars last_line_reached
     newline_count trim_start trim_end lib.Utf8.encode
-word_cells v true = refl
-word_cells v false = refl
+word_cells code v true = refl
+word_cells code v false = refl
 
 -- `a` and `bc` with `x` put first and `b` deleted. The line that the empty stretch stands on at its start is as if it were kept:
 --
@@ -74,16 +74,16 @@ word_cells v false = refl
 --     1 ~ xa
 --     2 | c
 --       |
-two_line_cells : (v : Vec Patch Global) (follows : Bool)
-    → suggestion_cells ascii Opening follows (two_lines v) []
+two_line_cells : (code : ℕ) (v : Vec Patch Global) (follows : Bool)
+    → suggestion_cells (ascii code) Opening follows (two_lines v) []
     ≡ stroke ∷ (text_cells LineNumber (codes "1") ++ SPACE ∷ text_cells Addition (codes "~ x") ++ text_cells NoStyle (codes "a"))
     ∷ (text_cells LineNumber (codes "2") ++ SPACE ∷ text_cells LineNumber (codes "|") ++ SPACE ∷ text_cells NoStyle (codes "c")) ∷ stroke ∷ []
 unfolding suggestion_cells body_cells cells_of begin_cells end_cells line_cells offered_cells put sign_of with_stretches with_mark with_marks
     changed_within written new_stretches norm digits char_width unicode_width locations_of location_of start_location end_location place_of
     steps_after_text shown_text trimmed_edit sandwich kept_before start_of line_of chars last_line_reached newline_count trim_start trim_end
     lib.Utf8.encode
-two_line_cells v true = refl
-two_line_cells v false = refl
+two_line_cells code v true = refl
+two_line_cells code v false = refl
 
 -- `a`, `b` and `c`, with `x` in place of `c`, unfolded. Separators stand beside the lines that no edit touches, and `+` beside the one
 -- that is new as a whole:
@@ -93,8 +93,8 @@ two_line_cells v false = refl
 --     2 | b
 --     3 + x
 --       |
-pub unfolded_cells : (v : Vec Patch Global) (follows : Bool)
-    → suggestion_cells ascii Opening follows (third_unfolded v) []
+pub unfolded_cells : (code : ℕ) (v : Vec Patch Global) (follows : Bool)
+    → suggestion_cells (ascii code) Opening follows (third_unfolded v) []
     ≡ stroke ∷ (text_cells LineNumber (codes "1") ++ SPACE ∷ text_cells LineNumber (codes "|") ++ SPACE ∷ text_cells NoStyle (codes "a"))
     ∷ (text_cells LineNumber (codes "2") ++ SPACE ∷ text_cells LineNumber (codes "|") ++ SPACE ∷ text_cells NoStyle (codes "b"))
     ∷ (text_cells LineNumber (codes "3") ++ SPACE ∷ text_cells Addition (codes "+ x")) ∷ stroke ∷ []
@@ -102,21 +102,21 @@ unfolding suggestion_cells body_cells cells_of begin_cells end_cells line_cells 
     changed_within written new_stretches norm digits char_width unicode_width locations_of location_of start_location end_location place_of
     steps_after_text shown_text trimmed_edit sandwich kept_before start_of line_of chars last_line_reached newline_count trim_start trim_end
     lib.Utf8.encode
-unfolded_cells v true = refl
-unfolded_cells v false = refl
+unfolded_cells code v true = refl
+unfolded_cells code v false = refl
 
 -- `a`, deleted: all of the removed line has the role of removals
 --
 --       |
 --     1 - a
 --       |
-deleted_cells : (v : Vec Patch Global) (follows : Bool) → suggestion_cells ascii Opening follows (deleted_line v) [] ≡ stroke ∷ (text_cells LineNumber (codes "1") ++ SPACE ∷ text_cells Removal (codes "- a")) ∷ stroke ∷ []
+deleted_cells : (code : ℕ) (v : Vec Patch Global) (follows : Bool) → suggestion_cells (ascii code) Opening follows (deleted_line v) [] ≡ stroke ∷ (text_cells LineNumber (codes "1") ++ SPACE ∷ text_cells Removal (codes "- a")) ∷ stroke ∷ []
 unfolding suggestion_cells body_cells cells_of begin_cells end_cells removed_cells on_last put sign_of with_stretches with_mark with_marks
     changed_within written new_stretches replaced_stretches norm digits char_width unicode_width locations_of location_of start_location end_location
     place_of steps_after_text shown_text trimmed_edit sandwich kept_before start_of line_of chars last_line_reached newline_count trim_start trim_end
     lib.Utf8.encode
-deleted_cells v true = refl
-deleted_cells v false = refl
+deleted_cells code v true = refl
+deleted_cells code v false = refl
 
 -- `a` and `b`, the first with its LF deleted. The line that isn't shown gives its stretch to the row above, where the empty one in it
 -- changes nothing:
@@ -124,10 +124,10 @@ deleted_cells v false = refl
 --       |
 --     1 - a
 --       |
-left_out_row : (v : Vec Patch Global) (follows : Bool) → suggestion_cells ascii Opening follows (first_line_deleted v) [] ≡ stroke ∷ (text_cells LineNumber (codes "1") ++ SPACE ∷ text_cells Removal (codes "- a")) ∷ stroke ∷ []
+left_out_row : (code : ℕ) (v : Vec Patch Global) (follows : Bool) → suggestion_cells (ascii code) Opening follows (first_line_deleted v) [] ≡ stroke ∷ (text_cells LineNumber (codes "1") ++ SPACE ∷ text_cells Removal (codes "- a")) ∷ stroke ∷ []
 unfolding suggestion_cells body_cells cells_of begin_cells end_cells removed_cells on_last put sign_of with_stretches with_mark with_marks
     changed_within written new_stretches replaced_stretches norm digits char_width unicode_width locations_of location_of start_location end_location
     place_of steps_after_text shown_text trimmed_edit sandwich kept_before start_of line_of chars last_line_reached newline_count trim_start trim_end
     lib.Utf8.encode
-left_out_row v true = refl
-left_out_row v false = refl
+left_out_row code v true = refl
+left_out_row code v false = refl

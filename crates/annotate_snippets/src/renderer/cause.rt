@@ -19,14 +19,13 @@ ghost use Rattle.annotate_snippets.specs.Rows.{cause_head, rows_after_cause};
 use crate::renderer::Renderer;
 use crate::renderer::element_context::ElementContext;
 use crate::renderer::elements::origin_layout;
-use crate::renderer::frame::Frame;
 use crate::renderer::gutter::line_numbers;
 use crate::renderer::preprocess::PreparedCause;
-use snippet_grid::StyledBuffer;
+use snippet_grid::{Layout, StyledBuffer};
 use snippet_parts::{
     AnnotatedLineInfo, margin_for, primary_place, secondary_place, with_lines_between,
 };
-use snippet_strokes::{Layout, draw_snippet};
+use snippet_strokes::draw_snippet;
 use snippet_titles::{
     OriginLocation, draw_closing, draw_nameless_head, draw_opening_head, draw_primary_head,
     draw_secondary_head, draw_separator,
@@ -42,13 +41,12 @@ pub fn draw_cause(
     alloc: Global,
     buffer: &mut StyledBuffer,
     renderer: &Renderer,
-    frame: Frame,
+    frame: Layout,
     around: ElementContext,
     cause: PreparedCause<'_>,
 ) -> Result<(), AllocError>
     requires prepared { IsCausePrepared cause }
     requires room { HasRoomFor renderer.now frame (Cause cause.snippet.now) }
-    requires narrow { frame.code < 2 ^ 63 + 2 ^ 32 }
     ensures added { OnOk result (AddsCause renderer.now frame around cause.entry.snippet.now buffer.old buffer.new) }
 {
     draw_cause_head(alloc, buffer, renderer, frame, around, &cause)?;
@@ -61,12 +59,11 @@ fn draw_cause_head(
     alloc: Global,
     buffer: &mut StyledBuffer,
     renderer: &Renderer,
-    frame: Frame,
+    frame: Layout,
     around: ElementContext,
     cause: &PreparedCause<'_>,
 ) -> Result<(), AllocError>
     requires prepared { IsCausePrepared cause.now }
-    requires narrow { frame.gutter ≤ 20 }
     ensures rows { OnOk result (buffer.new ≡ buffer.old ++ cause_head renderer.now frame around cause.now.snippet.now) }
 {
     let layout = origin_layout(renderer, frame);
@@ -113,26 +110,20 @@ fn draw_cause_lines(
     alloc: Global,
     buffer: &mut StyledBuffer,
     renderer: &Renderer,
-    frame: Frame,
+    frame: Layout,
     closes: bool,
     cause: PreparedCause<'_>,
 ) -> Result<(), AllocError>
     requires prepared { IsCausePrepared cause }
     requires room { HasRoomFor renderer.now frame (Cause cause.snippet.now) }
-    requires narrow { frame.code < 2 ^ 63 + 2 ^ 32 }
     ensures added { OnOk result (AddsCauseLines renderer.now frame closes cause.entry.snippet.now buffer.old buffer.new) }
 {
     let numbers = line_numbers(renderer, cause.snippet.line_numbering);
-    let layout = Layout {
-        gutter: frame.gutter,
-        code: frame.code,
-        decor: renderer.decor_style,
-    };
     let room = renderer.term_width.saturating_sub(frame.code);
     let kept = cause.kept;
     let lines = with_lines_between(alloc, &cause.map, kept)?;
     let margin = margin_for(&lines, room);
-    draw_snippet(alloc, buffer, layout, margin, numbers, closes, &lines)
+    draw_snippet(alloc, buffer, frame, margin, numbers, closes, &lines)
 }
 
 /// Draws what stands below an annotated snippet's lines, below all that stands in the grid: what sets off a message, or
@@ -140,16 +131,15 @@ fn draw_cause_lines(
 fn draw_after(
     buffer: &mut StyledBuffer,
     renderer: &Renderer,
-    frame: Frame,
+    frame: Layout,
     around: ElementContext,
 ) -> Result<(), AllocError>
-    requires narrow { frame.gutter ≤ 20 }
     ensures rows { OnOk result (buffer.new ≡ buffer.old ++ rows_after_cause renderer.now frame around) }
 {
     if around.place.is_first() && around.next.is_message() {
-        draw_separator(buffer, frame.gutter, renderer.decor_style)
+        draw_separator(buffer, frame)
     } else if around.closes_after() {
-        draw_closing(buffer, frame.gutter, renderer.decor_style)
+        draw_closing(buffer, frame)
     } else {
         Ok(())
     }

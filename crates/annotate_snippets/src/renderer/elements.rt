@@ -13,10 +13,9 @@ ghost use Rattle.snippet_model.specs.Fits.{MessageFits};
 use crate::renderer::Renderer;
 use crate::renderer::cause::draw_cause;
 use crate::renderer::element_context::{ElementContext, GroupPosition, contexts_of};
-use crate::renderer::frame::Frame;
 use crate::renderer::preprocess::PreparedElement;
 use crate::renderer::suggestions::draw_patches;
-use snippet_grid::StyledBuffer;
+use snippet_grid::{Layout, StyledBuffer};
 use snippet_model::snippet::{Message, Origin};
 use snippet_titles::{
     FileStart, MessageContext, OriginLayout, OriginLocation, TitleStyle, draw_closing,
@@ -34,15 +33,13 @@ pub fn draw_elements<'a>(
     alloc: Global,
     buffer: &mut StyledBuffer<'a>,
     renderer: &Renderer,
-    frame: Frame,
+    frame: Layout,
     place: GroupPosition,
     file: Option<&str>,
     elements: Vec<PreparedElement<'a>>,
 ) -> Result<(), AllocError>
     requires prepared { All IsElementPrepared elements.items }
     requires room { All (λ e. HasRoomFor renderer.now frame (element_of e)) elements.items }
-    requires small { frame.gutter ≤ 20 }
-    requires narrow { frame.code < 2 ^ 63 + 2 ^ 32 }
     ensures added { OnOk result (AddsElements renderer.now frame place (option_copied file.entry) (map element_of elements.entry.items) buffer.old buffer.new) }
 {
     let around = contexts_of(alloc, place, file, &elements)?;
@@ -57,16 +54,15 @@ fn draw_element<'a>(
     alloc: Global,
     buffer: &mut StyledBuffer<'a>,
     renderer: &Renderer,
-    frame: Frame,
+    frame: Layout,
     around: ElementContext,
     element: PreparedElement<'a>,
 ) -> Result<(), AllocError>
     requires prepared { IsElementPrepared element }
     requires room { HasRoomFor renderer.now frame (element_of element) }
     requires around { CanStandIn around (element_of element) }
-    requires narrow { frame.code < 2 ^ 63 + 2 ^ 32 }
     ensures added { (above tail : List (List Cell)) (found : List Cell) → buffer.old ≡ above ++ tail
-        → IsTail renderer.now.decor_style frame.gutter (begins_in_row_above around) tail
+        → IsTail frame.decor frame.gutter (begins_in_row_above around) tail
         → (begins_in_row_above around ≡ true → tail ≡ found ∷ [])
         → OnOk result (AddsElement renderer.now frame around found (element_of element.entry) above buffer.new) }
 {
@@ -83,7 +79,7 @@ fn draw_element<'a>(
         }
         PreparedElement::Padding(_) => {
             let last = around.next.is_nothing();
-            draw_padding(buffer, frame.gutter, renderer.decor_style, last)
+            draw_padding(buffer, frame, last)
         }
     }
 }
@@ -98,17 +94,15 @@ fn draw_message<'a>(
     alloc: Global,
     buffer: &mut StyledBuffer<'a>,
     renderer: &Renderer,
-    frame: Frame,
+    frame: Layout,
     around: ElementContext,
     message: &'a Message<'a>,
 ) -> Result<(), AllocError>
     requires fits { MessageFits message.now }
-    requires narrow { frame.gutter ≤ 20 }
     ensures rows { OnOk result (buffer.new ≡ buffer.old ++ message_rows renderer.now frame around message.now) }
 {
     let place = MessageContext {
-        gutter: frame.gutter,
-        decor: renderer.decor_style,
+        frame,
         followed: !around.next.is_nothing(),
     };
     draw_heading(
@@ -129,11 +123,10 @@ fn draw_place(
     alloc: Global,
     buffer: &mut StyledBuffer,
     renderer: &Renderer,
-    frame: Frame,
+    frame: Layout,
     around: ElementContext,
     origin: &Origin<'_>,
 ) -> Result<(), AllocError>
-    requires narrow { frame.gutter ≤ 20 }
     ensures rows { OnOk result (buffer.new ≡ buffer.old ++ origin_rows renderer.now frame around origin.now) }
 {
     let layout = origin_layout(renderer, frame);
@@ -144,7 +137,7 @@ fn draw_place(
     let start = origin_start(around);
     draw_origin(alloc, buffer, layout, start, origin.path.as_str(), place)?;
     if around.closes_after() {
-        draw_closing(buffer, frame.gutter, renderer.decor_style)?;
+        draw_closing(buffer, frame)?;
     }
     Ok(())
 }
@@ -165,12 +158,11 @@ fn origin_start(around: ElementContext) -> FileStart
 }
 
 /// Where the rows of paths stand.
-pub fn origin_layout(renderer: &Renderer, frame: Frame) -> OriginLayout
+pub fn origin_layout(renderer: &Renderer, frame: Layout) -> OriginLayout
     ensures value { result ≡ spec.origin_layout renderer.now frame }
 {
     OriginLayout {
-        gutter: frame.gutter,
-        decor: renderer.decor_style,
+        frame,
         anonymized: renderer.anonymized_origin_line_numbers,
     }
 }

@@ -1,22 +1,11 @@
 //! Where the parts of a group's rows stand.
-ghost use Rattle.std.specs.Prelude.{◌≡◌, ◌+◌, ◌<◌, ◌^◌};
+ghost use Rattle.std.specs.Prelude.{◌≡◌, ◌+◌, ◌≤◌, ◌<◌, ◌^◌};
 ghost use Rattle.annotate_snippets.specs.Gutter.{code_after};
 
-/// Where the parts of a group's rows stand, in cells from 0.
-///
-/// ```text
-///       |                  the separator stands at cell `gutter + 1`
-///     1 | let x = 1;       a line's number is right-aligned in cells 0 to `gutter`, its source stands from `code` on
-/// ```
-#[derive(Clone, Copy, Debug)]
-pub struct Frame {
-    /// The number of cells that line numbers are right-aligned in.
-    pub gutter: usize,
-    /// The cell of the source's column 0.
-    pub code: usize,
-}
+use snippet_grid::Layout;
+use snippet_style::DecorStyle;
 
-/// The frame in a gutter of this width, where this many bars stand side by side.
+/// The layout of a group in a gutter of this width, where this many bars stand side by side.
 ///
 /// ```text
 ///     1 |   f(a,      one bar: the code stands two cells farther right
@@ -24,15 +13,21 @@ pub struct Frame {
 ///     2 | |  b)
 ///       | |___^
 /// ```
-pub fn frame_for(gutter: usize, depth: usize) -> Frame
-    requires narrow { gutter + depth < 2 ^ 63 + 2 ^ 31 }
+pub fn frame_for(gutter: usize, depth: usize, decor: DecorStyle) -> Layout
+    requires gutter { gutter ≤ 20 }
+    requires depth { depth < 2 ^ 63 + 2 ^ 31 }
     ensures gutter { result.gutter ≡ gutter }
     ensures code { result.code ≡ code_after gutter depth }
+    ensures decor { result.decor ≡ decor }
 {
     let code = if depth == 0 {
         gutter + 3
     } else {
         gutter + 3 + depth + 1
     };
-    Frame { gutter, code }
+    Layout {
+        gutter,
+        code,
+        decor,
+    }
 }

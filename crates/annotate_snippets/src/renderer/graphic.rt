@@ -15,12 +15,12 @@ ghost use Rattle.annotate_snippets.specs.Prepared.{IsGroupDrawable, IsGroupPrepa
 use crate::renderer::Renderer;
 use crate::renderer::element_context::{GroupPosition, next_of};
 use crate::renderer::elements::draw_elements;
-use crate::renderer::frame::{Frame, frame_for};
+use crate::renderer::frame::frame_for;
 use crate::renderer::gutter::gutter_of;
 use crate::renderer::paths::{primary_path, report_file};
 use crate::renderer::preprocess::{PreparedGroup, prepare_groups};
 use crate::renderer::title::draw_title;
-use snippet_grid::{SheetCodes, StyledBuffer};
+use snippet_grid::{Layout, SheetCodes, StyledBuffer};
 use snippet_model::snippet::Group;
 use snippet_style::{LevelInner, Stylesheet};
 use std::alloc::{AllocError, Global};
@@ -52,7 +52,7 @@ pub fn grids<'a>(
     let file = report_file(groups);
     let mut grids = Vec::new(alloc);
     for (i, group) in prepared.into_iter().enumerate() {
-        let frame = frame_for(gutter, group.depth());
+        let frame = frame_for(gutter, group.depth(), renderer.decor_style);
         let place = GroupPosition::at(groups.len(), i);
         let file = primary_path(group.group).or(file);
         grids.push(draw_group(alloc, renderer, frame, place, file, group)?)?;
@@ -65,14 +65,12 @@ pub fn grids<'a>(
 fn draw_group<'a>(
     alloc: Global,
     renderer: &Renderer,
-    frame: Frame,
+    frame: Layout,
     place: GroupPosition,
     file: Option<&str>,
     group: PreparedGroup<'a>,
 ) -> Result<GroupGrid<'a>, AllocError>
     requires prepared { IsGroupPrepared group }
-    requires small { frame.gutter ≤ 20 }
-    requires narrow { frame.code < 2 ^ 63 + 2 ^ 32 }
     requires room { All (λ e. HasRoomFor renderer.now frame (element_of e)) group.elements.items }
     ensures level { IfOk result (λ grid. grid.level ≡ group.entry.group.now.level) }
     ensures drawn { IfOk result (λ grid. IsGroupGrid renderer.now frame place (option_copied file.entry) group.entry.group.now grid.buffer) }

@@ -18,9 +18,8 @@ ghost use Rattle.annotate_snippets.specs.Rows as spec;
 use crate::renderer::Renderer;
 use crate::renderer::element_context::ElementContext;
 use crate::renderer::elements::origin_layout;
-use crate::renderer::frame::Frame;
 use crate::renderer::gutter::line_numbers;
-use snippet_grid::StyledBuffer;
+use snippet_grid::{Layout, StyledBuffer};
 use snippet_suggest::{PreparedSuggestion, SuggestionLayout, SuggestionStart, draw_suggestion};
 use snippet_titles::{OriginLocation, draw_primary_head};
 use std::alloc::{AllocError, Global};
@@ -34,7 +33,7 @@ pub fn draw_patches(
     alloc: Global,
     buffer: &mut StyledBuffer,
     renderer: &Renderer,
-    frame: Frame,
+    frame: Layout,
     around: ElementContext,
     suggestion: &PreparedSuggestion<'_>,
 ) -> Result<(), AllocError>
@@ -42,7 +41,7 @@ pub fn draw_patches(
     requires room { HasRoomFor renderer.now frame (Suggestion suggestion.now.snippet.now) }
     requires path { HasPathFor around.start suggestion.now.snippet.now }
     ensures added { (above tail : List (List Cell)) (found : List Cell) → buffer.old ≡ above ++ tail
-        → IsTail renderer.now.decor_style frame.gutter (begins_in_row_above around) tail
+        → IsTail frame.decor frame.gutter (begins_in_row_above around) tail
         → (begins_in_row_above around ≡ true → tail ≡ found ∷ [])
         → OnOk result (AddsElement renderer.now frame around found (Suggestion suggestion.now.snippet.now) above buffer.new) }
 {
@@ -50,12 +49,11 @@ pub fn draw_patches(
         draw_path(alloc, buffer, renderer, frame, around.first, suggestion)?;
     }
     let layout = SuggestionLayout {
-        gutter: frame.gutter,
+        frame,
         numbers: line_numbers(renderer, suggestion.snippet.line_numbering),
-        decor: renderer.decor_style,
     };
     let follows = !around.next.is_nothing();
-    draw_suggestion(alloc, buffer, layout, suggestion, around.start, follows)
+    draw_suggestion(alloc, buffer, &layout, suggestion, around.start, follows)
 }
 
 /// Draws the path of a snippet of patches below all that stands in the grid, and the row that sets it off. A snippet without
@@ -64,12 +62,11 @@ fn draw_path(
     alloc: Global,
     buffer: &mut StyledBuffer,
     renderer: &Renderer,
-    frame: Frame,
+    frame: Layout,
     first: bool,
     suggestion: &PreparedSuggestion<'_>,
 ) -> Result<(), AllocError>
     requires prepared { IsPrepared suggestion.now }
-    requires narrow { frame.gutter ≤ 20 }
     ensures rows { OnOk result (buffer.new ≡ buffer.old ++ spec.path_head renderer.now frame first suggestion.now.snippet.now) }
 {
     let Some(path) = &suggestion.snippet.path else {

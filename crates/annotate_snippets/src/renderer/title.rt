@@ -5,8 +5,7 @@ ghost use Rattle.annotate_snippets.specs.Rows.{title_part};
 
 use crate::renderer::Renderer;
 use crate::renderer::element_context::{GroupPosition, Next};
-use crate::renderer::frame::Frame;
-use snippet_grid::StyledBuffer;
+use snippet_grid::{Layout, StyledBuffer};
 use snippet_model::snippet::Title;
 use snippet_titles::{draw_closing, draw_separator};
 use std::alloc::{AllocError, Global};
@@ -25,21 +24,19 @@ pub fn draw_title<'a>(
     alloc: Global,
     buffer: &mut StyledBuffer<'a>,
     renderer: &Renderer,
-    frame: Frame,
+    frame: Layout,
     place: GroupPosition,
     next: Next,
     title: &'a Title<'a>,
 ) -> Result<(), AllocError>
     requires fits { TitleFits title.now }
-    requires narrow { frame.gutter ≤ 20 }
     ensures rows { OnOk result (buffer.new ≡ buffer.old ++ title_part renderer.now frame place next (Some title.now)) }
 {
     snippet_titles::draw_title(alloc, buffer, renderer.hyperlink, title)?;
-    let decor = renderer.decor_style;
     if next.is_message() {
-        draw_separator(buffer, frame.gutter, decor)
+        draw_separator(buffer, frame)
     } else if next.is_nothing() && place.is_first_of_several() && !title.allows_styling {
-        draw_closing(buffer, frame.gutter, decor)
+        draw_closing(buffer, frame)
     } else {
         Ok(())
     }

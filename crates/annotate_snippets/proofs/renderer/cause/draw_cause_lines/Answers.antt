@@ -19,7 +19,6 @@ use Rattle.snippet_grid.specs.Layout.{Layout}
 use Rattle.snippet_marks.specs.Entries.{HasPlace}
 use Rattle.snippet_strokes.specs.EntryMarks.{HasBarCell}
 use Rattle.snippet_strokes.specs.Snippet.{AreLinesShown}
-use Rattle.annotate_snippets.specs.Drawn.{layout_in}
 use Rattle.annotate_snippets.specs.Gutter.{numbered_source}
 use Rattle.annotate_snippets.specs.Prepared.{IsCausePrepared}
 use Rattle.annotate_snippets.specs.declared.renderer.preprocess.PreparedCause.{PreparedCause}
@@ -121,7 +120,7 @@ pub draw_snippet-requires-clause-bar_cells : goal.draw_snippet-requires-clause-b
 draw_snippet-requires-clause-bar_cells c =
     let s = c.args.cause.snippet.now in
     let lines = c.deref-2.result.now in
-    let layout : Layout = record { gutter = c.args.frame.gutter; code = c.args.frame.code; decor = c.args.renderer.now.decor_style } in
+    let layout : Layout = c.args.frame in
     infos_all (λ info. All (HasBarCell layout) info.annotations.items) lines (lines_bar_cells (numbered_source s) s.markers.items c.requires.prepared.drawable.spans
     (shown_lines s.fold (cow_str_bytes s.source) s.markers.items) (infos_of lines) (shown_is c) layout c.requires.room.bars)
 
@@ -139,7 +138,7 @@ returns c =
     let frame = c.args.frame in
     let lines = infos_of c.deref-2.result.now in
     let kept : map seen_kept (kept_of c.deref.result.now) ≡ annotated_lines s.fold (numbered_source s) s.markers.items = ap (map seen_kept) (ap kept_of c.deref.ensures.value ∙ c.in_ok-lines.ensures.kept_are) ∙ prepared.kept_are in
-    let room : c.saturating_sub-room.result ≡ c.args.renderer.now.term_width - frame.code = c.saturating_sub-room.ensures in
+    let room : c.saturating_sub-room.result ≡ c.args.renderer.now.term_width - frame.code = c.saturating_sub-room.ensures ∙ ap (λ (l : Layout). c.args.renderer.now.term_width - l.code) c.frame.view_is in
     let bounds : bounds_of c.margin_for-margin.result ≡ margin_of (c.args.renderer.now.term_width - frame.code) s.fold (numbered_source s)
     s.markers.items = c.margin_for-margin.ensures.bounds
     ∙ bounds_of_kept c.saturating_sub-room.result s.fold (numbered_source s) s.markers.items (kept_of c.deref.result.now) prepared.drawable.spans kept
@@ -156,7 +155,7 @@ returns c =
           room = c.margin_for-margin.ensures.room ∙ room;
           bounds = bounds;
           ordered = c.margin_for-margin.ensures.ordered;
-          shown = subst (λ (numbers : LineNumbers). AreLinesShown (layout_in c.args.renderer.now frame) c.margin_for-margin.result numbers c.args.closes [] lines adds.rows) c.line_numbers-numbers.ensures.value adds.shown;
+          shown = subst (λ (numbers : LineNumbers). AreLinesShown frame c.margin_for-margin.result numbers c.args.closes [] lines adds.rows) c.line_numbers-numbers.ensures.value adds.shown;
         };
       }) c.draw_snippet.ensures.added;
     }

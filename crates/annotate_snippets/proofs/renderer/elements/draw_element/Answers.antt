@@ -39,6 +39,6 @@ returns-in-Padding c = record {
       on_ok_weaker c.draw_padding.result
       (λ drawn. plain_added c.args.renderer.now c.args.frame c.args.around found c.args.element (Padding c.in-Padding.field-0.now)
       above tail c.args.buffer.now c.draw_padding.new.buffer _ (ap element_of c.in-Padding.is) c.requires.around (λ alone. alone)
-      is tail_is drawn (ap (λ last. padding_row c.args.renderer.now.decor_style c.args.frame.gutter last ∷ []) c.is_nothing-last.ensures.value))
+      is tail_is drawn (ap (λ last. padding_row c.args.frame.decor c.args.frame.gutter last ∷ []) c.is_nothing-last.ensures.value))
       c.draw_padding.ensures.row;
 }

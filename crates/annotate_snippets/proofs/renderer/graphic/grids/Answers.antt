@@ -20,7 +20,7 @@ draw_group-requires-clause-room c =
     let frame : c.frame_for-frame.result ≡ frame_of c.args.renderer.now c.args.groups.now c.in-Some.group.group.now =
     frame_is c.args.renderer.now c.args.groups.now (map group_of c.deref.result.now)
     c.in-Some.group.group.now c.frame_for-frame.result c.gutter_of-gutter.result c.depth.result same c.gutter_of-gutter.ensures.value
-    c.depth.ensures.value c.frame_for-frame.ensures.gutter c.frame_for-frame.ensures.code in
+    c.depth.ensures.value c.frame_for-frame.ensures.gutter c.frame_for-frame.ensures.code c.frame_for-frame.ensures.decor in
     let prepared : IsGroupPrepared c.in-Some.group = turn_prepared c.in_ok-prepared.prepared.items (length c.loop-i.yielded) c.in-Some.i c.in-Some.group c.in_ok-prepared.ensures.prepared turn in
     turn_room c.args.renderer.now c.args.groups.now c.in_ok-prepared.prepared.items (length c.loop-i.yielded) c.in-Some.i c.in-Some.group c.frame_for-frame.result c.requires.drawable prepared c.in_ok-prepared.ensures.groups turn frame
 
@@ -31,7 +31,7 @@ loop-i-preserved c =
     let frame : c.frame_for-frame.result ≡ frame_of c.args.renderer.now c.args.groups.now c.in-Some.group.group.now =
     frame_is c.args.renderer.now c.args.groups.now (map group_of c.deref.result.now)
     c.in-Some.group.group.now c.frame_for-frame.result c.gutter_of-gutter.result c.depth.result same c.gutter_of-gutter.ensures.value
-    c.depth.ensures.value c.frame_for-frame.ensures.gutter c.frame_for-frame.ensures.code in
+    c.depth.ensures.value c.frame_for-frame.ensures.gutter c.frame_for-frame.ensures.code c.frame_for-frame.ensures.decor in
     let file = ap option_copied c.or-file.ensures ∙ copied_or c.primary_path.result c.report_file-file.result
     ∙ ap (λ path. option_or path (option_copied c.report_file-file.result)) c.primary_path.ensures.value
     ∙ ap (option_or (primary_path c.in-Some.group.group.now)) c.report_file-file.ensures.value in
