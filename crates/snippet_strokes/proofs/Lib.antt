@@ -35,3 +35,4 @@ pub mod LineRowLaws
 pub mod AmongLaws
 pub mod EndBarLaws
 pub mod SourceCellLaws
+pub mod CrossedLaws
