@@ -51,6 +51,7 @@ pub mod SourceFeedLaws
 pub mod SpanBarRows
 pub mod SpanOpen
 pub mod SpanParts
+pub mod SpanPlaces
 pub mod SuggestFeedLaws
 pub mod SuggestionLemmas
 pub mod SuggestionShown

@@ -6,8 +6,8 @@ use Rattle.std.proofs.lemmas.Bool.{both_ways, cases_eq}
 use Rattle.std.proofs.lemmas.List.Elements.{All-weaker}
 use Rattle.snippet_model.specs.declared.snippet.Annotation.{Annotation}
 use Rattle.snippet_model.specs.declared.snippet.Snippet.{Snippet}
-use Rattle.snippet_style.specs.Cell.{Cell, SPACE}
-use Rattle.snippet_style.specs.Glyphs.{glyph_of}
+use Rattle.snippet_style.specs.Cell.{Cell, SPACE, unlinked_cell}
+use Rattle.snippet_style.specs.Glyphs.{glyph_of, underline_role}
 use Rattle.snippet_style.specs.declared.glyphs.DecorStyle.{DecorStyle}
 use Rattle.snippet_style.specs.declared.glyphs.DecorStyle.TheVariants.{Ascii, Unicode}
 use Rattle.snippet_view.specs.Annotated.{is_long}
@@ -41,6 +41,21 @@ no_space layout name bar same = by_name name same
     by_name (RemovedLine i) is = glyph layout.decor bar.primary 0x2503 0x2502 (omega arith) (omega arith) (letter (solid_bar layout bar) is)
     by_name Other is = glyph layout.decor bar.primary 0x2503 0x2502 (omega arith) (omega arith) (letter (solid_bar layout bar) is)
 
+-- nor a part of a line that leads from another
+no_line : (layout : Layout) (bar : Bar) (primary : Bool) → solid_bar layout bar ≡ unlinked_cell (underline_role primary) (glyph_of layout.decor primary 95 95 0x2501 0x2500) → ⊥
+no_line layout bar primary same =
+    by_kind layout.decor bar.primary primary (ap (λ (cell : Cell). cell.ch) same)
+  where
+    by_kind : (decor : DecorStyle) (p q : Bool) → glyph_of decor p 124 124 0x2503 0x2502 ≡ glyph_of decor q 95 95 0x2501 0x2500 → ⊥
+    by_kind Ascii true true is = omega (arith, is)
+    by_kind Ascii true false is = omega (arith, is)
+    by_kind Ascii false true is = omega (arith, is)
+    by_kind Ascii false false is = omega (arith, is)
+    by_kind Unicode true true is = omega (arith, is)
+    by_kind Unicode true false is = omega (arith, is)
+    by_kind Unicode false true is = omega (arith, is)
+    by_kind Unicode false false is = omega (arith, is)
+
 module _ (r : Renderer) (frame : Layout) (s : Snippet Annotation) (rows : List NamedRow) (shown : ShowsBars r frame s rows) (above : List NamedRow) (row : NamedRow) (below : List NamedRow) (is : rows ≡ above ++ row ∷ below) where
   -- the row stands between the lines of a span of several lines
   record GoesPast (a : Annotation) : Type 0 where
@@ -73,6 +88,21 @@ module _ (r : Renderer) (frame : Layout) (s : Snippet Annotation) (rows : List N
   bar_of_no_span none shows c from to filled =
       filled (shown.spaces above row below is shows c from to (All-weaker (λ (a : Annotation). is_long (cow_str_bytes s.source) a ≡ false)
       (λ a. is_long (cow_str_bytes s.source) a ≡ true → touches (cow_str_bytes s.source) a (line_beside above row.name) ≡ true → bar_cell_of frame s a ≢ c) (λ a short long touched same. both_ways (is_long (cow_str_bytes s.source) a) short long) s.markers.items none))
+
+  -- nor below a line, whatever bar that is:
+  --
+  --     2 | b
+  --       ┃ ^
+  pub bar_of_no_span_below : All (λ a. is_long (cow_str_bytes s.source) a ≡ false) s.markers.items → (bar : Bar) → frame.gutter + 3 ≤ frame.gutter + 2 + bar.depth → frame.gutter + 2 + bar.depth < frame.code
+      → slice_index_or row.cells (frame.gutter + 2 + bar.depth) SPACE ≡ solid_bar frame bar → ⊥
+  bar_of_no_span_below none bar from to there =
+      let c : ℕ = frame.gutter + 2 + bar.depth in
+      let clear = shown.others above row below is c from to (All-weaker (λ (a : Annotation). is_long (cow_str_bytes s.source) a ≡ false)
+      (λ a. is_long (cow_str_bytes s.source) a ≡ true → touches (cow_str_bytes s.source) a (line_beside above row.name) ≡ true → bar_cell_of frame s a ≢ c) (λ a short long touched same. both_ways (is_long (cow_str_bytes s.source) a) short long) s.markers.items none) in
+      elim clear [
+        | inl space ↦ no_space frame Other bar (sym there ∙ space)
+        | inr line ↦ no_line frame bar line.0 (sym there ∙ line.1)
+      ]
 
   -- a space in the cell of a bar, beside the last line of its span:
   --

@@ -1,14 +1,11 @@
 -- Beside the rows of a snippet's lines stand the bars of its spans.
-use Rattle.std.proofs.Common.{◌≡◌, ℕ, zero, suc, ◌+◌, ◌-◌, ◌<◌, ◌≤◌, ◌==◌, ◌&&◌, Bool, true, false, not, cond, eqb, leb, take, replicate, ◌≢◌, List, [], ◌∷◌, ◌++◌, ◌⊎◌, fold, map, length, get_or, inl, inr, refl, sym, ap, subst, ◌∙◌, arith}
+use Rattle.std.proofs.Common.{◌≡◌, ℕ, zero, suc, ◌+◌, ◌-◌, ◌<◌, ◌≤◌, ◌==◌, ◌&&◌, Bool, true, false, not, cond, leb, take, replicate, ◌≢◌, List, [], ◌∷◌, ◌++◌, ◌⊎◌, fold, map, length, get_or, inl, inr, refl, sym, ap, subst, ◌∙◌, arith}
 use Rattle.std.specs.List.{All, Contains, filter}
 use Rattle.std.specs.Cow.{cow_str_bytes}
-use Rattle.std.proofs.lemmas.Bool.{le-leb, and_from, and_parts, cond_both, eq-eqb, eqb-true}
+use Rattle.std.proofs.lemmas.Bool.{le-leb, and_from}
 use Rattle.std.proofs.lemmas.Bool.Decides.{nat_tests}
 use Rattle.std.proofs.lemmas.List.Elements.{All-contains, All-filter, All-head, All-nil, All-tail}
-use Rattle.snippet_model.specs.AnnotationKind.{is_primary}
 use Rattle.snippet_model.specs.declared.snippet.Annotation.{Annotation}
-use Rattle.snippet_model.specs.declared.snippet.AnnotationKind.{AnnotationKind}
-use Rattle.snippet_model.specs.declared.snippet.AnnotationKind.TheVariants.{Primary, Context, Visible}
 use Rattle.snippet_model.specs.declared.snippet.Snippet.{Snippet}
 use Rattle.snippet_style.specs.Cell.{Cell, SPACE, text_cells}
 use Rattle.snippet_style.specs.Glyphs.{separator_of}
@@ -16,130 +13,36 @@ use Rattle.snippet_style.specs.declared.glyphs.DecorStyle.{DecorStyle}
 use Rattle.snippet_style.specs.declared.role.ElementStyle.TheVariants.{LineNumber}
 use Rattle.snippet_style.proofs.CellLemmas.{length-text_cells}
 use Rattle.std.proofs.lemmas.List.{length-append, length-replicate, length-take}
-use Rattle.snippet_lines.specs.declared.place.Loc.{Loc}
-use Rattle.snippet_lines.specs.Lines.{Source, source_lines}
-use Rattle.snippet_lines.specs.Place.{end_location, line_of, location_of, locations_of, start_location}
 use Rattle.snippet_lines.specs.Span.{IsSpan}
-use Rattle.snippet_view.specs.declared.depths.LongExtent.{LongExtent}
-use Rattle.snippet_view.specs.Annotated.{PartEntry, deepest, depth_of, is_long, long_entry, long_place, long_spans, seen_part, stands_before}
-use Rattle.snippet_view.specs.Depths.{same_place}
+use Rattle.snippet_view.specs.Annotated.{PartEntry, deepest, depth_of, is_long, seen_part}
 use Rattle.snippet_view.specs.declared.entries.LineAnnotation.{LineAnnotation}
 use Rattle.snippet_view.specs.declared.entries.LineAnnotationType.{LineAnnotationType}
 use Rattle.snippet_view.specs.declared.entries.LineAnnotationType.TheVariants.{MultilineEnd, MultilineStart}
-use Rattle.snippet_view.specs.Mark.{is_marking, is_single_line, touches}
-use Rattle.snippet_view.specs.Marked.{Entry, first_line, last_line}
-use Rattle.snippet_view.proofs.AmongLemmas.{Among, among_filter, among_in_order, among_map, any_among, any_cases, filter_cases, in_order_cases, map_cases}
+use Rattle.snippet_view.specs.Mark.{touches}
+use Rattle.snippet_view.specs.Marked.{first_line, last_line}
+use Rattle.snippet_view.proofs.AmongLemmas.{Among}
 use Rattle.snippet_view.proofs.EntryFacts.{depth-within}
 use Rattle.snippet_view.proofs.PartLemmas.{All-unmapped}
-use Rattle.snippet_view.proofs.RawDepthLemmas.{same-refl, same-true}
 use Rattle.snippet_strokes.specs.Bars.{Bar, HasOwnDepth, bars_apart, ends_of_bars, has_depth}
 use Rattle.snippet_strokes.specs.Rows.{bare_elision_row}
-use Rattle.snippet_strokes.specs.EndBars.{BarBegins, BarEnds}
+use Rattle.snippet_strokes.specs.EndBars.{BarBegins, BarEnds, IsNoBar}
 use Rattle.snippet_strokes.proofs.AmongLaws.{all_from_among, among_contains, contains_among}
 use Rattle.snippet_strokes.proofs.EndBarLaws.{bar_ends, elision_stands}
 use Rattle.snippet_strokes.proofs.SnippetLemmas.{highlighted_left}
+use Rattle.snippet_strokes.proofs.CrossedLaws.{line_clear}
 use Rattle.snippet_strokes.proofs.SourceCellLaws.{begins, gap_space, line_source}
 use Rattle.snippet_marks.specs.Entries.{is_end_part}
 use Rattle.annotate_snippets.specs.declared.renderer.Renderer.{Renderer}
 use Rattle.snippet_grid.specs.Layout.{Layout}
-use Rattle.annotate_snippets.specs.Gutter.{code_after, number_text, numbered_source}
+use Rattle.annotate_snippets.specs.Gutter.{code_after, number_text}
 use Rattle.annotate_snippets.specs.LineRows.{AreRowsDrawn, IsRowDrawn, bars_on, entries_on, open_after}
 use Rattle.annotate_snippets.specs.Page.{Elision, IsAscending, NamedRow, OfferedLine, Other, RemovedLine, RowName, SourceRow, lines_named, rows_below, shows_lines}
 use Rattle.annotate_snippets.specs.Shown.{AreRowsOf, IsRowOf, cells_left}
-use Rattle.annotate_snippets.specs.SpanBars.{ShowsBars, bar_beside, bar_cell_of, bar_of_span, is_bar_primary, line_beside}
+use Rattle.annotate_snippets.specs.SpanBars.{ShowsBars, bar_beside, bar_cell_of, line_beside}
 use Rattle.annotate_snippets.proofs.DrawnLines.{bar_shown, bars_seen}
 use Rattle.annotate_snippets.proofs.LabelLemmas.{head_same, tail_same}
-use Rattle.annotate_snippets.proofs.SpanOpen.{AreOpen, IsFreeAt, alone, ends_apart, open_apart, bar_at_place, end_here, goes_past, longer, no_end, no_start, none_open, one_place, open_lower, open_next, own_on_line, place_in, start_here}
-use Rattle.annotate_snippets.proofs.SpanParts.{is_primary_at}
-
--- ---- the place of a span is its bytes
-
-starts_at : (s : Source) (start end : ℕ) → (locations_of s start end).0.byte ≡ start
-unfolding locations_of start_location location_of
-starts_at s start end = refl
-
-ends_at : (s : Source) (start end : ℕ) → (locations_of s start end).1.byte ≡ end
-unfolding locations_of start_location end_location location_of
-ends_at s start end =
-    cond_both (eqb start end) (start_location s start) (end_location s start end) (λ (l : Loc). l.byte ≡ end) (λ same. eqb-true start end same) (λ _. refl)
-
-place_from : Source → ℕ → ℕ → LongExtent
-place_from s start end =
-    let at = locations_of s start end in
-    record { from = at.0.byte; to = at.1.byte; first = at.0.line; last = at.1.line }
-
--- spans of the same bytes have one place
-same_bytes : (s : Source) (a b : Annotation) → a.span.start ≡ b.span.start → a.span.end ≡ b.span.end → place_in s a ≡ place_in s b
-unfolding place_from
-same_bytes s a b starts ends =
-    ap (λ n. place_from s n a.span.end) starts ∙ ap (λ n. place_from s b.span.start n) ends
-
--- and spans of one place the same bytes
-bytes_same : (s : Source) (a b : Annotation) → place_in s a ≡ place_in s b → (a.span.start ≡ b.span.start) × (a.span.end ≡ b.span.end)
-bytes_same s a b same =
-    (sym (starts_at s a.span.start a.span.end) ∙ ap (λ (p : LongExtent). p.from) same ∙ starts_at s b.span.start b.span.end, sym (ends_at s a.span.start a.span.end) ∙ ap (λ (p : LongExtent). p.to) same ∙ ends_at s b.span.start b.span.end)
-
--- primary spans are marked
-primary_marks : (k : AnnotationKind) → is_primary k ≡ true → is_marking k ≡ true
-primary_marks Primary is = refl
-primary_marks Context is = cc
-primary_marks Visible is = cc
-
--- a span of the bytes of one of several lines is of several lines
-long_too : (source : List ℕ) (a b : Annotation) → is_long source a ≡ true → is_marking b.kind ≡ true → b.span.start ≡ a.span.start → b.span.end ≡ a.span.end → is_long source b ≡ true
-long_too source a b long marking starts ends =
-    let first : first_line source b ≡ first_line source a = ap (line_of (source_lines source)) starts in
-    let last : last_line source b ≡ last_line source a = ap (line_of (source_lines source)) ends in
-    let single : is_single_line source b ≡ is_single_line source a = ap (λ n. n == first_line source b) last ∙ ap (λ n. last_line source a == n) first in
-    let parts = and_parts (is_marking a.kind) (not (is_single_line source a)) long in
-    and_from (is_marking b.kind) (not (is_single_line source b)) marking (ap not single ∙ parts.1)
-
--- tests that pass where the other does are the same
-pass_alike : (x y : Bool) → (x ≡ true → y ≡ true) → (y ≡ true → x ≡ true) → x ≡ y
-pass_alike true y there back = sym (there refl)
-pass_alike false true there back = back refl
-pass_alike false false there back = refl
-
-module _ (s : Snippet Annotation) where
-  abbrev source : Source
-  source = numbered_source s
-
-  abbrev marks : List Annotation
-  marks = s.markers.items
-
-  abbrev bar_by_place : Annotation → Bar
-  bar_by_place a = bar_at_place source marks (place_in source a)
-
-  -- the bar of a span's place is primary where one of the spans of its bytes is
-  bar_given : (a : Annotation) → is_long source.text a ≡ true → bar_by_place a ≡ bar_of_span s a
-  bar_given a long =
-      ap (λ b. record { depth = depth_of source marks a; primary = b }) (pass_alike (is_primary_at (long_spans source marks) (place_in source a)) (is_bar_primary s a) given back)
-    where
-      given : is_primary_at (long_spans source marks) (place_in source a) ≡ true → is_bar_primary s a ≡ true
-      given there =
-          let d = any_cases (λ (d : Entry). is_primary d.kind && same_place (place_in source a) (long_place d)) (long_spans source marks) there in
-          let made = map_cases (long_entry source) (filter (is_long source.text) marks) d.0 (in_order_cases stands_before (map (long_entry source) (filter (is_long source.text) marks)) d.0 d.1) in
-          let b : Annotation = made.0 in
-          let among = filter_cases (is_long source.text) marks b made.1 in
-          let parts = and_parts (is_primary d.0.kind) (same_place (place_in source a) (long_place d.0)) d.2 in
-          let bytes = bytes_same source b a (ap long_place made.2 ∙ sym (same-true (place_in source a) (long_place d.0) parts.1)) in
-          let primary : is_primary b.kind ≡ true = ap (λ (e : Entry). is_primary e.kind) made.2 ∙ parts.0 in
-          any_among (λ (b : Annotation). is_primary b.kind && (b.span.start == a.span.start && b.span.end == a.span.end)) marks b among.0
-          (and_from (is_primary b.kind) (b.span.start == a.span.start && b.span.end == a.span.end) primary
-          (and_from (b.span.start == a.span.start) (b.span.end == a.span.end) (eq-eqb b.span.start a.span.start bytes.0) (eq-eqb b.span.end a.span.end bytes.1)))
-
-      back : is_bar_primary s a ≡ true → is_primary_at (long_spans source marks) (place_in source a) ≡ true
-      back there =
-          let found = any_cases (λ (b : Annotation). is_primary b.kind && (b.span.start == a.span.start && b.span.end == a.span.end)) marks there in
-          let b : Annotation = found.0 in
-          let parts = and_parts (is_primary b.kind) (b.span.start == a.span.start && b.span.end == a.span.end) found.2 in
-          let bytes = and_parts (b.span.start == a.span.start) (b.span.end == a.span.end) parts.1 in
-          let starts : b.span.start ≡ a.span.start = eqb-true b.span.start a.span.start bytes.0 in
-          let ends : b.span.end ≡ a.span.end = eqb-true b.span.end a.span.end bytes.1 in
-          let among = among_filter (is_long source.text) marks b found.1 (long_too source.text a b long (primary_marks b.kind parts.0) starts ends) in
-          let ordered = among_in_order stands_before (map (long_entry source) (filter (is_long source.text) marks)) (long_entry source b) (among_map (long_entry source) (filter (is_long source.text) marks) b among) in
-          let same : same_place (place_in source a) (place_in source b) ≡ true = ap (same_place (place_in source a)) (same_bytes source b a starts ends) ∙ same-refl (place_in source a) in
-          any_among (λ (d : Entry). is_primary d.kind && same_place (place_in source a) (long_place d)) (long_spans source marks) (long_entry source b) ordered (and_from (is_primary b.kind) (same_place (place_in source a) (place_in source b)) parts.0 same)
+use Rattle.annotate_snippets.proofs.SpanOpen.{AreOpen, IsFreeAt, alone, ends_apart, open_apart, end_here, goes_past, longer, no_end, no_start, none_open, one_place, open_lower, open_next, own_on_line, start_here}
+use Rattle.annotate_snippets.proofs.SpanPlaces.{bar_by_place, bar_given, bytes_same, marks, source}
 
 -- ---- the lines that are left
 
@@ -207,6 +110,12 @@ from_later n (OfferedLine j) cells above name = refl
 from_later n (RemovedLine i) cells above name = refl
 from_later n Other cells above name = refl
 
+-- an element that is there is the same whatever stands for others
+get_or_any : (xs : List (List Cell)) (i : ℕ) (x y : List Cell) → i < length xs → get_or xs i x ≡ get_or xs i y
+get_or_any [] i x y within = absurd (omega (arith, within))
+get_or_any (z ∷ xs) zero x y within = refl
+get_or_any (z ∷ xs) (suc i) x y within = get_or_any xs i x y (omega (arith, within))
+
 -- what stands in the gutter beside a line is no wider than the gutter
 short_number : (decor : DecorStyle) (gutter : ℕ) (shown : List ℕ) (row : List Cell) → take (gutter + 2) row ≡ cells_left decor gutter shown → length shown ≤ gutter + 1
 short_number decor gutter shown row same =
@@ -244,11 +153,6 @@ module _ (r : Renderer) (frame : Layout) (closes : Bool) (s : Snippet Annotation
       let own : HasOwnDepth bar open_bars = alone (source s) (marks s) spans k open_bars are_open a among long above (omega (arith, below)) in
       let only : HasOwnDepth bar (bars_apart open_bars (bars_on s k)) = All-filter (λ (b : Bar). not (has_depth (bars_on s k) b.depth)) (λ (b : Bar). b.depth ≡ bar.depth → b ≡ bar) open_bars own in
       ap (λ (cells : List Cell). get_or cells (bar_cell_of frame s a) SPACE) (get_or_any all i d [] within) ∙ bar_shown r frame (closes && length (rows_below rows) == length rows) s open_bars k all drawn bar past only i within
-    where
-      get_or_any : (xs : List (List Cell)) (i : ℕ) (x y : List Cell) → i < length xs → get_or xs i x ≡ get_or xs i y
-      get_or_any [] i x y within = absurd (omega (arith, within))
-      get_or_any (z ∷ xs) zero x y within = refl
-      get_or_any (z ∷ xs) (suc i) x y within = get_or_any xs i x y (omega (arith, within))
 
   -- and a row in place of lines
   elision_bars : (open_bars : List Bar) (n : ℕ) (row : List Cell) (rows : List NamedRow) → IsRowDrawn r frame closes s open_bars Elision row rows → Open n open_bars → HasBars Elision n row
@@ -277,9 +181,24 @@ module _ (r : Renderer) (frame : Layout) (closes : Bool) (s : Snippet Annotation
   line_spaces open_bars k row rows shows line are_open depth some within free =
       let ends : All (λ (b : Bar). b.depth ≢ depth) (ends_of_bars line.entries) = subst (All (λ (b : Bar). b.depth ≢ depth)) (sym (bars_seen s k line.entries line.are)) (ends_apart (source s) (marks s) spans k depth free) in
       let others = open_apart (source s) (marks s) spans k depth open_bars are_open free in
-      line_source frame depth within line.margin.term_width (closes && length (rows_below rows) == length rows) line.text line.dropped line.entries line.highlighted ends open_bars (row ∷ rows_below rows) line.drawn others (omega arith) ∙ line_blank open_bars k row rows shows line depth some within
+      let last : Bool = closes && length (rows_below rows) == length rows in
+      line_source frame depth within line.margin.term_width last line.text line.dropped line.entries line.highlighted ends open_bars (row ∷ rows_below rows) line.drawn others (omega arith) ∙ line_blank open_bars k row rows shows line depth some within
 
-  -- and those of a row in place of lines
+  -- and in none of its rows a bar stands there
+  abbrev HasNoOthers : ℕ → List Cell → Type 0
+  HasNoOthers k cells =
+      (depth : ℕ) → 0 < depth → frame.gutter + 2 + depth < frame.code → IsFreeAt (source s) (marks s) spans k depth → IsNoBar frame.decor (get_or cells (frame.gutter + 2 + depth) SPACE)
+
+  line_others : (open_bars : List Bar) (k : ℕ) (row : List Cell) (rows : List NamedRow) → IsRowOf r frame closes s (SourceRow k) row rows → IsRowDrawn r frame closes s open_bars (SourceRow k) row rows → Open k open_bars → All (HasNoOthers k) (row ∷ rows_below rows)
+  line_others open_bars k row rows shows line are_open i d inside depth some within free =
+      let all : List (List Cell) = row ∷ rows_below rows in
+      let ends : All (λ (b : Bar). b.depth ≢ depth) (ends_of_bars line.entries) = subst (All (λ (b : Bar). b.depth ≢ depth)) (sym (bars_seen s k line.entries line.are)) (ends_apart (source s) (marks s) spans k depth free) in
+      let others = open_apart (source s) (marks s) spans k depth open_bars are_open free in
+      let blank = line_blank open_bars k row rows shows line depth some within in
+      let clear = line_clear frame depth some within line.margin.term_width (closes && length (rows_below rows) == length rows) line.text line.dropped line.entries line.highlighted ends blank open_bars all line.drawn others i inside in
+      subst (λ (cells : List Cell). IsNoBar frame.decor (get_or cells (frame.gutter + 2 + depth) SPACE)) (get_or_any all i [] d inside) clear
+
+  -- and in a row in place of lines
   elision_spaces : (open_bars : List Bar) (n : ℕ) (row : List Cell) (rows : List NamedRow) → IsRowDrawn r frame closes s open_bars Elision row rows → Open n open_bars → HasSpaces n row
   elision_spaces open_bars n row rows drawn are_open depth some within free =
       ap (λ (cells : List Cell). get_or cells (frame.gutter + 2 + depth) SPACE) drawn.0 ∙ gap_space frame depth within open_bars (open_apart (source s) (marks s) spans n depth open_bars are_open free) some
@@ -288,6 +207,7 @@ module _ (r : Renderer) (frame : Layout) (closes : Bool) (s : Snippet Annotation
   record IsShown (name : RowName) (k : ℕ) (cells : List Cell) : Type 0 where
     bars : HasBars name k cells
     spaces : shows_lines name ≡ true → HasSpaces k cells
+    others : HasNoOthers k cells
 
   -- what is known above some rows: which lines are left, and which bars are open
   record IsReady (open_bars : List Bar) (n : ℕ) (rows : List NamedRow) : Type 0 where
@@ -297,6 +217,7 @@ module _ (r : Renderer) (frame : Layout) (closes : Bool) (s : Snippet Annotation
     lines : Climbs n (lines_named rows)
     ends : (a : Annotation) → Contains (marks s) a → is_long (cow_str_bytes s.source) a ≡ true → IsPast n (lines_named rows) (first_line (cow_str_bytes s.source) a) × IsPast n (lines_named rows) (last_line (cow_str_bytes s.source) a)
     below : All (HasBars Other (n - 1)) (rows_below rows)
+    others : All (HasNoOthers (n - 1)) (rows_below rows)
 
   -- a row has its bars, and the same is known below it
   one_row : (open_bars : List Bar) (n : ℕ) (name : RowName) (cells : List Cell) (rows : List NamedRow) → IsReady open_bars n (record { name = name; cells = cells } ∷ rows)
@@ -308,8 +229,13 @@ module _ (r : Renderer) (frame : Layout) (closes : Bool) (s : Snippet Annotation
       let ends = ready.ends a among long in
       (past_next n k ks (first_line (cow_str_bytes s.source) a) ready.lines ends.0, past_next n k ks (last_line (cow_str_bytes s.source) a) ready.lines ends.1)) in
       let bars : All (HasBars Other k) (cells ∷ rows_below rows) = line_bars open_bars k cells rows ready.drawn.0 here in
+      let others : All (HasNoOthers k) (cells ∷ rows_below rows) = line_others open_bars k cells rows ready.named.0 ready.drawn.0 here in
       let last : k ≡ k + 1 - 1 = omega arith in (
-        record { bars = All-head (HasBars Other k) cells (rows_below rows) bars; spaces = λ _. line_spaces open_bars k cells rows ready.named.0 ready.drawn.0 here },
+        record {
+          bars = All-head (HasBars Other k) cells (rows_below rows) bars;
+          spaces = λ _. line_spaces open_bars k cells rows ready.named.0 ready.drawn.0 here;
+          others = All-head (HasNoOthers k) cells (rows_below rows) others;
+        },
         record {
           named = ready.named.1;
           drawn = ready.drawn.1;
@@ -317,10 +243,15 @@ module _ (r : Renderer) (frame : Layout) (closes : Bool) (s : Snippet Annotation
           lines = ready.lines.1;
           ends = λ a among long. let ends = ready.ends a among long in (past_after n k ks (first_line (cow_str_bytes s.source) a) up ends.0, past_after n k ks (last_line (cow_str_bytes s.source) a) up ends.1);
           below = subst (λ m. All (HasBars Other m) (rows_below rows)) last (All-tail (HasBars Other k) cells (rows_below rows) bars);
+          others = subst (λ m. All (HasNoOthers m) (rows_below rows)) last (All-tail (HasNoOthers k) cells (rows_below rows) others);
         },
       )
   one_row open_bars n Elision cells rows ready = (
-    record { bars = elision_bars open_bars n cells rows ready.drawn.0 ready.are_open; spaces = λ _. elision_spaces open_bars n cells rows ready.drawn.0 ready.are_open },
+    record {
+      bars = elision_bars open_bars n cells rows ready.drawn.0 ready.are_open;
+      spaces = λ _. elision_spaces open_bars n cells rows ready.drawn.0 ready.are_open;
+      others = λ depth some within free. inl (elision_spaces open_bars n cells rows ready.drawn.0 ready.are_open depth some within free);
+    },
     record {
       named = ready.named.1;
       drawn = ready.drawn.1;
@@ -328,12 +259,13 @@ module _ (r : Renderer) (frame : Layout) (closes : Bool) (s : Snippet Annotation
       lines = ready.lines;
       ends = ready.ends;
       below = subst (All (HasBars Other (n - 1))) (sym ready.drawn.0.1) (All-nil (HasBars Other (n - 1)));
+      others = subst (All (HasNoOthers (n - 1))) (sym ready.drawn.0.1) (All-nil (HasNoOthers (n - 1)));
     },
   )
   one_row open_bars n (OfferedLine j) cells rows ready = absurd ready.named.0
   one_row open_bars n (RemovedLine i) cells rows ready = absurd ready.named.0
   one_row open_bars n Other cells rows ready = (
-    record { bars = All-head (HasBars Other (n - 1)) cells (rows_below rows) ready.below; spaces = λ wrong. cc wrong },
+    record { bars = All-head (HasBars Other (n - 1)) cells (rows_below rows) ready.below; spaces = λ wrong. cc wrong; others = All-head (HasNoOthers (n - 1)) cells (rows_below rows) ready.others },
     record {
       named = ready.named.1;
       drawn = ready.drawn.1;
@@ -341,6 +273,7 @@ module _ (r : Renderer) (frame : Layout) (closes : Bool) (s : Snippet Annotation
       lines = ready.lines;
       ends = ready.ends;
       below = All-tail (HasBars Other (n - 1)) cells (rows_below rows) ready.below;
+      others = All-tail (HasNoOthers (n - 1)) cells (rows_below rows) ready.others;
     },
   )
 
@@ -386,7 +319,8 @@ module _ (r : Renderer) (frame : Layout) (closes : Bool) (s : Snippet Annotation
         All-unmapped P seen_part es (subst (All P) (sym are) (all_from_among P (entries_on s k) none))
 
     -- the bar begins in the rows of the span's first line
-    line_begins : (open_bars : List Bar) (k : ℕ) (row : List Cell) (rows : List NamedRow) → IsRowOf r frame closes s (SourceRow k) row rows → IsRowDrawn r frame closes s open_bars (SourceRow k) row rows → first_line (cow_str_bytes s.source) a ≡ k → BarBegins frame bar (row ∷ rows_below rows)
+    line_begins : (open_bars : List Bar) (k : ℕ) (row : List Cell) (rows : List NamedRow) → IsRowOf r frame closes s (SourceRow k) row rows → IsRowDrawn r frame closes s open_bars (SourceRow k) row rows
+        → first_line (cow_str_bytes s.source) a ≡ k → BarBegins frame bar (row ∷ rows_below rows)
     line_begins open_bars k row rows shows line here =
         let ends : bars_on s k ≡ ends_of_bars line.entries = sym (bars_seen s k line.entries line.are) in
         let own : Contains (ends_of_bars line.entries) bar = subst (λ bs. Contains bs bar) ends (among_contains (bars_on s k) bar (start_here (source s) (marks s) k a among long here)) in
@@ -418,6 +352,7 @@ module _ (r : Renderer) (frame : Layout) (closes : Bool) (s : Snippet Annotation
         lines = climbs_from 0 ks (λ k more same. omega arith) ascends;
         ends = λ a among long. let shown = All-contains (λ a. Contains ks (first_line text a) × Contains ks (last_line text a)) (marks s) a ends among in (inr (contains_among ks (first_line text a) shown.0), inr (contains_among ks (last_line text a) shown.1));
         below = subst (All (HasBars Other 0)) (sym none_above) (All-nil (HasBars Other 0));
+        others = subst (All (HasNoOthers 0)) (sym none_above) (All-nil (HasNoOthers 0));
       } in
       record {
         stand = λ a among long above row below is begun ended.
@@ -430,21 +365,28 @@ module _ (r : Renderer) (frame : Layout) (closes : Bool) (s : Snippet Annotation
             let line = renamed (SourceRow (last_line text a)) row below name (row_known [] rows named drawn above row below is) in
             subst (λ bar. BarEnds frame bar (row.cells ∷ rows_below below)) (bar_given s a long) (line_ends a among long (deep a among long) line.bars (last_line text a) row.cells below line.drawn refl);
         within = λ a among long. let depth = depth-within (source s) (marks s) a among long in inside (depth_of (source s) (marks s) a) depth.0 depth.1;
-        spaces = λ above row below is shows c from to others.
-            let k : ℕ = line_beside above row.name in
-            let line : line_from 0 above row.name ≡ k = from_start above row.name in
-            let depth : ℕ = c - (frame.gutter + 2) in
-            let cell : frame.gutter + 2 + depth ≡ c = omega (arith, from) in
-            let free : IsFreeAt (source s) (marks s) spans (line_from 0 above row.name) depth = λ a among long first last same.
-            let up : leb (first_line text a) k ≡ true = le-leb (first_line text a) k (omega (arith, first, line)) in
-            let down : leb k (last_line text a) ≡ true = le-leb k (last_line text a) (omega (arith, last, line)) in
-            let touched : touches text a k ≡ true = and_from (leb (first_line text a) k) (leb k (last_line text a)) up down in
-            All-contains (λ a. is_long text a ≡ true → touches text a k ≡ true → bar_cell_of frame s a ≢ c) (marks s) a others among long touched (omega (arith, same, cell)) in
-            ap (λ n. get_or row.cells n SPACE) (sym cell) ∙ (all_rows [] 0 rows ready above row below is).spaces shows depth (omega (arith, from)) (omega (arith, to, cell)) free;
+        spaces = λ above row below is shows c from to free.
+            let cell : frame.gutter + 2 + (c - (frame.gutter + 2)) ≡ c = omega (arith, from) in
+            ap (λ n. get_or row.cells n SPACE) (sym cell) ∙ (all_rows [] 0 rows ready above row below is).spaces shows (c - (frame.gutter + 2)) (omega (arith, from)) (omega (arith, to, cell)) (free_there above row c from free);
+        others = λ above row below is c from to free.
+            let cell : frame.gutter + 2 + (c - (frame.gutter + 2)) ≡ c = omega (arith, from) in
+            subst (λ n. IsNoBar frame.decor (get_or row.cells n SPACE)) cell ((all_rows [] 0 rows ready above row below is).others (c - (frame.gutter + 2)) (omega (arith, from)) (omega (arith, to, cell)) (free_there above row c from free));
         apart = λ a b among-a among-b long-a long-b from to same.
             bytes_same (source s) a b (one_place (source s) (marks s) spans a b among-a among-b long-a long-b from to (omega (arith, same)));
       }
     where
+      free_there : (above : List NamedRow) (row : NamedRow) (c : ℕ) → frame.gutter + 3 ≤ c
+          → All (λ a. is_long (cow_str_bytes s.source) a ≡ true → touches (cow_str_bytes s.source) a (line_beside above row.name) ≡ true → bar_cell_of frame s a ≢ c) (marks s)
+          → IsFreeAt (source s) (marks s) spans (line_from 0 above row.name) (c - (frame.gutter + 2))
+      free_there above row c from free a among long first last same =
+          let text : List ℕ = cow_str_bytes s.source in
+          let k : ℕ = line_beside above row.name in
+          let line : line_from 0 above row.name ≡ k = from_start above row.name in
+          let up : leb (first_line text a) k ≡ true = le-leb (first_line text a) k (omega (arith, first, line)) in
+          let down : leb k (last_line text a) ≡ true = le-leb k (last_line text a) (omega (arith, last, line)) in
+          let touched : touches text a k ≡ true = and_from (leb (first_line text a) k) (leb k (last_line text a)) up down in
+          All-contains (λ a. is_long text a ≡ true → touches text a k ≡ true → bar_cell_of frame s a ≢ c) (marks s) a free among long touched (omega (arith, same, from))
+
       inside : (depth : ℕ) → 0 < depth → depth ≤ deepest (source s) (marks s) → (frame.gutter + 3 ≤ frame.gutter + 2 + depth) × (frame.gutter + 2 + depth + 1 < frame.code)
       inside depth some low = (omega (arith, some), omega (arith, some, low, wide (deepest (source s) (marks s)) (omega (arith, some, low)), room))
         where

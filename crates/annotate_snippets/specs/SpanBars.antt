@@ -11,7 +11,7 @@ use Rattle.snippet_view.specs.Annotated.{depth_of, is_long}
 use Rattle.snippet_view.specs.Mark.{touches}
 use Rattle.snippet_view.specs.Marked.{first_line, last_line}
 use Rattle.snippet_strokes.specs.Bars.{Bar}
-use Rattle.snippet_strokes.specs.EndBars.{BarBegins, BarEnds, dotted_bar, solid_bar}
+use Rattle.snippet_strokes.specs.EndBars.{BarBegins, BarEnds, IsNoBar, dotted_bar, solid_bar}
 use Rattle.annotate_snippets.specs.declared.renderer.Renderer.{Renderer}
 use Rattle.annotate_snippets.specs.Gutter.{numbered_source}
 use Rattle.annotate_snippets.specs.Page.{RowName, SourceRow, Elision, OfferedLine, RemovedLine, Other, NamedRow, lines_named, rows_below, shows_lines}
@@ -55,7 +55,8 @@ bar_beside layout Other bar = solid_bar layout bar
 -- such a span its bar stands in its own cell and in its kind, whatever else the row holds. In the rows of the first line it begins, in
 -- those of the last it ends. The cell is one of those between the separator and the code. Two such spans that share a line, be it the
 -- last of one and the first of the other, have cells of their own, unless they have the same place in the source. In a row that shows a
--- line, or stands in place of lines, a space stands in each of those cells that no such span has which touches the line
+-- line, or stands in place of lines, a space stands in each of those cells that no such span has which touches the line; in a row below a
+-- line a space stands there too, or a part of a line that leads from another bar to a mark
 pub record ShowsBars (r : Renderer) (frame : Layout) (s : Snippet Annotation) (rows : List NamedRow) : Type 0 where
   pub stand : (a : Annotation) → Contains s.markers.items a → is_long (cow_str_bytes s.source) a ≡ true → (above : List NamedRow) (row : NamedRow) (below : List NamedRow)
       → rows ≡ above ++ row ∷ below → first_line (cow_str_bytes s.source) a < line_beside above row.name → line_beside above row.name < last_line (cow_str_bytes s.source) a
@@ -71,3 +72,6 @@ pub record ShowsBars (r : Renderer) (frame : Layout) (s : Snippet Annotation) (r
   pub spaces : (above : List NamedRow) (row : NamedRow) (below : List NamedRow) → rows ≡ above ++ row ∷ below → shows_lines row.name ≡ true → (c : ℕ) → frame.gutter + 3 ≤ c → c < frame.code
       → All (λ a. is_long (cow_str_bytes s.source) a ≡ true → touches (cow_str_bytes s.source) a (line_beside above row.name) ≡ true → bar_cell_of frame s a ≢ c) s.markers.items
       → slice_index_or row.cells c SPACE ≡ SPACE
+  pub others : (above : List NamedRow) (row : NamedRow) (below : List NamedRow) → rows ≡ above ++ row ∷ below → (c : ℕ) → frame.gutter + 3 ≤ c → c < frame.code
+      → All (λ a. is_long (cow_str_bytes s.source) a ≡ true → touches (cow_str_bytes s.source) a (line_beside above row.name) ≡ true → bar_cell_of frame s a ≢ c) s.markers.items
+      → IsNoBar frame.decor (slice_index_or row.cells c SPACE)

@@ -42,3 +42,4 @@ pub mod StemLaws
 pub mod AmongLaws
 pub mod EndBarLaws
 pub mod SourceCellLaws
+pub mod CrossedLaws

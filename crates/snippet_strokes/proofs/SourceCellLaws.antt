@@ -1,5 +1,5 @@
 -- Laws of the cells of bars beside a line and beside lines that are left out: where no bar has its place the row stays as it is.
-use Rattle.std.proofs.Common.{◌≡◌, ◌≢◌, ℕ, ◌+◌, ◌<◌, Bool, false, not, List, [], ◌∷◌, ◌++◌, ◌==◌, All, Contains, map, length, get_or, ap, ◌∙◌, refl, arith, inl, inr}
+use Rattle.std.proofs.Common.{◌≡◌, ◌≢◌, ℕ, ◌+◌, ◌<◌, Bool, false, not, Some, List, [], ◌∷◌, ◌++◌, ◌==◌, All, Contains, map, length, get_or, ap, ◌∙◌, refl, arith, inl, inr}
 use Rattle.std.proofs.lemmas.Bool.{cases_Bool, false_from_ne_true, eqb-true}
 use Rattle.std.proofs.lemmas.List.{get_or-map, get_or_past, length-map}
 use Rattle.std.proofs.lemmas.List.Elements.{All-append, All-cons, All-filter, All-map, All-nil}
@@ -31,6 +31,18 @@ use Rattle.snippet_strokes.proofs.BarWrites.{All-column_of, All-connector_of, Al
 use Rattle.snippet_strokes.proofs.ElisionLemmas.{bare_elision_short}
 use Rattle.snippet_strokes.proofs.EndBarLaws.{bar_begins, is_at, labels_right, left_same, marks_right, part_leaves, passed_by, past_apart, some_entries, stems_right}
 use Rattle.snippet_strokes.proofs.WriteLaws.{All-flat_map, painted-untouched}
+
+-- where no bar of a line has this depth no start and no end has it
+pub none_has : (depth : ℕ) (es : List LineAnnotation) → All (λ b. b.depth ≢ depth) (ends_of_bars es) → All (λ (e : LineAnnotation). is_at depth e.annotation_type ≡ false) es
+unfolding is_at
+none_has depth es others =
+    all_from_among (λ (e : LineAnnotation). is_at depth e.annotation_type ≡ false) es (λ e here. by_type e.annotation_type (is_primary e.kind) (λ b is. all_among (λ (x : Bar). x.depth ≢ depth) (ends_of_bars es) b others (among_filter_map bar_of es e b here is)))
+  where
+    by_type : (t : LineAnnotationType) (primary : Bool) → ((b : Bar) → bar_at t primary ≡ Some b → b.depth ≢ depth) → is_at depth t ≡ false
+    by_type Singleline primary apart = refl
+    by_type (MultilineStart d) primary apart = false_from_ne_true (is_at depth (MultilineStart d)) (λ same. apart (record { depth = d; primary = primary }) refl (eqb-true d depth same))
+    by_type (MultilineEnd d) primary apart = false_from_ne_true (is_at depth (MultilineEnd d)) (λ same. apart (record { depth = d; primary = primary }) refl (eqb-true d depth same))
+    by_type (MultilineLine d) primary apart = refl
 
 module _ (layout : Layout) (depth : ℕ) (room : layout.gutter + 2 + depth < layout.code) where
   -- any bar of this depth, and the cell in which it would stand
@@ -97,7 +109,9 @@ module _ (layout : Layout) (depth : ℕ) (room : layout.gutter + 2 + depth < lay
     -- no entry has this depth
     none_at : All IsNoEnd es
     none_at =
-        all_from_among IsNoEnd es (λ e here end. all_among (λ (x : Bar). x.depth ≢ depth) (ends_of_bars es) (record { depth = depth; primary = is_primary e.kind }) others (among_filter_map bar_of es e (record { depth = depth; primary = is_primary e.kind }) here (ap (λ t. bar_at t (is_primary e.kind)) end)) refl)
+        all_from_among IsNoEnd es (λ e here end.
+        let own : Bar = record { depth = depth; primary = is_primary e.kind } in
+        all_among (λ (x : Bar). x.depth ≢ depth) (ends_of_bars es) own others (among_filter_map bar_of es e own here (ap (λ t. bar_at t (is_primary e.kind)) end)) refl)
 
     own_source : (rows : List (List Cell)) → AreOwnRows layout width closes text dropped es source rows → cell_at rows 0 cell ≡ get_or source cell SPACE
     own_source rows are =
