@@ -8,7 +8,10 @@ use Rattle.snippet_marks.proofs.source_row.write_beginning.Goals as goal
 pub returns-in-None : goal.returns-in-None
 returns-in-None c =
     let decor = c.layout.inside.decor in
-    rw (← c.layout.view_is) (record { writes = on_ok_weaker c.puts.result (λ writes above row last ends before. begun_plain decor c.args.start above c.args.buffer.now c.puts.new.self row c.args.row c.layout.inside.code c.args.text.now c.in-None.is c.utf8.text writes c.puts.ensures.empty last ends before) c.puts.ensures.ok })
+    rw (← c.layout.view_is) (record {
+      writes = on_ok_weaker c.puts.result (λ writes above row last ends before.
+          begun_plain decor c.args.start above c.args.buffer.now c.puts.new.self row c.args.row c.layout.inside.code c.args.text.now c.in-None.is c.utf8.text writes c.puts.ensures.empty last ends before) c.puts.ensures.ok;
+    })
 
 pub returns-in_ok-puts-in-Some : goal.returns-in_ok-puts-in-Some
 returns-in_ok-puts-in-Some c =

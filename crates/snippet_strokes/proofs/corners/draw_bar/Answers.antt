@@ -19,7 +19,8 @@ loop-row-preserved c =
     bar_painted c.args.layout c.args.placed.now c.args.depth c.args.start c.loop-row.row strokes.result.multiline_vertical strokes.result.style
     c.args.buffer.now c.loop-row.buffer c.putc.new.self
     (strokes.ensures.multiline_vertical ∙ ap (λ b. glyph_of c.layout.inside.decor b 124 124 0x2503 0x2502) c.is_primary.ensures.value ∙ ap (λ (l : Layout). glyph_of l.decor (is_primary c.args.placed.now.entry.kind) 124 124 0x2503 0x2502) c.layout.view_is)
-    (strokes.ensures.style ∙ ap underline_role c.is_primary.ensures.value) (omega arith) c.loop-row.invariant (c.in_ok-putc.ensures.ok ∙ ap (λ (l : Layout). cells_written c.loop-row.buffer c.loop-row.row (l.gutter + 2 + c.args.depth) (unlinked_cell strokes.result.style strokes.result.multiline_vertical ∷ [])) c.layout.view_is)
+    (strokes.ensures.style ∙ ap underline_role c.is_primary.ensures.value) (omega arith) c.loop-row.invariant
+    (c.in_ok-putc.ensures.ok ∙ ap (λ (l : Layout). cells_written c.loop-row.buffer c.loop-row.row (l.gutter + 2 + c.args.depth) (unlinked_cell strokes.result.style strokes.result.multiline_vertical ∷ [])) c.layout.view_is)
 
 pub returns : goal.returns
 returns c =
