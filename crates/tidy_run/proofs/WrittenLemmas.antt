@@ -1,9 +1,16 @@
 -- The texts of a run: one for each sheet, if any, and what is written of them is what shows the findings.
-use Rattle.std.proofs.Common.{◌≡◌, ℕ, List, [], ◌∷◌, Option, None, Some, IfSome, IsSomeAnd, String, Global, inl, inr, ◌⊎◌, length, map, ap, string_bytes, subst, sym, ◌∙◌}
+use Rattle.std.proofs.Common.{◌≡◌, ◌≢◌, ℕ, Vec, refl, List, [], ◌∷◌, Option, None, Some, IfSome, IsSomeAnd, String, Global, inl, inr, ◌⊎◌, length, map, ap, string_bytes, subst, sym, ◌∙◌}
+use Rattle.std.specs.Prelude.{IfOk}
+use Rattle.std.specs.declared.alloc.AllocError.{AllocError}
+use Rattle.std.specs.declared.result.Result.{Result}
+use Rattle.std.proofs.lemmas.Result.{IfOk-weaker}
 use Rattle.std.proofs.lemmas.List.{length-map, nil_from_length}
 use Rattle.std.proofs.lemmas.Slice.Zip.{AllZip-long}
+use Rattle.annotate_snippets.specs.Forms.{TextsShown}
+use Rattle.annotate_snippets.specs.Settings.{plain_settings}
 use Rattle.annotate_snippets.specs.declared.renderer.style.Stylesheet.{Stylesheet}
-use Rattle.tidy_run.specs.Report.{Told}
+use Rattle.annotate_snippets.specs.declared.snippet.Group.{Group}
+use Rattle.tidy_run.specs.Report.{IsReportOf, Told}
 use Rattle.tidy_run.specs.Run.{AreTextsOf, AreWritten, IsSource, IsWritten, ShowsTold, sheets_for}
 use Rattle.tidy_run.specs.Words.{Line, Word}
 
@@ -27,6 +34,20 @@ shown_told : (path source : List ℕ) (told : List Told) (sheets : List Styleshe
     → AreTextsOf path source told sheets texts → AreWritten log Printed Logged texts → ShowsTold path source told sheets texts
 shown_told path source [] sheets texts log Printed Logged none written = absurd (subst (AreWritten log Printed Logged) none written)
 shown_told path source (t ∷ ts) sheets texts log Printed Logged shown written = shown
+
+-- the texts of a report that tells all of it are what is written of that
+pub texts_of_told : (path source : List ℕ) (told : List Told) (groups : List Group) (sheets : List Stylesheet) (drawn : Result (Vec (String Global) Global) AllocError)
+    → IsReportOf path source told groups → (groups ≡ [] → IfOk drawn (λ texts. texts.items ≡ []))
+    → (groups ≢ [] → IfOk drawn (λ texts. TextsShown plain_settings groups sheets (map string_bytes texts.items)))
+    → IfOk drawn (λ texts. AreTextsOf path source told sheets (map string_bytes texts.items))
+texts_of_told path source [] [] sheets drawn report none shows =
+    IfOk-weaker drawn (λ texts. texts.items ≡ []) (λ texts. map string_bytes texts.items ≡ []) (λ texts empty. ap (map string_bytes) empty) (none refl)
+texts_of_told path source [] (g ∷ groups) sheets drawn report none shows = absurd report
+texts_of_told path source (t ∷ told) [] sheets drawn report none shows = absurd report
+texts_of_told path source (t ∷ told) (g ∷ groups) sheets drawn report none shows =
+    IfOk-weaker drawn (λ texts. TextsShown plain_settings (g ∷ groups) sheets (map string_bytes texts.items))
+    (λ texts. ShowsTold path source (t ∷ told) sheets (map string_bytes texts.items))
+    (λ texts shown. record { groups = g ∷ groups; report = report; shows = shown }) (shows (λ empty. cc))
 
 -- so what is written for the words of a line is the texts that show what is told of its file
 pub written_texts : (line : Option Line) (file : Option (List ℕ)) (made : Line) (told : List ℕ → List Told) (texts read : List (List ℕ)) (Printed Logged : List ℕ → Type 0) → Some made ≡ line → read ≡ texts
