@@ -1,5 +1,5 @@
 -- What a stream isn't given.
-use Rattle.std.proofs.Common.{◌≡◌, ℕ, ◌+◌, ◌<◌, ◌≤◌, List, [], ◌∷◌, ◌++◌, Option, Some, arith, length, min, take, ap, sym, ◌∙◌, length-append, length-take}
+use Rattle.std.proofs.Common.{ℕ, List, [], ◌∷◌, ◌++◌, Some, arith, length, ap, length-append, length-take}
 use Rattle.program.specs.Stream.{Receives, Whole, CutShort, line_of}
 
 -- a line that is written twice is not that line

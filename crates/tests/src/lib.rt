@@ -3,6 +3,8 @@
 #![tactic(auto)]
 
 #[cfg(test)]
+mod line;
+#[cfg(test)]
 mod redraw;
 #[cfg(test)]
 mod replay;

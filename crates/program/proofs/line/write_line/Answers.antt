@@ -1,6 +1,6 @@
 use Rattle.std.proofs.Common.{subst}
 use Rattle.std.specs.Io.KnownBytes.{Appends}
-use Rattle.program.proofs.Writing.{added_twice, on_false, on_true, one_of, part_of_line, text_of_line}
+use Rattle.program.proofs.Writing.{added_twice, on_false, on_true, one_of, text_of_line}
 use Rattle.program.proofs.line.write_line.Goals as goal
 
 pub returns-then-write_whole-clause-cut : goal.returns-then-write_whole-clause-cut
