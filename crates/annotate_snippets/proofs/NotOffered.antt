@@ -342,12 +342,14 @@ gives_xyzbqd false = refl
 -- so no row offers a line in which the second edit is made at its bytes in what the first one gave:
 --
 --     1 + xyqbcd
-patches_at_old_offsets : (s : Snippet Patch) → IsSnippetOf s (codes "abcd") longer_and_another → (j : ℕ) → IsOfferedRow plain_settings Ascii 1 s j (offering_row (codes "xyqbcd")) → ⊥
+patches_at_old_offsets : (s : Snippet Patch) → IsSnippetOf s (codes "abcd") longer_and_another → (j : ℕ)
+    → IsOfferedRow plain_settings Ascii 1 s j (offering_row (codes "xyqbcd")) → ⊥
 unfolding char_width unicode_width norm chars
 patches_at_old_offsets s is j offers =
     let given : given_lines s ≡ codes "xyzbqd" ∷ [] = given_by s (codes "abcd") longer_and_another (codes "xyzbqd" ∷ []) is gives_xyzbqd in
     let first : j - first_given s ≡ 0 = omega (arith, offers.from, offers.within, ap length given) in
-    let text : codes "xyqbcd" ≡ norm (chars (codes "xyzbqd")) = offers.line ∙ ap (λ k. norm (chars (get_or (given_lines s) k []))) first ∙ ap (λ lines. norm (chars (get_or lines 0 []))) given in
+    let text : codes "xyqbcd" ≡ norm (chars (codes "xyzbqd")) = offers.line ∙ ap (λ k. norm (chars (get_or (given_lines s) k []))) first
+    ∙ ap (λ lines. norm (chars (get_or lines 0 []))) given in
     let letter : ◌≡◌ {A = ℕ} 113 122 = ap (λ (cs : List ℕ). get_or cs 2 0) text in
     absurd (omega (arith, letter))
 

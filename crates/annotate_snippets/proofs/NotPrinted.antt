@@ -34,7 +34,8 @@ plain_text_is v = refl
 empty_text : (v : Vec Element Global) → ShowsReport plain_settings (title_alone v) plain_sheet [] → ⊥
 unfolding lib.Utf8.encode
 empty_text v shown =
-    let right : [] ≡ encode_utf8_all (codes "error: e") = (shown.plain refl).0 refl ∙ ap (λ page. encode_utf8_all (page_text page)) shown.is ∙ ap encode_utf8_all (plain_text_is v) in
+    let right : [] ≡ encode_utf8_all (codes "error: e") = (shown.plain refl).0 refl ∙ ap (λ page. encode_utf8_all (page_text page)) shown.is
+    ∙ ap encode_utf8_all (plain_text_is v) in
     cc
 
 -- ---- codes
@@ -80,7 +81,8 @@ printed =
 -- so it is the one text under that sheet
 only_text : (v : Vec Element Global) (text : List ℕ) → ShowsReport coloured (nameless v) default_sheet text → text ≡ bold_text
 only_text v text shown =
-    let page : PrintsPage default_sheet (Error ∷ []) (record { title = bold_row ∷ []; elements = [] } ∷ []) text = subst (λ page. PrintsPage default_sheet (Error ∷ []) page text) (shown.is ∙ page_is v) shown.printed.0 in
+    let page : PrintsPage default_sheet (Error ∷ []) (record { title = bold_row ∷ []; elements = [] } ∷ []) text = subst (λ page. PrintsPage default_sheet (Error ∷ []) page text) (shown.is
+    ∙ page_is v) shown.printed.0 in
     page.joined ∙ joined page.parts page.printed
   where
     joined : (parts : List (List ℕ)) → ArePrinted default_sheet (Error ∷ []) (record { title = bold_row ∷ []; elements = [] } ∷ []) parts → join_with_byte 10 parts ≡ bold_text

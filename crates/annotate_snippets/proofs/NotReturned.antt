@@ -45,7 +45,8 @@ unfolding first_fault span_fault lib.Utf8.encode
 refused v w = refl
 
 -- a text in place of the refusal, as where the span is moved to the next border
-span_moved_to_border : {A : Type 0} (v : Vec Element Global) (w : Vec Annotation Global) (text : A) → IfSome (first_refusal plain_settings (off_border v w)) (λ refusal. Ok text ≡ Err refusal) → ⊥
+span_moved_to_border : {A : Type 0} (v : Vec Element Global) (w : Vec Annotation Global) (text : A)
+    → IfSome (first_refusal plain_settings (off_border v w)) (λ refusal. Ok text ≡ Err refusal) → ⊥
 unfolding first_fault span_fault lib.Utf8.encode
 span_moved_to_border v w text refusal = cc
 
@@ -71,8 +72,8 @@ patches_reordered_after_trimming same =
 -- ---- `spliced_lines`
 
 -- nothing in place of the spliced text, where there is a patch
-splice_always_none : {A : Type 0} (patch : Patch) → (IsNone {T = A} None ↔ (patch ∷ [] ≡ [])) → ⊥
-splice_always_none patch only =
+splice_always_none : (A : Type 0) (patch : Patch) → (IsNone {T = A} None ↔ (patch ∷ [] ≡ [])) → ⊥
+splice_always_none A patch only =
     let none : patch ∷ [] ≡ [] = only.0 refl in
     cc
 

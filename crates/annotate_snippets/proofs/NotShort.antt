@@ -39,18 +39,22 @@ one_line = record plain_settings { short_message = true }
 
 -- ---- a title that is left out
 
-title_is : (v : Vec Element Global) (g : Group) (title : Title) → Some (group v (Some (error_title None (codes "e"))) [] (omega arith)) ≡ Some g → g.title ≡ Some title → plain_text (short_form one_line g title) ≡ codes "error: e"
+title_is : (v : Vec Element Global) (g : Group) (title : Title) → Some (group v (Some (error_title None (codes "e"))) [] (omega arith)) ≡ Some g
+    → g.title ≡ Some title → plain_text (short_form one_line g title) ≡ codes "error: e"
 unfolding chars norm label_cells short_rows
 title_is v g title first titled =
     let is : g ≡ group v (Some (error_title None (codes "e"))) [] (omega arith) = cc in
     let named : error_title None (codes "e") ≡ title = cc in
-    ap (λ (other : Group). plain_text (short_form one_line other title)) is ∙ ap (λ other. plain_text (short_form one_line (group v (Some (error_title None (codes "e"))) [] (omega arith)) other)) (sym named)
+    ap (λ (other : Group). plain_text (short_form one_line other title)) is
+    ∙ ap (λ other. plain_text (short_form one_line (group v (Some (error_title None (codes "e"))) [] (omega arith)) other)) (sym named)
 
 -- no text for the title `error: e`
 titles_left_out : (v : Vec Element Global) → ShowsReport one_line (title_alone v) plain_sheet [] → ⊥
 unfolding lib.Utf8.encode
 titles_left_out v shown =
-    let right : [] ≡ encode_utf8_all (codes "error: e") = (shown.plain refl).0 refl ∙ ap (λ rows. encode_utf8_all (plain_text rows)) shown.shows.rows_are ∙ ap encode_utf8_all (title_is v shown.group shown.title shown.first shown.titled) in
+    let right : [] ≡ encode_utf8_all (codes "error: e") = (shown.plain refl).0 refl
+    ∙ ap (λ rows. encode_utf8_all (plain_text rows)) shown.shows.rows_are
+    ∙ ap encode_utf8_all (title_is v shown.group shown.title shown.first shown.titled) in
     cc
 
 -- ---- another place than the first
@@ -72,12 +76,14 @@ two_short marks is =
 -- the first row doesn't name the column at which the first one starts:
 --
 --     f:1:2: error: e
-origin_of_first_given_span : (v : Vec Element Global) (w : Vec Annotation Global) (title : Title) (rows : List (List Cell)) → row_text (row_at rows 0) ≡ codes "f:1:2: error: e" → ShowsShort one_line (placed v (of_two w)) title rows → ⊥
+origin_of_first_given_span : (v : Vec Element Global) (w : Vec Annotation Global) (title : Title) (rows : List (List Cell))
+    → row_text (row_at rows 0) ≡ codes "f:1:2: error: e" → ShowsShort one_line (placed v (of_two w)) title rows → ⊥
 unfolding origin_text digits norm chars
 origin_of_first_given_span v w title rows wrong shown =
     let begins = shown.origin (of_two w) refl (codes "f") refl refl (two_short both_spans refl) in
     let at : (begins.place.line ≡ 1) × (begins.place.column ≡ Some 1) = at_first begins.place begins.is in
-    let right : row_text (row_at rows 0) ≡ codes "f:1:1" ++ (codes ": " ++ begins.rest) = begins.text ∙ ap (λ line. origin_text false (codes "f") (record { line = Some line; column = begins.place.column }) ++ (codes ": " ++ begins.rest)) at.0
+    let right : row_text (row_at rows 0) ≡ codes "f:1:1" ++ (codes ": " ++ begins.rest) = begins.text
+    ∙ ap (λ line. origin_text false (codes "f") (record { line = Some line; column = begins.place.column }) ++ (codes ": " ++ begins.rest)) at.0
     ∙ ap (λ column. origin_text false (codes "f") (record { line = Some 1; column = column }) ++ (codes ": " ++ begins.rest)) at.1 in
     let digit : ◌≡◌ {A = ℕ} 50 49 = ap (λ (cs : List ℕ). slice_index_or cs 4 0) (sym wrong ∙ right) in
     absurd (omega (arith, digit))
@@ -95,12 +101,14 @@ second_short marks is =
 -- nor does it name the byte:
 --
 --     f:1:3: error: e
-origin_by_byte : (v : Vec Element Global) (w : Vec Annotation Global) (title : Title) (rows : List (List Cell)) → row_text (row_at rows 0) ≡ codes "f:1:3: error: e" → ShowsShort one_line (placed v (of_second w)) title rows → ⊥
+origin_by_byte : (v : Vec Element Global) (w : Vec Annotation Global) (title : Title) (rows : List (List Cell))
+    → row_text (row_at rows 0) ≡ codes "f:1:3: error: e" → ShowsShort one_line (placed v (of_second w)) title rows → ⊥
 unfolding origin_text digits norm chars
 origin_by_byte v w title rows wrong shown =
     let begins = shown.origin (of_second w) refl (codes "f") refl refl (second_short (second_span ∷ []) refl) in
     let at : (begins.place.line ≡ 1) × (begins.place.column ≡ Some 2) = at_second begins.place begins.is in
-    let right : row_text (row_at rows 0) ≡ codes "f:1:2" ++ (codes ": " ++ begins.rest) = begins.text ∙ ap (λ line. origin_text false (codes "f") (record { line = Some line; column = begins.place.column }) ++ (codes ": " ++ begins.rest)) at.0
+    let right : row_text (row_at rows 0) ≡ codes "f:1:2" ++ (codes ": " ++ begins.rest) = begins.text
+    ∙ ap (λ line. origin_text false (codes "f") (record { line = Some line; column = begins.place.column }) ++ (codes ": " ++ begins.rest)) at.0
     ∙ ap (λ column. origin_text false (codes "f") (record { line = Some 1; column = column }) ++ (codes ": " ++ begins.rest)) at.1 in
     let digit : ◌≡◌ {A = ℕ} 51 50 = ap (λ (cs : List ℕ). slice_index_or cs 4 0) (sym wrong ∙ right) in
     absurd (omega (arith, digit))

@@ -40,7 +40,9 @@ text_form_empty v shown =
 -- a message below a title left out, here ` note: m`:
 --
 --     error: e
-messages_left_out : (v : Vec Element Global) → ShowsReport speaking (group v (Some (error_title None (codes "e"))) (note (codes "m") ∷ []) (omega arith) ∷ []) plain_sheet (codes "error: e") → ⊥
+messages_left_out : (v : Vec Element Global)
+    → ShowsReport speaking (group v (Some (error_title None (codes "e"))) (note (codes "m") ∷ []) (omega arith) ∷ []) plain_sheet (codes "error: e")
+    → ⊥
 unfolding heading_form norm chars lib.Utf8.encode
 messages_left_out v shown =
     let right : codes "error: e" ≡ codes "error: e" ++ 10 ∷ codes " note: m" = shown.are.0 in
@@ -51,7 +53,8 @@ abbrev labelled : Vec Element Global → Vec Annotation Global → List ℕ → 
 labelled v w path label =
     group v (Some (error_title None (codes "e"))) (element.Cause (snippet w (Some path) (codes "ab") (labelled_span (Some (text_of label)) Primary 0 1 ∷ []) (omega arith)) ∷ []) (omega arith) ∷ []
 
-labelled_is : (v : Vec Element Global) (w : Vec Annotation Global) → form_bytes plain_sheet (text_form speaking (labelled v w (codes "f") (codes "x"))) ≡ codes "error: e\n at f:1:1: x"
+labelled_is : (v : Vec Element Global) (w : Vec Annotation Global)
+    → form_bytes plain_sheet (text_form speaking (labelled v w (codes "f") (codes "x"))) ≡ codes "error: e\n at f:1:1: x"
 unfolding heading_form cause_form locations_of start_location end_location location_of place_of steps_after_text line_of start_of digits norm chars lib.Utf8.encode
 labelled_is v w = refl
 
@@ -59,7 +62,8 @@ labelled_is v w = refl
 --
 --     error: e
 --      at f:1:1
-text_form_without_labels : (v : Vec Element Global) (w : Vec Annotation Global) → ShowsReport speaking (labelled v w (codes "f") (codes "x")) plain_sheet (codes "error: e\n at f:1:1") → ⊥
+text_form_without_labels : (v : Vec Element Global) (w : Vec Annotation Global)
+    → ShowsReport speaking (labelled v w (codes "f") (codes "x")) plain_sheet (codes "error: e\n at f:1:1") → ⊥
 text_form_without_labels v w shown =
     let right : codes "error: e\n at f:1:1" ≡ codes "error: e\n at f:1:1: x" = shown.are.0 ∙ labelled_is v w in
     absurd (omega (arith, ap length right))
@@ -81,11 +85,13 @@ id_drawn_raw v shown =
 --
 --     error: e
 --      at <U+001B>:1:1: x
-raw_path_is : (v : Vec Element Global) (w : Vec Annotation Global) → form_bytes plain_sheet (text_form speaking (labelled v w (27 ∷ []) (codes "x"))) ≡ codes "error: e\n at " ++ encode_utf8_all (0x241B ∷ []) ++ codes ":1:1: x"
+raw_path_is : (v : Vec Element Global) (w : Vec Annotation Global)
+    → form_bytes plain_sheet (text_form speaking (labelled v w (27 ∷ []) (codes "x"))) ≡ codes "error: e\n at " ++ encode_utf8_all (0x241B ∷ []) ++ codes ":1:1: x"
 unfolding heading_form cause_form locations_of start_location end_location location_of place_of steps_after_text line_of start_of digits norm chars lib.Utf8.encode
 raw_path_is v w = refl
 
-path_drawn_raw : (v : Vec Element Global) (w : Vec Annotation Global) → ShowsReport speaking (labelled v w (27 ∷ []) (codes "x")) plain_sheet (codes "error: e\n at " ++ 27 ∷ codes ":1:1: x") → ⊥
+path_drawn_raw : (v : Vec Element Global) (w : Vec Annotation Global)
+    → ShowsReport speaking (labelled v w (27 ∷ []) (codes "x")) plain_sheet (codes "error: e\n at " ++ 27 ∷ codes ":1:1: x") → ⊥
 unfolding lib.Utf8.encode
 path_drawn_raw v w shown =
     let byte : ◌≡◌ {A = ℕ} 27 0xE2 = ap (λ (bs : List ℕ). slice_index_or bs 13 0) (shown.are.0 ∙ raw_path_is v w) in
@@ -95,11 +101,13 @@ path_drawn_raw v w shown =
 --
 --     error: e
 --      at f:1:1: <U+001B>
-raw_label_is : (v : Vec Element Global) (w : Vec Annotation Global) → form_bytes plain_sheet (text_form speaking (labelled v w (codes "f") (27 ∷ []))) ≡ codes "error: e\n at f:1:1: " ++ encode_utf8_all (0x241B ∷ [])
+raw_label_is : (v : Vec Element Global) (w : Vec Annotation Global)
+    → form_bytes plain_sheet (text_form speaking (labelled v w (codes "f") (27 ∷ []))) ≡ codes "error: e\n at f:1:1: " ++ encode_utf8_all (0x241B ∷ [])
 unfolding heading_form cause_form locations_of start_location end_location location_of place_of steps_after_text line_of start_of digits norm chars lib.Utf8.encode
 raw_label_is v w = refl
 
-label_drawn_raw : (v : Vec Element Global) (w : Vec Annotation Global) → ShowsReport speaking (labelled v w (codes "f") (27 ∷ [])) plain_sheet (codes "error: e\n at f:1:1: " ++ 27 ∷ []) → ⊥
+label_drawn_raw : (v : Vec Element Global) (w : Vec Annotation Global)
+    → ShowsReport speaking (labelled v w (codes "f") (27 ∷ [])) plain_sheet (codes "error: e\n at f:1:1: " ++ 27 ∷ []) → ⊥
 unfolding lib.Utf8.encode
 label_drawn_raw v w shown =
     let byte : ◌≡◌ {A = ℕ} 27 0xE2 = ap (λ (bs : List ℕ). slice_index_or bs 20 0) (shown.are.0 ∙ raw_label_is v w) in
@@ -126,7 +134,9 @@ no_codes v shown =
 
 -- a line feed after the codes of a title without a text, as if they were text, under the default sheet: the next title begins the first
 -- line of the text, as it does under a plain one
-codes_counted_as_text : (v : Vec Element Global) → ShowsReport speaking (group v (Some (hidden_title [])) [] (omega arith) ∷ nameless v) default_sheet (bold ++ (off ++ 10 ∷ (bold ++ (codes "e" ++ off)))) → ⊥
+codes_counted_as_text : (v : Vec Element Global)
+    → ShowsReport speaking (group v (Some (hidden_title [])) [] (omega arith) ∷ nameless v) default_sheet (bold ++ (off ++ 10 ∷ (bold ++ (codes "e" ++ off))))
+    → ⊥
 unfolding heading_form norm chars lib.Utf8.encode digits
 codes_counted_as_text v shown =
     let right : bold ++ (off ++ 10 ∷ (bold ++ (codes "e" ++ off))) ≡ bold ++ (off ++ (bold ++ (codes "e" ++ off))) = shown.are.0 in

@@ -38,7 +38,9 @@ use Rattle.annotate_snippets.proofs.SmallReports.{error_title}
 -- ---- titles and messages that are left out
 
 -- a title without its rows, here `error: e`: what sets it off or closes its group stands there alone
-titles_left_out : (place : GroupPosition) (follows : Next) (rows : List (List Cell)) → rows ≡ rows_after_title plain_settings frame place follows false → ShowsTitle plain_settings frame place follows (error_title None (codes "e")) rows → ⊥
+titles_left_out : (place : GroupPosition) (follows : Next) (rows : List (List Cell))
+    → rows ≡ rows_after_title plain_settings frame place follows false
+    → ShowsTitle plain_settings frame place follows (error_title None (codes "e")) rows → ⊥
 unfolding chars norm
 titles_left_out place follows rows alone shown =
     let after : List (List Cell) = rows_after_title plain_settings frame place follows false in
@@ -67,27 +69,33 @@ id_drawn_raw : (place : GroupPosition) (follows : Next) (rows : List (List Cell)
 unfolding chars norm
 id_drawn_raw place follows rows wrong shown = in_own shown.own shown.rows_are (shown.shows.texts 0)
   where
-    in_own : (own : List (List Cell)) → rows ≡ own ++ rows_after_title plain_settings frame place follows false → row_text (row_at own 0) ≡ codes "error[" ++ 0x241B ∷ codes "]: e" → ⊥
+    in_own : (own : List (List Cell)) → rows ≡ own ++ rows_after_title plain_settings frame place follows false
+        → row_text (row_at own 0) ≡ codes "error[" ++ 0x241B ∷ codes "]: e" → ⊥
     in_own [] same right = cc
     in_own (row ∷ own) same right =
-        let both : codes "error[" ++ 27 ∷ codes "]: e" ≡ codes "error[" ++ 0x241B ∷ codes "]: e" = sym wrong ∙ ap (λ all. row_text (row_at all 0)) same ∙ right in
+        let both : codes "error[" ++ 27 ∷ codes "]: e" ≡ codes "error[" ++ 0x241B ∷ codes "]: e" = sym wrong
+        ∙ ap (λ all. row_text (row_at all 0)) same ∙ right in
         let letter : ◌≡◌ {A = ℕ} 27 0x241B = ap (λ (cs : List ℕ). slice_index_or cs 6 0) both in
         absurd (omega (arith, letter))
 
 -- the path of an origin, which names no line:
 --
 --      --> <U+001B>
-path_drawn_raw : (around : ElementContext) (o : origin.Origin) → cow_str_bytes o.path ≡ 27 ∷ [] → o.line ≡ None → (rows : List NamedRow) → row_text (drop 5 (row_at (cells_of rows) 0)) ≡ 27 ∷ [] → ShowsOrigin plain_settings frame around o rows → ⊥
+path_drawn_raw : (around : ElementContext) (o : origin.Origin) → cow_str_bytes o.path ≡ 27 ∷ [] → o.line ≡ None → (rows : List NamedRow)
+    → row_text (drop 5 (row_at (cells_of rows) 0)) ≡ 27 ∷ [] → ShowsOrigin plain_settings frame around o rows → ⊥
 unfolding chars norm origin_text
 path_drawn_raw around o path_is no_line rows wrong shown =
-    let text : ◌≡◌ {A = List ℕ} (27 ∷ []) (0x241B ∷ []) = sym wrong ∙ shown.text ∙ ap (λ path. origin_text false path (record { line = o.line; column = o.char_column })) path_is ∙ ap (λ line. 0x241B ∷ line_text false line o.char_column) no_line in
+    let text : ◌≡◌ {A = List ℕ} (27 ∷ []) (0x241B ∷ []) = sym wrong ∙ shown.text
+    ∙ ap (λ path. origin_text false path (record { line = o.line; column = o.char_column })) path_is
+    ∙ ap (λ line. 0x241B ∷ line_text false line o.char_column) no_line in
     let letter : ◌≡◌ {A = ℕ} 27 0x241B = ap (λ (cs : List ℕ). slice_index_or cs 0 0) text in
     absurd (omega (arith, letter))
 
 -- the path that the head of a snippet names, whatever place is named after it:
 --
 --      --> <U+001B>:1:1
-path_of_snippet_drawn_raw : (s : Snippet Annotation) (row : List Cell) → slice_index_or (row_text (drop 5 row)) 0 0 ≡ 27 → NamesLocation plain_settings frame s (27 ∷ []) row → ⊥
+path_of_snippet_drawn_raw : (s : Snippet Annotation) (row : List Cell) → slice_index_or (row_text (drop 5 row)) 0 0 ≡ 27
+    → NamesLocation plain_settings frame s (27 ∷ []) row → ⊥
 unfolding chars norm origin_text
 path_of_snippet_drawn_raw s row wrong named =
     let letter : ◌≡◌ {A = ℕ} 27 0x241B = sym wrong ∙ ap (λ (cs : List ℕ). slice_index_or cs 0 0) named.text in

@@ -257,7 +257,8 @@ at_second place is =
       | inr rest ↦ absurd (Contains-nil is.span rest)
     ]
 
-origin_by_byte : (s : Snippet Annotation) → IsSnippetOf s (encode_utf8_all (codes "éb")) (second_span ∷ []) → s.line_start ≡ 1 → (row : List Cell) → row_text (drop 5 row) ≡ codes "f:1:3" → NamesLocation plain_settings frame s (codes "f") row → ⊥
+origin_by_byte : (s : Snippet Annotation) → IsSnippetOf s (encode_utf8_all (codes "éb")) (second_span ∷ []) → s.line_start ≡ 1 → (row : List Cell)
+    → row_text (drop 5 row) ≡ codes "f:1:3" → NamesLocation plain_settings frame s (codes "f") row → ⊥
 unfolding origin_text digits norm chars
 origin_by_byte s is first row wrong named =
     let Names : List ℕ → ℕ → List Annotation → Type 0 = λ text line marks. IsLocation (record { text = text; first = line }) marks named.place in
@@ -273,7 +274,8 @@ origin_by_byte s is first row wrong named =
 --
 --     2 |   b
 --       | |_^
-first_line_left_out : (s : Snippet Annotation) → IsSnippetOf s (codes "a\nb") (span_of Primary 0 3 ∷ span_of Primary 0 3 ∷ []) → (around : ElementContext) (rows : List NamedRow)
+first_line_left_out : (s : Snippet Annotation) → IsSnippetOf s (codes "a\nb") (span_of Primary 0 3 ∷ span_of Primary 0 3 ∷ [])
+    → (around : ElementContext) (rows : List NamedRow)
     → (Contains (lines_named rows) 0 → ⊥)
     → ShowsSnippet plain_settings frame around s
     (others (cause_head plain_settings frame around s) ++ (rows ++ others (rows_after_cause plain_settings frame around))) → ⊥
