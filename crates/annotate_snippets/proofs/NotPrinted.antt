@@ -1,11 +1,10 @@
 -- What isn't printed: texts that are wrong, each of a small report, contradict what is said of the text that shows a report in the graphic
 -- form.
-use Rattle.std.proofs.Common.{◌≡◌, ℕ, Bool, true, false, None, Some, Option, Vec, List, [], ◌∷◌, ◌++◌, codes, encode_utf8_all, refl, sym, ap, subst, ◌∙◌, arith, inl}
+use Rattle.std.proofs.Common.{◌≡◌, ℕ, Bool, true, false, None, Some, Option, Vec, List, [], ◌∷◌, ◌++◌, codes, encode_utf8_all, refl, ap, subst, ◌∙◌, arith, inl}
 use Rattle.std.specs.Fmt.{digits}
 use Rattle.std.specs.List.{join_with_byte, slice_index_or}
 use Rattle.std.specs.Str.{chars}
 use Rattle.std.specs.declared.alloc.Global.{Global}
-use Rattle.snippet_grid.specs.Print.{row_text}
 use Rattle.snippet_grid.specs.Woven.{Char, Opening, Piece, Prints, Reset, next_style}
 use Rattle.snippet_grid.proofs.PrintsOnce.{Prints-unique}
 use Rattle.snippet_model.specs.declared.snippet.Element.{Element}
@@ -19,7 +18,7 @@ use Rattle.snippet_text.specs.Normalized.{norm}
 use Rattle.snippet_titles.specs.Heading.{heading_rows, label_cells}
 use Rattle.annotate_snippets.specs.Forms.{ShowsReport}
 use Rattle.annotate_snippets.specs.GraphicForm.{graphic_form}
-use Rattle.annotate_snippets.specs.Page.{ArePrinted, Page, PrintsPage, page_text}
+use Rattle.annotate_snippets.specs.Page.{ArePrinted, PrintsPage, page_text}
 use Rattle.annotate_snippets.specs.Settings.{plain_settings}
 use Rattle.annotate_snippets.specs.declared.renderer.Renderer.{Renderer}
 use Rattle.annotate_snippets.proofs.SmallReports.{nameless, title_alone}

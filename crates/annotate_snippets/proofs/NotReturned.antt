@@ -1,5 +1,5 @@
 -- What the parts of the library don't return: results that are wrong, each of a small input, contradict the words of a contract.
-use Rattle.std.proofs.Common.{◌≡◌, ℕ, ◌+◌, ◌≤◌, true, false, None, Some, Option, Ok, Err, Vec, List, [], ◌∷◌, ◌++◌, codes, encode_utf8_all, length, map, refl, sym, ap, subst, ◌∙◌, arith, alloc_error, OnErr, inl, inr, ◌⊎◌, ◌↔◌, IfSome, IsNone}
+use Rattle.std.proofs.Common.{◌≡◌, ℕ, ◌≤◌, true, false, None, Some, Ok, Err, Vec, List, [], ◌∷◌, codes, encode_utf8_all, length, map, refl, ap, subst, arith, alloc_error, OnErr, inl, inr, ◌↔◌, IfSome, IsNone}
 use Rattle.std.specs.List.{slice_index_or}
 use Rattle.std.specs.declared.alloc.Global.{Global}
 use Rattle.snippet_lines.specs.Span.{span_fault}
@@ -19,7 +19,6 @@ use Rattle.snippet_view.specs.Depths.{IsChainOf, IsLongestChain, SharesWithFirst
 use Rattle.snippet_view.specs.declared.depths.LongExtent.{LongExtent}
 use Rattle.annotate_snippets.specs.Fault.{first_fault, first_refusal}
 use Rattle.annotate_snippets.specs.Settings.{plain_settings}
-use Rattle.annotate_snippets.specs.declared.renderer.error.RenderError.{RenderError}
 use Rattle.annotate_snippets.specs.declared.renderer.error.RenderError.TheVariants.{SpanOffBoundary}
 use Rattle.annotate_snippets.proofs.NotShown.{span_of}
 use Rattle.annotate_snippets.proofs.SmallReports.{group, snippet}

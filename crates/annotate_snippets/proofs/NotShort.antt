@@ -1,14 +1,14 @@
 -- What isn't written in the short form: rows and texts that are wrong, each of a small report, contradict the definition of that form.
-use Rattle.std.proofs.Common.{◌≡◌, ℕ, ◌+◌, ◌≤◌, true, false, None, Some, Option, Vec, List, [], ◌∷◌, ◌++◌, codes, encode_utf8_all, refl, sym, ap, subst, ◌∙◌, arith}
+use Rattle.std.proofs.Common.{◌≡◌, ℕ, ◌+◌, true, false, None, Some, Vec, List, [], ◌∷◌, ◌++◌, codes, encode_utf8_all, refl, sym, ap, subst, ◌∙◌, arith}
 use Rattle.std.specs.Fmt.{digits}
-use Rattle.std.specs.List.{All, Contains, slice_get, slice_index_or}
+use Rattle.std.specs.List.{All, slice_index_or}
 use Rattle.std.specs.Str.{chars}
 use Rattle.std.specs.declared.alloc.Global.{Global}
 use Rattle.std.proofs.lemmas.List.Elements.{All-nil, All-cons}
 use Rattle.snippet_grid.specs.Grid.{row_at}
 use Rattle.snippet_grid.specs.Print.{plain_text, row_text}
-use Rattle.snippet_lines.specs.Lines.{Source, start_of}
-use Rattle.snippet_lines.specs.Place.{line_of, location_of, place_of, start_location, steps_after_text}
+use Rattle.snippet_lines.specs.Lines.{start_of}
+use Rattle.snippet_lines.specs.Place.{line_of}
 use Rattle.snippet_model.specs.declared.snippet.Annotation.{Annotation}
 use Rattle.snippet_model.specs.declared.snippet.AnnotationKind.TheVariants.{Primary}
 use Rattle.snippet_model.specs.declared.snippet.Element.{Element}
@@ -23,8 +23,6 @@ use Rattle.snippet_titles.specs.Heading.{label_cells}
 use Rattle.snippet_titles.specs.Origin.{origin_text}
 use Rattle.snippet_titles.specs.Short.{short_rows}
 use Rattle.snippet_view.specs.Annotated.{is_long}
-use Rattle.snippet_view.specs.Location.{IsLocation}
-use Rattle.snippet_view.specs.declared.location.Location.{Location}
 use Rattle.annotate_snippets.specs.Forms.{ShowsReport, ShowsShort}
 use Rattle.annotate_snippets.specs.Settings.{plain_settings}
 use Rattle.annotate_snippets.specs.Short.{short_form}

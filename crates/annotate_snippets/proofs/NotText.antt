@@ -1,5 +1,5 @@
 -- What isn't written in the text form: texts that are wrong, each of a small report, contradict the definition of that form.
-use Rattle.std.proofs.Common.{◌≡◌, ℕ, ◌<◌, true, false, None, Some, Option, Vec, List, [], ◌∷◌, ◌++◌, codes, encode_utf8_all, length, refl, sym, ap, ◌∙◌, arith}
+use Rattle.std.proofs.Common.{◌≡◌, ℕ, true, None, Some, Vec, List, [], ◌∷◌, ◌++◌, codes, encode_utf8_all, length, refl, ap, ◌∙◌, arith}
 use Rattle.std.specs.Fmt.{digits}
 use Rattle.std.specs.List.{slice_index_or}
 use Rattle.std.specs.Str.{chars}

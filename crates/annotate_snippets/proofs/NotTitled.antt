@@ -1,21 +1,15 @@
 -- What stands in no head of a report: rows of titles, messages and paths that are wrong, each on a small report, contradict the definitions
 -- of what rows show.
-use Rattle.std.proofs.Common.{◌≡◌, ℕ, ◌+◌, ◌<◌, Bool, false, Option, None, Some, List, [], ◌∷◌, ◌++◌, codes, drop, length, refl, sym, ap, ◌∙◌, arith}
+use Rattle.std.proofs.Common.{◌≡◌, ℕ, ◌+◌, false, None, Some, List, [], ◌∷◌, ◌++◌, codes, drop, length, sym, ap, ◌∙◌, arith}
 use Rattle.std.specs.Cow.{cow_str_bytes}
-use Rattle.std.specs.Fmt.{digits}
 use Rattle.std.specs.List.{slice_index_or}
-use Rattle.std.specs.Option.{option_map}
 use Rattle.std.specs.Str.{chars}
-use Rattle.std.specs.declared.alloc.Global.{Global}
-use Rattle.std.specs.declared.borrow.CowStr.{CowStr}
 use Rattle.std.proofs.lemmas.List.{length-append}
 use Rattle.snippet_grid.specs.Grid.{row_at}
 use Rattle.snippet_grid.specs.Layout.{Layout}
 use Rattle.snippet_grid.specs.Print.{row_text}
 use Rattle.snippet_model.specs.declared.level.LevelName.TheVariants.{Standard}
 use Rattle.snippet_model.specs.declared.snippet.Annotation.{Annotation}
-use Rattle.snippet_model.specs.declared.snippet.Id.{Id}
-use Rattle.snippet_model.specs.declared.snippet.Message as message
 use Rattle.snippet_model.specs.declared.snippet.Origin as origin
 use Rattle.snippet_model.specs.declared.snippet.Snippet.{Snippet}
 use Rattle.snippet_style.specs.Cell.{Cell}
