@@ -3,12 +3,12 @@
 use crate::draw::Drawing;
 use crate::sarif::draw_runs;
 use crate::stop::Stop;
+use json_node::expectation::Expectation;
+use json_node::node::Node;
+use json_node::place::Place;
 use redraw_read::json::listed;
 use redraw_read::rustc::diagnostic_of;
 use redraw_read::sources::Shelf;
-use replay_read::fault::Place;
-use replay_read::node::Node;
-use replay_read::shape::Expectation;
 use serde_json::Value;
 use std::alloc::Global;
 use std::io::{self, BufRead, Write};

@@ -2,8 +2,9 @@
 
 use crate::draw::Drawing;
 use crate::stop::Stop;
+use json_node::lenient::{List, Node, Troubles};
+use json_node::place::Place;
 use redraw_read::sources::Shelf;
-use redraw_sarif::node::{List, Node, Place, Troubles};
 use redraw_sarif::sarif::Run;
 use serde_json::Value;
 use std::io::Write;
