@@ -1,0 +1,2 @@
+pub mod Tally
+pub mod Workflow
