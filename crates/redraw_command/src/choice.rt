@@ -1,4 +1,7 @@
 //! Which findings are drawn, and in which form.
+ghost use Rattle.std.specs.Prelude.{◌≡◌, nat_eq};
+ghost use Rattle.std.specs.List.{starts_with, ends_with};
+ghost use Rattle.redraw_command.specs.Choice as spec;
 
 use redraw_report::diagnostic::{Diagnostic, FileSpan, Severity};
 
@@ -61,10 +64,31 @@ impl Choice<'_> {
 }
 
 /// Whether this only sums up how many others there are, as rustc and cargo do in the end: `aborting due to 2 previous errors`.
-pub fn is_sum(diagnostic: &Diagnostic) -> bool {
-    let message = diagnostic.message.as_str();
-    diagnostic.spans.is_empty()
-        && (message.starts_with("aborting due to ")
-            || message.ends_with(" warning emitted")
-            || message.ends_with(" warnings emitted"))
+pub fn is_sum(diagnostic: &Diagnostic) -> bool
+    ensures value { result ≡ spec.is_sum diagnostic.now }
+{
+    diagnostic.spans.is_empty() && says_how_many(diagnostic.message.as_str())
+}
+
+/// Whether a message says how many others there are.
+fn says_how_many(message: &str) -> bool
+    ensures value { result ≡ spec.says_how_many message.now }
+{
+    begins_with(message, "aborting due to ")
+        || stops_with(message, " warning emitted")
+        || stops_with(message, " warnings emitted")
+}
+
+/// Whether a text begins with another.
+fn begins_with(text: &str, start: &str) -> bool
+    ensures value { result ≡ starts_with nat_eq text.now start.now }
+{
+    text.starts_with(start)
+}
+
+/// Whether a text ends with another.
+fn stops_with(text: &str, end: &str) -> bool
+    ensures value { result ≡ ends_with nat_eq text.now end.now }
+{
+    text.ends_with(end)
 }

@@ -1,7 +1,7 @@
 //! Findings as GitHub's workflow commands, a line each: `::error file=src/main.rs,line=2::message`.
 
-ghost use Rattle.std.specs.Prelude.{◌≡◌, ◌++◌, chars, OnOk, string_bytes, Option, option_map};
-ghost use Rattle.redraw_command.specs.Workflow.{escaped};
+ghost use Rattle.std.specs.Prelude.{◌≡◌, ◌++◌, chars, OnOk, string_bytes, encode_utf8_all};
+ghost use Rattle.redraw_command.specs.Workflow.{escape, escaped};
 
 use crate::choice::is_sum;
 use redraw_report::diagnostic::{Diagnostic, FileSpan, LineRegion, Region, Severity};
@@ -10,7 +10,7 @@ use std::alloc::{AllocError, Global};
 
 /// What is escaped in a part of a command.
 #[derive(Clone, Copy, PartialEq, Eq)]
-enum Part {
+pub enum Part {
     /// The message.
     Data,
     /// The value of a property.
@@ -129,24 +129,27 @@ fn add_message(
 }
 
 /// Adds a text, with what has a meaning in this part of a command escaped.
-fn add_escaped(line: &mut String, text: &str, part: Part) -> Result<(), AllocError> {
+fn add_escaped(line: &mut String, text: &str, part: Part) -> Result<(), AllocError>
+    ensures added { OnOk result
+        (string_bytes line.new ≡ string_bytes line.old ++ encode_utf8_all (escaped part (chars text.now))) }
+{
     for character in text.chars() {
-        match escape_of(character, part) {
-            Some(escape) => line.push_str(escape)?,
-            None => line.push(character)?,
-        }
+        add_character(line, character, part)?;
     }
     Ok(())
 }
 
-/// What stands for a character in a part of a command, if it isn't itself.
-fn escape_of(character: char, part: Part) -> Option<&'static str> {
+/// Adds a character, escaped where it has a meaning in this part of a command.
+fn add_character(line: &mut String, character: char, part: Part) -> Result<(), AllocError>
+    ensures added { OnOk result
+        (string_bytes line.new ≡ string_bytes line.old ++ encode_utf8_all (escape part character)) }
+{
     match character {
-        '%' => Some("%25"),
-        '\r' => Some("%0D"),
-        '\n' => Some("%0A"),
-        ':' if part == Part::Property => Some("%3A"),
-        ',' if part == Part::Property => Some("%2C"),
-        _ => None,
+        '%' => line.push_str("%25"),
+        '\r' => line.push_str("%0D"),
+        '\n' => line.push_str("%0A"),
+        ':' if part == Part::Property => line.push_str("%3A"),
+        ',' if part == Part::Property => line.push_str("%2C"),
+        _ => line.push(character),
     }
 }

@@ -1,4 +1,9 @@
 //! Findings, drawn one after another as they are read.
+ghost use Rattle.std.specs.Prelude.{◌≡◌, ◌++◌, [], ◌∷◌, OnOk, IfOk, IfErr, string_bytes};
+ghost use Rattle.std.specs.Io.KnownBytes.{Appends};
+ghost use Rattle.redraw_command.specs.Tally.{one_more};
+ghost use Rattle.redraw_run.specs.Drawn.{Draws, IsCounted, IsLeftOut, ending_after};
+ghost use Rattle.redraw_command.specs.declared.choice.Form.TheVariants.{Report, Workflow};
 
 use crate::text::drawn_of;
 use annotate_snippets::Renderer;
@@ -61,13 +66,17 @@ impl<S: Shelf + Drop> Drawing<'_, S> {
     }
 
     /// Tells that something is wrong with what is read, which is left out.
-    pub fn wrong<D: fmt::Display + Drop, V: Write>(&mut self, what: D, err: &mut V) {
+    pub fn wrong<D: fmt::Display + Drop, V: Write>(&mut self, what: D, err: &mut V)
+        ensures counted { self.new ≡ record self.old { tally = record self.old.tally { wrong = one_more self.old.tally.wrong } } }
+    {
         self.leave_out();
         self.tell(what, err);
     }
 
     /// Counts a part of the input that is left out, since something is wrong with it.
-    pub fn leave_out(&mut self) {
+    pub fn leave_out(&mut self)
+        ensures counted { self.new ≡ record self.old { tally = record self.old.tally { wrong = one_more self.old.tally.wrong } } }
+    {
         self.tally.wrong = self.tally.wrong.saturating_add(1);
     }
 
@@ -133,7 +142,11 @@ impl<S: Shelf + Drop> Drawing<'_, S> {
         diagnostic: &Diagnostic,
         out: &mut W,
         err: &mut V,
-    ) -> Result<(), Stop> {
+    ) -> Result<(), Stop>
+        ensures draws { OnOk result (Draws self.old.choice.form self.old.renderer diagnostic.now
+            (W.contents out.old) (W.contents out.new) (out.new ≡ out.old) self.old.tally self.new.tally) }
+        ensures kept { (self.new.renderer ≡ self.old.renderer) × (self.new.choice ≡ self.old.choice) }
+    {
         match self.choice.form {
             Form::Report => self.draw_report(diagnostic, out, err),
             Form::Workflow => self.draw_command(diagnostic, out),
@@ -146,7 +159,11 @@ impl<S: Shelf + Drop> Drawing<'_, S> {
         diagnostic: &Diagnostic,
         out: &mut W,
         err: &mut V,
-    ) -> Result<(), Stop> {
+    ) -> Result<(), Stop>
+        ensures draws { OnOk result (Draws Report self.old.renderer diagnostic.now
+            (W.contents out.old) (W.contents out.new) (out.new ≡ out.old) self.old.tally self.new.tally) }
+        ensures kept { (self.new.renderer ≡ self.old.renderer) × (self.new.choice ≡ self.old.choice) }
+    {
         load_files(&mut self.sources, diagnostic)?;
         let drawn = drawn_of(self.alloc, &self.renderer, &self.sources, diagnostic)?;
         self.tell_inexact(drawn.clamped, drawn.undrawn, err);
@@ -154,7 +171,11 @@ impl<S: Shelf + Drop> Drawing<'_, S> {
     }
 
     /// Draws it as a workflow command, if it is one.
-    fn draw_command<W: Write>(&mut self, diagnostic: &Diagnostic, out: &mut W) -> Result<(), Stop> {
+    fn draw_command<W: Write>(&mut self, diagnostic: &Diagnostic, out: &mut W) -> Result<(), Stop>
+        ensures draws { OnOk result (Draws Workflow self.old.renderer diagnostic.now
+            (W.contents out.old) (W.contents out.new) (out.new ≡ out.old) self.old.tally self.new.tally) }
+        ensures kept { (self.new.renderer ≡ self.old.renderer) × (self.new.choice ≡ self.old.choice) }
+    {
         match command_of(self.alloc, diagnostic)? {
             Some(line) => {
                 self.count(diagnostic)?;
@@ -183,7 +204,14 @@ impl<S: Shelf + Drop> Drawing<'_, S> {
         diagnostic: &Diagnostic,
         out: &mut W,
         err: &mut V,
-    ) -> Result<(), Stop> {
+    ) -> Result<(), Stop>
+        ensures drawn { OnOk result (IfOk text (λ t. Appends (W.contents out.old) (W.contents out.new)
+            (string_bytes t ++ (ending_after self.old.renderer.short_message diagnostic.now.severity ++ 10 ∷ [])))) }
+        ensures counted { OnOk result (IfOk text (λ t. IsCounted diagnostic.now self.old.tally self.new.tally)) }
+        ensures untold { OnOk result (IfOk text (λ t. err.new ≡ err.old)) }
+        ensures left_out { OnOk result (IfErr text (λ e. (out.new ≡ out.old) × IsLeftOut self.old.tally self.new.tally)) }
+        ensures kept { (self.new.renderer ≡ self.old.renderer) × (self.new.choice ≡ self.old.choice) }
+    {
         match text {
             Ok(text) => {
                 self.count(diagnostic)?;
@@ -198,7 +226,9 @@ impl<S: Shelf + Drop> Drawing<'_, S> {
     }
 
     /// What stands after a report: an empty line, but none after one line or a text without a level.
-    fn ending_of(&self, severity: Severity) -> &'static str {
+    fn ending_of(&self, severity: Severity) -> &'static str
+        ensures value { result.now ≡ ending_after self.now.renderer.short_message severity }
+    {
         if self.renderer.short_message || severity == Severity::Plain {
             ""
         } else {
@@ -207,7 +237,10 @@ impl<S: Shelf + Drop> Drawing<'_, S> {
     }
 
     /// Counts a finding that is drawn, and the files that it lies in.
-    fn count(&mut self, diagnostic: &Diagnostic) -> Result<(), AllocError> {
+    fn count(&mut self, diagnostic: &Diagnostic) -> Result<(), AllocError>
+        ensures counted { OnOk result (IsCounted diagnostic.now self.old.tally self.new.tally) }
+        ensures kept { (self.new.renderer ≡ self.old.renderer) × (self.new.choice ≡ self.old.choice) }
+    {
         for span in &diagnostic.spans {
             if span.is_primary {
                 self.files.add(span.file.as_str())?;

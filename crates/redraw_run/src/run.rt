@@ -1,4 +1,8 @@
 //! A run of the program.
+ghost use Rattle.std.specs.Prelude.{◌≡◌, true};
+ghost use Rattle.std.specs.IoError.{error_kind};
+ghost use Rattle.std.specs.declared.io.ErrorKind.TheVariants.{BrokenPipe};
+ghost use Rattle.redraw_command.specs.Tally.{status_of};
 
 use crate::draw::Drawing;
 use crate::files::Below;
@@ -173,7 +177,10 @@ pub fn draw_opened<B: BufRead + Drop, S: Shelf + Drop, W: Write, V: Write>(
 }
 
 /// Tells why nothing can be written, unless whoever read it has closed the pipe, and answers the status to end with.
-fn end_unwritten<V: Write>(alloc: Global, error: io::Error, err: &mut V) -> u8 {
+fn end_unwritten<V: Write>(alloc: Global, error: io::Error, err: &mut V) -> u8
+    ensures status { result ≡ 2 }
+    ensures silent { error_kind error ≡ BrokenPipe → err.new ≡ err.old }
+{
     if error.kind() != io::ErrorKind::BrokenPipe {
         tell(alloc, Stop::Unwritable(error), err);
     }
@@ -181,7 +188,10 @@ fn end_unwritten<V: Write>(alloc: Global, error: io::Error, err: &mut V) -> u8 {
 }
 
 /// Sums up what was drawn, and answers the status to end with.
-fn finish<V: Write>(tally: &Tally, is_quiet: bool, is_whole: bool, err: &mut V) -> u8 {
+fn finish<V: Write>(tally: &Tally, is_quiet: bool, is_whole: bool, err: &mut V) -> u8
+    ensures status { result ≡ status_of tally.now is_whole }
+    ensures quiet { is_quiet ≡ true → err.new ≡ err.old }
+{
     if !is_quiet && !tally.is_empty() {
         let _ = err.writeln(format_args!("redraw: {tally}"));
     }

@@ -1,4 +1,7 @@
 //! The text that is drawn of a diagnostic.
+ghost use Rattle.std.specs.Prelude.{IfOk, string_bytes};
+ghost use Rattle.annotate_snippets.specs.Forms.{ShowsReport};
+ghost use Rattle.redraw_run.specs.Drawn.{ShowsFinding};
 
 use annotate_snippets::renderer::RenderError;
 use annotate_snippets::{Group, Renderer};
@@ -26,7 +29,9 @@ pub fn drawn_of<S: Shelf + Drop>(
     renderer: &Renderer,
     sources: &Sources<S>,
     diagnostic: &Diagnostic,
-) -> Result<Drawn, AllocError> {
+) -> Result<Drawn, AllocError>
+    ensures shows { IfOk result (λ drawn. IfOk drawn.text (λ text. ShowsFinding renderer.now (string_bytes text))) }
+{
     let mut placing = Placing::new(alloc);
     let finding = placing.finding(sources, diagnostic)?;
     let groups = report(alloc, &placing.shown, &finding)?;
@@ -42,7 +47,10 @@ fn render_fitting(
     alloc: Global,
     renderer: &Renderer,
     groups: &Vec<Group<'_>>,
-) -> Result<String, RenderError> {
+) -> Result<String, RenderError>
+    ensures shows { IfOk result (λ text.
+        ShowsReport renderer.now groups.now.items renderer.now.stylesheet (string_bytes text)) }
+{
     if report_fits(groups) {
         renderer.render(alloc, groups)
     } else {
