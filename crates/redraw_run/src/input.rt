@@ -32,8 +32,6 @@ pub struct Reading {
     document: Option<Vec<u8>>,
     /// The number of the line that the document begins on.
     begins: u64,
-    /// Whether each line of the document so far was UTF-8.
-    is_text: bool,
 }
 
 /// What a value of JSON is.
@@ -96,7 +94,6 @@ impl Reading {
             has_others: false,
             document: None,
             begins: 0,
-            is_text: true,
         }
     }
 
@@ -140,7 +137,7 @@ impl Reading {
         out: &mut W,
         err: &mut V,
     ) -> Result<(), Stop> {
-        match Value::from_str(self.alloc, line) {
+        match Value::from_str(self.alloc, without_end(line)) {
             Ok(value) => self.value(&value, Some(bytes), drawing, out, err),
             Err(error) if error.is_memory() => Err(Stop::Memory),
             Err(_) if !line.starts_with('{') => {
@@ -179,7 +176,6 @@ impl Reading {
         err: &mut V,
     ) -> Result<(), Stop> {
         if str::from_utf8(bytes).is_err() {
-            self.is_text = false;
             drawing.wrong("not valid UTF-8", err);
         }
         if let Some(document) = &mut self.document {
@@ -215,10 +211,10 @@ impl Reading {
         out: &mut W,
         err: &mut V,
     ) -> Result<(), Stop> {
-        if !self.is_text {
+        let Ok(text) = str::from_utf8(document) else {
             return Ok(());
-        }
-        match Value::from_slice(self.alloc, document) {
+        };
+        match Value::from_str(self.alloc, without_end(text)) {
             Ok(value) => self.value(&value, None, drawing, out, err),
             Err(error) if error.is_memory() => Err(Stop::Memory),
             Err(error) => {
@@ -277,6 +273,12 @@ impl Reading {
             Kind::Sarif => sarif_log(&node, drawing, out, err),
         }
     }
+}
+
+/// A line, or the lines of a document, without the last line's end.
+fn without_end(text: &str) -> &str {
+    let text = text.strip_suffix('\n').unwrap_or(text);
+    text.strip_suffix('\r').unwrap_or(text)
 }
 
 /// Takes cargo's message, which has a diagnostic of rustc in it.
