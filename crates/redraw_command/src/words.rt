@@ -17,8 +17,8 @@ pub struct Request<'w, 'a> {
     pub is_confined: bool,
     /// Which findings are drawn, and in which form.
     pub choice: Choice<'a>,
-    /// The inputs that are read; standard input where there are none.
-    pub inputs: &'w [&'a str],
+    /// The inputs that are read; standard input where none are named.
+    pub inputs: Option<&'w [&'a str]>,
 }
 
 /// What the program is for, as its help says it.
@@ -147,13 +147,13 @@ pub fn matches_of<'a>(alloc: Global, words: &'a [&'a str]) -> Result<ArgMatches<
 }
 
 /// What the words that are matched ask for.
-pub fn request_of<'w, 'a: 'w>(matches: &'w ArgMatches<'a>) -> Request<'w, 'a> {
+pub fn request_of<'w, 'a>(matches: &'w ArgMatches<'a>) -> Request<'w, 'a> {
     Request {
         look: look_of(matches),
         root: matches.get_str("root"),
         is_confined: matches.get_flag("confined"),
         choice: choice_of(matches),
-        inputs: inputs_of(matches),
+        inputs: matches.get_strs("inputs"),
     }
 }
 
@@ -205,13 +205,5 @@ fn least_of(matches: &ArgMatches<'_>) -> Least {
         Some("error") => Least::Error,
         Some("warning") => Least::Warning,
         _ => Least::Any,
-    }
-}
-
-/// The inputs that are to be read.
-fn inputs_of<'w, 'a: 'w>(matches: &'w ArgMatches<'a>) -> &'w [&'a str] {
-    match matches.get_strs("inputs") {
-        Some(inputs) => inputs,
-        None => &[],
     }
 }

@@ -96,15 +96,30 @@ const INPUT: &str = "standard input";
 /// a form that is known. It stops where nothing can be written.
 fn draw_inputs<'r, R: Files + Input + AllocGlobal, S: Shelf + Drop, W: Write, V: Write>(
     rt: &R,
-    names: &[&'r str],
+    names: Option<&[&'r str]>,
     drawing: &mut Drawing<'r, S>,
     out: &mut W,
     err: &mut V,
 ) -> io::Result<bool> {
-    if names.is_empty() {
-        return draw_standard(rt, drawing, out, err);
+    match names {
+        Some([first, rest @ ..]) => {
+            let is_whole = draw_named(rt, *first, drawing, out, err)?;
+            draw_rest(rt, rest, is_whole, drawing, out, err)
+        }
+        _ => draw_standard(rt, drawing, out, err),
     }
-    let mut is_whole = true;
+}
+
+/// The same of further inputs, after others of which all could be read or not.
+fn draw_rest<'r, R: Files + Input + AllocGlobal, S: Shelf + Drop, W: Write, V: Write>(
+    rt: &R,
+    names: &[&'r str],
+    is_whole: bool,
+    drawing: &mut Drawing<'r, S>,
+    out: &mut W,
+    err: &mut V,
+) -> io::Result<bool> {
+    let mut is_whole = is_whole;
     for name in names {
         is_whole = draw_named(rt, *name, drawing, out, err)? && is_whole;
     }
