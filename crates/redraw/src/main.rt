@@ -1,21 +1,15 @@
 //! Reads what other tools report, and prints what the library draws of it: `redraw [OPTIONS] [FILE]...`.
 #![tactic(auto)]
 
+use program::exit::exit_code;
+use program::input::given_words;
+use redraw_command::tally::FAILED;
 use redraw_command::terminal::Surroundings;
 use redraw_run::run::run;
 use std::env;
 use std::io::{self, BufWriter, IsTerminal};
 use std::process::ExitCode;
 use std::rt::Env;
-
-/// The words of the command line, without the program's name.
-fn given_words(rt: &(impl Env + AllocGlobal)) -> io::Result<Vec<String>> {
-    let mut words = Vec::new(rt.alloc());
-    for word in env::args(rt)?.skip(1) {
-        words.push(word)?;
-    }
-    Ok(words)
-}
 
 /// Whether colors aren't wanted, or the terminal shows none.
 fn is_colorless(rt: &(impl Env + AllocGlobal)) -> bool {
@@ -48,11 +42,5 @@ fn answer(rt: &HostRuntime) -> io::Result<u8> {
 }
 
 fn main(rt: HostRuntime) -> ExitCode {
-    match answer(&rt) {
-        Ok(status) => ExitCode::from(status),
-        Err(error) => {
-            let _ = eprintln!(rt; "redraw: {error}");
-            ExitCode::from(2)
-        }
-    }
+    exit_code("redraw", answer(&rt), FAILED, &mut rt.stderr())
 }

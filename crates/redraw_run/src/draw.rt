@@ -8,6 +8,7 @@ ghost use Rattle.redraw_command.specs.declared.choice.Form.TheVariants.{Report, 
 use crate::text::drawn_of;
 use annotate_snippets::Renderer;
 use annotate_snippets::renderer::RenderError;
+use json_node::fault::Fault;
 use redraw_command::choice::{Choice, Form, is_sum};
 use redraw_command::output::print;
 use redraw_command::relative::make_relative;
@@ -19,7 +20,6 @@ use redraw_command::workflow::command_of;
 use redraw_read::place::load_files;
 use redraw_read::sources::{Shelf, Sources};
 use redraw_report::diagnostic::{Diagnostic, Severity};
-use replay_read::fault::Fault;
 use serde_json::Value;
 use std::alloc::{AllocError, Global};
 use std::fmt;

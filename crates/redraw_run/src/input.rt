@@ -2,15 +2,15 @@
 
 use crate::draw::Drawing;
 use crate::sarif::draw_runs;
+use json_node::expectation::Expectation;
+use json_node::node::Node;
+use json_node::place::Place;
 use redraw_command::line::{Line, is_utf16, line_of};
 use redraw_command::output::pass;
 use redraw_command::stop::Stop;
 use redraw_read::json::listed;
 use redraw_read::rustc::diagnostic_of;
 use redraw_read::sources::Shelf;
-use replay_read::fault::Place;
-use replay_read::node::Node;
-use replay_read::shape::Expectation;
 use serde_json::Value;
 use std::alloc::Global;
 use std::io::{BufRead, Write};

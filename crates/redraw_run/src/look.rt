@@ -1,25 +1,22 @@
 //! How reports look.
+ghost use Rattle.std.specs.Prelude.{◌≡◌};
+ghost use Rattle.redraw_run.specs.Look.{looks};
 
 use annotate_snippets::Renderer;
-use annotate_snippets::renderer::{DEFAULT_TERM_WIDTH, DecorStyle};
 use redraw_command::terminal::{Look, Surroundings};
+use report_options::options::{Options, renderer_of};
 
-/// The renderer that draws so there.
-pub fn renderer_of(look: &Look, around: Surroundings<'_>) -> Renderer {
-    let renderer = if look.has_colors(around) {
-        Renderer::styled().hyperlink(look.has_links())
-    } else {
-        Renderer::plain()
+/// The renderer that draws reports as they are to look there.
+pub fn renderer_for(look: &Look, around: Surroundings<'_>) -> Renderer
+    ensures settings { result ≡ looks look.now around }
+{
+    let has_colors = look.has_colors(around);
+    let options = Options {
+        unicode: look.unicode,
+        text: look.text,
+        short: look.short,
+        styled: has_colors,
+        width: look.width.or(around.columns),
     };
-    let strokes = if look.unicode {
-        DecorStyle::Unicode
-    } else {
-        DecorStyle::Ascii
-    };
-    let width = look.width.or(around.columns);
-    renderer
-        .no_graphics(look.text)
-        .short_message(look.short)
-        .decor_style(strokes)
-        .term_width(width.unwrap_or(DEFAULT_TERM_WIDTH))
+    renderer_of(options).hyperlink(has_colors && look.has_links())
 }

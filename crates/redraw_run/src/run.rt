@@ -7,7 +7,7 @@ ghost use Rattle.redraw_command.specs.Tally.{status_of};
 use crate::draw::Drawing;
 use crate::files::Below;
 use crate::input::draw_input;
-use crate::look::renderer_of;
+use crate::look::renderer_for;
 use redraw_command::relative::folder_of;
 use redraw_command::seen::{Names, Seen};
 use redraw_command::stop::Stop;
@@ -73,7 +73,7 @@ fn draw_all<'w, R: Files + Input + AllocGlobal, W: Write, V: Write>(
     };
     let mut drawing = Drawing {
         alloc,
-        renderer: renderer_of(&request.look, around),
+        renderer: renderer_for(&request.look, around),
         choice: request.choice,
         sources: Sources::new(alloc, shelf),
         folder,

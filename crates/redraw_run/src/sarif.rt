@@ -1,9 +1,10 @@
 //! A SARIF log, whose results are drawn one after another.
 
 use crate::draw::Drawing;
+use json_node::lenient::{List, Node, Troubles};
+use json_node::place::Place;
 use redraw_command::stop::Stop;
 use redraw_read::sources::Shelf;
-use redraw_sarif::node::{List, Node, Place, Troubles};
 use redraw_sarif::sarif::Run;
 use serde_json::Value;
 use std::io::Write;

@@ -6,13 +6,14 @@ ghost use Rattle.snippet_model.specs.Fits.{TextFits};
 ghost use Rattle.serde_json.specs.Data.{Data};
 ghost use Rattle.serde_json.specs.Find.{as_bool, as_str, get};
 ghost use Rattle.serde_json.specs.View.{view};
-ghost use Rattle.replay_read.specs.Field.{SaysAt, ListSays, as_whole, flag_at, number_at, text_at};
+ghost use Rattle.json_node.specs.Field.{SaysAt, ListSays, as_whole, flag_at, number_at, text_at};
 
-use crate::fault::{Fault, Place, Wrong};
-use crate::shape::{Expectation, Shape};
+use crate::expectation::Expectation;
+use crate::fault::{Fault, Wrong};
+use crate::place::Place;
 use serde_json::Value;
-use snippet_text::{CowStr, text_fits};
 use std::alloc::Global;
+use std::fmt;
 
 /// A value of JSON, and where it stands in its line.
 #[derive(Clone, Copy)]
@@ -22,23 +23,9 @@ pub struct Node<'v, 'p> {
     pub place: Place<'p>,
 }
 
-/// What an item of a list may be read as.
-pub trait Read<'v> {
-    /// What an item says, where it is read as this.
-    ghost says: { Data → Self → Type 0 };
-
-    /// What holds of whatever is read: that its texts fit.
-    ghost fits: { Self → Type 0 };
-
-    /// What the item is read as; a fault where it isn't what is expected.
-    fn read(node: &Node<'v, '_>) -> Result<Self, Fault>
-        ensures value { IfOk result (says (view node.now.value.now)) }
-        ensures fits { IfOk result fits };
-}
-
 impl<'v> Node<'v, '_> {
     /// The fault that something else was expected.
-    pub fn unexpected(&self, expected: Expectation) -> Fault {
+    pub fn unexpected<E: fmt::Display + Copy>(&self, expected: E) -> Fault {
         Fault::at(
             self.alloc,
             &self.place,
@@ -46,18 +33,24 @@ impl<'v> Node<'v, '_> {
         )
     }
 
-    /// Nothing, if the value is an object and has only fields of this shape.
-    pub fn has_only(&self, shape: Shape) -> Result<(), Fault> {
+    /// Nothing, if the value is an object and has only fields of these names.
+    pub fn has_only(&self, names: &[&str]) -> Result<(), Fault> {
         let Some(fields) = self.value.as_object() else {
             return Err(self.unexpected(Expectation::Object));
         };
         for name in fields.keys() {
-            if !shape.has(name.as_str()) {
-                let place = Place::Field(&self.place, name.as_str());
-                return Err(Fault::at(self.alloc, &place, Wrong::Unknown(shape)));
+            if !is_among(name.as_str(), names) {
+                return Err(self.unknown(name.as_str(), names));
             }
         }
         Ok(())
+    }
+
+    /// The fault that there is a field of this name, and only these are expected.
+    fn unknown(&self, name: &str, names: &[&str]) -> Fault {
+        let place = Place::Field(&self.place, name);
+        let wrong: Wrong<'_, Expectation> = Wrong::Unknown(names);
+        Fault::at(self.alloc, &place, wrong)
     }
 
     /// The field of this name; `None` where there is none.
@@ -83,7 +76,11 @@ impl<'v> Node<'v, '_> {
     }
 
     /// The field of this name, which has to be there and hold this.
-    pub fn needed<'n>(&'n self, name: &'n str, expected: Expectation) -> Result<Node<'v, 'n>, Fault>
+    pub fn needed<'n, E: fmt::Display + Copy>(
+        &'n self,
+        name: &'n str,
+        expected: E,
+    ) -> Result<Node<'v, 'n>, Fault>
         ensures value { IfOk result (λ field. get name.now (view self.now.value.now) ≡ Some (view field.value.now)) }
     {
         match self.optional(name) {
@@ -105,27 +102,14 @@ impl<'v> Node<'v, '_> {
             place: Place::Item(&self.place, index),
         }
     }
+}
 
-    /// What the items of the list are read as, in order.
-    pub fn items<T: Read<'v> + Drop>(&self) -> Result<Vec<T>, Fault>
-        ensures value { IfOk result (λ xs. ListSays T.says (view self.now.value.now) xs.items) }
-        ensures fits { IfOk result (λ xs. All T.fits xs.items) }
-    {
-        let Some(values) = self.value.as_array() else {
-            return Err(self.unexpected(Expectation::List));
-        };
-        let mut items = Vec::new(self.alloc);
-        for (index, value) in values.iter().enumerate() {
-            items.push(T::read(&self.item(index, value))?)?;
+/// Whether a name is among these.
+fn is_among(name: &str, names: &[&str]) -> bool {
+    for known in names {
+        if *known == name {
+            return true;
         }
-        Ok(items)
     }
-
-    /// What the items of the list in the field of this name are read as, in order.
-    pub fn list<T: Read<'v> + Drop>(&self, name: &str) -> Result<Vec<T>, Fault>
-        ensures value { IfOk result (λ xs. SaysAt (ListSays T.says) name.now (view self.now.value.now) xs.items) }
-        ensures fits { IfOk result (λ xs. All T.fits xs.items) }
-    {
-        self.needed(name, Expectation::List)?.items()
-    }
+    false
 }

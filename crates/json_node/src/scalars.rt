@@ -5,11 +5,11 @@ ghost use Rattle.std.specs.Cow.{cow_str_bytes};
 ghost use Rattle.snippet_model.specs.Fits.{TextFits};
 ghost use Rattle.serde_json.specs.Find.{as_bool, as_str};
 ghost use Rattle.serde_json.specs.View.{view};
-ghost use Rattle.replay_read.specs.Field.{as_whole, flag_at, lent_text, number_at, text_at};
+ghost use Rattle.json_node.specs.Field.{as_whole, flag_at, lent_text, number_at, text_at};
 
+use crate::expectation::Expectation;
 use crate::fault::Fault;
-use crate::node::{Node, Read};
-use crate::shape::Expectation;
+use crate::node::Node;
 use snippet_text::{CowStr, text_fits};
 
 impl<'v> Node<'v, '_> {
@@ -112,28 +112,6 @@ impl<'v> Node<'v, '_> {
             Some(field) => field.as_flag(),
             None => Ok(missing),
         }
-    }
-}
-
-/// The number of a byte.
-impl<'v> Read<'v> for u8 {
-    ghost says = { λ d byte. as_whole d ≡ Some byte };
-
-    ghost fits = { λ _. Unit {0} };
-
-    fn read(node: &Node<'v, '_>) -> Result<Self, Fault> {
-        node.as_byte()
-    }
-}
-
-/// A text within the library's limit.
-impl<'v> Read<'v> for &'v str {
-    ghost says = { λ d text. as_str d ≡ Some text.now };
-
-    ghost fits = { λ text. TextFits text.now };
-
-    fn read(node: &Node<'v, '_>) -> Result<Self, Fault> {
-        node.as_text()
     }
 }
 

@@ -1,46 +1,10 @@
-//! Values of JSON, where they stand, and what is read of them.
+//! Values of JSON that other tools write, and all that is wrong with them.
 
 use crate::expectation::Expectation;
+use crate::place::Place;
 use serde_json::Value;
 use std::alloc::{AllocError, Global};
 use std::fmt;
-
-/// The way from a document's object to a value in it.
-#[derive(Clone, Copy)]
-pub enum Place<'p> {
-    /// The document's object itself.
-    Document,
-    /// A field of an object.
-    Field(&'p Place<'p>, &'p str),
-    /// An item of a list, counted from 0.
-    Item(&'p Place<'p>, usize),
-}
-
-impl Place<'_> {
-    /// Whether this is the document's object itself.
-    fn is_document(&self) -> bool {
-        matches!(self, Place::Document)
-    }
-}
-
-impl fmt::Display for Place<'_> {
-    fn fmt<W: fmt::Write>(&self, f: &mut fmt::Formatter<W>) -> fmt::Result {
-        match self {
-            Place::Document => f.write_str("the document"),
-            Place::Field(object, name) => {
-                if object.is_document() {
-                    return f.write_str(name);
-                }
-                (*object).fmt(f)?;
-                write!(f, ".{name}")
-            }
-            Place::Item(list, index) => {
-                (*list).fmt(f)?;
-                write!(f, "[{index}]")
-            }
-        }
-    }
-}
 
 /// What is wrong with a document.
 #[derive(Drop)]
@@ -63,7 +27,7 @@ impl Troubles {
     }
 
     /// Adds that something was expected at this place.
-    fn add(&mut self, place: Place<'_>, expected: Expectation) {
+    fn add<E: fmt::Display + Copy>(&mut self, place: Place<'_>, expected: E) {
         let added = match format!(in self.alloc; "{place}: expected {expected}") {
             Ok(line) => self.lines.push(line).is_ok(),
             Err(AllocError) => false,
@@ -99,12 +63,17 @@ impl<'v> List<'v, '_> {
 
 impl<'v> Node<'v, '_> {
     /// Tells that this was expected here.
-    pub fn tell(&self, troubles: &mut Troubles, expected: Expectation) {
+    pub fn tell<E: fmt::Display + Copy>(&self, troubles: &mut Troubles, expected: E) {
         troubles.add(self.place, expected);
     }
 
     /// Tells that this was expected in the field of this name.
-    pub fn tell_field(&self, name: &str, troubles: &mut Troubles, expected: Expectation) {
+    pub fn tell_field<E: fmt::Display + Copy>(
+        &self,
+        name: &str,
+        troubles: &mut Troubles,
+        expected: E,
+    ) {
         troubles.add(Place::Field(&self.place, name), expected);
     }
 
@@ -184,7 +153,7 @@ impl<'v> Node<'v, '_> {
         let value = self.field(name);
         let text = value.and_then(Value::as_str);
         if value.is_some() && text.is_none() {
-            self.tell_field(name, troubles, Expectation::Text);
+            self.tell_field(name, troubles, Expectation::AnyText);
         }
         text
     }
@@ -192,7 +161,7 @@ impl<'v> Node<'v, '_> {
     /// The text in the field of this name, which has to be there.
     pub fn needed_text(&self, name: &str, troubles: &mut Troubles) -> Option<&'v str> {
         if !self.has(name) {
-            self.tell_field(name, troubles, Expectation::Text);
+            self.tell_field(name, troubles, Expectation::AnyText);
         }
         self.text(name, troubles)
     }
@@ -204,7 +173,7 @@ impl<'v> Node<'v, '_> {
             Some(number) => Some(number as usize),
             None => {
                 if value.as_i64() != Some(-1) {
-                    self.tell_field(name, troubles, Expectation::Number);
+                    self.tell_field(name, troubles, Expectation::FromZero);
                 }
                 None
             }

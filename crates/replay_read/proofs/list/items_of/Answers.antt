@@ -4,7 +4,7 @@ use Rattle.std.specs.Prelude.{All}
 use Rattle.std.proofs.lemmas.List.Elements.{All-push}
 use Rattle.serde_json.specs.View.{view}
 use Rattle.replay_read.proofs.Listing.{items_more}
-use Rattle.replay_read.proofs.node.Node.items.Goals as goal
+use Rattle.replay_read.proofs.list.items_of.Goals as goal
 
 pub loop-index-preserved : goal.loop-index-preserved
 loop-index-preserved g c =

@@ -1,7 +1,7 @@
 use Rattle.std.proofs.Common.{map, take, All}
 use Rattle.std.specs.List.{AllZip}
 use Rattle.serde_json.specs.View.{view}
-use Rattle.replay_read.proofs.node.Node.items.Given as goal
+use Rattle.replay_read.proofs.list.items_of.Given as goal
 
 -- the items so far say what was read
 abbrev pub invariant-loop-index : goal.invariant-loop-index

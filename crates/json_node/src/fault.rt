@@ -1,48 +1,11 @@
-//! What is wrong with the value of a line, and where in it.
+//! What is wrong with a value, and where.
 
-use crate::shape::{Expectation, Shape};
+use crate::place::Place;
 use serde_json::Value;
 use std::alloc::{AllocError, AllocFailed, Global};
 use std::fmt;
 
-/// The way from a line's object to a value in it.
-#[derive(Clone, Copy)]
-pub enum Place<'p> {
-    /// The line's object itself.
-    Line,
-    /// A field of an object.
-    Field(&'p Place<'p>, &'p str),
-    /// An item of a list, counted from 0.
-    Item(&'p Place<'p>, usize),
-}
-
-impl Place<'_> {
-    /// Whether this is the line's object itself.
-    fn is_line(&self) -> bool {
-        matches!(self, Place::Line)
-    }
-}
-
-impl fmt::Display for Place<'_> {
-    fn fmt<W: fmt::Write>(&self, f: &mut fmt::Formatter<W>) -> fmt::Result {
-        match self {
-            Place::Line => f.write_str("the line"),
-            Place::Field(object, name) => {
-                if object.is_line() {
-                    return f.write_str(name);
-                }
-                (*object).fmt(f)?;
-                write!(f, ".{name}")
-            }
-            Place::Item(list, index) => {
-                (*list).fmt(f)?;
-                write!(f, "[{index}]")
-            }
-        }
-    }
-}
-
-/// Why a value gives no case, and no expected answer.
+/// Why a value isn't read.
 #[derive(Drop)]
 pub enum Fault {
     /// What is wrong in it, in words: the path of the place, and what is wrong there.
@@ -51,15 +14,15 @@ pub enum Fault {
     Memory,
 }
 
-/// What is wrong at a place.
+/// What is wrong at a place, where this is expected.
 #[derive(Clone, Copy)]
-pub enum Wrong<'v> {
-    /// This stands there, and something else was expected.
-    Unexpected(Expectation, &'v Value),
+pub enum Wrong<'v, E> {
+    /// This value stands there, and something else was expected.
+    Unexpected(E, &'v Value),
     /// Nothing stands there.
-    Missing(Expectation),
-    /// A field stands there that an object of this shape doesn't have.
-    Unknown(Shape),
+    Missing(E),
+    /// A field stands there, and its object may only have fields of these names.
+    Unknown(&'v [&'v str]),
 }
 
 impl From<AllocError> for Fault {
@@ -76,7 +39,11 @@ impl<T: Drop> From<AllocFailed<T>> for Fault {
 
 impl Fault {
     /// This is wrong at `place`.
-    pub fn at(alloc: Global, place: &Place<'_>, wrong: Wrong<'_>) -> Fault {
+    pub fn at<E: fmt::Display + Copy>(
+        alloc: Global,
+        place: &Place<'_>,
+        wrong: Wrong<'_, E>,
+    ) -> Fault {
         match format!(in alloc; "{place}: {wrong}") {
             Ok(words) => Fault::Wrong(words),
             Err(AllocError) => Fault::Memory,
@@ -93,7 +60,7 @@ impl fmt::Display for Fault {
     }
 }
 
-impl fmt::Display for Wrong<'_> {
+impl<E: fmt::Display> fmt::Display for Wrong<'_, E> {
     fn fmt<W: fmt::Write>(&self, f: &mut fmt::Formatter<W>) -> fmt::Result {
         match self {
             Wrong::Unexpected(expected, value) => {
@@ -101,9 +68,21 @@ impl fmt::Display for Wrong<'_> {
                 write_found(value, f)
             }
             Wrong::Missing(expected) => write!(f, "missing, expected {expected}"),
-            Wrong::Unknown(shape) => shape.write_only(f),
+            Wrong::Unknown(names) => write_only(names, f),
         }
     }
+}
+
+/// Writes that only these names are expected.
+fn write_only<W: fmt::Write>(names: &[&str], f: &mut fmt::Formatter<W>) -> fmt::Result {
+    if names.is_empty() {
+        return f.write_str("unknown, expected no field");
+    }
+    f.write_str("unknown, expected only")?;
+    for name in names {
+        write!(f, " {name}")?;
+    }
+    Ok(())
 }
 
 /// The length of the longest text that is shown whole, in bytes.
