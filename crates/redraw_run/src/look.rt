@@ -8,7 +8,7 @@ use report_options::options::{Options, renderer_of};
 
 /// The renderer that draws reports as they are to look there.
 pub fn renderer_for(look: &Look, around: Surroundings<'_>) -> Renderer
-    ensures settings { result ≡ looks look.now around }
+    ensures settings { result ≡ looks look.now around.entry }
 {
     let has_colors = look.has_colors(around);
     let options = Options {
