@@ -1,4 +1,6 @@
 //! How reports look: by the options, and by where they are shown.
+ghost use Rattle.std.specs.Prelude.{◌≡◌};
+ghost use Rattle.redraw_command.specs.Look as spec;
 
 /// When colors are written.
 #[derive(Clone, Copy, PartialEq, Eq)]
@@ -41,7 +43,9 @@ pub struct Surroundings<'a> {
 
 impl Look {
     /// Whether style codes are written there.
-    pub fn has_colors(&self, around: Surroundings<'_>) -> bool {
+    pub fn has_colors(&self, around: Surroundings<'_>) -> bool
+        ensures value { result ≡ spec.has_colors self.now around.entry }
+    {
         match self.colors {
             When::Auto => around.is_terminal && !around.is_colorless,
             When::Always => true,
@@ -50,7 +54,9 @@ impl Look {
     }
 
     /// Whether links are written there: where they are asked for, and always where codes are.
-    pub fn has_links(&self) -> bool {
+    pub fn has_links(&self) -> bool
+        ensures value { result ≡ spec.has_links self.now }
+    {
         self.links || self.colors == When::Always
     }
 }
