@@ -44,7 +44,7 @@ pub struct Surroundings<'a> {
 impl Look {
     /// Whether style codes are written there.
     pub fn has_colors(&self, around: Surroundings<'_>) -> bool
-        ensures value { result ≡ spec.has_colors self.now around }
+        ensures value { result ≡ spec.has_colors self.now around.entry }
     {
         match self.colors {
             When::Auto => around.is_terminal && !around.is_colorless,

@@ -2,4 +2,4 @@ use Rattle.std.proofs.lemmas.Str.Pattern.{starts_text}
 use Rattle.redraw_command.proofs.choice.begins_with.Goals as goal
 
 pub returns : goal.returns
-returns c = starts_text _ _ _ c.starts_with.ensures.cases
+returns c = record { value = starts_text _ _ _ c.starts_with.ensures.cases }

@@ -2,4 +2,4 @@ use Rattle.std.proofs.lemmas.Str.Pattern.{ends_text}
 use Rattle.redraw_command.proofs.choice.stops_with.Goals as goal
 
 pub returns : goal.returns
-returns c = ends_text _ _ _ c.ends_with.ensures.cases
+returns c = record { value = ends_text _ _ _ c.ends_with.ensures.cases }
