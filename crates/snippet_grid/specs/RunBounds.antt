@@ -46,7 +46,7 @@ same_role one other = false
 abbrev pub same_look : Look → Look → Bool
 same_look one other = same_role one.role other.role && option_eq (pointwise nat_eq) one.link other.link
 
--- whether a run that reaches up to a cell, and has this look, can hold the cell too; without one, nothing can
+-- whether a run that reaches up to a cell, and has this look, can hold the cell too; without one, none can
 abbrev pub goes_on : Option Look → Cell → Bool
 goes_on None cell = false
 goes_on (Some look) cell = same_look look (look_of cell)

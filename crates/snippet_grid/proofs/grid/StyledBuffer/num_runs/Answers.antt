@@ -1,5 +1,4 @@
 use Rattle.std.proofs.Common.{◌≡◌, ◌≤◌, rules, arith, subst, length, string_bytes}
-use Rattle.snippet_grid.specs.Grid.{num_cells}
 use Rattle.snippet_grid.specs.RunBounds.{fewest_runs, most_runs}
 use Rattle.snippet_grid.proofs.RunBoundLemmas.{most_in}
 use Rattle.snippet_grid.proofs.RunBounds.{runs_bounded}
