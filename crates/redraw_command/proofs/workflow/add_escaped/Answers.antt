@@ -1,5 +1,6 @@
 use Rattle.std.proofs.Common.{◌≡◌, ◌∙◌, ◌++◌, ◌∷◌, [], ℕ, List, ap, sym, refl, append_assoc, append-nil, encode_utf8_all, string_bytes}
 use Rattle.std.specs.List.{flat_map}
+use Rattle.std.proofs.lemmas.List.{map-id}
 use Rattle.std.proofs.lemmas.Grind.{flat_map-append}
 use Rattle.std.proofs.lemmas.Str.{encodes-append}
 use Rattle.std.proofs.lemmas.Iterator.{YieldsList-from_chars}
@@ -21,4 +22,15 @@ pub loop-character-init : goal.loop-character-init
 loop-character-init c = sym (append-nil _)
 
 pub loop-character-preserved : goal.loop-character-preserved
-loop-character-preserved c = step _ _ _ _ _ _ c.loop-character.invariant c.in_ok-add_character.ensures.added
+loop-character-preserved c =
+    step c.args.part (string_bytes c.loop-character.initial.line) _ _ c.loop-character.yielded c.in-Some.character c.loop-character.invariant
+    c.in_ok-add_character.ensures.added
+
+pub returns : goal.returns
+returns c =
+    let all = YieldsList-end (YieldsList-from_chars c.args.text.now c.utf8.text cc) c.loop-character.yielded _ c.loop-character.yielded_by _ _ c.in-None.is
+    c.next.ensures.steps in
+    record {
+      added =
+          c.loop-character.invariant ∙ ap (λ y. string_bytes c.loop-character.initial.line ++ encode_utf8_all (escaped c.args.part y)) (sym (map-id c.loop-character.yielded) ∙ all.0);
+    }
