@@ -23,7 +23,7 @@ loop-character-init c = sym (append-nil _)
 
 pub loop-character-preserved : goal.loop-character-preserved
 loop-character-preserved c =
-    step c.args.part (string_bytes c.loop-character.initial.line) _ _ c.loop-character.yielded c.in-Some.character c.loop-character.invariant
+    step c.args.part (string_bytes c.args.line.now) _ _ c.loop-character.yielded c.in-Some.character c.loop-character.invariant
     c.in_ok-add_character.ensures.added
 
 pub returns : goal.returns
@@ -32,5 +32,5 @@ returns c =
     c.next.ensures.steps in
     record {
       added =
-          c.loop-character.invariant ∙ ap (λ y. string_bytes c.loop-character.initial.line ++ encode_utf8_all (escaped c.args.part y)) (sym (map-id c.loop-character.yielded) ∙ all.0);
+          c.loop-character.invariant ∙ ap (λ y. string_bytes c.args.line.now ++ encode_utf8_all (escaped c.args.part y)) (sym (map-id c.loop-character.yielded) ∙ all.0);
     }
