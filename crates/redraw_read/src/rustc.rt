@@ -3,14 +3,14 @@
 ghost use Rattle.std.specs.Prelude.{◌≤◌, length};
 
 use crate::expansion::{Macros, shown_place, told_call};
-use crate::json::{given, given_text, listed, owned, values_of};
+use crate::json::{LEVEL, given, given_text, listed, owned, values_of};
 use crate::place::is_attribute;
+use json_node::expectation::Expectation;
+use json_node::fault::Fault;
+use json_node::node::Node;
 use redraw_report::diagnostic::{
     Carried, Child, Code, Diagnostic, Edit, FileSpan, LineRegion, Region, Severity, Unit,
 };
-use replay_read::fault::Fault;
-use replay_read::node::Node;
-use replay_read::shape::Expectation;
 use serde_json::Value;
 use std::alloc::{AllocError, Global};
 
@@ -188,7 +188,7 @@ fn has_label(span: &FileSpan, label: &str) -> bool {
 /// The level and the message of a diagnostic or a child.
 fn heading_of(node: &Node<'_, '_>) -> Result<(Severity, String), Fault> {
     let message = node.text("message")?;
-    let level = node.needed("level", Expectation::LevelKind)?;
+    let level = node.needed("level", LEVEL)?;
     let severity = severity_in(&level)?;
     Ok((severity, message_of(level.alloc, level.value, message)?))
 }
@@ -197,7 +197,7 @@ fn heading_of(node: &Node<'_, '_>) -> Result<(Severity, String), Fault> {
 fn severity_in(level: &Node<'_, '_>) -> Result<Severity, Fault> {
     match severity_of(level.value) {
         Some(severity) => Ok(severity),
-        None => Err(level.unexpected(Expectation::LevelKind)),
+        None => Err(level.unexpected(LEVEL)),
     }
 }
 
