@@ -1,5 +1,5 @@
 -- Ends of a run that the definition excludes: what a wrong program would give the streams.
-use Rattle.std.proofs.Common.{◌≡◌, ◌⊎◌, ℕ, zero, suc, List, [], ◌∷◌, ◌++◌, Option, Some, None, ap, arith, codes, inl, inr, take}
+use Rattle.std.proofs.Common.{◌≡◌, ℕ, zero, suc, List, [], ◌∷◌, Option, Some, None, ap, arith, codes, inl, inr, take}
 use Rattle.program.specs.Stream.{Output, Silent, Told, Receives, line_of}
 use Rattle.snip_run.specs.Run.{End, Ends, Failed, MayEnd, Misused, Printed, Unprinted, err_of, out_of, status_of, usage}
 use Rattle.snip_run.specs.Words.{Word}

@@ -1,5 +1,5 @@
 -- What a renderer gives for a command's report.
-use Rattle.std.proofs.Common.{◌≡◌, ◌⊎◌, List, ℕ, Option, Some, None, Ok, Err, Result, IfSome, IfOk, IfErr, IsErrAnd, MatchResult, inl, inr, refl, sym, ap, ◌∙◌, subst}
+use Rattle.std.proofs.Common.{◌≡◌, ◌⊎◌, Option, Some, None, Ok, Err, Result, IfSome, IfOk, IfErr, IsErrAnd, MatchResult, inl, inr, refl, sym, ap, subst}
 
 -- a value that is known to hold something holds it
 pub ok_had : {T E : Type 0} (P : T → Type 0) (r : Result T E) (x : T) → r ≡ Ok x → IfOk r P → P x

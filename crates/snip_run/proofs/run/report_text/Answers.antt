@@ -1,6 +1,6 @@
-use Rattle.std.proofs.Common.{◌≡◌, ◌⊎◌, true, false, inl, inr, refl, string_bytes}
+use Rattle.std.proofs.Common.{refl, string_bytes}
 use Rattle.std.specs.Option.{option_copied}
-use Rattle.snip_run.specs.Report.{RefusesCommand, ShowsCommand}
+use Rattle.snip_run.specs.Report.{ShowsCommand}
 use Rattle.snip_run.proofs.Ending.{no_text, of_text, refused_file, some_text}
 use Rattle.snip_run.proofs.Fitting.{title_fits, label_fits}
 use Rattle.snip_run.proofs.run.report_text.Goals as goal
