@@ -9,9 +9,11 @@ pub enum Stop {
     /// A growth of memory was refused.
     Memory,
     /// What was drawn couldn't be written.
-    Unwritable,
+    Unwritable(io::Error),
     /// The input couldn't be read to its end.
     Unreadable(io::Error),
+    /// The input is written in UTF-16.
+    Utf16,
 }
 
 impl From<AllocError> for Stop {
@@ -30,8 +32,9 @@ impl fmt::Display for Stop {
     fn fmt<W: fmt::Write>(&self, f: &mut fmt::Formatter<W>) -> fmt::Result {
         match self {
             Stop::Memory => f.write_str("out of memory"),
-            Stop::Unwritable => f.write_str("cannot write what is drawn"),
+            Stop::Unwritable(error) => write!(f, "cannot write what is drawn: {error}"),
             Stop::Unreadable(error) => write!(f, "cannot read: {error}"),
+            Stop::Utf16 => f.write_str("written in UTF-16, expected UTF-8"),
         }
     }
 }
