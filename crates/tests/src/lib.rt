@@ -3,6 +3,10 @@
 #![tactic(auto)]
 
 #[cfg(test)]
+mod grid;
+#[cfg(test)]
+mod line;
+#[cfg(test)]
 mod redraw;
 #[cfg(test)]
 mod replay;
