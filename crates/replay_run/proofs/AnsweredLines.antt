@@ -1,5 +1,5 @@
 -- The lines answered so far, and what is left to read.
-use Rattle.std.proofs.Common.{◌≡◌, ℕ, Bool, false, List, [], ◌∷◌, ◌++◌, Option, Some, None, refl, sym, subst, append_assoc}
+use Rattle.std.proofs.Common.{◌≡◌, ℕ, Bool, false, List, [], ◌∷◌, ◌++◌, Option, Some, None, refl, sym, ap, ◌∙◌, subst, inl, inr, append_assoc}
 use Rattle.std.specs.Prelude.{IfSome, IsOkAnd, Result, Ok, Err, String, string_bytes}
 use Rattle.std.specs.Io.BufRead.{first_line, drop_through}
 use Rattle.std.specs.Io.Iter.{YieldsKnownPiece}
@@ -8,8 +8,8 @@ use Rattle.std.specs.List.{concat}
 use Rattle.std.specs.declared.alloc.Global.{Global}
 use Rattle.std.proofs.lemmas.List.{append-nil}
 use Rattle.std.proofs.lemmas.List.Folds.{concat-append}
-use Rattle.replay_run.specs.Answer.{AnswersLine, AnswersLines, AreLines, first_after}
-use Rattle.replay_run.specs.Answered.{AnswersReader, AreRead}
+use Rattle.replay_run.specs.Answer.{AnswersLine, AnswersLines, AreFirstLines, AreLines, first_after}
+use Rattle.replay_run.specs.Answered.{AnswersPart, AnswersReader, AppendsFirst, AreFirstRead, AreRead, StopsReader}
 use Rattle.replay_run.specs.declared.lines.Form.{Form}
 use Rattle.replay_run.proofs.Growing.{appends_kept, appends_none, appends_twice}
 use Rattle.replay_run.proofs.Judging.{GivesLine, ended}
@@ -42,11 +42,12 @@ written_twice a b c texts more one two =
 -- once these lines were read, this is left of what a reader held
 abbrev pub LeavesAfter : (held left : Option (List ℕ)) (lines : List (List ℕ)) → Type 0
 LeavesAfter held left lines =
-    IfSome held (λ text. (rest : List ℕ) × (left ≡ Some rest) × ((more : List (List ℕ)) → AreLines rest more → AreLines text (lines ++ more)))
+    IfSome held (λ text. (rest : List ℕ) × (left ≡ Some rest) × ((more : List (List ℕ)) → AreLines rest more → AreLines text (lines ++ more))
+    × ((more : List (List ℕ)) → AreFirstLines rest more → AreFirstLines text (lines ++ more)))
 
 left_none : (held left : Option (List ℕ)) → left ≡ held → LeavesAfter held left []
 left_none None left is = tt
-left_none (Some text) left is = (text, is, λ more are. are)
+left_none (Some text) left is = (text, is, λ more are. are, λ more are. are)
 
 left_more : (held left next : Option (List ℕ)) (lines : List (List ℕ)) (line : List ℕ) → LeavesAfter held left lines → GivesLine left next line → LeavesAfter held next (lines ++ line ∷ [])
 left_more None left next lines line h gives = tt
@@ -55,6 +56,7 @@ left_more (Some text) left next lines line h gives =
       drop_through 10 h.0,
       from.1,
       λ more are. subst (AreLines text) (sym (append_assoc lines (line ∷ []) more)) (h.2 (line ∷ more) (from.0.0, from.0.1, are)),
+      λ more are. subst (AreFirstLines text) (sym (append_assoc lines (line ∷ []) more)) (h.3 (line ∷ more) (from.0.0, from.0.1, are)),
     )
 
 left_all : (held left : Option (List ℕ)) (lines : List (List ℕ)) → LeavesAfter held left lines → IsAtEnd left → AreRead held lines
@@ -62,6 +64,10 @@ left_all None left lines h end = tt
 left_all (Some text) left lines h end =
     let at_end : IsAtEnd (Some h.0) = subst IsAtEnd h.1 end in
     subst (AreLines text) (append-nil lines) (h.2 [] at_end)
+
+left_first : (held left : Option (List ℕ)) (lines : List (List ℕ)) → LeavesAfter held left lines → AreFirstRead held lines
+left_first None left lines h = tt
+left_first (Some text) left lines h = subst (AreFirstLines text) (append-nil lines) (h.3 [] tt)
 
 -- the lines so far are answered, and this is left of what a reader held
 pub record HaveAnswered (form : Form) (is_first still_first : Bool) (held left old new : Option (List ℕ)) : Type 0 where
@@ -122,3 +128,49 @@ answered_all form is_first still_first held left next old new r h is gives =
       written = h.written;
       still = h.still;
     }
+
+-- it stops after the lines so far
+pub stops_after : (form : Form) (is_first still_first : Bool) (held left old mid new : Option (List ℕ)) → HaveAnswered form is_first still_first held left old mid → Keeps mid new → StopsReader form is_first held old new
+stops_after form is_first still_first held left old mid new h kept =
+    record {
+      lines = h.lines;
+      read = left_first held left h.lines h.leaves;
+      texts = h.texts;
+      answered = h.answered;
+      written = record {
+        part = concat h.texts;
+        rest = [];
+        split = sym (append-nil (concat h.texts));
+        added = appends_kept old mid new (concat h.texts) h.written kept;
+      };
+    }
+
+stops_in : (form : Form) (is_first still_first : Bool) (held left next old mid new : Option (List ℕ)) (line text : List ℕ)
+    → HaveAnswered form is_first still_first held left old mid → GivesLine left next line → AnswersLine form still_first line text
+    → AppendsFirst mid new text → StopsReader form is_first held old new
+stops_in form is_first still_first held left next old mid new line text h gives answers first =
+    let here : AnswersLine form (first_after is_first h.lines) line text = subst (λ f. AnswersLine form f line text) h.still answers in
+    let whole : concat (h.texts ++ text ∷ []) ≡ concat h.texts ++ text = concat-append h.texts (text ∷ []) ∙ ap (λ (l : List ℕ). concat h.texts ++ l) (append-nil text) in
+    record {
+      lines = h.lines ++ line ∷ [];
+      read = left_first held next (h.lines ++ line ∷ []) (left_more held left next h.lines line h.leaves gives);
+      texts = h.texts ++ text ∷ [];
+      answered = answered_twice form is_first h.lines h.texts (line ∷ []) (text ∷ []) h.answered (here, tt);
+      written = record {
+        part = concat h.texts ++ first.part;
+        rest = first.rest;
+        split = whole ∙ ap (λ (l : List ℕ). concat h.texts ++ l) first.split ∙ sym (append_assoc (concat h.texts) first.part first.rest);
+        added = appends_twice old mid new (concat h.texts) first.part h.written first.added;
+      };
+    }
+
+-- it stops within one line more
+pub stops_within : {E : Type 0} (form : Form) (is_first still_first : Bool) (held left next old mid new : Option (List ℕ))
+    (r : Option (Result (String Global) E)) (line : Result (String Global) E) → HaveAnswered form is_first still_first held left old mid
+    → r ≡ Some line → YieldsKnownPiece string_bytes first_line 10 left r next → AnswersPart form still_first line mid new
+    → StopsReader form is_first held old new
+stops_within form is_first still_first held left next old mid new r line h is gives (inl kept) =
+    stops_after form is_first still_first held left old mid new h kept
+stops_within form is_first still_first held left next old mid new r (Ok x) h is gives (inr part) =
+    stops_in form is_first still_first held left next old mid new (string_bytes x) part.0 h (subst (λ item. YieldsKnownPiece string_bytes first_line 10 left item next) is gives) part.1 part.2
+stops_within form is_first still_first held left next old mid new r (Err e) h is gives (inr part) = absurd part

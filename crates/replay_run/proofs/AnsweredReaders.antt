@@ -1,13 +1,14 @@
 -- The readers answered so far.
-use Rattle.std.proofs.Common.{◌≡◌, ℕ, ◌+◌, Bool, true, List, [], ◌∷◌, ◌++◌, Option, arith, refl, sym, ap, ◌∙◌, subst}
-use Rattle.std.specs.Prelude.{OnOk, Result, Ok, Err}
+use Rattle.std.proofs.Common.{◌≡◌, ℕ, ◌+◌, Bool, true, List, [], ◌∷◌, ◌++◌, Option, arith, refl, sym, ap, ◌∙◌, subst, inl, inr, ◌≤◌}
+use Rattle.std.specs.Prelude.{OnErr, OnOk, Result, Ok, Err}
 use Rattle.std.specs.Io.KnownBytes.{Keeps}
 use Rattle.std.specs.List.{concat, flat_map}
+use Rattle.std.proofs.KnownBytes.{Keeps-refl, Keeps-trans}
 use Rattle.std.proofs.lemmas.List.{append-nil, length_push}
 use Rattle.std.proofs.lemmas.List.Concat.{flat_map-append}
 use Rattle.std.proofs.lemmas.List.Elements.{All-push}
 use Rattle.replay_run.specs.Answer.{AnswersLines, first_after}
-use Rattle.replay_run.specs.Answered.{AnswersReader, AnswersReaders, AreRead}
+use Rattle.replay_run.specs.Answered.{AnswersReader, AnswersReaders, AreRead, StopsAt, StopsReader, StopsReaders}
 use Rattle.replay_run.specs.declared.lines.Form.{Form}
 use Rattle.replay_run.proofs.AnsweredLines.{answered_twice, first_twice, written_twice}
 use Rattle.replay_run.proofs.Growing.{appends_kept, appends_none}
@@ -87,3 +88,79 @@ on_ok (Err e) tells h = tt
 pub answered_same : (form : Form) (is_first still_first : Bool) (held same old new : Option (List ℕ)) → held ≡ same → AnswersReader form is_first still_first held old new → AnswersReader form is_first still_first same old new
 answered_same form is_first still_first held same old new is h =
     subst (λ bytes. AnswersReader form is_first still_first bytes old new) is h
+
+-- what is known of an answer Err tells more
+pub on_err : {T E P Q : Type 0} (r : Result T E) → (P → Q) → OnErr r P → OnErr r Q
+on_err (Ok x) tells h = tt
+on_err (Err e) tells h = tells h
+
+-- what holds anyway holds where it is Err
+pub anyway : {T E P : Type 0} (r : Result T E) → P → OnErr r P
+anyway (Ok x) h = tt
+anyway (Err e) h = h
+
+pub stopped_same : (form : Form) (is_first : Bool) (held same old new : Option (List ℕ)) → held ≡ same → StopsReader form is_first held old new → StopsReader form is_first same old new
+stopped_same form is_first held same old new is h =
+    subst (λ bytes. StopsReader form is_first bytes old new) is h
+
+-- nothing more is written after it stopped
+stopped_kept : (form : Form) (is_first : Bool) (held old mid new : Option (List ℕ)) → StopsReader form is_first held old mid → Keeps mid new → StopsReader form is_first held old new
+stopped_kept form is_first held old mid new h kept =
+    record {
+      lines = h.lines;
+      read = h.read;
+      texts = h.texts;
+      answered = h.answered;
+      written = record {
+        part = h.written.part;
+        rest = h.written.rest;
+        split = h.written.split;
+        added = appends_kept old mid new h.written.part h.written.added kept;
+      };
+    }
+
+at_kept : {Reader : Type 0} (bytes : Reader → Option (List ℕ)) (form : Form) (is_first : Bool) (old mid new : Option (List ℕ)) → StopsAt Reader bytes form is_first old mid → Keeps mid new → StopsAt Reader bytes form is_first old new
+at_kept bytes form is_first old mid new (inl same) kept = inl (Keeps-trans old mid new same kept)
+at_kept bytes form is_first old mid new (inr (reader, h)) kept =
+    inr (reader, stopped_kept form is_first (bytes reader) old mid new h kept)
+
+-- it stops after the readers so far
+pub readers_stop : {Reader : Type 0} (bytes : Reader → Option (List ℕ)) (form : Form) (before count : ℕ) (is_first : Bool) (old mid new : Option (List ℕ)) → before ≤ count → HaveAnsweredReaders Reader bytes form before is_first old mid → StopsAt Reader bytes form is_first mid new → StopsReaders Reader bytes form count old new
+readers_stop {Reader} bytes form before count is_first old mid new within h stops =
+    record {
+      before = before;
+      within = within;
+      mid = mid;
+      answered = h.all;
+      stops = subst (λ f. StopsAt Reader bytes form f mid new) h.still stops;
+    }
+
+-- it stops before any reader, or within the first
+pub first_stops : {Reader : Type 0} (bytes : Reader → Option (List ℕ)) (form : Form) (count : ℕ) (old new : Option (List ℕ)) → StopsAt Reader bytes form true old new → StopsReaders Reader bytes form count old new
+first_stops bytes form count old new stops =
+    readers_stop bytes form 0 count true old old new (omega arith) (readers_none bytes form old) stops
+
+-- it stops where all readers are answered, as the last flush fails
+pub all_stop : {Reader : Type 0} (bytes : Reader → Option (List ℕ)) (form : Form) (count : ℕ) (old mid new : Option (List ℕ)) → AnswersReaders Reader bytes form count old mid → Keeps mid new → StopsReaders Reader bytes form count old new
+all_stop bytes form count old mid new h kept =
+    record {
+      before = count;
+      within = omega arith;
+      mid = mid;
+      answered = h;
+      stops = inl kept;
+    }
+
+pub stops_kept : {Reader : Type 0} (bytes : Reader → Option (List ℕ)) (form : Form) (count : ℕ) (old mid new : Option (List ℕ)) → StopsReaders Reader bytes form count old mid → Keeps mid new → StopsReaders Reader bytes form count old new
+stops_kept bytes form count old mid new h kept =
+    record {
+      before = h.before;
+      within = h.within;
+      mid = h.mid;
+      answered = h.answered;
+      stops = at_kept bytes form _ h.mid mid new h.stops kept;
+    }
+
+-- nothing is written, and nothing is answered
+pub none_stop : {Reader : Type 0} (bytes : Reader → Option (List ℕ)) (form : Form) (count : ℕ) (old : Option (List ℕ)) → StopsReaders Reader bytes form count old old
+none_stop bytes form count old = first_stops bytes form count old old (inl (Keeps-refl old))

@@ -110,3 +110,16 @@ files_answered ws Help P Json files h asks known =
     absurd (no_option ws [] (codes "help") h asks.1)
 files_answered ws Help P Texts files h asks known =
     absurd (apart (codes "--text") (codes "--help") files [] refl refl (sym asks.0 ∙ h))
+
+-- what is known of a command's answers, or of its comparison, tells more
+pub if_answers : (c : Command) (P Q : Form → ℕ → Type 0) → ((form : Form) (files : ℕ) → P form files → Q form files) → IfAnswers c P → IfAnswers c Q
+if_answers (Answer form files) P Q tells h = tells form (length files.now) h
+if_answers (Check files) P Q tells h = tt
+if_answers (Repeat times files) P Q tells h = tt
+if_answers Help P Q tells h = tt
+
+pub if_comparison : (c : Command) (P Q : ℕ → Type 0) → ((files : ℕ) → P files → Q files) → IfComparison c P → IfComparison c Q
+if_comparison (Answer form files) P Q tells h = tt
+if_comparison (Check files) P Q tells h = tells (length files.now) h
+if_comparison (Repeat times files) P Q tells h = tt
+if_comparison Help P Q tells h = tt

@@ -51,6 +51,12 @@ AreLines text [] = text ≡ []
 AreLines text (line ∷ lines) =
     (0 < length text) × (line ≡ first_line text) × AreLines (drop_through 10 text) lines
 
+-- the first lines of a text
+abbrev pub AreFirstLines : List ℕ → List (List ℕ) → Type 0
+AreFirstLines text [] = Unit {0}
+AreFirstLines text (line ∷ lines) =
+    (0 < length text) × (line ≡ first_line text) × AreFirstLines (drop_through 10 text) lines
+
 -- texts answer lines, one each, in order; is_first tells whether nothing was written before the first of them
 abbrev pub AnswersLines : Form → Bool → List (List ℕ) → List (List ℕ) → Type 0
 AnswersLines form is_first [] [] = Unit {0}

@@ -1,8 +1,9 @@
 -- What is written where the lines that readers hold are answered.
-use Rattle.std.specs.Prelude.{◌≡◌, ℕ, Bool, true, List, Option, IfSome, length, All}
-use Rattle.std.specs.Io.KnownBytes.{Appends}
+use Rattle.std.specs.Prelude.{◌≡◌, ◌⊎◌, ℕ, ◌≤◌, Bool, true, List, ◌++◌, Option, Result, String, IfSome, IsOkAnd, length, All, string_bytes}
+use Rattle.std.specs.Io.KnownBytes.{Appends, Keeps}
+use Rattle.std.specs.declared.alloc.Global.{Global}
 use Rattle.std.specs.List.{concat, flat_map}
-use Rattle.replay_run.specs.Answer.{AreLines, AnswersLines, first_after}
+use Rattle.replay_run.specs.Answer.{AreFirstLines, AreLines, AnswersLine, AnswersLines, first_after}
 use Rattle.replay_run.specs.declared.lines.Form.{Form}
 
 -- the lines that were read of what a reader holds: all its lines, where it is known what it holds
@@ -28,3 +29,41 @@ pub record AnswersReaders (Reader : Type 0) (bytes : Reader → Option (List ℕ
   pub texts : List (List ℕ)
   pub answered : AnswersLines form true (flat_map (λ reader. reader.1) readers) texts
   pub written : Appends old new (concat texts)
+
+-- the first lines of what a reader holds, where it is known what it holds
+abbrev pub AreFirstRead : Option (List ℕ) → List (List ℕ) → Type 0
+AreFirstRead held lines = IfSome held (λ text. AreFirstLines text lines)
+
+-- to what a writer held a first part of this is added, and nothing else
+pub record AppendsFirst (old new : Option (List ℕ)) (whole : List ℕ) : Type 0 where
+  pub part : List ℕ
+  pub rest : List ℕ
+  pub split : whole ≡ part ++ rest
+  pub added : Appends old new part
+
+-- of the text that answers what was read as a line, nothing or a first part is added to what a writer held
+abbrev pub AnswersPart : {E : Type 0} → Form → Bool → Result (String Global) E → Option (List ℕ) → Option (List ℕ) → Type 0
+AnswersPart form is_first line old new =
+    Keeps old new ⊎ IsOkAnd line (λ line. (text : List ℕ) × AnswersLine form is_first (string_bytes line) text × AppendsFirst old new text)
+
+-- answering a reader stops: of the texts that answer its first lines, in order, a first part is added to what a writer held, and nothing
+-- else
+pub record StopsReader (form : Form) (is_first : Bool) (held old new : Option (List ℕ)) : Type 0 where
+  pub lines : List (List ℕ)
+  pub read : AreFirstRead held lines
+  pub texts : List (List ℕ)
+  pub answered : AnswersLines form is_first lines texts
+  pub written : AppendsFirst old new (concat texts)
+
+-- answering stops before a reader, or within it
+abbrev pub StopsAt : (Reader : Type 0) → (Reader → Option (List ℕ)) → Form → Bool → Option (List ℕ) → Option (List ℕ) → Type 0
+StopsAt Reader bytes form is_first old new =
+    Keeps old new ⊎ ((reader : Reader) × StopsReader form is_first (bytes reader) old new)
+
+-- answering this many readers stops: some are answered, and then it stops
+pub record StopsReaders (Reader : Type 0) (bytes : Reader → Option (List ℕ)) (form : Form) (count : ℕ) (old new : Option (List ℕ)) : Type 0 where
+  pub before : ℕ
+  pub within : before ≤ count
+  pub mid : Option (List ℕ)
+  pub answered : AnswersReaders Reader bytes form before old mid
+  pub stops : StopsAt Reader bytes form (first_after true (flat_map (λ reader. reader.1) answered.readers)) mid new

@@ -13,3 +13,4 @@ pub mod repeat;
 pub mod run;
 pub mod spans;
 pub mod trouble;
+mod write;

@@ -1,6 +1,6 @@
 //! Lines of cases, answered one after another. Nothing of a line is kept after it.
 
-ghost use Rattle.std.specs.Prelude.{◌≡◌, ℕ, List, [], ◌++◌, Some, OnOk, IfOk, IsOkAnd, if◌then◌else◌, string_bytes};
+ghost use Rattle.std.specs.Prelude.{◌≡◌, ℕ, List, [], ◌++◌, Some, OnErr, OnOk, IfOk, IsOkAnd, if◌then◌else◌, string_bytes};
 ghost use Rattle.std.specs.Io.KnownBytes.{Appends};
 ghost use Rattle.annotate_snippets.specs.Fits.{ReportFits};
 ghost use Rattle.serde_json.specs.Read.{read};
@@ -8,7 +8,7 @@ ghost use Rattle.serde_json.specs.View.{view};
 ghost use Rattle.serde_json.specs.Written.{compact_text};
 ghost use Rattle.replay_run.specs.Answer as spec;
 ghost use Rattle.replay_run.specs.Answer.{AnswersLine, answer_text, line_of, outcome_text};
-ghost use Rattle.replay_run.specs.Answered.{AnswersReader};
+ghost use Rattle.replay_run.specs.Answered.{AnswersPart, AnswersReader, StopsReader};
 ghost use Rattle.replay_run.specs.Outcome.{IsOutcomeOf};
 ghost use Rattle.replay_run.specs.Case.{IsCaseOf};
 ghost use Rattle.replay_run.specs.declared.outcome.Outcome.{Outcome};
@@ -17,6 +17,7 @@ use crate::case::Case;
 use crate::outcome::{Outcome, answer_of, outcome_of};
 use crate::read::case_of;
 use crate::trouble::{Line, Trouble};
+use crate::write::write_whole;
 use serde_json::Value;
 use std::alloc::{AllocError, Global};
 use std::io;
@@ -41,6 +42,7 @@ pub fn answer_lines<B: BufRead + Drop, W: Write>(
 ) -> Result<(), Trouble>
     ensures answers { OnOk result (AnswersReader form is_first.old is_first.new (B.remaining input)
         (W.contents out.old) (W.contents out.new)) }
+    ensures stops { OnErr result (StopsReader form is_first.old (B.remaining input) (W.contents out.old) (W.contents out.new)) }
 {
     let mut number = 0u64;
     for line in input.lines(alloc) {
@@ -64,11 +66,40 @@ fn answer_line<W: Write>(
     ensures answers { OnOk result (IsOkAnd line (λ line. (text : List ℕ)
         × AnswersLine form is_first (string_bytes line) text
         × Appends (W.contents out.old) (W.contents out.new) text)) }
+    ensures stops { OnErr result (AnswersPart form is_first line (W.contents out.old) (W.contents out.new)) }
+{
+    let text = text_for(alloc, line, number, form, is_first)?;
+    match write_whole(text.as_slice(), out) {
+        Ok(()) => Ok(()),
+        Err(error) => Err(Trouble::Write(error)),
+    }
+}
+
+/// What is to be written for the line of this number.
+fn text_for(
+    alloc: Global,
+    line: io::Result<String>,
+    number: u64,
+    form: Form,
+    is_first: bool,
+) -> Result<Vec<u8>, Trouble>
+    ensures answers { IfOk result (λ text. IsOkAnd line (λ line. AnswersLine form is_first (string_bytes line) text.items)) }
 {
     let value = value_of(alloc, Line::Case(number), line)?;
     let case = numbered_case(alloc, &value, number)?;
-    write_answer(alloc, &case, form, is_first, out)?;
-    Ok(())
+    let mut text = Vec::new(alloc);
+    match write_answer(alloc, &case, form, is_first, &mut text) {
+        Ok(()) => Ok(text),
+        Err(trouble) => Err(unkept(trouble)),
+    }
+}
+
+/// The trouble with a text that is kept in memory: a write that failed there was refused a growth.
+fn unkept(trouble: Trouble) -> Trouble {
+    match trouble {
+        Trouble::Write(_) => Trouble::Memory,
+        other => other,
+    }
 }
 
 /// The case that the line of this number describes.

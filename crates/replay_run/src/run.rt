@@ -1,9 +1,9 @@
 //! A run of the program: what its words ask for is done, and the status tells how it went.
 
-ghost use Rattle.std.specs.Prelude.{◌≡◌, ◌<◌, ◌≤◌, List, [], ◌∷◌, codes, length, IfOk, OnOk};
+ghost use Rattle.std.specs.Prelude.{◌≡◌, ◌<◌, ◌≤◌, List, [], ◌∷◌, codes, length, IfOk, OnErr, OnOk};
 ghost use Rattle.std.specs.Io.Buffered.{reader_inner, reader_remaining};
 ghost use Rattle.std.specs.Io.KnownBytes.{Appends};
-ghost use Rattle.replay_run.specs.Answered.{AnswersReader, AnswersReaders};
+ghost use Rattle.replay_run.specs.Answered.{AnswersReader, AnswersReaders, StopsAt, StopsReaders};
 ghost use Rattle.replay_run.specs.Compared.{EndsComparison, count_line};
 ghost use Rattle.replay_run.specs.Growth.{Grows};
 ghost use Rattle.replay_run.specs.Judged.{CountsLines};
@@ -82,6 +82,11 @@ pub fn run<R: Files + Input + Clock + AllocGlobal, W: Write, V: Write>(
         → AnswersReaders R.File R.File.remaining form (length files) (W.contents out.old) (W.contents out.new) }
     ensures answers_input { result ≡ 0 → (form : Form) → AsksAnswers (words_at words.now) form []
         → AnswersReaders R.Reader R.Reader.remaining form 1 (W.contents out.old) (W.contents out.new) }
+    ensures stops { result ≡ 2 → (form : Form) → (files : List Word) → AsksAnswers (words_at words.now) form files
+        → 0 < length files
+        → StopsReaders R.File R.File.remaining form (length files) (W.contents out.old) (W.contents out.new) }
+    ensures stops_input { result ≡ 2 → (form : Form) → AsksAnswers (words_at words.now) form []
+        → StopsReaders R.Reader R.Reader.remaining form 1 (W.contents out.old) (W.contents out.new) }
     ensures help { result ≡ 0 → words_at words.now ≡ codes "--help" ∷ []
         → Appends (W.contents out.old) (W.contents out.new) (line_of usage_text) }
 {
@@ -90,21 +95,48 @@ pub fn run<R: Files + Input + Clock + AllocGlobal, W: Write, V: Write>(
         tell(rt.alloc(), format_args!("replay: {misuse}\n{USAGE}"), err);
         return STOPPED;
     };
-    let stop = match do_command(rt, &command, out) {
+    match finish(rt, &command, out) {
+        Ok(status) => status,
+        Err(stop) => {
+            tell(rt.alloc(), &stop, err);
+            STOPPED
+        }
+    }
+}
+
+/// Does what the command asks for, and sees to it that all of it is written.
+fn finish<'a, R: Files + Input + Clock + AllocGlobal, W: Write>(
+    rt: &R,
+    command: &Command<'a>,
+    out: &mut W,
+) -> Result<u8, Stop<'a>>
+    ensures status { IfOk result (λ status. status ≤ 1) }
+    ensures differs { IfOk result (λ status. status ≡ 1 → IsComparison command.now) }
+    ensures compares { IfOk result (λ status. IfComparison command.now (λ files.
+        EndsComparison R.File R.File.remaining files (W.contents out.old) (W.contents out.new) status)) }
+    ensures answers { OnOk result (IfAnswers command.now (λ form files. 0 < files
+        → AnswersReaders R.File R.File.remaining form files (W.contents out.old) (W.contents out.new))) }
+    ensures answers_input { OnOk result (IfAnswers command.now (λ form files. files ≡ 0
+        → AnswersReaders R.Reader R.Reader.remaining form 1 (W.contents out.old) (W.contents out.new))) }
+    ensures stops { OnErr result (IfAnswers command.now (λ form files. 0 < files
+        → StopsReaders R.File R.File.remaining form files (W.contents out.old) (W.contents out.new))) }
+    ensures stops_input { OnErr result (IfAnswers command.now (λ form files. files ≡ 0
+        → StopsReaders R.Reader R.Reader.remaining form 1 (W.contents out.old) (W.contents out.new))) }
+    ensures help { OnOk result (command.now ≡ Help → Appends (W.contents out.old) (W.contents out.new) (line_of usage_text)) }
+{
+    match do_command(rt, command, out) {
         Ok(status) => match out.flush() {
-            Ok(()) => return status,
-            Err(error) => Stop {
+            Ok(()) => Ok(status),
+            Err(error) => Err(Stop {
                 file: OUTPUT,
                 trouble: Trouble::Write(error),
-            },
+            }),
         },
         Err(stop) => {
             let _ = out.flush();
-            stop
+            Err(stop)
         }
-    };
-    tell(rt.alloc(), &stop, err);
-    STOPPED
+    }
 }
 
 /// Writes a message, with nothing in it that could change how a terminal shows it.
@@ -139,6 +171,10 @@ fn do_command<'a, R: Files + Input + Clock + AllocGlobal, W: Write>(
         → AnswersReaders R.File R.File.remaining form files (W.contents out.old) (W.contents out.new))) }
     ensures answers_input { OnOk result (IfAnswers command.now (λ form files. files ≡ 0
         → AnswersReaders R.Reader R.Reader.remaining form 1 (W.contents out.old) (W.contents out.new))) }
+    ensures stops { OnErr result (IfAnswers command.now (λ form files. 0 < files
+        → StopsReaders R.File R.File.remaining form files (W.contents out.old) (W.contents out.new))) }
+    ensures stops_input { OnErr result (IfAnswers command.now (λ form files. files ≡ 0
+        → StopsReaders R.Reader R.Reader.remaining form 1 (W.contents out.old) (W.contents out.new))) }
     ensures help { OnOk result (command.now ≡ Help → Appends (W.contents out.old) (W.contents out.new) (line_of usage_text)) }
 {
     match *command {
@@ -167,13 +203,22 @@ fn answer<'a, R: Files + Input + AllocGlobal, W: Write>(
         → AnswersReaders R.File R.File.remaining form (length files.now) (W.contents out.old) (W.contents out.new)) }
     ensures answers_input { OnOk result (length files.now ≡ 0
         → AnswersReaders R.Reader R.Reader.remaining form 1 (W.contents out.old) (W.contents out.new)) }
+    ensures stops { OnErr result (0 < length files.now
+        → StopsReaders R.File R.File.remaining form (length files.now) (W.contents out.old) (W.contents out.new)) }
+    ensures stops_input { OnErr result (length files.now ≡ 0
+        → StopsReaders R.Reader R.Reader.remaining form 1 (W.contents out.old) (W.contents out.new)) }
 {
-    if files.is_empty() {
-        or_stop(INPUT, answer_input(rt, form, out))?;
-    } else {
+    if !files.is_empty() {
         answer_files(rt, form, files, out)?;
+        return Ok(DONE);
     }
-    Ok(DONE)
+    match answer_input(rt, form, out) {
+        Ok(()) => Ok(DONE),
+        Err(trouble) => Err(Stop {
+            file: INPUT,
+            trouble,
+        }),
+    }
 }
 
 /// Answers the cases of each file, one file after another.
@@ -185,10 +230,20 @@ fn answer_files<'a, R: Files + AllocGlobal, W: Write>(
 ) -> Result<(), Stop<'a>>
     ensures answers { OnOk result
         (AnswersReaders R.File R.File.remaining form (length files.now) (W.contents out.old) (W.contents out.new)) }
+    ensures stops { OnErr result
+        (StopsReaders R.File R.File.remaining form (length files.now) (W.contents out.old) (W.contents out.new)) }
 {
     let mut is_first = true;
     for file in files {
-        or_stop(file, answer_file(rt, form, file, &mut is_first, out))?;
+        match answer_file(rt, form, file, &mut is_first, out) {
+            Ok(()) => {}
+            Err(trouble) => {
+                return Err(Stop {
+                    file: *file,
+                    trouble,
+                });
+            }
+        }
     }
     Ok(())
 }
@@ -218,6 +273,8 @@ fn answer_input<R: Input + AllocGlobal, W: Write>(
 ) -> Result<(), Trouble>
     ensures answers { OnOk result
         (AnswersReaders R.Reader R.Reader.remaining form 1 (W.contents out.old) (W.contents out.new)) }
+    ensures stops { OnErr result
+        (StopsReaders R.Reader R.Reader.remaining form 1 (W.contents out.old) (W.contents out.new)) }
 {
     let input = opened_input(rt)?;
     let mut is_first = true;
@@ -234,6 +291,7 @@ fn answer_file<R: Files + AllocGlobal, W: Write>(
 ) -> Result<(), Trouble>
     ensures answers { OnOk result ((input : R.File) × AnswersReader form is_first.old is_first.new (R.File.remaining input)
         (W.contents out.old) (W.contents out.new)) }
+    ensures stops { OnErr result (StopsAt R.File R.File.remaining form is_first.old (W.contents out.old) (W.contents out.new)) }
 {
     let input = opened(rt, file)?;
     answer_lines(rt.alloc(), input, form, is_first, out)

@@ -1,26 +1,20 @@
-use Rattle.std.proofs.Common.{refl}
-use Rattle.serde_json.specs.View.{view}
-use Rattle.replay_run.specs.Answer.{answer_text}
+use Rattle.std.proofs.Common.{inl, inr, subst}
+use Rattle.std.proofs.KnownBytes.{Keeps-refl}
+use Rattle.std.specs.Io.KnownBytes.{Appends}
+use Rattle.replay_run.specs.Answered.{AppendsFirst}
+use Rattle.replay_run.proofs.AnsweredReaders.{anyway}
 use Rattle.replay_run.proofs.Judging.{ok_and}
 use Rattle.replay_run.proofs.lines.answer_line.Goals as goal
 
-pub returns : goal.returns
-returns g c =
-    let (outcome, became, written) = c.in_ok-write_answer.ensures.answer in
-    record {
-      answers = ok_and c.args.line (λ line reads. (
-        answer_text c.args.form c.args.is_first c.in_ok-case.case.id.now outcome,
-        record {
-          case = c.in_ok-case.case;
-          outcome = outcome;
-          became = record {
-            described = view c.in_ok-value.value;
-            reads = reads;
-            case_is = c.in_ok-case.ensures.value;
-            became = became;
-          };
-          text_is = refl;
-        },
-        written,
-      )) c.in_ok-value.ensures.value;
-    }
+pub returns-in_err-text-clause-stops : goal.returns-in_err-text-clause-stops
+returns-in_err-text-clause-stops g c = anyway c.from_residual.result (inl (Keeps-refl _))
+
+pub returns-in-Ok-clause-answers : goal.returns-in-Ok-clause-answers
+returns-in-Ok-clause-answers g c =
+    let written = subst (Appends (g.W.Write.contents c.args.out.now) (g.W.Write.contents c.write_whole.new.out)) c.as_slice.ensures.value c.in-Ok.ensures.whole in
+    ok_and c.args.line (λ line answers. (c.in_ok-text.text.items, answers, written)) c.in_ok-text.ensures.answers
+
+pub returns-clause-stops : goal.returns-clause-stops
+returns-clause-stops g c =
+    let written = subst (AppendsFirst (g.W.Write.contents c.args.out.now) (g.W.Write.contents c.write_whole.new.out)) c.as_slice.ensures.value c.in-Err.ensures.part in
+    inr (ok_and c.args.line (λ line answers. (c.in_ok-text.text.items, answers, written)) c.in_ok-text.ensures.answers)

@@ -1,6 +1,6 @@
 use Rattle.std.proofs.Common.{◌≡◌, arith, length, subst}
 use Rattle.replay_run.specs.Answered.{AnswersReaders}
-use Rattle.replay_run.proofs.AnsweredReaders.{readers_more, readers_none}
+use Rattle.replay_run.proofs.AnsweredReaders.{readers_more, readers_none, readers_stop}
 use Rattle.replay_run.proofs.run.answer_files.Goals as goal
 
 pub loop-file-init : goal.loop-file-init
@@ -8,10 +8,14 @@ loop-file-init g c = readers_none g.R.File.Read.remaining c.args.form _
 
 pub loop-file-preserved : goal.loop-file-preserved
 loop-file-preserved g c =
-    let (input, answered) = rw c.in_ok-or_stop.ensures.done at c.answer_file.ensures.answers in
+    let (input, answered) = c.in-Ok.ensures.answers in
     readers_more g.R.File.Read.remaining c.args.form c.loop-file.file-index c.loop-file.is_first c.answer_file.new.is_first _ _ _ input c.loop-file.invariant answered
 
-pub returns : goal.returns
-returns g c =
+pub returns-in-Err-clause-stops : goal.returns-in-Err-clause-stops
+returns-in-Err-clause-stops g c =
+    readers_stop g.R.File.Read.remaining c.args.form c.loop-file.file-index (length c.args.files.now) _ _ _ _ (omega (arith, c.loop-file-test.true)) c.loop-file.invariant c.in-Err.ensures.stops
+
+pub returns-clause-answers : goal.returns-clause-answers
+returns-clause-answers g c =
     let all : c.loop-file.file-index ≡ length c.args.files.now = omega arith in
-    record { answers = subst (λ n. AnswersReaders g.row.R-File.Denot g.R.File.Read.remaining c.args.form n (g.W.Write.contents c.args.out.now) (g.W.Write.contents c.loop-file.out)) all c.loop-file.invariant.all }
+    subst (λ n. AnswersReaders g.row.R-File.Denot g.R.File.Read.remaining c.args.form n (g.W.Write.contents c.args.out.now) (g.W.Write.contents c.loop-file.out)) all c.loop-file.invariant.all

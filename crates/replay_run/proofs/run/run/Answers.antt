@@ -1,34 +1,49 @@
 use Rattle.std.proofs.Common.{◌≡◌, ◌<◌, List, [], length, refl, subst}
-use Rattle.replay_run.specs.Answered.{AnswersReaders}
+use Rattle.replay_run.specs.Answered.{AnswersReaders, StopsReaders}
 use Rattle.replay_run.specs.Compared.{EndsComparison}
 use Rattle.replay_run.specs.Words.{Word, Asks, words_at}
-use Rattle.replay_run.proofs.AnsweredReaders.{readers_kept}
+use Rattle.replay_run.proofs.AnsweredReaders.{none_stop}
 use Rattle.replay_run.proofs.Commands.{asks_help, files_answered, files_compared}
-use Rattle.replay_run.proofs.Growing.{appends_kept}
-use Rattle.replay_run.proofs.Ending.{ends_kept}
 use Rattle.replay_run.proofs.run.run.Goals as goal
 
-pub returns-in-Ok-flush-clause-compares : goal.returns-in-Ok-flush-clause-compares
-returns-in-Ok-flush-clause-compares g c = λ within files is.
+pub returns-in-Ok-clause-compares : goal.returns-in-Ok-clause-compares
+returns-in-Ok-clause-compares g c = λ within files is.
     let asks = subst (λ (ws : List Word). Asks ws c.in-Some.command) is c.in-Some.ensures.command in
-    let ends = files_compared files c.in-Some.command (λ n. EndsComparison g.row.R-File.Denot g.R.File.Read.remaining n (g.W.Write.contents c.args.out.now) (g.W.Write.contents c.do_command.new.out) c.in-Ok.status) asks c.in-Ok.ensures.compares in
-    ends_kept g.R.File.Read.remaining (length files) _ _ _ c.in-Ok.status ends c.in-Ok-flush.ensures.bytes
+    files_compared files c.in-Some.command (λ n. EndsComparison g.row.R-File.Denot g.R.File.Read.remaining n (g.W.Write.contents c.args.out.now) (g.W.Write.contents c.finish.new.out) c.in-Ok.status) asks c.in-Ok.ensures.compares
 
-pub returns-in-Ok-flush-clause-answers : goal.returns-in-Ok-flush-clause-answers
-returns-in-Ok-flush-clause-answers g c = λ done form files asks some.
-    let told = files_answered (words_at c.args.words.now)
+pub returns-in-Ok-clause-answers : goal.returns-in-Ok-clause-answers
+returns-in-Ok-clause-answers g c = λ done form files asks some.
+    files_answered (words_at c.args.words.now)
     c.in-Some.command (λ f n. 0 < n → AnswersReaders g.row.R-File.Denot g.R.File.Read.remaining f n (g.W.Write.contents c.args.out.now)
-    (g.W.Write.contents c.do_command.new.out)) form files c.in-Some.ensures.command asks c.in-Ok.ensures.answers in
-    readers_kept g.R.File.Read.remaining form (length files) _ _ _ (told some) c.in-Ok-flush.ensures.bytes
+    (g.W.Write.contents c.finish.new.out)) form files c.in-Some.ensures.command asks c.in-Ok.ensures.answers some
 
-pub returns-in-Ok-flush-clause-answers_input : goal.returns-in-Ok-flush-clause-answers_input
-returns-in-Ok-flush-clause-answers_input g c = λ done form asks.
-    let told = files_answered (words_at c.args.words.now)
+pub returns-in-Ok-clause-answers_input : goal.returns-in-Ok-clause-answers_input
+returns-in-Ok-clause-answers_input g c = λ done form asks.
+    files_answered (words_at c.args.words.now)
     c.in-Some.command (λ f n. n ≡ 0 → AnswersReaders g.row.R-Reader.Denot g.R.Reader.Read.remaining f 1 (g.W.Write.contents c.args.out.now)
-    (g.W.Write.contents c.do_command.new.out)) form [] c.in-Some.ensures.command asks c.in-Ok.ensures.answers_input in
-    readers_kept g.R.Reader.Read.remaining form 1 _ _ _ (told refl) c.in-Ok-flush.ensures.bytes
+    (g.W.Write.contents c.finish.new.out)) form [] c.in-Some.ensures.command asks c.in-Ok.ensures.answers_input refl
 
-pub returns-in-Ok-flush-clause-help : goal.returns-in-Ok-flush-clause-help
-returns-in-Ok-flush-clause-help g c = λ done is.
+pub returns-in-Ok-clause-help : goal.returns-in-Ok-clause-help
+returns-in-Ok-clause-help g c = λ done is.
     let asks = subst (λ (ws : List Word). Asks ws c.in-Some.command) is c.in-Some.ensures.command in
-    appends_kept _ _ _ _ (c.in-Ok.ensures.help (asks_help [] c.in-Some.command asks).1) c.in-Ok-flush.ensures.bytes
+    c.in-Ok.ensures.help (asks_help [] c.in-Some.command asks).1
+
+pub returns-in-Err-clause-stops : goal.returns-in-Err-clause-stops
+returns-in-Err-clause-stops g c = λ stopped form files asks some.
+    files_answered (words_at c.args.words.now)
+    c.in-Some.command (λ f n. 0 < n → StopsReaders g.row.R-File.Denot g.R.File.Read.remaining f n (g.W.Write.contents c.args.out.now)
+    (g.W.Write.contents c.finish.new.out)) form files c.in-Some.ensures.command asks c.in-Err.ensures.stops some
+
+pub returns-in-Err-clause-stops_input : goal.returns-in-Err-clause-stops_input
+returns-in-Err-clause-stops_input g c = λ stopped form asks.
+    files_answered (words_at c.args.words.now)
+    c.in-Some.command (λ f n. n ≡ 0 → StopsReaders g.row.R-Reader.Denot g.R.Reader.Read.remaining f 1 (g.W.Write.contents c.args.out.now)
+    (g.W.Write.contents c.finish.new.out)) form [] c.in-Some.ensures.command asks c.in-Err.ensures.stops_input refl
+
+pub returns-in_default-clause-stops : goal.returns-in_default-clause-stops
+returns-in_default-clause-stops g c = λ stopped form files asks some.
+    none_stop g.R.File.Read.remaining form (length files) _
+
+pub returns-in_default-clause-stops_input : goal.returns-in_default-clause-stops_input
+returns-in_default-clause-stops_input g c = λ stopped form asks.
+    none_stop g.R.Reader.Read.remaining form 1 _
