@@ -1,6 +1,6 @@
 -- What stands in no head of a report: rows of titles, messages and paths that are wrong, each on a small report, contradict the definitions
 -- of what rows show.
-use Rattle.std.proofs.Common.{◌≡◌, ℕ, ◌+◌, false, None, Some, List, [], ◌∷◌, ◌++◌, codes, drop, length, sym, ap, ◌∙◌, arith}
+use Rattle.std.proofs.Common.{◌≡◌, ℕ, false, None, Some, List, [], ◌∷◌, ◌++◌, codes, drop, length, sym, ap, ◌∙◌, arith}
 use Rattle.std.specs.Cow.{cow_str_bytes}
 use Rattle.std.specs.List.{slice_index_or}
 use Rattle.std.specs.Str.{chars}
