@@ -19,7 +19,7 @@ use redraw_command::tell::tell;
 use redraw_command::workflow::command_of;
 use redraw_read::place::load_files;
 use redraw_read::sources::{Shelf, Sources};
-use redraw_report::diagnostic::{Diagnostic, Severity};
+use redraw_report::diagnostic::{Diagnostic, FileSpan, Severity};
 use serde_json::Value;
 use std::alloc::{AllocError, Global};
 use std::fmt;
@@ -241,13 +241,19 @@ impl<S: Shelf + Drop> Drawing<'_, S> {
         ensures counted { OnOk result (IsCounted diagnostic.now self.old.tally self.new.tally) }
         ensures kept { (self.new.renderer ≡ self.old.renderer) × (self.new.choice ≡ self.old.choice) }
     {
-        for span in &diagnostic.spans {
-            if span.is_primary {
-                self.files.add(span.file.as_str())?;
-            }
-        }
+        add_files(&mut self.files, &diagnostic.spans)?;
         self.tally = self.tally.with(diagnostic.severity, is_sum(diagnostic));
         self.tally.files = self.files.len();
         Ok(())
     }
+}
+
+/// Adds the files that the primary ones of these places are in.
+fn add_files(files: &mut Names, spans: &[FileSpan]) -> Result<(), AllocError> {
+    for span in spans {
+        if span.is_primary {
+            files.add(span.file.as_str())?;
+        }
+    }
+    Ok(())
 }
