@@ -5,7 +5,7 @@ use Rattle.redraw_run.specs.Drawn.{ShowsFinding}
 use Rattle.redraw_run.proofs.text.drawn_of.Goals as goal
 
 pub returns : goal.returns
-returns c =
+returns g c =
     let r = c.args.renderer.now in
     record {
       shows =
