@@ -2,8 +2,20 @@
 //! these.
 #![tactic(auto)]
 
+mod calls;
+pub mod cargo;
+mod columns;
+mod edits;
 pub mod expansion;
+pub mod hand;
+mod headings;
 pub mod json;
+mod offers;
 pub mod place;
+mod plain;
+pub mod rendered;
+mod roles;
 pub mod rustc;
 pub mod sources;
+mod spans;
+pub mod spot;

@@ -41,6 +41,18 @@ line_length (b ∷ bs) = if ends_line (b ∷ bs) then 0 else suc (line_length bs
 abbrev pub first_line : List ℕ → List ℕ
 first_line bytes = take (line_length bytes) bytes
 
+-- whether some bytes are a line's end and nothing else
+abbrev pub is_line_end : List ℕ → Bool
+is_line_end [] = false
+is_line_end (b ∷ []) = b == 10
+is_line_end (b ∷ c ∷ []) = b == 13 && c == 10
+is_line_end (b ∷ c ∷ d ∷ bs) = false
+
+-- the bytes in which columns of the first line of some bytes count: the line, and of the last line of a text its end too, so that a
+-- column may be the one after it
+abbrev pub counted_line : List ℕ → List ℕ
+counted_line bytes = if is_line_end (drop (line_length bytes) bytes) then bytes else first_line bytes
+
 -- how many units a character counts, told at its first byte; its other bytes, 128 to 191, count none. One that is written with four
 -- bytes in UTF-8 is two units of UTF-16
 abbrev pub units_at : unit_type.Unit → ℕ → ℕ
@@ -67,7 +79,7 @@ moved bytes p = record { byte = bytes + p.byte; exact = p.exact }
 -- the place of a column in the line that starts at this byte of a text, or where no column is given of the end of the line's text
 abbrev pub column_from : unit_type.Unit → List ℕ → Option ℕ → ℕ → Place
 column_from unit text None start = record { byte = start + line_length (drop start text); exact = true }
-column_from unit text (Some column) start = moved start (column_in unit (first_line (drop start text)) column)
+column_from unit text (Some column) start = moved start (column_in unit (counted_line (drop start text)) column)
 
 -- the place of a column in the line of a number: of a text of which the first line has a number, and its lines start at these bytes.
 -- Before the first line it is the text's start, and after the last its end, and isn't exact

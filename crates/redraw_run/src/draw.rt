@@ -115,9 +115,19 @@ impl<S: Shelf + Drop, W: Write, V: Write> Drawing<'_, '_, S, W, V> {
     /// Draws the finding that a diagnostic reports.
     pub fn draw(&mut self, diagnostic: &Diagnostic) -> Result<(), Stop> {
         load_files(&mut self.sources, diagnostic)?;
+        self.tell_unread();
         let drawn = drawn_of(self.alloc, &self.renderer, &self.sources, diagnostic)?;
         self.tell_inexact(drawn.clamped, drawn.undrawn);
         self.print_drawn(drawn.text, diagnostic.severity)
+    }
+
+    /// Tells which files couldn't be read, each once.
+    fn tell_unread(&mut self) {
+        for name in self.sources.take_unread() {
+            self.tell(format_args!(
+                "can't read {name}: --root names the folder that paths begin in"
+            ));
+        }
     }
 
     /// Tells how many places aren't in their source, and how many edits aren't drawn.
@@ -129,7 +139,7 @@ impl<S: Shelf + Drop, W: Write, V: Write> Drawing<'_, '_, S, W, V> {
         }
         if undrawn > 0 {
             self.tell(format_args!(
-                "edits that aren't drawn, since nothing of their file is at hand: {undrawn}"
+                "edits that aren't drawn, since too little is at hand of their files: {undrawn}"
             ));
         }
     }
@@ -211,13 +221,13 @@ fn drawn_of<S: Shelf + Drop>(
     sources: &Sources<S>,
     diagnostic: &Diagnostic,
 ) -> Result<Drawn, AllocError> {
-    let mut placing = Placing::new(alloc);
+    let mut placing = Placing::new(alloc, renderer.short_message);
     let finding = placing.finding(sources, diagnostic)?;
-    let groups = report(alloc, &placing.shown, &finding)?;
+    let groups = report(alloc, placing.shown(), &finding)?;
     Ok(Drawn {
         text: render_fitting(alloc, renderer, &groups),
-        clamped: placing.clamped,
-        undrawn: placing.undrawn,
+        clamped: placing.clamped(),
+        undrawn: placing.undrawn(),
     })
 }
 

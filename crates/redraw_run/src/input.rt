@@ -3,6 +3,7 @@
 use crate::draw::Drawing;
 use crate::sarif::draw_runs;
 use crate::stop::Stop;
+use redraw_read::cargo::packaged_diagnostic_of;
 use redraw_read::json::listed;
 use redraw_read::rustc::diagnostic_of;
 use redraw_read::sources::Shelf;
@@ -182,7 +183,7 @@ impl Reading {
         };
         match kind {
             Kind::Rustc => drawing.finding(diagnostic_of(&node)),
-            Kind::Cargo => cargo_message(&node, drawing),
+            Kind::Cargo => drawing.finding(packaged_diagnostic_of(&node)),
             Kind::Other => {
                 drawing.other();
                 Ok(())
@@ -202,17 +203,6 @@ fn add_line(document: &mut String, line: &str) -> Result<(), Stop> {
 /// A first line without the mark of the order of bytes, which some tools write.
 fn without_mark(line: &str) -> &str {
     line.strip_prefix('\u{feff}').unwrap_or(line)
-}
-
-/// Takes cargo's message, which has a diagnostic of rustc in it.
-fn cargo_message<S: Shelf + Drop, W: Write, V: Write>(
-    node: &Node<'_, '_>,
-    drawing: &mut Drawing<'_, '_, S, W, V>,
-) -> Result<(), Stop> {
-    match node.needed("message", Expectation::Object) {
-        Ok(message) => drawing.finding(diagnostic_of(&message)),
-        Err(fault) => drawing.finding(Err(fault)),
-    }
 }
 
 /// Takes a SARIF log. One whose runs are no list is told and left out.

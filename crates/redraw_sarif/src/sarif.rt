@@ -82,6 +82,7 @@ fn diagnostic_of(
         code,
         spans,
         children,
+        homes: Vec::new(context.alloc),
     })
 }
 

@@ -1,0 +1,207 @@
+//! The suggestions that alternatives become: the edits of one are made together, in one source, or it isn't drawn.
+
+ghost use Rattle.std.specs.Prelude.{◌≡◌, [], ◌∷◌, IfOk, IfSome, map, string_bytes, true};
+ghost use Rattle.std.specs.Option.{option_map};
+ghost use Rattle.redraw_report.specs.Report.{edited_of};
+ghost use Rattle.redraw_read.specs.Placed as spec;
+ghost use Rattle.redraw_read.specs.Placed.{AreOffersOf, AreSpotsOf, Grows, IsAttributeOffer, IsOfferOf, Lasting, edits_at, offered_view};
+
+use crate::hand::Hand;
+use crate::spot::{Scene, Spot, index_of};
+use redraw_report::diagnostic::{Edit, Region};
+use redraw_report::finding::{Change, Content, Offer, Shown};
+use std::alloc::{AllocError, Global};
+
+/// The offers of some alternatives.
+pub fn offers_of<'a>(
+    scene: &mut Scene<'a>,
+    hand: Hand<'a>,
+    alternatives: &'a [Vec<Edit>],
+) -> Result<Vec<Offer<'a>>, AllocError>
+    ensures found { IfOk result (λ offers. Lasting scene.old.shown.items scene.new.shown.items
+        (AreOffersOf hand.entry alternatives.entry.now offers.items)) }
+{
+    let mut offers = Vec::new(scene.alloc);
+    for edits in alternatives {
+        if let Some(offer) = offer_of(scene, hand, edits)? {
+            offers.push(offer)?;
+        }
+    }
+    Ok(offers)
+}
+
+/// The offer of an alternative's edits, if they are in one source. One that isn't drawn is counted.
+fn offer_of<'a>(
+    scene: &mut Scene<'a>,
+    hand: Hand<'a>,
+    edits: &'a [Edit],
+) -> Result<Option<Offer<'a>>, AllocError>
+    ensures found { IfOk result (λ offer. Lasting scene.old.shown.items scene.new.shown.items
+        (λ shown. IsOfferOf hand.entry shown edits.entry.now offer)) }
+{
+    let spots = spots_of(scene, hand, edits)?;
+    let offer = match attribute_of(scene, &spots, edits)? {
+        Some(offer) => Some(offer),
+        None => offer_at(scene.alloc, &spots, edits)?,
+    };
+    scene.count_undrawn(offer.is_none());
+    Ok(offer)
+}
+
+/// Where some edits are.
+fn spots_of<'a>(
+    scene: &mut Scene<'a>,
+    hand: Hand<'a>,
+    edits: &'a [Edit],
+) -> Result<Vec<Spot>, AllocError>
+    ensures found { IfOk result (λ spots. Lasting scene.old.shown.items scene.new.shown.items
+        (AreSpotsOf hand.entry edits.entry.now spots.items)) }
+{
+    let mut spots = Vec::new(scene.alloc);
+    for edit in edits {
+        spots.push(scene.spot(hand, edit.file.as_str(), edit.region, &edit.carried)?)?;
+    }
+    Ok(spots)
+}
+
+/// The offer of edits at these places, if the places are in one source, of which lines are at hand.
+fn offer_at<'a>(
+    alloc: Global,
+    spots: &[Spot],
+    edits: &'a [Edit],
+) -> Result<Option<Offer<'a>>, AllocError>
+    ensures value { IfOk result (λ offer. option_map offered_view offer ≡ spec.offer_at spots.now edits.entry.now) }
+{
+    match one_source(spots) {
+        Some(source) => Ok(Some(Offer {
+            source,
+            changes: changes_at(alloc, spots, edits)?,
+            is_folded: true,
+        })),
+        None => Ok(None),
+    }
+}
+
+/// The source that all of these places are in, if there is one and it has lines of a file.
+fn one_source(spots: &[Spot]) -> Option<usize>
+    ensures value { result ≡ spec.one_source spots.now }
+{
+    match spots {
+        [first, ..]
+            if spots
+                .iter()
+                .all(|s| s.is_at_hand && s.source == first.source) => { Some(first.source) }
+        _ => None,
+    }
+}
+
+/// The changes of edits at these places.
+fn changes_at<'a>(
+    alloc: Global,
+    spots: &[Spot],
+    edits: &'a [Edit],
+) -> Result<Vec<Change<'a>>, AllocError>
+    ensures value { IfOk result (λ changes. map edited_of changes.items ≡ edits_at spots.now edits.entry.now) }
+{
+    let mut changes = Vec::new(alloc);
+    for (spot, edit) in spots.iter().zip(edits) {
+        changes.push(Change {
+            start: spot.start,
+            end: spot.end,
+            text: edit.replacement.as_str(),
+        })?;
+    }
+    Ok(changes)
+}
+
+/// Whether a text is an attribute of Rust and a line end: rustc puts it above a line, and shows it with that line.
+pub fn is_attribute(text: &str) -> bool
+    ensures value { result ≡ spec.is_attribute text.now }
+{
+    text.starts_with("#[") && text.trim_end().ends_with("]") && text.ends_with("\n")
+}
+
+/// The offer of an attribute, if this is one and lines are at hand where it is to stand.
+fn attribute_of<'a>(
+    scene: &mut Scene<'a>,
+    spots: &[Spot],
+    edits: &'a [Edit],
+) -> Result<Option<Offer<'a>>, AllocError>
+    ensures found { IfOk result (λ offer. Grows scene.old.shown.items scene.new.shown.items
+        × IfSome offer (IsAttributeOffer edits.entry.now)) }
+{
+    match (spots, edits) {
+        ([spot], [edit]) if spot.is_at_hand && is_attribute(edit.replacement.as_str()) => {
+            attribute_at(scene, *spot, edit)
+        }
+        _ => Ok(None),
+    }
+}
+
+/// The offer of an attribute, which is shown with the line that it stands above.
+fn attribute_at<'a>(
+    scene: &mut Scene<'a>,
+    spot: Spot,
+    edit: &'a Edit,
+) -> Result<Option<Offer<'a>>, AllocError>
+    requires { spec.is_attribute (string_bytes edit.now.replacement) ≡ true }
+    ensures found { IfOk result (λ offer. Grows scene.old.shown.items scene.new.shown.items
+        × IfSome offer (IsAttributeOffer (edit.entry.now ∷ []))) }
+{
+    let Some((start, line)) = line_at(scene, spot, edit.region) else {
+        return Ok(None);
+    };
+    let at = spot.start.saturating_sub(start);
+    let source = index_of(&mut scene.shown, line)?;
+    let mut changes = Vec::new(scene.alloc);
+    changes.push(Change {
+        start: at,
+        end: at,
+        text: edit.replacement.as_str(),
+    })?;
+    Ok(Some(Offer {
+        source,
+        changes,
+        is_folded: false,
+    }))
+}
+
+/// The line around a place as a source of its own, and the byte where it starts.
+fn line_at<'a>(scene: &Scene<'a>, spot: Spot, region: Region) -> Option<(usize, Shown<'a>)> {
+    let Region::Lines(region) = region else {
+        return None;
+    };
+    let shown = scene.shown.get(spot.source)?;
+    let (start, text) = line_around(shown, spot.start)?;
+    let content = Content::Lines {
+        text,
+        first_line: region.start_line,
+    };
+    let path = shown.path;
+    Some((start, Shown { path, content }))
+}
+
+/// The line of a source around a byte, and the byte where it starts.
+fn line_around<'a>(shown: &Shown<'a>, at: usize) -> Option<(usize, &'a str)> {
+    let Content::Lines { text, .. } = shown.content else {
+        return None;
+    };
+    let start = last_start(text.get(..at)?);
+    Some((start, first_line(text.get(start..)?)))
+}
+
+/// The byte of a text where its last line starts.
+fn last_start(text: &str) -> usize {
+    match text.rfind('\n') {
+        Some(feed) => feed + 1,
+        None => 0,
+    }
+}
+
+/// The first line of a text, without the line feed.
+fn first_line(text: &str) -> &str {
+    match text.split_once('\n') {
+        Some((line, _)) => line,
+        None => text,
+    }
+}

@@ -1,0 +1,251 @@
+//! Where the places that a tool names are, in the sources that are shown.
+
+ghost use Rattle.std.specs.Prelude.{◌≡◌, IfOk, string_bytes, position};
+ghost use Rattle.redraw_read.specs.Placed as spec;
+ghost use Rattle.redraw_read.specs.Placed.{Grows, IsSpot, Lasting, Lines, is_source, same_sight, sight_in, sight_of};
+ghost use Rattle.redraw_report.specs.Region.{line_starts as starts_of};
+
+use crate::hand::{Extract, Hand, lines_for};
+use crate::sources::Source;
+use redraw_report::diagnostic::{Carried, Region};
+use redraw_report::finding::{Content, Shown};
+use redraw_report::lines::line_starts;
+use redraw_report::locate::{Located, Lookup, locate};
+use std::alloc::{AllocError, Global};
+
+/// A source and a part of it.
+#[derive(Clone, Copy)]
+pub struct Spot {
+    /// The source, by its index.
+    pub source: usize,
+    pub start: usize,
+    pub end: usize,
+    /// Whether the source has lines of the file.
+    pub is_at_hand: bool,
+}
+
+/// The sources that a finding is shown in, and what was found wrong with its places on the way.
+#[derive(Drop)]
+pub struct Scene<'a> {
+    pub alloc: Global,
+    /// The sources so far.
+    pub shown: Vec<Shown<'a>>,
+    /// How many places aren't in their sources as they were given.
+    pub clamped: u64,
+    /// How many alternatives aren't drawn, since too little is at hand of what they change.
+    pub undrawn: u64,
+}
+
+impl<'a> Scene<'a> {
+    /// Where a part of a file is: in the file, in the lines that the input has of it, or nowhere.
+    pub fn spot(
+        &mut self,
+        hand: Hand<'a>,
+        file: &'a str,
+        region: Region,
+        carried: &'a Option<Carried>,
+    ) -> Result<Spot, AllocError>
+        ensures placed { IfOk result (λ spot. Lasting self.old.shown.items self.new.shown.items
+            (λ shown. IsSpot shown file.entry.now (sight_in hand.entry file.entry.now region carried.entry.now) region spot)) }
+    {
+        match lines_for(hand, file, carried) {
+            Some(Extract::Whole(source)) => self.spot_in_file(file, source, region),
+            Some(Extract::Part(lines)) => self.spot_in_lines(file, lines, region),
+            None => self.spot_nowhere(hand.is_short, file, region),
+        }
+    }
+
+    /// Where a region of a file is.
+    fn spot_in_file(
+        &mut self,
+        path: &'a str,
+        source: &'a Source,
+        region: Region,
+    ) -> Result<Spot, AllocError>
+        ensures placed { IfOk result (λ spot. Lasting self.old.shown.items self.new.shown.items
+            (λ shown. IsSpot shown path.entry.now (Lines (string_bytes source.entry.now.text) 1) region spot)) }
+    {
+        self.spot_in_text(path, source.text.as_str(), &source.starts, 1, region)
+    }
+
+    /// Where a region is in lines that the input has.
+    fn spot_in_lines(
+        &mut self,
+        path: &'a str,
+        lines: &'a Carried,
+        region: Region,
+    ) -> Result<Spot, AllocError>
+        ensures placed { IfOk result (λ spot. Lasting self.old.shown.items self.new.shown.items
+            (λ shown. IsSpot shown path.entry.now (Lines (string_bytes lines.entry.now.text) lines.entry.now.first_line) region spot)) }
+    {
+        let text = lines.text.as_str();
+        let starts = line_starts(self.alloc, text)?;
+        self.spot_in_text(path, text, &starts, lines.first_line, region)
+    }
+
+    /// Where a region is in this text, whose lines start at these bytes and the first of them has this number.
+    fn spot_in_text(
+        &mut self,
+        path: &'a str,
+        text: &'a str,
+        starts: &[usize],
+        first_line: usize,
+        region: Region,
+    ) -> Result<Spot, AllocError>
+        requires { starts.now ≡ starts_of text.now }
+        ensures placed { IfOk result (λ spot. Lasting self.old.shown.items self.new.shown.items
+            (λ shown. IsSpot shown path.entry.now (Lines text.entry.now first_line) region spot)) }
+    {
+        let lookup = Lookup {
+            text,
+            starts,
+            first_line,
+        };
+        let located = locate(lookup, region);
+        let content = Content::Lines { text, first_line };
+        let source = index_of(&mut self.shown, Shown { path, content })?;
+        self.count_clamped(located);
+        Ok(Spot {
+            source,
+            start: located.start,
+            end: located.end,
+            is_at_hand: true,
+        })
+    }
+
+    /// Counts an alternative that isn't drawn.
+    pub fn count_undrawn(&mut self, is_undrawn: bool)
+        ensures kept { self.new.shown ≡ self.old.shown }
+    {
+        if is_undrawn {
+            self.undrawn = self.undrawn.saturating_add(1);
+        }
+    }
+
+    /// Counts a place that isn't in its source as it was given.
+    fn count_clamped(&mut self, located: Located)
+        ensures kept { self.new.shown ≡ self.old.shown }
+    {
+        if located.clamped {
+            self.clamped = self.clamped.saturating_add(1);
+        }
+    }
+
+    /// The place of a region of which nothing is at hand.
+    fn spot_nowhere(
+        &mut self,
+        is_short: bool,
+        path: &'a str,
+        region: Region,
+    ) -> Result<Spot, AllocError>
+        ensures placed { IfOk result (λ spot. Lasting self.old.shown.items self.new.shown.items
+            (λ shown. IsSpot shown path.entry.now (spec.unseen is_short (spec.line_of region) (spec.column_of region)) region spot)) }
+    {
+        let content = unseen(is_short, line_of(region), column_of(region));
+        let source = index_of(&mut self.shown, Shown { path, content })?;
+        let at = blank_length(content);
+        Ok(Spot {
+            source,
+            start: at,
+            end: at,
+            is_at_hand: false,
+        })
+    }
+}
+
+/// The line on which a region starts, where it has one.
+fn line_of(region: Region) -> Option<usize>
+    ensures value { result ≡ spec.line_of region }
+{
+    match region {
+        Region::Lines(lines) => Some(lines.start_line),
+        _ => None,
+    }
+}
+
+/// The column at which a region starts, where it has one.
+fn column_of(region: Region) -> Option<usize>
+    ensures value { result ≡ spec.column_of region }
+{
+    match region {
+        Region::Lines(lines) => lines.start_column,
+        _ => None,
+    }
+}
+
+/// The most columns that a place is shown at after blanks.
+const MOST_COLUMNS: usize = 65_536;
+
+/// What is shown of a line and a column of which nothing is at hand.
+fn unseen<'a>(is_short: bool, line: Option<usize>, column: Option<usize>) -> Content<'a>
+    ensures value { sight_of result ≡ spec.unseen is_short line column }
+{
+    match (is_short, line, column) {
+        (true, Some(line), Some(column)) if column >= 1 && column <= MOST_COLUMNS => {
+            Content::Blank { line, column }
+        }
+        _ => Content::Nothing { line, column },
+    }
+}
+
+/// The byte at which a place is shown of which nothing is at hand.
+fn blank_length(content: Content<'_>) -> usize
+    ensures value { result ≡ spec.blanks_in (sight_of content.entry) }
+{
+    match content {
+        Content::Blank { column, .. } => column.saturating_sub(1),
+        _ => 0,
+    }
+}
+
+/// The index of a source; it is added where it isn't there yet.
+pub fn index_of<'a>(shown: &mut Vec<Shown<'a>>, source: Shown<'a>) -> Result<usize, AllocError>
+    ensures found { IfOk result (λ i. position (is_source source.entry.path.now (sight_of source.entry.content)) shown.new.items ≡ Some i) }
+    ensures grows { IfOk result (λ i. Grows shown.old.items shown.new.items) }
+{
+    match shown.iter().position(|known| is_same(known, &source)) {
+        Some(index) => Ok(index),
+        None => {
+            let index = shown.len();
+            shown.push(source)?;
+            Ok(index)
+        }
+    }
+}
+
+/// Whether a source is of the same path as another, and shows the same.
+fn is_same(known: &Shown<'_>, other: &Shown<'_>) -> bool
+    ensures value { result ≡ is_source other.now.path.now (sight_of other.now.content) known.now }
+{
+    known.path == other.path && holds_same(known.content, other.content)
+}
+
+/// Whether the same is shown of two files.
+fn holds_same(known: Content<'_>, other: Content<'_>) -> bool
+    ensures value { result ≡ same_sight (sight_of known.entry) (sight_of other.entry) }
+{
+    match (known, other) {
+        (
+            Content::Lines { text, first_line },
+            Content::Lines {
+                text: other_text,
+                first_line: other_line,
+            },
+        ) => first_line == other_line && text == other_text,
+        (
+            Content::Nothing { line, column },
+            Content::Nothing {
+                line: other_line,
+                column: other_column,
+            },
+        ) => line == other_line && column == other_column,
+        (
+            Content::Blank { line, column },
+            Content::Blank {
+                line: other_line,
+                column: other_column,
+            },
+        ) => line == other_line && column == other_column,
+        _ => false,
+    }
+}
