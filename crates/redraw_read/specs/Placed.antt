@@ -1,9 +1,10 @@
 -- The finding that a diagnostic reports: in which source each place and each edit is, and where there.
-use Rattle.std.specs.Prelude.{◌≡◌, ℕ, ◌⊎◌, Vec, codes, eqb, ◌-◌, ◌==◌, ◌&&◌, ◌||◌, Bool, true, false, not, nat_eq, nat_le, nat_lt, List, [], ◌∷◌, ◌++◌, Option, Some, None, drop, length, map, string_bytes, if◌then◌else◌}
+use Rattle.std.specs.Prelude.{◌≡◌, ℕ, ◌⊎◌, codes, eqb, ◌-◌, ◌==◌, ◌&&◌, ◌||◌, Bool, true, false, not, nat_eq, nat_le, nat_lt, List, [], ◌∷◌, ◌++◌, Option, Some, None, drop, length, map, string_bytes, if◌then◌else◌}
 use Rattle.std.specs.Borrow.{Bor}
+use Rattle.std.specs.Global.{Vec}
 use Rattle.std.specs.List.{AllZip, ends_with, filter_map, find, list_all, position, slice_split, starts_with}
 use Rattle.std.specs.Option.{option_and_then, option_eq, option_map}
-use Rattle.std.specs.Str.{bytes_eq, trim_end}
+use Rattle.std.specs.Str.{bytes_eq, trim}
 use Rattle.redraw_report.specs.declared.diagnostic.Carried.{Carried}
 use Rattle.redraw_report.specs.declared.diagnostic.Child.{Child}
 use Rattle.redraw_report.specs.declared.diagnostic.Code.{Code}
@@ -28,7 +29,7 @@ use Rattle.redraw_read.specs.declared.hand.Extract as extract_type
 use Rattle.redraw_read.specs.declared.hand.Extract.TheVariants.{Whole, Part}
 use Rattle.redraw_read.specs.declared.hand.Hand.{Hand}
 use Rattle.redraw_read.specs.declared.sources.File.{File}
-use Rattle.redraw_read.specs.declared.sources.Source.{Source}
+use Rattle.redraw_read.specs.declared.source.Source.{Source}
 use Rattle.redraw_read.specs.declared.spot.Spot.{Spot}
 
 -- lines that are shown: a text, and the number of its first line
@@ -159,7 +160,7 @@ IsPartOf (Blank line column) r start end = (start ≡ column - 1) × (end ≡ co
 -- where a region of a file is, of which this is to be shown: in the first source that is of the file and shows that, and there the
 -- part that the region is
 pub record IsAt (shown : List Shown) (file : List ℕ) (sight : Sight) (r : Region) (source start end : ℕ) : Type 0 where
-  pub source : position (is_source file sight) shown ≡ Some source
+  pub found : position (is_source file sight) shown ≡ Some source
   pub part : IsPartOf sight r start end
 
 -- the same of a spot, which also tells whether lines of the file are shown
@@ -190,12 +191,16 @@ one_source [] = None
 one_source (spot ∷ spots) =
     if list_all (λ (s : Spot). s.is_at_hand && (s.source == spot.source)) (spot ∷ spots) then Some spot.source else None
 
--- edits at these spots, one after another, with the texts that are to stand there
+-- an edit at this spot, if there is one, with the text that is to stand there
+abbrev pub edit_at : Option Spot → Edit → List Edited
+edit_at None e = []
+edit_at (Some spot) e = record { start = spot.start; end = spot.end; text = string_bytes e.replacement } ∷ []
+
+-- edits at these spots, one after another
 abbrev pub edits_at : List Spot → List Edit → List Edited
-edits_at [] edits = []
-edits_at (spot ∷ spots) [] = []
-edits_at (spot ∷ spots) (e ∷ es) =
-    record { start = spot.start; end = spot.end; text = string_bytes e.replacement } ∷ edits_at spots es
+edits_at spots [] = []
+edits_at [] (e ∷ es) = []
+edits_at (spot ∷ spots) (e ∷ es) = edit_at (Some spot) e ++ edits_at spots es
 
 -- what can be seen of an offer: its source, its edits, and whether only the lines around these are shown
 pub record Offered : Type 0 where
@@ -221,7 +226,7 @@ pub record Lasting (old new : List Shown) (P : List Shown → Type 0) : Type 0 w
 
 -- whether a text is an attribute of Rust and a line's end, which is shown with the line below it
 abbrev pub is_attribute : List ℕ → Bool
-is_attribute text = starts_with eqb text (codes "#[") && ends_with eqb (trim_end text) (codes "]") && ends_with eqb text (10 ∷ [])
+is_attribute text = starts_with eqb (trim text) (codes "#[") && ends_with eqb (trim text) (codes "]") && ends_with eqb text (10 ∷ [])
 
 -- whether some edits are one, and that puts an attribute above a line
 abbrev pub is_attribute_alone : List Edit → Bool

@@ -39,39 +39,43 @@ fn add_edit(place: &Node<'_, '_>, edits: &mut Vec<Edit>) -> Result<(), Fault> {
     Ok(())
 }
 
-/// An edit: a place, and what is to stand there.
+/// An edit: a place, and what is to stand there. An attribute above a line is to stand as far right as the line: so it is put in
+/// at the line's start, after what is blank there.
 fn edit_of(node: &Node<'_, '_>, replacement: &str) -> Result<Edit, Fault> {
     let region = region_of(node)?;
     let file = node.text("file_name")?;
     let carried = carried_of(node, region)?;
-    let replacement = replacement_in(node, region, replacement)?;
+    let blank = if start_of(region) == end_of(region) {
+        blank_before(node, region, replacement)
+    } else {
+        ""
+    };
+    let replacement = format!(in node.alloc; "{blank}{replacement}")?;
     Ok(Edit {
         file: owned(node.alloc, file)?,
-        region: Region::Lines(region),
+        region: Region::Lines(moved_back(region, blank)),
         replacement,
         carried,
     })
 }
 
-/// The text that is to stand in a place. An attribute above a line is to stand as far right as the line: so what stands before
-/// the place in its line comes after it.
-fn replacement_in(
-    node: &Node<'_, '_>,
-    region: LineRegion,
-    replacement: &str,
-) -> Result<String, AllocError> {
-    let mut text = owned(node.alloc, replacement)?;
-    if is_attribute(replacement) {
-        text.push_str(indentation_in(node, region))?;
+/// What stands before the place of an attribute in its line, if that is blank.
+fn blank_before<'v>(node: &Node<'v, '_>, region: LineRegion, replacement: &str) -> &'v str {
+    match text_before(node.value, region) {
+        Some(blank) if blank.trim().is_empty() && is_attribute(replacement) => blank,
+        _ => "",
     }
-    Ok(text)
 }
 
-/// What stands before a place in its line, if that is blank.
-fn indentation_in<'v>(node: &Node<'v, '_>, region: LineRegion) -> &'v str {
-    match text_before(node.value, region) {
-        Some(blank) if blank.trim().is_empty() => blank,
-        _ => "",
+/// A place after these blanks, at its line's start; the place itself where there are none.
+fn moved_back(region: LineRegion, blank: &str) -> LineRegion {
+    if blank.is_empty() {
+        return region;
+    }
+    LineRegion {
+        start_column: Some(1),
+        end_column: Some(1),
+        ..region
     }
 }
 

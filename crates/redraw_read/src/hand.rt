@@ -5,7 +5,9 @@ ghost use Rattle.std.specs.Option.{option_map};
 ghost use Rattle.redraw_read.specs.Placed as spec;
 ghost use Rattle.redraw_read.specs.Placed.{chosen, text_of};
 
-use crate::sources::{File, Source};
+use crate::lines::has_lines;
+use crate::source::Source;
+use crate::sources::File;
 use redraw_report::diagnostic::Carried;
 
 /// What is at hand, and how it is drawn.
@@ -49,7 +51,7 @@ pub fn lines_for<'a>(
 fn choice_of<'a>(source: &'a Source, lines: &'a Carried) -> Extract<'a>
     ensures value { Some (chosen result) ≡ spec.lines_for (Some (string_bytes source.entry.now.text)) (Some lines.entry.now) }
 {
-    if !lines.is_whole || source.has_lines(lines.first_line, lines.text.as_str()) {
+    if !lines.is_whole || has_lines(source, lines.first_line, lines.text.as_str()) {
         Extract::Whole(source)
     } else {
         Extract::Part(lines)

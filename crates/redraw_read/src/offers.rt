@@ -1,10 +1,10 @@
 //! The suggestions that alternatives become: the edits of one are made together, in one source, or it isn't drawn.
 
-ghost use Rattle.std.specs.Prelude.{◌≡◌, [], ◌∷◌, IfOk, IfSome, map, string_bytes, true};
+ghost use Rattle.std.specs.Prelude.{◌≡◌, [], ◌∷◌, ◌++◌, IfOk, IfSome, OnOk, map, string_bytes, true};
 ghost use Rattle.std.specs.Option.{option_map};
 ghost use Rattle.redraw_report.specs.Report.{edited_of};
 ghost use Rattle.redraw_read.specs.Placed as spec;
-ghost use Rattle.redraw_read.specs.Placed.{AreOffersOf, AreSpotsOf, Grows, IsAttributeOffer, IsOfferOf, Lasting, edits_at, offered_view};
+ghost use Rattle.redraw_read.specs.Placed.{AreOffersOf, AreSpotsOf, Grows, IsAttributeOffer, IsOfferOf, Lasting, edit_at, edits_at, offered_view};
 
 use crate::hand::Hand;
 use crate::spot::{Scene, Spot, index_of};
@@ -104,21 +104,37 @@ fn changes_at<'a>(
     ensures value { IfOk result (λ changes. map edited_of changes.items ≡ edits_at spots.now edits.entry.now) }
 {
     let mut changes = Vec::new(alloc);
-    for (spot, edit) in spots.iter().zip(edits) {
+    for (index, edit) in edits.iter().enumerate() {
+        add_change(&mut changes, spots.get(index), edit)?;
+    }
+    Ok(changes)
+}
+
+/// Adds the change of an edit at this place, if there is one.
+fn add_change<'a>(
+    changes: &mut Vec<Change<'a>>,
+    spot: Option<&Spot>,
+    edit: &'a Edit,
+) -> Result<(), AllocError>
+    ensures added { OnOk result (map edited_of changes.new.items
+        ≡ map edited_of changes.old.items ++ edit_at (option_map (λ s. s.now) spot.entry) edit.entry.now) }
+{
+    if let Some(spot) = spot {
         changes.push(Change {
             start: spot.start,
             end: spot.end,
             text: edit.replacement.as_str(),
         })?;
     }
-    Ok(changes)
+    Ok(())
 }
 
 /// Whether a text is an attribute of Rust and a line end: rustc puts it above a line, and shows it with that line.
 pub fn is_attribute(text: &str) -> bool
     ensures value { result ≡ spec.is_attribute text.now }
 {
-    text.starts_with("#[") && text.trim_end().ends_with("]") && text.ends_with("\n")
+    let trimmed = text.trim();
+    trimmed.starts_with("#[") && trimmed.ends_with("]") && text.ends_with("\n")
 }
 
 /// The offer of an attribute, if this is one and lines are at hand where it is to stand.

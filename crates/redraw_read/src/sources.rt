@@ -1,75 +1,17 @@
 //! The sources that reports show, each read once.
 
-ghost use Rattle.std.specs.Prelude.{◌≡◌, ◌==◌, IfOk, drop, string_bytes};
+ghost use Rattle.std.specs.Prelude.{◌≡◌, string_bytes};
 ghost use Rattle.std.specs.Option.{option_map};
-ghost use Rattle.std.specs.List.{slice_split};
-ghost use Rattle.std.specs.Str.{bytes_eq};
-ghost use Rattle.redraw_report.specs.Region.{line_starts as starts_of};
-ghost use Rattle.redraw_report.specs.Region as region;
 ghost use Rattle.redraw_read.specs.Placed as spec;
-ghost use Rattle.redraw_read.specs.Placed.{are_lines, held};
+ghost use Rattle.redraw_read.specs.Placed.{held};
 
-use redraw_report::lines::{first_line, line_starts};
+use crate::source::Source;
 use std::alloc::{AllocError, Global};
 
 /// Where files are read from.
 pub trait Shelf {
     /// The bytes of the file of this name; `None` where it can't be read.
     fn bytes(&self, name: &str) -> Result<Option<Vec<u8>>, AllocError>;
-}
-
-/// A text, and where its lines start.
-#[derive(Drop)]
-pub struct Source {
-    pub text: String,
-    pub starts: Vec<usize>,
-    pub ghost lined: { starts.items ≡ starts_of (string_bytes text) },
-}
-
-impl Source {
-    /// The source that this text is.
-    pub fn new(alloc: Global, text: &str) -> Result<Source, AllocError>
-        ensures value { IfOk result (λ source. string_bytes source.text ≡ text.now) }
-    {
-        let starts = line_starts(alloc, text)?;
-        let text = String::from_str(alloc, text)?;
-        Ok(Source { text, starts })
-    }
-
-    /// Whether the source has these lines, from the one of this number on.
-    pub fn has_lines(&self, first_line: usize, lines: &str) -> bool
-        ensures value { result ≡ spec.has_lines (string_bytes self.now.text) first_line lines.now }
-    {
-        if first_line == 0 {
-            return false;
-        }
-        match self.starts.get(first_line - 1..) {
-            Some(starts) => starts_lines(self.text.as_str(), starts, lines),
-            None => false,
-        }
-    }
-}
-
-/// Whether these are the lines of a text that start at these bytes of it.
-fn starts_lines(text: &str, starts: &[usize], lines: &str) -> bool
-    ensures value { result ≡ are_lines text.now starts.now (slice_split (λ b. b == 10) lines.now) }
-{
-    let mut starts = starts;
-    for line in lines.split('\n') {
-        match starts {
-            [start, rest @ ..] if is_line(text, *start, line) => starts = rest,
-            _ => return false,
-        }
-    }
-    true
-}
-
-/// Whether this is the line of a text that starts at this byte.
-fn is_line(text: &str, start: usize, line: &str) -> bool
-    ensures value { result ≡ bytes_eq (region.first_line (drop start text.now)) line.now }
-{
-    let bytes = text.as_bytes();
-    first_line(&bytes[start.min(bytes.len())..]) == line.as_bytes()
 }
 
 /// What the paths of the standard library begin with, as it was built: they are on no machine but that one.

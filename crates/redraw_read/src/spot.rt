@@ -6,7 +6,7 @@ ghost use Rattle.redraw_read.specs.Placed.{Grows, IsSpot, Lasting, Lines, is_sou
 ghost use Rattle.redraw_report.specs.Region.{line_starts as starts_of};
 
 use crate::hand::{Extract, Hand, lines_for};
-use crate::sources::Source;
+use crate::source::Source;
 use redraw_report::diagnostic::{Carried, Region};
 use redraw_report::finding::{Content, Shown};
 use redraw_report::lines::line_starts;

@@ -1,0 +1,55 @@
+-- How a source is found again among the sources that are shown.
+use Rattle.std.proofs.Common.{◌≡◌, ℕ, ◌+◌, ◌<◌, Bool, true, false, List, [], ◌∷◌, ◌++◌, Option, Some, None, length, not, ◌==◌, refl, sym, ap, subst, ◌∙◌, arith, nat_eq}
+use Rattle.std.specs.List.{position, position_or_len}
+use Rattle.std.specs.Option.{option_eq}
+use Rattle.std.specs.Str.{bytes_eq}
+use Rattle.std.proofs.lemmas.Grind.{common_steps}
+use Rattle.std.proofs.lemmas.List.Folds.{prefix_len-append, position_or_len_push}
+use Rattle.std.proofs.lemmas.List.Quantifiers.{position-Some}
+use Rattle.std.proofs.lemmas.Slice.Eq.{bytes_eq-Decides}
+use Rattle.redraw_report.specs.declared.finding.Shown.{Shown}
+use Rattle.redraw_read.specs.Placed.{Blank, Grows, Lines, Nothing, Sight, is_source, same_sight, sight_of}
+
+-- the first index at which a test passes stays, however the list grows
+pub position-grows : {X : Type 0} (p : X → Bool) (xs ys : List X) (i : ℕ) → position p xs ≡ Some i → position p (xs ++ ys) ≡ Some i
+position-grows p xs ys i found =
+    let at : position_or_len p xs ≡ i = grind (arith, common_steps) in
+    let inside : i < length xs = grind (arith, common_steps) in
+    let joined = prefix_len-append (λ x. not (p x)) xs ys in
+    grind (arith, common_steps, at, inside, joined)
+
+-- an element that passes, after some of which none does, is the first that does
+pub position-push : {X : Type 0} (p : X → Bool) (xs : List X) (y : X) → position p xs ≡ None → p y ≡ true → position p (xs ++ y ∷ []) ≡ Some (length xs)
+position-push p xs y none passes =
+    let all : position_or_len p xs ≡ length xs = grind (arith, common_steps) in
+    let joined = position_or_len_push p xs y in
+    grind (arith, common_steps, all, joined, passes)
+
+-- a text is itself
+pub bytes_eq-refl : (xs : List ℕ) → bytes_eq xs xs ≡ true
+bytes_eq-refl xs = (bytes_eq-Decides xs xs).1 refl
+
+-- so is a number
+eqb-refl : (n : ℕ) → (n == n) ≡ true
+eqb-refl n = grind (arith, common_steps)
+
+-- and a number that there may be
+pub option_eq-refl : (o : Option ℕ) → option_eq nat_eq o o ≡ true
+option_eq-refl None = refl
+option_eq-refl (Some n) = eqb-refl n
+
+-- what is shown is the same as itself
+pub same_sight-refl : (sight : Sight) → same_sight sight sight ≡ true
+same_sight-refl (Lines text first) = grind (arith, eqb-refl first, bytes_eq-refl text)
+same_sight-refl (Nothing line column) = grind (arith, option_eq-refl line, option_eq-refl column)
+same_sight-refl (Blank line column) = grind (arith, eqb-refl line, eqb-refl column)
+
+-- a source is of its path, and shows what it shows
+pub is_source-refl : (s : Shown) → is_source s.path.now (sight_of s.content) s ≡ true
+is_source-refl s = grind (arith, bytes_eq-refl s.path.now, same_sight-refl (sight_of s.content))
+
+-- a source that was found is found, however the sources grow
+pub found-lasts : (path : List ℕ) (sight : Sight) (shown later : List Shown) (i : ℕ)
+    → position (is_source path sight) shown ≡ Some i → Grows shown later → position (is_source path sight) later ≡ Some i
+found-lasts path sight shown later i found grown =
+    ap (position (is_source path sight)) grown.1 ∙ position-grows (is_source path sight) shown grown.0 i found

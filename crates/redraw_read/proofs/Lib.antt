@@ -1,0 +1,4 @@
+pub mod Growing
+pub mod Found
+pub mod Walks
+pub mod Rows
