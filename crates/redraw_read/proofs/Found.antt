@@ -1,11 +1,12 @@
 -- How a source is found again among the sources that are shown.
-use Rattle.std.proofs.Common.{◌≡◌, ℕ, ◌+◌, ◌<◌, Bool, true, false, List, [], ◌∷◌, ◌++◌, Option, Some, None, length, not, ◌==◌, refl, sym, ap, subst, ◌∙◌, arith, nat_eq}
-use Rattle.std.specs.List.{position, position_or_len}
+use Rattle.std.proofs.Common.{◌≡◌, ℕ, ◌+◌, ◌<◌, ◌≤◌, ◌==◌, Bool, true, false, cond, not, List, [], ◌∷◌, ◌++◌, Option, Some, None, drop, length, add-zero, refl, sym, ap, ◌∙◌, arith, nat_eq}
+use Rattle.std.specs.List.{position, position_or_len, slice_index_or}
+use Rattle.std.proofs.Math.ListN.{drop_of_length-le}
+use Rattle.redraw_read.proofs.Walks.{from-here}
 use Rattle.std.specs.Option.{option_eq}
 use Rattle.std.specs.Str.{bytes_eq}
 use Rattle.std.proofs.lemmas.Grind.{common_steps}
 use Rattle.std.proofs.lemmas.List.Folds.{prefix_len-append, position_or_len_push}
-use Rattle.std.proofs.lemmas.List.Quantifiers.{position-Some}
 use Rattle.std.proofs.lemmas.Slice.Eq.{bytes_eq-Decides}
 use Rattle.redraw_report.specs.declared.finding.Shown.{Shown}
 use Rattle.redraw_read.specs.Placed.{Blank, Grows, Lines, Nothing, Sight, is_source, same_sight, sight_of}
@@ -53,3 +54,28 @@ pub found-lasts : (path : List ℕ) (sight : Sight) (shown later : List Shown) (
     → position (is_source path sight) shown ≡ Some i → Grows shown later → position (is_source path sight) later ≡ Some i
 found-lasts path sight shown later i found grown =
     ap (position (is_source path sight)) grown.1 ∙ position-grows (is_source path sight) shown grown.0 i found
+
+-- an element that doesn't pass is passed by
+pub position-next : {X : Type 0} (p : X → Bool) (xs : List X) (i n : ℕ) (x : X)
+    → i < length xs → x ≡ slice_index_or xs i x → p x ≡ false → i + position_or_len p (drop i xs) ≡ n → i + 1 + position_or_len p (drop (i + 1) xs) ≡ n
+position-next p xs i n x within is fails so_far =
+    let here : position_or_len p (drop i xs) ≡ 1 + position_or_len p (drop (i + 1) xs) =
+        ap (position_or_len p) (from-here xs i x within is) ∙ ap (λ t. cond (not t) (1 + position_or_len p (drop (i + 1) xs)) 0) fails in
+    omega (arith, here, so_far)
+
+-- one that passes is the first that does, if none before it was
+pub position-here : {X : Type 0} (p : X → Bool) (xs : List X) (i : ℕ) (x : X)
+    → i < length xs → x ≡ slice_index_or xs i x → p x ≡ true → i + position_or_len p (drop i xs) ≡ position_or_len p xs → position p xs ≡ Some i
+position-here p xs i x within is passes so_far =
+    let here : position_or_len p (drop i xs) ≡ 0 =
+        ap (position_or_len p) (from-here xs i x within is) ∙ ap (λ t. cond (not t) (1 + position_or_len p (drop (i + 1) xs)) 0) passes in
+    let at : position_or_len p xs ≡ i = omega (arith, here, so_far) in
+    grind (arith, common_steps, at, within)
+
+-- and where there is none
+pub position-past : {X : Type 0} (p : X → Bool) (xs : List X) (i : ℕ)
+    → length xs ≤ i → i ≤ length xs → i + position_or_len p (drop i xs) ≡ position_or_len p xs → position p xs ≡ None
+position-past p xs i past within so_far =
+    let rest : drop i xs ≡ [] = drop_of_length-le xs past in
+    let at : position_or_len p xs ≡ i = sym so_far ∙ ap (λ l. i + position_or_len p l) rest ∙ add-zero i in
+    grind (arith, common_steps, at, past)

@@ -2,7 +2,7 @@
 use Rattle.std.specs.Prelude.{◌≡◌, ℕ, ◌⊎◌, codes, eqb, ◌-◌, ◌==◌, ◌&&◌, ◌||◌, Bool, true, false, not, nat_eq, nat_le, nat_lt, List, [], ◌∷◌, ◌++◌, Option, Some, None, drop, length, map, string_bytes, if◌then◌else◌}
 use Rattle.std.specs.Borrow.{Bor}
 use Rattle.std.specs.Global.{Vec}
-use Rattle.std.specs.List.{AllZip, ends_with, filter_map, find, list_all, position, slice_split, starts_with}
+use Rattle.std.specs.List.{AllZip, ends_with, filter_map, find, list_all, position, slice_get, slice_split, starts_with}
 use Rattle.std.specs.Option.{option_and_then, option_eq, option_map}
 use Rattle.std.specs.Str.{bytes_eq, trim}
 use Rattle.redraw_report.specs.declared.diagnostic.Carried.{Carried}
@@ -185,11 +185,14 @@ AreSpotsOf hand edits spots shown =
     AllZip (λ (e : Edit) spot. IsSpot shown (string_bytes e.file) (sight_in hand (string_bytes e.file) e.region e.carried) e.region spot)
     edits spots
 
--- the source that all of some spots are in, if there is one, and it has lines of a file
+-- whether all of some spots are in this source, which has lines of a file
+abbrev pub are_in : ℕ → List Spot → Bool
+are_in source spots = list_all (λ (s : Spot). s.is_at_hand && s.source == source) spots
+
+-- the source that all of some spots are in, if there is one and it has lines of a file
 abbrev pub one_source : List Spot → Option ℕ
-one_source [] = None
-one_source (spot ∷ spots) =
-    if list_all (λ (s : Spot). s.is_at_hand && (s.source == spot.source)) (spot ∷ spots) then Some spot.source else None
+one_source spots =
+    option_and_then (λ (first : Spot). if are_in first.source spots then Some first.source else None) (slice_get spots 0)
 
 -- an edit at this spot, if there is one, with the text that is to stand there
 abbrev pub edit_at : Option Spot → Edit → List Edited

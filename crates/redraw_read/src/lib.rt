@@ -21,3 +21,4 @@ pub mod source;
 pub mod sources;
 mod spans;
 pub mod spot;
+mod words;

@@ -1,6 +1,6 @@
 //! The suggestions that alternatives become: the edits of one are made together, in one source, or it isn't drawn.
 
-ghost use Rattle.std.specs.Prelude.{◌≡◌, [], ◌∷◌, ◌++◌, IfOk, IfSome, OnOk, map, string_bytes, true};
+ghost use Rattle.std.specs.Prelude.{◌≡◌, [], ◌∷◌, ◌++◌, IfOk, IfSome, OnOk, map, string_bytes, true, if◌then◌else◌};
 ghost use Rattle.std.specs.Option.{option_map};
 ghost use Rattle.redraw_report.specs.Report.{edited_of};
 ghost use Rattle.redraw_read.specs.Placed as spec;
@@ -8,6 +8,7 @@ ghost use Rattle.redraw_read.specs.Placed.{AreOffersOf, AreSpotsOf, Grows, IsAtt
 
 use crate::hand::Hand;
 use crate::spot::{Scene, Spot, index_of};
+use crate::words::{begins_with, finishes_with};
 use redraw_report::diagnostic::{Edit, Region};
 use redraw_report::finding::{Change, Content, Offer, Shown};
 use std::alloc::{AllocError, Global};
@@ -86,13 +87,26 @@ fn offer_at<'a>(
 fn one_source(spots: &[Spot]) -> Option<usize>
     ensures value { result ≡ spec.one_source spots.now }
 {
-    match spots {
-        [first, ..]
-            if spots
-                .iter()
-                .all(|s| s.is_at_hand && s.source == first.source) => { Some(first.source) }
-        _ => None,
+    match spots.get(0) {
+        Some(first) => source_if(are_in(first.source, spots), first.source),
+        None => None,
     }
+}
+
+/// This source, if it is the one.
+fn source_if(is_one: bool, source: usize) -> Option<usize>
+    ensures value { result ≡ (if is_one then Some source else None) }
+{
+    if is_one { Some(source) } else { None }
+}
+
+/// Whether all of these places are in this source, which has lines of a file.
+fn are_in(source: usize, spots: &[Spot]) -> bool
+    ensures value { result ≡ spec.are_in source spots.now }
+{
+    spots
+        .iter()
+        .all(|spot| spot.is_at_hand && spot.source == source)
 }
 
 /// The changes of edits at these places.
@@ -134,7 +148,7 @@ pub fn is_attribute(text: &str) -> bool
     ensures value { result ≡ spec.is_attribute text.now }
 {
     let trimmed = text.trim();
-    trimmed.starts_with("#[") && trimmed.ends_with("]") && text.ends_with("\n")
+    begins_with(trimmed, "#[") && finishes_with(trimmed, "]") && finishes_with(text, "\n")
 }
 
 /// The offer of an attribute, if this is one and lines are at hand where it is to stand.

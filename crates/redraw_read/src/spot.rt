@@ -203,7 +203,7 @@ pub fn index_of<'a>(shown: &mut Vec<Shown<'a>>, source: Shown<'a>) -> Result<usi
     ensures found { IfOk result (λ i. position (is_source source.entry.path.now (sight_of source.entry.content)) shown.new.items ≡ Some i) }
     ensures grows { IfOk result (λ i. Grows shown.old.items shown.new.items) }
 {
-    match shown.iter().position(|known| is_same(known, &source)) {
+    match known_index(shown, &source) {
         Some(index) => Ok(index),
         None => {
             let index = shown.len();
@@ -211,6 +211,18 @@ pub fn index_of<'a>(shown: &mut Vec<Shown<'a>>, source: Shown<'a>) -> Result<usi
             Ok(index)
         }
     }
+}
+
+/// The index of a source, if it is there.
+fn known_index(shown: &[Shown<'_>], source: &Shown<'_>) -> Option<usize>
+    ensures value { result ≡ position (is_source source.now.path.now (sight_of source.now.content)) shown.now }
+{
+    for (index, known) in shown.iter().enumerate() {
+        if is_same(known, source) {
+            return Some(index);
+        }
+    }
+    None
 }
 
 /// Whether a source is of the same path as another, and shows the same.
