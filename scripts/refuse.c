@@ -3,7 +3,8 @@
    REFUSE_NTH=N       the Nth request is refused, counted from 1
    REFUSE_ALL=1       each request is refused once the program has written its first line to standard output
    REFUSE_REPORT=F    the file F gets a line "refused N" for the Nth request as it is refused, and at the end of the
-                      program a line "requests N" with the number of all
+                      program a line "requests N" with the number of all, and a line "held N" with the number of blocks
+                      that were given and not taken back
 
    Requests that the C library makes for itself count too. Written for Linux and the GNU C library. */
 
@@ -22,8 +23,10 @@ extern void *__libc_malloc(size_t size);
 extern void *__libc_calloc(size_t count, size_t size);
 extern void *__libc_realloc(void *block, size_t size);
 extern void *__libc_memalign(size_t alignment, size_t size);
+extern void __libc_free(void *block);
 
 static atomic_ulong requests;
+static atomic_ulong held;
 static atomic_int refuses_all;
 static unsigned long refused_number;
 static int waits_for_line;
@@ -53,6 +56,7 @@ __attribute__((constructor)) static void begin(void)
 __attribute__((destructor)) static void end(void)
 {
     tell("requests", requests);
+    tell("held", held);
 }
 
 /* Whether the next request is refused. */
@@ -68,19 +72,41 @@ static int is_refused(void)
     return 1;
 }
 
+/* Counts a block that is given, if there is one. */
+static void *given(void *block)
+{
+    if (block)
+        held++;
+    return block;
+}
+
 void *malloc(size_t size)
 {
-    return is_refused() ? NULL : __libc_malloc(size);
+    return is_refused() ? NULL : given(__libc_malloc(size));
 }
 
 void *calloc(size_t count, size_t size)
 {
-    return is_refused() ? NULL : __libc_calloc(count, size);
+    return is_refused() ? NULL : given(__libc_calloc(count, size));
 }
 
+/* A block that is moved or changed stays one block; one that is made as small as nothing is taken back. */
 void *realloc(void *block, size_t size)
 {
-    return is_refused() ? NULL : __libc_realloc(block, size);
+    if (is_refused())
+        return NULL;
+    if (!block)
+        return given(__libc_realloc(block, size));
+    if (size == 0)
+        held--;
+    return __libc_realloc(block, size);
+}
+
+void free(void *block)
+{
+    if (block)
+        held--;
+    __libc_free(block);
 }
 
 void *reallocarray(void *block, size_t count, size_t size)
@@ -95,7 +121,7 @@ void *reallocarray(void *block, size_t count, size_t size)
 
 void *memalign(size_t alignment, size_t size)
 {
-    return is_refused() ? NULL : __libc_memalign(alignment, size);
+    return is_refused() ? NULL : given(__libc_memalign(alignment, size));
 }
 
 void *aligned_alloc(size_t alignment, size_t size)

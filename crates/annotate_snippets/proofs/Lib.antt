@@ -30,8 +30,13 @@ pub mod NotDrawn
 pub mod NotLabelled
 pub mod NotOffered
 pub mod NotOneLine
+pub mod NotPrinted
+pub mod NotReturned
+pub mod NotShort
 pub mod NotShown
 pub mod NotSuggested
+pub mod NotText
+pub mod NotTitled
 pub mod NotWhole
 pub mod NumberLaws
 pub mod PageLemmas
@@ -47,6 +52,7 @@ pub mod ReportTexts
 pub mod RoomLemmas
 pub mod ShortLemmas
 pub mod ShortShown
+pub mod SmallReports
 pub mod SourceFeedLaws
 pub mod SpanBarRows
 pub mod SpanOpen

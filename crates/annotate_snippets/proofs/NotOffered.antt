@@ -138,10 +138,10 @@ old_row_named s is Other cells same shows =
 --
 --     1 - ab
 --     1 + ab
-old_lines_repeated : {found : List Cell} (s : Snippet Patch) → IsSnippetOf s (codes "ab") one_edit → (frame : Layout) → frame.gutter ≡ 1 → frame.decor ≡ Ascii
+suggestion_repeats_old_lines : {found : List Cell} (s : Snippet Patch) → IsSnippetOf s (codes "ab") one_edit → (frame : Layout) → frame.gutter ≡ 1 → frame.decor ≡ Ascii
     → (around : ElementContext) (row : NamedRow) (before after : List NamedRow) → row.cells ≡ offering_row (codes "ab")
     → ShowsSuggestion plain_settings frame around found s (others (suggestion_head plain_settings frame around s) ++ (before ++ (row ∷ after))) → ⊥
-old_lines_repeated s is frame narrow ascii around row before after row_is shown =
+suggestion_repeats_old_lines s is frame narrow ascii around row before after row_is shown =
     let rows : List NamedRow = before ++ (row ∷ after) in
     let same : shown.after ≡ rows = append_cancel_left (others (suggestion_head plain_settings frame around s)) shown.after rows (sym shown.rows_are) in
     let named : All (λ r. IsSuggestionRow plain_settings Ascii 1 s r.name r.cells) rows = subst (λ gutter. All (λ r. IsSuggestionRow plain_settings Ascii gutter s r.name r.cells) rows) narrow (subst (λ decor. All
@@ -289,10 +289,10 @@ rest_spliced false = refl
 -- so no rows show it that don't offer its second line, as where the text is cut off after the line feed with which it ends so far:
 --
 --     1 ~ xa
-line_lost : {found : List Cell} (s : Snippet Patch) → IsSnippetOf s lines_of_three put_in_and_deleted → (frame : Layout) (around : ElementContext) (rows : List NamedRow)
+cut_at_any_line_feed : {found : List Cell} (s : Snippet Patch) → IsSnippetOf s lines_of_three put_in_and_deleted → (frame : Layout) (around : ElementContext) (rows : List NamedRow)
     → (Contains (lines_offered rows) 1 → ⊥) → ShowsSuggestion plain_settings frame around found s
     (others (suggestion_head plain_settings frame around s) ++ rows) → ⊥
-line_lost s is frame around rows out shown =
+cut_at_any_line_feed s is frame around rows out shown =
     let same : shown.after ≡ rows = append_cancel_left (others (suggestion_head plain_settings frame around s)) shown.after rows (sym shown.rows_are) in
     let touched : IsTouched (cow_str_bytes s.source) (edits_of s) 1 = subst (λ text. IsTouched text (edits_of s) 1) (sym is.source_is) (subst (λ es. IsTouched lines_of_three es 1) (sym is.edits_are) rest_touched) in
     let visible : is_blank (text_at (source_lines (patched (cow_str_bytes s.source) (edits_of s))) 1) ≡ false =
@@ -319,13 +319,38 @@ gives_xb false = refl
 -- so no row offers a line in which the replacement stands first, and what it replaced again after what is put in:
 --
 --     1 + bxa
-replacement_first : (s : Snippet Patch) → IsSnippetOf s (codes "a") replaced_and_put_in → (j : ℕ) → IsOfferedRow plain_settings Ascii 1 s j (offering_row (codes "bxa")) → ⊥
+replacement_before_insertion : (s : Snippet Patch) → IsSnippetOf s (codes "a") replaced_and_put_in → (j : ℕ) → IsOfferedRow plain_settings Ascii 1 s j (offering_row (codes "bxa")) → ⊥
 unfolding char_width unicode_width norm chars
-replacement_first s is j offers =
+replacement_before_insertion s is j offers =
     let given : given_lines s ≡ codes "xb" ∷ [] = given_by s (codes "a") replaced_and_put_in (codes "xb" ∷ []) is gives_xb in
     let first : j - first_given s ≡ 0 = omega (arith, offers.from, offers.within, ap length given) in
     let text : codes "bxa" ≡ norm (chars (codes "xb")) = offers.line ∙ ap (λ k. norm (chars (get_or (given_lines s) k []))) first ∙ ap (λ lines. norm (chars (get_or lines 0 []))) given in
     let letter : ◌≡◌ {A = ℕ} 98 120 = ap (λ (cs : List ℕ). get_or cs 0 0) text in
+    absurd (omega (arith, letter))
+
+-- ---- edits at other bytes
+
+-- `abcd`, with `xyz` in place of `a` and `q` in place of `c`, gives `xyzbqd`
+abbrev longer_and_another : List Edit
+longer_and_another = replaced 0 1 (codes "xyz") ∷ replaced 2 3 (codes "q") ∷ []
+
+gives_xyzbqd : (fold : Bool) → texts_of (lines_of (shown_text fold (codes "abcd") longer_and_another)) ≡ codes "xyzbqd" ∷ []
+unfolding shown_text trimmed_edit sandwich kept_before start_of line_of
+gives_xyzbqd true = refl
+gives_xyzbqd false = refl
+
+-- so no row offers a line in which the second edit is made at its bytes in what the first one gave:
+--
+--     1 + xyqbcd
+patches_at_old_offsets : (s : Snippet Patch) → IsSnippetOf s (codes "abcd") longer_and_another → (j : ℕ)
+    → IsOfferedRow plain_settings Ascii 1 s j (offering_row (codes "xyqbcd")) → ⊥
+unfolding char_width unicode_width norm chars
+patches_at_old_offsets s is j offers =
+    let given : given_lines s ≡ codes "xyzbqd" ∷ [] = given_by s (codes "abcd") longer_and_another (codes "xyzbqd" ∷ []) is gives_xyzbqd in
+    let first : j - first_given s ≡ 0 = omega (arith, offers.from, offers.within, ap length given) in
+    let text : codes "xyqbcd" ≡ norm (chars (codes "xyzbqd")) = offers.line ∙ ap (λ k. norm (chars (get_or (given_lines s) k []))) first
+    ∙ ap (λ lines. norm (chars (get_or lines 0 []))) given in
+    let letter : ◌≡◌ {A = ℕ} 113 122 = ap (λ (cs : List ℕ). get_or cs 2 0) text in
     absurd (omega (arith, letter))
 
 -- ---- rows in another order, with another number, or of another kind

@@ -230,9 +230,9 @@ named_first closes s is Other cells rows same shows =
 -- the placeholder in place of a line that has room, here of `ab`, however many columns are said to be dropped:
 --
 --     1 | ...
-elided_row : (s : Snippet Annotation) → IsSnippetOf s (codes "ab") (span_of Primary 0 1 ∷ []) → (dropped : ℕ) → ShowsSourceLine plain_settings frame s 0 dropped (source_row (codes "...")) → ⊥
+source_row_elided : (s : Snippet Annotation) → IsSnippetOf s (codes "ab") (span_of Primary 0 1 ∷ []) → (dropped : ℕ) → ShowsSourceLine plain_settings frame s 0 dropped (source_row (codes "...")) → ⊥
 unfolding place_of line_of start_of chars char_width unicode_width norm
-elided_row s is dropped shown =
+source_row_elided s is dropped shown =
     let whole = whole_line s (codes "ab") (span_of Primary 0 1 ∷ []) is (record { folded = refl; unfolded = refl; qualified = refl }) in
     let text : codes "..." ≡ codes "ab" = subst (λ source. codes "..." ≡ norm (chars_at source 0)) is.source_is (shown.whole whole).1 in
     cc
@@ -255,12 +255,12 @@ second_copy k row copy before between after closes row_is copy_is =
 
 -- so no rows in which it stands twice show the snippet, wherever that stands: neither after those that it begins with nor
 -- before those below its lines
-second_copy_on_page : (s : Snippet Annotation) → cow_str_bytes s.source ≡ codes "a"
+second_copy_of_a_line : (s : Snippet Annotation) → cow_str_bytes s.source ≡ codes "a"
     → (around : ElementContext) (row copy : NamedRow) (before between after : List NamedRow) → row.cells ≡ source_row (codes "a")
     → copy.cells ≡ source_row (codes "a") → ShowsSnippet plain_settings frame around s
     (others (cause_head plain_settings frame around s)
     ++ ((before ++ (row ∷ (between ++ (copy ∷ after)))) ++ others (rows_after_cause plain_settings frame around))) → ⊥
-second_copy_on_page s is around row copy before between after row_is copy_is shown =
+second_copy_of_a_line s is around row copy before between after row_is copy_is shown =
     let rows : List NamedRow = before ++ (row ∷ (between ++ (copy ∷ after))) in
     let tail : List NamedRow = others (rows_after_cause plain_settings frame around) in
     let closes : Bool = closes_with around in
@@ -275,9 +275,9 @@ second_copy_on_page s is around row copy before between after row_is copy_is sho
 --
 --     1 | abcdef
 --       | ------
-narrower_underneath : AreOtherMarks (codes "abcdef") (span_of Context 0 6 ∷ span_of Primary 2 4 ∷ []) (text_cells UnderlineSecondary (codes "------"))
+underlines_in_given_order : AreOtherMarks (codes "abcdef") (span_of Context 0 6 ∷ span_of Primary 2 4 ∷ []) (text_cells UnderlineSecondary (codes "------"))
 unfolding place_of line_of start_of chars char_width unicode_width
-narrower_underneath =
+underlines_in_given_order =
     let source : List ℕ = codes "abcdef" in
     let wide : Annotation = span_of Context 0 6 in
     let narrow : Annotation = span_of Primary 2 4 in
@@ -289,9 +289,9 @@ narrower_underneath =
 --
 --     1 | abcd
 --       | --
-context_wins : AreOtherMarks (codes "abcd") (span_of Context 0 2 ∷ span_of Primary 0 2 ∷ []) (text_cells UnderlineSecondary (codes "--"))
+context_wins_ties : AreOtherMarks (codes "abcd") (span_of Context 0 2 ∷ span_of Primary 0 2 ∷ []) (text_cells UnderlineSecondary (codes "--"))
 unfolding place_of line_of start_of chars char_width unicode_width
-context_wins =
+context_wins_ties =
     let source : List ℕ = codes "abcd" in
     let context : Annotation = span_of Context 0 2 in
     let primary : Annotation = span_of Primary 0 2 in
@@ -304,9 +304,9 @@ context_wins =
 --
 --     1 | 日本
 --       |    ^^^
-marks_by_bytes : AreOtherMarks (encode_utf8_all (codes "日本")) (span_of Primary 3 6 ∷ []) (replicate 3 SPACE ++ text_cells UnderlinePrimary (codes "^^^"))
+marks_by_byte_offset : AreOtherMarks (encode_utf8_all (codes "日本")) (span_of Primary 3 6 ∷ []) (replicate 3 SPACE ++ text_cells UnderlinePrimary (codes "^^^"))
 unfolding place_of line_of start_of chars char_width unicode_width lib.Utf8.encode
-marks_by_bytes =
+marks_by_byte_offset =
     let source : List ℕ = encode_utf8_all (codes "日本") in
     let span : Annotation = span_of Primary 3 6 in
     let at : IsMarkedAt source 0 2 span = is_marked_at source span 2 4 (record { marked = refl; start_is = refl; end_is = refl }) 2 (omega arith) (omega arith) in
@@ -317,9 +317,9 @@ marks_by_bytes =
 --
 --     1 |     x
 --       |  ^
-marks_by_characters : AreOtherMarks (9 ∷ codes "x") (span_of Primary 1 2 ∷ []) (SPACE ∷ text_cells UnderlinePrimary (codes "^"))
+marks_by_character_count : AreOtherMarks (9 ∷ codes "x") (span_of Primary 1 2 ∷ []) (SPACE ∷ text_cells UnderlinePrimary (codes "^"))
 unfolding place_of line_of start_of chars char_width unicode_width norm
-marks_by_characters =
+marks_by_character_count =
     let source : List ℕ = 9 ∷ codes "x" in
     let span : Annotation = span_of Primary 1 2 in
     let at : IsMarkedAt source 0 4 span = is_marked_at source span 4 5 (record { marked = refl; start_is = refl; end_is = refl }) 4 (omega arith) (omega arith) in
@@ -342,9 +342,9 @@ every_column_marked =
 --
 --     1 | ab
 --       | ^
-label_left_out : (label : Option (CowStr Global)) → option_map cow_str_bytes label ≡ Some (codes "x") → AreOtherMarks (codes "ab") (labelled_span label Primary 0 1 ∷ []) (text_cells UnderlinePrimary (codes "^"))
+lone_label_left_out : (label : Option (CowStr Global)) → option_map cow_str_bytes label ≡ Some (codes "x") → AreOtherMarks (codes "ab") (labelled_span label Primary 0 1 ∷ []) (text_cells UnderlinePrimary (codes "^"))
 unfolding place_of line_of start_of chars char_width unicode_width norm
-label_left_out label label_is =
+lone_label_left_out label label_is =
     let span : Annotation = labelled_span label Primary 0 1 in
     let text : shown_label span ≡ codes "x" = ap normalized_chars label_is in
     let some : 0 < length (shown_label span) = omega (arith, ap length text) in
@@ -369,9 +369,9 @@ label_elsewhere label label_is =
 --
 --     1 | ab
 --       | ^ <U+001B>
-label_raw : (label : Option (CowStr Global)) → option_map cow_str_bytes label ≡ Some (27 ∷ []) → AreOtherMarks (codes "ab") (labelled_span label Primary 0 1 ∷ []) (text_cells UnderlinePrimary (codes "^") ++ SPACE ∷ text_cells LabelPrimary (27 ∷ []))
+label_drawn_raw : (label : Option (CowStr Global)) → option_map cow_str_bytes label ≡ Some (27 ∷ []) → AreOtherMarks (codes "ab") (labelled_span label Primary 0 1 ∷ []) (text_cells UnderlinePrimary (codes "^") ++ SPACE ∷ text_cells LabelPrimary (27 ∷ []))
 unfolding place_of line_of start_of chars char_width unicode_width norm
-label_raw label label_is =
+label_drawn_raw label label_is =
     let span : Annotation = labelled_span label Primary 0 1 in
     let text : shown_label span ≡ 0x241B ∷ [] = ap normalized_chars label_is in
     let some : 0 < length (shown_label span) = omega (arith, ap length text) in

@@ -1,6 +1,6 @@
 -- What no whole page shows: pages of small reports, wrong in what stands around their snippets, contradict the definitions of what
 -- pages show.
-use Rattle.std.proofs.Common.{Option, Some, None, ◌≡◌, ℕ, ◌+◌, ◌<◌, ◌≤◌, zero, suc, Bool, true, false, not, ◌&&◌, if◌then◌else◌, List, [], ◌∷◌, ◌++◌, codes, drop, length, replicate, take, refl, sym, ap, subst, ◌∙◌, append_assoc, arith, inl, inr, ◌⊎◌}
+use Rattle.std.proofs.Common.{Option, Some, None, ◌≡◌, ℕ, ◌+◌, ◌<◌, ◌≤◌, zero, suc, Bool, true, false, not, ◌&&◌, if◌then◌else◌, List, [], ◌∷◌, ◌++◌, codes, drop, encode_utf8_all, length, replicate, take, refl, sym, ap, subst, ◌∙◌, append_assoc, arith, inl, inr, ◌⊎◌}
 use Rattle.std.specs.Char.{is_ascii_alphanumeric}
 use Rattle.std.specs.Cow.{cow_str_bytes}
 use Rattle.std.specs.Fmt.{digits}
@@ -8,7 +8,7 @@ use Rattle.std.specs.List.{All, Contains, slice_index_or}
 use Rattle.std.specs.Str.{chars}
 use Rattle.std.specs.declared.alloc.Global.{Global}
 use Rattle.std.specs.declared.borrow.CowStr.{CowStr}
-use Rattle.std.proofs.lemmas.List.{length-append}
+use Rattle.std.proofs.lemmas.List.{append_cancel_left, append_cancel_right, length-append}
 use Rattle.std.proofs.lemmas.List.Elements.{All-nil, All-cons, All-head, All-tail}
 use Rattle.snippet_grid.specs.Grid.{cell_at, row_at}
 use Rattle.snippet_style.specs.Cell.{Cell, SPACE, text_cells}
@@ -24,7 +24,7 @@ use Rattle.snippet_model.specs.declared.snippet.Snippet.{Snippet}
 use Rattle.snippet_model.specs.declared.snippet.Title.{Title}
 use Rattle.snippet_lines.specs.Lines.{Source, source_lines, start_of}
 use Rattle.snippet_lines.specs.Place.{line_of, location_of, place_of, start_location, steps_after_text}
-use Rattle.snippet_view.specs.Marked.{first_line}
+use Rattle.snippet_view.specs.Marked.{first_line, last_line}
 use Rattle.snippet_view.specs.Kept.{shown_lines}
 use Rattle.snippet_view.proofs.PartLemmas.{All-unmapped}
 use Rattle.snippet_view.specs.Location.{IsLocation, start_at}
@@ -195,14 +195,14 @@ linked_elsewhere r text id trusted place follows rows url wrong shown =
 -- first one starts
 --
 --      --> f:1:2
-abbrev both_spans : List Annotation
+abbrev pub both_spans : List Annotation
 both_spans = span_of Primary 1 2 ∷ span_of Primary 0 1 ∷ []
 
-abbrev source_ab : Source
+abbrev pub source_ab : Source
 source_ab = record { text = codes "ab"; first = 1 }
 
 -- the place that they name is at line 1 and column 1
-at_first : (place : Location) → IsLocation source_ab both_spans place → (place.line ≡ 1) × (place.column ≡ Some 1)
+pub at_first : (place : Location) → IsLocation source_ab both_spans place → (place.line ≡ 1) × (place.column ≡ Some 1)
 unfolding start_location location_of steps_after_text place_of line_of start_of chars
 at_first place is =
     elim (Contains-cons_cases second is.span (first ∷ []) is.naming.0) [
@@ -228,15 +228,66 @@ at_first place is =
         (is.line ∙ ap (λ a. 1 + first_line (codes "ab") a) (sym same), is.column ∙ ap (λ a. Some (start_at source_ab a)) (sym same))
     by_first (inr rest) = absurd (Contains-nil is.span rest)
 
-later_column : (s : Snippet Annotation) → IsSnippetOf s (codes "ab") both_spans → s.line_start ≡ 1 → (row : List Cell) → row_text (drop 5 row) ≡ codes "f:1:2" → NamesLocation plain_settings frame s (codes "f") row → ⊥
+origin_of_first_given_span : (s : Snippet Annotation) → IsSnippetOf s (codes "ab") both_spans → s.line_start ≡ 1 → (row : List Cell) → row_text (drop 5 row) ≡ codes "f:1:2" → NamesLocation plain_settings frame s (codes "f") row → ⊥
 unfolding origin_text digits norm chars
-later_column s is first row wrong named =
+origin_of_first_given_span s is first row wrong named =
     let Names : List ℕ → ℕ → List Annotation → Type 0 = λ text line marks. IsLocation (record { text = text; first = line }) marks named.place in
     let there : IsLocation source_ab both_spans named.place = subst (λ marks. Names (codes "ab") 1 marks) is.marks_are (subst (λ line. Names (codes "ab") line s.markers.items) first (subst (λ text. Names text s.line_start s.markers.items) is.source_is named.is)) in
     let at : (named.place.line ≡ 1) × (named.place.column ≡ Some 1) = at_first named.place there in
     let right : row_text (drop 5 row) ≡ codes "f:1:1" = named.text ∙ ap (λ line. origin_text false (codes "f") (record { line = Some line; column = named.place.column })) at.0 ∙ ap (λ column. origin_text false (codes "f") (record { line = Some 1; column = column })) at.1 in
     let digit : ◌≡◌ {A = ℕ} 50 49 = ap (λ (cs : List ℕ). slice_index_or cs 4 0) (sym wrong ∙ right) in
     absurd (omega (arith, digit))
+
+-- ---- a byte in place of a column
+
+-- a primary span of the second character of `éb`, which is byte 2: the row of the path names the column of characters, and not the byte
+--
+--      --> f:1:3
+abbrev pub second_span : Annotation
+second_span = span_of Primary 2 3
+
+abbrev pub source_eb : Source
+source_eb = record { text = encode_utf8_all (codes "éb"); first = 1 }
+
+pub at_second : (place : Location) → IsLocation source_eb (second_span ∷ []) place → (place.line ≡ 1) × (place.column ≡ Some 2)
+unfolding start_location location_of steps_after_text place_of line_of start_of chars lib.Utf8.encode
+at_second place is =
+    elim (Contains-cons_cases second_span is.span [] is.naming.0) [
+      | inl same ↦ (is.line ∙ ap (λ a. 1 + first_line source_eb.text a) (sym same), is.column ∙ ap (λ a. Some (start_at source_eb a)) (sym same))
+      | inr rest ↦ absurd (Contains-nil is.span rest)
+    ]
+
+origin_by_byte : (s : Snippet Annotation) → IsSnippetOf s (encode_utf8_all (codes "éb")) (second_span ∷ []) → s.line_start ≡ 1 → (row : List Cell)
+    → row_text (drop 5 row) ≡ codes "f:1:3" → NamesLocation plain_settings frame s (codes "f") row → ⊥
+unfolding origin_text digits norm chars
+origin_by_byte s is first row wrong named =
+    let Names : List ℕ → ℕ → List Annotation → Type 0 = λ text line marks. IsLocation (record { text = text; first = line }) marks named.place in
+    let there : IsLocation source_eb (second_span ∷ []) named.place = subst (λ marks. Names source_eb.text 1 marks) is.marks_are (subst (λ line. Names source_eb.text line s.markers.items) first (subst (λ text. Names text s.line_start s.markers.items) is.source_is named.is)) in
+    let at : (named.place.line ≡ 1) × (named.place.column ≡ Some 2) = at_second named.place there in
+    let right : row_text (drop 5 row) ≡ codes "f:1:2" = named.text ∙ ap (λ line. origin_text false (codes "f") (record { line = Some line; column = named.place.column })) at.0 ∙ ap (λ column. origin_text false (codes "f") (record { line = Some 1; column = column })) at.1 in
+    let digit : ◌≡◌ {A = ℕ} 51 50 = ap (λ (cs : List ℕ). slice_index_or cs 4 0) (sym wrong ∙ right) in
+    absurd (omega (arith, digit))
+
+-- ---- the first line of spans of one place
+
+-- `a` and `b` on two lines, all of which are a span, and another one: no rows show it that have no row of the first line
+--
+--     2 |   b
+--       | |_^
+first_line_left_out : (s : Snippet Annotation) → IsSnippetOf s (codes "a\nb") (span_of Primary 0 3 ∷ span_of Primary 0 3 ∷ [])
+    → (around : ElementContext) (rows : List NamedRow)
+    → (Contains (lines_named rows) 0 → ⊥)
+    → ShowsSnippet plain_settings frame around s
+    (others (cause_head plain_settings frame around s) ++ (rows ++ others (rows_after_cause plain_settings frame around))) → ⊥
+unfolding line_of start_of
+first_line_left_out s is around rows out shown =
+    let tail : List NamedRow = others (rows_after_cause plain_settings frame around) in
+    let same : shown.after ≡ rows = append_cancel_right shown.after rows tail (sym (append_cancel_left (others (cause_head plain_settings frame around s)) (rows ++ tail) (shown.after ++ tail) shown.rows_are)) in
+    let Begins : List Annotation → Type 0 = λ marks. All (λ a. Contains (lines_named shown.after) (first_line (cow_str_bytes s.source) a) × Contains (lines_named shown.after) (last_line (cow_str_bytes s.source) a)) marks in
+    let ends : Begins (span_of Primary 0 3 ∷ span_of Primary 0 3 ∷ []) = subst Begins is.marks_are shown.ends in
+    let first : Contains (lines_named shown.after) (first_line (cow_str_bytes s.source) (span_of Primary 0 3)) = (All-head (λ a. Contains (lines_named shown.after) (first_line (cow_str_bytes s.source) a) × Contains (lines_named shown.after) (last_line (cow_str_bytes s.source) a)) (span_of Primary 0 3) (span_of Primary 0 3 ∷ []) ends).0 in
+    let at : Contains (lines_named shown.after) 0 = subst (λ text. Contains (lines_named shown.after) (first_line text (span_of Primary 0 3))) is.source_is first in
+    out (subst (λ all. Contains (lines_named all) 0) same at)
 
 -- ---- a closing row that is missing
 

@@ -71,6 +71,7 @@ impl Renderer {
     /// A renderer that writes no style codes.
     pub fn plain() -> Renderer
         ensures settings { result ≡ plain_settings }
+        ensures width { result.term_width ≡ DEFAULT_TERM_WIDTH }
     {
         Renderer {
             anonymized_origin_line_numbers: false,

@@ -1,21 +1,28 @@
-//! Reads what other tools report, and prints what the library draws of it.
-//!
-//! `redraw [--unicode] [--text] [--short] [--styled] [--width N] [--root DIR] [FILE ..]`
+//! Reads what other tools report, and prints what the library draws of it: `redraw [OPTIONS] [FILE]...`.
 #![tactic(auto)]
 
+use program::exit::exit_code;
+use program::input::given_words;
+use redraw_command::tally::FAILED;
+use redraw_command::terminal::Surroundings;
 use redraw_run::run::run;
 use std::env;
-use std::io::{self, BufWriter};
+use std::io::{self, BufWriter, IsTerminal};
 use std::process::ExitCode;
 use std::rt::Env;
 
-/// The words of the command line, without the program's name.
-fn given_words(rt: &(impl Env + AllocGlobal)) -> io::Result<Vec<String>> {
-    let mut words = Vec::new(rt.alloc());
-    for word in env::args(rt)?.skip(1) {
-        words.push(word)?;
-    }
-    Ok(words)
+/// Whether colors aren't wanted, or the terminal shows none.
+fn is_colorless(rt: &(impl Env + AllocGlobal)) -> bool {
+    let is_unwanted = env::var(rt, "NO_COLOR").is_ok_and(|value| !value.is_empty());
+    let is_dumb = env::var(rt, "TERM").is_ok_and(|value| value.as_str() == "dumb");
+    is_unwanted || is_dumb
+}
+
+/// The width of the terminal in columns, where the environment gives it.
+fn columns(rt: &(impl Env + AllocGlobal)) -> Option<usize> {
+    let value = env::var(rt, "COLUMNS").ok()?;
+    let columns = value.as_str().parse().ok()?;
+    if columns > 0 { Some(columns) } else { None }
 }
 
 /// Runs the program, and answers the status to end with.
@@ -23,16 +30,17 @@ fn answer(rt: &HostRuntime) -> io::Result<u8> {
     let alloc = rt.alloc();
     let given = given_words(rt)?;
     let words: Vec<&str> = given.iter().map(|word| word.as_str()).collect(alloc)?;
+    let folder = env::current_dir(rt).ok();
+    let around = Surroundings {
+        is_terminal: rt.stdout().is_terminal(),
+        is_colorless: is_colorless(rt),
+        columns: columns(rt),
+        folder: folder.as_ref().map(|path| path.as_str()),
+    };
     let mut out = BufWriter::new(alloc, rt.stdout())?;
-    Ok(run(rt, &words, &mut out, &mut rt.stderr()))
+    Ok(run(rt, &words, around, &mut out, &mut rt.stderr()))
 }
 
 fn main(rt: HostRuntime) -> ExitCode {
-    match answer(&rt) {
-        Ok(status) => ExitCode::from(status),
-        Err(error) => {
-            let _ = eprintln!(rt; "redraw: {error}");
-            ExitCode::from(2)
-        }
-    }
+    exit_code("redraw", answer(&rt), FAILED, &mut rt.stderr())
 }

@@ -60,7 +60,7 @@ pub position-next : {X : Type 0} (p : X → Bool) (xs : List X) (i n : ℕ) (x :
     → i < length xs → x ≡ slice_index_or xs i x → p x ≡ false → i + position_or_len p (drop i xs) ≡ n → i + 1 + position_or_len p (drop (i + 1) xs) ≡ n
 position-next p xs i n x within is fails so_far =
     let here : position_or_len p (drop i xs) ≡ 1 + position_or_len p (drop (i + 1) xs) =
-        ap (position_or_len p) (from-here xs i x within is) ∙ ap (λ t. cond (not t) (1 + position_or_len p (drop (i + 1) xs)) 0) fails in
+    ap (position_or_len p) (from-here xs i x within is) ∙ ap (λ t. cond (not t) (1 + position_or_len p (drop (i + 1) xs)) 0) fails in
     omega (arith, here, so_far)
 
 -- one that passes is the first that does, if none before it was
@@ -68,7 +68,7 @@ pub position-here : {X : Type 0} (p : X → Bool) (xs : List X) (i : ℕ) (x : X
     → i < length xs → x ≡ slice_index_or xs i x → p x ≡ true → i + position_or_len p (drop i xs) ≡ position_or_len p xs → position p xs ≡ Some i
 position-here p xs i x within is passes so_far =
     let here : position_or_len p (drop i xs) ≡ 0 =
-        ap (position_or_len p) (from-here xs i x within is) ∙ ap (λ t. cond (not t) (1 + position_or_len p (drop (i + 1) xs)) 0) passes in
+    ap (position_or_len p) (from-here xs i x within is) ∙ ap (λ t. cond (not t) (1 + position_or_len p (drop (i + 1) xs)) 0) passes in
     let at : position_or_len p xs ≡ i = omega (arith, here, so_far) in
     grind (arith, common_steps, at, within)
 

@@ -2,9 +2,9 @@
 
 use crate::expansion::told_call;
 use crate::spans::{at_value, file_span, region_of};
+use json_node::fault::Fault;
+use json_node::node::Node;
 use redraw_report::diagnostic::{FileSpan, LineRegion, Region};
-use replay_read::fault::Fault;
-use replay_read::node::Node;
 
 /// Adds the call of a macro that is shown beside a primary place, where there is one and it isn't there yet.
 pub fn add_call(node: &Node<'_, '_>, spans: &mut Vec<FileSpan>) -> Result<(), Fault> {

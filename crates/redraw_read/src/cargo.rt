@@ -2,10 +2,10 @@
 
 use crate::json::{given, given_text, owned};
 use crate::rustc::diagnostic_of;
+use json_node::expectation::Expectation;
+use json_node::fault::Fault;
+use json_node::node::Node;
 use redraw_report::diagnostic::Diagnostic;
-use replay_read::fault::Fault;
-use replay_read::node::Node;
-use replay_read::shape::Expectation;
 
 /// The diagnostic in a message of cargo, with the files of the package that it is of.
 pub fn packaged_diagnostic_of(node: &Node<'_, '_>) -> Result<Diagnostic, Fault> {

@@ -3,10 +3,10 @@
 use crate::json::{given_text, listed, owned};
 use crate::offers::is_attribute;
 use crate::spans::{carried_of, region_of};
+use json_node::expectation::Expectation;
+use json_node::fault::Fault;
+use json_node::node::Node;
 use redraw_report::diagnostic::{Edit, LineRegion, Region};
-use replay_read::fault::Fault;
-use replay_read::node::Node;
-use replay_read::shape::Expectation;
 use serde_json::Value;
 use std::alloc::{AllocError, Global};
 

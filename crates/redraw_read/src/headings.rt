@@ -1,17 +1,16 @@
 //! What a diagnostic of rustc is headed by: its level, its message, and its code.
 
-use crate::json::{given, owned};
+use crate::json::{LEVEL, given, owned};
+use json_node::fault::Fault;
+use json_node::node::Node;
 use redraw_report::diagnostic::{Code, Severity};
-use replay_read::fault::Fault;
-use replay_read::node::Node;
-use replay_read::shape::Expectation;
 use serde_json::Value;
 use std::alloc::{AllocError, Global};
 
 /// The level and the message of a diagnostic or a child.
 pub fn heading_of(node: &Node<'_, '_>) -> Result<(Severity, String), Fault> {
     let message = node.text("message")?;
-    let level = node.needed("level", Expectation::LevelKind)?;
+    let level = node.needed("level", LEVEL)?;
     let severity = severity_in(&level)?;
     Ok((severity, message_of(level.alloc, level.value, message)?))
 }
@@ -20,7 +19,7 @@ pub fn heading_of(node: &Node<'_, '_>) -> Result<(Severity, String), Fault> {
 fn severity_in(level: &Node<'_, '_>) -> Result<Severity, Fault> {
     match severity_of(level.value) {
         Some(severity) => Ok(severity),
-        None => Err(level.unexpected(Expectation::LevelKind)),
+        None => Err(level.unexpected(LEVEL)),
     }
 }
 

@@ -1,10 +1,13 @@
 //! Fields of JSON, which may be missing or null in what other tools write.
 
-use replay_read::fault::Fault;
-use replay_read::node::Node;
-use replay_read::shape::Expectation;
+use json_node::expectation::Expectation;
+use json_node::fault::Fault;
+use json_node::node::Node;
 use serde_json::Value;
 use std::alloc::{AllocError, Global};
+
+/// What is expected of a level.
+pub const LEVEL: &str = "\"error\", \"warning\", \"info\", \"note\" or \"help\"";
 
 /// The field of this name; `None` where there is none, or null.
 pub fn given<'v, 'n>(node: &'n Node<'v, '_>, name: &'n str) -> Option<Node<'v, 'n>> {

@@ -7,7 +7,7 @@ ghost use Rattle.redraw_read.specs.Placed as spec;
 ghost use Rattle.redraw_read.specs.Placed.{AreOffersOf, AreSpotsOf, Grows, IsAttributeOffer, IsOfferOf, Lasting, edit_at, edits_at, offered_view};
 
 use crate::hand::Hand;
-use crate::spot::{Scene, Spot, index_of};
+use crate::spot::{Placing, Spot, index_of};
 use crate::words::{begins_with, finishes_with};
 use redraw_report::diagnostic::{Edit, Region};
 use redraw_report::finding::{Change, Content, Offer, Shown};
@@ -15,16 +15,16 @@ use std::alloc::{AllocError, Global};
 
 /// The offers of some alternatives.
 pub fn offers_of<'a>(
-    scene: &mut Scene<'a>,
+    placing: &mut Placing<'a>,
     hand: Hand<'a>,
     alternatives: &'a [Vec<Edit>],
 ) -> Result<Vec<Offer<'a>>, AllocError>
-    ensures found { IfOk result (λ offers. Lasting scene.old.shown.items scene.new.shown.items
+    ensures found { IfOk result (λ offers. Lasting placing.old.shown.items placing.new.shown.items
         (AreOffersOf hand.entry alternatives.entry.now offers.items)) }
 {
-    let mut offers = Vec::new(scene.alloc);
+    let mut offers = Vec::new(placing.alloc);
     for edits in alternatives {
-        if let Some(offer) = offer_of(scene, hand, edits)? {
+        if let Some(offer) = offer_of(placing, hand, edits)? {
             offers.push(offer)?;
         }
     }
@@ -33,34 +33,34 @@ pub fn offers_of<'a>(
 
 /// The offer of an alternative's edits, if they are in one source. One that isn't drawn is counted.
 fn offer_of<'a>(
-    scene: &mut Scene<'a>,
+    placing: &mut Placing<'a>,
     hand: Hand<'a>,
     edits: &'a [Edit],
 ) -> Result<Option<Offer<'a>>, AllocError>
-    ensures found { IfOk result (λ offer. Lasting scene.old.shown.items scene.new.shown.items
+    ensures found { IfOk result (λ offer. Lasting placing.old.shown.items placing.new.shown.items
         (λ shown. IsOfferOf hand.entry shown edits.entry.now offer)) }
 {
-    let spots = spots_of(scene, hand, edits)?;
-    let offer = match attribute_of(scene, &spots, edits)? {
+    let spots = spots_of(placing, hand, edits)?;
+    let offer = match attribute_of(placing, &spots, edits)? {
         Some(offer) => Some(offer),
-        None => offer_at(scene.alloc, &spots, edits)?,
+        None => offer_at(placing.alloc, &spots, edits)?,
     };
-    scene.count_undrawn(offer.is_none());
+    placing.count_undrawn(offer.is_none());
     Ok(offer)
 }
 
 /// Where some edits are.
 fn spots_of<'a>(
-    scene: &mut Scene<'a>,
+    placing: &mut Placing<'a>,
     hand: Hand<'a>,
     edits: &'a [Edit],
 ) -> Result<Vec<Spot>, AllocError>
-    ensures found { IfOk result (λ spots. Lasting scene.old.shown.items scene.new.shown.items
+    ensures found { IfOk result (λ spots. Lasting placing.old.shown.items placing.new.shown.items
         (AreSpotsOf hand.entry edits.entry.now spots.items)) }
 {
-    let mut spots = Vec::new(scene.alloc);
+    let mut spots = Vec::new(placing.alloc);
     for edit in edits {
-        spots.push(scene.spot(hand, edit.file.as_str(), edit.region, &edit.carried)?)?;
+        spots.push(placing.spot(hand, edit.file.as_str(), edit.region, &edit.carried)?)?;
     }
     Ok(spots)
 }
@@ -153,16 +153,16 @@ pub fn is_attribute(text: &str) -> bool
 
 /// The offer of an attribute, if this is one and lines are at hand where it is to stand.
 fn attribute_of<'a>(
-    scene: &mut Scene<'a>,
+    placing: &mut Placing<'a>,
     spots: &[Spot],
     edits: &'a [Edit],
 ) -> Result<Option<Offer<'a>>, AllocError>
-    ensures found { IfOk result (λ offer. Grows scene.old.shown.items scene.new.shown.items
+    ensures found { IfOk result (λ offer. Grows placing.old.shown.items placing.new.shown.items
         × IfSome offer (IsAttributeOffer edits.entry.now)) }
 {
     match (spots, edits) {
         ([spot], [edit]) if spot.is_at_hand && is_attribute(edit.replacement.as_str()) => {
-            attribute_at(scene, *spot, edit)
+            attribute_at(placing, *spot, edit)
         }
         _ => Ok(None),
     }
@@ -170,20 +170,20 @@ fn attribute_of<'a>(
 
 /// The offer of an attribute, which is shown with the line that it stands above.
 fn attribute_at<'a>(
-    scene: &mut Scene<'a>,
+    placing: &mut Placing<'a>,
     spot: Spot,
     edit: &'a Edit,
 ) -> Result<Option<Offer<'a>>, AllocError>
     requires { spec.is_attribute (string_bytes edit.now.replacement) ≡ true }
-    ensures found { IfOk result (λ offer. Grows scene.old.shown.items scene.new.shown.items
+    ensures found { IfOk result (λ offer. Grows placing.old.shown.items placing.new.shown.items
         × IfSome offer (IsAttributeOffer (edit.entry.now ∷ []))) }
 {
-    let Some((start, line)) = line_at(scene, spot, edit.region) else {
+    let Some((start, line)) = line_at(placing, spot, edit.region) else {
         return Ok(None);
     };
     let at = spot.start.saturating_sub(start);
-    let source = index_of(&mut scene.shown, line)?;
-    let mut changes = Vec::new(scene.alloc);
+    let source = index_of(&mut placing.shown, line)?;
+    let mut changes = Vec::new(placing.alloc);
     changes.push(Change {
         start: at,
         end: at,
@@ -197,11 +197,11 @@ fn attribute_at<'a>(
 }
 
 /// The line around a place as a source of its own, and the byte where it starts.
-fn line_at<'a>(scene: &Scene<'a>, spot: Spot, region: Region) -> Option<(usize, Shown<'a>)> {
+fn line_at<'a>(placing: &Placing<'a>, spot: Spot, region: Region) -> Option<(usize, Shown<'a>)> {
     let Region::Lines(region) = region else {
         return None;
     };
-    let shown = scene.shown.get(spot.source)?;
+    let shown = placing.shown.get(spot.source)?;
     let (start, text) = line_around(shown, spot.start)?;
     let content = Content::Lines {
         text,

@@ -8,18 +8,10 @@ ghost use Rattle.redraw_read.specs.Placed.{AreMarksOf, AreRemarksOf, IsFindingOf
 use crate::hand::Hand;
 use crate::offers::offers_of;
 use crate::sources::{Shelf, Sources, first_home};
-use crate::spot::Scene;
+pub use crate::spot::Placing;
 use redraw_report::diagnostic::{Child, Diagnostic, Edit, FileSpan};
-use redraw_report::finding::{Finding, Mark, Remark, Shown};
+use redraw_report::finding::{Finding, Mark, Remark};
 use std::alloc::{AllocError, Global};
-
-/// The sources that a finding is shown in, and what was found wrong with its places on the way.
-#[derive(Drop)]
-pub struct Placing<'a> {
-    scene: Scene<'a>,
-    /// Whether the finding is drawn on one line, which tells places by marks alone.
-    is_short: bool,
-}
 
 /// Reads each file that a diagnostic speaks of.
 pub fn load_files<S: Shelf + Drop>(
@@ -62,30 +54,15 @@ fn load_edits<S: Shelf + Drop>(
 }
 
 impl<'a> Placing<'a> {
-    /// No sources yet.
+    /// No sources yet. In the short form places are told by marks alone.
     pub fn new(alloc: Global, is_short: bool) -> Placing<'a> {
-        let scene = Scene {
+        Placing {
             alloc,
             shown: Vec::new(alloc),
             clamped: 0,
             undrawn: 0,
-        };
-        Placing { scene, is_short }
-    }
-
-    /// The sources so far.
-    pub fn shown(&self) -> &[Shown<'a>] {
-        &self.scene.shown
-    }
-
-    /// How many places aren't in their sources as they were given.
-    pub fn clamped(&self) -> u64 {
-        self.scene.clamped
-    }
-
-    /// How many alternatives aren't drawn, since too little is at hand of what they change.
-    pub fn undrawn(&self) -> u64 {
-        self.scene.undrawn
+            is_short,
+        }
     }
 
     /// The finding that a diagnostic reports.
@@ -99,21 +76,21 @@ impl<'a> Placing<'a> {
             home: first_home(&diagnostic.homes),
             is_short: self.is_short,
         };
-        finding_in(&mut self.scene, hand, diagnostic)
+        finding_in(self, hand, diagnostic)
     }
 }
 
 /// The finding that a diagnostic reports, by what is at hand.
 pub fn finding_in<'a>(
-    scene: &mut Scene<'a>,
+    placing: &mut Placing<'a>,
     hand: Hand<'a>,
     diagnostic: &'a Diagnostic,
 ) -> Result<Finding<'a>, AllocError>
-    ensures found { IfOk result (λ f. Lasting scene.old.shown.items scene.new.shown.items
+    ensures found { IfOk result (λ f. Lasting placing.old.shown.items placing.new.shown.items
         (λ shown. IsFindingOf hand.entry diagnostic.entry.now f shown)) }
 {
-    let marks = marks_of(scene, hand, &diagnostic.spans)?;
-    let remarks = remarks_of(scene, hand, &diagnostic.children)?;
+    let marks = marks_of(placing, hand, &diagnostic.spans)?;
+    let remarks = remarks_of(placing, hand, &diagnostic.children)?;
     Ok(Finding {
         severity: diagnostic.severity,
         message: diagnostic.message.as_str(),
@@ -125,30 +102,30 @@ pub fn finding_in<'a>(
 
 /// The marks of some places.
 fn marks_of<'a>(
-    scene: &mut Scene<'a>,
+    placing: &mut Placing<'a>,
     hand: Hand<'a>,
     spans: &'a [FileSpan],
 ) -> Result<Vec<Mark<'a>>, AllocError>
-    ensures found { IfOk result (λ marks. Lasting scene.old.shown.items scene.new.shown.items
+    ensures found { IfOk result (λ marks. Lasting placing.old.shown.items placing.new.shown.items
         (AreMarksOf hand.entry spans.entry.now marks.items)) }
 {
-    let mut marks = Vec::new(scene.alloc);
+    let mut marks = Vec::new(placing.alloc);
     for span in spans {
-        marks.push(mark_of(scene, hand, span)?)?;
+        marks.push(mark_of(placing, hand, span)?)?;
     }
     Ok(marks)
 }
 
 /// The mark of a place.
 fn mark_of<'a>(
-    scene: &mut Scene<'a>,
+    placing: &mut Placing<'a>,
     hand: Hand<'a>,
     span: &'a FileSpan,
 ) -> Result<Mark<'a>, AllocError>
-    ensures found { IfOk result (λ mark. Lasting scene.old.shown.items scene.new.shown.items
+    ensures found { IfOk result (λ mark. Lasting placing.old.shown.items placing.new.shown.items
         (λ shown. IsMarkOf hand.entry shown span.entry.now mark)) }
 {
-    let spot = scene.spot(hand, span.file.as_str(), span.region, &span.carried)?;
+    let spot = placing.spot(hand, span.file.as_str(), span.region, &span.carried)?;
     Ok(Mark {
         source: spot.source,
         start: spot.start,
@@ -170,31 +147,31 @@ fn label_of(span: &FileSpan) -> Option<&str>
 
 /// The remarks that some children make.
 fn remarks_of<'a>(
-    scene: &mut Scene<'a>,
+    placing: &mut Placing<'a>,
     hand: Hand<'a>,
     children: &'a [Child],
 ) -> Result<Vec<Remark<'a>>, AllocError>
-    ensures found { IfOk result (λ remarks. Lasting scene.old.shown.items scene.new.shown.items
+    ensures found { IfOk result (λ remarks. Lasting placing.old.shown.items placing.new.shown.items
         (AreRemarksOf hand.entry children.entry.now remarks.items)) }
 {
-    let mut remarks = Vec::new(scene.alloc);
+    let mut remarks = Vec::new(placing.alloc);
     for child in children {
-        remarks.push(remark_of(scene, hand, child)?)?;
+        remarks.push(remark_of(placing, hand, child)?)?;
     }
     Ok(remarks)
 }
 
 /// The remark that a child makes.
 fn remark_of<'a>(
-    scene: &mut Scene<'a>,
+    placing: &mut Placing<'a>,
     hand: Hand<'a>,
     child: &'a Child,
 ) -> Result<Remark<'a>, AllocError>
-    ensures found { IfOk result (λ remark. Lasting scene.old.shown.items scene.new.shown.items
+    ensures found { IfOk result (λ remark. Lasting placing.old.shown.items placing.new.shown.items
         (λ shown. IsRemarkOf hand.entry shown child.entry.now remark)) }
 {
-    let marks = marks_of(scene, hand, &child.spans)?;
-    let offers = offers_of(scene, hand, &child.alternatives)?;
+    let marks = marks_of(placing, hand, &child.spans)?;
+    let offers = offers_of(placing, hand, &child.alternatives)?;
     Ok(Remark {
         severity: child.severity,
         message: child.message.as_str(),

@@ -8,10 +8,10 @@ use crate::headings::{code_of, heading_of};
 use crate::json::{given_text, listed};
 use crate::rendered::{as_rendered, is_whole};
 use crate::spans::spans_of;
+use json_node::expectation::Expectation;
+use json_node::fault::Fault;
+use json_node::node::Node;
 use redraw_report::diagnostic::{Child, Code, Diagnostic, FileSpan, Severity};
-use replay_read::fault::Fault;
-use replay_read::node::Node;
-use replay_read::shape::Expectation;
 use serde_json::Value;
 use std::alloc::Global;
 

@@ -4,10 +4,10 @@ use crate::calls::add_call;
 use crate::expansion::shown_place;
 use crate::json::{given, given_text, listed, owned, values_of};
 use crate::roles::settle_roles;
+use json_node::expectation::Expectation;
+use json_node::fault::Fault;
+use json_node::node::Node;
 use redraw_report::diagnostic::{Carried, FileSpan, LineRegion, Region, Unit};
-use replay_read::fault::Fault;
-use replay_read::node::Node;
-use replay_read::shape::Expectation;
 use serde_json::Value;
 use std::alloc::{AllocError, Global};
 

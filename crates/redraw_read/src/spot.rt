@@ -26,7 +26,7 @@ pub struct Spot {
 
 /// The sources that a finding is shown in, and what was found wrong with its places on the way.
 #[derive(Drop)]
-pub struct Scene<'a> {
+pub struct Placing<'a> {
     pub alloc: Global,
     /// The sources so far.
     pub shown: Vec<Shown<'a>>,
@@ -34,9 +34,11 @@ pub struct Scene<'a> {
     pub clamped: u64,
     /// How many alternatives aren't drawn, since too little is at hand of what they change.
     pub undrawn: u64,
+    /// Whether the finding is drawn on one line, which tells places by marks alone.
+    pub is_short: bool,
 }
 
-impl<'a> Scene<'a> {
+impl<'a> Placing<'a> {
     /// Where a part of a file is: in the file, in the lines that the input has of it, or nowhere.
     pub fn spot(
         &mut self,

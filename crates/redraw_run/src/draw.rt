@@ -1,104 +1,97 @@
 //! Findings, drawn one after another as they are read.
+ghost use Rattle.std.specs.Prelude.{◌≡◌, ◌++◌, [], ◌∷◌, OnOk, IfOk, IfErr, string_bytes};
+ghost use Rattle.std.specs.Io.KnownBytes.{Appends};
+ghost use Rattle.redraw_command.specs.Tally.{one_more};
+ghost use Rattle.redraw_run.specs.Drawn.{Draws, IsCounted, IsLeftOut, ending_after};
+ghost use Rattle.redraw_command.specs.declared.choice.Form.TheVariants.{Report, Workflow};
 
-use crate::stop::Stop;
+use crate::text::drawn_of;
+use annotate_snippets::Renderer;
 use annotate_snippets::renderer::RenderError;
-use annotate_snippets::text::normalize_untrusted_str;
-use annotate_snippets::{Group, Renderer};
-use redraw_read::place::{Placing, load_files};
+use json_node::fault::Fault;
+use redraw_command::choice::{Choice, Form, is_sum};
+use redraw_command::output::print;
+use redraw_command::relative::make_relative;
+use redraw_command::seen::{Names, Seen};
+use redraw_command::stop::Stop;
+use redraw_command::tally::Tally;
+use redraw_command::tell::tell;
+use redraw_command::workflow::command_of;
+use redraw_read::place::load_files;
 use redraw_read::sources::{Shelf, Sources};
 use redraw_report::diagnostic::{Diagnostic, Severity};
-use redraw_report::fits::report_fits;
-use redraw_report::report::report;
-use replay_read::fault::Fault;
+use serde_json::Value;
 use std::alloc::{AllocError, Global};
 use std::fmt;
 use std::io::Write;
 
-/// How many findings were drawn, and what became of the rest.
-#[derive(Clone, Copy, Default)]
-pub struct Tally {
-    /// Those that were drawn.
-    pub drawn: u64,
-    /// Those of them that are errors.
-    pub errors: u64,
-    /// Parts of the input that hold no finding.
-    pub other: u64,
-    /// Parts of the input in which something is wrong.
-    pub wrong: u64,
-}
-
-impl fmt::Display for Tally {
-    fn fmt<W: fmt::Write>(&self, f: &mut fmt::Formatter<W>) -> fmt::Result {
-        let drawn = self.drawn;
-        let left_out = self.other.saturating_add(self.wrong);
-        write!(f, "{drawn} drawn, {left_out} left out")?;
-        let (other, wrong) = (self.other, self.wrong);
-        if left_out > 0 {
-            write!(
-                f,
-                ": {other} without a finding, {wrong} with something wrong"
-            )?;
-        }
-        Ok(())
-    }
-}
-
-/// What is drawn from, and where it is written.
+/// What is drawn from, and what was drawn so far.
 #[derive(Drop)]
-pub struct Drawing<'r, 'w, S: Drop, W, V> {
+pub struct Drawing<'w, S: Drop> {
     pub alloc: Global,
     pub renderer: Renderer,
+    /// Which findings are drawn, and in which form.
+    pub choice: Choice<'w>,
     pub sources: Sources<S>,
-    pub out: &'r mut W,
-    pub err: &'r mut V,
+    /// The folder that paths are shown from, where it is known.
+    pub folder: Option<String>,
     pub tally: Tally,
+    /// What was drawn of cargo's diagnostics.
+    pub seen: Seen,
+    /// The files in which what was drawn has its primary places.
+    pub files: Names,
     /// The name of the input that is read, as messages give it.
     pub input: &'w str,
     /// The line of it that is read, from 1; 0 where it isn't read by lines.
     pub line: u64,
 }
 
-impl<S: Shelf + Drop, W: Write, V: Write> Drawing<'_, '_, S, W, V> {
-    /// Draws what a part of the input reports, or says what is wrong with it.
-    pub fn finding(&mut self, read: Result<Diagnostic, Fault>) -> Result<(), Stop> {
+impl<S: Shelf + Drop> Drawing<'_, S> {
+    /// Draws what a part of the input reports, or says what is wrong with it. Cargo's message is given where it is one.
+    pub fn finding<W: Write, V: Write>(
+        &mut self,
+        read: Result<Diagnostic, Fault>,
+        message: Option<&Value>,
+        out: &mut W,
+        err: &mut V,
+    ) -> Result<(), Stop> {
         match read {
-            Ok(diagnostic) => self.draw(&diagnostic),
+            Ok(diagnostic) => self.take(diagnostic, message, out, err),
             Err(Fault::Memory) => Err(Stop::Memory),
             Err(fault) => {
-                self.wrong(fault);
+                self.wrong(fault, err);
                 Ok(())
             }
         }
     }
 
-    /// Counts a part of the input that holds no finding.
-    pub fn other(&mut self) {
-        self.tally.other = self.tally.other.saturating_add(1);
-    }
-
     /// Tells that something is wrong with what is read, which is left out.
-    pub fn wrong<D: fmt::Display + Drop>(&mut self, what: D) {
+    pub fn wrong<D: fmt::Display + Drop, V: Write>(&mut self, what: D, err: &mut V)
+        ensures counted { self.new ≡ record self.old { tally = record self.old.tally { wrong = one_more self.old.tally.wrong } } }
+    {
         self.leave_out();
-        self.tell(what);
+        self.tell(what, err);
     }
 
     /// Counts a part of the input that is left out, since something is wrong with it.
-    pub fn leave_out(&mut self) {
+    pub fn leave_out(&mut self)
+        ensures counted { self.new ≡ record self.old { tally = record self.old.tally { wrong = one_more self.old.tally.wrong } } }
+    {
         self.tally.wrong = self.tally.wrong.saturating_add(1);
     }
 
     /// Tells something of what is read.
-    pub fn tell<D: fmt::Display + Drop>(&mut self, what: D) {
+    pub fn tell<D: fmt::Display + Drop, V: Write>(&self, what: D, err: &mut V) {
         let (input, line) = (self.input, self.line);
         if line == 0 {
-            tell(self.alloc, format_args!("{input}: {what}"), self.err);
+            tell(self.alloc, format_args!("{input}: {what}"), err);
         } else {
-            tell(self.alloc, format_args!("{input}:{line}: {what}"), self.err);
+            tell(self.alloc, format_args!("{input}:{line}: {what}"), err);
         }
     }
 
     /// Tells where something that begins on this line isn't JSON, and leaves it out.
-    pub fn not_json(&mut self, begins: u64, error: &serde_json::Error) {
+    pub fn not_json<V: Write>(&mut self, begins: u64, error: &serde_json::Error, err: &mut V) {
         self.leave_out();
         let input = self.input;
         let line = begins.saturating_add(error.line() as u64).saturating_sub(1);
@@ -109,137 +102,163 @@ impl<S: Shelf + Drop, W: Write, V: Write> Drawing<'_, '_, S, W, V> {
             ""
         };
         let told = format_args!("{input}:{line}:{column}: not valid JSON{ending}");
-        tell(self.alloc, told, self.err);
+        tell(self.alloc, told, err);
+    }
+
+    /// Draws a finding, if it is one of those that are asked for and cargo hasn't reported it before.
+    pub fn take<W: Write, V: Write>(
+        &mut self,
+        mut diagnostic: Diagnostic,
+        message: Option<&Value>,
+        out: &mut W,
+        err: &mut V,
+    ) -> Result<(), Stop> {
+        if let Some(folder) = &self.folder {
+            make_relative(self.alloc, &mut diagnostic, folder.as_str())?;
+        }
+        if self.choice.takes(&diagnostic) && !self.is_duplicate(message)? {
+            self.draw(&diagnostic, out, err)?;
+        }
+        Ok(())
+    }
+
+    /// Whether this is a message of cargo that was drawn before and isn't to be drawn again; such a one is counted.
+    fn is_duplicate(&mut self, message: Option<&Value>) -> Result<bool, AllocError> {
+        match message {
+            Some(message) if !self.choice.has_duplicates => {
+                let is_duplicate = self.seen.keeps(message)?;
+                if is_duplicate {
+                    self.tally.duplicates = self.tally.duplicates.saturating_add(1);
+                }
+                Ok(is_duplicate)
+            }
+            _ => Ok(false),
+        }
     }
 
     /// Draws the finding that a diagnostic reports.
-    pub fn draw(&mut self, diagnostic: &Diagnostic) -> Result<(), Stop> {
+    fn draw<W: Write, V: Write>(
+        &mut self,
+        diagnostic: &Diagnostic,
+        out: &mut W,
+        err: &mut V,
+    ) -> Result<(), Stop>
+        ensures draws { OnOk result (Draws self.old.choice.form self.old.renderer diagnostic.now
+            (W.contents out.old) (W.contents out.new) (out.new ≡ out.old) self.old.tally self.new.tally) }
+        ensures kept { (self.new.renderer ≡ self.old.renderer) × (self.new.choice ≡ self.old.choice) }
+    {
+        match self.choice.form {
+            Form::Report => self.draw_report(diagnostic, out, err),
+            Form::Workflow => self.draw_command(diagnostic, out),
+        }
+    }
+
+    /// Draws it as a report.
+    fn draw_report<W: Write, V: Write>(
+        &mut self,
+        diagnostic: &Diagnostic,
+        out: &mut W,
+        err: &mut V,
+    ) -> Result<(), Stop>
+        ensures draws { OnOk result (Draws Report self.old.renderer diagnostic.now
+            (W.contents out.old) (W.contents out.new) (out.new ≡ out.old) self.old.tally self.new.tally) }
+        ensures kept { (self.new.renderer ≡ self.old.renderer) × (self.new.choice ≡ self.old.choice) }
+    {
         load_files(&mut self.sources, diagnostic)?;
-        self.tell_unread();
+        self.tell_unread(err);
         let drawn = drawn_of(self.alloc, &self.renderer, &self.sources, diagnostic)?;
-        self.tell_inexact(drawn.clamped, drawn.undrawn);
-        self.print_drawn(drawn.text, diagnostic.severity)
+        self.tell_inexact(drawn.clamped, drawn.undrawn, err);
+        self.print_drawn(drawn.text, diagnostic, out, err)
+    }
+
+    /// Draws it as a workflow command, if it is one.
+    fn draw_command<W: Write>(&mut self, diagnostic: &Diagnostic, out: &mut W) -> Result<(), Stop>
+        ensures draws { OnOk result (Draws Workflow self.old.renderer diagnostic.now
+            (W.contents out.old) (W.contents out.new) (out.new ≡ out.old) self.old.tally self.new.tally) }
+        ensures kept { (self.new.renderer ≡ self.old.renderer) × (self.new.choice ≡ self.old.choice) }
+    {
+        match command_of(self.alloc, diagnostic)? {
+            Some(line) => {
+                self.count(diagnostic)?;
+                print(line.as_str(), "", out)
+            }
+            None => Ok(()),
+        }
     }
 
     /// Tells which files couldn't be read, each once.
-    fn tell_unread(&mut self) {
+    fn tell_unread<V: Write>(&mut self, err: &mut V)
+        ensures kept { (self.new.renderer ≡ self.old.renderer) × (self.new.choice ≡ self.old.choice) × (self.new.tally ≡ self.old.tally) }
+    {
         for name in self.sources.take_unread() {
-            self.tell(format_args!(
-                "can't read {name}: --root names the folder that paths begin in"
-            ));
+            let what = "--root names the folder that paths begin in";
+            self.tell(format_args!("can't read {name}: {what}"), err);
         }
     }
 
     /// Tells how many places aren't in their source, and how many edits aren't drawn.
-    fn tell_inexact(&mut self, clamped: u64, undrawn: u64) {
+    fn tell_inexact<V: Write>(&self, clamped: u64, undrawn: u64, err: &mut V) {
         if clamped > 0 {
-            self.tell(format_args!(
-                "places that aren't in their source, drawn at the nearest one: {clamped}"
-            ));
+            let what = "places that aren't in their source, drawn at the nearest one";
+            self.tell(format_args!("{what}: {clamped}"), err);
         }
         if undrawn > 0 {
-            self.tell(format_args!(
-                "edits that aren't drawn, since too little is at hand of their files: {undrawn}"
-            ));
+            let what = "edits that aren't drawn, since too little is at hand of their files";
+            self.tell(format_args!("{what}: {undrawn}"), err);
         }
     }
 
     /// Prints the text of a finding, or tells why there is none.
-    fn print_drawn(
+    fn print_drawn<W: Write, V: Write>(
         &mut self,
         text: Result<String, RenderError>,
-        severity: Severity,
-    ) -> Result<(), Stop> {
+        diagnostic: &Diagnostic,
+        out: &mut W,
+        err: &mut V,
+    ) -> Result<(), Stop>
+        ensures drawn { OnOk result (IfOk text (λ t. Appends (W.contents out.old) (W.contents out.new)
+            (string_bytes t ++ (ending_after self.old.renderer.short_message diagnostic.now.severity ++ 10 ∷ [])))) }
+        ensures counted { OnOk result (IfOk text (λ t. IsCounted diagnostic.now self.old.tally self.new.tally)) }
+        ensures untold { OnOk result (IfOk text (λ t. err.new ≡ err.old)) }
+        ensures left_out { OnOk result (IfErr text (λ e. (out.new ≡ out.old) × IsLeftOut self.old.tally self.new.tally)) }
+        ensures kept { (self.new.renderer ≡ self.old.renderer) × (self.new.choice ≡ self.old.choice) }
+    {
         match text {
-            Ok(text) => self.print(text.as_str(), severity),
+            Ok(text) => {
+                self.count(diagnostic)?;
+                print(text.as_str(), self.ending_of(diagnostic.severity), out)
+            }
             Err(RenderError::Memory(_)) => Err(Stop::Memory),
             Err(error) => {
-                self.wrong(format_args!("{error}"));
+                self.wrong(format_args!("{error}"), err);
                 Ok(())
             }
         }
     }
 
-    /// Counts a finding that is drawn.
-    fn count(&mut self, severity: Severity) {
-        self.tally.drawn = self.tally.drawn.saturating_add(1);
-        if severity == Severity::Error {
-            self.tally.errors = self.tally.errors.saturating_add(1);
-        }
-    }
-
-    /// Prints a report, with an empty line after it, but not after one line or a text without a level.
-    fn print(&mut self, text: &str, severity: Severity) -> Result<(), Stop> {
-        self.count(severity);
-        let ending = if self.renderer.short_message || severity == Severity::Plain {
+    /// What stands after a report: an empty line, but none after one line or a text without a level.
+    fn ending_of(&self, severity: Severity) -> &'static str
+        ensures value { result.now ≡ ending_after self.now.renderer.short_message severity }
+    {
+        if self.renderer.short_message || severity == Severity::Plain {
             ""
         } else {
             "\n"
-        };
-        let written = self.out.writeln(format_args!("{text}{ending}")).is_ok();
-        if written && self.out.flush().is_ok() {
-            Ok(())
-        } else {
-            Err(Stop::Unwritable)
         }
     }
-}
 
-/// Writes a message, with nothing in it that could change how a terminal shows it.
-pub fn tell<D: fmt::Display + Drop, V: Write>(alloc: Global, message: D, err: &mut V) {
-    match shown(alloc, message) {
-        Ok(text) => {
-            let _ = err.writeln(text.as_str());
+    /// Counts a finding that is drawn, and the files that it lies in.
+    fn count(&mut self, diagnostic: &Diagnostic) -> Result<(), AllocError>
+        ensures counted { OnOk result (IsCounted diagnostic.now self.old.tally self.new.tally) }
+        ensures kept { (self.new.renderer ≡ self.old.renderer) × (self.new.choice ≡ self.old.choice) }
+    {
+        for span in &diagnostic.spans {
+            if span.is_primary {
+                self.files.add(span.file.as_str())?;
+            }
         }
-        Err(AllocError) => {
-            let _ = err.writeln("redraw: out of memory");
-        }
-    }
-}
-
-/// A message as it may be shown.
-fn shown<D: fmt::Display + Drop>(alloc: Global, message: D) -> Result<String, AllocError> {
-    let message = format!(in alloc; "redraw: {message}")?;
-    normalize_untrusted_str(alloc, message.as_str())
-}
-
-/// What was drawn of a finding.
-#[derive(Drop)]
-struct Drawn {
-    /// Its text, or why there is none.
-    text: Result<String, RenderError>,
-    /// How many places aren't in their source.
-    clamped: u64,
-    /// How many edits aren't drawn.
-    undrawn: u64,
-}
-
-/// What is drawn of a diagnostic, whose files were read.
-fn drawn_of<S: Shelf + Drop>(
-    alloc: Global,
-    renderer: &Renderer,
-    sources: &Sources<S>,
-    diagnostic: &Diagnostic,
-) -> Result<Drawn, AllocError> {
-    let mut placing = Placing::new(alloc, renderer.short_message);
-    let finding = placing.finding(sources, diagnostic)?;
-    let groups = report(alloc, placing.shown(), &finding)?;
-    Ok(Drawn {
-        text: render_fitting(alloc, renderer, &groups),
-        clamped: placing.clamped(),
-        undrawn: placing.undrawn(),
-    })
-}
-
-/// The text of a report; refused as if for memory where one of its texts is longer than memory is.
-fn render_fitting(
-    alloc: Global,
-    renderer: &Renderer,
-    groups: &Vec<Group<'_>>,
-) -> Result<String, RenderError> {
-    if report_fits(groups) {
-        renderer.render(alloc, groups)
-    } else {
-        Err(RenderError::Memory(AllocError))
+        self.tally = self.tally.with(diagnostic.severity, is_sum(diagnostic));
+        self.tally.files = self.files.len();
+        Ok(())
     }
 }

@@ -2,17 +2,20 @@
 
 use crate::draw::Drawing;
 use crate::sarif::draw_runs;
-use crate::stop::Stop;
+use json_node::expectation::Expectation;
+use json_node::node::Node;
+use json_node::place::Place;
+use redraw_command::line::{Line, is_utf16, line_of};
+use redraw_command::output::pass;
+use redraw_command::stop::Stop;
 use redraw_read::cargo::packaged_diagnostic_of;
 use redraw_read::json::listed;
 use redraw_read::rustc::diagnostic_of;
 use redraw_read::sources::Shelf;
-use replay_read::fault::Place;
-use replay_read::node::Node;
-use replay_read::shape::Expectation;
 use serde_json::Value;
 use std::alloc::Global;
-use std::io::{self, BufRead, Write};
+use std::io::{BufRead, Write};
+use std::str;
 
 /// What an input has been so far.
 #[derive(Drop)]
@@ -20,14 +23,16 @@ pub struct Reading {
     alloc: Global,
     /// Whether something in it was of a form that is known.
     pub is_known: bool,
-    /// Whether there was a line that isn't blank.
+    /// Whether anything was read.
     has_begun: bool,
+    /// Whether there was a line that begins as an object does.
+    has_objects: bool,
+    /// Whether there was another line that isn't blank.
+    has_others: bool,
     /// The lines of a document that is more than its first line.
-    document: Option<String>,
+    document: Option<Vec<u8>>,
     /// The number of the line that the document begins on.
     begins: u64,
-    /// Whether each line so far was UTF-8.
-    is_text: bool,
 }
 
 /// What a value of JSON is.
@@ -37,6 +42,8 @@ enum Kind {
     Rustc,
     /// A message of cargo that has a diagnostic of rustc in it.
     Cargo,
+    /// The last message of cargo, where the build failed.
+    Failed,
     /// A message of rustc or cargo that has none.
     Other,
     /// A SARIF log.
@@ -49,11 +56,7 @@ fn kind_of(value: &Value) -> Option<Kind> {
         return Some(Kind::Sarif);
     }
     if let Some(reason) = value.get("reason").and_then(Value::as_str) {
-        return Some(if reason == "compiler-message" {
-            Kind::Cargo
-        } else {
-            Kind::Other
-        });
+        return Some(cargo_kind(reason, value));
     }
     if value.get("message").is_some() && value.get("spans").is_some() {
         return Some(Kind::Rustc);
@@ -65,6 +68,22 @@ fn kind_of(value: &Value) -> Option<Kind> {
     }
 }
 
+/// What a message of cargo is, by its reason.
+fn cargo_kind(reason: &str, value: &Value) -> Kind {
+    if reason == "compiler-message" {
+        Kind::Cargo
+    } else if reason == "build-finished" && is_failed(value) {
+        Kind::Failed
+    } else {
+        Kind::Other
+    }
+}
+
+/// Whether cargo's last message says that the build failed.
+fn is_failed(value: &Value) -> bool {
+    value.get("success").and_then(Value::as_bool) == Some(false)
+}
+
 impl Reading {
     /// Nothing has been read.
     pub fn new(alloc: Global) -> Reading {
@@ -72,163 +91,245 @@ impl Reading {
             alloc,
             is_known: false,
             has_begun: false,
+            has_objects: false,
+            has_others: false,
             document: None,
             begins: 0,
-            is_text: true,
         }
     }
 
-    /// Takes a line.
+    /// Takes a line, with its end.
     pub fn line<S: Shelf + Drop, W: Write, V: Write>(
         &mut self,
-        line: &str,
-        drawing: &mut Drawing<'_, '_, S, W, V>,
+        bytes: &[u8],
+        drawing: &mut Drawing<'_, S>,
+        out: &mut W,
+        err: &mut V,
     ) -> Result<(), Stop> {
-        if let Some(document) = &mut self.document {
-            return add_line(document, line);
-        }
-        if line.trim().is_empty() {
-            return Ok(());
-        }
         let is_first = !self.has_begun;
         self.has_begun = true;
-        let line = if is_first { without_mark(line) } else { line };
-        match Value::from_str(self.alloc, line) {
-            Ok(value) => self.value(&value, drawing),
-            Err(error) if error.is_memory() => Err(Stop::Memory),
-            Err(error) => self.no_value(line, is_first, &error, drawing),
+        if is_first && is_utf16(bytes) {
+            return Err(Stop::Utf16);
+        }
+        if self.document.is_some() {
+            return self.document_line(bytes, drawing, err);
+        }
+        match line_of(bytes, is_first) {
+            Line::Object(line) => self.object(line, bytes, drawing, out, err),
+            Line::Undecoded => {
+                self.has_objects = true;
+                drawing.wrong("not valid UTF-8", err);
+                Ok(())
+            }
+            Line::Blank => pass(bytes, out),
+            Line::Other => {
+                self.has_others = true;
+                pass(bytes, out)
+            }
         }
     }
 
-    /// Takes a line that isn't JSON: the first may begin a document, and another one is told and left out.
-    fn no_value<S: Shelf + Drop, W: Write, V: Write>(
+    /// Takes a line that begins as an object does.
+    fn object<S: Shelf + Drop, W: Write, V: Write>(
         &mut self,
         line: &str,
-        is_first: bool,
+        bytes: &[u8],
+        drawing: &mut Drawing<'_, S>,
+        out: &mut W,
+        err: &mut V,
+    ) -> Result<(), Stop> {
+        match Value::from_str(self.alloc, without_end(line)) {
+            Ok(value) => self.value(&value, Some(bytes), drawing, out, err),
+            Err(error) if error.is_memory() => Err(Stop::Memory),
+            Err(_) if !line.starts_with('{') => {
+                self.has_others = true;
+                pass(bytes, out)
+            }
+            Err(error) => self.no_value(line, &error, drawing, err),
+        }
+    }
+
+    /// Takes a line that begins as an object does and isn't JSON: the first such may begin a document, and another one is told
+    /// and left out.
+    fn no_value<S: Shelf + Drop, V: Write>(
+        &mut self,
+        line: &str,
         error: &serde_json::Error,
-        drawing: &mut Drawing<'_, '_, S, W, V>,
+        drawing: &mut Drawing<'_, S>,
+        err: &mut V,
     ) -> Result<(), Stop> {
         let at = drawing.line;
-        if is_first && line.trim_start().starts_with('{') {
-            self.document = Some(String::from_str(self.alloc, line)?);
-            self.begins = at;
+        if self.has_objects {
+            drawing.not_json(at, error, err);
         } else {
-            drawing.not_json(at, error);
+            self.has_objects = true;
+            self.document = Some(line.as_bytes().to_vec(self.alloc)?);
+            self.begins = at;
         }
         Ok(())
     }
 
-    /// Takes what was read of an input as its next line.
-    fn next_line<S: Shelf + Drop, W: Write, V: Write>(
+    /// Takes a line of a document. One that isn't UTF-8 is told, and then nothing of the document is drawn.
+    fn document_line<S: Shelf + Drop, V: Write>(
         &mut self,
-        line: io::Result<String>,
-        drawing: &mut Drawing<'_, '_, S, W, V>,
+        bytes: &[u8],
+        drawing: &mut Drawing<'_, S>,
+        err: &mut V,
     ) -> Result<(), Stop> {
-        match line {
-            Ok(line) => self.line(line.as_str(), drawing),
-            Err(error) if error.kind() == io::ErrorKind::InvalidData => {
-                self.undecoded(drawing);
-                Ok(())
-            }
-            Err(error) => Err(Stop::Unreadable(error)),
+        if str::from_utf8(bytes).is_err() {
+            drawing.wrong("not valid UTF-8", err);
         }
+        if let Some(document) = &mut self.document {
+            document.extend_from_slice(bytes)?;
+        }
+        Ok(())
     }
 
-    /// Takes a line that isn't UTF-8, which is told and left out. So is all of a document that holds one.
-    fn undecoded<S: Shelf + Drop, W: Write, V: Write>(
-        &mut self,
-        drawing: &mut Drawing<'_, '_, S, W, V>,
-    ) {
-        self.has_begun = true;
-        self.is_text = false;
-        drawing.wrong("not valid UTF-8");
-    }
-
-    /// Ends the input: a document is read when all of its lines are there.
+    /// Ends the input: a document is read when all of its lines are there. An input in which nothing begins as an object does is told.
     pub fn end<S: Shelf + Drop, W: Write, V: Write>(
         &mut self,
-        drawing: &mut Drawing<'_, '_, S, W, V>,
+        drawing: &mut Drawing<'_, S>,
+        out: &mut W,
+        err: &mut V,
     ) -> Result<(), Stop> {
-        let Some(document) = self.document.take() else {
+        if let Some(document) = self.document.take() {
+            return self.document(&document, drawing, out, err);
+        }
+        if self.has_others && !self.has_objects {
+            drawing.tell(
+                "nothing in it is a message of rustc or cargo or a SARIF log",
+                err,
+            );
+        }
+        Ok(())
+    }
+
+    /// Takes a document, if all of it is UTF-8.
+    fn document<S: Shelf + Drop, W: Write, V: Write>(
+        &mut self,
+        document: &[u8],
+        drawing: &mut Drawing<'_, S>,
+        out: &mut W,
+        err: &mut V,
+    ) -> Result<(), Stop> {
+        let Ok(text) = str::from_utf8(document) else {
             return Ok(());
         };
-        if !self.is_text {
-            return Ok(());
-        }
-        match Value::from_str(self.alloc, document.as_str()) {
-            Ok(value) => self.value(&value, drawing),
+        match Value::from_str(self.alloc, without_end(text)) {
+            Ok(value) => self.value(&value, None, drawing, out, err),
             Err(error) if error.is_memory() => Err(Stop::Memory),
             Err(error) => {
-                drawing.not_json(self.begins, &error);
+                drawing.not_json(self.begins, &error, err);
                 Ok(())
             }
         }
     }
 
-    /// Takes a value of JSON.
+    /// Takes a value of JSON, which is this line where it isn't a document. A line of no known form after one that is of one is
+    /// handed on: what else writes there may write JSON too.
     fn value<S: Shelf + Drop, W: Write, V: Write>(
         &mut self,
         value: &Value,
-        drawing: &mut Drawing<'_, '_, S, W, V>,
+        line: Option<&[u8]>,
+        drawing: &mut Drawing<'_, S>,
+        out: &mut W,
+        err: &mut V,
     ) -> Result<(), Stop> {
-        let Some(kind) = kind_of(value) else {
-            drawing.wrong("neither a message of rustc or cargo nor a SARIF log");
-            return Ok(());
-        };
-        self.is_known = true;
+        self.has_objects = true;
+        match (kind_of(value), line) {
+            (Some(kind), _) => {
+                self.is_known = true;
+                self.known(kind, value, drawing, out, err)
+            }
+            (None, Some(line)) if self.is_known => pass(line, out),
+            (None, _) => {
+                drawing.wrong("neither a message of rustc or cargo nor a SARIF log", err);
+                Ok(())
+            }
+        }
+    }
+
+    /// Takes a value of JSON of a known kind.
+    fn known<S: Shelf + Drop, W: Write, V: Write>(
+        &mut self,
+        kind: Kind,
+        value: &Value,
+        drawing: &mut Drawing<'_, S>,
+        out: &mut W,
+        err: &mut V,
+    ) -> Result<(), Stop> {
         let node = Node {
             alloc: self.alloc,
             value,
             place: Place::Line,
         };
         match kind {
-            Kind::Rustc => drawing.finding(diagnostic_of(&node)),
-            Kind::Cargo => drawing.finding(packaged_diagnostic_of(&node)),
-            Kind::Other => {
-                drawing.other();
+            Kind::Rustc => drawing.finding(diagnostic_of(&node), None, out, err),
+            Kind::Cargo => cargo_message(&node, drawing, out, err),
+            Kind::Failed => {
+                drawing.tally.has_failed = true;
                 Ok(())
             }
-            Kind::Sarif => sarif_log(&node, drawing),
+            Kind::Other => Ok(()),
+            Kind::Sarif => sarif_log(&node, drawing, out, err),
         }
     }
 }
 
-/// Adds a line to a document.
-fn add_line(document: &mut String, line: &str) -> Result<(), Stop> {
-    document.push_str("\n")?;
-    document.push_str(line)?;
-    Ok(())
+/// A line, or the lines of a document, without the last line's end.
+fn without_end(text: &str) -> &str {
+    let text = text.strip_suffix('\n').unwrap_or(text);
+    text.strip_suffix('\r').unwrap_or(text)
 }
 
-/// A first line without the mark of the order of bytes, which some tools write.
-fn without_mark(line: &str) -> &str {
-    line.strip_prefix('\u{feff}').unwrap_or(line)
+/// Takes cargo's message, which has a diagnostic of rustc in it.
+fn cargo_message<S: Shelf + Drop, W: Write, V: Write>(
+    node: &Node<'_, '_>,
+    drawing: &mut Drawing<'_, S>,
+    out: &mut W,
+    err: &mut V,
+) -> Result<(), Stop> {
+    match node.needed("message", Expectation::Object) {
+        Ok(message) => drawing.finding(packaged_diagnostic_of(node), Some(message.value), out, err),
+        Err(fault) => drawing.finding(Err(fault), None, out, err),
+    }
 }
 
 /// Takes a SARIF log. One whose runs are no list is told and left out.
 fn sarif_log<S: Shelf + Drop, W: Write, V: Write>(
     node: &Node<'_, '_>,
-    drawing: &mut Drawing<'_, '_, S, W, V>,
+    drawing: &mut Drawing<'_, S>,
+    out: &mut W,
+    err: &mut V,
 ) -> Result<(), Stop> {
     match listed(node, "runs") {
-        Ok(runs) => draw_runs(runs, drawing),
-        Err(fault) => drawing.finding(Err(fault)),
+        Ok(runs) => draw_runs(runs, drawing, out, err),
+        Err(fault) => drawing.finding(Err(fault), None, out, err),
     }
 }
 
 /// Draws what an input holds, each part before the next is waited for, and answers whether it is of a form that is known,
 /// or empty.
 pub fn draw_input<B: BufRead + Drop, S: Shelf + Drop, W: Write, V: Write>(
-    input: B,
-    drawing: &mut Drawing<'_, '_, S, W, V>,
+    mut input: B,
+    drawing: &mut Drawing<'_, S>,
+    out: &mut W,
+    err: &mut V,
 ) -> Result<bool, Stop> {
     let mut reading = Reading::new(drawing.alloc);
-    drawing.line = 0;
-    for line in input.lines(drawing.alloc) {
-        drawing.line = drawing.line.saturating_add(1);
-        reading.next_line(line, drawing)?;
+    let mut line = Vec::new(drawing.alloc);
+    for number in 1..u64::MAX {
+        line.clear();
+        let count = input
+            .read_until(b'\n', &mut line)
+            .map_err(Stop::Unreadable)?;
+        if count == 0 {
+            break;
+        }
+        drawing.line = number;
+        reading.line(&line, drawing, out, err)?;
     }
     drawing.line = 0;
-    reading.end(drawing)?;
-    Ok(reading.is_known || !reading.has_begun)
+    reading.end(drawing, out, err)?;
+    Ok(reading.is_known || !(reading.has_objects || reading.has_others))
 }

@@ -2,9 +2,9 @@
 #![tactic(auto)]
 
 pub mod draw;
+pub mod files;
 pub mod input;
-pub mod misuse;
+pub mod look;
 pub mod run;
 pub mod sarif;
-pub mod stop;
-pub mod words;
+pub mod text;

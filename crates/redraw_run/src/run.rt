@@ -1,188 +1,214 @@
 //! A run of the program.
+ghost use Rattle.std.specs.Prelude.{◌≡◌, true};
+ghost use Rattle.std.specs.IoError.{error_kind};
+ghost use Rattle.std.specs.declared.io.ErrorKind.TheVariants.{BrokenPipe};
+ghost use Rattle.redraw_command.specs.Tally.{status_of};
 
-use crate::draw::{Drawing, Tally, tell};
+use crate::draw::Drawing;
+use crate::files::Below;
 use crate::input::draw_input;
-use crate::stop::Stop;
-use crate::words::{Command, Options, command_of};
-use annotate_snippets::Renderer;
-use annotate_snippets::renderer::{DEFAULT_TERM_WIDTH, DecorStyle};
+use crate::look::renderer_for;
+use redraw_command::relative::folder_of;
+use redraw_command::seen::{Names, Seen};
+use redraw_command::stop::Stop;
+use redraw_command::tally::{CLEAN, FAILED, Tally};
+use redraw_command::tell::{tell, tell_error};
+use redraw_command::terminal::Surroundings;
+use redraw_command::words::{Request, matches_of, request_of};
 use redraw_read::sources::{Shelf, Sources};
-use std::alloc::AllocError;
+use std::alloc::{AllocError, Global};
 use std::fs;
 use std::io::{self, BufRead, BufReader, Write};
 use std::rt::Files;
 
-/// How the words are to be written.
-const USAGE: &str =
-    "usage: redraw [--unicode] [--text] [--short] [--styled] [--width N] [--root DIR] [FILE ..]
-
-Each FILE, or standard input without one, holds lines of `rustc --error-format=json` or of
-`cargo build --message-format=json`, or one SARIF 2.1.0 log. Which of them it is, is told by what it holds.";
-
-/// The status of a run that drew no error.
-const CLEAN: u8 = 0;
-/// The status of a run that drew an error.
-const ERRORS: u8 = 1;
-/// The status of a run whose words or input aren't of the form, or that was stopped.
-const FAILED: u8 = 2;
-
-/// The renderer that the options ask for.
-fn renderer_of(options: Options) -> Renderer {
-    let renderer = if options.styled {
-        Renderer::styled()
-    } else {
-        Renderer::plain()
-    };
-    let strokes = if options.unicode {
-        DecorStyle::Unicode
-    } else {
-        DecorStyle::Ascii
-    };
-    renderer
-        .no_graphics(options.text)
-        .short_message(options.short)
-        .decor_style(strokes)
-        .term_width(options.width.unwrap_or(DEFAULT_TERM_WIDTH))
-}
-
-/// The files below a folder, or below the one that the program runs in.
-#[derive(Drop)]
-pub struct Below<'r, 'w, R> {
-    rt: &'r R,
-    root: Option<&'w str>,
-}
-
-impl<R: Files + AllocGlobal> Shelf for Below<'_, '_, R> {
-    fn bytes(&self, name: &str) -> Result<Option<Vec<u8>>, AllocError> {
-        match self.root {
-            Some(root) if !name.starts_with('/') => {
-                let path = format!(in self.rt.alloc(); "{root}/{name}")?;
-                Ok(fs::read(self.rt, path.as_str()).ok())
-            }
-            _ => Ok(fs::read(self.rt, name).ok()),
-        }
-    }
-}
-
 /// Runs what the words ask for, and answers the status to end with.
-pub fn run<'r, 'w, R: Files + Input + AllocGlobal, W: Write, V: Write>(
-    rt: &'r R,
-    words: &[&'w str],
-    out: &'r mut W,
-    err: &'r mut V,
+pub fn run<'w, R: Files + Input + AllocGlobal, W: Write, V: Write>(
+    rt: &R,
+    words: &'w [&'w str],
+    around: Surroundings<'w>,
+    out: &mut W,
+    err: &mut V,
 ) -> u8 {
-    if matches!(words, ["--help"]) {
-        return help(out);
-    }
-    match command_of(words) {
-        Ok(command) => draw_all(rt, command, out, err),
-        Err(misuse) => {
-            tell(rt.alloc(), format_args!("{misuse}\n{USAGE}"), err);
-            FAILED
-        }
+    match matches_of(rt.alloc(), words) {
+        Ok(matches) => draw_all(rt, request_of(&matches), around, out, err),
+        Err(error) => answer_error(rt.alloc(), &error, out, err),
     }
 }
 
-/// Draws what a command asks for, and answers the status to end with.
-fn draw_all<'r, 'w, R: Files + Input + AllocGlobal, W: Write, V: Write>(
-    rt: &'r R,
-    command: Command<'_, 'w>,
-    out: &'r mut W,
-    err: &'r mut V,
+/// Writes the help or the version, or what is wrong with the words.
+fn answer_error<W: Write, V: Write>(
+    alloc: Global,
+    error: &clap::Error,
+    out: &mut W,
+    err: &mut V,
+) -> u8 {
+    if error.use_stderr() {
+        tell_error(alloc, error, err);
+        return FAILED;
+    }
+    if out.write_fmt(format_args!("{error}")).is_ok() && out.flush().is_ok() {
+        CLEAN
+    } else {
+        FAILED
+    }
+}
+
+/// Draws what is asked for, and answers the status to end with.
+fn draw_all<'w, R: Files + Input + AllocGlobal, W: Write, V: Write>(
+    rt: &R,
+    request: Request<'_, 'w>,
+    around: Surroundings<'w>,
+    out: &mut W,
+    err: &mut V,
 ) -> u8 {
     let alloc = rt.alloc();
+    let Ok(folder) = folder_of(alloc, request.root, around) else {
+        tell(alloc, Stop::Memory, err);
+        return FAILED;
+    };
     let shelf = Below {
         rt,
-        root: command.root,
+        root: request.root,
+        is_confined: request.is_confined,
     };
     let mut drawing = Drawing {
         alloc,
-        renderer: renderer_of(command.options),
+        renderer: renderer_for(&request.look, around),
+        choice: request.choice,
         sources: Sources::new(alloc, shelf),
-        out,
-        err,
+        folder,
         tally: Tally::default(),
+        seen: Seen::new(alloc),
+        files: Names::new(alloc),
         input: INPUT,
         line: 0,
     };
-    let is_whole = draw_inputs(rt, command.files, &mut drawing);
-    finish(&mut drawing, is_whole)
-}
-
-/// Writes how the words are to be written.
-fn help<W: Write>(out: &mut W) -> u8 {
-    match out.writeln(USAGE) {
-        Ok(()) => CLEAN,
-        Err(_) => FAILED,
+    match draw_inputs(rt, request.inputs, &mut drawing, out, err) {
+        Ok(is_whole) => finish(&drawing.tally, drawing.choice.is_quiet, is_whole, err),
+        Err(error) => end_unwritten(alloc, error, err),
     }
 }
 
 /// The name that is shown for standard input.
 const INPUT: &str = "standard input";
 
-/// Draws what each file holds, or standard input where there are none, and answers whether all of it could be read and is of
-/// a form that is known.
+/// Draws what each input holds, or standard input where there are none, and answers whether all of it could be read and is of
+/// a form that is known. It stops where nothing can be written.
 fn draw_inputs<'r, R: Files + Input + AllocGlobal, S: Shelf + Drop, W: Write, V: Write>(
     rt: &R,
-    files: &[&'r str],
-    drawing: &mut Drawing<'_, 'r, S, W, V>,
-) -> bool {
-    if files.is_empty() {
-        let input = BufReader::new(rt.alloc(), rt.reader());
-        return draw_opened(input, drawing);
+    names: Option<&[&'r str]>,
+    drawing: &mut Drawing<'r, S>,
+    out: &mut W,
+    err: &mut V,
+) -> io::Result<bool> {
+    match names {
+        Some([first, rest @ ..]) => {
+            let is_whole = draw_named(rt, *first, drawing, out, err)?;
+            draw_rest(rt, rest, is_whole, drawing, out, err)
+        }
+        _ => draw_standard(rt, drawing, out, err),
     }
-    let mut is_whole = true;
-    for file in files {
-        drawing.input = *file;
-        is_whole = draw_file(rt, *file, drawing) && is_whole;
+}
+
+/// The same of further inputs, after others of which all could be read or not.
+fn draw_rest<'r, R: Files + Input + AllocGlobal, S: Shelf + Drop, W: Write, V: Write>(
+    rt: &R,
+    names: &[&'r str],
+    is_whole: bool,
+    drawing: &mut Drawing<'r, S>,
+    out: &mut W,
+    err: &mut V,
+) -> io::Result<bool> {
+    let mut is_whole = is_whole;
+    for name in names {
+        is_whole = draw_named(rt, *name, drawing, out, err)? && is_whole;
     }
-    is_whole
+    Ok(is_whole)
+}
+
+/// The same of one input, by its name.
+fn draw_named<'r, R: Files + Input + AllocGlobal, S: Shelf + Drop, W: Write, V: Write>(
+    rt: &R,
+    name: &'r str,
+    drawing: &mut Drawing<'r, S>,
+    out: &mut W,
+    err: &mut V,
+) -> io::Result<bool> {
+    if name == "-" {
+        draw_standard(rt, drawing, out, err)
+    } else {
+        drawing.input = name;
+        draw_file(rt, name, drawing, out, err)
+    }
+}
+
+/// The same of standard input.
+fn draw_standard<R: Files + Input + AllocGlobal, S: Shelf + Drop, W: Write, V: Write>(
+    rt: &R,
+    drawing: &mut Drawing<'_, S>,
+    out: &mut W,
+    err: &mut V,
+) -> io::Result<bool> {
+    drawing.input = INPUT;
+    let input = BufReader::new(rt.alloc(), rt.reader());
+    draw_opened(input, drawing, out, err)
 }
 
 /// The same of one file.
 fn draw_file<R: Files + AllocGlobal, S: Shelf + Drop, W: Write, V: Write>(
     rt: &R,
-    file: &str,
-    drawing: &mut Drawing<'_, '_, S, W, V>,
-) -> bool {
-    let input = match fs::File::open(rt, file) {
+    name: &str,
+    drawing: &mut Drawing<'_, S>,
+    out: &mut W,
+    err: &mut V,
+) -> io::Result<bool> {
+    let input = match fs::File::open(rt, name) {
         Ok(file) => BufReader::new(rt.alloc(), file),
         Err(error) => Err(error),
     };
-    draw_opened(input, drawing)
+    draw_opened(input, drawing, out, err)
 }
 
 /// The same of an input that could be opened or not.
 pub fn draw_opened<B: BufRead + Drop, S: Shelf + Drop, W: Write, V: Write>(
     input: io::Result<B>,
-    drawing: &mut Drawing<'_, '_, S, W, V>,
-) -> bool {
+    drawing: &mut Drawing<'_, S>,
+    out: &mut W,
+    err: &mut V,
+) -> io::Result<bool> {
     drawing.line = 0;
     let drawn = match input {
-        Ok(input) => draw_input(input, drawing),
+        Ok(input) => draw_input(input, drawing, out, err),
         Err(error) => Err(Stop::Unreadable(error)),
     };
     match drawn {
-        Ok(is_known) => is_known,
+        Ok(is_known) => Ok(is_known),
+        Err(Stop::Unwritable(error)) => Err(error),
         Err(stop) => {
-            drawing.tell(stop);
-            false
+            drawing.tell(stop, err);
+            Ok(false)
         }
     }
 }
 
-/// Tells how many findings were drawn, and answers the status to end with.
-fn finish<S: Shelf + Drop, W: Write, V: Write>(
-    drawing: &mut Drawing<'_, '_, S, W, V>,
-    is_whole: bool,
-) -> u8 {
-    let tally = drawing.tally;
-    let _ = drawing.err.writeln(format_args!("redraw: {tally}"));
-    if !is_whole {
-        FAILED
-    } else if tally.errors > 0 {
-        ERRORS
-    } else {
-        CLEAN
+/// Tells why nothing can be written, unless whoever read it has closed the pipe, and answers the status to end with.
+fn end_unwritten<V: Write>(alloc: Global, error: io::Error, err: &mut V) -> u8
+    ensures status { result ≡ 2 }
+    ensures silent { error_kind error ≡ BrokenPipe → err.new ≡ err.old }
+{
+    if error.kind() != io::ErrorKind::BrokenPipe {
+        tell(alloc, Stop::Unwritable(error), err);
     }
+    FAILED
+}
+
+/// Sums up what was drawn, and answers the status to end with.
+fn finish<V: Write>(tally: &Tally, is_quiet: bool, is_whole: bool, err: &mut V) -> u8
+    ensures status { result ≡ status_of tally.now is_whole }
+    ensures quiet { is_quiet ≡ true → err.new ≡ err.old }
+{
+    if !is_quiet && !tally.is_empty() {
+        let _ = err.writeln(format_args!("redraw: {tally}"));
+    }
+    tally.status(is_whole)
 }

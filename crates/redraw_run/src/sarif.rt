@@ -1,9 +1,10 @@
 //! A SARIF log, whose results are drawn one after another.
 
 use crate::draw::Drawing;
-use crate::stop::Stop;
+use json_node::lenient::{List, Node, Troubles};
+use json_node::place::Place;
+use redraw_command::stop::Stop;
 use redraw_read::sources::Shelf;
-use redraw_sarif::node::{List, Node, Place, Troubles};
 use redraw_sarif::sarif::Run;
 use serde_json::Value;
 use std::io::Write;
@@ -11,7 +12,9 @@ use std::io::Write;
 /// Draws what the results of a log's runs tell, each before the next is read.
 pub fn draw_runs<S: Shelf + Drop, W: Write, V: Write>(
     runs: &[Value],
-    drawing: &mut Drawing<'_, '_, S, W, V>,
+    drawing: &mut Drawing<'_, S>,
+    out: &mut W,
+    err: &mut V,
 ) -> Result<(), Stop> {
     let document = Place::Document;
     let runs = List {
@@ -19,7 +22,7 @@ pub fn draw_runs<S: Shelf + Drop, W: Write, V: Write>(
         place: Place::Field(&document, "runs"),
     };
     for (index, value) in runs.items.iter().enumerate() {
-        draw_run(runs.node(index, value), drawing)?;
+        draw_run(runs.node(index, value), drawing, out, err)?;
     }
     Ok(())
 }
@@ -27,14 +30,16 @@ pub fn draw_runs<S: Shelf + Drop, W: Write, V: Write>(
 /// Draws what the results of a run tell.
 fn draw_run<S: Shelf + Drop, W: Write, V: Write>(
     node: Node<'_, '_>,
-    drawing: &mut Drawing<'_, '_, S, W, V>,
+    drawing: &mut Drawing<'_, S>,
+    out: &mut W,
+    err: &mut V,
 ) -> Result<(), Stop> {
     let mut troubles = Troubles::new(drawing.alloc);
     let run = Run::new(node, &mut troubles);
     let results = run.results(&mut troubles);
-    tell_all(&troubles, drawing)?;
+    tell_all(&troubles, drawing, err)?;
     for (index, value) in results.items.iter().enumerate() {
-        draw_result(&run, &results.node(index, value), drawing)?;
+        draw_result(&run, &results.node(index, value), drawing, out, err)?;
     }
     Ok(())
 }
@@ -43,13 +48,15 @@ fn draw_run<S: Shelf + Drop, W: Write, V: Write>(
 fn draw_result<'v, S: Shelf + Drop, W: Write, V: Write>(
     run: &Run<'v, '_>,
     reported: &Node<'v, '_>,
-    drawing: &mut Drawing<'_, '_, S, W, V>,
+    drawing: &mut Drawing<'_, S>,
+    out: &mut W,
+    err: &mut V,
 ) -> Result<(), Stop> {
     let mut troubles = Troubles::new(drawing.alloc);
     let found = run.finding(drawing.alloc, reported, &mut troubles)?;
-    tell_all(&troubles, drawing)?;
+    tell_all(&troubles, drawing, err)?;
     match found {
-        Some(diagnostic) => drawing.draw(&diagnostic),
+        Some(diagnostic) => drawing.take(diagnostic, None, out, err),
         None => {
             drawing.leave_out();
             Ok(())
@@ -58,12 +65,13 @@ fn draw_result<'v, S: Shelf + Drop, W: Write, V: Write>(
 }
 
 /// Tells what is wrong with a part of a log.
-fn tell_all<S: Shelf + Drop, W: Write, V: Write>(
+fn tell_all<S: Shelf + Drop, V: Write>(
     troubles: &Troubles,
-    drawing: &mut Drawing<'_, '_, S, W, V>,
+    drawing: &mut Drawing<'_, S>,
+    err: &mut V,
 ) -> Result<(), Stop> {
     for line in &troubles.lines {
-        drawing.tell(line.as_str());
+        drawing.tell(line.as_str(), err);
     }
     if troubles.is_refused {
         return Err(Stop::Memory);

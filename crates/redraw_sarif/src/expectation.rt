@@ -1,17 +1,10 @@
-//! What is expected where something else stands.
+//! What is expected of a part of a log where something else stands.
 
 use std::fmt;
 
 /// What is expected.
 #[derive(Clone, Copy)]
 pub enum Expectation {
-    Object,
-    List,
-    Text,
-    /// A whole number from 0.
-    Number,
-    /// A line or a column, counted from 1.
-    FromOne,
     /// The level of a result.
     Level,
     /// What the columns of a run count.
@@ -29,11 +22,6 @@ pub enum Expectation {
 impl fmt::Display for Expectation {
     fn fmt<W: fmt::Write>(&self, f: &mut fmt::Formatter<W>) -> fmt::Result {
         f.write_str(match self {
-            Expectation::Object => "an object",
-            Expectation::List => "a list",
-            Expectation::Text => "a text",
-            Expectation::Number => "a whole number from 0",
-            Expectation::FromOne => "a whole number from 1",
             Expectation::Level => "\"none\", \"note\", \"warning\" or \"error\"",
             Expectation::ColumnKind => "\"utf16CodeUnits\" or \"unicodeCodePoints\"",
             Expectation::Message => "a text, or the id of one of the rule's message strings",

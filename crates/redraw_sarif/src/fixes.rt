@@ -2,9 +2,9 @@
 
 use crate::location::Context;
 use crate::message::text_in;
-use crate::node::{List, Node, Troubles};
 use crate::region::{carried_in, region_of};
 use crate::uri::path_in;
+use json_node::lenient::{List, Node, Troubles};
 use redraw_report::diagnostic::{Carried, Child, Edit, Region, Severity};
 use std::alloc::{AllocError, Global};
 

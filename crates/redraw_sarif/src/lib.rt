@@ -10,7 +10,6 @@ pub mod expectation;
 pub mod fixes;
 pub mod location;
 pub mod message;
-pub mod node;
 pub mod placeholders;
 pub mod region;
 pub mod rule;

@@ -1,10 +1,10 @@
 //! The places that a result names.
 
 use crate::message::text_in;
-use crate::node::{List, Node, Troubles};
 use crate::region::{carried_of, region_of};
 use crate::rule::Rule;
 use crate::uri::path_in;
+use json_node::lenient::{List, Node, Troubles};
 use redraw_report::diagnostic::{FileSpan, Region, Unit};
 use serde_json::Value;
 use std::alloc::{AllocError, Global};

@@ -1,9 +1,9 @@
 //! The texts of messages.
 
 use crate::expectation::Expectation;
-use crate::node::{Node, Troubles};
 use crate::placeholders::filled;
 use crate::rule::Rule;
+use json_node::lenient::{Node, Troubles};
 use serde_json::Value;
 use std::alloc::{AllocError, Global};
 

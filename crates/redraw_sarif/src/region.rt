@@ -1,7 +1,7 @@
 //! The regions of files, and what a log itself holds of them.
 
 use crate::expectation::Expectation;
-use crate::node::{Node, Troubles};
+use json_node::lenient::{Node, Troubles};
 use redraw_report::diagnostic::{Carried, LineRegion, Region, Unit};
 use serde_json::Value;
 use std::alloc::{AllocError, Global};

@@ -1,7 +1,7 @@
 //! The rule that a result breaks, and how severe that is.
 
 use crate::expectation::Expectation;
-use crate::node::{Node, Troubles, field_at, item_at, text_at, text_field};
+use json_node::lenient::{Node, Troubles, field_at, item_at, text_at, text_field};
 use redraw_report::diagnostic::{Code, Severity};
 use serde_json::Value;
 use std::alloc::{AllocError, Global};

@@ -4,8 +4,8 @@ use crate::expectation::Expectation;
 use crate::fixes::children_of;
 use crate::location::{Context, add_spans};
 use crate::message::text_in;
-use crate::node::{List, Node, Troubles};
 use crate::rule::{Rule, code_of, rule_of, severity_of};
+use json_node::lenient::{List, Node, Troubles};
 use redraw_report::diagnostic::{Diagnostic, FileSpan, Unit};
 use std::alloc::{AllocError, Global};
 

@@ -1,7 +1,7 @@
 //! The files that a log names by addresses.
 
 use crate::expectation::Expectation;
-use crate::node::{Node, Troubles, field_at, item_at, text_at, text_field};
+use json_node::lenient::{Node, Troubles, field_at, item_at, text_at, text_field};
 use percent_encoding::percent_decode;
 use serde_json::Value;
 use std::alloc::{AllocError, Global};

@@ -1,4 +1,3 @@
-pub mod Field
 pub mod Kinds
 pub mod Report
 pub mod Sheet

@@ -16,7 +16,7 @@ use Rattle.snippet_model.specs.declared.snippet.Snippet.{Snippet}
 use Rattle.snippet_model.specs.declared.snippet.Title.{Title}
 use Rattle.serde_json.specs.Data.{Data}
 use Rattle.serde_json.specs.Find.{as_null, as_str, get}
-use Rattle.replay_read.specs.Field.{SaysAt, OrNull, ListSays, flag_at, number_at, text_at}
+use Rattle.json_node.specs.Field.{SaysAt, OrNull, ListSays, flag_at, number_at, text_at}
 use Rattle.replay_read.specs.Kinds.{kind_name, mark_name}
 
 -- the name of a level: that of its kind where none is given, hidden where it is `null`, else an own one

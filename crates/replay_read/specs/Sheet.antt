@@ -11,7 +11,7 @@ use Rattle.snippet_style.specs.Style.{joined_effects, no_effects, plain_style}
 use Rattle.snippet_style.specs.Stylesheet.{plain_sheet, default_sheet}
 use Rattle.serde_json.specs.Data.{Data}
 use Rattle.serde_json.specs.Find.{as_str, get}
-use Rattle.replay_read.specs.Field.{SaysAt, MaySayAt, ListSays, as_whole, number_at}
+use Rattle.json_node.specs.Field.{SaysAt, MaySayAt, ListSays, as_whole, number_at}
 use Rattle.replay_read.specs.declared.effect.EffectName.{EffectName}
 use Rattle.replay_read.specs.declared.effect.EffectName.TheVariants as effect
 

@@ -3,9 +3,7 @@
 #![tactic(auto)]
 
 pub mod effect;
-pub mod fault;
-pub mod node;
+pub mod list;
 pub mod report;
-pub mod scalars;
 pub mod shape;
 pub mod sheet;

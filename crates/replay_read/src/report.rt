@@ -5,14 +5,16 @@ ghost use Rattle.std.specs.Cow.{cow_str_bytes};
 ghost use Rattle.snippet_model.specs.Fits.{GroupFits, IdFits, TitleFits, LevelFits, MessageFits, ElementFits, AnnotationFits, PatchFits, SnippetFits, TextFits};
 ghost use Rattle.serde_json.specs.Find.{as_str, get};
 ghost use Rattle.serde_json.specs.View.{view};
-ghost use Rattle.replay_read.specs.Field.{OrNull, SaysAt, flag_at, lent_text, number_at};
+ghost use Rattle.json_node.specs.Field.{OrNull, SaysAt, flag_at, lent_text, number_at};
 ghost use Rattle.replay_read.specs.Report.{IsAnnotationOf, IsElementOf, IsGroupOf, IsLevelOf, IsMessageOf, IsNameOf, IsOriginOf, IsPatchOf, IsSnippetOf, IsTitleOf};
 ghost use Rattle.replay_read.specs.Kinds.{NameFits, kind_name, mark_name};
 
-use crate::fault::Fault;
-use crate::node::{Node, Read};
-use crate::scalars::lent;
-use crate::shape::{Expectation, Shape};
+use crate::list::{Read, list_at};
+use crate::shape::{FormatValue, Shape};
+use json_node::expectation::Expectation;
+use json_node::fault::Fault;
+use json_node::node::Node;
+use json_node::scalars::lent;
 use snippet_model::level::LevelName;
 use snippet_model::{
     Annotation, AnnotationKind, Element, Group, Id, Level, Message, Origin, Padding, Patch,
@@ -27,9 +29,9 @@ impl<'v> Read<'v> for Group<'v> {
     ghost fits = { GroupFits };
 
     fn read(node: &Node<'v, '_>) -> Result<Self, Fault> {
-        node.has_only(Shape::Group)?;
-        let title = title_or_null(&node.needed("title", Expectation::ObjectOrNull)?)?;
-        let elements = node.list("elements")?;
+        node.has_only(Shape::Group.names())?;
+        let title = title_or_null(&node.needed("title", FormatValue::ObjectOrNull)?)?;
+        let elements = list_at(node, "elements")?;
         let level = match &title {
             Some(title) => title.level.kind,
             None => level_in(node)?.kind,
@@ -58,7 +60,7 @@ fn title_of<'v>(node: &Node<'v, '_>) -> Result<Title<'v>, Fault>
     ensures value { IfOk result (IsTitleOf (view node.now.value.now)) }
     ensures fits { IfOk result TitleFits }
 {
-    node.has_only(Shape::Title)?;
+    node.has_only(Shape::Title.names())?;
     let text = node.text("text")?;
     let primary = node.flag("primary")?;
     let id = node.optional_text("id")?;
@@ -102,8 +104,8 @@ fn level_of<'v>(node: &Node<'v, '_>) -> Result<Level<'v>, Fault>
     ensures value { IfOk result (IsLevelOf (view node.now.value.now)) }
     ensures fits { IfOk result LevelFits }
 {
-    node.has_only(Shape::Level)?;
-    let kind = kind_of(&node.needed("kind", Expectation::LevelKind)?)?;
+    node.has_only(Shape::Level.names())?;
+    let kind = kind_of(&node.needed("kind", FormatValue::LevelKind)?)?;
     let name = name_in(node)?;
     Ok(Level { name, kind })
 }
@@ -152,7 +154,7 @@ fn kind_of(node: &Node<'_, '_>) -> Result<LevelInner, Fault>
             return Ok(*kind);
         }
     }
-    Err(node.unexpected(Expectation::LevelKind))
+    Err(node.unexpected(FormatValue::LevelKind))
 }
 
 impl<'v> Read<'v> for Element<'v> {
@@ -161,11 +163,11 @@ impl<'v> Read<'v> for Element<'v> {
     ghost fits = { ElementFits };
 
     fn read(node: &Node<'v, '_>) -> Result<Self, Fault> {
-        node.has_only(Shape::Element)?;
+        node.has_only(Shape::Element.names())?;
         if node.has_one_field() {
             element_of(node)
         } else {
-            Err(node.unexpected(Expectation::Element))
+            Err(node.unexpected(FormatValue::Element))
         }
     }
 }
@@ -188,7 +190,7 @@ fn element_of<'v>(node: &Node<'v, '_>) -> Result<Element<'v>, Fault>
         return Ok(Element::Origin(origin_of(&origin)?));
     }
     let padding = node.needed("padding", Expectation::Object)?;
-    padding.has_only(Shape::Padding)?;
+    padding.has_only(Shape::Padding.names())?;
     Ok(Element::Padding(Padding))
 }
 
@@ -197,7 +199,7 @@ fn message_of<'v>(node: &Node<'v, '_>) -> Result<Message<'v>, Fault>
     ensures value { IfOk result (IsMessageOf (view node.now.value.now)) }
     ensures fits { IfOk result MessageFits }
 {
-    node.has_only(Shape::Message)?;
+    node.has_only(Shape::Message.names())?;
     let text = node.text("text")?;
     let level = level_in(node)?;
     Ok(Message {
@@ -215,11 +217,11 @@ fn snippet_of<'v, T: Read<'v> + Drop>(
     ensures value { IfOk result (IsSnippetOf T.says markers.now (view node.now.value.now)) }
     ensures fits { IfOk result (SnippetFits T.fits) }
 {
-    node.has_only(shape)?;
+    node.has_only(shape.names())?;
     let source = node.text("source")?;
     let path = node.optional_text("path")?;
     let (line_start, line_numbering, fold) = lines_of(node)?;
-    let markers = node.list(markers)?;
+    let markers = list_at(node, markers)?;
     Ok(Snippet {
         source: CowStr::Borrowed(source),
         path: lent(path),
@@ -250,8 +252,8 @@ impl<'v> Read<'v> for Annotation<'v> {
     ghost fits = { AnnotationFits };
 
     fn read(node: &Node<'v, '_>) -> Result<Self, Fault> {
-        node.has_only(Shape::Annotation)?;
-        let kind = mark_of(&node.needed("kind", Expectation::AnnotationKind)?)?;
+        node.has_only(Shape::Annotation.names())?;
+        let kind = mark_of(&node.needed("kind", FormatValue::AnnotationKind)?)?;
         let start = node.number("start")?;
         let end = node.number("end")?;
         let label = node.optional_text("label")?;
@@ -273,7 +275,7 @@ fn mark_of(node: &Node<'_, '_>) -> Result<AnnotationKind, Fault>
         Some("primary") => Ok(AnnotationKind::Primary),
         Some("context") => Ok(AnnotationKind::Context),
         Some("visible") => Ok(AnnotationKind::Visible),
-        _ => Err(node.unexpected(Expectation::AnnotationKind)),
+        _ => Err(node.unexpected(FormatValue::AnnotationKind)),
     }
 }
 
@@ -283,7 +285,7 @@ impl<'v> Read<'v> for Patch<'v> {
     ghost fits = { PatchFits };
 
     fn read(node: &Node<'v, '_>) -> Result<Self, Fault> {
-        node.has_only(Shape::Patch)?;
+        node.has_only(Shape::Patch.names())?;
         let start = node.number("start")?;
         let end = node.number("end")?;
         let text = node.text("text")?;
@@ -299,7 +301,7 @@ fn origin_of<'v>(node: &Node<'v, '_>) -> Result<Origin<'v>, Fault>
     ensures value { IfOk result (IsOriginOf (view node.now.value.now)) }
     ensures fits { IfOk result (λ origin. TextFits (cow_str_bytes origin.path)) }
 {
-    node.has_only(Shape::Origin)?;
+    node.has_only(Shape::Origin.names())?;
     let path = node.text("path")?;
     let line = node.optional_number("line")?;
     let char_column = node.optional_number("column")?;

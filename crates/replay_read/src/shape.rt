@@ -86,40 +86,11 @@ impl Shape {
             Shape::Refusal => &["id", "refused", "text"],
         }
     }
-
-    /// Writes that only these names are expected.
-    pub fn write_only<W: fmt::Write>(self, f: &mut fmt::Formatter<W>) -> fmt::Result {
-        let names = self.names();
-        if names.is_empty() {
-            return f.write_str("unknown, expected no field");
-        }
-        f.write_str("unknown, expected only")?;
-        for name in names {
-            write!(f, " {name}")?;
-        }
-        Ok(())
-    }
-
-    /// Whether it has a field of this name.
-    pub fn has(self, name: &str) -> bool {
-        for known in self.names() {
-            if *known == name {
-                return true;
-            }
-        }
-        false
-    }
 }
 
-/// What has to stand at a place.
+/// A value of the format that has to stand at a place.
 #[derive(Clone, Copy)]
-pub enum Expectation {
-    Text,
-    Number,
-    Byte,
-    Flag,
-    List,
-    Object,
+pub enum FormatValue {
     ObjectOrNull,
     LevelKind,
     AnnotationKind,
@@ -130,27 +101,21 @@ pub enum Expectation {
     Effect,
 }
 
-impl fmt::Display for Expectation {
+impl fmt::Display for FormatValue {
     fn fmt<W: fmt::Write>(&self, f: &mut fmt::Formatter<W>) -> fmt::Result {
         f.write_str(match self {
-            Expectation::Text => "a text of fewer than 2^56 bytes",
-            Expectation::Number => "a whole number from 0 to 18446744073709551615",
-            Expectation::Byte => "a whole number from 0 to 255",
-            Expectation::Flag => "true or false",
-            Expectation::List => "a list",
-            Expectation::Object => "an object",
-            Expectation::ObjectOrNull => "an object or null",
-            Expectation::LevelKind => "\"error\", \"warning\", \"info\", \"note\" or \"help\"",
-            Expectation::AnnotationKind => "\"primary\", \"context\" or \"visible\"",
-            Expectation::Element => {
+            FormatValue::ObjectOrNull => "an object or null",
+            FormatValue::LevelKind => "\"error\", \"warning\", \"info\", \"note\" or \"help\"",
+            FormatValue::AnnotationKind => "\"primary\", \"context\" or \"visible\"",
+            FormatValue::Element => {
                 "an object with one of message, cause, suggestion, origin and padding"
             }
-            Expectation::Sheet => "\"plain\", \"default\" or an object",
-            Expectation::Color => {
+            FormatValue::Sheet => "\"plain\", \"default\" or an object",
+            FormatValue::Color => {
                 "the name of a colour, as \"BrightRed\", or an object with ansi256 or rgb"
             }
-            Expectation::Rgb => "a list of three whole numbers from 0 to 255",
-            Expectation::Effect => "the name of an effect, as \"BOLD\"",
+            FormatValue::Rgb => "a list of three whole numbers from 0 to 255",
+            FormatValue::Effect => "the name of an effect, as \"BOLD\"",
         })
     }
 }

@@ -3,14 +3,16 @@
 ghost use Rattle.std.specs.Prelude.{◌≡◌, [], ◌∷◌, Some, IfOk, codes};
 ghost use Rattle.serde_json.specs.Find.{as_str, get};
 ghost use Rattle.serde_json.specs.View.{view};
-ghost use Rattle.replay_read.specs.Field.{MaySayAt};
+ghost use Rattle.json_node.specs.Field.{MaySayAt};
 ghost use Rattle.replay_read.specs.Sheet.{AreBytes, AreEffectsOf, AreSheetsOf, IsColorOf, IsOwnSheetOf, IsSheetOf, IsStyleOf, MayBeEffects, MayBeStyle};
 ghost use Rattle.replay_read.specs.Sheet as spec;
 
 use crate::effect::{EFFECTS, EffectName};
-use crate::fault::Fault;
-use crate::node::{Node, Read};
-use crate::shape::{Expectation, Shape};
+use crate::list::{Read, items_of};
+use crate::shape::{FormatValue, Shape};
+use json_node::expectation::Expectation;
+use json_node::fault::Fault;
+use json_node::node::Node;
 use snippet_style::{AnsiColor, Color, Effects, Style, Stylesheet};
 
 /// The sheets of a case: the plain one where the field is missing.
@@ -18,7 +20,7 @@ pub fn sheets_of(case: &Node<'_, '_>) -> Result<Vec<Stylesheet>, Fault>
     ensures value { IfOk result (λ sheets. AreSheetsOf (get (codes "sheets") (view case.now.value.now)) sheets.items) }
 {
     match case.optional("sheets") {
-        Some(sheets) => sheets.items(),
+        Some(sheets) => items_of(&sheets),
         None => Ok(vec![in case.alloc; Stylesheet::plain()]?),
     }
 }
@@ -32,7 +34,7 @@ impl<'v> Read<'v> for Stylesheet {
         match node.value.as_str() {
             Some("plain") => Ok(Stylesheet::plain()),
             Some("default") => Ok(Stylesheet::styled()),
-            Some(_) => Err(node.unexpected(Expectation::Sheet)),
+            Some(_) => Err(node.unexpected(FormatValue::Sheet)),
             None => own_sheet(node),
         }
     }
@@ -43,9 +45,9 @@ fn own_sheet(node: &Node<'_, '_>) -> Result<Stylesheet, Fault>
     ensures value { IfOk result (IsOwnSheetOf (view node.now.value.now)) }
 {
     if !node.value.is_object() {
-        return Err(node.unexpected(Expectation::Sheet));
+        return Err(node.unexpected(FormatValue::Sheet));
     }
-    node.has_only(Shape::Sheet)?;
+    node.has_only(Shape::Sheet.names())?;
     let levels = level_styles(node)?;
     let parts = part_styles(node)?;
     Ok(Stylesheet {
@@ -111,7 +113,7 @@ fn style_at(sheet: &Node<'_, '_>, name: &str) -> Result<Style, Fault>
 fn style_of(node: &Node<'_, '_>) -> Result<Style, Fault>
     ensures value { IfOk result (IsStyleOf (view node.now.value.now)) }
 {
-    node.has_only(Shape::Style)?;
+    node.has_only(Shape::Style.names())?;
     Ok(Style {
         fg: color_at(node, "fg")?,
         bg: color_at(node, "bg")?,
@@ -154,7 +156,7 @@ fn effect_name(node: &Node<'_, '_>) -> Result<EffectName, Fault>
             return Ok(*effect);
         }
     }
-    Err(node.unexpected(Expectation::Effect))
+    Err(node.unexpected(FormatValue::Effect))
 }
 
 /// The colour in the field of this name, if there is that field.
@@ -175,13 +177,13 @@ fn color_of(node: &Node<'_, '_>) -> Result<Color, Fault>
         return named_color(node);
     }
     if !node.has_one_field() {
-        return Err(node.unexpected(Expectation::Color));
+        return Err(node.unexpected(FormatValue::Color));
     }
-    node.has_only(Shape::Color)?;
+    node.has_only(Shape::Color.names())?;
     if let Some(index) = node.optional("ansi256") {
         return Ok(Color::Ansi256(index.as_byte()?));
     }
-    let (red, green, blue) = rgb_of(&node.needed("rgb", Expectation::Rgb)?)?;
+    let (red, green, blue) = rgb_of(&node.needed("rgb", FormatValue::Rgb)?)?;
     Ok(Color::Rgb(red, green, blue))
 }
 
@@ -215,7 +217,7 @@ fn named_color(node: &Node<'_, '_>) -> Result<Color, Fault>
             return Ok(Color::Ansi(*color));
         }
     }
-    Err(node.unexpected(Expectation::Color))
+    Err(node.unexpected(FormatValue::Color))
 }
 
 /// How a colour is written.
@@ -246,9 +248,9 @@ fn color_name(color: AnsiColor) -> &'static str
 fn rgb_of(node: &Node<'_, '_>) -> Result<(u8, u8, u8), Fault>
     ensures value { IfOk result (λ rgb. AreBytes (view node.now.value.now) (rgb.0 ∷ rgb.1 ∷ rgb.2 ∷ [])) }
 {
-    let bytes: Vec<u8> = node.items()?;
+    let bytes: Vec<u8> = items_of(node)?;
     match bytes.as_slice() {
         [red, green, blue] => Ok((*red, *green, *blue)),
-        _ => Err(node.unexpected(Expectation::Rgb)),
+        _ => Err(node.unexpected(FormatValue::Rgb)),
     }
 }

@@ -6,7 +6,7 @@ use Rattle.annotate_snippets.specs.declared.renderer.DecorStyle.TheVariants.{Asc
 use Rattle.annotate_snippets.specs.declared.renderer.Renderer.{Renderer}
 use Rattle.serde_json.specs.Data.{Data}
 use Rattle.serde_json.specs.Find.{get}
-use Rattle.replay_read.specs.Field.{SaysAt, ListSays, flag_at, number_at, text_at}
+use Rattle.json_node.specs.Field.{SaysAt, ListSays, flag_at, number_at, text_at}
 use Rattle.replay_read.specs.Report.{IsGroupOf}
 use Rattle.replay_read.specs.Sheet.{AreSheetsOf}
 use Rattle.replay_run.specs.declared.case.Case.{Case}

@@ -3,7 +3,7 @@ use Rattle.std.specs.Prelude.{◌≡◌, ℕ, List, Some, codes, map, string_byt
 use Rattle.std.specs.Borrow.{Bor}
 use Rattle.serde_json.specs.Data.{Data}
 use Rattle.serde_json.specs.Find.{as_str}
-use Rattle.replay_read.specs.Field.{ListSays, SaysAt, text_at}
+use Rattle.json_node.specs.Field.{ListSays, SaysAt, text_at}
 use Rattle.replay_run.specs.declared.expected.Expected.{Expected}
 use Rattle.replay_run.specs.declared.expected.Wanted.{Wanted}
 use Rattle.replay_run.specs.declared.expected.Wanted.TheVariants as wanted

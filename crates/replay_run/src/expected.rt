@@ -7,8 +7,10 @@ ghost use Rattle.replay_run.specs.Growth.{Grows};
 
 use crate::lines::write_line;
 use crate::outcome::Outcome;
-use replay_read::fault::{Fault, Place};
-use replay_read::node::Node;
+use json_node::fault::Fault;
+use json_node::node::Node;
+use json_node::place::Place;
+use replay_read::list::list_at;
 use replay_read::shape::Shape;
 use serde_json::Value;
 use std::alloc::Global;
@@ -52,11 +54,11 @@ fn wanted_of<'v>(answer: &Node<'v, '_>) -> Result<Wanted<'v>, Fault>
     ensures value { IfOk result (IsWantedOf (view answer.now.value.now)) }
 {
     if let Some(name) = answer.optional_text("refused")? {
-        answer.has_only(Shape::Refusal)?;
+        answer.has_only(Shape::Refusal.names())?;
         return Ok(Wanted::Refused(name, answer.text("text")?));
     }
-    answer.has_only(Shape::Texts)?;
-    Ok(Wanted::Texts(answer.list("ok")?))
+    answer.has_only(Shape::Texts.names())?;
+    Ok(Wanted::Texts(list_at(answer, "ok")?))
 }
 
 impl Expected<'_> {

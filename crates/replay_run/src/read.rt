@@ -4,15 +4,17 @@ ghost use Rattle.std.specs.Prelude.{◌≡◌, false, IfOk, codes, unwrap_or};
 ghost use Rattle.annotate_snippets.specs.Fits.{ReportFits};
 ghost use Rattle.serde_json.specs.Find.{get};
 ghost use Rattle.serde_json.specs.View.{view};
-ghost use Rattle.replay_read.specs.Field.{flag_at};
+ghost use Rattle.json_node.specs.Field.{flag_at};
 ghost use Rattle.replay_run.specs.Case.{IsCaseOf};
 ghost use Rattle.replay_run.specs.Case as spec;
 
 use crate::case::Case;
 use annotate_snippets::Renderer;
 use annotate_snippets::renderer::{DEFAULT_TERM_WIDTH, DecorStyle, Stylesheet};
-use replay_read::fault::{Fault, Place};
-use replay_read::node::Node;
+use json_node::fault::Fault;
+use json_node::node::Node;
+use json_node::place::Place;
+use replay_read::list::list_at;
 use replay_read::shape::Shape;
 use replay_read::sheet::sheets_of;
 use serde_json::Value;
@@ -28,12 +30,12 @@ pub fn case_of<'v>(alloc: Global, line: &'v Value) -> Result<Case<'v>, Fault>
         value: line,
         place: Place::Line,
     };
-    case.has_only(Shape::Case)?;
+    case.has_only(Shape::Case.names())?;
     Ok(Case {
         id: case.text("id")?,
         renderer: renderer_of(&case)?,
         sheets: sheets_of(&case)?,
-        groups: case.list("groups")?,
+        groups: list_at(&case, "groups")?,
     })
 }
 
@@ -51,7 +53,7 @@ fn renderer_of(case: &Node<'_, '_>) -> Result<Renderer, Fault>
 fn settings_of(node: &Node<'_, '_>) -> Result<Renderer, Fault>
     ensures value { IfOk result (λ renderer. renderer ≡ spec.settings_of (view node.now.value.now)) }
 {
-    node.has_only(Shape::Settings)?;
+    node.has_only(Shape::Settings.names())?;
     let (no_graphics, short_message, hyperlink) = switches_of(node)?;
     let (anonymized_snippet, anonymized_origin) = anonymized_by(node)?;
     let term_width = node.number_or("term_width", DEFAULT_TERM_WIDTH)?;

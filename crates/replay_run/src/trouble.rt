@@ -1,6 +1,6 @@
 //! What stops a run.
 
-use replay_read::fault::Fault;
+use json_node::fault::Fault;
 use std::alloc::{AllocError, AllocFailed};
 use std::{fmt, io};
 

@@ -16,7 +16,9 @@ pub mod RowLemmas
 pub mod RowPut
 pub mod RowWoven
 pub mod RowsWoven
-pub mod RunCount
+pub mod RunBoundLemmas
+pub mod RunBounds
+pub mod RunExamples
 pub mod RunLemmas
 pub mod ShownLemmas
 pub mod SpanLemmas

@@ -4,6 +4,7 @@ pub mod Grid
 pub mod Layout
 pub mod LayoutOf
 pub mod Print
+pub mod RunBounds
 pub mod Runs
 pub mod Stretch
 pub mod Woven

@@ -5,6 +5,7 @@
 
 ghost use Rattle.std.specs.Prelude.{◌≡◌, ◌+◌, ◌^◌, ◌<◌, ◌≤◌, List, [], ◌∷◌, length, ℕ, true, IfOk, OnOk, OnErr, IsOk, string_bytes, encode_utf8_all};
 ghost use Rattle.snippet_grid.specs.Grid.{row_at, num_cells, cells_written, WritesCells, cells_restyled, RestylesCells, cells_linked, LinksCells, cells_replaced, ReplacesCells};
+ghost use Rattle.snippet_grid.specs.RunBounds.{fewest_runs, most_runs};
 ghost use Rattle.snippet_style.specs.Cell.{text_cells};
 ghost use Rattle.snippet_style.specs.declared.role.ElementStyle.TheVariants.{LineNumber};
 ghost use Rattle.std.specs.Str.{chars};
@@ -18,7 +19,7 @@ use crate::put::Spare;
 use crate::replace::replace_cells;
 use crate::runs::Run;
 use crate::weave::weave_rows;
-use crate::words::{width_of, write_word};
+use crate::words::{fits, width_of, write_word};
 use snippet_style::{ElementStyle, LevelInner, Stylesheet};
 use std::alloc::{AllocError, Global};
 use std::marker::Model;
@@ -80,11 +81,16 @@ impl<'a> StyledBuffer<'a> {
         self.widths.len()
     }
 
-    /// How many runs of neighbouring cells with one role and one link are kept: no more than
-    /// there are cells. A new grid has none. `putc`, `puts`, `append`, `replace` and `set_style`
-    /// each add at most two; the functions that they call promise it of the list of runs.
+    /// How many runs of neighbouring cells with one role and one link are kept: as many as are
+    /// needed to show the rows, at least, and at most as many as can show them. That is one for
+    /// each stretch of cells with one role and one link; only unstyled, unlinked spaces may be
+    /// in a run or in none. A new grid has no run. `putc`, `puts`, `append`, `replace` and
+    /// `set_style` each add at most two; the functions that they call promise it of the list of
+    /// runs.
     pub fn num_runs(&self) -> usize
         ensures few { result ≤ num_cells self.now }
+        ensures enough { fewest_runs self.now ≤ result }
+        ensures apart { result ≤ most_runs self.now }
     {
         self.runs.len()
     }
@@ -170,7 +176,7 @@ impl<'a> StyledBuffer<'a> {
         ensures err { OnErr result (self.new ≡ self.old) }
     {
         let end = width_of(&self.widths, row);
-        if text.len() > usize::MAX - end {
+        if !fits(text, usize::MAX - end) {
             return Err(AllocError);
         }
         self.puts(row, end, text, role)

@@ -1,5 +1,5 @@
 //! Words that are written into a grid of runs.
-ghost use Rattle.std.specs.Prelude.{◌≡◌, ◌+◌, ◌<◌, ◌≤◌, ◌^◌, max, length, None, IfOk, OnOk, OnErr, IsOk, string_bytes, vec_capacity};
+ghost use Rattle.std.specs.Prelude.{◌≡◌, ◌↔◌, ◌+◌, ◌<◌, ◌≤◌, ◌^◌, max, IsTrue, length, None, IfOk, OnOk, OnErr, IsOk, string_bytes, vec_capacity};
 ghost use Rattle.std.specs.List.{slice_index_or};
 ghost use Rattle.std.specs.Option.{option_copied};
 ghost use Rattle.std.specs.Str.{chars};
@@ -20,6 +20,17 @@ pub(crate) fn width_of(widths: &[usize], row: usize) -> usize
     ensures value { result ≡ slice_index_or widths.now row 0 }
 {
     if row < widths.len() { widths[row] } else { 0 }
+}
+
+/// Whether a text has no more characters than there is room for.
+pub(crate) fn fits(text: &str, room: usize) -> bool
+    ensures value { IsTrue result ↔ length (chars text.now) ≤ room }
+{
+    // A character has a byte at least, so there is nothing to count where the bytes fit.
+    if text.len() <= room {
+        return true;
+    }
+    char_count(text) <= room
 }
 
 /// What a small report takes: its first write makes room for so much at once.

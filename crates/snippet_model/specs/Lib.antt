@@ -2,6 +2,8 @@ pub mod AnnotationKind
 pub mod Fits
 pub mod Heading
 pub mod Level
+pub mod LevelOrder
+pub mod LevelTies
 pub mod OptionCow
 pub mod Rows
 pub mod Same

@@ -1,13 +1,20 @@
 //! The level of a title or message: how severe it is, and the name that is shown for it.
-ghost use Rattle.std.specs.Prelude.{◌≡◌, true, false, Option, None};
+ghost use Rattle.std.specs.Prelude.{◌≡◌, true, false, Option, None, refl};
 ghost use Rattle.std.specs.Option.{option_map_or};
 ghost use Rattle.snippet_model.specs.StandardName.{standard_name_of};
 ghost use Rattle.std.specs.declared.borrow.CowStr.TheVariants.{Borrowed};
+ghost use Rattle.std.proofs.Common.{rules};
+ghost use Rattle.std.specs.Cmp.{partial_order_from_agreeing_total};
+ghost use Rattle.std.specs.Cmp.Rules.{comparing};
+ghost use Rattle.std.specs.Ordering.{as_partial_cmp};
+ghost use Rattle.snippet_model.specs.LevelOrder.{level_cmp, name_cmp, name_rank, own_bytes};
+ghost use Rattle.snippet_model.specs.LevelTies.{level_ties, name_ties};
 
 use crate::option_cow::OptionCow;
 use crate::snippet::{Message, Title};
 use snippet_style::LevelInner;
 use snippet_text::CowStr;
+use std::cmp::Ordering;
 
 /// An error, in the way of what was asked for.
 pub const ERROR: Level<'static> = Level {
@@ -42,7 +49,7 @@ pub const HELP: Level<'static> = Level {
 /// The name that a level is shown by.
 ///
 /// Names are ordered as they are listed here, own ones by their text.
-#[derive(Clone, Debug, PartialEq, Eq, PartialOrd, Ord, Drop)]
+#[derive(Clone, Debug, PartialEq, Eq, Drop)]
 pub enum LevelName<'a> {
     /// The name of the kind, as `error`.
     Standard,
@@ -55,12 +62,85 @@ pub enum LevelName<'a> {
 /// How severe a title or message is.
 ///
 /// Levels are ordered by name, and then by kind.
-#[derive(Clone, Debug, PartialEq, Eq, PartialOrd, Ord, Drop)]
+#[derive(Clone, Debug, PartialEq, Eq, Drop)]
 pub struct Level<'a> {
     /// What is shown for the level.
     pub name: LevelName<'a>,
     /// The kind, which chooses the style.
     pub kind: LevelInner,
+}
+
+impl LevelName<'_> {
+    /// The place of the name's kind in the order of names.
+    fn rank(&self) -> u8
+        ensures value { result ≡ name_rank self.now }
+    {
+        match self {
+            LevelName::Standard => 0,
+            LevelName::Hidden => 1,
+            LevelName::Own(_) => 2,
+        }
+    }
+
+    /// The caller's name; the empty text where it is none of the caller's.
+    fn own(&self) -> &str
+        ensures value { result.now ≡ own_bytes self.now }
+    {
+        match self {
+            LevelName::Own(name) => name.as_str(),
+            LevelName::Standard | LevelName::Hidden => "",
+        }
+    }
+}
+
+impl Ord for LevelName<'_> {
+    ghost cmp = { name_cmp };
+
+    ghost total = { Prim.search (comparing, rules) };
+
+    ghost matches_partial_cmp = { Prim.search (comparing, rules) };
+
+    ghost matches_eq = { name_ties };
+
+    fn cmp(&self, other: &Self) -> Ordering {
+        self.rank()
+            .cmp(&other.rank())
+            .then(self.own().cmp(other.own()))
+    }
+}
+
+impl PartialOrd for LevelName<'_> {
+    ghost partial_cmp = { as_partial_cmp name_cmp };
+
+    ghost laws = { partial_order_from_agreeing_total name_cmp (Prim.search (comparing, rules)) (λ x y. refl) name_ties };
+
+    fn partial_cmp(&self, other: &Self) -> Option<Ordering> {
+        Some(self.cmp(other))
+    }
+}
+
+impl Ord for Level<'_> {
+    ghost cmp = { level_cmp };
+
+    ghost total = { Prim.search (comparing, rules) };
+
+    ghost matches_partial_cmp = { Prim.search (comparing, rules) };
+
+    ghost matches_eq = { level_ties };
+
+    fn cmp(&self, other: &Self) -> Ordering {
+        self.name.cmp(&other.name).then(self.kind.cmp(&other.kind))
+    }
+}
+
+impl PartialOrd for Level<'_> {
+    ghost partial_cmp = { as_partial_cmp level_cmp };
+
+    ghost laws = { partial_order_from_agreeing_total level_cmp (Prim.search (comparing, rules)) (λ x y. refl) level_ties };
+
+    fn partial_cmp(&self, other: &Self) -> Option<Ordering> {
+        Some(self.cmp(other))
+    }
 }
 
 /// The name of a kind of level, as it is shown where the caller sets no other.
@@ -76,8 +156,9 @@ fn standard_name(kind: LevelInner) -> &'static str
     }
 }
 
-/// Proves, and does nothing else, that each constant of this module is shown by the name of its kind. A clause can't name
-/// constants of a type that may own text, so this stands in place of one.
+/// Proves, and does nothing else, that each constant of this module, and each constant of [`Level`], is the level of the kind
+/// that its name says, shown by the name of the kind. A clause can't name constants of a type that may own text, so this
+/// stands in place of one.
 fn prove_constants() {
     prove!(matches!(
         &ERROR,
@@ -109,6 +190,41 @@ fn prove_constants() {
     ));
     prove!(matches!(
         &HELP,
+        Level {
+            name: LevelName::Standard,
+            kind: LevelInner::Help
+        }
+    ));
+    prove!(matches!(
+        &Level::ERROR,
+        Level {
+            name: LevelName::Standard,
+            kind: LevelInner::Error
+        }
+    ));
+    prove!(matches!(
+        &Level::WARNING,
+        Level {
+            name: LevelName::Standard,
+            kind: LevelInner::Warning
+        }
+    ));
+    prove!(matches!(
+        &Level::INFO,
+        Level {
+            name: LevelName::Standard,
+            kind: LevelInner::Info
+        }
+    ));
+    prove!(matches!(
+        &Level::NOTE,
+        Level {
+            name: LevelName::Standard,
+            kind: LevelInner::Note
+        }
+    ));
+    prove!(matches!(
+        &Level::HELP,
         Level {
             name: LevelName::Standard,
             kind: LevelInner::Help

@@ -1,13 +1,14 @@
 -- The definitions, computed on small inputs. In these `a` is 97, LF is 10 and CR is 13.
-use Rattle.std.proofs.Common.{◌≡◌, ℕ, true, false, Some, None, List, [], ◌∷◌, refl}
+use Rattle.std.proofs.Common.{◌≡◌, ◌≤◌, ℕ, true, false, Some, None, List, [], ◌∷◌, Vec, length, refl, arith}
 use Rattle.snippet_splice.specs.Trim.{kept_before, sandwich}
 use Rattle.snippet_splice.specs.Edits.{Edit, trimmed_edit, trimmed_edits, patched}
 use Rattle.snippet_splice.specs.Overlap.{overlap, first_overlap}
 use Rattle.snippet_splice.specs.Shown.{shown_text}
 use Rattle.snippet_splice.specs.Spliced.{last_line_reached, spliced_text, line_ranges}
-use Rattle.snippet_splice.specs.Stretches.{new_stretches}
+use Rattle.snippet_splice.specs.Stretches.{new_stretches, num_replaced_lines, num_shown_lines}
 use Rattle.snippet_splice.specs.declared.stretches.SubstitutionHighlight.{SubstitutionHighlight}
 use Rattle.std.specs.Str.{chars}
+use Rattle.std.specs.declared.alloc.Global.{Global}
 use Rattle.snippet_lines.specs.Lines.{start_of}
 use Rattle.snippet_lines.specs.Place.{line_of}
 
@@ -131,3 +132,16 @@ stretches_of_the_second = refl
 stretches_of_two_edits : new_stretches false (97 ∷ 32 ∷ 98 ∷ []) (edit 0 0 (120 ∷ []) ∷ edit 2 2 (121 ∷ []) ∷ []) 0 ≡ stretch 0 1 ∷ stretch 3 4 ∷ []
 unfolding new_stretches trimmed_edit sandwich kept_before chars
 stretches_of_two_edits = refl
+
+-- with `x`, LF, `y` put in two lines of the text are shown, in place of one line of the source
+lines_of_two : num_shown_lines false (97 ∷ 98 ∷ []) (edit 1 1 (120 ∷ 10 ∷ 121 ∷ []) ∷ []) ≡ 2
+unfolding num_shown_lines trimmed_edit sandwich kept_before
+lines_of_two = refl
+
+one_replaced : num_replaced_lines true (97 ∷ 98 ∷ []) (edit 1 1 (120 ∷ 10 ∷ 121 ∷ []) ∷ []) ≡ 1
+unfolding num_replaced_lines trimmed_edit sandwich kept_before start_of line_of
+one_replaced = refl
+
+-- so no list, or one alone, is not what they have
+pub one_line_opened : (lines : List (Vec SubstitutionHighlight Global)) → length lines ≤ 1 → length lines ≡ num_shown_lines false (97 ∷ 98 ∷ []) (edit 1 1 (120 ∷ 10 ∷ 121 ∷ []) ∷ []) → ⊥
+one_line_opened lines few is = omega (arith, lines_of_two, few, is)

@@ -8,6 +8,7 @@ pub mod PlaceLemmas
 pub mod RangeLemmas
 pub mod SeenLemmas
 pub mod ShownLemmas
+pub mod ShownLineLemmas
 pub mod SpliceLemmas
 pub mod StretchLemmas
 pub mod TouchLemmas

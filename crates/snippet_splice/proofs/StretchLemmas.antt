@@ -60,6 +60,20 @@ pub pieces_whole : (text : List ℕ) → HoldsNoLf text → slice_split is_lf te
 pieces_whole text none =
     slice_split_none is_lf text (λ i d within. false_from_ne_true _ (λ t. none i within (get_or_default text i 0 d within ∙ eqb-true _ 10 t)))
 
+-- it has no line feed to count
+pub feeds_whole : (text : List ℕ) → HoldsNoLf text → count_by is_lf text ≡ 0
+feeds_whole [] none = refl
+feeds_whole (b ∷ bs) none =
+    let other : b ≢ 10 = none 0 (omega arith) in
+    let rest : count_by is_lf bs ≡ 0 = feeds_whole bs (λ i within. none (suc i) (omega (arith, within))) in
+    grind (arith, nat_tests, other, rest)
+
+-- and one that is cut has one more than what stands after the cut
+pub feeds_cut : (text piece after : List ℕ) → text ≡ piece ++ 10 ∷ after → HoldsNoLf piece → count_by is_lf text ≡ 1 + count_by is_lf after
+feeds_cut text piece after is none =
+    let one : count_by is_lf (10 ∷ after) ≡ 1 + count_by is_lf after = sum_by-cons (λ b. cond (is_lf b) 1 0) 10 after in
+    omega (arith, ap (count_by is_lf) is, feeds-append piece (10 ∷ after), feeds_whole piece none, one)
+
 -- ---- what stands after the last LF
 
 zero_or : (n : ℕ) → (n ≡ 0) ⊎ (0 < n)
@@ -100,14 +114,7 @@ after_piece text piece after is =
 
 -- a text without line feeds is what stands after its last one
 pub after_whole : (text : List ℕ) → HoldsNoLf text → after_last_lf text ≡ text
-after_whole text none = after_none text (count text none)
-  where
-    count : (text : List ℕ) → HoldsNoLf text → count_by is_lf text ≡ 0
-    count [] none = refl
-    count (b ∷ bs) none =
-        let other : b ≢ 10 = none 0 (omega arith) in
-        let rest : count_by is_lf bs ≡ 0 = count bs (λ i within. none (suc i) (omega (arith, within))) in
-        grind (arith, nat_tests, other, rest)
+after_whole text none = after_none text (feeds_whole text none)
 
 -- a text with LF is cut at its last
 record Cut (text : List ℕ) : Type 0 where

@@ -7,7 +7,7 @@ use Rattle.snippet_splice.specs.declared.splice.SplicedLines.{SplicedLines}
 use Rattle.snippet_splice.specs.Copied.{written_ranges}
 use Rattle.snippet_splice.specs.Edits.{Edit, bounds_of, edited_from, in_order, original_bounds_of, patched, trimmed_edit_of, trimmed_edits}
 use Rattle.snippet_splice.specs.Shown.{first_start, shown_line, shown_start, shown_text, without_final_line_feeds}
-use Rattle.snippet_splice.specs.Stretches.{line_stretches, new_stretches, replaced_stretches}
+use Rattle.snippet_splice.specs.Stretches.{line_stretches, new_stretches, num_replaced_lines, num_shown_lines, replaced_stretches}
 use Rattle.snippet_splice.specs.Spliced.{AreFrom, HasNoCr, IsBeforeFinalLf, IsTouched, line_ranges, ranges_from, spliced_text, texts_of}
 
 -- the source holds no carriage return, and no edit, once it is trimmed, starts after a final line feed
@@ -31,8 +31,11 @@ pub record IsSplice (source : List ℕ) (es : List Edit) (fold : Bool) (s : Spli
   pub written : s.ranges.items ≡ written_ranges source 0 (shown_start fold source (first_start (in_order es))) (trimmed_edits source es)
   -- the stretches of these lines that are written anew, also of sources with carriage returns
   pub stretches : (k : ℕ) → line_stretches s.highlights.items k ≡ new_stretches fold source es k
+  -- of as many lines as the text has before the line feeds that end it are taken away
+  pub highlighted : length s.highlights.items ≡ num_shown_lines fold source es
   -- and those of the source's lines, from the first that is shown on, that are replaced
   pub replaced : (k : ℕ) → line_stretches s.replaced_highlights.items k ≡ replaced_stretches fold source es k
+  pub replaced_lines : length s.replaced_highlights.items ≡ num_replaced_lines fold source es
   -- the same in the words of the patched source
   pub text : IsPlain source es → string_bytes s.complete ≡ spliced_text fold source es
   pub ranges : IsPlain source es → ranges_from (shown_line fold source es) s.ranges.items ≡ line_ranges source es

@@ -3,15 +3,18 @@ ghost use Rattle.std.specs.Prelude.{◌≡◌, ◌↔◌, ◌+◌, ◌<◌, [], 
 ghost use Rattle.std.specs.String.{string_bytes};
 ghost use Rattle.snippet_lines.specs.Lines.{source_lines, text_at};
 ghost use Rattle.snippet_lines.specs.Span.{IsSpan, IsSpanBorder};
-ghost use Rattle.snippet_splice.specs.Edits.{edit_of, trimmed_edit_of, AreApart};
+ghost use Rattle.snippet_splice.specs.Edits.{edit_of, original_bounds_of, trimmed_edit_of, AreApart};
 ghost use Rattle.snippet_splice.specs.Overlap.{AreDisjoint};
 ghost use Rattle.snippet_splice.specs.Copied.{written, written_ranges, end_from};
 ghost use Rattle.snippet_splice.specs.Splice.{IsSplice};
+ghost use Rattle.snippet_splice.specs.Stretches.{source_lines_shown};
 ghost use Rattle.snippet_splice.specs.Shown.{closes_line, shown_start, shown_rest, without_final_line_feeds, shown_text};
 
-use crate::copy::{push_copied, text_place};
+use crate::copy::push_copied;
 use crate::patches::{TrimmedPatch, trimmed_patches};
-use crate::stretches::{SubstitutionHighlight, new_stretches, patch_places, replaced_stretches};
+use crate::stretches::{
+    SubstitutionHighlight, new_stretches, patch_places, replaced_stretches, text_between,
+};
 use snippet_lines::line_bounds::line_bounds;
 use snippet_lines::{CursorLines, ends_with_line_feed, line_feed_count, newline_count};
 use snippet_model::Patch;
@@ -67,8 +70,8 @@ pub fn spliced_lines<'a>(
     let rest = shown_rest(after, fold, closes_line(&patches));
     let complete = shown_text(written.text, rest)?;
     let places = patch_places(alloc, source, start, &patches)?;
-    let more = if fold { 0 } else { line_feed_count(after) };
     let lines = source_lines_shown(source, start, &patches, fold);
+    let more = line_feed_count(rest);
     let highlights = new_stretches(alloc, &places, more)?;
     let replaced_highlights = replaced_stretches(alloc, &places, lines)?;
     Ok(Some(SplicedLines {
@@ -82,12 +85,10 @@ pub fn spliced_lines<'a>(
 
 /// How many lines of the source the shown part replaces: folded from the byte `start` to the greatest end of a patch as
 /// it was given, unfolded all.
-fn source_lines_shown(
-    source: &str,
-    start: usize,
-    patches: &[TrimmedPatch<'_>],
-    fold: bool,
-) -> usize {
+fn source_lines_shown(source: &str, start: usize, patches: &[TrimmedPatch<'_>], fold: bool) -> usize
+    ensures value { IsSpanBorder source.now start → All (λ t. IsSpanBorder source.now t.original_span.end) patches.now
+        → result ≡ source_lines_shown fold source.now start (map original_bounds_of patches.now) }
+{
     if !fold {
         return newline_count(source).saturating_add(1);
     }
@@ -95,8 +96,8 @@ fn source_lines_shown(
     for patch in patches {
         end = end.max(patch.original_span.end);
     }
-    let text = source.get(start..text_place(source, end)).unwrap_or("");
-    line_feed_count(text).saturating_add(1)
+    let feeds = line_feed_count(text_between(source, start, end));
+    feeds.saturating_add(1)
 }
 
 /// The byte from which on the patched source is shown, if the first patch starts at `first`.

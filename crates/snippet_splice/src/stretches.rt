@@ -1,11 +1,12 @@
 //! Which stretches of lines a suggested edit writes anew, and which of the source it replaces.
-ghost use Rattle.std.specs.Prelude.{◌≡◌, ◌==◌, ◌≤◌, ◌<◌, ◌^◌, nat_lt, ℕ, List, ◌++◌, ◌∷◌, [], All, IfOk, OnOk, chars, length, map, if◌then◌else◌};
+ghost use Rattle.std.specs.Prelude.{◌≡◌, ◌==◌, ◌≤◌, ◌<◌, ◌^◌, nat_lt, ℕ, List, ◌++◌, ◌∷◌, [], All, IfOk, OnOk, chars, count_by, length, map, max, ◌+◌, if◌then◌else◌};
 ghost use Rattle.std.specs.List.{slice_range};
 ghost use Rattle.std.specs.Str.{IsUtf8};
+ghost use Rattle.snippet_lines.specs.Lines.{is_lf};
 ghost use Rattle.snippet_lines.specs.Span.{IsSpan, IsSpanBorder};
 ghost use Rattle.snippet_splice.specs.Copied.{in_text};
 ghost use Rattle.snippet_splice.specs.Edits.{AreApart, trimmed_edit_of};
-ghost use Rattle.snippet_splice.specs.Stretches.{after_last_lf, capped, characters_before, end_character, extent_of, extents_from, line_stretches, pieces_of, pieces_on, replaced_on, start_character, stretches_on, taken_on, without_cr};
+ghost use Rattle.snippet_splice.specs.Stretches.{after_last_lf, capped, characters_before, end_character, extent_of, extents_from, feeds_made, line_stretches, lines_over, pieces_of, pieces_on, replaced_on, start_character, stretches_on, taken_on, without_cr};
 ghost use Rattle.snippet_splice.specs.Stretches as spec;
 
 use crate::copy::text_place;
@@ -93,7 +94,7 @@ fn end_char(source: &str, patch: &TrimmedPatch<'_>, start: usize, chars: usize) 
 }
 
 /// The text from one byte of a source to another, bytes inside a line end moved before it.
-fn text_between<'a>(source: &'a str, from: usize, to: usize) -> &'a str
+pub(crate) fn text_between<'a>(source: &'a str, from: usize, to: usize) -> &'a str
     ensures value { IsSpanBorder source.now from → IsSpanBorder source.now to
         → result.now ≡ slice_range source.now (in_text source.now from) (in_text source.now to) }
 {
@@ -141,6 +142,8 @@ pub(crate) fn new_stretches(
     feeds: usize,
 ) -> Result<Vec<Vec<SubstitutionHighlight>>, AllocError>
     ensures value { IfOk result (λ lines. (k : ℕ) → line_stretches lines.items k ≡ stretches_on k 0 0 0 (map extent_of places.now)) }
+    ensures lines { IfOk result (λ lines.
+        length lines.items ≡ capped (feeds_made (map extent_of places.now) + feeds + 1)) }
 {
     let mut lines = Vec::new(alloc);
     let mut line = 0usize;
@@ -197,6 +200,8 @@ fn push_pieces(
 ) -> Result<(), AllocError>
     ensures value { OnOk result ((k : ℕ) → line_stretches lines.new.items k
         ≡ line_stretches lines.old.items k ++ pieces_on k first from (pieces_of replacement.now)) }
+    ensures lines { OnOk result (length lines.new.items
+        ≡ max (length lines.old.items) (capped (first + count_by is_lf replacement.now + 1))) }
 {
     let mut start = from;
     let mut line = first;
@@ -221,6 +226,7 @@ fn push_stretch(
 ) -> Result<(), AllocError>
     ensures value { OnOk result ((k : ℕ) → line_stretches lines.new.items k
         ≡ line_stretches lines.old.items k ++ (if line == k then stretch ∷ [] else [])) }
+    ensures lines { OnOk result (length lines.new.items ≡ max (length lines.old.items) (capped (line + 1))) }
 {
     open_lines(alloc, lines, line.saturating_add(1))?;
     if let Some(stretches) = lines.get_mut(line) {
@@ -237,6 +243,7 @@ fn open_lines(
 ) -> Result<(), AllocError>
     ensures same { (k : ℕ) → line_stretches lines.new.items k ≡ line_stretches lines.old.items k }
     ensures enough { OnOk result (count ≤ length lines.new.items) }
+    ensures lines { OnOk result (length lines.new.items ≡ max (length lines.old.items) count) }
 {
     for _ in lines.len()..count {
         lines.push(Vec::new(alloc))?;
@@ -259,6 +266,8 @@ pub(crate) fn replaced_stretches(
     count: usize,
 ) -> Result<Vec<Vec<SubstitutionHighlight>>, AllocError>
     ensures value { IfOk result (λ lines. (k : ℕ) → line_stretches lines.items k ≡ replaced_on k 0 (map extent_of places.now)) }
+    ensures lines { IfOk result (λ lines.
+        length lines.items ≡ max (lines_over 0 (map extent_of places.now)) count) }
 {
     let mut lines = Vec::new(alloc);
     let mut line = 0usize;
@@ -281,6 +290,8 @@ fn push_replaced(
 ) -> Result<(), AllocError>
     ensures value { let x = extent_of place.now in OnOk result ((k : ℕ) → line_stretches lines.new.items k
         ≡ line_stretches lines.old.items k ++ taken_on k first x.before x.start x.end (pieces_of x.under)) }
+    ensures lines { OnOk result (length lines.new.items
+        ≡ max (length lines.old.items) (capped (first + count_by is_lf place.now.inside.now + 1))) }
 {
     let mut start = place.start;
     let mut before = place.text_start;

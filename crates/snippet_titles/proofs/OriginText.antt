@@ -33,7 +33,7 @@ module _ (P : ℕ → Type 0) (digit : (c : ℕ) → IsDigit c → P c) (colon :
   place_text-each anonymized place = line_text-each anonymized place.line place.column
 
 -- they are their own bytes
-place_text-chars : (anonymized : Bool) (place : OriginLocation) → chars (place_text anonymized place) ≡ place_text anonymized place
+pub place_text-chars : (anonymized : Bool) (place : OriginLocation) → chars (place_text anonymized place) ≡ place_text anonymized place
 place_text-chars anonymized place =
     chars-IsAscii (place_text anonymized place) (IsAscii-from_all (place_text anonymized place) (place_text-each (λ c. c < 128) (λ c is. omega (arith, is.1)) (omega arith) (omega arith) anonymized place))
 

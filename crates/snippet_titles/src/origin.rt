@@ -6,7 +6,7 @@ ghost use Rattle.snippet_titles.specs.Origin.{file_glyph, file_row, origin_row, 
 
 use snippet_grid::{Layout, StyledBuffer};
 use snippet_style::{DecorStyle, ElementStyle};
-use snippet_text::normalize_untrusted_str;
+use snippet_text::{normalize_untrusted_str, normalized};
 use std::alloc::{AllocError, Global};
 use std::fmt::Write;
 
@@ -86,6 +86,15 @@ fn shown_path(alloc: Global, path: &str) -> Result<String, AllocError>
     normalize_untrusted_str(alloc, path)
 }
 
+/// The text that stands after a path: nothing where there is no line.
+fn place_after(alloc: Global, place: OriginLocation, anonymized: bool) -> Result<String, AllocError>
+    ensures value { IfOk result (λ t. string_bytes t ≡ place_text anonymized place) }
+{
+    let mut text = String::new(alloc);
+    push_place(&mut text, place, anonymized)?;
+    Ok(text)
+}
+
 /// Adds the place that stands after a path.
 fn push_place(text: &mut String, place: OriginLocation, anonymized: bool) -> Result<(), AllocError>
     ensures added { OnOk result (string_bytes text.new ≡ string_bytes text.old ++ place_text anonymized place) }
@@ -131,9 +140,11 @@ pub fn draw_origin(
 ) -> Result<(), AllocError>
     ensures row { OnOk result (buffer.new ≡ buffer.old ++ origin_row layout start path.now place ∷ []) }
 {
-    let text = origin_text(alloc, path, place, layout.anonymized)?;
+    let path = normalized(alloc, path)?;
+    let place = place_after(alloc, place, layout.anonymized)?;
     let row = begin_file_row(buffer, layout, start)?;
-    buffer.append(row, text.as_str(), ElementStyle::LineAndColumn)
+    buffer.append(row, path.as_str(), ElementStyle::LineAndColumn)?;
+    buffer.append(row, place.as_str(), ElementStyle::LineAndColumn)
 }
 
 /// Begins a row below all that stands in the grid with what leads to a file, and gives the row's number.

@@ -3,6 +3,8 @@
 #![tactic(auto)]
 
 #[cfg(test)]
+mod grid;
+#[cfg(test)]
 mod redraw;
 #[cfg(test)]
 mod replay;

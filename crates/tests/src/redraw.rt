@@ -1,7 +1,11 @@
 //! Inputs of `redraw` drawn, with files in memory: what is told of an input, and what is drawn of the rest.
 use annotate_snippets::Renderer;
+use redraw_command::choice::{Choice, Form, Least};
+use redraw_command::seen::{Names, Seen};
+use redraw_command::tally::Tally;
+use redraw_command::terminal::Surroundings;
 use redraw_read::sources::{Shelf, Sources};
-use redraw_run::draw::{Drawing, Tally};
+use redraw_run::draw::Drawing;
 use redraw_run::run::{draw_opened, run};
 use std::alloc::{AllocError, Global};
 use std::test::Fail;
@@ -33,12 +37,22 @@ struct Drawn {
     tally: Tally,
 }
 
+/// All findings are drawn, as reports.
+const ALL: Choice<'static> = Choice {
+    form: Form::Report,
+    least: Least::Any,
+    path: None,
+    has_duplicates: false,
+    is_quiet: false,
+};
+
 /// Draws an input into two writers, with a file `a` that holds `xy`, and answers whether its form is known, and the counts.
-fn draw_into<'r>(
+fn draw_into(
     alloc: Global,
+    choice: Choice<'_>,
     input: &[u8],
-    out: &'r mut Vec<u8>,
-    err: &'r mut Vec<u8>,
+    out: &mut Vec<u8>,
+    err: &mut Vec<u8>,
 ) -> (bool, Tally) {
     let room = Room {
         alloc,
@@ -48,22 +62,29 @@ fn draw_into<'r>(
     let mut drawing = Drawing {
         alloc,
         renderer: Renderer::plain(),
+        choice,
         sources: Sources::new(alloc, room),
-        out,
-        err,
+        folder: None,
         tally: Tally::default(),
+        seen: Seen::new(alloc),
+        files: Names::new(alloc),
         input: "in",
         line: 0,
     };
-    let is_whole = draw_opened(Ok(input), &mut drawing);
+    let is_whole = draw_opened(Ok(input), &mut drawing, out, err).unwrap_or(false);
     (is_whole, drawing.tally)
 }
 
 /// The same into texts.
 fn run_over(alloc: Global, input: &[u8]) -> Drawn {
+    run_choice(alloc, ALL, input)
+}
+
+/// The same of those findings that are chosen.
+fn run_choice(alloc: Global, choice: Choice<'_>, input: &[u8]) -> Drawn {
     let mut out = Vec::new(alloc);
     let mut err = Vec::new(alloc);
-    let (is_whole, tally) = draw_into(alloc, input, &mut out, &mut err);
+    let (is_whole, tally) = draw_into(alloc, choice, input, &mut out, &mut err);
     Drawn {
         is_whole,
         out,
@@ -76,11 +97,12 @@ fn run_over(alloc: Global, input: &[u8]) -> Drawn {
 const PAST_END: &[u8] =
     b"{\"message\":\"m\",\"code\":null,\"level\":\"error\",\"spans\":[{\"file_name\":\"a\",\"line_start\":9,\"line_end\":9,\"column_start\":1,\"column_end\":2,\"is_primary\":true,\"label\":\"here\",\"text\":[]}],\"children\":[]}\n";
 
-/// A level that there isn't, a message without a finding, a text without a level, and what isn't JSON.
+/// A level that there isn't, a message without a finding, a text without a level, and a line that isn't JSON.
 const FAULTY: &[u8] = b"{\"message\":\"m\",\"level\":\"loud\",\"spans\":[],\"children\":[]}
 {\"reason\":\"build-finished\",\"success\":true}
 {\"message\":\"m\",\"code\":null,\"level\":\"failure-note\",\"spans\":[],\"children\":[]}
-no JSON
+no JSON \xff
+{no JSON}
 ";
 
 #[test]
@@ -100,14 +122,13 @@ fn what_is_wrong_is_told_and_the_rest_is_drawn(rt: HostRuntime) -> Result<(), Fa
     let run = run_over(rt.alloc(), FAULTY);
     let told: &[u8] =
         b"redraw: in:1: level: expected \"error\", \"warning\", \"info\", \"note\" or \"help\", found \"loud\"
-redraw: in:4:1: not valid JSON
+redraw: in:5:2: not valid JSON
 ";
-    let text: &[u8] = b"m\n";
+    let text: &[u8] = b"m\nno JSON \xff\n";
     assert!(rt; run.is_whole);
     assert_eq!(rt; run.err.as_slice(), told);
     assert_eq!(rt; run.out.as_slice(), text);
-    assert_eq!(rt; run.tally.drawn, 1);
-    assert_eq!(rt; run.tally.other, 1);
+    assert!(rt; !run.tally.has_error);
     assert_eq!(rt; run.tally.wrong, 2);
     Ok(())
 }
@@ -116,7 +137,7 @@ redraw: in:4:1: not valid JSON
 fn an_input_of_another_form_is_not_known(rt: HostRuntime) -> Result<(), Fail> {
     let run = run_over(rt.alloc(), b"{\"a\":1}\n");
     assert!(rt; !run.is_whole);
-    assert_eq!(rt; run.tally.drawn, 0);
+    assert!(rt; run.out.is_empty());
     Ok(())
 }
 
@@ -130,6 +151,100 @@ fn a_document_that_is_not_text_is_not_known(rt: HostRuntime) -> Result<(), Fail>
     assert!(rt; !run.is_whole);
     assert_eq!(rt; run.err.as_slice(), told);
     assert_eq!(rt; run.tally.wrong, 1);
+    Ok(())
+}
+
+/// A build that failed, and inputs of no known form: text alone, and UTF-16.
+const OTHERS: [(&[u8], &str, &[u8], bool); 3] = [
+    (
+        b"{\"reason\":\"build-finished\",\"success\":false}\n",
+        "",
+        b"",
+        true,
+    ),
+    (
+        b"\nno\x1b JSON\r\nat all",
+        "redraw: in: nothing in it is a message of rustc or cargo or a SARIF log\n",
+        b"\nno\x1b JSON\r\nat all",
+        false,
+    ),
+    (
+        b"\xff\xfe{\0}\0",
+        "redraw: in:1: written in UTF-16, expected UTF-8\n",
+        b"",
+        false,
+    ),
+];
+
+#[test]
+fn what_is_no_finding_passes_or_is_told(rt: HostRuntime) -> Result<(), Fail> {
+    for (input, told, passed, is_whole) in &OTHERS {
+        let run = run_over(rt.alloc(), input);
+        assert_eq!(rt; run.err.as_slice(), told.as_bytes());
+        assert_eq!(rt; run.out.as_slice(), *passed);
+        assert_eq!(rt; run.is_whole, *is_whole);
+        assert_eq!(rt; run.tally.has_failed, *is_whole);
+    }
+    Ok(())
+}
+
+/// An error of cargo in a file whose name has a comma, twice, in two packages, and a warning that sums up.
+const TWICE: &[u8] =
+    b"{\"reason\":\"compiler-message\",\"package_id\":\"p\",\"message\":{\"message\":\"50% m\",\"code\":{\"code\":\"E0001\"},\"level\":\"error\",\"spans\":[{\"file_name\":\"a,b\",\"line_start\":9,\"line_end\":9,\"column_start\":1,\"column_end\":2,\"is_primary\":true,\"label\":\"here\\nand there\",\"text\":[]}],\"children\":[]}}
+{\"reason\":\"compiler-message\",\"package_id\":\"q\",\"message\":{\"message\":\"50% m\",\"code\":{\"code\":\"E0001\"},\"level\":\"error\",\"spans\":[{\"file_name\":\"a,b\",\"line_start\":9,\"line_end\":9,\"column_start\":1,\"column_end\":2,\"is_primary\":true,\"label\":\"here\\nand there\",\"text\":[]}],\"children\":[]}}
+{\"message\":\"1 warning emitted\",\"code\":null,\"level\":\"warning\",\"spans\":[],\"children\":[]}
+";
+
+#[test]
+fn a_command_of_github_is_a_line(rt: HostRuntime) -> Result<(), Fail> {
+    let commands = Choice {
+        form: Form::Workflow,
+        ..ALL
+    };
+    let run = run_choice(rt.alloc(), commands, TWICE);
+    let text: &[u8] =
+        b"::error file=a%2Cb,line=9,endLine=9,col=1,endColumn=2,title=E0001::50%25 m: here%0Aand there\n";
+    assert_eq!(rt; run.out.as_slice(), text);
+    assert_eq!(rt; run.tally.duplicates, 1);
+    assert_eq!(rt; run.tally.errors, 1);
+    assert_eq!(rt; run.tally.warnings, 0);
+    assert_eq!(rt; run.tally.files, 1);
+    Ok(())
+}
+
+/// What is drawn of these by level and by path: nothing but the error, nothing at all, and all of it, twice.
+#[test]
+fn only_what_is_chosen_is_drawn(rt: HostRuntime) -> Result<(), Fail> {
+    let errors = run_choice(
+        rt.alloc(),
+        Choice {
+            least: Least::Error,
+            ..ALL
+        },
+        TWICE,
+    );
+    assert_eq!(rt; errors.tally.duplicates, 1);
+    assert!(rt; !errors.out.ends_with(b"warning: 1 warning emitted\n\n"));
+    let elsewhere = run_choice(
+        rt.alloc(),
+        Choice {
+            path: Some("c"),
+            ..ALL
+        },
+        TWICE,
+    );
+    assert!(rt; elsewhere.out.is_empty());
+    assert!(rt; !elsewhere.tally.has_error);
+    let all = run_choice(
+        rt.alloc(),
+        Choice {
+            has_duplicates: true,
+            ..ALL
+        },
+        TWICE,
+    );
+    assert_eq!(rt; all.tally.errors, 2);
+    assert!(rt; all.out.ends_with(b"warning: 1 warning emitted\n\n"));
     Ok(())
 }
 
@@ -170,37 +285,45 @@ fn a_fault_is_told_once_with_its_place(rt: HostRuntime) -> Result<(), Fail> {
     Ok(())
 }
 
-/// How the words are to be written.
-const USAGE: &str =
-    "usage: redraw [--unicode] [--text] [--short] [--styled] [--width N] [--root DIR] [FILE ..]
+/// Where no program runs: no terminal, and no folder that is known.
+const NOWHERE: Surroundings<'static> = Surroundings {
+    is_terminal: false,
+    is_colorless: false,
+    columns: None,
+    folder: None,
+};
 
-Each FILE, or standard input without one, holds lines of `rustc --error-format=json` or of
-`cargo build --message-format=json`, or one SARIF 2.1.0 log. Which of them it is, is told by what it holds.
-";
-
-/// Words that aren't of the form, and what is told of them.
+/// Words that aren't of the form, and the first line of what is told of them.
 const MISUSES: [(&[&str], &str); 6] = [
-    (&["--text", "--loud"], "unknown option --loud"),
+    (
+        &["--text", "--loud"],
+        "error: unexpected argument '--loud' found\n",
+    ),
+    (&["-x"], "error: unexpected argument '-x' found\n"),
     (
         &["--width", "wide"],
-        "expected a number after --width, found wide",
+        "error: invalid value 'wide' for '--width <COLUMNS>': invalid digit found in string\n",
     ),
-    (&["--width"], "expected a number after --width"),
-    (&["--root"], "expected a folder after --root"),
     (
-        &["a", "--text"],
-        "expected a file, found --text: options stand before files",
+        &["--width"],
+        "error: a value is required for '--width <COLUMNS>' but none was supplied\n",
     ),
-    (&["--text", "--help"], "expected --help without other words"),
+    (
+        &["--color=loud"],
+        "error: invalid value 'loud' for '--color <WHEN>'\n",
+    ),
+    (
+        &["--l\u{1b}oud"],
+        "error: unexpected argument '--l\u{241b}oud' found\n",
+    ),
 ];
 
 #[test]
 fn the_word_that_is_wrong_is_told(rt: HostRuntime) -> Result<(), Fail> {
     for (words, told) in &MISUSES {
         let (mut out, mut err) = (Vec::new(rt.alloc()), Vec::new(rt.alloc()));
-        assert_eq!(rt; run(&rt, words, &mut out, &mut err), 2);
-        let wanted = format!(in rt.alloc(); "redraw: {told}\n{USAGE}")?;
-        assert_eq!(rt; err.as_slice(), wanted.as_bytes());
+        assert_eq!(rt; run(&rt, words, NOWHERE, &mut out, &mut err), 2);
+        assert!(rt; err.starts_with(told.as_bytes()));
         assert!(rt; out.is_empty());
     }
     Ok(())

@@ -1,6 +1,11 @@
--- What the rules find in small sources.
-use Rattle.std.proofs.Common.{◌≡◌, refl, [], ◌∷◌, ◌++◌, codes}
-use Rattle.tidy_run.specs.Findings.{findings_of}
+-- What the rules find in small sources, and results that are none of theirs.
+use Rattle.std.proofs.Common.{◌≡◌, ℕ, List, refl, sym, ap, ◌∙◌, [], ◌∷◌, ◌++◌, codes, length, map, arith}
+use Rattle.annotate_snippets.specs.declared.snippet.Element.TheVariants.{Suggestion}
+use Rattle.annotate_snippets.specs.declared.snippet.Group.{Group}
+use Rattle.annotate_snippets.specs.declared.snippet.Patch.{Patch}
+use Rattle.annotate_snippets.specs.declared.snippet.Snippet.{Snippet}
+use Rattle.tidy_run.specs.Findings.{Finding, findings_of}
+use Rattle.tidy_run.specs.Report.{IsHelp, mended_by}
 use Rattle.tidy_run.specs.Rules.{first_from, missing_end_at, tab_at, trailing_blanks_at}
 
 -- two spaces at a line's end
@@ -35,3 +40,14 @@ nothing-in-an-empty-source = refl
 nothing-after-a-final-line-feed : findings_of (first_from missing_end_at (codes "ok" ++ 10 ∷ [])) (codes "ok" ++ 10 ∷ []) ≡ []
 unfolding findings_of first_from
 nothing-after-a-final-line-feed = refl
+
+-- the last finding dropped: of the two tabs of that source the first alone
+last_finding_dropped : record { start = 0; end = 1; text = codes "    " } ∷ [] ≡ findings_of (first_from tab_at (9 ∷ 121 ∷ 9 ∷ 10 ∷ [])) (9 ∷ 121 ∷ 9 ∷ 10 ∷ []) → ⊥
+last_finding_dropped same = absurd (omega (arith, ap length (same ∙ two-tabs)))
+
+-- a help without patches, where a rule found something
+report_without_patches : (path source : List ℕ) (f : Finding) (group : Group) (s : Snippet Patch) → group.elements.items ≡ Suggestion s ∷ [] → s.markers.items ≡ [] → IsHelp path source (f ∷ []) group → ⊥
+report_without_patches path source f group s holds none help =
+    let same : help.snippet ≡ s = cc (holds, help.is.elements) in
+    let patches : [] ≡ f ∷ [] = ap (map mended_by) (sym none) ∙ ap (λ (t : Snippet Patch). map mended_by t.markers.items) (sym same) ∙ help.patches in
+    cc

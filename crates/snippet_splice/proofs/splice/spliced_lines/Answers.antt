@@ -1,16 +1,19 @@
-use Rattle.std.proofs.Common.{◌≡◌, ◌≢◌, ◌++◌, ◌+◌, ◌<◌, ◌≤◌, ℕ, List, [], map, drop, min, length, refl, sym, ap, subst, ◌∙◌, inl}
+use Rattle.std.proofs.Common.{◌≡◌, ◌≢◌, ◌++◌, ◌+◌, ◌<◌, ◌≤◌, ℕ, List, [], All, map, drop, min, length, refl, sym, ap, subst, ◌∙◌, inl}
 use Rattle.std.specs.List.{slice_get}
 use Rattle.std.specs.Str.{IsCharBoundary}
 use Rattle.std.specs.String.{string_bytes}
 use Rattle.snippet_lines.specs.Lines.{lines_of, source_lines}
-use Rattle.snippet_splice.specs.Edits.{Edit, edit_of, trimmed_edit_of, trimmed_edits, in_order, patched, AreApart}
-use Rattle.snippet_splice.specs.Copied.{written_ranges}
+use Rattle.snippet_splice.specs.Edits.{Edit, edit_of, original_bounds_of, trimmed_edit_of, trimmed_edits, in_order, patched, AreApart}
+use Rattle.snippet_lines.specs.Span.{IsSpanBorder}
+use Rattle.snippet_splice.specs.declared.patches.TrimmedPatch.{TrimmedPatch}
+use Rattle.snippet_splice.specs.Copied.{end_from, written_ranges}
 use Rattle.snippet_splice.specs.Splice.{IsPlain}
 use Rattle.snippet_splice.specs.Spliced.{ranges_from, texts_of, AreFrom}
 use Rattle.snippet_splice.specs.Shown.{first_start, shown_line, shown_start, shown_rest, shown_text, closes_line, without_final_line_feeds}
 use Rattle.snippet_splice.proofs.OverlapLemmas.{apart-in_order, ordered-spans}
-use Rattle.snippet_splice.specs.Stretches.{extent_of, extents_from}
+use Rattle.snippet_splice.specs.Stretches.{capped, extent_of, extents_from, feeds_made}
 use Rattle.snippet_splice.proofs.PlaceLemmas.{replaced_are, stretches_are}
+use Rattle.snippet_splice.proofs.ShownLineLemmas.{num_replaced, num_shown}
 use Rattle.snippet_splice.proofs.ShownLemmas.{none-given, first-given, shown_start-border, shown-apart, shown-value, some-trimmed}
 use Rattle.snippet_splice.proofs.SpliceLemmas.{IsShownPart, shown-part}
 use Rattle.snippet_splice.proofs.WriteLemmas.{without_final-twice}
@@ -94,7 +97,18 @@ returns-clause-splice c =
       ended = ap without_final_line_feeds whole ∙ without_final-twice (string_bytes c.in_ok-written.written.text ++ c.shown_rest-rest.result.now) ∙ sym whole;
       written = written;
       stretches = λ k. c.in_ok-highlights.ensures.value k ∙ stretches_are c.args.fold source es ts c.shown_start-start.result k (map extent_of c.deref-6.result.now) begin trimmed places;
+      highlighted = c.in_ok-highlights.ensures.lines ∙ ap (λ n. capped (feeds_made (map extent_of c.deref-6.result.now) + n + 1)) c.line_feed_count-more.ensures.value
+          ∙ num_shown c.args.fold source es ts c.shown_start-start.result c.in_ok-written.written.end c.closes_line.result c.shown_rest-rest.result.now
+          (map extent_of c.deref-6.result.now) trimmed begin places
+          (c.in_ok-written.ensures.end ∙ ap (end_from c.shown_start-start.result) (edits ∙ sym trimmed)) (closed ∙ ap closes_line (edits ∙ sym trimmed)) rest;
       replaced = λ k. c.in_ok-replaced_highlights.ensures.value k ∙ replaced_are c.args.fold source es ts c.shown_start-start.result k (map extent_of c.deref-7.result.now) begin trimmed (ap (map extent_of) c.deref-7.ensures.value ∙ c.in_ok-places.ensures.value);
+      replaced_lines = c.in_ok-replaced_highlights.ensures.lines ∙ num_replaced c.args.fold source es ts c.shown_start-start.result (map original_bounds_of c.deref-5.result.now)
+          c.source_lines_shown-lines.result (map extent_of c.deref-7.result.now) trimmed begin
+          (ap (map extent_of) c.deref-7.ensures.value ∙ c.in_ok-places.ensures.value)
+          (ap (map original_bounds_of) c.deref-5.ensures.value ∙ c.in_ok-patches.ensures.originals)
+          (c.source_lines_shown-lines.ensures.value
+          (inl (subst (IsCharBoundary source) (sym c.shown_start-start.ensures.value) (shown_start-border c.args.fold source c.in-Some.first.now.original_span.start c.utf8.source)))
+          (subst (λ (l : List TrimmedPatch). All (λ t. IsSpanBorder source t.original_span.end) l) (sym c.deref-5.ensures.value) (λ k d within. (c.in_ok-patches.ensures.original_spans k d within).to)));
       text = λ plain. value ∙ (part plain).text ∙ sym (part plain).spliced;
       ranges = λ plain. ap (ranges_from (shown_line c.args.fold source es)) written ∙ written-ranges c.args.fold source es plain.no_cr plain.before apart;
       lines = λ plain texts_none. subst (λ t. AreFrom (shown_line c.args.fold source es) (texts_of (lines_of t)) (texts_of (source_lines (patched source es)))) (sym (value ∙ (part plain).text)) (shown-lines c.args.fold source es plain.no_cr texts_none (part plain));

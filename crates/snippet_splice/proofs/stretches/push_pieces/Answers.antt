@@ -1,10 +1,10 @@
-use Rattle.std.proofs.Common.{◌≡◌, ◌∙◌, ◌+◌, ℕ, List, [], ◌∷◌, ◌++◌, Some, None, ap, if◌then◌else◌, ◌==◌, lit<, sym, append_assoc}
+use Rattle.std.proofs.Common.{◌≡◌, ◌∙◌, ◌+◌, ℕ, List, [], ◌∷◌, ◌++◌, Some, None, ap, arith, if◌then◌else◌, ◌==◌, lit<, sym, append_assoc}
 use Rattle.std.proofs.lemmas.List.{append-nil}
 use Rattle.std.proofs.lemmas.Result.{on_ok_weaker}
 use Rattle.std.proofs.lemmas.Str.Pattern.{split_parts}
 use Rattle.snippet_splice.specs.declared.stretches.SubstitutionHighlight.{SubstitutionHighlight}
 use Rattle.snippet_splice.specs.Stretches.{capped, line_stretches, pieces_of, pieces_on, stretch_width}
-use Rattle.snippet_splice.proofs.StretchLemmas.{pieces_cut, pieces_whole}
+use Rattle.snippet_splice.proofs.StretchLemmas.{feeds_cut, feeds_whole, pieces_cut, pieces_whole}
 use Rattle.snippet_splice.proofs.WriteLemmas.{utf8-after}
 use Rattle.snippet_splice.proofs.stretches.push_pieces.Goals as goal
 
@@ -31,6 +31,7 @@ loop-piece-preserved c =
           let next : pieces_on k c.saturating_add-line.result 0 (pieces_of after) ≡ later = ap (λ n. pieces_on k n 0 (pieces_of after)) c.saturating_add-line.ensures in
           let left : one ++ later ≡ pieces_on k line start (pieces_of rest) = ap (pieces_on k line start) (sym (pieces_cut rest piece after parts.0 parts.1)) in
           ap (λ ys. line_stretches c.push_stretch.new.lines.items k ++ ys) next ∙ ap (λ ys. ys ++ later) now ∙ append_assoc (line_stretches old k) one later ∙ ap (λ ys. line_stretches old k ++ ys) left ∙ c.loop-piece.invariant.whole k;
+      lines = omega (arith, c.loop-piece.invariant.lines, c.in_ok-push_stretch.ensures.lines, c.saturating_add-line.ensures, feeds_cut rest piece after parts.0 parts.1);
     }
 
 pub returns : goal.returns
@@ -46,4 +47,5 @@ returns c =
           let one : List SubstitutionHighlight = added k line start (capped (start + stretch_width rest)) in
           let left : one ≡ pieces_on k line start (pieces_of rest) = sym (append-nil one) ∙ ap (pieces_on k line start) (sym (pieces_whole rest none)) in
           adds k ∙ ap (λ n. line_stretches old k ++ added k line start n) end ∙ ap (λ ys. line_stretches old k ++ ys) left ∙ c.loop-piece.invariant.whole k) c.push_stretch-2.ensures.value;
+      lines = on_ok_weaker c.push_stretch-2.result (λ more. omega (arith, more, c.loop-piece.invariant.lines, feeds_whole rest none)) c.push_stretch-2.ensures.lines;
     }

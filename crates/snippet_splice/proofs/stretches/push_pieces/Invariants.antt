@@ -1,7 +1,8 @@
-use Rattle.std.proofs.Common.{◌≡◌, ◌++◌, ℕ, length}
+use Rattle.std.proofs.Common.{◌≡◌, ◌+◌, ◌++◌, ℕ, count_by, length, max}
 use denote.Text.{Utf8}
 use denote.Shadow.{shadow}
-use Rattle.snippet_splice.specs.Stretches.{line_stretches, pieces_of, pieces_on}
+use Rattle.snippet_lines.specs.Lines.{is_lf}
+use Rattle.snippet_splice.specs.Stretches.{capped, line_stretches, pieces_of, pieces_on}
 use Rattle.snippet_splice.proofs.stretches.push_pieces.Given as goal
 
 -- the pieces that are left complete those that are to be added
@@ -9,6 +10,7 @@ abbrev pub invariant-loop-piece : goal.invariant-loop-piece
 invariant-loop-piece l = record {
   text : shadow (Utf8 l.rest);
   whole : (k : ℕ) → line_stretches l.lines.items k ++ pieces_on k l.line l.start (pieces_of l.rest) ≡ line_stretches l.fn.lines.items k ++ pieces_on k l.first l.from (pieces_of l.replacement);
+  lines : max (length l.lines.items) (capped (l.line + count_by is_lf l.rest + 1)) ≡ max (length l.fn.lines.items) (capped (l.first + count_by is_lf l.replacement + 1));
 }
 
 abbrev pub decreases-loop-piece : goal.decreases-loop-piece

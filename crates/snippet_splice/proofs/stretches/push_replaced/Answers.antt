@@ -1,9 +1,9 @@
-use Rattle.std.proofs.Common.{◌≡◌, ◌∙◌, ◌+◌, ℕ, List, [], ◌∷◌, ◌++◌, Some, None, ap, if◌then◌else◌, ◌==◌, chars, length, lit<, sym, append_assoc}
+use Rattle.std.proofs.Common.{◌≡◌, ◌∙◌, ◌+◌, ℕ, List, [], ◌∷◌, ◌++◌, Some, None, ap, arith, if◌then◌else◌, ◌==◌, chars, length, lit<, sym, append_assoc}
 use Rattle.std.proofs.lemmas.Result.{on_ok_weaker}
 use Rattle.std.proofs.lemmas.Str.Pattern.{split_parts}
 use Rattle.snippet_splice.specs.declared.stretches.SubstitutionHighlight.{SubstitutionHighlight}
 use Rattle.snippet_splice.specs.Stretches.{capped, line_stretches, pieces_of, taken_on, without_cr}
-use Rattle.snippet_splice.proofs.StretchLemmas.{pieces_cut, pieces_whole, taken_cut}
+use Rattle.snippet_splice.proofs.StretchLemmas.{feeds_cut, feeds_whole, pieces_cut, pieces_whole, taken_cut}
 use Rattle.snippet_splice.proofs.WriteLemmas.{utf8-after}
 use Rattle.snippet_splice.proofs.stretches.push_replaced.Goals as goal
 
@@ -33,6 +33,7 @@ loop-piece-preserved c =
           let next : taken_on k c.saturating_add-line.result 0 0 last (pieces_of after) ≡ later = ap (λ n. taken_on k n 0 0 last (pieces_of after)) c.saturating_add-line.ensures in
           let left : one ++ later ≡ taken_on k line before start last (pieces_of rest) = sym (ap (taken_on k line before start last) (pieces_cut rest piece after parts.0 parts.1) ∙ taken_cut k line before start last piece after) in
           ap (λ ys. line_stretches c.push_stretch.new.lines.items k ++ ys) next ∙ ap (λ ys. ys ++ later) now ∙ append_assoc (line_stretches old k) one later ∙ ap (λ ys. line_stretches old k ++ ys) left ∙ c.loop-piece.invariant.whole k;
+      lines = omega (arith, c.loop-piece.invariant.lines, c.in_ok-push_stretch.ensures.lines, c.saturating_add-line.ensures, feeds_cut rest piece after parts.0 parts.1);
     }
 
 pub returns : goal.returns
@@ -48,4 +49,5 @@ returns c =
       value = on_ok_weaker c.push_stretch-2.result (λ adds k.
           let left : added k line start last ≡ taken_on k line before start last (pieces_of rest) = ap (taken_on k line before start last) (sym (pieces_whole rest none)) in
           adds k ∙ ap (λ ys. line_stretches old k ++ ys) left ∙ c.loop-piece.invariant.whole k) c.push_stretch-2.ensures.value;
+      lines = on_ok_weaker c.push_stretch-2.result (λ more. omega (arith, more, c.loop-piece.invariant.lines, feeds_whole rest none)) c.push_stretch-2.ensures.lines;
     }

@@ -1,4 +1,5 @@
 use Rattle.std.proofs.Common.{◌≡◌, ◌∙◌, ap, sym, subst, arith, length, string_bytes, List, ℕ}
+use Rattle.std.proofs.lemmas.Bool.{false≢true}
 use Rattle.std.proofs.lemmas.Result.{on_ok_weaker}
 use Rattle.std.specs.List.{slice_index_or}
 use Rattle.std.specs.Str.{chars}
@@ -9,7 +10,11 @@ use Rattle.snippet_grid.proofs.GridShown.{width_shown}
 use Rattle.snippet_grid.proofs.grid.StyledBuffer.append.Goals as goal
 
 pub puts-requires-clause-end : goal.puts-requires-clause-end
-puts-requires-clause-end c = omega (arith, length-chars_le c.args.text.now, c.if-text-end.false)
+puts-requires-clause-end c = omega (arith, c.fits.ensures.value.0 c.if-not-fits.false)
+
+pub returns-then-not-fits-clause-empty_succeeds : goal.returns-then-not-fits-clause-empty_succeeds
+returns-then-not-fits-clause-empty_succeeds c =
+    λ none. absurd (false≢true (sym c.if-not-fits.true ∙ c.fits.ensures.value.1 (omega (arith, length-chars_le c.args.text.now, ap length none))))
 
 pub returns-clause-ok : goal.returns-clause-ok
 returns-clause-ok c =

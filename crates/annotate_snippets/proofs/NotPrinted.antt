@@ -1,0 +1,106 @@
+-- What isn't printed: texts that are wrong, each of a small report, contradict what is said of the text that shows a report in the graphic
+-- form.
+use Rattle.std.proofs.Common.{◌≡◌, ℕ, Bool, true, false, None, Some, Option, Vec, List, [], ◌∷◌, ◌++◌, codes, encode_utf8_all, refl, ap, subst, ◌∙◌, arith, inl}
+use Rattle.std.specs.Fmt.{digits}
+use Rattle.std.specs.List.{join_with_byte, slice_index_or}
+use Rattle.std.specs.Str.{chars}
+use Rattle.std.specs.declared.alloc.Global.{Global}
+use Rattle.snippet_grid.specs.Woven.{Char, Opening, Piece, Prints, Reset, next_style}
+use Rattle.snippet_grid.proofs.PrintsOnce.{Prints-unique}
+use Rattle.snippet_model.specs.declared.snippet.Element.{Element}
+use Rattle.snippet_style.specs.Cell.{Cell, text_cells, unlinked_cell}
+use Rattle.snippet_style.specs.Style.{emboldened, is_plain_style, plain_style}
+use Rattle.snippet_style.specs.Stylesheet.{default_sheet, plain_sheet}
+use Rattle.snippet_style.specs.declared.role.ElementStyle.TheVariants.{MainHeaderMsg}
+use Rattle.snippet_style.specs.declared.role.LevelInner.TheVariants.{Error}
+use Rattle.snippet_style.specs.declared.style.Style.{Style}
+use Rattle.snippet_text.specs.Normalized.{norm}
+use Rattle.snippet_titles.specs.Heading.{heading_rows, label_cells}
+use Rattle.annotate_snippets.specs.Forms.{ShowsReport}
+use Rattle.annotate_snippets.specs.GraphicForm.{graphic_form}
+use Rattle.annotate_snippets.specs.Page.{ArePrinted, PrintsPage, page_text}
+use Rattle.annotate_snippets.specs.Settings.{plain_settings}
+use Rattle.annotate_snippets.specs.declared.renderer.Renderer.{Renderer}
+use Rattle.annotate_snippets.proofs.SmallReports.{nameless, title_alone}
+
+-- ---- a text without a byte
+
+plain_text_is : (v : Vec Element Global) → page_text (graphic_form plain_settings (title_alone v)) ≡ codes "error: e"
+unfolding chars norm heading_rows label_cells
+plain_text_is v = refl
+
+-- no text at all for a report of a title, here `error: e`
+empty_text : (v : Vec Element Global) → ShowsReport plain_settings (title_alone v) plain_sheet [] → ⊥
+unfolding lib.Utf8.encode
+empty_text v shown =
+    let right : [] ≡ encode_utf8_all (codes "error: e") = (shown.plain refl).0 refl ∙ ap (λ page. encode_utf8_all (page_text page)) shown.is
+    ∙ ap encode_utf8_all (plain_text_is v) in
+    cc
+
+-- ---- codes
+
+-- the default sheet's codes, without links
+abbrev coloured : Renderer
+coloured = record plain_settings { stylesheet = default_sheet }
+
+-- the row of the title `e`, whose text is bold under that sheet
+abbrev bold_row : List Cell
+bold_row = text_cells MainHeaderMsg (codes "e")
+
+page_is : (v : Vec Element Global) → graphic_form coloured (nameless v) ≡ record { title = bold_row ∷ []; elements = [] } ∷ []
+unfolding chars norm heading_rows label_cells
+page_is v = refl
+
+-- the text that prints that row: the codes of bold text, the letter, and the code that switches back
+abbrev bold_text : List ℕ
+bold_text = 27 ∷ codes "[1me" ++ 27 ∷ codes "[0m"
+
+-- whether the style that is open is plain, or none is
+abbrev is_plain : Option Style → Bool
+is_plain None = true
+is_plain (Some style) = is_plain_style style
+
+printed : Prints default_sheet Error (bold_row ∷ []) bold_text
+unfolding lib.Utf8.encode digits
+printed =
+    let bold : Style = emboldened plain_style in
+    let pieces : List Piece = Reset plain_style ∷ Opening bold ∷ Char 101 ∷ Reset bold ∷ [] in
+    record {
+      pieces = pieces;
+      text_is = refl;
+      prints = (pieces, [], refl, (refl, differs, inl refl, (refl, refl, (unlinked_cell MainHeaderMsg 101, [], refl, refl, refl, refl, (refl, ends, inl refl, (refl, refl, refl))))), refl);
+    }
+  where
+    differs : next_style default_sheet Error bold_row ≡ Some plain_style → ⊥
+    differs same = let both : false ≡ true = ap is_plain same in cc
+
+    ends : next_style default_sheet Error [] ≡ Some (emboldened plain_style) → ⊥
+    ends same = cc
+
+-- so it is the one text under that sheet
+only_text : (v : Vec Element Global) (text : List ℕ) → ShowsReport coloured (nameless v) default_sheet text → text ≡ bold_text
+only_text v text shown =
+    let page : PrintsPage default_sheet (Error ∷ []) (record { title = bold_row ∷ []; elements = [] } ∷ []) text = subst (λ page. PrintsPage default_sheet (Error ∷ []) page text) (shown.is
+    ∙ page_is v) shown.printed.0 in
+    page.joined ∙ joined page.parts page.printed
+  where
+    joined : (parts : List (List ℕ)) → ArePrinted default_sheet (Error ∷ []) (record { title = bold_row ∷ []; elements = [] } ∷ []) parts → join_with_byte 10 parts ≡ bold_text
+    joined [] none = absurd none
+    joined (part ∷ []) one = Prints-unique default_sheet Error (bold_row ∷ []) bold_text part printed one.0
+    joined (part ∷ other ∷ parts) more = absurd more.1
+
+-- no codes at all:
+--
+--     e
+no_codes : (v : Vec Element Global) → ShowsReport coloured (nameless v) default_sheet (codes "e") → ⊥
+no_codes v shown =
+    let byte : ◌≡◌ {A = ℕ} 101 27 = ap (λ (bs : List ℕ). slice_index_or bs 0 0) (only_text v (codes "e") shown) in
+    absurd (omega (arith, byte))
+
+-- a space more, after the codes of a style:
+--
+--     <bold> e<off>
+styled_cells_padded : (v : Vec Element Global) → ShowsReport coloured (nameless v) default_sheet (27 ∷ codes "[1m e" ++ 27 ∷ codes "[0m") → ⊥
+styled_cells_padded v shown =
+    let byte : ◌≡◌ {A = ℕ} 32 101 = ap (λ (bs : List ℕ). slice_index_or bs 4 0) (only_text v (27 ∷ codes "[1m e" ++ 27 ∷ codes "[0m") shown) in
+    absurd (omega (arith, byte))

@@ -1,0 +1,112 @@
+-- What isn't written in the short form: rows and texts that are wrong, each of a small report, contradict the definition of that form.
+use Rattle.std.proofs.Common.{◌≡◌, ℕ, true, false, None, Some, Vec, List, [], ◌∷◌, ◌++◌, codes, encode_utf8_all, refl, sym, ap, subst, ◌∙◌, arith}
+use Rattle.std.specs.Fmt.{digits}
+use Rattle.std.specs.List.{All, slice_index_or}
+use Rattle.std.specs.Str.{chars}
+use Rattle.std.specs.declared.alloc.Global.{Global}
+use Rattle.std.proofs.lemmas.List.Elements.{All-nil, All-cons}
+use Rattle.snippet_grid.specs.Grid.{row_at}
+use Rattle.snippet_grid.specs.Print.{plain_text, row_text}
+use Rattle.snippet_lines.specs.Lines.{start_of}
+use Rattle.snippet_lines.specs.Place.{line_of}
+use Rattle.snippet_model.specs.declared.snippet.Annotation.{Annotation}
+use Rattle.snippet_model.specs.declared.snippet.AnnotationKind.TheVariants.{Primary}
+use Rattle.snippet_model.specs.declared.snippet.Element.{Element}
+use Rattle.snippet_model.specs.declared.snippet.Element.TheVariants as element
+use Rattle.snippet_model.specs.declared.snippet.Group.{Group}
+use Rattle.snippet_model.specs.declared.snippet.Snippet.{Snippet}
+use Rattle.snippet_model.specs.declared.snippet.Title.{Title}
+use Rattle.snippet_style.specs.Cell.{Cell}
+use Rattle.snippet_style.specs.Stylesheet.{plain_sheet}
+use Rattle.snippet_text.specs.Normalized.{norm}
+use Rattle.snippet_titles.specs.Heading.{label_cells}
+use Rattle.snippet_titles.specs.Origin.{origin_text}
+use Rattle.snippet_titles.specs.Short.{short_rows}
+use Rattle.snippet_view.specs.Annotated.{is_long}
+use Rattle.annotate_snippets.specs.Forms.{ShowsReport, ShowsShort}
+use Rattle.annotate_snippets.specs.Settings.{plain_settings}
+use Rattle.annotate_snippets.specs.Short.{short_form}
+use Rattle.annotate_snippets.specs.declared.renderer.Renderer.{Renderer}
+use Rattle.annotate_snippets.proofs.NotShown.{span_of}
+use Rattle.annotate_snippets.proofs.NotWhole.{at_first, at_second, both_spans, second_span}
+use Rattle.annotate_snippets.proofs.SmallReports.{error_title, group, snippet, title_alone}
+
+-- the plain settings, with the short form
+abbrev one_line : Renderer
+one_line = record plain_settings { short_message = true }
+
+-- ---- a title that is left out
+
+title_is : (v : Vec Element Global) (g : Group) (title : Title) → Some (group v (Some (error_title None (codes "e"))) [] (omega arith)) ≡ Some g
+    → g.title ≡ Some title → plain_text (short_form one_line g title) ≡ codes "error: e"
+unfolding chars norm label_cells short_rows
+title_is v g title first titled =
+    let is : g ≡ group v (Some (error_title None (codes "e"))) [] (omega arith) = cc in
+    let named : error_title None (codes "e") ≡ title = cc in
+    ap (λ (other : Group). plain_text (short_form one_line other title)) is
+    ∙ ap (λ other. plain_text (short_form one_line (group v (Some (error_title None (codes "e"))) [] (omega arith)) other)) (sym named)
+
+-- no text for the title `error: e`
+titles_left_out : (v : Vec Element Global) → ShowsReport one_line (title_alone v) plain_sheet [] → ⊥
+unfolding lib.Utf8.encode
+titles_left_out v shown =
+    let right : [] ≡ encode_utf8_all (codes "error: e") = (shown.plain refl).0 refl
+    ∙ ap (λ rows. encode_utf8_all (plain_text rows)) shown.shows.rows_are
+    ∙ ap encode_utf8_all (title_is v shown.group shown.title shown.first shown.titled) in
+    cc
+
+-- ---- another place than the first
+
+-- the title `error: e` above a snippet of the file `f`
+abbrev placed : Vec Element Global → Snippet Annotation → Group
+placed v s = group v (Some (error_title None (codes "e"))) (element.Cause s ∷ []) (omega arith)
+
+-- two primary spans of `ab`, of which the second starts at column 1
+abbrev of_two : Vec Annotation Global → Snippet Annotation
+of_two w = snippet w (Some (codes "f")) (codes "ab") both_spans (omega arith)
+
+two_short : (marks : List Annotation) → marks ≡ both_spans → All (λ a. is_long (codes "ab") a ≡ false) marks
+unfolding line_of start_of
+two_short marks is =
+    let Short : Annotation → Type 0 = λ a. is_long (codes "ab") a ≡ false in
+    subst (All Short) (sym is) (All-cons Short (span_of Primary 1 2) (span_of Primary 0 1 ∷ []) refl (All-cons Short (span_of Primary 0 1) [] refl (All-nil Short)))
+
+-- the first row doesn't name the column at which the first one starts:
+--
+--     f:1:2: error: e
+origin_of_first_given_span : (v : Vec Element Global) (w : Vec Annotation Global) (title : Title) (rows : List (List Cell))
+    → row_text (row_at rows 0) ≡ codes "f:1:2: error: e" → ShowsShort one_line (placed v (of_two w)) title rows → ⊥
+unfolding origin_text digits norm chars
+origin_of_first_given_span v w title rows wrong shown =
+    let begins = shown.origin (of_two w) refl (codes "f") refl refl (two_short both_spans refl) in
+    let at : (begins.place.line ≡ 1) × (begins.place.column ≡ Some 1) = at_first begins.place begins.is in
+    let right : row_text (row_at rows 0) ≡ codes "f:1:1" ++ (codes ": " ++ begins.rest) = begins.text
+    ∙ ap (λ line. origin_text false (codes "f") (record { line = Some line; column = begins.place.column }) ++ (codes ": " ++ begins.rest)) at.0
+    ∙ ap (λ column. origin_text false (codes "f") (record { line = Some 1; column = column }) ++ (codes ": " ++ begins.rest)) at.1 in
+    let digit : ◌≡◌ {A = ℕ} 50 49 = ap (λ (cs : List ℕ). slice_index_or cs 4 0) (sym wrong ∙ right) in
+    absurd (omega (arith, digit))
+
+-- a primary span of the second character of `éb`, which is byte 2
+abbrev of_second : Vec Annotation Global → Snippet Annotation
+of_second w = snippet w (Some (codes "f")) (encode_utf8_all (codes "éb")) (second_span ∷ []) (omega arith)
+
+second_short : (marks : List Annotation) → marks ≡ second_span ∷ [] → All (λ a. is_long (encode_utf8_all (codes "éb")) a ≡ false) marks
+unfolding line_of start_of lib.Utf8.encode
+second_short marks is =
+    let Short : Annotation → Type 0 = λ a. is_long (encode_utf8_all (codes "éb")) a ≡ false in
+    subst (All Short) (sym is) (All-cons Short second_span [] refl (All-nil Short))
+
+-- nor does it name the byte:
+--
+--     f:1:3: error: e
+origin_by_byte : (v : Vec Element Global) (w : Vec Annotation Global) (title : Title) (rows : List (List Cell))
+    → row_text (row_at rows 0) ≡ codes "f:1:3: error: e" → ShowsShort one_line (placed v (of_second w)) title rows → ⊥
+unfolding origin_text digits norm chars
+origin_by_byte v w title rows wrong shown =
+    let begins = shown.origin (of_second w) refl (codes "f") refl refl (second_short (second_span ∷ []) refl) in
+    let at : (begins.place.line ≡ 1) × (begins.place.column ≡ Some 2) = at_second begins.place begins.is in
+    let right : row_text (row_at rows 0) ≡ codes "f:1:2" ++ (codes ": " ++ begins.rest) = begins.text
+    ∙ ap (λ line. origin_text false (codes "f") (record { line = Some line; column = begins.place.column }) ++ (codes ": " ++ begins.rest)) at.0
+    ∙ ap (λ column. origin_text false (codes "f") (record { line = Some 1; column = column }) ++ (codes ": " ++ begins.rest)) at.1 in
+    let digit : ◌≡◌ {A = ℕ} 51 50 = ap (λ (cs : List ℕ). slice_index_or cs 4 0) (sym wrong ∙ right) in
+    absurd (omega (arith, digit))

@@ -1,0 +1,218 @@
+//! Values of JSON that other tools write, and all that is wrong with them.
+
+use crate::expectation::Expectation;
+use crate::place::Place;
+use serde_json::Value;
+use std::alloc::{AllocError, Global};
+use std::fmt;
+
+/// What is wrong with a document.
+#[derive(Drop)]
+pub struct Troubles {
+    alloc: Global,
+    /// Lines `WAY: expected WHAT`, in the order of reading.
+    pub lines: Vec<String>,
+    /// Whether memory was refused for a line, which isn't there then.
+    pub is_refused: bool,
+}
+
+impl Troubles {
+    /// Nothing is wrong yet.
+    pub fn new(alloc: Global) -> Troubles {
+        Troubles {
+            alloc,
+            lines: Vec::new(alloc),
+            is_refused: false,
+        }
+    }
+
+    /// Adds that something was expected at this place.
+    fn add<E: fmt::Display + Copy>(&mut self, place: Place<'_>, expected: E) {
+        let added = match format!(in self.alloc; "{place}: expected {expected}") {
+            Ok(line) => self.lines.push(line).is_ok(),
+            Err(AllocError) => false,
+        };
+        self.is_refused = self.is_refused || !added;
+    }
+}
+
+/// A value of JSON, and where it stands. A field that has `null` counts as one that isn't there. Where something else stands
+/// than what is asked for, that is reported, and there is no answer.
+#[derive(Clone, Copy)]
+pub struct Node<'v, 'p> {
+    pub value: &'v Value,
+    pub place: Place<'p>,
+}
+
+/// The items of a list, and where it stands.
+#[derive(Clone, Copy)]
+pub struct List<'v, 'p> {
+    pub items: &'v [Value],
+    pub place: Place<'p>,
+}
+
+impl<'v> List<'v, '_> {
+    /// The item with this number.
+    pub fn node<'n>(&'n self, index: usize, value: &'v Value) -> Node<'v, 'n> {
+        Node {
+            value,
+            place: Place::Item(&self.place, index),
+        }
+    }
+}
+
+impl<'v> Node<'v, '_> {
+    /// Tells that this was expected here.
+    pub fn tell<E: fmt::Display + Copy>(&self, troubles: &mut Troubles, expected: E) {
+        troubles.add(self.place, expected);
+    }
+
+    /// Tells that this was expected in the field of this name.
+    pub fn tell_field<E: fmt::Display + Copy>(
+        &self,
+        name: &str,
+        troubles: &mut Troubles,
+        expected: E,
+    ) {
+        troubles.add(Place::Field(&self.place, name), expected);
+    }
+
+    /// What stands in the field of this name.
+    fn field(&self, name: &str) -> Option<&'v Value> {
+        match self.value.get(name) {
+            Some(value) if !value.is_null() => Some(value),
+            _ => None,
+        }
+    }
+
+    /// Whether there is a field of this name.
+    pub fn has(&self, name: &str) -> bool {
+        self.field(name).is_some()
+    }
+
+    /// Whether the value is an object.
+    pub fn is_object(&self, troubles: &mut Troubles) -> bool {
+        let is_object = self.value.is_object();
+        if !is_object {
+            self.tell(troubles, Expectation::Object);
+        }
+        is_object
+    }
+
+    /// The object in the field of this name, which has to be there.
+    pub fn needed<'n>(&'n self, name: &'n str, troubles: &mut Troubles) -> Option<Node<'v, 'n>> {
+        if !self.has(name) {
+            self.tell_field(name, troubles, Expectation::Object);
+        }
+        self.object(name, troubles)
+    }
+
+    /// The object in the field of this name.
+    pub fn object<'n>(&'n self, name: &'n str, troubles: &mut Troubles) -> Option<Node<'v, 'n>> {
+        match self.field(name) {
+            Some(value) if value.is_object() => Some(Node {
+                value,
+                place: Place::Field(&self.place, name),
+            }),
+            Some(_) => {
+                self.tell_field(name, troubles, Expectation::Object);
+                None
+            }
+            None => None,
+        }
+    }
+
+    /// The list in the field of this name; an empty one where there is none.
+    pub fn list<'n>(&'n self, name: &'n str, troubles: &mut Troubles) -> List<'v, 'n> {
+        let items: &'v [Value] = match self.field(name) {
+            None => &[],
+            Some(value) => match value.as_array() {
+                Some(items) => items.as_slice(),
+                None => {
+                    self.tell_field(name, troubles, Expectation::List);
+                    &[]
+                }
+            },
+        };
+        List {
+            items,
+            place: Place::Field(&self.place, name),
+        }
+    }
+
+    /// The list in the field of this name, which has to be there.
+    pub fn needed_list<'n>(&'n self, name: &'n str, troubles: &mut Troubles) -> List<'v, 'n> {
+        if !self.has(name) {
+            self.tell_field(name, troubles, Expectation::List);
+        }
+        self.list(name, troubles)
+    }
+
+    /// The text in the field of this name.
+    pub fn text(&self, name: &str, troubles: &mut Troubles) -> Option<&'v str> {
+        let value = self.field(name);
+        let text = value.and_then(Value::as_str);
+        if value.is_some() && text.is_none() {
+            self.tell_field(name, troubles, Expectation::AnyText);
+        }
+        text
+    }
+
+    /// The text in the field of this name, which has to be there.
+    pub fn needed_text(&self, name: &str, troubles: &mut Troubles) -> Option<&'v str> {
+        if !self.has(name) {
+            self.tell_field(name, troubles, Expectation::AnyText);
+        }
+        self.text(name, troubles)
+    }
+
+    /// The whole number in the field of this name. The number -1 stands for none.
+    pub fn number(&self, name: &str, troubles: &mut Troubles) -> Option<usize> {
+        let value = self.field(name)?;
+        match value.as_u64() {
+            Some(number) => Some(number as usize),
+            None => {
+                if value.as_i64() != Some(-1) {
+                    self.tell_field(name, troubles, Expectation::FromZero);
+                }
+                None
+            }
+        }
+    }
+
+    /// The line or the column in the field of this name, counted from 1.
+    pub fn from_one(&self, name: &str, troubles: &mut Troubles) -> Option<usize> {
+        let number = self.field(name)?.as_u64().unwrap_or(0);
+        if number == 0 {
+            self.tell_field(name, troubles, Expectation::FromOne);
+            return None;
+        }
+        Some(number as usize)
+    }
+}
+
+/// The text in the field of this name, if one stands there; where there is none, nothing is reported.
+pub fn text_field<'v>(object: &'v Value, name: &str) -> Option<&'v str> {
+    object.get(name).and_then(Value::as_str)
+}
+
+/// What stands in the field of this name, if there is an object.
+pub fn field_at<'v>(object: Option<&'v Value>, name: &str) -> Option<&'v Value> {
+    match object {
+        Some(object) => object.get(name),
+        None => None,
+    }
+}
+
+/// The text in the field of this name, if there is an object and one stands there.
+pub fn text_at<'v>(object: Option<&'v Value>, name: &str) -> Option<&'v str> {
+    field_at(object, name).and_then(Value::as_str)
+}
+
+/// The item of a list with this number, if there is a list.
+pub fn item_at<'v>(list: Option<&'v Value>, index: u64) -> Option<&'v Value> {
+    match list {
+        Some(list) => list.get(index as usize),
+        None => None,
+    }
+}

@@ -1,0 +1,7 @@
+//! What the programs share: the words of the command line, what a file holds, lines that are written whole or cut short, and
+//! the status.
+#![tactic(auto)]
+
+pub mod exit;
+pub mod input;
+pub mod line;

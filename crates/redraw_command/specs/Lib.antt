@@ -1,0 +1,4 @@
+pub mod Choice
+pub mod Look
+pub mod Tally
+pub mod Workflow

@@ -1,0 +1,40 @@
+-- What is counted of what is drawn, and the status that a run ends with.
+use Rattle.std.specs.Prelude.{ℕ, ◌+◌, ◌-◌, ◌^◌, Bool, true, false, ◌||◌, if◌then◌else◌, min}
+use Rattle.redraw_report.specs.declared.diagnostic.Severity.{Severity}
+use Rattle.redraw_report.specs.declared.diagnostic.Severity.TheVariants.{Error, Warning, Info, Note, Help, Plain}
+use Rattle.redraw_command.specs.declared.tally.Tally.{Tally}
+
+-- one more, as far as it can be counted
+abbrev pub one_more : ℕ → ℕ
+one_more n = min (n + 1) (2 ^ 64 - 1)
+
+-- the tally with a finding of a severity more: each level has its own count, and a text without a level none
+abbrev pub counted : Tally → Severity → Tally
+counted t Error = record t { errors = one_more t.errors }
+counted t Warning = record t { warnings = one_more t.warnings }
+counted t Info = record t { notes = one_more t.notes }
+counted t Note = record t { notes = one_more t.notes }
+counted t Help = record t { notes = one_more t.notes }
+counted t Plain = t
+
+-- whether a severity is that of an error
+abbrev pub is_error : Severity → Bool
+is_error Error = true
+is_error Warning = false
+is_error Info = false
+is_error Note = false
+is_error Help = false
+is_error Plain = false
+
+-- the tally that also says that an error was drawn, if one of this severity is that
+abbrev pub marked : Tally → Severity → Tally
+marked t severity = record t { has_error = t.has_error || is_error severity }
+
+-- the tally with what is drawn: a finding counts, and one that only sums up others doesn't
+abbrev pub tallied : Tally → Severity → Bool → Tally
+tallied t severity is_sum = if is_sum then marked t severity else counted (marked t severity) severity
+
+-- the status of a run: 2 where not all of its inputs could be read and are of a form that is known, else 1 where an error was drawn
+-- or a build failed, else 0
+abbrev pub status_of : Tally → Bool → ℕ
+status_of t is_whole = if is_whole then (if t.has_error || t.has_failed then 1 else 0) else 2

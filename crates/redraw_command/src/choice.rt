@@ -1,0 +1,94 @@
+//! Which findings are drawn, and in which form.
+ghost use Rattle.std.specs.Prelude.{◌≡◌, nat_eq};
+ghost use Rattle.std.specs.List.{starts_with, ends_with};
+ghost use Rattle.redraw_command.specs.Choice as spec;
+
+use redraw_report::diagnostic::{Diagnostic, FileSpan, Severity};
+
+/// What a finding is written as.
+#[derive(Clone, Copy, PartialEq, Eq)]
+pub enum Form {
+    /// A report that the library draws.
+    Report,
+    /// A workflow command of GitHub.
+    Workflow,
+}
+
+/// The least level of the findings that are drawn.
+#[derive(Clone, Copy, PartialEq, Eq)]
+pub enum Least {
+    Error,
+    Warning,
+    /// All are, and texts without a level too.
+    Any,
+}
+
+/// Which findings are drawn, and in which form.
+#[derive(Clone, Copy)]
+pub struct Choice<'a> {
+    pub form: Form,
+    /// The least level of those that are drawn.
+    pub least: Least,
+    /// A text that one of their primary paths holds, where one is given.
+    pub path: Option<&'a str>,
+    /// Whether those are drawn again that cargo reports again.
+    pub has_duplicates: bool,
+    /// Whether nothing is summed up.
+    pub is_quiet: bool,
+}
+
+impl Choice<'_> {
+    /// Whether a finding is one of those that are drawn.
+    pub fn takes(&self, diagnostic: &Diagnostic) -> bool {
+        self.takes_level(diagnostic.severity) && self.takes_spans(&diagnostic.spans)
+    }
+
+    /// Whether findings of this level are drawn.
+    fn takes_level(&self, severity: Severity) -> bool {
+        match self.least {
+            Least::Error => severity == Severity::Error,
+            Least::Warning => severity == Severity::Error || severity == Severity::Warning,
+            Least::Any => true,
+        }
+    }
+
+    /// Whether findings with these places are drawn.
+    fn takes_spans(&self, spans: &[FileSpan]) -> bool {
+        match self.path {
+            Some(text) => spans
+                .iter()
+                .any(|span| span.is_primary && span.file.contains(text)),
+            None => true,
+        }
+    }
+}
+
+/// Whether this only sums up how many others there are, as rustc and cargo do in the end: `aborting due to 2 previous errors`.
+pub fn is_sum(diagnostic: &Diagnostic) -> bool
+    ensures value { result ≡ spec.is_sum diagnostic.now }
+{
+    diagnostic.spans.is_empty() && says_how_many(diagnostic.message.as_str())
+}
+
+/// Whether a message says how many others there are.
+fn says_how_many(message: &str) -> bool
+    ensures value { result ≡ spec.says_how_many message.now }
+{
+    begins_with(message, "aborting due to ")
+        || stops_with(message, " warning emitted")
+        || stops_with(message, " warnings emitted")
+}
+
+/// Whether a text begins with another.
+fn begins_with(text: &str, start: &str) -> bool
+    ensures value { result ≡ starts_with nat_eq text.now start.now }
+{
+    text.starts_with(start)
+}
+
+/// Whether a text ends with another.
+fn stops_with(text: &str, end: &str) -> bool
+    ensures value { result ≡ ends_with nat_eq text.now end.now }
+{
+    text.ends_with(end)
+}

@@ -1,0 +1,55 @@
+//! What a line of an input is, before it is read.
+
+use std::str;
+
+/// A line, without a mark of the order of bytes at the start of the input.
+#[derive(Clone, Copy)]
+pub enum Line<'a> {
+    /// It may be a value of JSON, or the start of one, since it begins as an object does, if after blanks.
+    Object(&'a str),
+    /// It begins as an object does, and isn't UTF-8.
+    Undecoded,
+    /// It is nothing but blanks.
+    Blank,
+    /// It is none of the program's business.
+    Other,
+}
+
+/// What a line is, the first of an input or another.
+pub fn line_of(bytes: &[u8], is_first: bool) -> Line<'_> {
+    let bytes = if is_first { without_mark(bytes) } else { bytes };
+    match first_of(bytes) {
+        Some(b'{') => match str::from_utf8(bytes) {
+            Ok(text) => Line::Object(text),
+            Err(_) => Line::Undecoded,
+        },
+        Some(_) => Line::Other,
+        None => Line::Blank,
+    }
+}
+
+/// The first byte that isn't blank.
+fn first_of(bytes: &[u8]) -> Option<u8> {
+    for byte in bytes {
+        if !byte.is_ascii_whitespace() {
+            return Some(*byte);
+        }
+    }
+    None
+}
+
+/// The bytes without the mark of their order, which some tools write at the start.
+fn without_mark(bytes: &[u8]) -> &[u8] {
+    match bytes {
+        [0xef, 0xbb, 0xbf, rest @ ..] => rest,
+        _ => bytes,
+    }
+}
+
+/// Whether the first bytes of an input are UTF-16: the mark of its order, or a brace of two bytes.
+pub fn is_utf16(bytes: &[u8]) -> bool {
+    matches!(
+        bytes,
+        [0xff, 0xfe, ..] | [0xfe, 0xff, ..] | [b'{', 0, ..] | [0, b'{', ..]
+    )
+}

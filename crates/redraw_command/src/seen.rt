@@ -1,0 +1,72 @@
+//! What was drawn before: the diagnostics of cargo, and the files that places lie in.
+
+use serde_json::Value;
+use sha2::{Digest, Sha256};
+use std::alloc::{AllocError, Global};
+use std::collections::HashSet;
+use std::hash::{BuildHasherDefault, FoldHasher};
+
+/// How many diagnostics are kept in mind.
+const MOST: usize = 16_384;
+
+/// The diagnostics of cargo that were drawn, by what their texts have for a digest: of 32 bytes each, so that a run takes no
+/// memory for their texts. No two texts are known that have the same.
+#[derive(Drop)]
+pub struct Seen {
+    alloc: Global,
+    digests: HashSet<[u8; 32]>,
+}
+
+impl Seen {
+    /// None was drawn.
+    pub fn new(alloc: Global) -> Seen {
+        Seen {
+            alloc,
+            digests: HashSet::new(alloc),
+        }
+    }
+
+    /// Keeps a diagnostic in mind, and says whether it was kept before. When too many are kept, all others are forgotten first.
+    pub fn keeps(&mut self, message: &Value) -> Result<bool, AllocError> {
+        let text = message.to_string(self.alloc)?;
+        let digest = Sha256::digest(text.as_bytes());
+        if self.digests.contains(&digest) {
+            return Ok(true);
+        }
+        if self.digests.len() >= MOST {
+            self.digests.clear();
+        }
+        self.digests.insert(digest)?;
+        Ok(false)
+    }
+}
+
+/// Names, each once.
+#[derive(Drop)]
+pub struct Names {
+    alloc: Global,
+    names: HashSet<String>,
+}
+
+impl Names {
+    /// No name.
+    pub fn new(alloc: Global) -> Names {
+        Names {
+            alloc,
+            names: HashSet::new(alloc),
+        }
+    }
+
+    /// Adds a name, unless it is there.
+    pub fn add(&mut self, name: &str) -> Result<(), AllocError> {
+        if !self.names.contains(name) {
+            self.names.insert(String::from_str(self.alloc, name)?)?;
+        }
+        Ok(())
+    }
+
+    /// How many there are.
+    pub fn len(&self) -> u64 {
+        self.names.len() as u64
+    }
+}

@@ -1,0 +1,127 @@
+//! What was drawn, and what became of the rest.
+ghost use Rattle.std.specs.Prelude.{◌≡◌};
+ghost use Rattle.redraw_command.specs.Tally as spec;
+
+use redraw_report::diagnostic::Severity;
+use std::fmt;
+
+/// The status of a run that drew no error.
+pub const CLEAN: u8 = 0;
+/// The status of a run that drew an error, or read that a build failed.
+pub const ERRORS: u8 = 1;
+/// The status of a run whose words or input aren't of the form, or that was stopped.
+pub const FAILED: u8 = 2;
+
+/// What was drawn, by level, and what became of the rest.
+#[derive(Clone, Copy, Default)]
+pub struct Tally {
+    /// The errors that were drawn.
+    pub errors: u64,
+    /// The warnings that were drawn.
+    pub warnings: u64,
+    /// What else was drawn: notes, helps and informations.
+    pub notes: u64,
+    /// The diagnostics of cargo that were drawn before, and weren't again.
+    pub duplicates: u64,
+    /// The files in which what was drawn has its primary places.
+    pub files: u64,
+    /// Parts of the input that are left out, since something is wrong with them.
+    pub wrong: u64,
+    /// Whether an error was drawn, be it one that only sums up others.
+    pub has_error: bool,
+    /// Whether cargo says that the build failed.
+    pub has_failed: bool,
+}
+
+impl Tally {
+    /// The tally with a finding of this level more, which isn't counted where it only sums up others.
+    pub fn with(mut self, severity: Severity, is_sum: bool) -> Tally
+        ensures tallied { result ≡ spec.tallied self severity is_sum }
+    {
+        self.has_error = self.has_error || severity == Severity::Error;
+        if is_sum {
+            return self;
+        }
+        match severity {
+            Severity::Error => self.errors = self.errors.saturating_add(1),
+            Severity::Warning => self.warnings = self.warnings.saturating_add(1),
+            Severity::Info | Severity::Note | Severity::Help => {
+                self.notes = self.notes.saturating_add(1);
+            }
+            Severity::Plain => {}
+        }
+        self
+    }
+
+    /// The status of a run that drew this, and read all of its inputs or not.
+    pub fn status(&self, is_whole: bool) -> u8
+        ensures status { result ≡ spec.status_of self.now is_whole }
+    {
+        if !is_whole {
+            FAILED
+        } else if self.has_error || self.has_failed {
+            ERRORS
+        } else {
+            CLEAN
+        }
+    }
+
+    /// Whether nothing of all this was there.
+    pub fn is_empty(&self) -> bool {
+        !self.has_drawn() && self.duplicates == 0 && self.wrong == 0
+    }
+
+    /// Whether anything was drawn that counts.
+    fn has_drawn(&self) -> bool {
+        self.errors > 0 || self.warnings > 0 || self.notes > 0
+    }
+}
+
+/// So many things of a name, which is given for one and for several.
+#[derive(Clone, Copy)]
+struct Counted(u64, &'static str, &'static str);
+
+impl fmt::Display for Counted {
+    fn fmt<W: fmt::Write>(&self, f: &mut fmt::Formatter<W>) -> fmt::Result {
+        let Counted(count, one, several) = *self;
+        let name = if count == 1 { one } else { several };
+        write!(f, "{count} {name}")
+    }
+}
+
+/// Writes how many things there are, if any, after a comma where others stand before it; and says whether any do now.
+fn list<W: fmt::Write>(
+    f: &mut fmt::Formatter<W>,
+    is_first: bool,
+    counted: Counted,
+) -> Result<bool, fmt::Error> {
+    if counted.0 == 0 {
+        return Ok(is_first);
+    }
+    let comma = if is_first { "" } else { ", " };
+    write!(f, "{comma}{counted}")?;
+    Ok(false)
+}
+
+impl fmt::Display for Tally {
+    fn fmt<W: fmt::Write>(&self, f: &mut fmt::Formatter<W>) -> fmt::Result {
+        let is_first = list(f, true, Counted(self.errors, "error", "errors"))?;
+        let is_first = list(f, is_first, Counted(self.warnings, "warning", "warnings"))?;
+        if list(f, is_first, Counted(self.notes, "note", "notes"))? {
+            f.write_str("nothing drawn")?;
+        }
+        if self.duplicates > 0 {
+            let duplicates = Counted(self.duplicates, "duplicate", "duplicates");
+            write!(f, " ({duplicates})")?;
+        }
+        if self.files > 0 {
+            let files = Counted(self.files, "file", "files");
+            write!(f, " in {files}")?;
+        }
+        let wrong = self.wrong;
+        if wrong > 0 {
+            write!(f, ", {wrong} left out")?;
+        }
+        Ok(())
+    }
+}

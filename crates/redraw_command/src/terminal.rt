@@ -1,0 +1,62 @@
+//! How reports look: by the options, and by where they are shown.
+ghost use Rattle.std.specs.Prelude.{◌≡◌};
+ghost use Rattle.redraw_command.specs.Look as spec;
+
+/// When colors are written.
+#[derive(Clone, Copy, PartialEq, Eq)]
+pub enum When {
+    /// On a terminal that shows them.
+    Auto,
+    Always,
+    Never,
+}
+
+/// How reports are to look, by the options.
+#[derive(Clone, Copy)]
+pub struct Look {
+    /// Whether strokes are drawn with line-drawing characters.
+    pub unicode: bool,
+    /// Whether reports are written without graphics.
+    pub text: bool,
+    /// Whether reports are written on one line each.
+    pub short: bool,
+    /// When reports are written with style codes.
+    pub colors: When,
+    /// Whether the names of errors link to pages that explain them, where style codes are written.
+    pub links: bool,
+    /// The width that lines are cut to, in columns, where one is given.
+    pub width: Option<usize>,
+}
+
+/// Where the program runs, as far as it matters: what `main` finds there, and hands on as a value.
+#[derive(Clone, Copy)]
+pub struct Surroundings<'a> {
+    /// Whether standard output is a terminal.
+    pub is_terminal: bool,
+    /// Whether colors aren't wanted, or the terminal shows none: by `NO_COLOR` and `TERM`.
+    pub is_colorless: bool,
+    /// The width of the terminal in columns, by `COLUMNS`.
+    pub columns: Option<usize>,
+    /// The folder that the program runs in.
+    pub folder: Option<&'a str>,
+}
+
+impl Look {
+    /// Whether style codes are written there.
+    pub fn has_colors(&self, around: Surroundings<'_>) -> bool
+        ensures value { result ≡ spec.has_colors self.now around.entry }
+    {
+        match self.colors {
+            When::Auto => around.is_terminal && !around.is_colorless,
+            When::Always => true,
+            When::Never => false,
+        }
+    }
+
+    /// Whether links are written there: where they are asked for, and always where codes are.
+    pub fn has_links(&self) -> bool
+        ensures value { result ≡ spec.has_links self.now }
+    {
+        self.links || self.colors == When::Always
+    }
+}

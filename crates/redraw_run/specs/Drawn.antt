@@ -1,0 +1,62 @@
+-- What is drawn of a finding, and what is written of it.
+use Rattle.std.specs.Prelude.{◌≡◌, ◌⊎◌, ℕ, ◌||◌, Bool, List, [], ◌∷◌, ◌++◌, Option, map, string_bytes, if◌then◌else◌}
+use Rattle.std.specs.Io.KnownBytes.{Appends}
+use Rattle.annotate_snippets.specs.Forms.{ShowsReport}
+use Rattle.annotate_snippets.specs.declared.renderer.Renderer.{Renderer}
+use Rattle.annotate_snippets.specs.declared.snippet.Group.{Group}
+use Rattle.redraw_command.specs.Choice.{is_sum}
+use Rattle.redraw_command.specs.Tally.{one_more, tallied}
+use Rattle.redraw_command.specs.declared.choice.Form.{Form}
+use Rattle.redraw_command.specs.declared.choice.Form.TheVariants.{Report, Workflow}
+use Rattle.redraw_command.specs.declared.tally.Tally.{Tally}
+use Rattle.redraw_report.specs.Report.{report_of}
+use Rattle.redraw_report.specs.View.{section_view}
+use Rattle.redraw_report.specs.declared.diagnostic.Diagnostic.{Diagnostic}
+use Rattle.redraw_report.specs.declared.diagnostic.Severity.{Severity}
+use Rattle.redraw_report.specs.declared.diagnostic.Severity.TheVariants.{Error, Warning, Info, Note, Help, Plain}
+use Rattle.redraw_report.specs.declared.finding.Finding.{Finding}
+use Rattle.redraw_report.specs.declared.finding.Shown.{Shown}
+
+-- the text shows, in the renderer's settings and under its sheet, the report of a finding in some sources
+pub record ShowsFinding (r : Renderer) (text : List ℕ) : Type 0 where
+  pub sources : List Shown
+  pub finding : Finding
+  pub groups : List Group
+  pub told : map section_view groups ≡ report_of sources finding
+  pub shows : ShowsReport r groups r.stylesheet text
+
+-- what stands after a report: an empty line, but nothing in the short form, and nothing after a text without a level
+abbrev pub ending_after : Bool → Severity → List ℕ
+ending_after short Error = if short then [] else 10 ∷ []
+ending_after short Warning = if short then [] else 10 ∷ []
+ending_after short Info = if short then [] else 10 ∷ []
+ending_after short Note = if short then [] else 10 ∷ []
+ending_after short Help = if short then [] else 10 ∷ []
+ending_after short Plain = []
+
+-- a diagnostic is counted as one that is drawn: by its level, unless it only sums up others. Only how many files there are is left open
+abbrev pub IsCounted : Diagnostic → Tally → Tally → Type 0
+IsCounted d old new = new ≡ record (tallied old d.severity (is_sum d)) { files = new.files }
+
+-- a part of the input is counted as left out
+abbrev pub IsLeftOut : Tally → Tally → Type 0
+IsLeftOut old new = new ≡ record old { wrong = one_more old.wrong }
+
+-- a finding is drawn as a report: to what a writer held, a text that shows it is added, and what stands after it; and it is counted
+pub record IsDrawn (r : Renderer) (d : Diagnostic) (old new : Option (List ℕ)) (before after : Tally) : Type 0 where
+  pub text : List ℕ
+  pub shows : ShowsFinding r text
+  pub written : Appends old new (text ++ (ending_after r.short_message d.severity ++ 10 ∷ []))
+  pub counted : IsCounted d before after
+
+-- a finding is written as a command: to what a writer held, a line is added, and the finding is counted
+pub record IsCommanded (d : Diagnostic) (old new : Option (List ℕ)) (before after : Tally) : Type 0 where
+  pub line : List ℕ
+  pub written : Appends old new (line ++ 10 ∷ [])
+  pub counted : IsCounted d before after
+
+-- what becomes of a finding, by the form that is asked for. As a report it is drawn, or left out: then nothing is written (Same), and
+-- it is counted as left out. As a command it is written, or is none: then nothing is written, and nothing counted
+abbrev pub Draws : Form → Renderer → Diagnostic → Option (List ℕ) → Option (List ℕ) → Type 0 → Tally → Tally → Type 0
+Draws Report r d old new Same before after = IsDrawn r d old new before after ⊎ (Same × IsLeftOut before after)
+Draws Workflow r d old new Same before after = IsCommanded d old new before after ⊎ (Same × (after ≡ before))

@@ -1,0 +1,59 @@
+//! The text that is drawn of a diagnostic.
+ghost use Rattle.std.specs.Prelude.{IfOk, string_bytes};
+ghost use Rattle.annotate_snippets.specs.Forms.{ShowsReport};
+ghost use Rattle.redraw_run.specs.Drawn.{ShowsFinding};
+
+use annotate_snippets::renderer::RenderError;
+use annotate_snippets::{Group, Renderer};
+use redraw_read::place::Placing;
+use redraw_read::sources::{Shelf, Sources};
+use redraw_report::diagnostic::Diagnostic;
+use redraw_report::fits::report_fits;
+use redraw_report::report::report;
+use std::alloc::{AllocError, Global};
+
+/// What was drawn of a finding.
+#[derive(Drop)]
+pub struct Drawn {
+    /// Its text, or why there is none.
+    pub text: Result<String, RenderError>,
+    /// How many places aren't in their source.
+    pub clamped: u64,
+    /// How many edits aren't drawn.
+    pub undrawn: u64,
+}
+
+/// What is drawn of a diagnostic, whose files were read.
+pub fn drawn_of<S: Shelf + Drop>(
+    alloc: Global,
+    renderer: &Renderer,
+    sources: &Sources<S>,
+    diagnostic: &Diagnostic,
+) -> Result<Drawn, AllocError>
+    ensures shows { IfOk result (λ drawn. IfOk drawn.text (λ text. ShowsFinding renderer.now (string_bytes text))) }
+{
+    let mut placing = Placing::new(alloc, renderer.short_message);
+    let finding = placing.finding(sources, diagnostic)?;
+    let groups = report(alloc, &placing.shown, &finding)?;
+    Ok(Drawn {
+        text: render_fitting(alloc, renderer, &groups),
+        clamped: placing.clamped,
+        undrawn: placing.undrawn,
+    })
+}
+
+/// The text of a report; refused as if for memory where one of its texts is longer than memory is.
+fn render_fitting(
+    alloc: Global,
+    renderer: &Renderer,
+    groups: &Vec<Group<'_>>,
+) -> Result<String, RenderError>
+    ensures shows { IfOk result (λ text.
+        ShowsReport renderer.now groups.now.items renderer.now.stylesheet (string_bytes text)) }
+{
+    if report_fits(groups) {
+        renderer.render(alloc, groups)
+    } else {
+        Err(RenderError::Memory(AllocError))
+    }
+}

@@ -1,0 +1,6 @@
+use Rattle.std.proofs.Common.{arith, refl}
+use Rattle.snippet_style.proofs.CellLemmas.{length-chars_le}
+use Rattle.snippet_grid.proofs.words.fits.Goals as goal
+
+pub returns-then-text-room : goal.returns-then-text-room
+returns-then-text-room c = record { value = (λ _. omega (arith, length-chars_le c.args.text.now), λ _. refl) }
