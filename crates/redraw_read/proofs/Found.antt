@@ -1,5 +1,5 @@
 -- How a source is found again among the sources that are shown.
-use Rattle.std.proofs.Common.{◌≡◌, ℕ, ◌+◌, ◌<◌, ◌≤◌, ◌==◌, Bool, true, false, cond, not, List, [], ◌∷◌, ◌++◌, Option, Some, None, drop, length, add-zero, refl, sym, ap, ◌∙◌, arith, nat_eq}
+use Rattle.std.proofs.Common.{◌≡◌, ℕ, ◌+◌, ◌<◌, ◌≤◌, ◌==◌, Bool, true, false, cond, not, List, [], ◌∷◌, ◌++◌, Option, Some, None, drop, length, add-zero, refl, sym, ap, ◌∙◌, arith, nat_eq, nat_le, ◌&&◌, subst, if◌then◌else◌}
 use Rattle.std.specs.List.{position, position_or_len, slice_index_or}
 use Rattle.std.proofs.Math.ListN.{drop_of_length-le}
 use Rattle.redraw_read.proofs.Walks.{from-here}
@@ -9,7 +9,11 @@ use Rattle.std.proofs.lemmas.Grind.{common_steps}
 use Rattle.std.proofs.lemmas.List.Folds.{prefix_len-append, position_or_len_push}
 use Rattle.std.proofs.lemmas.Slice.Eq.{bytes_eq-Decides}
 use Rattle.redraw_report.specs.declared.finding.Shown.{Shown}
-use Rattle.redraw_read.specs.Placed.{Blank, Grows, Lines, Nothing, Sight, is_source, same_sight, sight_of}
+use Rattle.redraw_report.specs.declared.diagnostic.Region.{Region}
+use Rattle.redraw_report.specs.declared.locate.Located.{Located}
+use Rattle.redraw_report.specs.Region.{IsLocated, end_place, line_starts, start_place}
+use Rattle.redraw_read.specs.Placed.{Blank, Grows, IsPartOf, IsSpot, Lasting, Lines, Nothing, Sight, blanks_in, is_seen, is_source, same_sight, sight_of, unseen}
+use Rattle.redraw_read.proofs.Growing.{lasting-weaker}
 
 -- the first index at which a test passes stays, however the list grows
 pub position-grows : {X : Type 0} (p : X → Bool) (xs ys : List X) (i : ℕ) → position p xs ≡ Some i → position p (xs ++ ys) ≡ Some i
@@ -79,3 +83,48 @@ position-past p xs i past within so_far =
     let rest : drop i xs ≡ [] = drop_of_length-le xs past in
     let at : position_or_len p xs ≡ i = sym so_far ∙ ap (λ l. i + position_or_len p l) rest ∙ add-zero i in
     grind (arith, common_steps, at, past)
+
+-- a source that was found is found from now on
+pub lasting-found : (path : List ℕ) (sight : Sight) (old new : List Shown) (i : ℕ)
+    → Grows old new → position (is_source path sight) new ≡ Some i → Lasting old new (λ shown. position (is_source path sight) shown ≡ Some i)
+lasting-found path sight old new i grown found =
+    record { grown = grown; lasts = λ later h. found-lasts path sight new later i found h }
+
+-- of what isn't at hand nothing is seen
+unseen-by : (test : Bool) (line column : ℕ) → is_seen (if test then Blank line column else Nothing (Some line) (Some column)) ≡ false
+unseen-by true line column = refl
+unseen-by false line column = refl
+
+pub unseen-unseen : (short : Bool) (line column : Option ℕ) → is_seen (unseen short line column) ≡ false
+unseen-unseen true (Some line) (Some column) = unseen-by (nat_le 1 column && nat_le column 65536) line column
+unseen-unseen true (Some line) None = refl
+unseen-unseen true None column = refl
+unseen-unseen false line column = refl
+
+-- where no lines are seen, a part is empty, after all that is shown
+pub part-unseen : (sight : Sight) (r : Region) → is_seen sight ≡ false → IsPartOf sight r (blanks_in sight) (blanks_in sight)
+part-unseen (Lines text first) r no = absurd (cc)
+part-unseen (Nothing line column) r no = (refl, refl)
+part-unseen (Blank line column) r no = (refl, refl)
+
+-- a spot of which nothing is at hand
+pub spot-unseen : (path : List ℕ) (sight other : Sight) (old new : List Shown) (i at : ℕ) (r : Region)
+    → Grows old new → position (is_source path other) new ≡ Some i → other ≡ sight → is_seen sight ≡ false → at ≡ blanks_in other
+    → Lasting old new (λ shown. IsSpot shown path sight r record { source = i; start = at; end = at; is_at_hand = false })
+spot-unseen path sight other old new i at r grown found same no is =
+    let place : at ≡ blanks_in sight = is ∙ ap blanks_in same in
+    let part : IsPartOf sight r at at = subst (λ n. IsPartOf sight r n n) (sym place) (part-unseen sight r no) in
+    let there : position (is_source path sight) new ≡ Some i = ap (λ s. position (is_source path s) new) (sym same) ∙ found in
+    lasting-weaker (λ s h. record { at = record { found = h; part = part }; seen = sym no }) (lasting-found path sight old new i grown there)
+
+-- a spot in lines that are at hand
+pub spot-seen : (path text starts : List ℕ) (first : ℕ) (old new : List Shown) (i : ℕ) (r : Region) (l : Located)
+    → starts ≡ line_starts text
+    → IsLocated text (start_place text starts first r) (end_place text starts first r) l
+    → Grows old new → position (is_source path (Lines text first)) new ≡ Some i
+    → Lasting old new (λ shown. IsSpot shown path (Lines text first) r record { source = i; start = l.start; end = l.end; is_at_hand = true })
+spot-seen path text starts first old new i r l lined located grown found =
+    let here : IsLocated text (start_place text (line_starts text) first r) (end_place text (line_starts text) first r) l =
+    subst (λ (s : List ℕ). IsLocated text (start_place text s first r) (end_place text s first r) l) lined located in
+    lasting-weaker (λ s h. record { at = record { found = h; part = (l, here, refl, refl) }; seen = refl })
+    (lasting-found path (Lines text first) old new i grown found)

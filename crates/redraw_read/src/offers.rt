@@ -7,7 +7,7 @@ ghost use Rattle.redraw_read.specs.Placed as spec;
 ghost use Rattle.redraw_read.specs.Placed.{AreOffersOf, AreSpotsOf, Grows, IsAttributeOffer, IsOfferOf, Lasting, edit_at, edits_at, offered_view};
 
 use crate::hand::Hand;
-use crate::spot::{Placing, Spot, index_of};
+use crate::spot::{Placing, Spot, counted, index_of};
 use crate::words::{begins_with, finishes_with};
 use redraw_report::diagnostic::{Edit, Region};
 use redraw_report::finding::{Change, Content, Offer, Shown};
@@ -45,7 +45,7 @@ fn offer_of<'a>(
         Some(offer) => Some(offer),
         None => offer_at(placing.alloc, &spots, edits)?,
     };
-    placing.count_undrawn(offer.is_none());
+    placing.undrawn = counted(placing.undrawn, offer.is_none());
     Ok(offer)
 }
 
@@ -60,7 +60,7 @@ fn spots_of<'a>(
 {
     let mut spots = Vec::new(placing.alloc);
     for edit in edits {
-        spots.push(placing.spot(hand, edit.file.as_str(), edit.region, &edit.carried)?)?;
+        spots.push(placing.spot_named(hand, &edit.file, edit.region, &edit.carried)?)?;
     }
     Ok(spots)
 }

@@ -125,7 +125,7 @@ fn mark_of<'a>(
     ensures found { IfOk result (λ mark. Lasting placing.old.shown.items placing.new.shown.items
         (λ shown. IsMarkOf hand.entry shown span.entry.now mark)) }
 {
-    let spot = placing.spot(hand, span.file.as_str(), span.region, &span.carried)?;
+    let spot = placing.spot_named(hand, &span.file, span.region, &span.carried)?;
     Ok(Mark {
         source: spot.source,
         start: spot.start,

@@ -10,6 +10,7 @@ ghost use Rattle.redraw_read.specs.Rendered.{after_first, way, way_of};
 use crate::columns::show_columns;
 use crate::plain::without_styles;
 use crate::roles::settle_roles;
+use crate::words::begins_with;
 use redraw_report::diagnostic::{Child, Diagnostic, Edit, FileSpan};
 use snippet_text::normalized;
 use std::alloc::{AllocError, Global};
@@ -71,7 +72,7 @@ fn shown_in<'t>(place: Stand, message: &str, line: &'t str) -> Option<&'t str>
     ensures value { lent result ≡ spec.shown_in place message.now line.entry.now }
 {
     match stands_in(place, line) {
-        Some(shown) if shown.starts_with(message) => Some(shown),
+        Some(shown) if begins_with(shown, message) => Some(shown),
         _ => None,
     }
 }

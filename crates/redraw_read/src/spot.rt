@@ -2,7 +2,7 @@
 
 ghost use Rattle.std.specs.Prelude.{◌≡◌, IfOk, string_bytes, position};
 ghost use Rattle.redraw_read.specs.Placed as spec;
-ghost use Rattle.redraw_read.specs.Placed.{Grows, IsSpot, Lasting, Lines, is_source, same_sight, sight_in, sight_of};
+ghost use Rattle.redraw_read.specs.Placed.{Grows, IsSpot, chosen, Lasting, Lines, is_source, same_sight, sight_in, sight_of};
 ghost use Rattle.redraw_report.specs.Region.{line_starts as starts_of};
 
 use crate::hand::{Extract, Hand, lines_for};
@@ -10,7 +10,7 @@ use crate::source::Source;
 use redraw_report::diagnostic::{Carried, Region};
 use redraw_report::finding::{Content, Shown};
 use redraw_report::lines::line_starts;
-use redraw_report::locate::{Located, Lookup, locate};
+use redraw_report::locate::{Lookup, locate};
 use std::alloc::{AllocError, Global};
 
 /// A source and a part of it.
@@ -40,7 +40,7 @@ pub struct Placing<'a> {
 
 impl<'a> Placing<'a> {
     /// Where a part of a file is: in the file, in the lines that the input has of it, or nowhere.
-    pub fn spot(
+    fn spot(
         &mut self,
         hand: Hand<'a>,
         file: &'a str,
@@ -51,9 +51,40 @@ impl<'a> Placing<'a> {
             (λ shown. IsSpot shown file.entry.now (sight_in hand.entry file.entry.now region carried.entry.now) region spot)) }
     {
         match lines_for(hand, file, carried) {
-            Some(Extract::Whole(source)) => self.spot_in_file(file, source, region),
-            Some(Extract::Part(lines)) => self.spot_in_lines(file, lines, region),
+            Some(lines) => self.spot_in(file, lines, region),
             None => self.spot_nowhere(hand.is_short, file, region),
+        }
+    }
+
+    /// Where a part of the file of this name is.
+    pub fn spot_named(
+        &mut self,
+        hand: Hand<'a>,
+        file: &'a String,
+        region: Region,
+        carried: &'a Option<Carried>,
+    ) -> Result<Spot, AllocError>
+        ensures placed { IfOk result (λ spot. Lasting self.old.shown.items self.new.shown.items
+            (λ shown. IsSpot shown (string_bytes file.entry.now)
+                (sight_in hand.entry (string_bytes file.entry.now) region carried.entry.now) region spot)) }
+    {
+        let path = file.as_str();
+        self.spot(hand, path, region, carried)
+    }
+
+    /// Where a region is in these lines.
+    fn spot_in(
+        &mut self,
+        path: &'a str,
+        lines: Extract<'a>,
+        region: Region,
+    ) -> Result<Spot, AllocError>
+        ensures placed { IfOk result (λ spot. Lasting self.old.shown.items self.new.shown.items
+            (λ shown. IsSpot shown path.entry.now (Lines (chosen lines.entry).text (chosen lines.entry).first_line) region spot)) }
+    {
+        match lines {
+            Extract::Whole(source) => self.spot_in_file(path, source, region),
+            Extract::Part(lines) => self.spot_in_lines(path, lines, region),
         }
     }
 
@@ -67,7 +98,8 @@ impl<'a> Placing<'a> {
         ensures placed { IfOk result (λ spot. Lasting self.old.shown.items self.new.shown.items
             (λ shown. IsSpot shown path.entry.now (Lines (string_bytes source.entry.now.text) 1) region spot)) }
     {
-        self.spot_in_text(path, source.text.as_str(), &source.starts, 1, region)
+        let text = source.text.as_str();
+        self.spot_in_text(path, text, &source.starts, 1, region)
     }
 
     /// Where a region is in lines that the input has.
@@ -105,32 +137,14 @@ impl<'a> Placing<'a> {
         };
         let located = locate(lookup, region);
         let content = Content::Lines { text, first_line };
+        self.clamped = counted(self.clamped, located.clamped);
         let source = index_of(&mut self.shown, Shown { path, content })?;
-        self.count_clamped(located);
         Ok(Spot {
             source,
             start: located.start,
             end: located.end,
             is_at_hand: true,
         })
-    }
-
-    /// Counts an alternative that isn't drawn.
-    pub fn count_undrawn(&mut self, is_undrawn: bool)
-        ensures kept { self.new.shown ≡ self.old.shown }
-    {
-        if is_undrawn {
-            self.undrawn = self.undrawn.saturating_add(1);
-        }
-    }
-
-    /// Counts a place that isn't in its source as it was given.
-    fn count_clamped(&mut self, located: Located)
-        ensures kept { self.new.shown ≡ self.old.shown }
-    {
-        if located.clamped {
-            self.clamped = self.clamped.saturating_add(1);
-        }
     }
 
     /// The place of a region of which nothing is at hand.
@@ -152,6 +166,15 @@ impl<'a> Placing<'a> {
             end: at,
             is_at_hand: false,
         })
+    }
+}
+
+/// A count, with one more if there is one.
+pub fn counted(count: u64, is_one: bool) -> u64 {
+    if is_one {
+        count.saturating_add(1)
+    } else {
+        count
     }
 }
 
