@@ -23,10 +23,20 @@ position-grows p xs ys i found =
     let joined = prefix_len-append (λ x. not (p x)) xs ys in
     grind (arith, common_steps, at, inside, joined)
 
+-- the first place that passes is one of the list's, or its length
+position_or_len-le : {X : Type 0} (p : X → Bool) (xs : List X) → position_or_len p xs ≤ length xs
+position_or_len-le p [] = omega arith
+position_or_len-le p (x ∷ xs) = by (p x)
+  where
+    by : (t : Bool) → cond (not t) (1 + position_or_len p xs) 0 ≤ length (x ∷ xs)
+    by true = omega arith
+    by false = let rest : position_or_len p xs ≤ length xs = position_or_len-le p xs in omega (arith, rest)
+
 -- an element that passes, after some of which none does, is the first that does
 pub position-push : {X : Type 0} (p : X → Bool) (xs : List X) (y : X) → position p xs ≡ None → p y ≡ true → position p (xs ++ y ∷ []) ≡ Some (length xs)
 position-push p xs y none passes =
-    let all : position_or_len p xs ≡ length xs = grind (arith, common_steps) in
+    let least : position_or_len p xs ≤ length xs = position_or_len-le p xs in
+    let all : position_or_len p xs ≡ length xs = grind (arith, common_steps, least) in
     let joined = position_or_len_push p xs y in
     grind (arith, common_steps, all, joined, passes)
 
@@ -103,19 +113,19 @@ unseen-unseen false line column = refl
 
 -- where no lines are seen, a part is empty, after all that is shown
 pub part-unseen : (sight : Sight) (r : Region) → is_seen sight ≡ false → IsPartOf sight r (blanks_in sight) (blanks_in sight)
-part-unseen (Lines text first) r no = absurd (cc)
-part-unseen (Nothing line column) r no = (refl, refl)
-part-unseen (Blank line column) r no = (refl, refl)
+part-unseen (Lines text first) r dark = absurd (cc)
+part-unseen (Nothing line column) r dark = (refl, refl)
+part-unseen (Blank line column) r dark = (refl, refl)
 
 -- a spot of which nothing is at hand
 pub spot-unseen : (path : List ℕ) (sight other : Sight) (old new : List Shown) (i at : ℕ) (r : Region)
     → Grows old new → position (is_source path other) new ≡ Some i → other ≡ sight → is_seen sight ≡ false → at ≡ blanks_in other
     → Lasting old new (λ shown. IsSpot shown path sight r record { source = i; start = at; end = at; is_at_hand = false })
-spot-unseen path sight other old new i at r grown found same no is =
+spot-unseen path sight other old new i at r grown found same dark is =
     let place : at ≡ blanks_in sight = is ∙ ap blanks_in same in
-    let part : IsPartOf sight r at at = subst (λ n. IsPartOf sight r n n) (sym place) (part-unseen sight r no) in
+    let part : IsPartOf sight r at at = subst (λ n. IsPartOf sight r n n) (sym place) (part-unseen sight r dark) in
     let there : position (is_source path sight) new ≡ Some i = ap (λ s. position (is_source path s) new) (sym same) ∙ found in
-    lasting-weaker (λ s h. record { at = record { found = h; part = part }; seen = sym no }) (lasting-found path sight old new i grown there)
+    lasting-weaker (λ s h. record { at = record { found = h; part = part }; seen = sym dark }) (lasting-found path sight old new i grown there)
 
 -- a spot in lines that are at hand
 pub spot-seen : (path text starts : List ℕ) (first : ℕ) (old new : List Shown) (i : ℕ) (r : Region) (l : Located)

@@ -14,9 +14,8 @@ pub grows-same : (xs ys : List Shown) → ys ≡ xs → Grows xs ys
 grows-same xs ys same = ([], same ∙ sym (append-nil xs))
 
 -- sources that grow twice have grown
-pub grows-twice : {a b c : List Shown} → Grows a b → Grows b c → Grows a c
-grows-twice {a} {b} {c} p q =
-    (p.0 ++ q.0, q.1 ∙ ap (λ l. l ++ q.0) p.1 ∙ append_assoc a p.0 q.0)
+pub grows-twice : (a b c : List Shown) → Grows a b → Grows b c → Grows a c
+grows-twice a b c p q = (p.0 ++ q.0, q.1 ∙ ap (λ l. l ++ q.0) p.1 ∙ append_assoc a p.0 q.0)
 
 -- sources with one more have grown
 pub grows-push : (xs : List Shown) (x : Shown) (ys : List Shown) → ys ≡ xs ++ x ∷ [] → Grows xs ys
@@ -29,8 +28,11 @@ lasting-weaker f p = record { grown = p.grown; lasts = λ later g. f later (p.la
 -- what lasted before the sources grew further, lasts beside what holds since then
 pub lasting-both : {a b c : List Shown} {P Q : List Shown → Type 0}
     → Lasting a b P → Lasting b c Q → Lasting a c (λ s. P s × Q s)
-lasting-both p q =
-    record { grown = grows-twice p.grown q.grown; lasts = λ later g. (p.lasts later (grows-twice q.grown g), q.lasts later g) }
+lasting-both {a} {b} {c} p q =
+    record {
+      grown = grows-twice a b c p.grown q.grown;
+      lasts = λ later g. (p.lasts later (grows-twice b c later q.grown g), q.lasts later g);
+    }
 
 -- the same where the sources stay as they are, told by an equation
 pub lasting-kept : {a b : List Shown} {P : List Shown → Type 0} (c : List Shown) → c ≡ b → Lasting a b P → Lasting a c P

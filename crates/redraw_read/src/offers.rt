@@ -17,10 +17,10 @@ use std::alloc::{AllocError, Global};
 pub fn offers_of<'a>(
     placing: &mut Placing<'a>,
     hand: Hand<'a>,
-    alternatives: &'a [Vec<Edit>],
+    alternatives: &'a Vec<Vec<Edit>>,
 ) -> Result<Vec<Offer<'a>>, AllocError>
     ensures found { IfOk result (λ offers. Lasting placing.old.shown.items placing.new.shown.items
-        (AreOffersOf hand.entry alternatives.entry.now offers.items)) }
+        (AreOffersOf hand.entry alternatives.entry.now.items offers.items)) }
 {
     let mut offers = Vec::new(placing.alloc);
     for edits in alternatives {

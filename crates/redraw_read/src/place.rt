@@ -104,10 +104,10 @@ pub fn finding_in<'a>(
 fn marks_of<'a>(
     placing: &mut Placing<'a>,
     hand: Hand<'a>,
-    spans: &'a [FileSpan],
+    spans: &'a Vec<FileSpan>,
 ) -> Result<Vec<Mark<'a>>, AllocError>
     ensures found { IfOk result (λ marks. Lasting placing.old.shown.items placing.new.shown.items
-        (AreMarksOf hand.entry spans.entry.now marks.items)) }
+        (AreMarksOf hand.entry spans.entry.now.items marks.items)) }
 {
     let mut marks = Vec::new(placing.alloc);
     for span in spans {
@@ -149,10 +149,10 @@ fn label_of(span: &FileSpan) -> Option<&str>
 fn remarks_of<'a>(
     placing: &mut Placing<'a>,
     hand: Hand<'a>,
-    children: &'a [Child],
+    children: &'a Vec<Child>,
 ) -> Result<Vec<Remark<'a>>, AllocError>
     ensures found { IfOk result (λ remarks. Lasting placing.old.shown.items placing.new.shown.items
-        (AreRemarksOf hand.entry children.entry.now remarks.items)) }
+        (AreRemarksOf hand.entry children.entry.now.items remarks.items)) }
 {
     let mut remarks = Vec::new(placing.alloc);
     for child in children {

@@ -66,7 +66,7 @@ impl<'a> Placing<'a> {
     ) -> Result<Spot, AllocError>
         ensures placed { IfOk result (λ spot. Lasting self.old.shown.items self.new.shown.items
             (λ shown. IsSpot shown (string_bytes file.entry.now)
-                (sight_in hand.entry (string_bytes file.entry.now) region carried.entry.now) region spot)) }
+            (sight_in hand.entry (string_bytes file.entry.now) region carried.entry.now) region spot)) }
     {
         let path = file.as_str();
         self.spot(hand, path, region, carried)
