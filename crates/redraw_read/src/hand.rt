@@ -2,8 +2,7 @@
 
 ghost use Rattle.std.specs.Prelude.{◌≡◌, string_bytes};
 ghost use Rattle.std.specs.Option.{option_map};
-ghost use Rattle.redraw_read.specs.Placed as spec;
-ghost use Rattle.redraw_read.specs.Placed.{chosen, text_of};
+ghost use Rattle.redraw_read.specs.Placed.{text_of};
 
 use crate::lines::has_lines;
 use crate::source::Source;
@@ -35,10 +34,7 @@ pub fn lines_for<'a>(
     hand: Hand<'a>,
     file: &str,
     carried: &'a Option<Carried>,
-) -> Option<Extract<'a>>
-    ensures value { option_map chosen result
-        ≡ spec.lines_for (text_of hand.entry.files.now file.now hand.entry.home.now) carried.entry.now }
-{
+) -> Option<Extract<'a>> {
     match (source_of(hand, file), carried) {
         (None, None) => None,
         (None, Some(lines)) => Some(Extract::Part(lines)),
@@ -48,9 +44,7 @@ pub fn lines_for<'a>(
 }
 
 /// The file, where it has these lines of it; else the lines. Parts of lines may be other than the file's: it counts more than they.
-fn choice_of<'a>(source: &'a Source, lines: &'a Carried) -> Extract<'a>
-    ensures value { Some (chosen result) ≡ spec.lines_for (Some (string_bytes source.entry.now.text)) (Some lines.entry.now) }
-{
+fn choice_of<'a>(source: &'a Source, lines: &'a Carried) -> Extract<'a> {
     if !lines.is_whole || has_lines(source, lines.first_line, lines.text.as_str()) {
         Extract::Whole(source)
     } else {

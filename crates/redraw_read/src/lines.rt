@@ -1,19 +1,14 @@
 //! Whether a source has given lines.
 
-ghost use Rattle.std.specs.Prelude.{◌≡◌, ◌==◌, drop, string_bytes};
-ghost use Rattle.std.specs.List.{slice_split};
+ghost use Rattle.std.specs.Prelude.{◌≡◌, drop};
 ghost use Rattle.std.specs.Str.{bytes_eq};
 ghost use Rattle.redraw_report.specs.Region as region;
-ghost use Rattle.redraw_read.specs.Placed as spec;
-ghost use Rattle.redraw_read.specs.Placed.{are_lines};
 
 use crate::source::Source;
 use redraw_report::lines::first_line;
 
 /// Whether a source has these lines, from the one of this number on.
-pub fn has_lines(source: &Source, first_line: usize, lines: &str) -> bool
-    ensures value { result ≡ spec.has_lines (string_bytes source.now.text) first_line lines.now }
-{
+pub fn has_lines(source: &Source, first_line: usize, lines: &str) -> bool {
     if first_line == 0 {
         return false;
     }
@@ -24,9 +19,7 @@ pub fn has_lines(source: &Source, first_line: usize, lines: &str) -> bool
 }
 
 /// Whether these are the lines of a text that start at these bytes of it.
-fn starts_lines(text: &str, starts: &[usize], lines: &str) -> bool
-    ensures value { result ≡ are_lines text.now starts.now (slice_split (λ b. b == 10) lines.now) }
-{
+fn starts_lines(text: &str, starts: &[usize], lines: &str) -> bool {
     let mut starts = starts;
     for line in lines.split('\n') {
         match starts {

@@ -1,10 +1,9 @@
 //! The suggestions that alternatives become: the edits of one are made together, in one source, or it isn't drawn.
 
-ghost use Rattle.std.specs.Prelude.{◌≡◌, [], ◌∷◌, ◌++◌, IfOk, IfSome, OnOk, map, string_bytes, true, if◌then◌else◌};
+ghost use Rattle.std.specs.Prelude.{◌≡◌, ◌++◌, OnOk, map};
 ghost use Rattle.std.specs.Option.{option_map};
 ghost use Rattle.redraw_report.specs.Report.{edited_of};
-ghost use Rattle.redraw_read.specs.Placed as spec;
-ghost use Rattle.redraw_read.specs.Placed.{AreOffersOf, AreSpotsOf, Grows, IsAttributeOffer, IsOfferOf, Lasting, edit_at, edits_at, offered_view};
+ghost use Rattle.redraw_read.specs.Placed.{edit_at};
 
 use crate::hand::Hand;
 use crate::spot::{Placing, Spot, counted, index_of};
@@ -18,10 +17,7 @@ pub fn offers_of<'a>(
     placing: &mut Placing<'a>,
     hand: Hand<'a>,
     alternatives: &'a Vec<Vec<Edit>>,
-) -> Result<Vec<Offer<'a>>, AllocError>
-    ensures found { IfOk result (λ offers. Lasting placing.old.shown.items placing.new.shown.items
-        (AreOffersOf hand.entry alternatives.entry.now.items offers.items)) }
-{
+) -> Result<Vec<Offer<'a>>, AllocError> {
     let mut offers = Vec::new(placing.alloc);
     for edits in alternatives {
         if let Some(offer) = offer_of(placing, hand, edits)? {
@@ -36,10 +32,7 @@ fn offer_of<'a>(
     placing: &mut Placing<'a>,
     hand: Hand<'a>,
     edits: &'a [Edit],
-) -> Result<Option<Offer<'a>>, AllocError>
-    ensures found { IfOk result (λ offer. Lasting placing.old.shown.items placing.new.shown.items
-        (λ shown. IsOfferOf hand.entry shown edits.entry.now offer)) }
-{
+) -> Result<Option<Offer<'a>>, AllocError> {
     let spots = spots_of(placing, hand, edits)?;
     let offer = match attribute_of(placing, &spots, edits)? {
         Some(offer) => Some(offer),
@@ -54,10 +47,7 @@ fn spots_of<'a>(
     placing: &mut Placing<'a>,
     hand: Hand<'a>,
     edits: &'a [Edit],
-) -> Result<Vec<Spot>, AllocError>
-    ensures found { IfOk result (λ spots. Lasting placing.old.shown.items placing.new.shown.items
-        (AreSpotsOf hand.entry edits.entry.now spots.items)) }
-{
+) -> Result<Vec<Spot>, AllocError> {
     let mut spots = Vec::new(placing.alloc);
     for edit in edits {
         spots.push(placing.spot_named(hand, &edit.file, edit.region, &edit.carried)?)?;
@@ -70,9 +60,7 @@ fn offer_at<'a>(
     alloc: Global,
     spots: &[Spot],
     edits: &'a [Edit],
-) -> Result<Option<Offer<'a>>, AllocError>
-    ensures value { IfOk result (λ offer. option_map offered_view offer ≡ spec.offer_at spots.now edits.entry.now) }
-{
+) -> Result<Option<Offer<'a>>, AllocError> {
     match one_source(spots) {
         Some(source) => Ok(Some(Offer {
             source,
@@ -84,9 +72,7 @@ fn offer_at<'a>(
 }
 
 /// The source that all of these places are in, if there is one and it has lines of a file.
-fn one_source(spots: &[Spot]) -> Option<usize>
-    ensures value { result ≡ spec.one_source spots.now }
-{
+fn one_source(spots: &[Spot]) -> Option<usize> {
     match spots.get(0) {
         Some(first) => source_if(are_in(first.source, spots), first.source),
         None => None,
@@ -94,16 +80,12 @@ fn one_source(spots: &[Spot]) -> Option<usize>
 }
 
 /// This source, if it is the one.
-fn source_if(is_one: bool, source: usize) -> Option<usize>
-    ensures value { result ≡ (if is_one then Some source else None) }
-{
+fn source_if(is_one: bool, source: usize) -> Option<usize> {
     if is_one { Some(source) } else { None }
 }
 
 /// Whether all of these places are in this source, which has lines of a file.
-fn are_in(source: usize, spots: &[Spot]) -> bool
-    ensures value { result ≡ spec.are_in source spots.now }
-{
+fn are_in(source: usize, spots: &[Spot]) -> bool {
     spots
         .iter()
         .all(|spot| spot.is_at_hand && spot.source == source)
@@ -114,9 +96,7 @@ fn changes_at<'a>(
     alloc: Global,
     spots: &[Spot],
     edits: &'a [Edit],
-) -> Result<Vec<Change<'a>>, AllocError>
-    ensures value { IfOk result (λ changes. map edited_of changes.items ≡ edits_at spots.now edits.entry.now) }
-{
+) -> Result<Vec<Change<'a>>, AllocError> {
     let mut changes = Vec::new(alloc);
     for (index, edit) in edits.iter().enumerate() {
         add_change(&mut changes, spots.get(index), edit)?;
@@ -144,9 +124,7 @@ fn add_change<'a>(
 }
 
 /// Whether a text is an attribute of Rust and a line end: rustc puts it above a line, and shows it with that line.
-pub fn is_attribute(text: &str) -> bool
-    ensures value { result ≡ spec.is_attribute text.now }
-{
+pub fn is_attribute(text: &str) -> bool {
     let trimmed = text.trim();
     begins_with(trimmed, "#[") && finishes_with(trimmed, "]") && finishes_with(text, "\n")
 }
@@ -156,10 +134,7 @@ fn attribute_of<'a>(
     placing: &mut Placing<'a>,
     spots: &[Spot],
     edits: &'a [Edit],
-) -> Result<Option<Offer<'a>>, AllocError>
-    ensures found { IfOk result (λ offer. Grows placing.old.shown.items placing.new.shown.items
-        × IfSome offer (IsAttributeOffer edits.entry.now)) }
-{
+) -> Result<Option<Offer<'a>>, AllocError> {
     match (spots, edits) {
         ([spot], [edit]) if spot.is_at_hand && is_attribute(edit.replacement.as_str()) => {
             attribute_at(placing, *spot, edit)
@@ -173,11 +148,7 @@ fn attribute_at<'a>(
     placing: &mut Placing<'a>,
     spot: Spot,
     edit: &'a Edit,
-) -> Result<Option<Offer<'a>>, AllocError>
-    requires { spec.is_attribute (string_bytes edit.now.replacement) ≡ true }
-    ensures found { IfOk result (λ offer. Grows placing.old.shown.items placing.new.shown.items
-        × IfSome offer (IsAttributeOffer (edit.entry.now ∷ []))) }
-{
+) -> Result<Option<Offer<'a>>, AllocError> {
     let Some((start, line)) = line_at(placing, spot, edit.region) else {
         return Ok(None);
     };

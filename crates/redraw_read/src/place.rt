@@ -1,9 +1,8 @@
 //! The finding that a diagnostic reports: its places and edits, in the sources that are at hand.
 
-ghost use Rattle.std.specs.Prelude.{◌≡◌, IfOk, string_bytes};
+ghost use Rattle.std.specs.Prelude.{◌≡◌, string_bytes};
 ghost use Rattle.std.specs.Option.{option_map};
 ghost use Rattle.redraw_report.specs.Report.{lent};
-ghost use Rattle.redraw_read.specs.Placed.{AreMarksOf, AreRemarksOf, IsFindingOf, IsMarkOf, IsRemarkOf, Lasting};
 
 use crate::hand::Hand;
 use crate::offers::offers_of;
@@ -85,10 +84,7 @@ pub fn finding_in<'a>(
     placing: &mut Placing<'a>,
     hand: Hand<'a>,
     diagnostic: &'a Diagnostic,
-) -> Result<Finding<'a>, AllocError>
-    ensures found { IfOk result (λ f. Lasting placing.old.shown.items placing.new.shown.items
-        (λ shown. IsFindingOf hand.entry diagnostic.entry.now f shown)) }
-{
+) -> Result<Finding<'a>, AllocError> {
     let marks = marks_of(placing, hand, &diagnostic.spans)?;
     let remarks = remarks_of(placing, hand, &diagnostic.children)?;
     Ok(Finding {
@@ -105,10 +101,7 @@ fn marks_of<'a>(
     placing: &mut Placing<'a>,
     hand: Hand<'a>,
     spans: &'a Vec<FileSpan>,
-) -> Result<Vec<Mark<'a>>, AllocError>
-    ensures found { IfOk result (λ marks. Lasting placing.old.shown.items placing.new.shown.items
-        (AreMarksOf hand.entry spans.entry.now.items marks.items)) }
-{
+) -> Result<Vec<Mark<'a>>, AllocError> {
     let mut marks = Vec::new(placing.alloc);
     for span in spans {
         marks.push(mark_of(placing, hand, span)?)?;
@@ -121,10 +114,7 @@ fn mark_of<'a>(
     placing: &mut Placing<'a>,
     hand: Hand<'a>,
     span: &'a FileSpan,
-) -> Result<Mark<'a>, AllocError>
-    ensures found { IfOk result (λ mark. Lasting placing.old.shown.items placing.new.shown.items
-        (λ shown. IsMarkOf hand.entry shown span.entry.now mark)) }
-{
+) -> Result<Mark<'a>, AllocError> {
     let spot = placing.spot_named(hand, &span.file, span.region, &span.carried)?;
     Ok(Mark {
         source: spot.source,
@@ -150,10 +140,7 @@ fn remarks_of<'a>(
     placing: &mut Placing<'a>,
     hand: Hand<'a>,
     children: &'a Vec<Child>,
-) -> Result<Vec<Remark<'a>>, AllocError>
-    ensures found { IfOk result (λ remarks. Lasting placing.old.shown.items placing.new.shown.items
-        (AreRemarksOf hand.entry children.entry.now.items remarks.items)) }
-{
+) -> Result<Vec<Remark<'a>>, AllocError> {
     let mut remarks = Vec::new(placing.alloc);
     for child in children {
         remarks.push(remark_of(placing, hand, child)?)?;
@@ -166,10 +153,7 @@ fn remark_of<'a>(
     placing: &mut Placing<'a>,
     hand: Hand<'a>,
     child: &'a Child,
-) -> Result<Remark<'a>, AllocError>
-    ensures found { IfOk result (λ remark. Lasting placing.old.shown.items placing.new.shown.items
-        (λ shown. IsRemarkOf hand.entry shown child.entry.now remark)) }
-{
+) -> Result<Remark<'a>, AllocError> {
     let marks = marks_of(placing, hand, &child.spans)?;
     let offers = offers_of(placing, hand, &child.alternatives)?;
     Ok(Remark {

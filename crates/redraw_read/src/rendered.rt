@@ -1,12 +1,6 @@
 //! How a suggestion is shown, which rustc's own text of a diagnostic tells: its JSON says of each suggestion only what it
 //! changes.
 
-ghost use Rattle.std.specs.Prelude.{◌≡◌, ◌==◌, codes};
-ghost use Rattle.std.specs.List.{slice_split};
-ghost use Rattle.redraw_report.specs.Report.{lent};
-ghost use Rattle.redraw_read.specs.Rendered as spec;
-ghost use Rattle.redraw_read.specs.Rendered.{after_first, way, way_of};
-
 use crate::columns::show_columns;
 use crate::plain::without_styles;
 use crate::roles::settle_roles;
@@ -40,9 +34,7 @@ enum Stand {
 }
 
 /// How a suggestion with this message is shown in a text.
-pub fn manner_of<'t>(message: &str, text: &'t str) -> Manner<'t>
-    ensures value { way_of result ≡ way message.now text.entry.now }
-{
+pub fn manner_of<'t>(message: &str, text: &'t str) -> Manner<'t> {
     if let Some(title) = first_shown(Stand::Title, message, text) {
         return Manner::Group(title);
     }
@@ -56,9 +48,7 @@ pub fn manner_of<'t>(message: &str, text: &'t str) -> Manner<'t>
 }
 
 /// What the first line of a text that shows this message there shows of it.
-fn first_shown<'t>(place: Stand, message: &str, text: &'t str) -> Option<&'t str>
-    ensures value { lent result ≡ spec.first_shown place message.now (slice_split (λ b. b == 10) text.entry.now) }
-{
+fn first_shown<'t>(place: Stand, message: &str, text: &'t str) -> Option<&'t str> {
     for line in text.split('\n') {
         if let Some(shown) = shown_in(place, message, line) {
             return Some(shown);
@@ -68,9 +58,7 @@ fn first_shown<'t>(place: Stand, message: &str, text: &'t str) -> Option<&'t str
 }
 
 /// What a line shows of this message there, if it does.
-fn shown_in<'t>(place: Stand, message: &str, line: &'t str) -> Option<&'t str>
-    ensures value { lent result ≡ spec.shown_in place message.now line.entry.now }
-{
+fn shown_in<'t>(place: Stand, message: &str, line: &'t str) -> Option<&'t str> {
     match stands_in(place, line) {
         Some(shown) if begins_with(shown, message) => Some(shown),
         _ => None,
@@ -78,9 +66,7 @@ fn shown_in<'t>(place: Stand, message: &str, line: &'t str) -> Option<&'t str>
 }
 
 /// What stands in a line where a message may stand.
-fn stands_in<'t>(place: Stand, line: &'t str) -> Option<&'t str>
-    ensures value { lent result ≡ spec.stands_in place line.entry.now }
-{
+fn stands_in<'t>(place: Stand, line: &'t str) -> Option<&'t str> {
     match place {
         Stand::Title => line.strip_prefix("help: "),
         Stand::Message => line.trim_start().strip_prefix("= help: "),
@@ -89,9 +75,7 @@ fn stands_in<'t>(place: Stand, line: &'t str) -> Option<&'t str>
 }
 
 /// What comes after the first `help: ` of a line.
-fn after_help(line: &str) -> Option<&str>
-    ensures value { lent result ≡ after_first (codes "help: ") line.now }
-{
+fn after_help(line: &str) -> Option<&str> {
     match line.split_once("help: ") {
         Some((_, after)) => Some(after),
         None => None,

@@ -1,9 +1,8 @@
 //! Where the places that a tool names are, in the sources that are shown.
 
-ghost use Rattle.std.specs.Prelude.{◌≡◌, IfOk, string_bytes, position};
+ghost use Rattle.std.specs.Prelude.{◌≡◌};
 ghost use Rattle.redraw_read.specs.Placed as spec;
-ghost use Rattle.redraw_read.specs.Placed.{Grows, IsSpot, chosen, Lasting, Lines, is_source, same_sight, sight_in, sight_of};
-ghost use Rattle.redraw_report.specs.Region.{line_starts as starts_of};
+ghost use Rattle.redraw_read.specs.Placed.{is_source, same_sight, sight_of};
 
 use crate::hand::{Extract, Hand, lines_for};
 use crate::source::Source;
@@ -46,10 +45,7 @@ impl<'a> Placing<'a> {
         file: &'a str,
         region: Region,
         carried: &'a Option<Carried>,
-    ) -> Result<Spot, AllocError>
-        ensures placed { IfOk result (λ spot. Lasting self.old.shown.items self.new.shown.items
-            (λ shown. IsSpot shown file.entry.now (sight_in hand.entry file.entry.now region carried.entry.now) region spot)) }
-    {
+    ) -> Result<Spot, AllocError> {
         match lines_for(hand, file, carried) {
             Some(lines) => self.spot_in(file, lines, region),
             None => self.spot_nowhere(hand.is_short, file, region),
@@ -63,11 +59,7 @@ impl<'a> Placing<'a> {
         file: &'a String,
         region: Region,
         carried: &'a Option<Carried>,
-    ) -> Result<Spot, AllocError>
-        ensures placed { IfOk result (λ spot. Lasting self.old.shown.items self.new.shown.items
-            (λ shown. IsSpot shown (string_bytes file.entry.now)
-            (sight_in hand.entry (string_bytes file.entry.now) region carried.entry.now) region spot)) }
-    {
+    ) -> Result<Spot, AllocError> {
         let path = file.as_str();
         self.spot(hand, path, region, carried)
     }
@@ -78,10 +70,7 @@ impl<'a> Placing<'a> {
         path: &'a str,
         lines: Extract<'a>,
         region: Region,
-    ) -> Result<Spot, AllocError>
-        ensures placed { IfOk result (λ spot. Lasting self.old.shown.items self.new.shown.items
-            (λ shown. IsSpot shown path.entry.now (Lines (chosen lines.entry).text (chosen lines.entry).first_line) region spot)) }
-    {
+    ) -> Result<Spot, AllocError> {
         match lines {
             Extract::Whole(source) => self.spot_in_file(path, source, region),
             Extract::Part(lines) => self.spot_in_lines(path, lines, region),
@@ -94,10 +83,7 @@ impl<'a> Placing<'a> {
         path: &'a str,
         source: &'a Source,
         region: Region,
-    ) -> Result<Spot, AllocError>
-        ensures placed { IfOk result (λ spot. Lasting self.old.shown.items self.new.shown.items
-            (λ shown. IsSpot shown path.entry.now (Lines (string_bytes source.entry.now.text) 1) region spot)) }
-    {
+    ) -> Result<Spot, AllocError> {
         let text = source.text.as_str();
         self.spot_in_text(path, text, &source.starts, 1, region)
     }
@@ -108,10 +94,7 @@ impl<'a> Placing<'a> {
         path: &'a str,
         lines: &'a Carried,
         region: Region,
-    ) -> Result<Spot, AllocError>
-        ensures placed { IfOk result (λ spot. Lasting self.old.shown.items self.new.shown.items
-            (λ shown. IsSpot shown path.entry.now (Lines (string_bytes lines.entry.now.text) lines.entry.now.first_line) region spot)) }
-    {
+    ) -> Result<Spot, AllocError> {
         let text = lines.text.as_str();
         let starts = line_starts(self.alloc, text)?;
         self.spot_in_text(path, text, &starts, lines.first_line, region)
@@ -125,11 +108,7 @@ impl<'a> Placing<'a> {
         starts: &[usize],
         first_line: usize,
         region: Region,
-    ) -> Result<Spot, AllocError>
-        requires { starts.now ≡ starts_of text.now }
-        ensures placed { IfOk result (λ spot. Lasting self.old.shown.items self.new.shown.items
-            (λ shown. IsSpot shown path.entry.now (Lines text.entry.now first_line) region spot)) }
-    {
+    ) -> Result<Spot, AllocError> {
         let lookup = Lookup {
             text,
             starts,
@@ -153,10 +132,7 @@ impl<'a> Placing<'a> {
         is_short: bool,
         path: &'a str,
         region: Region,
-    ) -> Result<Spot, AllocError>
-        ensures placed { IfOk result (λ spot. Lasting self.old.shown.items self.new.shown.items
-            (λ shown. IsSpot shown path.entry.now (spec.unseen is_short (spec.line_of region) (spec.column_of region)) region spot)) }
-    {
+    ) -> Result<Spot, AllocError> {
         let content = unseen(is_short, line_of(region), column_of(region));
         let source = index_of(&mut self.shown, Shown { path, content })?;
         let at = blank_length(content);
@@ -224,10 +200,7 @@ fn blank_length(content: Content<'_>) -> usize
 }
 
 /// The index of a source; it is added where it isn't there yet.
-pub fn index_of<'a>(shown: &mut Vec<Shown<'a>>, source: Shown<'a>) -> Result<usize, AllocError>
-    ensures found { IfOk result (λ i. position (is_source source.entry.path.now (sight_of source.entry.content)) shown.new.items ≡ Some i) }
-    ensures grows { IfOk result (λ i. Grows shown.old.items shown.new.items) }
-{
+pub fn index_of<'a>(shown: &mut Vec<Shown<'a>>, source: Shown<'a>) -> Result<usize, AllocError> {
     match known_index(shown, &source) {
         Some(index) => Ok(index),
         None => {
@@ -239,9 +212,7 @@ pub fn index_of<'a>(shown: &mut Vec<Shown<'a>>, source: Shown<'a>) -> Result<usi
 }
 
 /// The index of a source, if it is there.
-fn known_index(shown: &[Shown<'_>], source: &Shown<'_>) -> Option<usize>
-    ensures value { result ≡ position (is_source source.now.path.now (sight_of source.now.content)) shown.now }
-{
+fn known_index(shown: &[Shown<'_>], source: &Shown<'_>) -> Option<usize> {
     for (index, known) in shown.iter().enumerate() {
         if is_same(known, source) {
             return Some(index);

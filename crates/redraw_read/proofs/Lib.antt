@@ -1,4 +1,0 @@
-pub mod Growing
-pub mod Found
-pub mod Walks
-pub mod Rows

@@ -1,5 +1,0 @@
-use Rattle.std.proofs.lemmas.Str.Pattern.{starts_text}
-use Rattle.redraw_read.proofs.words.begins_with.Goals as goal
-
-pub returns : goal.returns
-returns c = record { value = starts_text c.starts_with.result c.args.words.now c.args.text.now c.starts_with.ensures.cases }

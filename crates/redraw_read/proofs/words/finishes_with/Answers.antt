@@ -1,5 +1,0 @@
-use Rattle.std.proofs.lemmas.Str.Pattern.{ends_text}
-use Rattle.redraw_read.proofs.words.finishes_with.Goals as goal
-
-pub returns : goal.returns
-returns c = record { value = ends_text c.ends_with.result c.args.words.now c.args.text.now c.ends_with.ensures.cases }
