@@ -9,6 +9,7 @@ pub mod Levels
 pub mod Numbers
 pub mod Page
 pub mod Prepared
+pub mod Refusal
 pub mod Rows
 pub mod Settings
 pub mod Short
@@ -18,6 +19,7 @@ pub use Rattle.snippet_model.specs.Fits
 pub use Rattle.snippet_model.specs.Level
 pub use Rattle.snippet_model.specs.Trusted
 pub use Rattle.snippet_lines.specs.Span
+pub use Rattle.snippet_text.specs.Normalized
 pub use Rattle.snippet_splice.specs.Edits
 pub mod LineRows
 pub mod SpanBars

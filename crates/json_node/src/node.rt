@@ -1,17 +1,15 @@
-//! Values of JSON, where they stand, and what is read of them.
+//! Values of JSON, where they stand, and what is read of their fields.
 
-ghost use Rattle.std.specs.Prelude.{◌≡◌, Some, IfOk, IfSome, All, option_map, unwrap_or};
-ghost use Rattle.std.specs.Cow.{cow_str_bytes};
-ghost use Rattle.snippet_model.specs.Fits.{TextFits};
-ghost use Rattle.serde_json.specs.Data.{Data};
-ghost use Rattle.serde_json.specs.Find.{as_bool, as_str, get};
-ghost use Rattle.serde_json.specs.View.{view};
-ghost use Rattle.json_node.specs.Field.{SaysAt, ListSays, as_whole, flag_at, number_at, text_at};
+ghost use Rattle.std.specs.Prelude.{◌≡◌, ℕ, List, Some, true, IfOk, IfSome, IsNone, IsTrue, OnOk, is_some, option_map};
+ghost use Rattle.serde_json.specs.Data.{object, member, no_members};
+ghost use Rattle.serde_json.specs.Find.{get, get_member};
+ghost use Rattle.serde_json.specs.View.{members_view, view};
+ghost use Rattle.json_node.specs.Field.{HasOneField, HasOnly, IsOneOf, lent_texts};
 
 use crate::expectation::Expectation;
 use crate::fault::{Fault, Wrong};
 use crate::place::Place;
-use serde_json::Value;
+use serde_json::{Map, Value};
 use std::alloc::Global;
 use std::fmt;
 
@@ -34,16 +32,16 @@ impl<'v> Node<'v, '_> {
     }
 
     /// Nothing, if the value is an object and has only fields of these names.
-    pub fn has_only(&self, names: &[&str]) -> Result<(), Fault> {
+    pub fn has_only(&self, names: &[&str]) -> Result<(), Fault>
+        ensures only { OnOk result (HasOnly (lent_texts names.now) (view self.now.value.now)) }
+    {
         let Some(fields) = self.value.as_object() else {
             return Err(self.unexpected(Expectation::Object));
         };
-        for name in fields.keys() {
-            if !is_among(name.as_str(), names) {
-                return Err(self.unknown(name.as_str(), names));
-            }
+        match first_unknown(fields, names) {
+            Some(name) => Err(self.unknown(name, names)),
+            None => Ok(()),
         }
-        Ok(())
     }
 
     /// The fault that there is a field of this name, and only these are expected.
@@ -68,10 +66,24 @@ impl<'v> Node<'v, '_> {
     }
 
     /// Whether the value is an object with one field.
-    pub fn has_one_field(&self) -> bool {
-        match self.value.as_object() {
-            Some(fields) => fields.len() == 1,
-            None => false,
+    pub fn has_one_field(&self) -> bool
+        ensures one { IsTrue result → HasOneField (view self.now.value.now) }
+    {
+        let Some(fields) = self.value.as_object() else {
+            return false;
+        };
+        fields.len() == 1
+    }
+
+    /// The field of this name, if it is the object's only one.
+    pub fn only_field<'n>(&'n self, name: &'n str) -> Option<Node<'v, 'n>>
+        ensures value { IfSome result (λ field.
+            view self.now.value.now ≡ object (member name.now (view field.value.now) no_members)) }
+    {
+        if self.has_one_field() {
+            self.optional(name)
+        } else {
+            None
         }
     }
 
@@ -104,8 +116,23 @@ impl<'v> Node<'v, '_> {
     }
 }
 
-/// Whether a name is among these.
-fn is_among(name: &str, names: &[&str]) -> bool {
+/// The first of the fields that has none of these names.
+fn first_unknown<'f>(fields: &'f Map<String, Value>, names: &[&str]) -> Option<&'f str>
+    ensures known { IsNone result → (name : List ℕ)
+        → is_some (get_member name (members_view fields.now.entries)) ≡ true → IsOneOf (lent_texts names.now) name }
+{
+    for name in fields.keys() {
+        if !is_among(name.as_str(), names) {
+            return Some(name.as_str());
+        }
+    }
+    None
+}
+
+/// Whether a name is one of these.
+fn is_among(name: &str, names: &[&str]) -> bool
+    ensures among { IsTrue result → IsOneOf (lent_texts names.now) name.now }
+{
     for known in names {
         if *known == name {
             return true;

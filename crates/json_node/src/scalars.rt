@@ -1,11 +1,11 @@
 //! How texts, numbers and truth values are read.
 
-ghost use Rattle.std.specs.Prelude.{◌≡◌, ◌<◌, Some, IfOk, IfSome, option_map, unwrap_or};
+ghost use Rattle.std.specs.Prelude.{◌≡◌, Some, IfOk, IfSome, option_map};
 ghost use Rattle.std.specs.Cow.{cow_str_bytes};
 ghost use Rattle.snippet_model.specs.Fits.{TextFits};
 ghost use Rattle.serde_json.specs.Find.{as_bool, as_str};
 ghost use Rattle.serde_json.specs.View.{view};
-ghost use Rattle.json_node.specs.Field.{as_whole, flag_at, lent_text, number_at, text_at};
+ghost use Rattle.json_node.specs.Field.{as_whole, flag_at, given_or, lent_text, number_at, optional_at, text_at};
 
 use crate::expectation::Expectation;
 use crate::fault::Fault;
@@ -34,7 +34,7 @@ impl<'v> Node<'v, '_> {
 
     /// The text in the field of this name, if there is that field.
     pub fn optional_text(&self, name: &str) -> Result<Option<&'v str>, Fault>
-        ensures value { IfOk result (λ found. text_at name.now (view self.now.value.now) ≡ lent_text found) }
+        ensures value { IfOk result (λ found. optional_at as_str name.now (view self.now.value.now) ≡ Some (lent_text found)) }
         ensures fits { IfOk result (λ found. IfSome found (λ text. TextFits text.now)) }
     {
         match self.optional(name) {
@@ -62,7 +62,7 @@ impl<'v> Node<'v, '_> {
 
     /// The number in the field of this name, if there is that field.
     pub fn optional_number(&self, name: &str) -> Result<Option<usize>, Fault>
-        ensures value { IfOk result (λ found. found ≡ number_at name.now (view self.now.value.now)) }
+        ensures value { IfOk result (λ found. optional_at as_whole name.now (view self.now.value.now) ≡ Some found) }
     {
         match self.optional(name) {
             Some(field) => Ok(Some(field.as_number()?)),
@@ -72,9 +72,12 @@ impl<'v> Node<'v, '_> {
 
     /// The number in the field of this name, and this one where there is no such field.
     pub fn number_or(&self, name: &str, missing: usize) -> Result<usize, Fault>
-        ensures value { IfOk result (λ number. number ≡ unwrap_or (number_at name.now (view self.now.value.now)) missing) }
+        ensures value { IfOk result (λ number. given_or as_whole missing name.now (view self.now.value.now) ≡ Some number) }
     {
-        Ok(self.optional_number(name)?.unwrap_or(missing))
+        match self.optional(name) {
+            Some(field) => field.as_number(),
+            None => Ok(missing),
+        }
     }
 
     /// The number of a byte.
@@ -106,7 +109,7 @@ impl<'v> Node<'v, '_> {
 
     /// The truth value in the field of this name, and this one where there is no such field.
     pub fn flag_or(&self, name: &str, missing: bool) -> Result<bool, Fault>
-        ensures value { IfOk result (λ flag. flag ≡ unwrap_or (flag_at name.now (view self.now.value.now)) missing) }
+        ensures value { IfOk result (λ flag. given_or as_bool missing name.now (view self.now.value.now) ≡ Some flag) }
     {
         match self.optional(name) {
             Some(field) => field.as_flag(),

@@ -1,1 +1,2 @@
+pub mod NotGiven
 pub mod Writing

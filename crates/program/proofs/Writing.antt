@@ -1,8 +1,8 @@
 -- What writes add, one after another.
-use Rattle.std.proofs.Common.{◌≡◌, ℕ, ◌-◌, ◌<◌, ◌==◌, List, [], ◌∷◌, ◌++◌, zero, suc, Bool, true, false, Option, Some, None, arith, length, take, drop, refl, sym, ap, ◌∙◌, subst, append_assoc, append-nil, length-append, take-append-drop}
+use Rattle.std.proofs.Common.{◌≡◌, ℕ, ◌-◌, ◌<◌, ◌==◌, ◌⊎◌, inl, inr, List, [], ◌∷◌, ◌++◌, zero, suc, Bool, true, false, Option, Some, None, arith, length, take, drop, refl, sym, ap, ◌∙◌, subst, append_assoc, append-nil, length-append, take-append-drop}
 use Rattle.std.proofs.Math.Seq.{take-append_seam}
 use Rattle.std.proofs.lemmas.List.{take-append-le, take_rest}
-use Rattle.std.specs.Bool.{OnFalse}
+use Rattle.std.specs.Bool.{OnFalse, OnTrue}
 use Rattle.std.specs.Io.KnownBytes.{Appends, Keeps}
 use Rattle.program.specs.Stream.{AppendsPart, line_of}
 
@@ -73,3 +73,12 @@ on_false false P Q holds gives = gives holds
 pub some_left : (n : ℕ) → (n == 0) ≡ false → 0 < n
 some_left zero none = cc
 some_left (suc n) none = omega arith
+
+pub on_true : (b : Bool) (P Q : Type 0) → OnTrue b P → (P → Q) → OnTrue b Q
+on_true true P Q holds gives = gives holds
+on_true false P Q holds gives = tt
+
+-- where one holds on a test and the other where it fails, one of them holds
+pub one_of : (b : Bool) (P Q : Type 0) → OnTrue b P → OnFalse b Q → P ⊎ Q
+one_of true P Q holds fails = inl holds
+one_of false P Q holds fails = inr fails

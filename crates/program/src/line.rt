@@ -3,7 +3,7 @@
 ghost use Rattle.std.specs.Prelude.{◌≤◌, IfNone, IfSome, length, take};
 ghost use Rattle.std.specs.Bool.{OnFalse, OnTrue};
 ghost use Rattle.std.specs.Io.KnownBytes.{Appends, Keeps};
-ghost use Rattle.program.specs.Stream.{AppendsPart, Receives, Whole, CutShort};
+ghost use Rattle.program.specs.Stream.{AppendsPart, Receives, Whole, CutShort, Told};
 
 use std::io::{ErrorKind, Write};
 
@@ -16,6 +16,7 @@ const LINE_END: &[u8] = b"\n";
 pub fn write_line<W: Write>(text: &str, out: &mut W) -> bool
     ensures whole { OnTrue result (Receives W.contents out.old out.new (Whole text.now)) }
     ensures cut { OnFalse result (Receives W.contents out.old out.new (CutShort text.now)) }
+    ensures told { Receives W.contents out.old out.new (Told text.now) }
 {
     write_whole(text.as_bytes(), out) && write_whole(LINE_END, out)
 }

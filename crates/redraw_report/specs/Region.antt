@@ -1,5 +1,5 @@
 -- Where in a text a region lies that a tool counted by lines and columns, by characters or by bytes.
-use Rattle.std.specs.Prelude.{◌≡◌, ℕ, zero, suc, ◌+◌, ◌-◌, ◌≤◌, Bool, true, false, nat_lt, nat_le, ◌==◌, ◌&&◌, ◌||◌, List, [], ◌∷◌, ◌++◌, Option, Some, None, drop, length, slice_get, take, unwrap_or, if◌then◌else◌}
+use Rattle.std.specs.Prelude.{◌≡◌, ℕ, zero, suc, ◌+◌, ◌-◌, ◌≤◌, Bool, true, false, nat_lt, nat_le, ◌==◌, ◌&&◌, ◌||◌, List, [], ◌∷◌, ◌++◌, Option, Some, None, drop, length, slice_get, take, if◌then◌else◌}
 use Rattle.std.specs.Option.{option_map_or}
 use Rattle.std.specs.Str.{IsCharBoundary}
 use Rattle.redraw_report.specs.declared.diagnostic.Region.{Region}
@@ -7,6 +7,8 @@ use Rattle.redraw_report.specs.declared.diagnostic.Region.TheVariants as region
 use Rattle.redraw_report.specs.declared.diagnostic.Unit as unit_type
 use Rattle.redraw_report.specs.declared.diagnostic.Unit.TheVariants.{Utf16, CodePoints}
 use Rattle.redraw_report.specs.declared.locate.Located.{Located}
+use Rattle.redraw_report.specs.declared.locate.OnLine.{OnLine}
+use Rattle.redraw_report.specs.declared.locate.OnLine.TheVariants as on_line
 use Rattle.redraw_report.specs.declared.locate.Place.{Place}
 
 -- the byte after this one, if this is a line feed
@@ -76,29 +78,48 @@ column_in unit line (suc units) = place_from unit 0 line units
 abbrev pub moved : ℕ → Place → Place
 moved bytes p = record { byte = bytes + p.byte; exact = p.exact }
 
--- the place of a column in the line that starts at this byte of a text, or where no column is given of the end of the line's text
-abbrev pub column_from : unit_type.Unit → List ℕ → Option ℕ → ℕ → Place
-column_from unit text None start = record { byte = start + line_length (drop start text); exact = true }
-column_from unit text (Some column) start = moved start (column_in unit (counted_line (drop start text)) column)
+-- how many blanks some bytes begin with: spaces and tabs
+abbrev pub blanks_before : List ℕ → ℕ
+blanks_before [] = 0
+blanks_before (b ∷ bs) = if b == 32 || b == 9 then suc (blanks_before bs) else 0
 
--- the place of a column in the line of a number: of a text of which the first line has a number, and its lines start at these bytes.
+-- the place of a column in the line that starts at this byte of a text, of the first character there that isn't a blank, or of the end
+-- of the line's text
+abbrev pub on_line_from : unit_type.Unit → List ℕ → OnLine → ℕ → Place
+on_line_from unit text (on_line.Column column) start = moved start (column_in unit (counted_line (drop start text)) column)
+on_line_from unit text on_line.Text start = record { byte = start + blanks_before (drop start text); exact = true }
+on_line_from unit text on_line.End start = record { byte = start + line_length (drop start text); exact = true }
+
+-- the same in the line of a number: of a text of which the first line has a number, and its lines start at these bytes.
 -- Before the first line it is the text's start, and after the last its end, and isn't exact
-abbrev pub place_on : unit_type.Unit → List ℕ → List ℕ → ℕ → ℕ → Option ℕ → Place
-place_on unit text starts first number column =
+abbrev pub place_on : unit_type.Unit → List ℕ → List ℕ → ℕ → ℕ → OnLine → Place
+place_on unit text starts first number at =
     if nat_lt number first then record { byte = 0; exact = false }
-    else option_map_or (column_from unit text column) (slice_get starts (number - first)) record { byte = length text; exact = false }
+    else option_map_or (on_line_from unit text at) (slice_get starts (number - first)) record { byte = length text; exact = false }
+
+-- where on its line a region with this start column and this end column starts: without any, at the first character that isn't a blank
+abbrev pub start_on_line : Option ℕ → Option ℕ → OnLine
+start_on_line (Some column) end = on_line.Column column
+start_on_line None (Some end) = on_line.Column 1
+start_on_line None None = on_line.Text
+
+-- where on its line a region with this end column ends
+abbrev pub end_on_line : Option ℕ → OnLine
+end_on_line (Some column) = on_line.Column column
+end_on_line None = on_line.End
 
 -- where a region starts
 abbrev pub start_place : List ℕ → List ℕ → ℕ → Region → Place
 start_place text starts first (region.Bytes start end) = record { byte = start; exact = true }
 start_place text starts first (region.Chars start end unit) = place_from unit 0 text start
-start_place text starts first (region.Lines r) = place_on r.unit text starts first r.start_line (Some (unwrap_or r.start_column 1))
+start_place text starts first (region.Lines r) =
+    place_on r.unit text starts first r.start_line (start_on_line r.start_column r.end_column)
 
 -- where it ends
 abbrev pub end_place : List ℕ → List ℕ → ℕ → Region → Place
 end_place text starts first (region.Bytes start end) = record { byte = end; exact = true }
 end_place text starts first (region.Chars start end unit) = place_from unit 0 text end
-end_place text starts first (region.Lines r) = place_on r.unit text starts first r.end_line r.end_column
+end_place text starts first (region.Lines r) = place_on r.unit text starts first r.end_line (end_on_line r.end_column)
 
 -- a place that the text holds: it was found as it was asked for, and lies between characters
 pub record IsHeld (text : List ℕ) (p : Place) : Type 0 where

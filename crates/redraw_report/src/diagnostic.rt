@@ -111,8 +111,8 @@ pub enum Region {
 }
 
 /// A part of a file by lines and columns, all counted from 1: from a column of a line to before a column of the same or a
-/// later line. Without a start column it begins with its first line, without an end column it ends with its last line,
-/// before that line's end.
+/// later line. Without a start column it begins with its first line, but without any columns with the first character of
+/// that line that isn't a blank. Without an end column it ends with its last line, before that line's end.
 #[derive(Clone, Copy, PartialEq, Eq)]
 pub struct LineRegion {
     pub start_line: usize,

@@ -1,7 +1,7 @@
 //! Where in a text a region lies, as a tool counted it.
 ghost use Rattle.std.specs.Prelude.{◌≡◌, ℕ, ◌<◌, ◌≤◌, length, true};
 ghost use Rattle.std.specs.Str.{IsCharBoundary};
-ghost use Rattle.redraw_report.specs.Region.{IsLocated, column_from, column_in, place_from, place_on};
+ghost use Rattle.redraw_report.specs.Region.{IsLocated, blanks_before, column_in, on_line_from, place_from, place_on};
 ghost use Rattle.redraw_report.specs.Region as spec;
 
 use crate::diagnostic::{Region, Unit};
@@ -21,6 +21,17 @@ pub struct Located {
 pub struct Place {
     pub byte: usize,
     pub exact: bool,
+}
+
+/// Where on a line a place is.
+#[derive(Clone, Copy)]
+enum OnLine {
+    /// At this column, counted from 1.
+    Column(usize),
+    /// At the first character that isn't a blank.
+    Text,
+    /// At the end of the line's text.
+    End,
 }
 
 /// A text that regions are looked for in.
@@ -54,8 +65,8 @@ fn start_place(lookup: Lookup<'_>, region: Region) -> Place
         Region::Bytes { start, .. } => byte_place(start),
         Region::Chars { start, unit, .. } => place_after(lookup.text.as_bytes(), start, unit),
         Region::Lines(lines) => {
-            let column = lines.start_column.unwrap_or(1);
-            column_place(lookup, lines.start_line, Some(column), lines.unit)
+            let at = start_on_line(lines.start_column, lines.end_column);
+            place_on_line(lookup, lines.start_line, at, lines.unit)
         }
     }
 }
@@ -67,7 +78,31 @@ fn end_place(lookup: Lookup<'_>, region: Region) -> Place
     match region {
         Region::Bytes { end, .. } => byte_place(end),
         Region::Chars { end, unit, .. } => place_after(lookup.text.as_bytes(), end, unit),
-        Region::Lines(lines) => column_place(lookup, lines.end_line, lines.end_column, lines.unit),
+        Region::Lines(lines) => {
+            let at = end_on_line(lines.end_column);
+            place_on_line(lookup, lines.end_line, at, lines.unit)
+        }
+    }
+}
+
+/// Where on its line a region with these columns starts.
+fn start_on_line(start_column: Option<usize>, end_column: Option<usize>) -> OnLine
+    ensures value { result ≡ spec.start_on_line start_column end_column }
+{
+    match (start_column, end_column) {
+        (Some(column), _) => OnLine::Column(column),
+        (None, Some(_)) => OnLine::Column(1),
+        (None, None) => OnLine::Text,
+    }
+}
+
+/// Where on its line a region with this end column ends.
+fn end_on_line(end_column: Option<usize>) -> OnLine
+    ensures value { result ≡ spec.end_on_line end_column }
+{
+    match end_column {
+        Some(column) => OnLine::Column(column),
+        None => OnLine::End,
     }
 }
 
@@ -78,9 +113,9 @@ fn byte_place(byte: usize) -> Place
     Place { byte, exact: true }
 }
 
-/// Where a column of a line is, or the end of the line's text where no column is given.
-fn column_place(lookup: Lookup<'_>, line: usize, column: Option<usize>, unit: Unit) -> Place
-    ensures value { result ≡ place_on unit lookup.entry.text.now lookup.entry.starts.now lookup.entry.first_line line column }
+/// Where a place on the line of this number is.
+fn place_on_line(lookup: Lookup<'_>, line: usize, at: OnLine, unit: Unit) -> Place
+    ensures value { result ≡ place_on unit lookup.entry.text.now lookup.entry.starts.now lookup.entry.first_line line at }
 {
     if line < lookup.first_line {
         return Place {
@@ -89,7 +124,7 @@ fn column_place(lookup: Lookup<'_>, line: usize, column: Option<usize>, unit: Un
         };
     }
     match lookup.starts.get(line - lookup.first_line) {
-        Some(start) => place_from_start(lookup.text, *start, column, unit),
+        Some(start) => place_from_start(lookup.text, *start, at, unit),
         None => Place {
             byte: lookup.text.len(),
             exact: false,
@@ -98,20 +133,21 @@ fn column_place(lookup: Lookup<'_>, line: usize, column: Option<usize>, unit: Un
 }
 
 /// The same in the line that starts at this byte.
-fn place_from_start(text: &str, start: usize, column: Option<usize>, unit: Unit) -> Place
-    ensures value { result ≡ column_from unit text.now column start }
+fn place_from_start(text: &str, start: usize, at: OnLine, unit: Unit) -> Place
+    ensures value { result ≡ on_line_from unit text.now at start }
 {
     let bytes = text.as_bytes();
     let line = &bytes[start.min(bytes.len())..];
-    match column {
-        Some(column) => {
+    match at {
+        OnLine::Column(column) => {
             let within = place_in_line(counted_line(line), column, unit);
             Place {
                 byte: start + within.byte,
                 exact: within.exact,
             }
         }
-        None => byte_place(start + line_length(line)),
+        OnLine::Text => byte_place(start + blanks_at_start(line)),
+        OnLine::End => byte_place(start + line_length(line)),
     }
 }
 
@@ -125,6 +161,19 @@ fn counted_line(bytes: &[u8]) -> &[u8]
     } else {
         first_line(bytes)
     }
+}
+
+/// How many blanks some bytes begin with: spaces and tabs.
+fn blanks_at_start(bytes: &[u8]) -> usize
+    ensures value { result ≡ blanks_before bytes.now }
+    ensures within { result ≤ length bytes.now }
+{
+    for (at, byte) in bytes.iter().enumerate() {
+        if !matches!(*byte, b' ' | b'\t') {
+            return at;
+        }
+    }
+    bytes.len()
 }
 
 /// Where a column, counted from 1, is in a line.

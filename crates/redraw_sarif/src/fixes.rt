@@ -5,24 +5,24 @@ use crate::message::text_in;
 use crate::region::{carried_in, region_of};
 use crate::uri::path_in;
 use json_node::lenient::{List, Node, Troubles};
-use redraw_report::diagnostic::{Carried, Child, Edit, Region, Severity};
+use redraw_report::diagnostic::{Carried, Child, Edit, LineRegion, Region, Severity, Unit};
 use std::alloc::{AllocError, Global};
 
 /// What stands over a fix that isn't described.
 const UNDESCRIBED: &str = "apply this fix";
 
-/// What is said of a list of fixes: one help for each description, with the fixes of that description, one of which is to be
-/// made. Those of one description have to stand in a row. A fix with something wrong in it is left out.
-pub fn children_of(
+/// Adds what is said of a list of fixes: one help for each description, with the fixes of that description, one of which
+/// is to be made. Those of one description have to stand in a row. A fix with something wrong in it is left out.
+pub fn add_fixes(
+    children: &mut Vec<Child>,
     fixes: &List<'_, '_>,
     context: &Context<'_>,
     troubles: &mut Troubles,
-) -> Result<Vec<Child>, AllocError> {
-    let mut children: Vec<Child> = Vec::new(context.alloc);
+) -> Result<(), AllocError> {
     for (index, value) in fixes.items.iter().enumerate() {
-        take_fix(&mut children, &fixes.node(index, value), context, troubles)?;
+        take_fix(children, &fixes.node(index, value), context, troubles)?;
     }
-    Ok(children)
+    Ok(())
 }
 
 /// Adds what is said of a fix, unless something is wrong in it.
@@ -70,7 +70,9 @@ fn add_fix(
 /// The last help, if it says this.
 fn last_said<'c>(children: &'c mut Vec<Child>, message: &str) -> Option<&'c mut Child> {
     match children.last_mut() {
-        Some(last) if last.message.as_str() == message => Some(last),
+        Some(last) if last.severity == Severity::Help && last.message.as_str() == message => {
+            Some(last)
+        }
         _ => None,
     }
 }
@@ -175,12 +177,23 @@ fn edit_of(
     let Some(deleted) = replacement.needed("deletedRegion", troubles) else {
         return Ok(None);
     };
-    let region = region_of(&deleted, context.unit, troubles);
+    let region = deleted_in(&deleted, context.unit, troubles);
     let (Some(region), Some(text)) = (region, inserted_in(replacement, troubles)) else {
         return Ok(None);
     };
     let carried = carried_in(context.alloc, &deleted, context.unit, troubles)?;
     Ok(Some(edit_with(context.alloc, file, region, text, carried)?))
+}
+
+/// The part of a file that goes. Without columns it is all of its lines, with the blanks that they begin with.
+fn deleted_in(deleted: &Node<'_, '_>, unit: Unit, troubles: &mut Troubles) -> Option<Region> {
+    match region_of(deleted, unit, troubles) {
+        Some(Region::Lines(lines)) => Some(Region::Lines(LineRegion {
+            start_column: lines.start_column.or(Some(1)),
+            ..lines
+        })),
+        region => region,
+    }
 }
 
 /// The edit of a region of this file.

@@ -8,10 +8,14 @@
 
 pub mod expectation;
 pub mod fixes;
+pub mod flow;
+pub mod links;
 pub mod location;
 pub mod message;
 pub mod placeholders;
+pub mod primary;
 pub mod region;
 pub mod rule;
 pub mod sarif;
+pub mod steps;
 pub mod uri;

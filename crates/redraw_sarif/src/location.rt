@@ -49,47 +49,56 @@ fn span_of(
     if !location.is_object(troubles) {
         return Ok(None);
     }
-    match location.object("physicalLocation", troubles) {
-        Some(physical) => span_at(location, &physical, context, is_primary, troubles),
-        None => Ok(None),
-    }
+    let Some(place) = place_at(location, context, troubles)? else {
+        return Ok(None);
+    };
+    let label = message_at(location, context, troubles)?;
+    Ok(Some(FileSpan {
+        label,
+        is_primary,
+        ..place
+    }))
 }
 
-/// The place of a location that is at this physical one.
-fn span_at(
+/// The message of a location.
+pub fn message_at(
     location: &Node<'_, '_>,
-    physical: &Node<'_, '_>,
     context: &Context<'_>,
-    is_primary: bool,
+    troubles: &mut Troubles,
+) -> Result<Option<String>, AllocError> {
+    text_in(context.alloc, location, "message", &context.rule, troubles)
+}
+
+/// The place of a location, as one of context of which nothing is said; `None` where it has no file.
+pub fn place_at(
+    location: &Node<'_, '_>,
+    context: &Context<'_>,
     troubles: &mut Troubles,
 ) -> Result<Option<FileSpan>, AllocError> {
-    match path_in(context.alloc, physical, context.run, troubles)? {
-        Some(file) => {
-            let span = span_in(file, location, physical, context, is_primary, troubles)?;
-            Ok(Some(span))
-        }
+    let Some(physical) = location.object("physicalLocation", troubles) else {
+        return Ok(None);
+    };
+    match path_in(context.alloc, &physical, context.run, troubles)? {
+        Some(file) => Ok(Some(place_in(file, &physical, context, troubles)?)),
         None => Ok(None),
     }
 }
 
-/// The place in this file.
-fn span_in(
+/// The same in this file.
+fn place_in(
     file: String,
-    location: &Node<'_, '_>,
     physical: &Node<'_, '_>,
     context: &Context<'_>,
-    is_primary: bool,
     troubles: &mut Troubles,
 ) -> Result<FileSpan, AllocError> {
-    let alloc = context.alloc;
     let region = physical.object("region", troubles);
     let around = physical.object("contextRegion", troubles);
     Ok(FileSpan {
         file,
         region: region_or_start(&region, context.unit, troubles),
-        label: text_in(alloc, location, "message", &context.rule, troubles)?,
-        is_primary,
-        carried: carried_of(alloc, &around, &region, context.unit, troubles)?,
+        label: None,
+        is_primary: false,
+        carried: carried_of(context.alloc, &around, &region, context.unit, troubles)?,
     })
 }
 

@@ -1,6 +1,7 @@
 //! The texts of messages.
 
 use crate::expectation::Expectation;
+use crate::links::without_links;
 use crate::placeholders::filled;
 use crate::rule::Rule;
 use json_node::lenient::{Node, Troubles};
@@ -8,7 +9,8 @@ use serde_json::Value;
 use std::alloc::{AllocError, Global};
 
 /// The text of the message in the field of this name, if there is one: its own, or one of the rule's by its id, with its
-/// arguments in the place of placeholders. A text of its own without arguments stays as it is.
+/// arguments in the place of placeholders. In a text of its own without arguments braces stay as they are. A link to
+/// a location is its text.
 pub fn text_in(
     alloc: Global,
     object: &Node<'_, '_>,
@@ -48,10 +50,11 @@ fn with_arguments(
     is_own: bool,
     arguments: &[Value],
 ) -> Result<String, AllocError> {
+    let text = without_links(alloc, text)?;
     if is_own && arguments.is_empty() {
-        String::from_str(alloc, text)
+        Ok(text)
     } else {
-        filled(alloc, text, arguments)
+        filled(alloc, text.as_str(), arguments)
     }
 }
 

@@ -1,9 +1,11 @@
 //! The runs of a log, and the findings of their results.
 
 use crate::expectation::Expectation;
-use crate::fixes::children_of;
+use crate::fixes::add_fixes;
+use crate::flow::{Told, add_steps};
 use crate::location::{Context, add_spans};
 use crate::message::text_in;
+use crate::primary::choose_primary;
 use crate::rule::{Rule, code_of, rule_of, severity_of};
 use json_node::lenient::{List, Node, Troubles};
 use redraw_report::diagnostic::{Diagnostic, FileSpan, Unit};
@@ -74,14 +76,13 @@ fn diagnostic_of(
     let severity = severity_of(reported, &context.rule, troubles);
     let message = message_of(reported, context, troubles)?;
     let code = code_of(context.alloc, reported.value, &context.rule)?;
-    let spans = spans_of(reported, context, troubles)?;
-    let children = children_of(&reported.list("fixes", troubles), context, troubles)?;
+    let told = told_of(reported, context, troubles)?;
     Ok(Diagnostic {
         severity,
         message,
         code,
-        spans,
-        children,
+        spans: told.spans,
+        children: told.children,
         homes: Vec::new(context.alloc),
     })
 }
@@ -103,6 +104,21 @@ fn description_of<'v>(rule: &Rule<'v>) -> &'v str {
     rule.description().unwrap_or(NO_MESSAGE)
 }
 
+/// The places of a result, and what is said beside its message: of the steps that lead to it, and of its fixes.
+fn told_of(
+    reported: &Node<'_, '_>,
+    context: &Context<'_>,
+    troubles: &mut Troubles,
+) -> Result<Told, AllocError> {
+    let spans = spans_of(reported, context, troubles)?;
+    let children = Vec::new(context.alloc);
+    let mut told = Told { spans, children };
+    add_steps(&mut told, reported, context, troubles)?;
+    let fixes = reported.list("fixes", troubles);
+    add_fixes(&mut told.children, &fixes, context, troubles)?;
+    Ok(told)
+}
+
 /// The places of a result: those where it is, and those that help to see it.
 fn spans_of(
     reported: &Node<'_, '_>,
@@ -112,6 +128,7 @@ fn spans_of(
     let mut spans = Vec::new(context.alloc);
     let own = reported.list("locations", troubles);
     add_spans(&mut spans, &own, context, true, troubles)?;
+    choose_primary(&mut spans);
     let related = reported.list("relatedLocations", troubles);
     add_spans(&mut spans, &related, context, false, troubles)?;
     Ok(spans)

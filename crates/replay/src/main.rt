@@ -3,20 +3,14 @@
 //! `replay [--text] [FILE ..]`, `replay --check EXPECTED FILE [EXPECTED FILE ..]`, `replay --repeat N [FILE ..]`
 #![tactic(auto)]
 
+use program::exit::exit_code;
+use program::input::given_words;
 use replay_run::run::run;
-use std::env;
 use std::io::{self, BufWriter};
 use std::process::ExitCode;
-use std::rt::Env;
 
-/// The words of the command line, without the program's name.
-fn given_words(rt: &(impl Env + AllocGlobal)) -> io::Result<Vec<String>> {
-    let mut words = Vec::new(rt.alloc());
-    for word in env::args(rt)?.skip(1) {
-        words.push(word)?;
-    }
-    Ok(words)
-}
+/// The status of a run that was stopped before it began.
+const STOPPED: u8 = 2;
 
 /// Runs the program, and answers the status to end with.
 fn answer(rt: &HostRuntime) -> io::Result<u8> {
@@ -28,11 +22,5 @@ fn answer(rt: &HostRuntime) -> io::Result<u8> {
 }
 
 fn main(rt: HostRuntime) -> ExitCode {
-    match answer(&rt) {
-        Ok(status) => ExitCode::from(status),
-        Err(error) => {
-            let _ = eprintln!(rt; "replay: {error}");
-            ExitCode::from(2)
-        }
-    }
+    exit_code("replay", answer(&rt), STOPPED, &mut rt.stderr())
 }

@@ -1,3 +1,4 @@
 pub mod Kinds
 pub mod Report
+pub mod Shape
 pub mod Sheet

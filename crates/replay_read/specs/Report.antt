@@ -1,5 +1,6 @@
--- The groups that a value of JSON describes: what each part of them is, by the fields of the value.
-use Rattle.std.specs.Prelude.{◌≡◌, ℕ, true, false, not, List, Option, Some, None, codes, is_some, option_and_then, option_map, unwrap_or}
+-- The groups that a value of JSON describes: what each part of them is, by the fields of the value. A field that is named by no rule
+-- here, and one of another type, makes a value that describes none.
+use Rattle.std.specs.Prelude.{◌≡◌, ℕ, true, false, not, List, Option, Some, None, codes, is_some, option_and_then, option_map}
 use Rattle.std.specs.Cow.{cow_str_bytes}
 use Rattle.snippet_model.specs.declared.level.LevelName.{LevelName}
 use Rattle.snippet_model.specs.declared.level.LevelName.TheVariants.{Standard, Hidden, Own}
@@ -11,13 +12,17 @@ use Rattle.snippet_model.specs.declared.snippet.Element.TheVariants as element
 use Rattle.snippet_model.specs.declared.snippet.Group.{Group}
 use Rattle.snippet_model.specs.declared.snippet.Message.{Message}
 use Rattle.snippet_model.specs.declared.snippet.Origin.{Origin}
+use Rattle.snippet_model.specs.declared.snippet.Padding.{Padding}
 use Rattle.snippet_model.specs.declared.snippet.Patch.{Patch}
 use Rattle.snippet_model.specs.declared.snippet.Snippet.{Snippet}
 use Rattle.snippet_model.specs.declared.snippet.Title.{Title}
 use Rattle.serde_json.specs.Data.{Data}
-use Rattle.serde_json.specs.Find.{as_null, as_str, get}
-use Rattle.json_node.specs.Field.{SaysAt, OrNull, ListSays, flag_at, number_at, text_at}
+use Rattle.serde_json.specs.Find.{as_bool, as_null, as_str, get}
+use Rattle.json_node.specs.Field.{SaysAt, OnlySays, OrNull, ListSays, as_whole, flag_at, given_or, number_at, optional_at, text_at}
 use Rattle.replay_read.specs.Kinds.{kind_name, mark_name}
+use Rattle.replay_read.specs.Shape.{HasShape}
+use Rattle.replay_read.specs.declared.shape.Shape.{Shape}
+use Rattle.replay_read.specs.declared.shape.Shape.TheVariants as shape
 
 -- the name of a level: that of its kind where none is given, hidden where it is `null`, else an own one
 abbrev pub IsGivenName : Data → LevelName → Type 0
@@ -32,68 +37,80 @@ IsNameOf (Some d) name = IsGivenName d name
 
 -- a level: its kind, and its name
 pub record IsLevelOf (d : Data) (level : Level) : Type 0 where
+  pub only : HasShape shape.Level d
   pub kind : text_at (codes "kind") d ≡ Some (kind_name level.kind)
   pub name : IsNameOf (get (codes "name") d) level.name
 
 -- a title: `primary` tells that its text isn't trusted; its identifier and address may be missing
 pub record IsTitleOf (d : Data) (title : Title) : Type 0 where
+  pub only : HasShape shape.Title d
   pub level : SaysAt IsLevelOf (codes "level") d title.level
   pub text : text_at (codes "text") d ≡ Some (cow_str_bytes title.text)
   pub primary : flag_at (codes "primary") d ≡ Some (not title.allows_styling)
-  pub id : text_at (codes "id") d ≡ option_map cow_str_bytes (option_and_then (λ id. id.id) title.id)
-  pub url : text_at (codes "url") d ≡ option_map cow_str_bytes (option_and_then (λ id. id.url) title.id)
+  pub id : optional_at as_str (codes "id") d ≡ Some (option_map cow_str_bytes (option_and_then (λ id. id.id) title.id))
+  pub url : optional_at as_str (codes "url") d ≡ Some (option_map cow_str_bytes (option_and_then (λ id. id.url) title.id))
 
 -- a message: its level, and its text
 pub record IsMessageOf (d : Data) (message : Message) : Type 0 where
+  pub only : HasShape shape.Message d
   pub level : SaysAt IsLevelOf (codes "level") d message.level
   pub text : text_at (codes "text") d ≡ Some (cow_str_bytes message.text)
 
--- a snippet, whose markers stand under this name and say what Says tells
-pub record IsSnippetOf {T : Type 0} (Says : Data → T → Type 0) (markers : List ℕ) (d : Data) (snippet : Snippet T) : Type 0 where
+-- a snippet of this shape, whose markers stand under this name and say what Says tells
+pub record IsSnippetOf {T : Type 0} (Says : Data → T → Type 0) (its : Shape) (markers : List ℕ) (d : Data) (snippet : Snippet T) : Type 0 where
+  pub only : HasShape its d
   pub source : text_at (codes "source") d ≡ Some (cow_str_bytes snippet.source)
-  pub path : text_at (codes "path") d ≡ option_map cow_str_bytes snippet.path
-  pub line_start : snippet.line_start ≡ unwrap_or (number_at (codes "line_start") d) 1
-  pub line_numbering : snippet.line_numbering ≡ unwrap_or (flag_at (codes "line_numbering") d) true
-  pub fold : snippet.fold ≡ unwrap_or (flag_at (codes "fold") d) true
+  pub path : optional_at as_str (codes "path") d ≡ Some (option_map cow_str_bytes snippet.path)
+  pub line_start : given_or as_whole 1 (codes "line_start") d ≡ Some snippet.line_start
+  pub line_numbering : given_or as_bool true (codes "line_numbering") d ≡ Some snippet.line_numbering
+  pub fold : given_or as_bool true (codes "fold") d ≡ Some snippet.fold
   pub marked : SaysAt (ListSays Says) markers d snippet.markers.items
 
 -- an annotation: its kind, its span, its label, and whether it colours the source
 pub record IsAnnotationOf (d : Data) (annotation : Annotation) : Type 0 where
+  pub only : HasShape shape.Annotation d
   pub kind : text_at (codes "kind") d ≡ Some (mark_name annotation.kind)
   pub start : number_at (codes "start") d ≡ Some annotation.span.start
   pub end : number_at (codes "end") d ≡ Some annotation.span.end
-  pub label : text_at (codes "label") d ≡ option_map cow_str_bytes annotation.label
-  pub highlight_source : annotation.highlight_source ≡ unwrap_or (flag_at (codes "highlight_source") d) false
+  pub label : optional_at as_str (codes "label") d ≡ Some (option_map cow_str_bytes annotation.label)
+  pub highlight_source : given_or as_bool false (codes "highlight_source") d ≡ Some annotation.highlight_source
 
 -- a patch: its span, and the text that it puts there
 pub record IsPatchOf (d : Data) (patch : Patch) : Type 0 where
+  pub only : HasShape shape.Patch d
   pub start : number_at (codes "start") d ≡ Some patch.span.start
   pub end : number_at (codes "end") d ≡ Some patch.span.end
   pub text : text_at (codes "text") d ≡ Some (cow_str_bytes patch.replacement)
 
 -- an origin: its path, and its line and column where they are given
 pub record IsOriginOf (d : Data) (origin : Origin) : Type 0 where
+  pub only : HasShape shape.Origin d
   pub path : text_at (codes "path") d ≡ Some (cow_str_bytes origin.path)
-  pub line : origin.line ≡ number_at (codes "line") d
-  pub column : origin.char_column ≡ number_at (codes "column") d
+  pub line : optional_at as_whole (codes "line") d ≡ Some origin.line
+  pub column : optional_at as_whole (codes "column") d ≡ Some origin.char_column
 
--- an element: the field's name tells which
+-- a padding: an object without fields
+abbrev pub IsPaddingOf : Data → Padding → Type 0
+IsPaddingOf d padding = HasShape shape.Padding d
+
+-- an element: an object with one field, whose name tells which
 abbrev pub IsElementOf : Data → Element → Type 0
-IsElementOf d (element.Message message) = SaysAt IsMessageOf (codes "message") d message
+IsElementOf d (element.Message message) = OnlySays IsMessageOf (codes "message") d message
 IsElementOf d (element.Cause snippet) =
-    SaysAt (IsSnippetOf IsAnnotationOf (codes "annotations")) (codes "cause") d snippet
+    OnlySays (IsSnippetOf IsAnnotationOf shape.Cause (codes "annotations")) (codes "cause") d snippet
 IsElementOf d (element.Suggestion snippet) =
-    SaysAt (IsSnippetOf IsPatchOf (codes "patches")) (codes "suggestion") d snippet
-IsElementOf d (element.Origin origin) = SaysAt IsOriginOf (codes "origin") d origin
-IsElementOf d (element.Padding padding) = is_some (get (codes "padding") d) ≡ true
+    OnlySays (IsSnippetOf IsPatchOf shape.Suggestion (codes "patches")) (codes "suggestion") d snippet
+IsElementOf d (element.Origin origin) = OnlySays IsOriginOf (codes "origin") d origin
+IsElementOf d (element.Padding padding) = OnlySays IsPaddingOf (codes "padding") d padding
 
 -- the kind of a group's level: that of its title, or where it has none of its own level
 abbrev pub IsKindOf : Data → Option Title → LevelInner → Type 0
-IsKindOf d None kind = SaysAt (λ e k. text_at (codes "kind") e ≡ Some (kind_name k)) (codes "level") d kind
+IsKindOf d None kind = (level : Level) × SaysAt IsLevelOf (codes "level") d level × (kind ≡ level.kind)
 IsKindOf d (Some title) kind = kind ≡ title.level.kind
 
 -- a group: its title, its level, and its elements
 pub record IsGroupOf (d : Data) (group : Group) : Type 0 where
+  pub only : HasShape shape.Group d
   pub title : SaysAt (OrNull IsTitleOf) (codes "title") d group.title
   pub level : IsKindOf d group.title group.level
   pub elements : SaysAt (ListSays IsElementOf) (codes "elements") d group.elements.items

@@ -11,7 +11,9 @@ use Rattle.snippet_style.specs.Style.{joined_effects, no_effects, plain_style}
 use Rattle.snippet_style.specs.Stylesheet.{plain_sheet, default_sheet}
 use Rattle.serde_json.specs.Data.{Data}
 use Rattle.serde_json.specs.Find.{as_str, get}
-use Rattle.json_node.specs.Field.{SaysAt, MaySayAt, ListSays, as_whole, number_at}
+use Rattle.json_node.specs.Field.{MaySayAt, ListSays, OnlySays, as_whole}
+use Rattle.replay_read.specs.Shape.{HasShape}
+use Rattle.replay_read.specs.declared.shape.Shape.TheVariants as shape
 use Rattle.replay_read.specs.declared.effect.EffectName.{EffectName}
 use Rattle.replay_read.specs.declared.effect.EffectName.TheVariants as effect
 
@@ -38,11 +40,11 @@ color_name BrightWhite = codes "BrightWhite"
 abbrev pub AreBytes : Data → List ℕ → Type 0
 AreBytes d bytes = ListSays (λ e byte. as_whole e ≡ Some byte) d bytes
 
--- a colour: by its name, by its index, or by its red, green and blue
+-- a colour: by its name, or an object with one field, its index, or its red, green and blue
 abbrev pub IsColorOf : Data → Color → Type 0
 IsColorOf d (Ansi color) = as_str d ≡ Some (color_name color)
-IsColorOf d (Ansi256 index) = number_at (codes "ansi256") d ≡ Some index
-IsColorOf d (Rgb red green blue) = SaysAt AreBytes (codes "rgb") d (red ∷ green ∷ blue ∷ [])
+IsColorOf d (Ansi256 index) = OnlySays (λ e byte. as_whole e ≡ Some byte) (codes "ansi256") d index
+IsColorOf d (Rgb red green blue) = OnlySays AreBytes (codes "rgb") d (red ∷ green ∷ blue ∷ [])
 
 -- the name of an effect, and the effect alone
 abbrev pub effect_name : EffectName → List ℕ
@@ -77,6 +79,7 @@ MayBeEffects (Some d) effects = AreEffectsOf d effects
 
 -- a style: its colours and its effects, each of which may be missing
 pub record IsStyleOf (d : Data) (style : Style) : Type 0 where
+  pub only : HasShape shape.Style d
   pub fg : MaySayAt IsColorOf (codes "fg") d style.fg
   pub bg : MaySayAt IsColorOf (codes "bg") d style.bg
   pub effects : MayBeEffects (get (codes "effects") d) style.effects
@@ -88,6 +91,7 @@ MayBeStyle (Some d) style = IsStyleOf d style
 
 -- a sheet that is written out
 pub record IsOwnSheetOf (d : Data) (sheet : Stylesheet) : Type 0 where
+  pub only : HasShape shape.Sheet d
   pub error : MayBeStyle (get (codes "error") d) sheet.error
   pub warning : MayBeStyle (get (codes "warning") d) sheet.warning
   pub info : MayBeStyle (get (codes "info") d) sheet.info

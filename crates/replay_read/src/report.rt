@@ -1,16 +1,16 @@
 //! How groups are read: which fields there are, which of them may be missing, and what they then are.
 
-ghost use Rattle.std.specs.Prelude.{◌≡◌, Some, true, IfOk, IfSome, codes, option_and_then, option_map, unwrap_or};
+ghost use Rattle.std.specs.Prelude.{◌≡◌, Some, true, IfOk, IfSome, codes, option_and_then, option_map};
 ghost use Rattle.std.specs.Cow.{cow_str_bytes};
 ghost use Rattle.snippet_model.specs.Fits.{GroupFits, IdFits, TitleFits, LevelFits, MessageFits, ElementFits, AnnotationFits, PatchFits, SnippetFits, TextFits};
-ghost use Rattle.serde_json.specs.Find.{as_str, get};
+ghost use Rattle.serde_json.specs.Find.{as_bool, as_str, get};
 ghost use Rattle.serde_json.specs.View.{view};
-ghost use Rattle.json_node.specs.Field.{OrNull, SaysAt, flag_at, lent_text, number_at};
+ghost use Rattle.json_node.specs.Field.{OrNull, SaysAt, as_whole, given_or, lent_text};
 ghost use Rattle.replay_read.specs.Report.{IsAnnotationOf, IsElementOf, IsGroupOf, IsLevelOf, IsMessageOf, IsNameOf, IsOriginOf, IsPatchOf, IsSnippetOf, IsTitleOf};
 ghost use Rattle.replay_read.specs.Kinds.{NameFits, kind_name, mark_name};
 
 use crate::list::{Read, list_at};
-use crate::shape::{FormatValue, Shape};
+use crate::shape::{FormatValue, Shape, has_shape};
 use json_node::expectation::Expectation;
 use json_node::fault::Fault;
 use json_node::node::Node;
@@ -29,7 +29,7 @@ impl<'v> Read<'v> for Group<'v> {
     ghost fits = { GroupFits };
 
     fn read(node: &Node<'v, '_>) -> Result<Self, Fault> {
-        node.has_only(Shape::Group.names())?;
+        has_shape(node, Shape::Group)?;
         let title = title_or_null(&node.needed("title", FormatValue::ObjectOrNull)?)?;
         let elements = list_at(node, "elements")?;
         let level = match &title {
@@ -60,7 +60,7 @@ fn title_of<'v>(node: &Node<'v, '_>) -> Result<Title<'v>, Fault>
     ensures value { IfOk result (IsTitleOf (view node.now.value.now)) }
     ensures fits { IfOk result TitleFits }
 {
-    node.has_only(Shape::Title.names())?;
+    has_shape(node, Shape::Title)?;
     let text = node.text("text")?;
     let primary = node.flag("primary")?;
     let id = node.optional_text("id")?;
@@ -104,7 +104,7 @@ fn level_of<'v>(node: &Node<'v, '_>) -> Result<Level<'v>, Fault>
     ensures value { IfOk result (IsLevelOf (view node.now.value.now)) }
     ensures fits { IfOk result LevelFits }
 {
-    node.has_only(Shape::Level.names())?;
+    has_shape(node, Shape::Level)?;
     let kind = kind_of(&node.needed("kind", FormatValue::LevelKind)?)?;
     let name = name_in(node)?;
     Ok(Level { name, kind })
@@ -163,35 +163,33 @@ impl<'v> Read<'v> for Element<'v> {
     ghost fits = { ElementFits };
 
     fn read(node: &Node<'v, '_>) -> Result<Self, Fault> {
-        node.has_only(Shape::Element.names())?;
-        if node.has_one_field() {
-            element_of(node)
-        } else {
-            Err(node.unexpected(FormatValue::Element))
+        has_shape(node, Shape::Element)?;
+        if let Some(message) = node.only_field("message") {
+            return Ok(Element::Message(message_of(&message)?));
         }
+        if let Some(cause) = node.only_field("cause") {
+            return Ok(Element::Cause(snippet_of(&cause, Shape::Cause, "annotations")?));
+        }
+        if let Some(suggestion) = node.only_field("suggestion") {
+            return Ok(Element::Suggestion(snippet_of(&suggestion, Shape::Suggestion, "patches")?));
+        }
+        bare_element(node)
     }
 }
 
-/// The element that the field of an object makes.
-fn element_of<'v>(node: &Node<'v, '_>) -> Result<Element<'v>, Fault>
+/// The element that is neither a message nor a snippet.
+fn bare_element<'v>(node: &Node<'v, '_>) -> Result<Element<'v>, Fault>
     ensures value { IfOk result (IsElementOf (view node.now.value.now)) }
     ensures fits { IfOk result ElementFits }
 {
-    if let Some(message) = node.optional("message") {
-        return Ok(Element::Message(message_of(&message)?));
-    }
-    if let Some(cause) = node.optional("cause") {
-        return Ok(Element::Cause(snippet_of(&cause, Shape::Cause, "annotations")?));
-    }
-    if let Some(suggestion) = node.optional("suggestion") {
-        return Ok(Element::Suggestion(snippet_of(&suggestion, Shape::Suggestion, "patches")?));
-    }
-    if let Some(origin) = node.optional("origin") {
+    if let Some(origin) = node.only_field("origin") {
         return Ok(Element::Origin(origin_of(&origin)?));
     }
-    let padding = node.needed("padding", Expectation::Object)?;
-    padding.has_only(Shape::Padding.names())?;
-    Ok(Element::Padding(Padding))
+    if let Some(padding) = node.only_field("padding") {
+        has_shape(&padding, Shape::Padding)?;
+        return Ok(Element::Padding(Padding));
+    }
+    Err(node.unexpected(FormatValue::Element))
 }
 
 /// The message that is described.
@@ -199,7 +197,7 @@ fn message_of<'v>(node: &Node<'v, '_>) -> Result<Message<'v>, Fault>
     ensures value { IfOk result (IsMessageOf (view node.now.value.now)) }
     ensures fits { IfOk result MessageFits }
 {
-    node.has_only(Shape::Message.names())?;
+    has_shape(node, Shape::Message)?;
     let text = node.text("text")?;
     let level = level_in(node)?;
     Ok(Message {
@@ -214,10 +212,10 @@ fn snippet_of<'v, T: Read<'v> + Drop>(
     shape: Shape,
     markers: &str,
 ) -> Result<Snippet<'v, T>, Fault>
-    ensures value { IfOk result (IsSnippetOf T.says markers.now (view node.now.value.now)) }
+    ensures value { IfOk result (IsSnippetOf T.says shape markers.now (view node.now.value.now)) }
     ensures fits { IfOk result (SnippetFits T.fits) }
 {
-    node.has_only(shape.names())?;
+    has_shape(node, shape)?;
     let source = node.text("source")?;
     let path = node.optional_text("path")?;
     let (line_start, line_numbering, fold) = lines_of(node)?;
@@ -235,10 +233,10 @@ fn snippet_of<'v, T: Read<'v> + Drop>(
 /// How the lines of a snippet are shown: the number of the first, whether they have numbers, and whether some are left out.
 fn lines_of(snippet: &Node<'_, '_>) -> Result<(usize, bool, bool), Fault>
     ensures line_start { IfOk result (λ lines.
-        lines.0 ≡ unwrap_or (number_at (codes "line_start") (view snippet.now.value.now)) 1) }
+        given_or as_whole 1 (codes "line_start") (view snippet.now.value.now) ≡ Some lines.0) }
     ensures line_numbering { IfOk result (λ lines.
-        lines.1 ≡ unwrap_or (flag_at (codes "line_numbering") (view snippet.now.value.now)) true) }
-    ensures fold { IfOk result (λ lines. lines.2 ≡ unwrap_or (flag_at (codes "fold") (view snippet.now.value.now)) true) }
+        given_or as_bool true (codes "line_numbering") (view snippet.now.value.now) ≡ Some lines.1) }
+    ensures fold { IfOk result (λ lines. given_or as_bool true (codes "fold") (view snippet.now.value.now) ≡ Some lines.2) }
 {
     let line_start = snippet.number_or("line_start", 1)?;
     let line_numbering = snippet.flag_or("line_numbering", true)?;
@@ -252,7 +250,7 @@ impl<'v> Read<'v> for Annotation<'v> {
     ghost fits = { AnnotationFits };
 
     fn read(node: &Node<'v, '_>) -> Result<Self, Fault> {
-        node.has_only(Shape::Annotation.names())?;
+        has_shape(node, Shape::Annotation)?;
         let kind = mark_of(&node.needed("kind", FormatValue::AnnotationKind)?)?;
         let start = node.number("start")?;
         let end = node.number("end")?;
@@ -285,7 +283,7 @@ impl<'v> Read<'v> for Patch<'v> {
     ghost fits = { PatchFits };
 
     fn read(node: &Node<'v, '_>) -> Result<Self, Fault> {
-        node.has_only(Shape::Patch.names())?;
+        has_shape(node, Shape::Patch)?;
         let start = node.number("start")?;
         let end = node.number("end")?;
         let text = node.text("text")?;
@@ -301,7 +299,7 @@ fn origin_of<'v>(node: &Node<'v, '_>) -> Result<Origin<'v>, Fault>
     ensures value { IfOk result (IsOriginOf (view node.now.value.now)) }
     ensures fits { IfOk result (λ origin. TextFits (cow_str_bytes origin.path)) }
 {
-    node.has_only(Shape::Origin.names())?;
+    has_shape(node, Shape::Origin)?;
     let path = node.text("path")?;
     let line = node.optional_number("line")?;
     let char_column = node.optional_number("column")?;

@@ -1,5 +1,12 @@
 //! The objects of the format, and what may stand where.
 
+ghost use Rattle.std.specs.Prelude.{◌≡◌, OnOk};
+ghost use Rattle.serde_json.specs.View.{view};
+ghost use Rattle.json_node.specs.Field.{lent_texts};
+ghost use Rattle.replay_read.specs.Shape.{HasShape, names_of};
+
+use json_node::fault::Fault;
+use json_node::node::Node;
 use std::fmt;
 
 /// The fields of the settings.
@@ -64,7 +71,9 @@ pub enum Shape {
 
 impl Shape {
     /// The names of its fields.
-    pub fn names(self) -> &'static [&'static str] {
+    pub fn names(self) -> &'static [&'static str]
+        ensures value { lent_texts result.now ≡ names_of self }
+    {
         match self {
             Shape::Case => &["id", "settings", "sheets", "groups"],
             Shape::Settings => SETTINGS,
@@ -86,6 +95,13 @@ impl Shape {
             Shape::Refusal => &["id", "refused", "text"],
         }
     }
+}
+
+/// Nothing, if the value is an object and has only fields of this shape.
+pub fn has_shape(node: &Node<'_, '_>, shape: Shape) -> Result<(), Fault>
+    ensures only { OnOk result (HasShape shape (view node.now.value.now)) }
+{
+    node.has_only(shape.names())
 }
 
 /// A value of the format that has to stand at a place.

@@ -9,7 +9,7 @@ ghost use Rattle.replay_read.specs.Sheet as spec;
 
 use crate::effect::{EFFECTS, EffectName};
 use crate::list::{Read, items_of};
-use crate::shape::{FormatValue, Shape};
+use crate::shape::{FormatValue, Shape, has_shape};
 use json_node::expectation::Expectation;
 use json_node::fault::Fault;
 use json_node::node::Node;
@@ -47,7 +47,7 @@ fn own_sheet(node: &Node<'_, '_>) -> Result<Stylesheet, Fault>
     if !node.value.is_object() {
         return Err(node.unexpected(FormatValue::Sheet));
     }
-    node.has_only(Shape::Sheet.names())?;
+    has_shape(node, Shape::Sheet)?;
     let levels = level_styles(node)?;
     let parts = part_styles(node)?;
     Ok(Stylesheet {
@@ -113,7 +113,7 @@ fn style_at(sheet: &Node<'_, '_>, name: &str) -> Result<Style, Fault>
 fn style_of(node: &Node<'_, '_>) -> Result<Style, Fault>
     ensures value { IfOk result (IsStyleOf (view node.now.value.now)) }
 {
-    node.has_only(Shape::Style.names())?;
+    has_shape(node, Shape::Style)?;
     Ok(Style {
         fg: color_at(node, "fg")?,
         bg: color_at(node, "bg")?,
@@ -179,12 +179,17 @@ fn color_of(node: &Node<'_, '_>) -> Result<Color, Fault>
     if !node.has_one_field() {
         return Err(node.unexpected(FormatValue::Color));
     }
-    node.has_only(Shape::Color.names())?;
-    if let Some(index) = node.optional("ansi256") {
+    has_shape(node, Shape::Color)?;
+    if let Some(index) = node.only_field("ansi256") {
         return Ok(Color::Ansi256(index.as_byte()?));
     }
-    let (red, green, blue) = rgb_of(&node.needed("rgb", FormatValue::Rgb)?)?;
-    Ok(Color::Rgb(red, green, blue))
+    match node.only_field("rgb") {
+        Some(rgb) => {
+            let (red, green, blue) = rgb_of(&rgb)?;
+            Ok(Color::Rgb(red, green, blue))
+        }
+        None => Err(node.unexpected(FormatValue::Color)),
+    }
 }
 
 /// The colours that a terminal's theme has.

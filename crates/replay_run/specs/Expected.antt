@@ -4,6 +4,8 @@ use Rattle.std.specs.Borrow.{Bor}
 use Rattle.serde_json.specs.Data.{Data}
 use Rattle.serde_json.specs.Find.{as_str}
 use Rattle.json_node.specs.Field.{ListSays, SaysAt, text_at}
+use Rattle.replay_read.specs.Shape.{HasShape}
+use Rattle.replay_read.specs.declared.shape.Shape.TheVariants as shape
 use Rattle.replay_run.specs.declared.expected.Expected.{Expected}
 use Rattle.replay_run.specs.declared.expected.Wanted.{Wanted}
 use Rattle.replay_run.specs.declared.expected.Wanted.TheVariants as wanted
@@ -27,12 +29,12 @@ IsWanted (wanted.Refused name words) (outcome.Refused drawn_name drawn_words spa
 abbrev pub IsMet : Expected → List ℕ → Outcome → Type 0
 IsMet expected id became = (expected.id.now ≡ id) × IsWanted expected.wanted became
 
--- what a line of JSON expects: texts, or a refusal by its name and words
+-- what a line of JSON expects: texts, or a refusal by its name and words, and nothing else beside its case's name
 abbrev pub IsWantedOf : Data → Wanted → Type 0
 IsWantedOf d (wanted.Texts texts) =
-    SaysAt (ListSays (λ e (text : Bor (List ℕ)). as_str e ≡ Some text.now)) (codes "ok") d texts.items
+    HasShape shape.Texts d × SaysAt (ListSays (λ e (text : Bor (List ℕ)). as_str e ≡ Some text.now)) (codes "ok") d texts.items
 IsWantedOf d (wanted.Refused name words) =
-    (text_at (codes "refused") d ≡ Some name.now) × (text_at (codes "text") d ≡ Some words.now)
+    HasShape shape.Refusal d × (text_at (codes "refused") d ≡ Some name.now) × (text_at (codes "text") d ≡ Some words.now)
 
 -- what a line of JSON expects, and of which case
 pub record IsExpectedOf (d : Data) (expected : Expected) : Type 0 where

@@ -11,7 +11,7 @@ use json_node::fault::Fault;
 use json_node::node::Node;
 use json_node::place::Place;
 use replay_read::list::list_at;
-use replay_read::shape::Shape;
+use replay_read::shape::{Shape, has_shape};
 use serde_json::Value;
 use std::alloc::Global;
 use std::io;
@@ -53,11 +53,12 @@ pub fn expected_of<'v>(alloc: Global, line: &'v Value) -> Result<Expected<'v>, F
 fn wanted_of<'v>(answer: &Node<'v, '_>) -> Result<Wanted<'v>, Fault>
     ensures value { IfOk result (IsWantedOf (view answer.now.value.now)) }
 {
-    if let Some(name) = answer.optional_text("refused")? {
-        answer.has_only(Shape::Refusal.names())?;
+    if let Some(refused) = answer.optional("refused") {
+        let name = refused.as_text()?;
+        has_shape(answer, Shape::Refusal)?;
         return Ok(Wanted::Refused(name, answer.text("text")?));
     }
-    answer.has_only(Shape::Texts.names())?;
+    has_shape(answer, Shape::Texts)?;
     Ok(Wanted::Texts(list_at(answer, "ok")?))
 }
 

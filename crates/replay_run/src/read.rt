@@ -1,11 +1,11 @@
 //! How a case is read from the JSON of its line, and how its settings are: those of the plain renderer where they are missing.
 
-ghost use Rattle.std.specs.Prelude.{◌≡◌, false, IfOk, codes, unwrap_or};
+ghost use Rattle.std.specs.Prelude.{◌≡◌, Some, false, IfOk, codes};
 ghost use Rattle.annotate_snippets.specs.Fits.{ReportFits};
-ghost use Rattle.serde_json.specs.Find.{get};
+ghost use Rattle.serde_json.specs.Find.{as_bool, get};
 ghost use Rattle.serde_json.specs.View.{view};
-ghost use Rattle.json_node.specs.Field.{flag_at};
-ghost use Rattle.replay_run.specs.Case.{IsCaseOf};
+ghost use Rattle.json_node.specs.Field.{given_or};
+ghost use Rattle.replay_run.specs.Case.{HasSettingsOf, IsCaseOf, MayHaveSettings};
 ghost use Rattle.replay_run.specs.Case as spec;
 
 use crate::case::Case;
@@ -15,7 +15,7 @@ use json_node::fault::Fault;
 use json_node::node::Node;
 use json_node::place::Place;
 use replay_read::list::list_at;
-use replay_read::shape::Shape;
+use replay_read::shape::{Shape, has_shape};
 use replay_read::sheet::sheets_of;
 use serde_json::Value;
 use std::alloc::Global;
@@ -30,7 +30,7 @@ pub fn case_of<'v>(alloc: Global, line: &'v Value) -> Result<Case<'v>, Fault>
         value: line,
         place: Place::Line,
     };
-    case.has_only(Shape::Case.names())?;
+    has_shape(&case, Shape::Case)?;
     Ok(Case {
         id: case.text("id")?,
         renderer: renderer_of(&case)?,
@@ -41,7 +41,7 @@ pub fn case_of<'v>(alloc: Global, line: &'v Value) -> Result<Case<'v>, Fault>
 
 /// The settings of a case, which are those of the plain renderer where the field is missing.
 fn renderer_of(case: &Node<'_, '_>) -> Result<Renderer, Fault>
-    ensures value { IfOk result (λ renderer. renderer ≡ spec.renderer_of (get (codes "settings") (view case.now.value.now))) }
+    ensures value { IfOk result (MayHaveSettings (get (codes "settings") (view case.now.value.now))) }
 {
     match case.optional("settings") {
         Some(settings) => settings_of(&settings),
@@ -51,9 +51,9 @@ fn renderer_of(case: &Node<'_, '_>) -> Result<Renderer, Fault>
 
 /// The renderer of these settings, which are those of the plain one where fields are missing.
 fn settings_of(node: &Node<'_, '_>) -> Result<Renderer, Fault>
-    ensures value { IfOk result (λ renderer. renderer ≡ spec.settings_of (view node.now.value.now)) }
+    ensures value { IfOk result (HasSettingsOf (view node.now.value.now)) }
 {
-    node.has_only(Shape::Settings.names())?;
+    has_shape(node, Shape::Settings)?;
     let (no_graphics, short_message, hyperlink) = switches_of(node)?;
     let (anonymized_snippet, anonymized_origin) = anonymized_by(node)?;
     let term_width = node.number_or("term_width", DEFAULT_TERM_WIDTH)?;
@@ -73,11 +73,11 @@ fn settings_of(node: &Node<'_, '_>) -> Result<Renderer, Fault>
 /// Whether there are graphics, whether there is one line alone, and whether there are links.
 fn switches_of(settings: &Node<'_, '_>) -> Result<(bool, bool, bool), Fault>
     ensures no_graphics { IfOk result (λ switches.
-        switches.0 ≡ unwrap_or (flag_at (codes "no_graphics") (view settings.now.value.now)) false) }
+        given_or as_bool false (codes "no_graphics") (view settings.now.value.now) ≡ Some switches.0) }
     ensures short_message { IfOk result (λ switches.
-        switches.1 ≡ unwrap_or (flag_at (codes "short_message") (view settings.now.value.now)) false) }
+        given_or as_bool false (codes "short_message") (view settings.now.value.now) ≡ Some switches.1) }
     ensures hyperlink { IfOk result (λ switches.
-        switches.2 ≡ unwrap_or (flag_at (codes "hyperlink") (view settings.now.value.now)) false) }
+        given_or as_bool false (codes "hyperlink") (view settings.now.value.now) ≡ Some switches.2) }
 {
     let no_graphics = settings.flag_or("no_graphics", false)?;
     let short_message = settings.flag_or("short_message", false)?;
@@ -88,9 +88,9 @@ fn switches_of(settings: &Node<'_, '_>) -> Result<(bool, bool, bool), Fault>
 /// Whether line numbers are hidden, those of snippets and those after paths.
 fn anonymized_by(settings: &Node<'_, '_>) -> Result<(bool, bool), Fault>
     ensures snippet { IfOk result (λ anonymized.
-        anonymized.0 ≡ unwrap_or (flag_at (codes "anonymized_snippet") (view settings.now.value.now)) false) }
+        given_or as_bool false (codes "anonymized_snippet") (view settings.now.value.now) ≡ Some anonymized.0) }
     ensures origin { IfOk result (λ anonymized.
-        anonymized.1 ≡ unwrap_or (flag_at (codes "anonymized_origin") (view settings.now.value.now)) false) }
+        given_or as_bool false (codes "anonymized_origin") (view settings.now.value.now) ≡ Some anonymized.1) }
 {
     let snippet = settings.flag_or("anonymized_snippet", false)?;
     let origin = settings.flag_or("anonymized_origin", false)?;

@@ -71,6 +71,7 @@ pub fn run<R: Files + Input + Clock + AllocGlobal, W: Write, V: Write>(
     err: &mut V,
 ) -> u8
     ensures status { result ≤ 2 }
+    ensures silent { result ≤ 1 → err.new ≡ err.old }
     ensures usage { (IsCommandLine (words_at words.now) → ⊥) → result ≡ 2 }
     ensures no_answer { (IsCommandLine (words_at words.now) → ⊥) → out.new ≡ out.old }
     ensures differs { result ≡ 1 → Compares (words_at words.now) }

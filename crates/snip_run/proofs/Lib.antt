@@ -1,3 +1,5 @@
 pub mod Fitting
 pub mod Reading
 pub mod Reporting
+pub mod Ending
+mod NotEnded

@@ -4,7 +4,7 @@ use Rattle.std.specs.Prelude.{codes, bytes_eq}
 use Rattle.std.specs.List.{flat_map}
 use Rattle.std.specs.Option.{option_to_list}
 use Rattle.std.proofs.lemmas.List.Elements.{All-head, All-tail, All-cons}
-use Rattle.snip_run.specs.declared.words.Options.{Options}
+use Rattle.report_options.specs.declared.options.Options.{Options}
 use Rattle.snip_run.specs.declared.words.Command.{Command}
 use Rattle.snip_run.specs.Words.{Word, Setting, Unicode, Text, Short, Styled, Width, words_of, option_names, IsSound, no_options, options_with, Line, operands_of, HasOperands, AreLine, Says}
 

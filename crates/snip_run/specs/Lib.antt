@@ -1,3 +1,4 @@
 pub mod Report
+pub mod Run
 pub mod Text
 pub mod Words

@@ -1,10 +1,9 @@
 -- The report that a command asks for.
-use Rattle.std.specs.Prelude.{◌≡◌, ℕ, true, false, List, [], ◌∷◌, Some, None, unwrap_or, if◌then◌else◌}
+use Rattle.std.specs.Prelude.{◌≡◌, ℕ, true, false, List, [], ◌∷◌, Some, None}
 use Rattle.std.specs.Borrow.{Bor}
 use Rattle.std.specs.Cow.{cow_str_bytes}
 use Rattle.std.specs.Option.{option_map}
-use Rattle.annotate_snippets.specs.declared.renderer.DecorStyle.TheVariants.{Ascii, Unicode}
-use Rattle.annotate_snippets.specs.declared.renderer.Renderer.{Renderer}
+use Rattle.annotate_snippets.specs.declared.renderer.RenderError.{RenderError}
 use Rattle.annotate_snippets.specs.declared.snippet.Annotation.{Annotation}
 use Rattle.annotate_snippets.specs.declared.snippet.AnnotationKind.TheVariants.{Primary}
 use Rattle.annotate_snippets.specs.declared.snippet.Element.TheVariants.{Cause}
@@ -12,21 +11,10 @@ use Rattle.annotate_snippets.specs.declared.snippet.Group.{Group}
 use Rattle.annotate_snippets.specs.declared.snippet.Snippet.{Snippet}
 use Rattle.annotate_snippets.specs.declared.snippet.Title.{Title}
 use Rattle.annotate_snippets.specs.Levels.{error_level}
-use Rattle.annotate_snippets.specs.Settings.{plain_settings, styled_settings}
+use Rattle.annotate_snippets.specs.Fault.{first_refusal}
 use Rattle.annotate_snippets.specs.Forms.{ShowsReport}
-use Rattle.snip_run.specs.Words.{Word, IsCommandOf}
+use Rattle.report_options.specs.Settings.{settings_of}
 use Rattle.snip_run.specs.declared.words.Command.{Command}
-use Rattle.snip_run.specs.declared.words.Options.{Options}
-
--- the settings that options ask for: those of `styled` or of `plain`, but for the form, the strokes and the width
-abbrev pub settings_of : Options → Renderer
-settings_of options =
-    record (if options.styled then styled_settings else plain_settings) {
-      no_graphics = options.text;
-      short_message = options.short;
-      decor_style = if options.unicode then Unicode else Ascii;
-      term_width = unwrap_or options.width 140;
-    }
 
 -- the title of a command's report: an error with the text that the command gives
 pub record IsTitleFor (command : Command) (title : Title) : Type 0 where
@@ -65,14 +53,15 @@ pub record IsReportFor (command : Command) (source : List ℕ) (groups : List Gr
   pub elements : group.elements.items ≡ Cause snippet ∷ []
   pub kind : group.level ≡ error_level.kind
 
--- the text shows the command's report over the source, in the settings that its options ask for
+-- the text shows the command's report over the source, in the settings that its options ask for; it isn't refused in these
 pub record ShowsCommand (command : Command) (source text : List ℕ) : Type 0 where
   pub groups : List Group
   pub report : IsReportFor command source groups
+  pub allowed : first_refusal (settings_of command.options) groups ≡ None
   pub shows : ShowsReport (settings_of command.options) groups (settings_of command.options).stylesheet text
 
--- the text shows, over the source, the report of the command that the words are
-pub record ShowsWords (words : List Word) (source text : List ℕ) : Type 0 where
-  pub command : Command
-  pub command_is : IsCommandOf words command
-  pub shows : ShowsCommand command source text
+-- the command's report over the source is refused, in these settings, and this is the first reason
+pub record RefusesCommand (command : Command) (source : List ℕ) (refusal : RenderError) : Type 0 where
+  pub groups : List Group
+  pub report : IsReportFor command source groups
+  pub refused : first_refusal (settings_of command.options) groups ≡ Some refusal

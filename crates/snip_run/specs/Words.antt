@@ -4,7 +4,7 @@ use Rattle.std.specs.Borrow.{Bor}
 use Rattle.std.specs.List.{flat_map}
 use Rattle.std.specs.Option.{option_map, option_to_list}
 use Rattle.std.specs.Str.Parse.{IsNumeral, digits_value}
-use Rattle.snip_run.specs.declared.words.Options.{Options}
+use Rattle.report_options.specs.declared.options.Options.{Options}
 use Rattle.snip_run.specs.declared.words.Command.{Command}
 use Rattle.snip_run.specs.declared.words.Operands.{Operands}
 

@@ -1,27 +1,30 @@
 //! A run of the program, over the bytes of a file and two writers.
-ghost use Rattle.std.specs.Prelude.{◌≡◌, ℕ, ◌≤◌, ◌↔◌, ◌⊎◌, List, [], ◌∷◌, ◌++◌, IsTrue, IsOk, IsNone, IfOk, IfSome, IsSomeAnd, MatchOption, SomeIff, All, string_bytes};
-ghost use Rattle.std.specs.Bool.{OnTrue};
-ghost use Rattle.std.specs.Io.KnownBytes.{Appends};
+ghost use Rattle.std.specs.Prelude.{◌≡◌, ◌≤◌, ◌↔◌, ◌⊎◌, [], ◌∷◌, IsTrue, IsNone, IfErr, IfOk, IfSome, MatchOption, SomeIff, All, alloc_error, codes, string_bytes};
 ghost use Rattle.std.specs.Option.{option_copied};
-ghost use Rattle.snip_run.specs.Report.{settings_of, ShowsCommand, ShowsWords};
+ghost use Rattle.annotate_snippets.specs.Fits.{ReportFits};
+ghost use Rattle.program.specs.Stream.{Receives, Told};
+ghost use Rattle.snip_run.specs.Report.{IsReportFor, RefusesCommand, ShowsCommand};
+ghost use Rattle.snip_run.specs.Run.{Ends, Fails, ShowsFile, message};
 ghost use Rattle.snip_run.specs.Words.{words_at, IsCommandLine, IsCommandOf};
 ghost use Rattle.snip_run.specs.Text.{TextFits, IsShownText};
 
-use crate::words::{Command, Options, command_of};
+use crate::words::{Command, command_of};
 use annotate_snippets::level::ERROR;
-use annotate_snippets::renderer::{DEFAULT_TERM_WIDTH, DecorStyle, RenderError};
+use annotate_snippets::renderer::RenderError;
 use annotate_snippets::text::{normalize_untrusted_str, text_fits};
-use annotate_snippets::{AnnotationKind, Element, Group, OptionCow, Renderer, Snippet};
+use annotate_snippets::{AnnotationKind, Element, Group, OptionCow, Snippet};
+use program::line::write_line;
+use report_options::options::renderer_of;
 use std::alloc::{AllocError, Global};
 use std::io::Write;
-use std::{fmt, str};
+use std::str;
 
 /// How the words are to be written.
 const USAGE: &str =
     "usage: snip [--unicode] [--text] [--short] [--styled] [--width N] FILE START END TITLE [LABEL]";
 
-/// The byte that ends a line.
-const LINE_FEED: u8 = b'\n';
+/// What is told where there is no memory to tell more.
+const OUT_OF_MEMORY: &str = "snip: out of memory";
 
 /// The status of a run that printed a report.
 const PRINTED: u8 = 0;
@@ -33,22 +36,10 @@ const MISUSED: u8 = 2;
 /// Why a command gives no report.
 #[derive(Debug, Drop)]
 enum Failure {
-    /// The file, by its name as it may be shown, holds no text that can be drawn, or the words are too long.
-    Unreadable(String),
-    /// The report is refused.
+    /// The file holds no text that can be drawn, or a word is too long.
+    Unreadable,
+    /// The report is refused, or a growth of memory was.
     Refused(RenderError),
-    /// A growth of memory was refused.
-    Memory,
-}
-
-impl fmt::Display for Failure {
-    fn fmt<W: fmt::Write>(&self, f: &mut fmt::Formatter<W>) -> fmt::Result {
-        match self {
-            Failure::Unreadable(file) => write!(f, "cannot read {file}"),
-            Failure::Refused(error) => write!(f, "{error}"),
-            Failure::Memory => write!(f, "out of memory"),
-        }
-    }
 }
 
 /// The file's text; `None` where it can't be read, isn't UTF-8 or is too long.
@@ -67,33 +58,26 @@ fn words_fit(words: &[&str]) -> bool
     words.iter().all(|word| text_fits(word))
 }
 
-/// The failure to read the file of this name.
-fn unreadable(alloc: Global, file: &str) -> Failure {
-    match normalize_untrusted_str(alloc, file) {
-        Ok(shown) => Failure::Unreadable(shown),
-        Err(AllocError) => Failure::Memory,
-    }
-}
-
-/// The renderer that the options ask for.
-fn renderer_of(options: Options) -> Renderer
-    ensures settings { result ≡ settings_of options }
+/// The report that the command asks for over this source: its one group.
+fn report_of<'a>(
+    alloc: Global,
+    command: &Command<'a>,
+    source: &'a str,
+) -> Result<Group<'a>, AllocError>
+    requires title { TextFits command.now.title.now }
+    requires label { IfSome command.now.label (λ t. TextFits t.now) }
+    requires source { TextFits source.now }
+    ensures report { IfOk result (λ group. IsReportFor command.now source.now (group ∷ [])) }
+    ensures fits { IfOk result (λ group. ReportFits (group ∷ [])) }
 {
-    let renderer = if options.styled {
-        Renderer::styled()
-    } else {
-        Renderer::plain()
-    };
-    let strokes = if options.unicode {
-        DecorStyle::Unicode
-    } else {
-        DecorStyle::Ascii
-    };
-    renderer
-        .no_graphics(options.text)
-        .short_message(options.short)
-        .decor_style(strokes)
-        .term_width(options.width.unwrap_or(DEFAULT_TERM_WIDTH))
+    let mark = AnnotationKind::Primary
+        .span(command.start..command.end)
+        .label(OptionCow::from(command.label));
+    let snippet = Snippet::source(alloc, source).annotation(mark)?;
+    let group: Group<'a> = ERROR
+        .primary_title(command.title)
+        .element(alloc, Element::from(snippet))?;
+    Ok(group)
 }
 
 /// The text of the report that the command asks for, over this source.
@@ -106,19 +90,11 @@ fn rendered<'a>(
     requires label { IfSome command.now.label (λ t. TextFits t.now) }
     requires source { TextFits source.now }
     ensures shows { IfOk result (λ text. ShowsCommand command.now source.now (string_bytes text)) }
+    ensures refused { IfErr result (λ refusal. (refusal ≡ RenderError.Memory alloc_error)
+        ⊎ RefusesCommand command.now source.now refusal) }
 {
-    let renderer = renderer_of(command.options);
-    let mark = AnnotationKind::Primary
-        .span(command.start..command.end)
-        .label(OptionCow::from(command.label));
-    let snippet = Snippet::source(alloc, source)
-        .annotation(mark)
-        .map_err(RenderError::Memory)?;
-    let group: Group<'a> = ERROR
-        .primary_title(command.title)
-        .element(alloc, Element::from(snippet))
-        .map_err(RenderError::Memory)?;
-    renderer.render(alloc, &[group])
+    let group: Group<'a> = report_of(alloc, command, source).map_err(RenderError::Memory)?;
+    renderer_of(command.options).render(alloc, &[group])
 }
 
 /// The text of the report that the command asks for; it is the command of these words.
@@ -129,39 +105,60 @@ fn report_text<'a>(
     file: Option<&'a [u8]>,
 ) -> Result<String, Failure>
     requires command { IsCommandOf (words_at words.now) command.now }
-    ensures read { IsOk result → IsSomeAnd (option_copied file.entry) IsShownText }
-    ensures shows { IfOk result (λ text. IfSome (option_copied file.entry)
-        (λ source. ShowsCommand command.now source (string_bytes text))) }
+    ensures shows { IfOk result (λ text.
+        ShowsFile (words_at words.now) (option_copied file.entry) command.now (string_bytes text)) }
+    ensures fails { IfErr result (Fails (words_at words.now) (option_copied file.entry) command.now) }
 {
     let Some(source) = source_of(file) else {
-        return Err(unreadable(alloc, command.file));
+        return Err(Failure::Unreadable);
     };
     if !words_fit(words) {
-        return Err(unreadable(alloc, command.file));
+        return Err(Failure::Unreadable);
     }
-    rendered(alloc, command, source).map_err(Failure::Refused)
+    match rendered(alloc, command, source) {
+        Ok(text) => Ok(text),
+        Err(refusal) => Err(Failure::Refused(refusal)),
+    }
 }
 
-/// Prints a line, and says whether all of it was written.
-fn print_line<W: Write, D: fmt::Display + Drop>(out: &mut W, line: D) -> bool
-    ensures written { OnTrue result (IfSome (D.output line)
-        (λ text. Appends (W.contents out.old) (W.contents out.new) (text ++ LINE_FEED ∷ []))) }
+/// What is told of a failure, where FILE has this name.
+fn message_of(alloc: Global, failure: &Failure, name: &str) -> Result<String, AllocError>
+    ensures message { IfOk result (λ text. string_bytes text ≡ message name.now failure.now) }
 {
-    out.writeln(line).is_ok() && out.flush().is_ok()
+    match failure {
+        Failure::Unreadable => {
+            let shown = normalize_untrusted_str(alloc, name)?;
+            format!(in alloc; "snip: cannot read {shown}")
+        }
+        Failure::Refused(refusal) => format!(in alloc; "snip: {refusal}"),
+    }
+}
+
+/// Tells a failure, or that there was no memory for that.
+fn tell<V: Write>(alloc: Global, failure: &Failure, name: &str, err: &mut V)
+    ensures told { Receives V.contents err.old err.new (Told (message name.now failure.now))
+        ⊎ Receives V.contents err.old err.new (Told (codes "snip: out of memory")) }
+{
+    match message_of(alloc, failure, name) {
+        Ok(message) => write_line(message.as_str(), err),
+        Err(AllocError) => write_line(OUT_OF_MEMORY, err),
+    };
 }
 
 /// Prints the report that the words ask for, and answers the status to end with.
 ///
 /// `file` is what FILE holds, or `None` where it can't be read. The status is 0 where the report was printed, 2 for words
 /// that aren't of the form, and else 1. The report goes to `out`, and what is in its way to `err`; a report that couldn't be
-/// written is told by the status alone.
+/// written is told by the status alone. Neither writer is flushed.
 ///
 /// | Status | `out` | `err` |
 /// |---|---|---|
 /// | 0 | the report and a line feed more | as it was |
-/// | 1, what was in the report's way | as it was | a message more, if it can be written |
-/// | 1, the report couldn't be written | a part of it more | as it was |
-/// | 2 | as it was | how the words are to be written, if that can be written |
+/// | 1, what was in the report's way | as it was | a message and a line feed more |
+/// | 1, the report couldn't be written | a first part of it more | as it was |
+/// | 2 | as it was | how the words are to be written, and a line feed more |
+///
+/// A message that couldn't be written stands there by a first part of it.
 pub fn run<W: Write, V: Write>(
     alloc: Global,
     words: &[&str],
@@ -171,31 +168,25 @@ pub fn run<W: Write, V: Write>(
 ) -> u8
     ensures status { result ≤ 2 }
     ensures usage { (result ≡ 2) ↔ (IsCommandLine (words_at words.now) → ⊥) }
-    ensures read { result ≡ 0 → IsSomeAnd (option_copied file.entry) IsShownText }
-    ensures printed { result ≡ 0 → IfSome (option_copied file.entry) (λ source. (text : List ℕ)
-        × Appends (W.contents out.old) (W.contents out.new) (text ++ LINE_FEED ∷ [])
-        × ShowsWords (words_at words.now) source text) }
-    ensures no_fault { result ≡ 0 → err.new ≡ err.old }
-    // Either what was in the report's way went to `err`, and `out` is as it was; or there was a report that couldn't be written
-    // to `out`, and `err` is as it was.
-    ensures failed { result ≡ 1 → (out.new ≡ out.old)
-        ⊎ ((err.new ≡ err.old) × IsSomeAnd (option_copied file.entry) IsShownText) }
-    ensures no_report { result ≡ 2 → out.new ≡ out.old }
+
+    // By cases: which status, what each stream is given, and when that is so.
+    ensures ends { Ends (words_at words.now) (option_copied file.entry) result
+        (Receives W.contents out.old out.new) (Receives V.contents err.old err.new) }
 {
     let Some(command) = command_of(words) else {
-        print_line(err, USAGE);
+        write_line(USAGE, err);
         return MISUSED;
     };
     match report_text(alloc, words, &command, file) {
         Ok(text) => {
-            if print_line(out, text.as_str()) {
+            if write_line(text.as_str(), out) {
                 PRINTED
             } else {
                 FAILED
             }
         }
         Err(failure) => {
-            print_line(err, format_args!("snip: {failure}"));
+            tell(alloc, &failure, command.file, err);
             FAILED
         }
     }

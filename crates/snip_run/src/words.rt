@@ -3,20 +3,7 @@
 ghost use Rattle.std.specs.Prelude.{◌≡◌, ◌↔◌, ◌++◌, IsTrue, IsSome, IsNone, IfSome, IsSomeAnd, SomeIff, Contains, List, is_some};
 ghost use Rattle.snip_run.specs.Words.{Word, words_at, IsNumber, number_in, Setting, words_of, option_names, IsSound, no_options, Line, operands_of, line_of, HasOperands, AreLine, IsCommandLine, IsCommandOf, TakesOption, Says};
 
-/// The options that stand before FILE.
-#[derive(Clone, Copy, Debug, Default, PartialEq, Eq)]
-pub struct Options {
-    /// Whether strokes are drawn with line-drawing characters.
-    pub unicode: bool,
-    /// Whether the report is written without graphics.
-    pub text: bool,
-    /// Whether the report is written on one line.
-    pub short: bool,
-    /// Whether the report is written with style codes.
-    pub styled: bool,
-    /// The width that lines are cut to, in columns, where one is given.
-    pub width: Option<usize>,
-}
+use report_options::options::Options;
 
 /// What a command line asks for.
 #[derive(Clone, Copy, Debug, PartialEq, Eq)]

@@ -5,6 +5,8 @@
 #[cfg(test)]
 mod grid;
 #[cfg(test)]
+mod line;
+#[cfg(test)]
 mod redraw;
 #[cfg(test)]
 mod replay;

@@ -1,9 +1,10 @@
 //! Runs of `tidy`, by words, the bytes of a file and three writers.
 use std::alloc::{AllocError, Global};
-use std::io;
 use std::io::Write;
 use std::test::Fail;
+use std::{fs, io};
 use tidy_run::final_line::FinalLine;
+use tidy_run::log::Log;
 use tidy_run::rule::Rule;
 use tidy_run::run::run;
 use tidy_run::tabs::Tabs;
@@ -254,5 +255,68 @@ fn tells_of_a_log_and_not_of_a_failed_print(rt: HostRuntime) -> Result<(), Fail>
         )?,
         0
     );
+    Ok(())
+}
+
+/// The status of a run with LOG at this path, which is written as the program does.
+fn status_with_log(
+    rt: &HostRuntime,
+    path: &str,
+    source: &[u8],
+    out: &mut Vec<u8>,
+    err: &mut Vec<u8>,
+) -> Result<u8, AllocError> {
+    let words = ["--log", path, "a.rs"];
+    let mut log = Log::new(rt, Some(path));
+    status_of(rt.alloc(), &words, Some(source), out, err, &mut log)
+}
+
+#[test]
+fn opens_its_log_when_there_is_something_to_write(rt: HostRuntime) -> Result<(), Fail> {
+    let alloc = rt.alloc();
+    let mut out = Vec::new(alloc);
+    let mut err = Vec::new(alloc);
+    // A clean file leaves LOG as it is: missing, or as it was.
+    assert_eq!(rt;
+        status_with_log(&rt, "tidy.log", b"ok\n", &mut out, &mut err)?,
+        0
+    );
+    assert!(rt; fs::read(&rt, "tidy.log").is_err());
+    fs::write(&rt, "tidy.log", b"some text of another run".as_slice())?;
+    assert_eq!(rt;
+        status_with_log(&rt, "tidy.log", b"ok\n", &mut out, &mut err)?,
+        0
+    );
+    assert_eq!(rt;
+        fs::read(&rt, "tidy.log")?.as_slice(),
+        b"some text of another run".as_slice()
+    );
+    assert!(rt; out.is_empty());
+    // A report takes the place of what it held.
+    assert_eq!(rt;
+        status_with_log(&rt, "tidy.log", b"z", &mut out, &mut err)?,
+        1
+    );
+    assert_eq!(rt; fs::read(&rt, "tidy.log")?.as_slice(), NO_END.as_bytes());
+    assert_eq!(rt; unstyled(alloc, &out)?.as_slice(), NO_END.as_bytes());
+    assert!(rt; err.is_empty());
+    fs::remove_file(&rt, "tidy.log")?;
+    Ok(())
+}
+
+#[test]
+fn tells_of_a_log_that_cannot_be_opened(rt: HostRuntime) -> Result<(), Fail> {
+    let mut out = Vec::new(rt.alloc());
+    let mut err = Vec::new(rt.alloc());
+    let path = "no_such_folder/tidy.log";
+    assert_eq!(rt; status_with_log(&rt, path, b"z", &mut out, &mut err)?, 2);
+    assert_eq!(rt;
+        err.as_slice(),
+        b"tidy: cannot write no_such_folder/tidy.log\n".as_slice()
+    );
+    assert!(rt; out.is_empty());
+    err.clear();
+    assert_eq!(rt; status_with_log(&rt, path, b"ok\n", &mut out, &mut err)?, 0);
+    assert!(rt; err.is_empty());
     Ok(())
 }

@@ -11,3 +11,4 @@ mod WithinLemmas
 mod FileLemmas
 pub mod OfferLaws
 pub mod WrittenLemmas
+mod Ending

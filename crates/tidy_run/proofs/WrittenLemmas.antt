@@ -1,5 +1,5 @@
 -- The texts of a run: one for each sheet, if any, and what is written of them is what shows the findings.
-use Rattle.std.proofs.Common.{◌≡◌, ◌≢◌, ℕ, Vec, refl, List, [], ◌∷◌, Option, None, Some, IfSome, IsSomeAnd, String, Global, inl, inr, ◌⊎◌, length, map, ap, string_bytes, subst, sym, ◌∙◌}
+use Rattle.std.proofs.Common.{◌≡◌, ◌≢◌, ℕ, Vec, refl, List, [], ◌∷◌, Option, None, Some, IfSome, IsSomeAnd, String, Global, inl, inr, ◌⊎◌, length, map, ap, string_bytes, sym, ◌∙◌}
 use Rattle.std.specs.Prelude.{IfOk}
 use Rattle.std.specs.declared.alloc.AllocError.{AllocError}
 use Rattle.std.specs.declared.result.Result.{Result}
@@ -11,8 +11,7 @@ use Rattle.annotate_snippets.specs.Settings.{plain_settings}
 use Rattle.annotate_snippets.specs.declared.renderer.style.Stylesheet.{Stylesheet}
 use Rattle.annotate_snippets.specs.declared.snippet.Group.{Group}
 use Rattle.tidy_run.specs.Report.{IsReportOf, Told}
-use Rattle.tidy_run.specs.Run.{AreTextsOf, AreWritten, IsSource, IsWritten, ShowsTold, sheets_for}
-use Rattle.tidy_run.specs.Words.{Line, Word}
+use Rattle.tidy_run.specs.Run.{AreTextsOf, ShowsTold}
 
 -- there is no text of a report, or one for each sheet
 counted : (path source : List ℕ) (told : List Told) (sheets : List Stylesheet) (texts : List (List ℕ)) → AreTextsOf path source told sheets texts → (texts ≡ []) ⊎ (length texts ≡ length sheets)
@@ -20,20 +19,14 @@ counted path source [] sheets texts none = inl none
 counted path source (t ∷ ts) sheets texts shown = inr (AllZip-long _ sheets texts shown.shows.printed)
 
 -- so it is of the texts of a file that was read
-pub counted_texts : (file : Option (List ℕ)) (path : List ℕ) (told : List ℕ → List Told) (sheets : List Stylesheet) (texts : List (String Global)) → IsSomeAnd file IsSource
+pub counted_texts : (P : List ℕ → Type 0) (file : Option (List ℕ)) (path : List ℕ) (told : List ℕ → List Told) (sheets : List Stylesheet) (texts : List (String Global)) → IsSomeAnd file P
     → IfSome file (λ source. AreTextsOf path source (told source) sheets (map string_bytes texts)) → (texts ≡ []) ⊎ (length texts ≡ length sheets)
-counted_texts None path told sheets texts read shows = absurd read
-counted_texts (Some source) path told sheets texts read shows =
+counted_texts P None path told sheets texts read shows = absurd read
+counted_texts P (Some source) path told sheets texts read shows =
     elim (counted path source (told source) sheets (map string_bytes texts) shows) [
       | inl none ↦ inl (nil_from_length texts (sym (length-map texts string_bytes) ∙ ap length none))
       | inr many ↦ inr (sym (length-map texts string_bytes) ∙ many)
     ]
-
--- texts that are written show what is told
-shown_told : (path source : List ℕ) (told : List Told) (sheets : List Stylesheet) (texts : List (List ℕ)) (log : Option Word) (Printed Logged : List ℕ → Type 0)
-    → AreTextsOf path source told sheets texts → AreWritten log Printed Logged texts → ShowsTold path source told sheets texts
-shown_told path source [] sheets texts log Printed Logged none written = absurd (subst (AreWritten log Printed Logged) none written)
-shown_told path source (t ∷ ts) sheets texts log Printed Logged shown written = shown
 
 -- the texts of a report that tells all of it are what is written of that
 pub texts_of_told : (path source : List ℕ) (told : List Told) (groups : List Group) (sheets : List Stylesheet) (drawn : Result (Vec (String Global) Global) AllocError)
@@ -48,21 +41,3 @@ texts_of_told path source (t ∷ told) (g ∷ groups) sheets drawn report none s
     IfOk-weaker drawn (λ texts. TextsShown plain_settings (g ∷ groups) sheets (map string_bytes texts.items))
     (λ texts. ShowsTold path source (t ∷ told) sheets (map string_bytes texts.items))
     (λ texts shown. record { groups = g ∷ groups; report = report; shows = shown }) (shows (λ empty. cc))
-
--- so what is written for the words of a line is the texts that show what is told of its file
-pub written_texts : (line : Option Line) (file : Option (List ℕ)) (made : Line) (told : List ℕ → List Told) (texts read : List (List ℕ)) (Printed Logged : List ℕ → Type 0) → Some made ≡ line → read ≡ texts
-    → IfSome file (λ source. AreTextsOf made.file source (told source) (sheets_for made.log) texts) → AreWritten made.log Printed Logged read
-    → IfSome line (λ l. IfSome file (λ source. IsWritten l.file source (told source) l.log Printed Logged))
-written_texts line file made told texts read Printed Logged is same shows written_read =
-    subst (λ l. IfSome l (λ m. IfSome file (λ source. IsWritten m.file source (told source) m.log Printed Logged))) is (of_file file shows)
-  where
-    written : AreWritten made.log Printed Logged texts
-    written = subst (AreWritten made.log Printed Logged) same written_read
-
-    of_file : (given : Option (List ℕ)) → IfSome given (λ source. AreTextsOf made.file source (told source) (sheets_for made.log) texts) → IfSome given (λ source. IsWritten made.file source (told source) made.log Printed Logged)
-    of_file None none = tt
-    of_file (Some source) are = record {
-      texts = texts;
-      shows = shown_told made.file source (told source) (sheets_for made.log) texts made.log Printed Logged are written;
-      written = written;
-    }

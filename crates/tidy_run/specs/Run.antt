@@ -1,15 +1,20 @@
--- What a run writes.
-use Rattle.std.specs.Prelude.{◌≡◌, ℕ, List, [], ◌∷◌, Option, Some, None}
+-- How a run ends, and what it writes.
+use Rattle.std.specs.Prelude.{◌≡◌, ◌≢◌, ℕ, List, [], ◌∷◌, ◌++◌, Option, Some, None, MatchOption, chars, codes, encode_utf8_all}
+use Rattle.std.specs.Option.{option_to_list}
 use Rattle.std.specs.Str.{IsUtf8}
 use Rattle.annotate_snippets.specs.declared.renderer.style.Stylesheet.{Stylesheet}
 use Rattle.annotate_snippets.specs.declared.snippet.Group.{Group}
 use Rattle.annotate_snippets.specs.Fits.{TextFits}
 use Rattle.annotate_snippets.specs.Forms.{TextsShown}
 use Rattle.annotate_snippets.specs.Settings.{plain_settings, styled_settings}
+use Rattle.annotate_snippets.specs.Normalized.{norm}
+use Rattle.program.specs.Stream.{Output, Silent, Whole, CutShort, Told as Tells}
 use Rattle.tidy_run.specs.Report.{IsReportOf, Told}
-use Rattle.tidy_run.specs.Words.{Word}
+use Rattle.tidy_run.specs.Words.{Line, Word, line_of}
+use Rattle.tidy_run.specs.declared.run.Failure.{Failure}
+use Rattle.tidy_run.specs.declared.run.Failure.TheVariants.{Unreadable, Unwritable, Memory}
 use Rattle.tidy_run.specs.declared.run.Written.{Written}
-use Rattle.tidy_run.specs.declared.run.Written.TheVariants.{Nothing, All, Unlogged, Unprinted}
+use Rattle.tidy_run.specs.declared.run.Written.TheVariants as written
 
 -- what a file has to hold so that it is looked through: UTF-8 within the library's limit
 abbrev pub IsSource : List ℕ → Type 0
@@ -31,23 +36,134 @@ abbrev pub AreTextsOf : List ℕ → List ℕ → List Told → List Stylesheet 
 AreTextsOf path source [] sheets texts = texts ≡ []
 AreTextsOf path source (t ∷ ts) sheets texts = ShowsTold path source (t ∷ ts) sheets texts
 
--- the first text is printed, and with LOG the second is written to that
-abbrev pub AreWritten : Option Word → (List ℕ → Type 0) → (List ℕ → Type 0) → List (List ℕ) → Type 0
-AreWritten log Printed Logged [] = ⊥
-AreWritten None Printed Logged (shown ∷ texts) = Printed shown
-AreWritten (Some log) Printed Logged (shown ∷ []) = ⊥
-AreWritten (Some log) Printed Logged (shown ∷ plain ∷ texts) = Printed shown × Logged plain
+-- the file holds this source, which can be looked through, and so can its name be shown
+pub record Reads (line : Line) (file : Option (List ℕ)) (source : List ℕ) : Type 0 where
+  pub file_is : file ≡ Some source
+  pub source_is : IsSource source
+  pub name_fits : TextFits line.file
 
--- what is told of a file is written: texts that show it
-pub record IsWritten (path source : List ℕ) (told : List Told) (log : Option Word) (Printed Logged : List ℕ → Type 0) : Type 0 where
-  pub texts : List (List ℕ)
-  pub shows : ShowsTold path source told (sheets_for log) texts
-  pub written : AreWritten log Printed Logged texts
+-- something is told of the source, and these texts show it: the one for standard output and, with LOG, the one for that
+pub record IsReport (line : Line) (file : Option (List ℕ)) (tells : List ℕ → List Told) (shown : List ℕ) (logged : Option (List ℕ)) : Type 0 where
+  pub source : List ℕ
+  pub reads : Reads line file source
+  pub told : tells source ≢ []
+  pub shows : ShowsTold line.file source (tells source) (sheets_for line.log) (shown ∷ option_to_list logged)
 
--- what became of texts: there are none, and nothing is written; all are written; LOG couldn't be written, and nothing is printed;
--- or the first text couldn't be printed. Where there is no LOG, nothing is written to it
-abbrev pub Becomes : Written → Option Word → List (List ℕ) → (List ℕ → Type 0) → (List ℕ → Type 0) → Type 0 → Type 0 → Type 0
-Becomes Nothing log texts Printed Logged OutSame LogSame = (texts ≡ []) × OutSame × LogSame
-Becomes All log texts Printed Logged OutSame LogSame = AreWritten log Printed Logged texts × (log ≡ None → LogSame)
-Becomes (Unlogged name) log texts Printed Logged OutSame LogSame = OutSame × (log ≡ None → LogSame)
-Becomes Unprinted log texts Printed Logged OutSame LogSame = log ≡ None → LogSame
+-- there is no report, for this reason: FILE of this name holds no source that can be looked through, or memory is refused
+abbrev pub Fails : Line → Option (List ℕ) → Failure → Type 0
+Fails line file (Unreadable name) = (name.now ≡ line.file) × ((source : List ℕ) → Reads line file source → ⊥)
+Fails line file (Unwritable name) = ⊥
+Fails line file Memory = Unit {0}
+
+-- what is told where LOG can't be written: that, by its name, or that there was no memory for that
+abbrev pub Unlogs : Line → Failure → Type 0
+Unlogs line (Unreadable name) = ⊥
+Unlogs line (Unwritable name) = line.log ≡ Some name.now
+Unlogs line Memory = Unit {0}
+
+-- a name as a message shows it: what is listed in it is replaced
+abbrev pub shown_name : Word → List ℕ
+shown_name name = encode_utf8_all (norm (chars name))
+
+-- how the words are to be written
+abbrev pub usage : List ℕ
+usage = codes "usage: tidy [--log LOG] FILE"
+
+-- what is told of a failure
+abbrev pub message : Failure → List ℕ
+message (Unreadable name) = codes "tidy: cannot read " ++ shown_name name.now
+message (Unwritable name) = codes "tidy: cannot write " ++ shown_name name.now
+message Memory = codes "tidy: out of memory"
+
+-- how a run ends: nothing is told; the report is printed, once it is in LOG where that is given; it couldn't be printed; it couldn't be
+-- written to LOG; there is none, for this reason; or the words aren't of the form
+pub data End : Type 0 where
+  Clean : End
+  Found : (shown : List ℕ) (logged : Option (List ℕ)) → End
+  Unprinted : (shown : List ℕ) (logged : Option (List ℕ)) → End
+  Unlogged : (shown plain : List ℕ) (failure : Failure) → End
+  Failed : (failure : Failure) → End
+  Misused : End
+
+-- whether a run for a line may end so, over what FILE holds and by what rules tell of a source
+abbrev pub MayEnd : Line → Option (List ℕ) → (List ℕ → List Told) → End → Type 0
+MayEnd line file tells Clean = (source : List ℕ) × Reads line file source × (tells source ≡ [])
+MayEnd line file tells (Found shown logged) = IsReport line file tells shown logged
+MayEnd line file tells (Unprinted shown logged) = IsReport line file tells shown logged
+MayEnd line file tells (Unlogged shown plain failure) = IsReport line file tells shown (Some plain) × Unlogs line failure
+MayEnd line file tells (Failed failure) = Fails line file failure
+MayEnd line file tells Misused = ⊥
+
+-- the status that it ends with
+abbrev pub status_of : End → ℕ
+status_of Clean = 0
+status_of (Found shown logged) = 1
+status_of (Unprinted shown logged) = 2
+status_of (Unlogged shown plain failure) = 2
+status_of (Failed failure) = 2
+status_of Misused = 2
+
+-- what standard output is given
+abbrev pub out_of : End → Output
+out_of Clean = Silent
+out_of (Found shown logged) = Whole shown
+out_of (Unprinted shown logged) = CutShort shown
+out_of (Unlogged shown plain failure) = Silent
+out_of (Failed failure) = Silent
+out_of Misused = Silent
+
+-- what LOG is given where its text is written, which there is none of without LOG
+abbrev pub all_logged : Option (List ℕ) → Output
+all_logged None = Silent
+all_logged (Some plain) = Whole plain
+
+-- what LOG is given
+abbrev pub log_of : End → Output
+log_of Clean = Silent
+log_of (Found shown logged) = all_logged logged
+log_of (Unprinted shown logged) = all_logged logged
+log_of (Unlogged shown plain failure) = CutShort plain
+log_of (Failed failure) = Silent
+log_of Misused = Silent
+
+-- what standard error is given
+abbrev pub err_of : End → Output
+err_of Clean = Silent
+err_of (Found shown logged) = Silent
+err_of (Unprinted shown logged) = Silent
+err_of (Unlogged shown plain failure) = Tells (message failure)
+err_of (Failed failure) = Tells (message failure)
+err_of Misused = Tells usage
+
+-- a run of these words ends with this status, and gives the three writers what they are given
+pub record Ends (words : List Word) (file : Option (List ℕ)) (tells : List ℕ → List Told) (status : ℕ) (Out Err Log : Output → Type 0) : Type 0 where
+  pub end : End
+  pub may : MatchOption (line_of words) (end ≡ Misused) (λ line. MayEnd line file tells end)
+  pub status_is : status ≡ status_of end
+  pub out : Out (out_of end)
+  pub err : Err (err_of end)
+  pub log : Log (log_of end)
+
+-- what is written of texts: the first goes to standard output, and with LOG the second to that, all of it
+abbrev pub AreGiven : Option Word → (List ℕ → Type 0) → (Output → Type 0) → List (List ℕ) → Type 0
+AreGiven log Printed Log [] = ⊥
+AreGiven None Printed Log (shown ∷ []) = Printed shown × Log Silent
+AreGiven None Printed Log (shown ∷ plain ∷ texts) = ⊥
+AreGiven (Some log) Printed Log (shown ∷ []) = ⊥
+AreGiven (Some log) Printed Log (shown ∷ plain ∷ []) = Printed shown × Log (Whole plain)
+AreGiven (Some log) Printed Log (shown ∷ plain ∷ more ∷ texts) = ⊥
+
+-- the same where the second couldn't be written to LOG of this name: the first isn't printed
+abbrev pub AreKept : Option Word → Word → (Output → Type 0) → (Output → Type 0) → List (List ℕ) → Type 0
+AreKept log name Out Log [] = ⊥
+AreKept log name Out Log (shown ∷ []) = ⊥
+AreKept log name Out Log (shown ∷ plain ∷ []) = (log ≡ Some name) × Out Silent × Log (CutShort plain)
+AreKept log name Out Log (shown ∷ plain ∷ more ∷ texts) = ⊥
+
+-- what became of texts: there are none; all are written, LOG's first; what is for LOG of this name couldn't be written; or what is for
+-- standard output couldn't be printed
+abbrev pub Becomes : Written → Option Word → List (List ℕ) → (Output → Type 0) → (Output → Type 0) → Type 0
+Becomes written.Nothing log texts Out Log = (texts ≡ []) × Out Silent × Log Silent
+Becomes written.All log texts Out Log = AreGiven log (λ shown. Out (Whole shown)) Log texts
+Becomes written.Unprinted log texts Out Log = AreGiven log (λ shown. Out (CutShort shown)) Log texts
+Becomes (written.Unlogged name) log texts Out Log = AreKept log name.now Out Log texts

@@ -3,6 +3,7 @@
 
 pub mod final_line;
 pub mod lint;
+pub mod log;
 pub mod report;
 pub mod rule;
 pub mod run;

@@ -1,16 +1,15 @@
 //! A run of the program, over the bytes of a file and three writers.
-ghost use Rattle.std.specs.Prelude.{◌≡◌, ◌≢◌, ℕ, ◌≤◌, ◌⊎◌, List, [], ◌∷◌, ◌++◌, None, IsOk, IsNone, IfOk, IfSome, IsSomeAnd, MatchOption, SomeIff, length, map, string_bytes};
-ghost use Rattle.std.specs.Bool.{OnTrue};
-ghost use Rattle.std.specs.Io.KnownBytes.{Appends};
+ghost use Rattle.std.specs.Prelude.{◌≡◌, ◌≢◌, ◌≤◌, ◌⊎◌, [], ◌++◌, None, IsOk, IsNone, IfErr, IfOk, IfSome, IsSomeAnd, MatchOption, SomeIff, codes, length, map, string_bytes};
 ghost use Rattle.std.specs.List.{flat_map};
 ghost use Rattle.std.specs.Option.{option_copied};
 ghost use Rattle.annotate_snippets.specs.Fault.{IsWithinBounds};
 ghost use Rattle.annotate_snippets.specs.Fits.{TextFits};
 ghost use Rattle.annotate_snippets.specs.Forms.{TextsShown};
 ghost use Rattle.annotate_snippets.specs.Settings.{plain_settings};
+ghost use Rattle.program.specs.Stream.{Receives, Told};
 ghost use Rattle.tidy_run.specs.Findings.{findings_of};
 ghost use Rattle.tidy_run.specs.Report.{told_of};
-ghost use Rattle.tidy_run.specs.Run.{AreTextsOf, Becomes, IsSource, IsWritten, sheets_for};
+ghost use Rattle.tidy_run.specs.Run.{AreTextsOf, Becomes, Ends, Fails, IsSource, Reads, message, sheets_for, shown_name};
 ghost use Rattle.tidy_run.specs.Words.{line_of, said, words_at};
 
 use crate::lint::lint;
@@ -21,15 +20,16 @@ use annotate_snippets::renderer::RenderError;
 use annotate_snippets::renderer::style::Stylesheet;
 use annotate_snippets::text::{normalize_untrusted_str, text_fits};
 use annotate_snippets::{Group, Renderer};
+use program::line::write_line;
 use std::alloc::{AllocError, Global};
 use std::io::Write;
-use std::{fmt, str};
+use std::str;
 
 /// How the words are to be written.
 const USAGE: &str = "usage: tidy [--log LOG] FILE";
 
-/// The byte that ends a line.
-const LINE_FEED: u8 = b'\n';
+/// What is told where there is no memory to tell more.
+const OUT_OF_MEMORY: &str = "tidy: out of memory";
 
 /// The status of a run in which no rule found anything.
 const CLEAN: u8 = 0;
@@ -38,41 +38,15 @@ const FOUND: u8 = 1;
 /// The status of a run that could do neither.
 const FAILED: u8 = 2;
 
-/// Why a command gives no texts, or they weren't written.
-#[derive(Debug, Drop)]
-enum Failure {
-    /// The file, by its name as it may be shown, holds no text that can be looked through, or its name is too long.
-    Unreadable(String),
-    /// LOG, by its name as it may be shown, couldn't be written.
-    Unwritable(String),
+/// Why a command's texts aren't written.
+#[derive(Clone, Copy, Debug, PartialEq, Eq)]
+enum Failure<'a> {
+    /// The file of this name holds no text that can be looked through, or its name is too long.
+    Unreadable(&'a str),
+    /// LOG of this name couldn't be written.
+    Unwritable(&'a str),
     /// A growth of memory was refused.
     Memory,
-}
-
-impl fmt::Display for Failure {
-    fn fmt<W: fmt::Write>(&self, f: &mut fmt::Formatter<W>) -> fmt::Result {
-        match self {
-            Failure::Unreadable(file) => write!(f, "cannot read {file}"),
-            Failure::Unwritable(log) => write!(f, "cannot write {log}"),
-            Failure::Memory => write!(f, "out of memory"),
-        }
-    }
-}
-
-/// The failure to read the file of this name.
-fn unreadable(alloc: Global, file: &str) -> Failure {
-    match normalize_untrusted_str(alloc, file) {
-        Ok(shown) => Failure::Unreadable(shown),
-        Err(AllocError) => Failure::Memory,
-    }
-}
-
-/// The failure to write LOG of this name.
-fn unwritable(alloc: Global, log: &str) -> Failure {
-    match normalize_untrusted_str(alloc, log) {
-        Ok(shown) => Failure::Unwritable(shown),
-        Err(AllocError) => Failure::Memory,
-    }
 }
 
 /// The file's text; `None` where it can't be read, isn't UTF-8 or is too long.
@@ -152,28 +126,24 @@ fn texts_of<'a>(
     rules: &[Box<dyn Rule>],
     command: &Command<'a>,
     file: Option<&'a [u8]>,
-) -> Result<Vec<String>, Failure>
-    ensures read { IsOk result → IsSomeAnd (option_copied file.entry) IsSource }
+) -> Result<Vec<String>, Failure<'a>>
+    ensures read { IsOk result → IsSomeAnd (option_copied file.entry) (Reads (said command.now) (option_copied file.entry)) }
     ensures shows { IfOk result (λ texts. IfSome (option_copied file.entry) (λ source.
         AreTextsOf command.now.file.now source
         (flat_map (λ rule. told_of (title_of rule) (findings_of (finds rule source) source)) rules.now)
         (sheets_for (said command.now).log) (map string_bytes texts.items))) }
+    ensures fails { IfErr result (Fails (said command.now) (option_copied file.entry)) }
 {
     let Some(source) = source_of(file) else {
-        return Err(unreadable(alloc, command.file));
+        return Err(Failure::Unreadable(command.file));
     };
     if !text_fits(command.file) {
-        return Err(unreadable(alloc, command.file));
+        return Err(Failure::Unreadable(command.file));
     }
-    rendered_for(alloc, rules, command, source).map_err(|_| Failure::Memory)
-}
-
-/// Prints a line, and says whether all of it was written.
-fn print_line<W: Write, D: fmt::Display + Drop>(out: &mut W, line: D) -> bool
-    ensures written { OnTrue result (IfSome (D.output line)
-        (λ text. Appends (W.contents out.old) (W.contents out.new) (text ++ LINE_FEED ∷ []))) }
-{
-    out.writeln(line).is_ok() && out.flush().is_ok()
+    match rendered_for(alloc, rules, command, source) {
+        Ok(texts) => Ok(texts),
+        Err(AllocError) => Err(Failure::Memory),
+    }
 }
 
 /// What became of a command's texts.
@@ -198,38 +168,69 @@ fn write_texts<'a, W: Write, L: Write>(
 ) -> Written<'a>
     requires count { (texts.now ≡ []) ⊎ (length texts.now ≡ length (sheets_for (said command.now).log)) }
     ensures written { Becomes result (said command.now).log (map string_bytes texts.now)
-        (λ text. Appends (W.contents out.old) (W.contents out.new) (text ++ LINE_FEED ∷ []))
-        (λ text. Appends (L.contents log.old) (L.contents log.new) (text ++ LINE_FEED ∷ []))
-        (out.new ≡ out.old) (log.new ≡ log.old) }
+        (Receives W.contents out.old out.new) (Receives L.contents log.old log.new) }
 {
     let (Some(shown), Some(plain)) = (texts.first(), texts.last()) else {
         return Written::Nothing;
     };
     if let Some(name) = command.log {
-        if !print_line(log, plain.as_str()) {
+        if !write_line(plain.as_str(), log) {
             return Written::Unlogged(name);
         }
     }
-    if print_line(out, shown.as_str()) {
+    if write_line(shown.as_str(), out) {
         Written::All
     } else {
         Written::Unprinted
     }
 }
 
+/// What is told of a failure.
+fn message_of(alloc: Global, failure: Failure<'_>) -> Result<String, AllocError>
+    ensures message { IfOk result (λ text. string_bytes text ≡ message failure.entry) }
+{
+    match failure {
+        Failure::Unreadable(name) => cannot(alloc, "read", name),
+        Failure::Unwritable(name) => cannot(alloc, "write", name),
+        Failure::Memory => Err(AllocError),
+    }
+}
+
+/// What is told where this can't be done to the file of this name.
+fn cannot(alloc: Global, verb: &str, name: &str) -> Result<String, AllocError>
+    ensures message { IfOk result (λ text.
+        string_bytes text ≡ codes "tidy: cannot " ++ (verb.now ++ (codes " " ++ shown_name name.now))) }
+{
+    let shown = normalize_untrusted_str(alloc, name)?;
+    format!(in alloc; "tidy: cannot {verb} {shown}")
+}
+
+/// Tells a failure, or that there was no memory for that.
+fn tell<V: Write>(alloc: Global, failure: Failure<'_>, err: &mut V)
+    ensures told { Receives V.contents err.old err.new (Told (message failure.entry))
+        ⊎ Receives V.contents err.old err.new (Told (message Failure.Memory)) }
+{
+    match message_of(alloc, failure) {
+        Ok(message) => write_line(message.as_str(), err),
+        Err(AllocError) => write_line(OUT_OF_MEMORY, err),
+    };
+}
+
 /// Looks through a file by rules and prints what they find, as the words ask for, and answers the status to end with.
 ///
 /// `file` is what FILE holds, or `None` where it can't be read; `log` writes to LOG, and isn't written to where the words
 /// name none. The status is 0 where the rules find nothing, 1 where what they find was printed, else 2. With LOG the
-/// report is printed in colours, once it stands in LOG without.
+/// report is printed in colours, once it stands in LOG without. No writer is flushed.
 ///
 /// | Status | `out` | `log` | `err` |
 /// |---|---|---|---|
 /// | 0 | as it was | as it was | as it was |
 /// | 1 | the report and a line feed more | with LOG the report and a line feed more | as it was |
-/// | 2, what was in the way of the report | as it was | as it was | a message more, if it can be written |
-/// | 2, LOG couldn't be written | as it was | a part of the report more | the same |
-/// | 2, the report couldn't be printed | a part of it more | with LOG the report and a line feed more | as it was |
+/// | 2, the words, or what was in the way of the report | as it was | as it was | a message and a line feed more |
+/// | 2, LOG couldn't be written | as it was | a first part of the report more | the same |
+/// | 2, the report couldn't be printed | a first part of it more | with LOG the report and a line feed more | as it was |
+///
+/// A message that couldn't be written stands there by a first part of it.
 pub fn run<W: Write, V: Write, L: Write>(
     alloc: Global,
     rules: &[Box<dyn Rule>],
@@ -241,31 +242,20 @@ pub fn run<W: Write, V: Write, L: Write>(
 ) -> u8
     ensures status { result ≤ 2 }
     ensures usage { line_of (words_at words.now) ≡ None → result ≡ 2 }
-    ensures read { result ≤ 1 → IsSomeAnd (option_copied file.entry) IsSource }
-    // Nothing is told of the file, and nothing is written.
-    ensures clean { result ≡ 0 → (out.new ≡ out.old) × (err.new ≡ err.old) × (log.new ≡ log.old)
-        × IfSome (option_copied file.entry) (λ source.
-        flat_map (λ rule. told_of (title_of rule) (findings_of (finds rule source) source)) rules.now ≡ []) }
-    // What is told of the file is printed, and with LOG written to that.
-    ensures printed { result ≡ 1 → IfSome (line_of (words_at words.now)) (λ line. IfSome (option_copied file.entry) (λ source.
-        IsWritten line.file source
-        (flat_map (λ rule. told_of (title_of rule) (findings_of (finds rule source) source)) rules.now) line.log
-        (λ text. Appends (W.contents out.old) (W.contents out.new) (text ++ LINE_FEED ∷ []))
-        (λ text. Appends (L.contents log.old) (L.contents log.new) (text ++ LINE_FEED ∷ [])))) }
-    ensures no_fault { result ≡ 1 → err.new ≡ err.old }
-    ensures unlogged { IfSome (line_of (words_at words.now)) (λ line. line.log ≡ None → log.new ≡ log.old) }
-    // Either `out` is as it was; or there was a report that couldn't be printed, and `err` is as it was.
-    ensures failed { result ≡ 2 → (out.new ≡ out.old)
-        ⊎ ((err.new ≡ err.old) × IsSomeAnd (option_copied file.entry) IsSource) }
+
+    // By cases: which status, what each writer is given, and when that is so.
+    ensures ends { Ends (words_at words.now) (option_copied file.entry)
+        (λ source. flat_map (λ rule. told_of (title_of rule) (findings_of (finds rule source) source)) rules.now) result
+        (Receives W.contents out.old out.new) (Receives V.contents err.old err.new) (Receives L.contents log.old log.new) }
 {
     let Some(command) = command_of(words) else {
-        print_line(err, USAGE);
+        write_line(USAGE, err);
         return FAILED;
     };
     let texts = match texts_of(alloc, rules, &command, file) {
         Ok(texts) => texts,
         Err(failure) => {
-            print_line(err, format_args!("tidy: {failure}"));
+            tell(alloc, failure, err);
             return FAILED;
         }
     };
@@ -273,8 +263,7 @@ pub fn run<W: Write, V: Write, L: Write>(
         Written::Nothing => CLEAN,
         Written::All => FOUND,
         Written::Unlogged(name) => {
-            let failure = unwritable(alloc, name);
-            print_line(err, format_args!("tidy: {failure}"));
+            tell(alloc, Failure::Unwritable(name), err);
             FAILED
         }
         Written::Unprinted => FAILED,

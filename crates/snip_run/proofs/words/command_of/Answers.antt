@@ -2,7 +2,7 @@ use Rattle.std.proofs.Common.{◌≡◌, ℕ, ◌+◌, ◌-◌, ◌≤◌, List,
 use Rattle.std.proofs.lemmas.List.{take_all, length-drop}
 use Rattle.std.proofs.lemmas.List.Elements.{All-nil}
 use Rattle.std.proofs.lemmas.Grind.{common_steps}
-use Rattle.snip_run.specs.declared.words.Options.{Options}
+use Rattle.report_options.specs.declared.options.Options.{Options}
 use Rattle.snip_run.specs.declared.words.Command.{Command}
 use Rattle.snip_run.specs.declared.words.Operands.{Operands}
 use Rattle.snip_run.specs.Words.{Word, words_at, words_of, no_options, Line, operands_of, line_of, HasOperands, AreLine, IsSound, IsCommandOf, TakesOption, Says}

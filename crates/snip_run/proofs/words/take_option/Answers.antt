@@ -1,5 +1,5 @@
 use Rattle.std.proofs.Common.{◌≡◌, ℕ, ◌≤◌, List, [], ◌∷◌, Bor, Some, length, get_or, drop, ap, arith}
-use Rattle.snip_run.specs.declared.words.Options.{Options}
+use Rattle.report_options.specs.declared.options.Options.{Options}
 use Rattle.snip_run.specs.Words.{Word, words_at, Width}
 use Rattle.snip_run.proofs.words.take_option.Goals as goal
 

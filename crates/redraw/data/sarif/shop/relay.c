@@ -1,0 +1,14 @@
+hand_over_one ();
+hand_over_two ();
+hand_over_three ();
+hand_over_four ();
+hand_over_five ();
+hand_over_six ();
+hand_over_seven ();
+hand_over_eight ();
+hand_over_nine ();
+hand_over_ten ();
+hand_over_eleven ();
+hand_over_twelve ();
+hand_over_thirteen ();
+hand_over_fourteen ();

@@ -1,0 +1,3 @@
+mod ListLemmas
+mod LinkLemmas
+mod Rows

@@ -1,0 +1,85 @@
+-- How a run ends.
+use Rattle.std.proofs.Common.{◌≡◌, ◌⊎◌, ℕ, List, Option, Some, None, String, Global, Bor, IsSomeAnd, IfSome, IsNone, MatchOption, SomeIff, alloc_error, ap, chars, codes, encode_utf8_all, inl, inr, refl, string_bytes, subst, sym, ◌∙◌}
+use Rattle.std.proofs.lemmas.Str.{IsUtf8-string_bytes, encodes-chars}
+use Rattle.annotate_snippets.specs.Normalized.{norm}
+use Rattle.std.specs.Option.{option_copied}
+use Rattle.annotate_snippets.specs.declared.renderer.RenderError.{RenderError}
+use Rattle.annotate_snippets.specs.declared.renderer.RenderError.TheVariants.{Memory}
+use Rattle.program.specs.Stream.{Output, Silent, Whole, CutShort, Told}
+use Rattle.snip_run.specs.declared.words.Command.{Command}
+use Rattle.snip_run.specs.declared.run.Failure.{Failure}
+use Rattle.snip_run.specs.declared.run.Failure.TheVariants.{Refused}
+use Rattle.snip_run.specs.Report.{RefusesCommand}
+use Rattle.snip_run.specs.Run.{Ends, Failed, Fails, IsReadable, Misused, Printed, ShowsFile, Unprinted, message, shown_name, usage}
+use Rattle.snip_run.specs.Text.{IsShownText}
+use Rattle.snip_run.specs.Words.{AreLine, Line, Word, IsCommandLine, IsCommandOf}
+
+-- where FILE gives no text to be shown, it holds none
+pub no_text : (file : Option (List ℕ)) (given : Option (Bor (List ℕ))) → MatchOption file (IsNone given) (λ bytes. SomeIff (option_copied given) (IsShownText bytes) bytes)
+    → given ≡ None → IsSomeAnd file IsShownText → ⊥
+no_text None given value none shown = absurd shown
+no_text (Some bytes) None value none shown = value shown
+no_text (Some bytes) (Some source) value none shown = cc
+
+-- where it gives one, it holds that one
+pub some_text : (file : Option (List ℕ)) (source : Bor (List ℕ)) → MatchOption file (IsNone (Some source)) (λ bytes. SomeIff (option_copied (Some source)) (IsShownText bytes) bytes) → IsSomeAnd file IsShownText
+some_text None source value = cc
+some_text (Some bytes) source value = value.0
+
+-- what holds of that one holds of what FILE holds
+pub of_text : (P : List ℕ → Type 0) (file : Option (List ℕ)) (source : Bor (List ℕ)) → MatchOption file (IsNone (Some source)) (λ bytes. SomeIff (option_copied (Some source)) (IsShownText bytes) bytes)
+    → P source.now → IfSome file P
+of_text P None source value holds = tt
+of_text P (Some bytes) source value holds = subst P value.1 holds
+
+-- a report of that one that is refused is one of what FILE holds
+pub refused_file : (words : List Word) (file : Option (List ℕ)) (command : Command) (source : Bor (List ℕ)) (refusal : RenderError) → IsReadable words file
+    → MatchOption file (IsNone (Some source)) (λ bytes. SomeIff (option_copied (Some source)) (IsShownText bytes) bytes)
+    → (refusal ≡ Memory alloc_error) ⊎ RefusesCommand command source.now refusal → Fails words file command (Refused refusal)
+refused_file words file command source refusal readable value (inl want) = inl want
+refused_file words file command source refusal readable value (inr refused) =
+    inr record { readable = readable; refused = of_text (λ s. RefusesCommand command s refusal) file source value refused }
+
+-- a run that tells why there is no report, or that there was no memory for that
+pub ends_failed : (words : List Word) (file : Option (List ℕ)) (command : Command) (failure : Failure) (Out Err : Output → Type 0)
+    → IsCommandOf words command → Fails words file command failure → Out Silent
+    → Err (Told (message command.file.now failure)) ⊎ Err (Told (codes "snip: out of memory")) → Ends words file 1 Out Err
+ends_failed words file command failure Out Err of fails silent (inl told) =
+    record {
+      end = Failed command.file.now failure;
+      may = (command, of, refl, fails);
+      status_is = refl;
+      out = silent;
+      err = told;
+    }
+ends_failed words file command failure Out Err of fails silent (inr told) =
+    record {
+      end = Failed command.file.now (Refused (Memory alloc_error));
+      may = (command, of, refl, inl refl);
+      status_is = refl;
+      out = silent;
+      err = told;
+    }
+
+-- a name that is shown is spelled by the characters that are shown for it
+pub shown_text : (shown : String Global) (name : List ℕ) → chars (string_bytes shown) ≡ norm (chars name) → string_bytes shown ≡ shown_name name
+shown_text shown name value = sym (encodes-chars (string_bytes shown) (IsUtf8-string_bytes shown)) ∙ ap encode_utf8_all value
+
+-- a run whose report is printed, and one whose report couldn't be
+pub ends_printed : (words : List Word) (file : Option (List ℕ)) (command : Command) (text : List ℕ) (Out Err : Output → Type 0)
+    → IsCommandOf words command → ShowsFile words file command text → Out (Whole text) → Err Silent → Ends words file 0 Out Err
+ends_printed words file command text Out Err of shows out err =
+    record { end = Printed text; may = (command, of, shows); status_is = refl; out = out; err = err }
+
+pub ends_unprinted : (words : List Word) (file : Option (List ℕ)) (command : Command) (text : List ℕ) (Out Err : Output → Type 0)
+    → IsCommandOf words command → ShowsFile words file command text → Out (CutShort text) → Err Silent → Ends words file 1 Out Err
+ends_unprinted words file command text Out Err of shows out err =
+    record { end = Unprinted text; may = (command, of, shows); status_is = refl; out = out; err = err }
+
+-- a run for words that aren't of the form
+pub ends_misused : (words : List Word) (file : Option (List ℕ)) (Out Err : Output → Type 0) → (IsCommandLine words → ⊥) → Out Silent → Err (Told usage) → Ends words file 2 Out Err
+ends_misused words file Out Err none out err = record { end = Misused; may = none; status_is = refl; out = out; err = err }
+
+-- words that no line is are of no form
+pub no_command : (words : List Word) → ((line : Line) → AreLine words line → ⊥) → IsCommandLine words → ⊥
+no_command words none is = none is.0 is.1
