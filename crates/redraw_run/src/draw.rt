@@ -165,6 +165,7 @@ impl<S: Shelf + Drop> Drawing<'_, S> {
         ensures kept { (self.new.renderer ≡ self.old.renderer) × (self.new.choice ≡ self.old.choice) }
     {
         load_files(&mut self.sources, diagnostic)?;
+        self.tell_unread(err);
         let drawn = drawn_of(self.alloc, &self.renderer, &self.sources, diagnostic)?;
         self.tell_inexact(drawn.clamped, drawn.undrawn, err);
         self.print_drawn(drawn.text, diagnostic, out, err)
@@ -185,6 +186,16 @@ impl<S: Shelf + Drop> Drawing<'_, S> {
         }
     }
 
+    /// Tells which files couldn't be read, each once.
+    fn tell_unread<V: Write>(&mut self, err: &mut V)
+        ensures kept { (self.new.renderer ≡ self.old.renderer) × (self.new.choice ≡ self.old.choice) × (self.new.tally ≡ self.old.tally) }
+    {
+        for name in self.sources.take_unread() {
+            let what = "--root names the folder that paths begin in";
+            self.tell(format_args!("can't read {name}: {what}"), err);
+        }
+    }
+
     /// Tells how many places aren't in their source, and how many edits aren't drawn.
     fn tell_inexact<V: Write>(&self, clamped: u64, undrawn: u64, err: &mut V) {
         if clamped > 0 {
@@ -192,7 +203,7 @@ impl<S: Shelf + Drop> Drawing<'_, S> {
             self.tell(format_args!("{what}: {clamped}"), err);
         }
         if undrawn > 0 {
-            let what = "edits that aren't drawn, since nothing of their file is at hand";
+            let what = "edits that aren't drawn, since too little is at hand of their files";
             self.tell(format_args!("{what}: {undrawn}"), err);
         }
     }
