@@ -2,8 +2,23 @@
 //! these.
 #![tactic(auto)]
 
+mod calls;
+pub mod cargo;
+mod columns;
+mod edits;
 pub mod expansion;
+pub mod hand;
+mod headings;
 pub mod json;
+mod lines;
+mod offers;
 pub mod place;
+mod plain;
+pub mod rendered;
+mod roles;
 pub mod rustc;
+pub mod source;
 pub mod sources;
+mod spans;
+pub mod spot;
+mod words;

@@ -1,6 +1,11 @@
 //! The sources that reports show, each read once.
 
-use redraw_report::lines::{first_line, line_starts};
+ghost use Rattle.std.specs.Prelude.{◌≡◌, string_bytes};
+ghost use Rattle.std.specs.Option.{option_map};
+ghost use Rattle.redraw_read.specs.Placed as spec;
+ghost use Rattle.redraw_read.specs.Placed.{held};
+
+use crate::source::Source;
 use std::alloc::{AllocError, Global};
 
 /// Where files are read from.
@@ -9,45 +14,33 @@ pub trait Shelf {
     fn bytes(&self, name: &str) -> Result<Option<Vec<u8>>, AllocError>;
 }
 
-/// A text, and where its lines start.
-#[derive(Drop)]
-pub struct Source {
-    pub text: String,
-    pub starts: Vec<usize>,
-}
-
-impl Source {
-    /// The source that this text is.
-    pub fn new(alloc: Global, text: &str) -> Result<Source, AllocError> {
-        let starts = line_starts(alloc, text)?;
-        let text = String::from_str(alloc, text)?;
-        Ok(Source { text, starts })
-    }
-
-    /// The line with this number, from 1, without its end.
-    pub fn line(&self, number: usize) -> Option<&[u8]> {
-        let start = *self.starts.get(number.checked_sub(1)?)?;
-        Some(first_line(self.text.as_bytes().get(start..)?))
-    }
-
-    /// Whether these lines stand in the source from this number on.
-    pub fn has_lines(&self, first_line: usize, lines: &str) -> bool {
-        let mut number = first_line;
-        for line in lines.split('\n') {
-            match self.line(number) {
-                Some(text) if text == line.as_bytes() => number = number.saturating_add(1),
-                _ => return false,
-            }
-        }
-        true
-    }
-}
+/// What the paths of the standard library begin with, as it was built: they are on no machine but that one.
+const BUILT: &str = "/rustc/";
 
 /// A file that was asked for, and what it holds; nothing where it couldn't be read as text.
 #[derive(Drop)]
-struct File {
+pub struct File {
+    /// Its name, as a tool gave it.
     name: String,
+    /// A file of the project that the tool spoke of; empty where none is known.
+    home: String,
     source: Option<Source>,
+}
+
+impl File {
+    /// Whether it was asked for by this name, in a project with this file.
+    pub fn is_named(&self, name: &str, home: &str) -> bool
+        ensures value { result ≡ spec.is_named name.now home.now self.now }
+    {
+        self.name.as_str() == name && self.home.as_str() == home
+    }
+
+    /// What it holds, where it was read.
+    pub fn source(&self) -> Option<&Source>
+        ensures value { option_map (λ source. string_bytes source.now.text) result ≡ held self.now }
+    {
+        self.source.as_ref()
+    }
 }
 
 /// The files that were asked for.
@@ -56,6 +49,8 @@ pub struct Sources<S: Drop> {
     alloc: Global,
     shelf: S,
     files: Vec<File>,
+    /// The names of those that couldn't be read, until they are told.
+    unread: Vec<String>,
 }
 
 impl<S: Shelf + Drop> Sources<S> {
@@ -65,42 +60,104 @@ impl<S: Shelf + Drop> Sources<S> {
             alloc,
             shelf,
             files: Vec::new(alloc),
+            unread: Vec::new(alloc),
         }
     }
 
-    /// Reads the file of this name, unless it was asked for before.
-    pub fn load(&mut self, name: &str) -> Result<(), AllocError> {
-        if self.index_of(name).is_some() {
-            return Ok(());
+    /// Reads the file of this name, unless it was asked for before. One that isn't on the shelf by its name is looked for
+    /// below the folders of these files.
+    pub fn load(&mut self, name: &str, homes: &[String]) -> Result<(), AllocError> {
+        let home = first_home(homes);
+        if !self.has(name, home) {
+            let source = self.source_of(name, homes)?;
+            self.keep(name, home, source)?;
         }
-        let source = match self.shelf.bytes(name)? {
-            Some(bytes) => source_of(self.alloc, bytes)?,
-            None => None,
-        };
-        let name = String::from_str(self.alloc, name)?;
-        self.files.push(File { name, source })?;
         Ok(())
     }
 
-    /// What the file of this name holds, if it was read.
-    pub fn get(&self, name: &str) -> Option<&Source> {
-        let file = self.files.get(self.index_of(name)?)?;
-        file.source.as_ref()
+    /// What a file of this name holds, on the shelf or below these files' folders.
+    fn source_of(&self, name: &str, homes: &[String]) -> Result<Option<Source>, AllocError> {
+        let bytes = match self.shelf.bytes(name)? {
+            Some(bytes) => Some(bytes),
+            None => self.bytes_near(name, homes)?,
+        };
+        match bytes {
+            Some(bytes) => source_in(self.alloc, bytes),
+            None => Ok(None),
+        }
     }
 
-    /// The index of the file of this name, if it was asked for.
-    fn index_of(&self, name: &str) -> Option<usize> {
-        for (index, file) in self.files.iter().enumerate() {
-            if file.name.as_str() == name {
-                return Some(index);
+    /// The bytes of the file of this relative name below the folders of these files, upwards.
+    fn bytes_near(&self, name: &str, homes: &[String]) -> Result<Option<Vec<u8>>, AllocError> {
+        if name.starts_with('/') {
+            return Ok(None);
+        }
+        for home in homes {
+            if let Some(bytes) = self.bytes_above(name, home.as_str())? {
+                return Ok(Some(bytes));
             }
         }
-        None
+        Ok(None)
+    }
+
+    /// The bytes of the file of this name below the folders in which this file is, from the innermost.
+    fn bytes_above(&self, name: &str, home: &str) -> Result<Option<Vec<u8>>, AllocError> {
+        let mut path = home;
+        for _ in 0..home.len() {
+            let Some((folder, _)) = path.rsplit_once('/') else {
+                return Ok(None);
+            };
+            let near = format!(in self.alloc; "{folder}/{name}")?;
+            if let Some(bytes) = self.shelf.bytes(near.as_str())? {
+                return Ok(Some(bytes));
+            }
+            path = folder;
+        }
+        Ok(None)
+    }
+
+    /// Keeps what the file of this name holds.
+    fn keep(&mut self, name: &str, home: &str, source: Option<Source>) -> Result<(), AllocError> {
+        if source.is_none() && !name.starts_with(BUILT) {
+            self.unread.push(String::from_str(self.alloc, name)?)?;
+        }
+        let file = File {
+            name: String::from_str(self.alloc, name)?,
+            home: String::from_str(self.alloc, home)?,
+            source,
+        };
+        self.files.push(file)?;
+        Ok(())
+    }
+
+    /// The names of the files that couldn't be read since this was asked before.
+    pub fn take_unread(&mut self) -> Vec<String> {
+        std::mem::replace(&mut self.unread, Vec::new(self.alloc))
+    }
+
+    /// The files that were asked for.
+    pub fn files(&self) -> &[File]
+        ensures value { result.now ≡ self.now.files.items }
+    {
+        &self.files
+    }
+
+    /// Whether the file of this name was asked for, in a project with this file.
+    fn has(&self, name: &str, home: &str) -> bool {
+        self.files.iter().any(|file| file.is_named(name, home))
+    }
+}
+
+/// The first of some files of a project; empty where there is none.
+pub fn first_home(homes: &[String]) -> &str {
+    match homes.first() {
+        Some(home) => home.as_str(),
+        None => "",
     }
 }
 
 /// The source that a file's bytes are, without a mark of their order; `None` where they aren't UTF-8.
-fn source_of(alloc: Global, bytes: Vec<u8>) -> Result<Option<Source>, AllocError> {
+fn source_in(alloc: Global, bytes: Vec<u8>) -> Result<Option<Source>, AllocError> {
     let Ok(text) = std::str::from_utf8(&bytes) else {
         return Ok(None);
     };

@@ -43,6 +43,18 @@ line_length (b ∷ bs) = if ends_line (b ∷ bs) then 0 else suc (line_length bs
 abbrev pub first_line : List ℕ → List ℕ
 first_line bytes = take (line_length bytes) bytes
 
+-- whether some bytes are a line's end and nothing else
+abbrev pub is_line_end : List ℕ → Bool
+is_line_end [] = false
+is_line_end (b ∷ []) = b == 10
+is_line_end (b ∷ c ∷ []) = b == 13 && c == 10
+is_line_end (b ∷ c ∷ d ∷ bs) = false
+
+-- the bytes in which columns of the first line of some bytes count: the line, and of the last line of a text its end too, so that a
+-- column may be the one after it
+abbrev pub counted_line : List ℕ → List ℕ
+counted_line bytes = if is_line_end (drop (line_length bytes) bytes) then bytes else first_line bytes
+
 -- how many units a character counts, told at its first byte; its other bytes, 128 to 191, count none. One that is written with four
 -- bytes in UTF-8 is two units of UTF-16
 abbrev pub units_at : unit_type.Unit → ℕ → ℕ
@@ -74,7 +86,7 @@ blanks_before (b ∷ bs) = if b == 32 || b == 9 then suc (blanks_before bs) else
 -- the place of a column in the line that starts at this byte of a text, of the first character there that isn't a blank, or of the end
 -- of the line's text
 abbrev pub on_line_from : unit_type.Unit → List ℕ → OnLine → ℕ → Place
-on_line_from unit text (on_line.Column column) start = moved start (column_in unit (first_line (drop start text)) column)
+on_line_from unit text (on_line.Column column) start = moved start (column_in unit (counted_line (drop start text)) column)
 on_line_from unit text on_line.Text start = record { byte = start + blanks_before (drop start text); exact = true }
 on_line_from unit text on_line.End start = record { byte = start + line_length (drop start text); exact = true }
 

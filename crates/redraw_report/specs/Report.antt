@@ -1,6 +1,6 @@
 -- The report that a finding becomes: which title, which place with which label, which edit.
 use Rattle.std.specs.Prelude.{string_bytes, ℕ, ◌-◌, Bool, true, false, nat_lt, ◌==◌, ◌&&◌, List, [], ◌∷◌, ◌++◌, Option, Some, None, chars, codes, length, map, slice_get, take, not, if◌then◌else◌}
-use Rattle.std.specs.List.{flat_map, list_any}
+use Rattle.std.specs.List.{flat_map, list_any, repeat}
 use Rattle.std.specs.Fmt.{decimal}
 use Rattle.std.specs.Option.{option_map, option_map_or}
 use Rattle.std.specs.Borrow.{Bor}
@@ -68,10 +68,17 @@ abbrev pub lines_of : List ℕ → List ℕ → ℕ → Bool → Lines
 lines_of path text first_line folded =
     record { path = Some path; text = text; first_line = first_line; numbered = true; folded = folded }
 
--- a source with those of some places that are in it: its lines with a mark for each, or where it has none its place and what is said
+-- as many blanks as stand before a column, counted from 1
+abbrev pub blanks_before : ℕ → List ℕ
+blanks_before column = repeat (column - 1) (codes " ")
+
+-- a source with those of some places that are in it: its lines with a mark for each, or where it has none its place and what is said,
+-- or a line of blanks with the marks
 abbrev pub content_parts : List Mark → ℕ → List ℕ → Content → List Part
 content_parts marks source path (content.Lines text first_line) =
     Marks (lines_of path text.now first_line true) (flat_map (mark_in source) marks) ∷ []
+content_parts marks source path (content.Blank line column) =
+    Marks (lines_of path (blanks_before column) line true) (flat_map (mark_in source) marks) ∷ []
 content_parts marks source path (content.Nothing line column) = Names path line column ∷ flat_map (label_in source) marks
 
 -- the same of a source as it is shown
@@ -112,6 +119,7 @@ abbrev pub edits_on : Offer → List ℕ → Content → List Part
 edits_on offer path (content.Lines text first_line) =
     Edits (lines_of path text.now first_line offer.is_folded) (map edited_of offer.changes.items) ∷ []
 edits_on offer path (content.Nothing line column) = []
+edits_on offer path (content.Blank line column) = []
 
 -- the same of an offer's source as it is shown
 abbrev pub offer_parts : Offer → Shown → List Part

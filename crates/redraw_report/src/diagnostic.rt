@@ -13,6 +13,9 @@ pub struct Diagnostic {
     pub spans: Vec<FileSpan>,
     /// What else is said of it, in the order given.
     pub children: Vec<Child>,
+    /// Files of the project that it is about, by absolute paths. A relative path that can't be found is looked for below their
+    /// folders too, and upwards.
+    pub homes: Vec<String>,
 }
 
 /// How severe something is.

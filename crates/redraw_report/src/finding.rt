@@ -24,6 +24,11 @@ pub enum Content<'a> {
         line: Option<usize>,
         column: Option<usize>,
     },
+    /// None of it, where a form tells places by marks alone: a line of blanks with this number is shown, up to this column.
+    Blank {
+        line: usize,
+        column: usize,
+    },
 }
 
 /// A finding, by places in sources, which are named by their index in a list.

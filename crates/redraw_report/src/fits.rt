@@ -1,6 +1,6 @@
 //! Whether each text of a report is within the library's limit: the one thing that drawing asks.
 
-ghost use Rattle.std.specs.Prelude.{IsTrue, IfSome};
+ghost use Rattle.std.specs.Prelude.{◌↔◌, IsTrue, IfSome};
 ghost use Rattle.std.specs.Cow.{cow_str_bytes};
 ghost use Rattle.snippet_model.specs.Fits.{AnnotationFits, ElementFits, GroupFits, IdFits, LevelFits, PatchFits, ReportFits, SnippetFits, TextFits, TitleFits};
 
@@ -9,14 +9,14 @@ use snippet_text::{CowStr, text_fits};
 
 /// Whether each text of a report fits.
 pub fn report_fits(groups: &[Group<'_>]) -> bool
-    ensures value { IsTrue result → ReportFits groups.now }
+    ensures value { IsTrue result ↔ ReportFits groups.now }
 {
     groups.iter().all(|group| group_fits(group))
 }
 
 /// Whether each text of a group fits.
 fn group_fits(group: &Group<'_>) -> bool
-    ensures value { IsTrue result → GroupFits group.now }
+    ensures value { IsTrue result ↔ GroupFits group.now }
 {
     let titled = match &group.title {
         Some(title) => title_fits(title),
@@ -27,7 +27,7 @@ fn group_fits(group: &Group<'_>) -> bool
 
 /// Whether each text of a title fits.
 fn title_fits(title: &Title<'_>) -> bool
-    ensures value { IsTrue result → TitleFits title.now }
+    ensures value { IsTrue result ↔ TitleFits title.now }
 {
     let identified = match &title.id {
         Some(id) => id_fits(id),
@@ -38,21 +38,21 @@ fn title_fits(title: &Title<'_>) -> bool
 
 /// Whether the name of a level fits.
 fn level_fits(level: &Level<'_>) -> bool
-    ensures value { IsTrue result → LevelFits level.now }
+    ensures value { IsTrue result ↔ LevelFits level.now }
 {
     text_fits(level.as_str())
 }
 
 /// Whether an identifier and its address fit.
 fn id_fits(id: &Id<'_>) -> bool
-    ensures value { IsTrue result → IdFits id.now }
+    ensures value { IsTrue result ↔ IdFits id.now }
 {
     optional_fits(&id.id) && optional_fits(&id.url)
 }
 
 /// Whether a text fits, if there is one.
 fn optional_fits(text: &Option<CowStr<'_>>) -> bool
-    ensures value { IsTrue result → IfSome text.now (λ t. TextFits (cow_str_bytes t)) }
+    ensures value { IsTrue result ↔ IfSome text.now (λ t. TextFits (cow_str_bytes t)) }
 {
     match text {
         Some(text) => cow_fits(text),
@@ -62,14 +62,14 @@ fn optional_fits(text: &Option<CowStr<'_>>) -> bool
 
 /// Whether a text fits.
 fn cow_fits(text: &CowStr<'_>) -> bool
-    ensures value { IsTrue result → TextFits (cow_str_bytes text.now) }
+    ensures value { IsTrue result ↔ TextFits (cow_str_bytes text.now) }
 {
     text_fits(text.as_str())
 }
 
 /// Whether each text of an element fits.
 fn element_fits(element: &Element<'_>) -> bool
-    ensures value { IsTrue result → ElementFits element.now }
+    ensures value { IsTrue result ↔ ElementFits element.now }
 {
     match element {
         Element::Message(message) => message_fits(message),
@@ -82,14 +82,14 @@ fn element_fits(element: &Element<'_>) -> bool
 
 /// Whether the texts of a message fit.
 fn message_fits(message: &Message<'_>) -> bool
-    ensures value { IsTrue result → LevelFits message.now.level × TextFits (cow_str_bytes message.now.text) }
+    ensures value { IsTrue result ↔ (LevelFits message.now.level × TextFits (cow_str_bytes message.now.text)) }
 {
     level_fits(&message.level) && cow_fits(&message.text)
 }
 
 /// Whether each text of a source with annotations fits.
 fn cause_fits(snippet: &Snippet<'_, Annotation<'_>>) -> bool
-    ensures value { IsTrue result → SnippetFits AnnotationFits snippet.now }
+    ensures value { IsTrue result ↔ SnippetFits AnnotationFits snippet.now }
 {
     cow_fits(&snippet.source)
         && optional_fits(&snippet.path)
@@ -101,7 +101,7 @@ fn cause_fits(snippet: &Snippet<'_, Annotation<'_>>) -> bool
 
 /// Whether each text of a source with patches fits.
 fn suggestion_fits(snippet: &Snippet<'_, Patch<'_>>) -> bool
-    ensures value { IsTrue result → SnippetFits PatchFits snippet.now }
+    ensures value { IsTrue result ↔ SnippetFits PatchFits snippet.now }
 {
     cow_fits(&snippet.source)
         && optional_fits(&snippet.path)

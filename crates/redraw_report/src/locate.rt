@@ -140,7 +140,7 @@ fn place_from_start(text: &str, start: usize, at: OnLine, unit: Unit) -> Place
     let line = &bytes[start.min(bytes.len())..];
     match at {
         OnLine::Column(column) => {
-            let within = place_in_line(first_line(line), column, unit);
+            let within = place_in_line(counted_line(line), column, unit);
             Place {
                 byte: start + within.byte,
                 exact: within.exact,
@@ -148,6 +148,18 @@ fn place_from_start(text: &str, start: usize, at: OnLine, unit: Unit) -> Place
         }
         OnLine::Text => byte_place(start + blanks_at_start(line)),
         OnLine::End => byte_place(start + line_length(line)),
+    }
+}
+
+/// The bytes in which columns of the first line of some bytes count: of the last line of a text they count its line feed too.
+fn counted_line(bytes: &[u8]) -> &[u8]
+    ensures value { result.now ≡ spec.counted_line bytes.now }
+    ensures within { length result.now ≤ length bytes.now }
+{
+    if matches!(&bytes[line_length(bytes)..], [b'\n'] | [b'\r', b'\n']) {
+        bytes
+    } else {
+        first_line(bytes)
     }
 }
 

@@ -1,9 +1,10 @@
 //! What is drawn of places: each source with those that are in it.
-ghost use Rattle.std.specs.Prelude.{◌≡◌, ◌++◌, [], ◌∷◌, IfOk, OnOk, map};
+ghost use Rattle.std.specs.Prelude.{◌≡◌, ◌++◌, [], ◌∷◌, IfOk, OnOk, map, string_bytes, true};
+ghost use Rattle.std.specs.Cow.{cow_str_bytes};
 ghost use Rattle.std.specs.List.{flat_map};
 ghost use Rattle.redraw_report.specs.Report as spec;
-ghost use Rattle.redraw_report.specs.Report.{label_in, label_rows, mark_in, marked_of, marked_parts, parts_at, said, source_parts, with_index, with_source, with_sources};
-ghost use Rattle.redraw_report.specs.View.{Gap, marked_view, part_view};
+ghost use Rattle.redraw_report.specs.Report.{label_in, label_rows, lines_of, mark_in, marked_of, marked_parts, parts_at, said, source_parts, with_index, with_source, with_sources};
+ghost use Rattle.redraw_report.specs.View.{Gap, Marks, marked_view, part_view};
 ghost use Rattle.redraw_report.specs.declared.diagnostic.Severity.TheVariants.{Note};
 
 use crate::diagnostic::Severity;
@@ -197,16 +198,8 @@ fn add_source<'a>(
 {
     match shown.content {
         Content::Lines { text, first_line } => {
-            let markers = annotations_in(alloc, source, marks)?;
-            elements.push(Element::Cause(Snippet {
-                path: Some(CowStr::Borrowed(shown.path)),
-                line_start: first_line,
-                source: CowStr::Borrowed(text),
-                markers,
-                line_numbering: true,
-                fold: true,
-            }))?;
-            Ok(())
+            let text = CowStr::Borrowed(text);
+            add_marked(alloc, elements, shown.path, text, first_line, source, marks)
         }
         Content::Nothing { line, column } => {
             elements.push(Element::Origin(Origin {
@@ -216,7 +209,51 @@ fn add_source<'a>(
             }))?;
             add_labels(alloc, elements, source, marks)
         }
+        Content::Blank { line, column } => {
+            let text = blanks_before(alloc, column)?;
+            add_marked(
+                alloc,
+                elements,
+                shown.path,
+                CowStr::Owned(text),
+                line,
+                source,
+                marks,
+            )
+        }
     }
+}
+
+/// As many blanks as stand before a column.
+fn blanks_before(alloc: Global, column: usize) -> Result<String, AllocError>
+    ensures value { IfOk result (λ text. string_bytes text ≡ spec.blanks_before column) }
+{
+    " ".repeat(alloc, column.saturating_sub(1))
+}
+
+/// Adds lines of a file, with the marks of the places that are in this source.
+fn add_marked<'a>(
+    alloc: Global,
+    elements: &mut Vec<Element<'a>>,
+    path: &'a str,
+    text: CowStr<'a>,
+    first_line: usize,
+    source: usize,
+    marks: &[Mark<'a>],
+) -> Result<(), AllocError>
+    ensures added { OnOk result (map part_view elements.new.items ≡ map part_view elements.old.items
+        ++ Marks (lines_of path.now (cow_str_bytes text.entry) first_line true) (flat_map (mark_in source) marks.now) ∷ []) }
+{
+    let markers = annotations_in(alloc, source, marks)?;
+    elements.push(Element::Cause(Snippet {
+        path: Some(CowStr::Borrowed(path)),
+        line_start: first_line,
+        source: text,
+        markers,
+        line_numbering: true,
+        fold: true,
+    }))?;
+    Ok(())
 }
 
 /// The same of the source with this index; nothing where there is none.

@@ -19,7 +19,7 @@ use redraw_command::tell::tell;
 use redraw_command::workflow::command_of;
 use redraw_read::place::load_files;
 use redraw_read::sources::{Shelf, Sources};
-use redraw_report::diagnostic::{Diagnostic, Severity};
+use redraw_report::diagnostic::{Diagnostic, FileSpan, Severity};
 use serde_json::Value;
 use std::alloc::{AllocError, Global};
 use std::fmt;
@@ -165,6 +165,7 @@ impl<S: Shelf + Drop> Drawing<'_, S> {
         ensures kept { (self.new.renderer ≡ self.old.renderer) × (self.new.choice ≡ self.old.choice) }
     {
         load_files(&mut self.sources, diagnostic)?;
+        self.tell_unread(err);
         let drawn = drawn_of(self.alloc, &self.renderer, &self.sources, diagnostic)?;
         self.tell_inexact(drawn.clamped, drawn.undrawn, err);
         self.print_drawn(drawn.text, diagnostic, out, err)
@@ -185,6 +186,16 @@ impl<S: Shelf + Drop> Drawing<'_, S> {
         }
     }
 
+    /// Tells which files couldn't be read, each once.
+    fn tell_unread<V: Write>(&mut self, err: &mut V)
+        ensures kept { (self.new.renderer ≡ self.old.renderer) × (self.new.choice ≡ self.old.choice) × (self.new.tally ≡ self.old.tally) }
+    {
+        for name in self.sources.take_unread() {
+            let what = "--root names the folder that paths begin in";
+            self.tell(format_args!("can't read {name}: {what}"), err);
+        }
+    }
+
     /// Tells how many places aren't in their source, and how many edits aren't drawn.
     fn tell_inexact<V: Write>(&self, clamped: u64, undrawn: u64, err: &mut V) {
         if clamped > 0 {
@@ -192,7 +203,7 @@ impl<S: Shelf + Drop> Drawing<'_, S> {
             self.tell(format_args!("{what}: {clamped}"), err);
         }
         if undrawn > 0 {
-            let what = "edits that aren't drawn, since nothing of their file is at hand";
+            let what = "edits that aren't drawn, since too little is at hand of their files";
             self.tell(format_args!("{what}: {undrawn}"), err);
         }
     }
@@ -241,13 +252,19 @@ impl<S: Shelf + Drop> Drawing<'_, S> {
         ensures counted { OnOk result (IsCounted diagnostic.now self.old.tally self.new.tally) }
         ensures kept { (self.new.renderer ≡ self.old.renderer) × (self.new.choice ≡ self.old.choice) }
     {
-        for span in &diagnostic.spans {
-            if span.is_primary {
-                self.files.add(span.file.as_str())?;
-            }
-        }
+        add_files(&mut self.files, &diagnostic.spans)?;
         self.tally = self.tally.with(diagnostic.severity, is_sum(diagnostic));
         self.tally.files = self.files.len();
         Ok(())
     }
+}
+
+/// Adds the files that the primary ones of these places are in.
+fn add_files(files: &mut Names, spans: &[FileSpan]) -> Result<(), AllocError> {
+    for span in spans {
+        if span.is_primary {
+            files.add(span.file.as_str())?;
+        }
+    }
+    Ok(())
 }

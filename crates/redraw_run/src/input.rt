@@ -8,6 +8,7 @@ use json_node::place::Place;
 use redraw_command::line::{Line, is_utf16, line_of};
 use redraw_command::output::pass;
 use redraw_command::stop::Stop;
+use redraw_read::cargo::packaged_diagnostic_of;
 use redraw_read::json::listed;
 use redraw_read::rustc::diagnostic_of;
 use redraw_read::sources::Shelf;
@@ -289,7 +290,7 @@ fn cargo_message<S: Shelf + Drop, W: Write, V: Write>(
     err: &mut V,
 ) -> Result<(), Stop> {
     match node.needed("message", Expectation::Object) {
-        Ok(message) => drawing.finding(diagnostic_of(&message), Some(message.value), out, err),
+        Ok(message) => drawing.finding(packaged_diagnostic_of(node), Some(message.value), out, err),
         Err(fault) => drawing.finding(Err(fault), None, out, err),
     }
 }

@@ -32,7 +32,7 @@ pub fn drawn_of<S: Shelf + Drop>(
 ) -> Result<Drawn, AllocError>
     ensures shows { IfOk result (λ drawn. IfOk drawn.text (λ text. ShowsFinding renderer.now (string_bytes text))) }
 {
-    let mut placing = Placing::new(alloc);
+    let mut placing = Placing::new(alloc, renderer.short_message);
     let finding = placing.finding(sources, diagnostic)?;
     let groups = report(alloc, &placing.shown, &finding)?;
     Ok(Drawn {

@@ -1,5 +1,5 @@
 -- How a message with links is walked along, character by character.
-use Rattle.std.proofs.Common.{◌≡◌, refl, ℕ, zero, suc, ◌+◌, ◌-◌, ◌<◌, ◌≤◌, List, [], ◌∷◌, ◌++◌, drop, drop-cons, get_or, length, encode_utf8_all, ap, sym, ◌∙◌, arith}
+use Rattle.std.proofs.Common.{◌≡◌, refl, ℕ, zero, suc, ◌+◌, ◌<◌, List, [], ◌∷◌, ◌++◌, drop, drop-cons, get_or, length, encode_utf8_all, ap, sym, ◌∙◌, arith}
 use Rattle.std.proofs.lemmas.List.{append_assoc}
 use Rattle.std.proofs.lemmas.Str.{encodes-append}
 use Rattle.redraw_sarif.specs.Links.{piece_of, without_links}
@@ -19,7 +19,9 @@ one-taken cs at taken left within is =
     ∙ ap (λ n. without_links n (drop at cs)) more
 
 -- a piece that is added is the next of what is shown
-pub piece-added : (cs old new whole : List ℕ) (at more : ℕ) → at < length cs → new ≡ old ++ encode_utf8_all (piece_of (get_or cs at 0) (drop (at + 1) cs)).shown → more ≡ (piece_of (get_or cs at 0) (drop (at + 1) cs)).more → old ++ encode_utf8_all (without_links 0 (drop at cs)) ≡ whole → new ++ encode_utf8_all (without_links more (drop (at + 1) cs)) ≡ whole
+pub piece-added : (cs old new whole : List ℕ) (at more : ℕ) → at < length cs →
+    new ≡ old ++ encode_utf8_all (piece_of (get_or cs at 0) (drop (at + 1) cs)).shown → more ≡ (piece_of (get_or cs at 0) (drop (at + 1) cs)).more →
+    old ++ encode_utf8_all (without_links 0 (drop at cs)) ≡ whole → new ++ encode_utf8_all (without_links more (drop (at + 1) cs)) ≡ whole
 piece-added cs old new whole at more within added is so =
     let on : suc at ≡ at + 1 = omega arith in
     let after = drop (at + 1) cs in

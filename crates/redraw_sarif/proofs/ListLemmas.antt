@@ -18,13 +18,15 @@ changed-at f [] i d within = absurd (omega (arith, within))
 changed-at f (x ∷ old) zero d within = refl
 changed-at f (x ∷ old) (suc i) d within = changed-at f old i d (omega (arith, within))
 
-changed-step : {X : Type 0} (f : X → X) (old : List X) (i : ℕ) (d : X) → i < length old → set (map f (take i old) ++ drop i old) i (f (get_or old i d)) ≡ map f (take (suc i) old) ++ drop (suc i) old
+changed-step : {X : Type 0} (f : X → X) (old : List X) (i : ℕ) (d : X) → i < length old →
+    set (map f (take i old) ++ drop i old) i (f (get_or old i d)) ≡ map f (take (suc i) old) ++ drop (suc i) old
 changed-step f [] i d within = absurd (omega (arith, within))
 changed-step f (x ∷ old) zero d within = refl
 changed-step f (x ∷ old) (suc i) d within = ap (λ xs. f x ∷ xs) (changed-step f old i d (omega (arith, within)))
 
 -- with one more element changed those so far are changed
-pub changed-more : {X : Type 0} (f : X → X) (old now : List X) (i : ℕ) (d : X) → now ≡ map f (take i old) ++ drop i old → i < length old → set now i (f (get_or now i d)) ≡ map f (take (i + 1) old) ++ drop (i + 1) old
+pub changed-more : {X : Type 0} (f : X → X) (old now : List X) (i : ℕ) (d : X) → now ≡ map f (take i old) ++ drop i old → i < length old →
+    set now i (f (get_or now i d)) ≡ map f (take (i + 1) old) ++ drop (i + 1) old
 changed-more f old now i d is within =
     let on : suc i ≡ i + 1 = omega arith in
     ap (λ x. set now i (f x)) (ap (λ xs. get_or xs i d) is ∙ changed-at f old i d within)

@@ -1,5 +1,5 @@
 -- Rows of what is shown, computed: of steps, of their labels and of messages with links; and wrong ones, which contradict it.
-use Rattle.std.proofs.Common.{◌≡◌, refl, ℕ, List, [], ◌∷◌, ◌++◌, get_or, ap, arith}
+use Rattle.std.proofs.Common.{◌≡◌, refl, [], ◌∷◌, get_or, ap, arith}
 use Rattle.std.specs.Prelude.{codes}
 use Rattle.std.specs.List.{range_with_len}
 use Rattle.redraw_sarif.specs.Links.{without_links}

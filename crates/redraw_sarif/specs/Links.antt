@@ -1,5 +1,5 @@
 -- The text of a message that holds links: `[text](1)` is its text.
-use Rattle.std.specs.Prelude.{ℕ, zero, suc, ◌+◌, Bool, true, false, nat_lt, ◌==◌, ◌&&◌, ◌||◌, List, [], ◌∷◌, ◌++◌, drop, not, take, if◌then◌else◌}
+use Rattle.std.specs.Prelude.{ℕ, zero, suc, ◌+◌, Bool, false, nat_lt, ◌==◌, ◌&&◌, ◌||◌, List, [], ◌∷◌, ◌++◌, drop, not, take, if◌then◌else◌}
 use Rattle.std.specs.Char.{is_ascii_digit}
 
 -- whether a character is a square bracket

@@ -1,5 +1,5 @@
 -- Which of a result's places are the point of the report.
-use Rattle.std.specs.Prelude.{string_bytes, nat_eq, ℕ, Bool, true, false, ◌==◌, ◌&&◌, List, [], ◌∷◌, Option, Some, None, map, if◌then◌else◌}
+use Rattle.std.specs.Prelude.{string_bytes, nat_eq, ℕ, Bool, true, false, ◌==◌, ◌&&◌, List, [], ◌∷◌, Option, Some, map, if◌then◌else◌}
 use Rattle.std.specs.List.{list_all, list_any}
 use lib.Pointwise.{pointwise}
 use Rattle.redraw_report.specs.declared.diagnostic.FileSpan.{FileSpan}

@@ -11,8 +11,8 @@ use std::alloc::{AllocError, Global};
 /// What stands over a fix that isn't described.
 const UNDESCRIBED: &str = "apply this fix";
 
-/// Adds what is said of a list of fixes: one help for each description, with the fixes of that description, one of which is to be
-/// made. Those of one description have to stand in a row. A fix with something wrong in it is left out.
+/// Adds what is said of a list of fixes: one help for each description, with the fixes of that description, one of which
+/// is to be made. Those of one description have to stand in a row. A fix with something wrong in it is left out.
 pub fn add_fixes(
     children: &mut Vec<Child>,
     fixes: &List<'_, '_>,

@@ -15,8 +15,8 @@ pub struct Told {
     pub children: Vec<Child>,
 }
 
-/// Adds the steps of a result's first flow: each that has a place as a place of context, with its number and message. Of many
-/// only the first and the last are shown, and a note says how many are left out.
+/// Adds the steps of a result's first flow: each that has a place as a place of context, with its number and message.
+/// Of many only the first and the last are shown, and a note says how many are left out.
 pub fn add_steps(
     told: &mut Told,
     reported: &Node<'_, '_>,

@@ -9,7 +9,8 @@ use std::alloc::{AllocError, Global};
 
 /// A message's text with the text of each link in the link's place. A bracket after a backslash is that bracket.
 pub fn without_links(alloc: Global, message: &str) -> Result<String, AllocError>
-    ensures value { IfOk result (λ text. string_bytes text ≡ encode_utf8_all (spec.without_links 0 (chars message.now))) }
+    ensures value { IfOk result (λ text. string_bytes text
+        ≡ encode_utf8_all (spec.without_links 0 (chars message.now))) }
 {
     let written: Vec<char> = message.chars().collect(alloc)?;
     shown_of(alloc, &written)
@@ -36,14 +37,16 @@ fn add_piece_at(text: &mut String, written: &[char], at: usize) -> Result<usize,
     requires within { at < length written.now }
     ensures added { OnOk result (string_bytes text.new
         ≡ string_bytes text.old ++ encode_utf8_all (piece_of (slice_index written.now at) (drop (at + 1) written.now)).shown) }
-    ensures more { IfOk result (λ more. more ≡ (piece_of (slice_index written.now at) (drop (at + 1) written.now)).more) }
+    ensures more { IfOk result (λ more. more
+        ≡ (piece_of (slice_index written.now at) (drop (at + 1) written.now)).more) }
 {
     add_piece(text, written[at], &written[at + 1..])
 }
 
 /// Adds what is shown for a character before others, and returns how many of these it takes with it.
 fn add_piece(text: &mut String, c: char, after: &[char]) -> Result<usize, AllocError>
-    ensures added { OnOk result (string_bytes text.new ≡ string_bytes text.old ++ encode_utf8_all (piece_of c after.now).shown) }
+    ensures added { OnOk result (string_bytes text.new
+        ≡ string_bytes text.old ++ encode_utf8_all (piece_of c after.now).shown) }
     ensures more { IfOk result (λ more. more ≡ (piece_of c after.now).more) }
 {
     match c {
@@ -58,7 +61,8 @@ fn add_piece(text: &mut String, c: char, after: &[char]) -> Result<usize, AllocE
 
 /// The same for a bracket, with which a link may begin.
 fn add_link(text: &mut String, c: char, after: &[char]) -> Result<usize, AllocError>
-    ensures added { OnOk result (string_bytes text.new ≡ string_bytes text.old ++ encode_utf8_all (link_piece c after.now).shown) }
+    ensures added { OnOk result (string_bytes text.new
+        ≡ string_bytes text.old ++ encode_utf8_all (link_piece c after.now).shown) }
     ensures more { IfOk result (λ more. more ≡ (link_piece c after.now).more) }
 {
     let length = before_bracket(after);
@@ -74,7 +78,8 @@ fn add_link(text: &mut String, c: char, after: &[char]) -> Result<usize, AllocEr
 
 /// The same for a backslash.
 fn add_backslash(text: &mut String, c: char, after: &[char]) -> Result<usize, AllocError>
-    ensures added { OnOk result (string_bytes text.new ≡ string_bytes text.old ++ encode_utf8_all (backslash_piece c after.now).shown) }
+    ensures added { OnOk result (string_bytes text.new
+        ≡ string_bytes text.old ++ encode_utf8_all (backslash_piece c after.now).shown) }
     ensures more { IfOk result (λ more. more ≡ (backslash_piece c after.now).more) }
 {
     match after {
@@ -175,7 +180,8 @@ fn digits_before(written: &[char]) -> usize
 
 /// Adds the text of a link. Of a backslash before a bracket or a backslash only the second stays.
 fn add_unescaped(text: &mut String, written: &[char]) -> Result<(), AllocError>
-    ensures added { OnOk result (string_bytes text.new ≡ string_bytes text.old ++ encode_utf8_all (spec.unescaped false written.now)) }
+    ensures added { OnOk result (string_bytes text.new
+        ≡ string_bytes text.old ++ encode_utf8_all (spec.unescaped false written.now)) }
 {
     let mut is_escaped = false;
     for c in written {
@@ -190,7 +196,8 @@ fn add_unescaped(text: &mut String, written: &[char]) -> Result<(), AllocError>
 
 /// Adds what is shown for a character of a link's text.
 fn add_text_at(text: &mut String, is_escaped: bool, c: char) -> Result<(), AllocError>
-    ensures added { OnOk result (string_bytes text.new ≡ string_bytes text.old ++ encode_utf8_all (spec.text_at is_escaped c)) }
+    ensures added { OnOk result (string_bytes text.new
+        ≡ string_bytes text.old ++ encode_utf8_all (spec.text_at is_escaped c)) }
 {
     if escapes(is_escaped, c) {
         return Ok(());

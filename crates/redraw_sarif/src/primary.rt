@@ -5,8 +5,8 @@ ghost use Rattle.redraw_sarif.specs.Primary as spec;
 
 use redraw_report::diagnostic::{FileSpan, Region};
 
-/// Makes those places the point of the report that are one column, if there are such and all places are in one file: the others
-/// help to see them. So writes clang: the column of the error, and the parts of the source around it that it speaks of.
+/// Makes those places the point of the report that are one column, if there are such and all places are in one file:
+/// the others help to see them. So writes clang: the column of the error, and the parts of the source around it.
 pub fn choose_primary(spans: &mut [FileSpan])
     ensures value { spans.new ≡ spec.chosen spans.old }
 {

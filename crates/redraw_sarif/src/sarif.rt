@@ -83,6 +83,7 @@ fn diagnostic_of(
         code,
         spans: told.spans,
         children: told.children,
+        homes: Vec::new(context.alloc),
     })
 }
 

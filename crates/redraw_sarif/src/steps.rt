@@ -12,7 +12,8 @@ const FIRST: usize = 4;
 /// How many of the last steps are shown then.
 const LAST: usize = 8;
 
-/// The indexes of the steps that are shown of so many: all where they are at most twelve, else the first four and the last eight.
+/// The indexes of the steps that are shown of so many: all where they are at most twelve, else the first four and the
+/// last eight.
 pub fn shown_steps(alloc: Global, count: usize) -> Result<Vec<usize>, AllocError>
     ensures value { IfOk result (λ shown. shown.items ≡ spec.shown_steps count) }
 {

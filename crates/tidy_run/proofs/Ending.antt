@@ -1,9 +1,8 @@
 -- How a run ends.
-use Rattle.std.proofs.Common.{Bor, String, Global, chars, encode_utf8_all, string_bytes, ◌≡◌, ◌≢◌, ◌⊎◌, ℕ, List, [], ◌∷◌, Option, Some, None, IfSome, IsSome, IsSomeAnd, MatchOption, length, inl, inr, refl, sym, ap, ◌∙◌, subst}
+use Rattle.std.proofs.Common.{Bor, String, Global, chars, encode_utf8_all, string_bytes, ◌≡◌, ◌⊎◌, ℕ, List, [], ◌∷◌, Option, Some, None, IfSome, IsSomeAnd, MatchOption, length, inl, inr, refl, sym, ap, ◌∙◌, subst}
 use Rattle.std.specs.Option.{option_to_list}
 use Rattle.std.proofs.lemmas.Slice.Zip.{AllZip-long}
 use Rattle.std.proofs.lemmas.Str.{IsUtf8-string_bytes, encodes-chars}
-use Rattle.annotate_snippets.specs.declared.renderer.style.Stylesheet.{Stylesheet}
 use Rattle.annotate_snippets.specs.Fits.{TextFits}
 use Rattle.annotate_snippets.specs.Normalized.{norm}
 use Rattle.program.specs.Stream.{Output, Silent, Whole, CutShort, Told as Tells}

@@ -1,5 +1,5 @@
 -- The texts of a run: one for each sheet, if any, and what is written of them is what shows the findings.
-use Rattle.std.proofs.Common.{◌≡◌, ◌≢◌, ℕ, Vec, refl, List, [], ◌∷◌, Option, None, Some, IfSome, IsSomeAnd, String, Global, inl, inr, ◌⊎◌, length, map, ap, string_bytes, subst, sym, ◌∙◌}
+use Rattle.std.proofs.Common.{◌≡◌, ◌≢◌, ℕ, Vec, refl, List, [], ◌∷◌, Option, None, Some, IfSome, IsSomeAnd, String, Global, inl, inr, ◌⊎◌, length, map, ap, string_bytes, sym, ◌∙◌}
 use Rattle.std.specs.Prelude.{IfOk}
 use Rattle.std.specs.declared.alloc.AllocError.{AllocError}
 use Rattle.std.specs.declared.result.Result.{Result}

@@ -1,4 +1,4 @@
-use Rattle.std.proofs.Common.{◌≡◌, ◌++◌, ◌+◌, [], encode_utf8_all, drop, string_bytes, ap, sym, ◌∙◌, arith}
+use Rattle.std.proofs.Common.{◌≡◌, ◌++◌, ◌+◌, encode_utf8_all, drop, string_bytes, ap, sym, ◌∙◌, arith}
 use Rattle.std.proofs.lemmas.List.{append-nil, at_drop_all}
 use Rattle.redraw_sarif.specs.Links.{without_links}
 use Rattle.redraw_sarif.proofs.LinkLemmas.{nothing-left, one-taken, piece-added}
@@ -13,7 +13,8 @@ loop-at-preserved c =
     elim c.if-taken-gt0.branch [
       | then-taken-gt0 w ↦
           ap (λ t. string_bytes t ++ encode_utf8_all (without_links c.if-taken-gt0.taken (drop (at + 1) cs))) w.text-is
-          ∙ ap (λ xs. before ++ encode_utf8_all xs) (one-taken cs at c.loop-at.taken c.if-taken-gt0.taken (omega arith) (omega (arith, w.taken-is, w.if-taken-gt0.true)))
+          ∙ ap (λ xs. before ++ encode_utf8_all xs) (one-taken cs at c.loop-at.taken c.if-taken-gt0.taken (omega arith)
+          (omega (arith, w.taken-is, w.if-taken-gt0.true)))
           ∙ c.loop-at.invariant
       | else-taken-gt0+in_ok-taken w ↦
           let none : 0 ≡ c.loop-at.taken = omega (arith, w.if-taken-gt0.false) in
@@ -29,6 +30,7 @@ returns c =
     let text = string_bytes c.loop-at.text in
     record {
       value = sym (append-nil text)
-          ∙ ap (λ xs. text ++ encode_utf8_all xs) (sym (at_drop_all (without_links c.loop-at.taken) cs c.loop-at.at (omega arith) ∙ nothing-left c.loop-at.taken))
+          ∙ ap (λ xs. text ++ encode_utf8_all xs) (sym
+          (at_drop_all (without_links c.loop-at.taken) cs c.loop-at.at (omega arith) ∙ nothing-left c.loop-at.taken))
           ∙ c.loop-at.invariant;
     }

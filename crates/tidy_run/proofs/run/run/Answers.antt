@@ -1,7 +1,7 @@
-use Rattle.std.proofs.Common.{◌≡◌, ◌⊎◌, List, String, Global, None, [], ap, length, map, refl, string_bytes, subst, sym}
+use Rattle.std.proofs.Common.{◌≡◌, ◌⊎◌, List, String, Global, [], ap, length, map, refl, string_bytes, subst, sym}
 use Rattle.std.specs.Option.{option_copied}
 use Rattle.tidy_run.specs.Run.{Clean, Reads, sheets_for}
-use Rattle.tidy_run.specs.Words.{line_of, said, words_at}
+use Rattle.tidy_run.specs.Words.{said, words_at}
 use Rattle.tidy_run.proofs.Ending.{clean_of_texts, ends_as, ends_failed, ends_found, ends_misused, ends_unlogged, ends_unprinted}
 use Rattle.tidy_run.proofs.WrittenLemmas.{counted_texts}
 use Rattle.tidy_run.proofs.run.run.Goals as goal

@@ -1,0 +1,5 @@
+fn only() {}
+
+pub fn all() {
+    only();
+}

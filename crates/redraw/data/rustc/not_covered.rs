@@ -1,0 +1,6 @@
+fn main() {
+    let given = Some(1);
+    match given {
+        None => println!("none"),
+    }
+}

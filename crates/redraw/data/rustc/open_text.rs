@@ -1,0 +1,3 @@
+fn main() {
+    let s = "a text without an end;
+}

@@ -1,0 +1,3 @@
+-- The vocabulary of what is read for a report.
+pub mod Placed
+pub mod Rendered

@@ -1,0 +1,65 @@
+-- How a suggestion is shown, which rustc's own text of a diagnostic tells.
+use Rattle.std.specs.Prelude.{ℕ, eqb, ◌==◌, List, [], ◌∷◌, Option, Some, None, codes, drop, length, if◌then◌else◌}
+use Rattle.std.specs.List.{slice_split, starts_with}
+use Rattle.std.specs.Option.{option_and_then, option_or}
+use Rattle.std.specs.Str.{trim_start}
+use Rattle.redraw_read.specs.declared.rendered.Manner.{Manner}
+use Rattle.redraw_read.specs.declared.rendered.Manner.TheVariants as manner
+use Rattle.redraw_read.specs.declared.rendered.Stand.{Stand}
+use Rattle.redraw_read.specs.declared.rendered.Stand.TheVariants as stand
+
+-- what comes after these words at the start of a text, where they stand there
+abbrev pub after : List ℕ → List ℕ → Option (List ℕ)
+after words text = if starts_with eqb text words then Some (drop (length words) text) else None
+
+-- what comes after the first place in a text where these words stand
+abbrev pub after_first : List ℕ → List ℕ → Option (List ℕ)
+after_first words [] = after words []
+after_first words (b ∷ bs) = option_or (after words (b ∷ bs)) (after_first words bs)
+
+-- what stands in a line where the message of a suggestion may: in a title after `help: `, in a message after blanks and `= help: `,
+-- and in a label after the first `help: `, wherever that is
+abbrev pub stands_in : Stand → List ℕ → Option (List ℕ)
+stands_in stand.Title line = after (codes "help: ") line
+stands_in stand.Message line = after (codes "= help: ") (trim_start line)
+stands_in stand.Label line = after_first (codes "help: ") line
+
+-- a text, if it begins with a message
+abbrev pub begun : List ℕ → List ℕ → Option (List ℕ)
+begun message text = if starts_with eqb text message then Some text else None
+
+-- what a line shows of a message in such a place: from the message on to its end, if the message stands there
+abbrev pub shown_in : Stand → List ℕ → List ℕ → Option (List ℕ)
+shown_in place message line = option_and_then (begun message) (stands_in place line)
+
+-- what the first of some lines shows that shows something
+abbrev pub first_shown : Stand → List ℕ → List (List ℕ) → Option (List ℕ)
+first_shown place message [] = None
+first_shown place message (line ∷ lines) = option_or (shown_in place message line) (first_shown place message lines)
+
+-- how a suggestion is shown, with the text that is shown from its message on
+pub data Way : Type 0 where
+  Group : (title : List ℕ) → Way
+  Message : (said : List ℕ) → Way
+  Label : (label : List ℕ) → Way
+  Nowhere : Way
+
+-- as a group where it is a title, else as a message, else as a label; else it isn't shown
+abbrev pub way_by : Option (List ℕ) → Option (List ℕ) → Option (List ℕ) → Way
+way_by (Some title) said label = Group title
+way_by None (Some said) label = Message said
+way_by None None (Some label) = Label label
+way_by None None None = Nowhere
+
+-- the same of a message in the lines of a text
+abbrev pub way : List ℕ → List ℕ → Way
+way message text =
+    let lines = slice_split (λ b. b == 10) text in
+    way_by (first_shown stand.Title message lines) (first_shown stand.Message message lines) (first_shown stand.Label message lines)
+
+-- how a manner that was found says that it is shown
+abbrev pub way_of : Manner → Way
+way_of (manner.Group title) = Group title.now
+way_of (manner.Message said) = Message said.now
+way_of (manner.Label label) = Label label.now
+way_of manner.Nowhere = Nowhere

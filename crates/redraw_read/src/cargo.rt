@@ -1,0 +1,27 @@
+//! A message of cargo that has a diagnostic of rustc in it.
+
+use crate::json::{given, given_text, owned};
+use crate::rustc::diagnostic_of;
+use json_node::expectation::Expectation;
+use json_node::fault::Fault;
+use json_node::node::Node;
+use redraw_report::diagnostic::Diagnostic;
+
+/// The diagnostic in a message of cargo, with the files of the package that it is of.
+pub fn packaged_diagnostic_of(node: &Node<'_, '_>) -> Result<Diagnostic, Fault> {
+    let message = node.needed("message", Expectation::Object)?;
+    let mut diagnostic = diagnostic_of(&message)?;
+    add_home(node, "manifest_path", &mut diagnostic.homes)?;
+    if let Some(target) = given(node, "target") {
+        add_home(&target, "src_path", &mut diagnostic.homes)?;
+    }
+    Ok(diagnostic)
+}
+
+/// Adds the file that is named in this field, if there is one.
+fn add_home(node: &Node<'_, '_>, name: &str, homes: &mut Vec<String>) -> Result<(), Fault> {
+    if let Some(path) = given_text(node, name)? {
+        homes.push(owned(node.alloc, path)?)?;
+    }
+    Ok(())
+}

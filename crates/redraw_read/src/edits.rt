@@ -1,0 +1,136 @@
+//! The edits that a child of a diagnostic of rustc suggests.
+
+use crate::json::{given_text, listed, owned};
+use crate::offers::is_attribute;
+use crate::spans::{carried_of, region_of};
+use json_node::expectation::Expectation;
+use json_node::fault::Fault;
+use json_node::node::Node;
+use redraw_report::diagnostic::{Edit, LineRegion, Region};
+use serde_json::Value;
+use std::alloc::{AllocError, Global};
+
+/// The edits of a child: those of its places that have a text to stand there.
+pub fn edits_of(node: &Node<'_, '_>) -> Result<Vec<Edit>, Fault> {
+    let list = node.needed("spans", Expectation::List)?;
+    let values = listed(node, "spans")?;
+    let mut edits = Vec::new(node.alloc);
+    add_edits(&list, values, &mut edits)?;
+    Ok(edits)
+}
+
+/// Adds the edits of the places in a list of these values.
+fn add_edits<'v>(
+    list: &Node<'v, '_>,
+    values: &'v [Value],
+    edits: &mut Vec<Edit>,
+) -> Result<(), Fault> {
+    for (index, value) in values.iter().enumerate() {
+        add_edit(&list.item(index, value), edits)?;
+    }
+    Ok(())
+}
+
+/// Adds the edit of a place, if a text is to stand there.
+fn add_edit(place: &Node<'_, '_>, edits: &mut Vec<Edit>) -> Result<(), Fault> {
+    if let Some(replacement) = given_text(place, "suggested_replacement")? {
+        edits.push(edit_of(place, replacement)?)?;
+    }
+    Ok(())
+}
+
+/// An edit: a place, and what is to stand there. An attribute above a line is to stand as far right as the line: so it is put in
+/// at the line's start, after what is blank there.
+fn edit_of(node: &Node<'_, '_>, replacement: &str) -> Result<Edit, Fault> {
+    let region = region_of(node)?;
+    let file = node.text("file_name")?;
+    let carried = carried_of(node, region)?;
+    let blank = if start_of(region) == end_of(region) {
+        blank_before(node, region, replacement)
+    } else {
+        ""
+    };
+    let replacement = format!(in node.alloc; "{blank}{replacement}")?;
+    Ok(Edit {
+        file: owned(node.alloc, file)?,
+        region: Region::Lines(moved_back(region, blank)),
+        replacement,
+        carried,
+    })
+}
+
+/// What stands before the place of an attribute in its line, if that is blank.
+fn blank_before<'v>(node: &Node<'v, '_>, region: LineRegion, replacement: &str) -> &'v str {
+    match text_before(node.value, region) {
+        Some(blank) if blank.trim().is_empty() && is_attribute(replacement) => blank,
+        _ => "",
+    }
+}
+
+/// A place after these blanks, at its line's start; the place itself where there are none.
+fn moved_back(region: LineRegion, blank: &str) -> LineRegion {
+    if blank.is_empty() {
+        return region;
+    }
+    LineRegion {
+        start_column: Some(1),
+        end_column: Some(1),
+        ..region
+    }
+}
+
+/// What stands before a place in the first of the lines that it has with it.
+fn text_before(span: &Value, region: LineRegion) -> Option<&str> {
+    let before = region.start_column?.checked_sub(1)?;
+    span.pointer("/text/0/text")?.as_str()?.get(..before)
+}
+
+/// Edits as the alternatives that they are. rustc writes these one after another, and none of them has edits that overlap: so
+/// one begins with an edit that overlaps with one of the edits before.
+pub fn alternatives_of(alloc: Global, edits: Vec<Edit>) -> Result<Vec<Vec<Edit>>, AllocError> {
+    let mut alternatives = Vec::new(alloc);
+    let mut current: Vec<Edit> = Vec::new(alloc);
+    for edit in edits {
+        if overlaps_one(&edit, &current) {
+            alternatives.push(current)?;
+            current = Vec::new(alloc);
+        }
+        current.push(edit)?;
+    }
+    if !current.is_empty() {
+        alternatives.push(current)?;
+    }
+    Ok(alternatives)
+}
+
+/// Whether an edit overlaps with one of these.
+fn overlaps_one(edit: &Edit, others: &[Edit]) -> bool {
+    for other in others {
+        if !are_apart(other, edit) {
+            return true;
+        }
+    }
+    false
+}
+
+/// Whether two edits can be made together: they are of one file, and one ends where the other starts, or before it.
+fn are_apart(first: &Edit, second: &Edit) -> bool {
+    let (Region::Lines(a), Region::Lines(b)) = (first.region, second.region) else {
+        return false;
+    };
+    let (from, to) = (start_of(a), end_of(a));
+    let (other_from, other_to) = (start_of(b), end_of(b));
+    first.file == second.file
+        && (to <= other_from || other_to <= from)
+        && (from, to) != (other_from, other_to)
+}
+
+/// The line and column where a region starts.
+fn start_of(region: LineRegion) -> (usize, Option<usize>) {
+    (region.start_line, region.start_column)
+}
+
+/// The line and column where a region ends.
+fn end_of(region: LineRegion) -> (usize, Option<usize>) {
+    (region.end_line, region.end_column)
+}

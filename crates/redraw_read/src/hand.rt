@@ -1,0 +1,66 @@
+//! What is at hand to show a part of a file in: the file, or lines that the input has of it.
+
+ghost use Rattle.std.specs.Prelude.{◌≡◌, string_bytes};
+ghost use Rattle.std.specs.Option.{option_map};
+ghost use Rattle.redraw_read.specs.Placed.{text_of};
+
+use crate::lines::has_lines;
+use crate::source::Source;
+use crate::sources::File;
+use redraw_report::diagnostic::Carried;
+
+/// What is at hand, and how it is drawn.
+#[derive(Clone, Copy)]
+pub struct Hand<'a> {
+    /// The files that were read.
+    pub files: &'a [File],
+    /// A file of the project that is spoken of; empty where none is known.
+    pub home: &'a str,
+    /// Whether each finding is drawn on one line, which tells places by marks alone.
+    pub is_short: bool,
+}
+
+/// Lines of a file.
+#[derive(Clone, Copy)]
+pub enum Extract<'a> {
+    /// All of it.
+    Whole(&'a Source),
+    /// Those that the input has.
+    Part(&'a Carried),
+}
+
+/// The lines in which a part of a file is shown, where any are at hand.
+pub fn lines_for<'a>(
+    hand: Hand<'a>,
+    file: &str,
+    carried: &'a Option<Carried>,
+) -> Option<Extract<'a>> {
+    match (source_of(hand, file), carried) {
+        (None, None) => None,
+        (None, Some(lines)) => Some(Extract::Part(lines)),
+        (Some(source), None) => Some(Extract::Whole(source)),
+        (Some(source), Some(lines)) => Some(choice_of(source, lines)),
+    }
+}
+
+/// The file, where it has these lines of it; else the lines. Parts of lines may be other than the file's: it counts more than they.
+fn choice_of<'a>(source: &'a Source, lines: &'a Carried) -> Extract<'a> {
+    if !lines.is_whole || has_lines(source, lines.first_line, lines.text.as_str()) {
+        Extract::Whole(source)
+    } else {
+        Extract::Part(lines)
+    }
+}
+
+/// What the file of this name holds, where it was read.
+fn source_of<'a>(hand: Hand<'a>, name: &str) -> Option<&'a Source>
+    ensures value { option_map (λ source. string_bytes source.now.text) result
+        ≡ text_of hand.entry.files.now name.now hand.entry.home.now }
+{
+    for file in hand.files {
+        if file.is_named(name, hand.home) {
+            return file.source();
+        }
+    }
+    None
+}

@@ -1,0 +1,245 @@
+//! How a suggestion is shown, which rustc's own text of a diagnostic tells: its JSON says of each suggestion only what it
+//! changes.
+
+use crate::columns::show_columns;
+use crate::plain::without_styles;
+use crate::roles::settle_roles;
+use crate::words::begins_with;
+use redraw_report::diagnostic::{Child, Diagnostic, Edit, FileSpan};
+use snippet_text::normalized;
+use std::alloc::{AllocError, Global};
+
+/// How a suggestion is shown, with the line that shows it, from the suggestion's message on.
+#[derive(Clone, Copy)]
+pub enum Manner<'t> {
+    /// As a group of its own: this is its title.
+    Group(&'t str),
+    /// As this message of the group before it.
+    Message(&'t str),
+    /// As a label of the place that it changes: `help: `, and this.
+    Label(&'t str),
+    /// Not at all.
+    Nowhere,
+}
+
+/// Where in a line the message of a suggestion stands.
+#[derive(Clone, Copy)]
+enum Stand {
+    /// After `help: `, with which the line begins.
+    Title,
+    /// After blanks and `= help: `.
+    Message,
+    /// After the first `help: `.
+    Label,
+}
+
+/// How a suggestion with this message is shown in a text.
+pub fn manner_of<'t>(message: &str, text: &'t str) -> Manner<'t> {
+    if let Some(title) = first_shown(Stand::Title, message, text) {
+        return Manner::Group(title);
+    }
+    if let Some(said) = first_shown(Stand::Message, message, text) {
+        return Manner::Message(said);
+    }
+    match first_shown(Stand::Label, message, text) {
+        Some(label) => Manner::Label(label),
+        None => Manner::Nowhere,
+    }
+}
+
+/// What the first line of a text that shows this message there shows of it.
+fn first_shown<'t>(place: Stand, message: &str, text: &'t str) -> Option<&'t str> {
+    for line in text.split('\n') {
+        if let Some(shown) = shown_in(place, message, line) {
+            return Some(shown);
+        }
+    }
+    None
+}
+
+/// What a line shows of this message there, if it does.
+fn shown_in<'t>(place: Stand, message: &str, line: &'t str) -> Option<&'t str> {
+    match stands_in(place, line) {
+        Some(shown) if begins_with(shown, message) => Some(shown),
+        _ => None,
+    }
+}
+
+/// What stands in a line where a message may stand.
+fn stands_in<'t>(place: Stand, line: &'t str) -> Option<&'t str> {
+    match place {
+        Stand::Title => line.strip_prefix("help: "),
+        Stand::Message => line.trim_start().strip_prefix("= help: "),
+        Stand::Label => after_help(line),
+    }
+}
+
+/// What comes after the first `help: ` of a line.
+fn after_help(line: &str) -> Option<&str> {
+    match line.split_once("help: ") {
+        Some((_, after)) => Some(after),
+        None => None,
+    }
+}
+
+/// Whether a text shows all of a diagnostic: an empty line is at its end then. One of a single line shows only where it is.
+pub fn is_whole(text: &str) -> bool {
+    text.ends_with("\n\n")
+}
+
+/// A diagnostic with its suggestions as they are shown in a text of it, which may have styles.
+pub fn as_rendered(
+    alloc: Global,
+    text: &str,
+    diagnostic: Diagnostic,
+) -> Result<Diagnostic, AllocError> {
+    let text = without_styles(alloc, text)?;
+    as_shown(alloc, text.as_str(), diagnostic)
+}
+
+/// A diagnostic with its suggestions as they are shown in a text of it.
+fn as_shown(alloc: Global, text: &str, diagnostic: Diagnostic) -> Result<Diagnostic, AllocError> {
+    let mut spans = diagnostic.spans;
+    show_columns(alloc, text, &mut spans)?;
+    let children = shown_children(alloc, text, diagnostic.children, &mut spans)?;
+    settle_roles(&mut spans);
+    Ok(Diagnostic {
+        severity: diagnostic.severity,
+        message: diagnostic.message,
+        code: diagnostic.code,
+        spans,
+        children,
+        homes: diagnostic.homes,
+    })
+}
+
+/// Of some children those that are shown, as they are; a suggestion that is shown as a label joins the places.
+fn shown_children(
+    alloc: Global,
+    text: &str,
+    children: Vec<Child>,
+    spans: &mut Vec<FileSpan>,
+) -> Result<Vec<Child>, AllocError> {
+    let mut shown = Vec::new(alloc);
+    for child in children {
+        show_child(alloc, text, child, spans, &mut shown)?;
+    }
+    Ok(shown)
+}
+
+/// Shows a child as it is shown in a text.
+fn show_child(
+    alloc: Global,
+    text: &str,
+    mut child: Child,
+    spans: &mut Vec<FileSpan>,
+    shown: &mut Vec<Child>,
+) -> Result<(), AllocError> {
+    if child.alternatives.is_empty() {
+        show_columns(alloc, text, &mut child.spans)?;
+        shown.push(child)?;
+        return Ok(());
+    }
+    let message = first_line(alloc, child.message.as_str())?;
+    match manner_of(message.as_str(), text) {
+        Manner::Group(title) => shown.push(retitled(alloc, child, title)?)?,
+        Manner::Message(said) => shown.push(without_edits(alloc, child, said)?)?,
+        Manner::Label(label) => add_label(alloc, label, child, spans)?,
+        Manner::Nowhere => {}
+    }
+    Ok(())
+}
+
+/// The first line of a message, as it is drawn.
+fn first_line(alloc: Global, message: &str) -> Result<String, AllocError> {
+    let line = match message.split_once('\n') {
+        Some((line, _)) => line,
+        None => message,
+    };
+    normalized(alloc, line)?.into_owned(alloc)
+}
+
+/// A child with the first line of its message as it is drawn.
+fn retitled(alloc: Global, child: Child, line: &str) -> Result<Child, AllocError> {
+    let message = redrawn(alloc, child.message.as_str(), line)?;
+    Ok(Child {
+        severity: child.severity,
+        message,
+        spans: child.spans,
+        alternatives: child.alternatives,
+    })
+}
+
+/// A child as a message alone, with its first line as it is drawn.
+fn without_edits(alloc: Global, child: Child, line: &str) -> Result<Child, AllocError> {
+    let message = redrawn(alloc, child.message.as_str(), line)?;
+    Ok(Child {
+        severity: child.severity,
+        message,
+        spans: Vec::new(alloc),
+        alternatives: Vec::new(alloc),
+    })
+}
+
+/// A message with this as its first line.
+fn redrawn(alloc: Global, message: &str, line: &str) -> Result<String, AllocError> {
+    match message.split_once('\n') {
+        Some((_, rest)) => format!(in alloc; "{line}\n{rest}"),
+        None => String::from_str(alloc, line),
+    }
+}
+
+/// Adds the label that a suggestion is shown as, at the place of its edit.
+fn add_label(
+    alloc: Global,
+    label: &str,
+    child: Child,
+    spans: &mut Vec<FileSpan>,
+) -> Result<(), AllocError> {
+    let mut alternatives = child.alternatives;
+    let mut edits = alternatives.pop().unwrap_or(Vec::new(alloc));
+    if let Some(edit) = edits.pop() {
+        let label = format!(in alloc; "help: {label}")?;
+        put_label(spans, edit, label)?;
+    }
+    Ok(())
+}
+
+/// Puts a label at the place of an edit: to a primary place there that has none, else as a place of its own.
+fn put_label(spans: &mut Vec<FileSpan>, edit: Edit, label: String) -> Result<(), AllocError> {
+    match bare_primary(spans, &edit) {
+        Some(index) => {
+            if let Some(span) = spans.get_mut(index) {
+                span.label = Some(label);
+            }
+        }
+        None => spans.push(label_span(edit, label))?,
+    }
+    Ok(())
+}
+
+/// The index of the primary place of an edit, if there is one without a label.
+fn bare_primary(spans: &[FileSpan], edit: &Edit) -> Option<usize> {
+    for (index, span) in spans.iter().enumerate() {
+        if span.is_primary && span.label.is_none() && is_at(span, edit) {
+            return Some(index);
+        }
+    }
+    None
+}
+
+/// Whether a place is that of an edit.
+fn is_at(span: &FileSpan, edit: &Edit) -> bool {
+    span.region == edit.region && span.file == edit.file
+}
+
+/// The place of an edit with a label.
+fn label_span(edit: Edit, label: String) -> FileSpan {
+    FileSpan {
+        file: edit.file,
+        region: edit.region,
+        label: Some(label),
+        is_primary: false,
+        carried: edit.carried,
+    }
+}
