@@ -1,8 +1,9 @@
 //! The finding that a diagnostic reports: its places and edits, in the sources that are at hand.
 
-ghost use Rattle.std.specs.Prelude.{◌≡◌, string_bytes};
+ghost use Rattle.std.specs.Prelude.{◌≡◌, IfOk, string_bytes};
 ghost use Rattle.std.specs.Option.{option_map};
 ghost use Rattle.redraw_report.specs.Report.{lent};
+ghost use Rattle.redraw_read.specs.Told.{FindingTells, MarkTells, MarksTell, RemarkTells, RemarksTell};
 
 use crate::hand::Hand;
 use crate::offers::offers_of;
@@ -69,7 +70,9 @@ impl<'a> Placing<'a> {
         &mut self,
         sources: &'a Sources<S>,
         diagnostic: &'a Diagnostic,
-    ) -> Result<Finding<'a>, AllocError> {
+    ) -> Result<Finding<'a>, AllocError>
+        ensures tells { IfOk result (FindingTells diagnostic.now) }
+    {
         let hand = Hand {
             files: sources.files(),
             home: first_home(&diagnostic.homes),
@@ -84,7 +87,9 @@ pub fn finding_in<'a>(
     placing: &mut Placing<'a>,
     hand: Hand<'a>,
     diagnostic: &'a Diagnostic,
-) -> Result<Finding<'a>, AllocError> {
+) -> Result<Finding<'a>, AllocError>
+    ensures tells { IfOk result (FindingTells diagnostic.now) }
+{
     let marks = marks_of(placing, hand, &diagnostic.spans)?;
     let remarks = remarks_of(placing, hand, &diagnostic.children)?;
     Ok(Finding {
@@ -101,7 +106,9 @@ fn marks_of<'a>(
     placing: &mut Placing<'a>,
     hand: Hand<'a>,
     spans: &'a Vec<FileSpan>,
-) -> Result<Vec<Mark<'a>>, AllocError> {
+) -> Result<Vec<Mark<'a>>, AllocError>
+    ensures tell { IfOk result (λ marks. MarksTell spans.now.items marks.items) }
+{
     let mut marks = Vec::new(placing.alloc);
     for span in spans {
         marks.push(mark_of(placing, hand, span)?)?;
@@ -114,7 +121,9 @@ fn mark_of<'a>(
     placing: &mut Placing<'a>,
     hand: Hand<'a>,
     span: &'a FileSpan,
-) -> Result<Mark<'a>, AllocError> {
+) -> Result<Mark<'a>, AllocError>
+    ensures tells { IfOk result (MarkTells span.now) }
+{
     let spot = placing.spot_named(hand, &span.file, span.region, &span.carried)?;
     Ok(Mark {
         source: spot.source,
@@ -140,7 +149,9 @@ fn remarks_of<'a>(
     placing: &mut Placing<'a>,
     hand: Hand<'a>,
     children: &'a Vec<Child>,
-) -> Result<Vec<Remark<'a>>, AllocError> {
+) -> Result<Vec<Remark<'a>>, AllocError>
+    ensures tell { IfOk result (λ remarks. RemarksTell children.now.items remarks.items) }
+{
     let mut remarks = Vec::new(placing.alloc);
     for child in children {
         remarks.push(remark_of(placing, hand, child)?)?;
@@ -153,7 +164,9 @@ fn remark_of<'a>(
     placing: &mut Placing<'a>,
     hand: Hand<'a>,
     child: &'a Child,
-) -> Result<Remark<'a>, AllocError> {
+) -> Result<Remark<'a>, AllocError>
+    ensures tells { IfOk result (RemarkTells child.now) }
+{
     let marks = marks_of(placing, hand, &child.spans)?;
     let offers = offers_of(placing, hand, &child.alternatives)?;
     Ok(Remark {

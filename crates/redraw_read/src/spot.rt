@@ -1,8 +1,9 @@
 //! Where the places that a tool names are, in the sources that are shown.
 
-ghost use Rattle.std.specs.Prelude.{◌≡◌};
+ghost use Rattle.std.specs.Prelude.{◌≡◌, IfOk};
 ghost use Rattle.redraw_read.specs.Placed as spec;
 ghost use Rattle.redraw_read.specs.Placed.{is_source, same_sight, sight_of};
+ghost use Rattle.redraw_read.specs.Told.{IsLocatedAt};
 
 use crate::hand::{Extract, Hand, lines_for};
 use crate::source::Source;
@@ -108,7 +109,9 @@ impl<'a> Placing<'a> {
         starts: &[usize],
         first_line: usize,
         region: Region,
-    ) -> Result<Spot, AllocError> {
+    ) -> Result<Spot, AllocError>
+        ensures located { IfOk result (λ spot. IsLocatedAt text.now starts.now first_line region spot.start spot.end) }
+    {
         let lookup = Lookup {
             text,
             starts,

@@ -9,6 +9,7 @@ use Rattle.redraw_command.specs.Tally.{one_more, tallied}
 use Rattle.redraw_command.specs.declared.choice.Form.{Form}
 use Rattle.redraw_command.specs.declared.choice.Form.TheVariants.{Report, Workflow}
 use Rattle.redraw_command.specs.declared.tally.Tally.{Tally}
+use Rattle.redraw_read.specs.Told.{FindingTells}
 use Rattle.redraw_report.specs.Report.{report_of}
 use Rattle.redraw_report.specs.View.{section_view}
 use Rattle.redraw_report.specs.declared.diagnostic.Diagnostic.{Diagnostic}
@@ -17,10 +18,12 @@ use Rattle.redraw_report.specs.declared.diagnostic.Severity.TheVariants.{Error, 
 use Rattle.redraw_report.specs.declared.finding.Finding.{Finding}
 use Rattle.redraw_report.specs.declared.finding.Shown.{Shown}
 
--- the text shows, in the renderer's settings and under its sheet, the report of a finding in some sources
-pub record ShowsFinding (r : Renderer) (text : List ℕ) : Type 0 where
+-- the text shows, in the renderer's settings and under its sheet, the report of a finding in some sources, and that finding tells what the
+-- diagnostic reports
+pub record ShowsFinding (r : Renderer) (d : Diagnostic) (text : List ℕ) : Type 0 where
   pub sources : List Shown
   pub finding : Finding
+  pub tells : FindingTells d finding
   pub groups : List Group
   pub told : map section_view groups ≡ report_of sources finding
   pub shows : ShowsReport r groups r.stylesheet text
@@ -45,7 +48,7 @@ IsLeftOut old new = new ≡ record old { wrong = one_more old.wrong }
 -- a finding is drawn as a report: to what a writer held, a text that shows it is added, and what stands after it; and it is counted
 pub record IsDrawn (r : Renderer) (d : Diagnostic) (old new : Option (List ℕ)) (before after : Tally) : Type 0 where
   pub text : List ℕ
-  pub shows : ShowsFinding r text
+  pub shows : ShowsFinding r d text
   pub written : Appends old new (text ++ (ending_after r.short_message d.severity ++ 10 ∷ []))
   pub counted : IsCounted d before after
 

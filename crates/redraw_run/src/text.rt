@@ -30,7 +30,8 @@ pub fn drawn_of<S: Shelf + Drop>(
     sources: &Sources<S>,
     diagnostic: &Diagnostic,
 ) -> Result<Drawn, AllocError>
-    ensures shows { IfOk result (λ drawn. IfOk drawn.text (λ text. ShowsFinding renderer.now (string_bytes text))) }
+    ensures shows { IfOk result (λ drawn. IfOk drawn.text (λ text.
+        ShowsFinding renderer.now diagnostic.now (string_bytes text))) }
 {
     let mut placing = Placing::new(alloc, renderer.short_message);
     let finding = placing.finding(sources, diagnostic)?;
