@@ -1,5 +1,7 @@
 //! A run of the program.
-ghost use Rattle.std.specs.Prelude.{◌≡◌, true};
+ghost use Rattle.std.specs.Prelude.{◌≡◌, ◌≢◌, ◌⊎◌, true};
+ghost use Rattle.clap.specs.Values.{kind_of};
+ghost use Rattle.clap.specs.declared.error.kind.ErrorKind.TheVariants as kind;
 ghost use Rattle.std.specs.IoError.{error_kind};
 ghost use Rattle.std.specs.declared.io.ErrorKind.TheVariants.{BrokenPipe};
 ghost use Rattle.redraw_command.specs.Tally.{status_of};
@@ -41,7 +43,11 @@ fn answer_error<W: Write, V: Write>(
     error: &clap::Error,
     out: &mut W,
     err: &mut V,
-) -> u8 {
+) -> u8
+    ensures misuse { kind_of error.now ≢ kind.DisplayHelp → kind_of error.now ≢ kind.DisplayVersion
+        → (result ≡ 2) × (out.new ≡ out.old) }
+    ensures asked { (kind_of error.now ≡ kind.DisplayHelp) ⊎ (kind_of error.now ≡ kind.DisplayVersion) → err.new ≡ err.old }
+{
     if error.use_stderr() {
         tell_error(alloc, error, err);
         return FAILED;
