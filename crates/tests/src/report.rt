@@ -1,6 +1,6 @@
 //! A first program, as the README shows it, a report under two sheets by two calls, and a switch that has two names.
 
-use annotate_snippets::level::{ERROR, NOTE};
+use annotate_snippets::level::ERROR;
 use annotate_snippets::renderer::RenderError;
 use annotate_snippets::{AnnotationKind, Element, Group, OptionCow, Renderer, Snippet};
 use std::alloc::{AllocError, Global};
@@ -30,7 +30,7 @@ fn runs_the_first_program(rt: HostRuntime) -> Result<(), Fail> {
     Ok(())
 }
 
-/// A report of a marked line and a note, drawn with these settings.
+/// A report of a marked line, drawn with these settings.
 fn drawn_with(alloc: Global, renderer: &Renderer) -> Result<String, RenderError> {
     let mark = AnnotationKind::Primary
         .span(4..5)
@@ -41,8 +41,6 @@ fn drawn_with(alloc: Global, renderer: &Renderer) -> Result<String, RenderError>
     let group: Group<'static> = ERROR
         .primary_title("unused variable")
         .element(alloc, Element::from(snippet))
-        .map_err(RenderError::Memory)?
-        .element(Element::from(NOTE.message("it is set here")))
         .map_err(RenderError::Memory)?;
     renderer.render(alloc, &[group])
 }
