@@ -3,7 +3,7 @@
 pub use snippet_model::OptionCow;
 pub use snippet_model::snippet::{
     Annotation, AnnotationKind, Element, Group, Id, Marker, Message, Origin, Padding, Patch,
-    Snippet, Title,
+    Snippet, Title, report_fits,
 };
 
 /// A report: its groups, in order.

@@ -4,7 +4,6 @@
 
 pub mod diagnostic;
 pub mod finding;
-pub mod fits;
 pub mod lines;
 pub mod locate;
 mod marks;

@@ -4,11 +4,11 @@ ghost use Rattle.annotate_snippets.specs.Forms.{ShowsReport};
 ghost use Rattle.redraw_run.specs.Drawn.{ShowsFinding};
 
 use annotate_snippets::renderer::RenderError;
+use annotate_snippets::snippet::report_fits;
 use annotate_snippets::{Group, Renderer};
 use redraw_read::place::Placing;
 use redraw_read::sources::{Shelf, Sources};
 use redraw_report::diagnostic::Diagnostic;
-use redraw_report::fits::report_fits;
 use redraw_report::report::report;
 use std::alloc::{AllocError, Global};
 

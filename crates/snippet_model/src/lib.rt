@@ -12,5 +12,5 @@ pub use message_or_title::MessageOrTitle;
 pub use option_cow::OptionCow;
 pub use snippet::{
     Annotation, AnnotationKind, Element, Group, Id, Marker, Message, Origin, Padding, Patch,
-    Snippet, Title,
+    Snippet, Title, report_fits,
 };

@@ -1,5 +1,5 @@
 //! The parts of a report: groups of a title and elements, and what an element may be.
-ghost use Rattle.std.specs.Prelude.{◌≡◌, ℕ, [], None, true, false};
+ghost use Rattle.std.specs.Prelude.{◌≡◌, ℕ, [], None, Some, true, false};
 ghost use Rattle.std.proofs.Common.{rules};
 ghost use Rattle.std.specs.Cmp.{partial_order_from_own_ties};
 ghost use Rattle.std.specs.Cmp.Rules.{comparing};
@@ -10,6 +10,7 @@ ghost use Rattle.snippet_model.specs.AnnotationKind.{rank_of};
 
 mod clones;
 mod elements;
+mod fits;
 mod groups;
 mod markers;
 mod origins;
@@ -17,6 +18,7 @@ mod titles;
 
 use crate::level::Level;
 use crate::option_cow::OptionCow;
+pub use fits::report_fits;
 use snippet_style::LevelInner;
 use snippet_text::CowStr;
 use std::alloc::Global;
@@ -50,8 +52,8 @@ pub struct Title<'a> {
 /// ```text
 /// Level::ERROR
 ///     .primary_title("mismatched types")
-///     .element(alloc, Element::from(snippet))?
-///     .element(Element::from(Level::NOTE.message("`let` takes its type from the value")))?
+///     .snippet(alloc, snippet)?
+///     .message(Level::NOTE.message("`let` takes its type from the value"))?
 /// ```
 #[derive(Debug, Drop)]
 pub struct Group<'a> {
@@ -115,7 +117,7 @@ pub trait Marker {
 ///
 /// ```text
 /// Snippet::source(alloc, "let x = 1;")
-///     .path(OptionCow::from("a.rs"))
+///     .path_str("a.rs")
 ///     .annotation(AnnotationKind::Primary.span(4..5))?
 /// ```
 #[derive(Debug, Drop)]
@@ -176,6 +178,13 @@ impl<'a, T> Snippet<'a, T> {
         self
     }
 
+    /// The same of a borrowed path.
+    pub fn path_str(self, path: &'a str) -> Snippet<'a, T>
+        ensures changed { result ≡ record self.entry { path = Some (Borrowed path.entry) } }
+    {
+        self.path(OptionCow(Some(CowStr::Borrowed(path))))
+    }
+
     /// The number of the source's first line.
     pub fn line_start(mut self, line_start: usize) -> Snippet<'a, T>
         ensures changed { result ≡ record self.entry { line_start = line_start } }
@@ -221,6 +230,13 @@ impl<'a> Annotation<'a> {
     {
         self.label = label.0;
         self
+    }
+
+    /// The same of a borrowed text.
+    pub fn label_str(self, label: &'a str) -> Annotation<'a>
+        ensures changed { result ≡ record self.entry { label = Some (Borrowed label.entry) } }
+    {
+        self.label(OptionCow(Some(CowStr::Borrowed(label))))
     }
 
     /// Whether the marked source is drawn in the mark's style.

@@ -1,6 +1,6 @@
 //! Why a report is refused.
 
-ghost use Rattle.std.specs.Prelude.{Some};
+ghost use Rattle.std.specs.Prelude.{◌≡◌, Some};
 ghost use Rattle.annotate_snippets.specs.Refusal.{refusal_text};
 
 use std::alloc::AllocError;
@@ -104,3 +104,12 @@ impl fmt::Display for RenderError {
 }
 
 impl Error for RenderError {}
+
+/// So that `?` takes up a refused growth of memory: it is [`RenderError::Memory`].
+impl From<AllocError> for RenderError {
+    ghost from_gives = { λ error refusal. refusal ≡ RenderError.Memory error };
+
+    fn from(error: AllocError) -> RenderError {
+        RenderError::Memory(error)
+    }
+}

@@ -1,8 +1,9 @@
 //! How a group is built.
 ghost use Rattle.std.specs.Prelude.{◌≡◌, List, [], ◌∷◌, ◌++◌, Some, None, IfOk, IsTrue, ◌↔◌};
 ghost use Rattle.std.specs.Iterator.{IsFiniteIterable, Drains};
+ghost use Rattle.snippet_model.specs.declared.snippet.Element.TheVariants as element;
 
-use super::{Element, Group, Title};
+use super::{Annotation, Element, Group, Message, Origin, Padding, Patch, Snippet, Title};
 use crate::level::Level;
 use std::alloc::{AllocError, Global};
 
@@ -66,5 +67,55 @@ impl<'a> Group<'a> {
     {
         self.elements.extend(elements)?;
         Ok(self)
+    }
+
+    /// The group with a message after the elements that it has. The one error is that memory ran out.
+    pub fn message(self, message: Message<'a>) -> Result<Group<'a>, AllocError>
+        ensures title { IfOk result (λ g. g.title ≡ self.entry.title) }
+        ensures level { IfOk result (λ g. g.level ≡ self.entry.level) }
+        ensures elements { IfOk result
+            (λ g. g.elements.items ≡ self.entry.elements.items ++ element.Message message.entry ∷ []) }
+    {
+        self.element(Element::Message(message))
+    }
+
+    /// The group with source with annotations after the elements that it has. The one error is that memory ran out.
+    pub fn snippet(self, snippet: Snippet<'a, Annotation<'a>>) -> Result<Group<'a>, AllocError>
+        ensures title { IfOk result (λ g. g.title ≡ self.entry.title) }
+        ensures level { IfOk result (λ g. g.level ≡ self.entry.level) }
+        ensures elements { IfOk result
+            (λ g. g.elements.items ≡ self.entry.elements.items ++ element.Cause snippet.entry ∷ []) }
+    {
+        self.element(Element::Cause(snippet))
+    }
+
+    /// The group with source with a suggested edit after the elements that it has. The one error is that memory ran out.
+    pub fn suggestion(self, snippet: Snippet<'a, Patch<'a>>) -> Result<Group<'a>, AllocError>
+        ensures title { IfOk result (λ g. g.title ≡ self.entry.title) }
+        ensures level { IfOk result (λ g. g.level ≡ self.entry.level) }
+        ensures elements { IfOk result
+            (λ g. g.elements.items ≡ self.entry.elements.items ++ element.Suggestion snippet.entry ∷ []) }
+    {
+        self.element(Element::Suggestion(snippet))
+    }
+
+    /// The group with a place without source after the elements that it has. The one error is that memory ran out.
+    pub fn origin(self, origin: Origin<'a>) -> Result<Group<'a>, AllocError>
+        ensures title { IfOk result (λ g. g.title ≡ self.entry.title) }
+        ensures level { IfOk result (λ g. g.level ≡ self.entry.level) }
+        ensures elements { IfOk result
+            (λ g. g.elements.items ≡ self.entry.elements.items ++ element.Origin origin.entry ∷ []) }
+    {
+        self.element(Element::Origin(origin))
+    }
+
+    /// The group with an empty row after the elements that it has. The one error is that memory ran out.
+    pub fn padding(self) -> Result<Group<'a>, AllocError>
+        ensures title { IfOk result (λ g. g.title ≡ self.entry.title) }
+        ensures level { IfOk result (λ g. g.level ≡ self.entry.level) }
+        ensures elements { IfOk result
+            (λ g. g.elements.items ≡ self.entry.elements.items ++ element.Padding (record {}) ∷ []) }
+    {
+        self.element(Element::Padding(Padding))
     }
 }

@@ -3,8 +3,9 @@ ghost use Rattle.std.specs.Prelude.{◌≡◌, List, [], ◌∷◌, Some, IfOk};
 ghost use Rattle.std.specs.Option.{option_and_then};
 ghost use Rattle.std.specs.Iterator.{IsFiniteIterable, Drains};
 ghost use Rattle.std.specs.declared.borrow.CowStr.TheVariants.{Borrowed};
+ghost use Rattle.snippet_model.specs.declared.snippet.Element.TheVariants as element;
 
-use super::{Element, Group, Id, Title};
+use super::{Annotation, Element, Group, Id, Message, Origin, Padding, Patch, Snippet, Title};
 use snippet_text::CowStr;
 use std::alloc::{AllocError, Global};
 
@@ -113,5 +114,58 @@ impl<'a> Title<'a> {
             × (g.elements.items ≡ xs)) }
     {
         Group::with_title(alloc, self).elements(elements)
+    }
+
+    /// A group with this title and a message. The one error is that memory ran out.
+    pub fn message(self, alloc: Global, message: Message<'a>) -> Result<Group<'a>, AllocError>
+        ensures title { IfOk result (λ g. g.title ≡ Some self.entry) }
+        ensures level { IfOk result (λ g. g.level ≡ self.entry.level.kind) }
+        ensures elements { IfOk result (λ g. g.elements.items ≡ element.Message message.entry ∷ []) }
+    {
+        self.element(alloc, Element::Message(message))
+    }
+
+    /// A group with this title and source with annotations. The one error is that memory ran out.
+    pub fn snippet(
+        self,
+        alloc: Global,
+        snippet: Snippet<'a, Annotation<'a>>,
+    ) -> Result<Group<'a>, AllocError>
+        ensures title { IfOk result (λ g. g.title ≡ Some self.entry) }
+        ensures level { IfOk result (λ g. g.level ≡ self.entry.level.kind) }
+        ensures elements { IfOk result (λ g. g.elements.items ≡ element.Cause snippet.entry ∷ []) }
+    {
+        self.element(alloc, Element::Cause(snippet))
+    }
+
+    /// A group with this title and source with a suggested edit. The one error is that memory ran out.
+    pub fn suggestion(
+        self,
+        alloc: Global,
+        snippet: Snippet<'a, Patch<'a>>,
+    ) -> Result<Group<'a>, AllocError>
+        ensures title { IfOk result (λ g. g.title ≡ Some self.entry) }
+        ensures level { IfOk result (λ g. g.level ≡ self.entry.level.kind) }
+        ensures elements { IfOk result (λ g. g.elements.items ≡ element.Suggestion snippet.entry ∷ []) }
+    {
+        self.element(alloc, Element::Suggestion(snippet))
+    }
+
+    /// A group with this title and a place without source. The one error is that memory ran out.
+    pub fn origin(self, alloc: Global, origin: Origin<'a>) -> Result<Group<'a>, AllocError>
+        ensures title { IfOk result (λ g. g.title ≡ Some self.entry) }
+        ensures level { IfOk result (λ g. g.level ≡ self.entry.level.kind) }
+        ensures elements { IfOk result (λ g. g.elements.items ≡ element.Origin origin.entry ∷ []) }
+    {
+        self.element(alloc, Element::Origin(origin))
+    }
+
+    /// A group with this title and an empty row. The one error is that memory ran out.
+    pub fn padding(self, alloc: Global) -> Result<Group<'a>, AllocError>
+        ensures title { IfOk result (λ g. g.title ≡ Some self.entry) }
+        ensures level { IfOk result (λ g. g.level ≡ self.entry.level.kind) }
+        ensures elements { IfOk result (λ g. g.elements.items ≡ element.Padding (record {}) ∷ []) }
+    {
+        self.element(alloc, Element::Padding(Padding))
     }
 }

@@ -4,25 +4,44 @@ ghost use Rattle.std.specs.Prelude.{◌↔◌, IsTrue, IfSome};
 ghost use Rattle.std.specs.Cow.{cow_str_bytes};
 ghost use Rattle.snippet_model.specs.Fits.{AnnotationFits, ElementFits, GroupFits, IdFits, LevelFits, PatchFits, ReportFits, SnippetFits, TextFits, TitleFits};
 
-use snippet_model::{Annotation, Element, Group, Id, Level, Message, Patch, Snippet, Title};
+use super::{Annotation, Element, Group, Id, Message, Patch, Snippet, Title};
+use crate::level::Level;
 use snippet_text::{CowStr, text_fits};
 
-/// Whether each text of a report fits.
+/// Whether each text of a report is within the library's one limit: fewer than 2^56 bytes. It is all that `render` and
+/// `render_sheets` ask of a report. It takes no memory, and walks over no text.
 pub fn report_fits(groups: &[Group<'_>]) -> bool
     ensures value { IsTrue result ↔ ReportFits groups.now }
 {
-    groups.iter().all(|group| group_fits(group))
+    groups.iter().all(|group| group.fits())
 }
 
-/// Whether each text of a group fits.
-fn group_fits(group: &Group<'_>) -> bool
-    ensures value { IsTrue result ↔ GroupFits group.now }
-{
-    let titled = match &group.title {
-        Some(title) => title_fits(title),
-        None => true,
-    };
-    titled && group.elements.iter().all(|element| element_fits(element))
+impl<'a> Group<'a> {
+    /// Whether each text of the group has fewer than 2^56 bytes, as drawing asks.
+    pub fn fits(&self) -> bool
+        ensures value { IsTrue result ↔ GroupFits self.now }
+    {
+        let titled = match &self.title {
+            Some(title) => title_fits(title),
+            None => true,
+        };
+        titled && self.elements.iter().all(|element| element.fits())
+    }
+}
+
+impl<'a> Element<'a> {
+    /// Whether each text of the element has fewer than 2^56 bytes, as drawing asks.
+    pub fn fits(&self) -> bool
+        ensures value { IsTrue result ↔ ElementFits self.now }
+    {
+        match self {
+            Element::Message(message) => message_fits(message),
+            Element::Cause(snippet) => cause_fits(snippet),
+            Element::Suggestion(snippet) => suggestion_fits(snippet),
+            Element::Origin(origin) => cow_fits(&origin.path),
+            Element::Padding(_) => true,
+        }
+    }
 }
 
 /// Whether each text of a title fits.
@@ -65,19 +84,6 @@ fn cow_fits(text: &CowStr<'_>) -> bool
     ensures value { IsTrue result ↔ TextFits (cow_str_bytes text.now) }
 {
     text_fits(text.as_str())
-}
-
-/// Whether each text of an element fits.
-fn element_fits(element: &Element<'_>) -> bool
-    ensures value { IsTrue result ↔ ElementFits element.now }
-{
-    match element {
-        Element::Message(message) => message_fits(message),
-        Element::Cause(snippet) => cause_fits(snippet),
-        Element::Suggestion(snippet) => suggestion_fits(snippet),
-        Element::Origin(origin) => cow_fits(&origin.path),
-        Element::Padding(_) => true,
-    }
 }
 
 /// Whether the texts of a message fit.
