@@ -4,7 +4,7 @@ ghost use Rattle.annotate_snippets.specs.Fits.{AnnotationFits, GroupFits, Snippe
 
 use annotate_snippets::level::{ERROR, NOTE};
 use annotate_snippets::renderer::RenderError;
-use annotate_snippets::{Annotation, AnnotationKind, Element, Group, OptionCow, Renderer, Snippet};
+use annotate_snippets::{Annotation, AnnotationKind, Group, Renderer, Snippet};
 use std::alloc::{AllocError, Global};
 
 /// The file that is compiled.
@@ -20,12 +20,12 @@ fn marked(alloc: Global) -> Result<Snippet<'static, Annotation<'static>>, AllocE
     // What is wrong is primary: its place stands at the top, and its mark is in the error's colour. What explains it is context.
     let found = AnnotationKind::Primary
         .span(38..64)
-        .label(OptionCow::from("expected `u64`, found `u32`"));
+        .label_str("expected `u64`, found `u32`");
     let wanted = AnnotationKind::Context
         .span(28..31)
-        .label(OptionCow::from("expected `u64` because of this"));
+        .label_str("expected `u64` because of this");
     Snippet::source(alloc, SOURCE)
-        .path(OptionCow::from("src/total.rs"))
+        .path_str("src/total.rs")
         .annotation(found)?
         .annotation(wanted)
 }
@@ -39,12 +39,12 @@ fn mismatch(alloc: Global) -> Result<Group<'static>, AllocError>
     ERROR
         .primary_title("mismatched types")
         .id("E0308")
-        .element(alloc, Element::from(snippet))?
-        .element(Element::from(note))
+        .snippet(alloc, snippet)?
+        .message(note)
 }
 
 /// The report of the error. `Renderer::styled()` draws it in colour.
 pub fn mismatched_types(alloc: Global) -> Result<String, RenderError> {
-    let group: Group<'static> = mismatch(alloc).map_err(RenderError::Memory)?;
+    let group: Group<'static> = mismatch(alloc)?;
     Renderer::plain().render(alloc, &[group])
 }

@@ -4,7 +4,7 @@ ghost use Rattle.annotate_snippets.specs.Fits.{TextFits};
 use annotate_snippets::level::ERROR;
 use annotate_snippets::renderer::RenderError;
 use annotate_snippets::text::text_fits;
-use annotate_snippets::{AnnotationKind, Element, Group, OptionCow, Origin, Renderer, Snippet};
+use annotate_snippets::{AnnotationKind, Group, Origin, Renderer, Snippet};
 use std::alloc::{AllocError, Global};
 use toml::Value;
 use toml::de::Error;
@@ -23,13 +23,11 @@ fn not_toml<'a>(alloc: Global, path: &'a str, text: &'a str, error: &'a Error) -
     let label = if text_fits(reason) { reason } else { "" };
     let mark = AnnotationKind::Primary.span(place);
     let snippet = Snippet::source(alloc, text)
-        .path(OptionCow::from(path))
-        .annotation(mark.label(OptionCow::from(label)))
-        .map_err(RenderError::Memory)?;
+        .path_str(path)
+        .annotation(mark.label_str(label))?;
     let group: Group<'a> = ERROR
         .primary_title("the configuration isn't TOML")
-        .element(alloc, Element::from(snippet))
-        .map_err(RenderError::Memory)?;
+        .snippet(alloc, snippet)?;
     Renderer::plain().render(alloc, &[group])
 }
 
@@ -39,8 +37,7 @@ fn no_port<'a>(alloc: Global, path: &'a str) -> Answer
 {
     let group: Group<'a> = ERROR
         .primary_title("the configuration has no `port` that is an integer")
-        .element(alloc, Element::from(Origin::path(path)))
-        .map_err(RenderError::Memory)?;
+        .origin(alloc, Origin::path(path))?;
     Renderer::plain().render(alloc, &[group])
 }
 
@@ -52,7 +49,7 @@ pub fn port(alloc: Global, path: &str, text: &str) -> Answer
     match toml::table_from_str(alloc, text) {
         Err(error) => not_toml(alloc, &*path, &*text, &error), // both lent for as long as `error` stays
         Ok(table) => match table.get("port").and_then(Value::as_integer) {
-            Some(port) => format!(in alloc; "port {port}").map_err(RenderError::Memory),
+            Some(port) => Ok(format!(in alloc; "port {port}")?),
             None => no_port(alloc, path),
         },
     }

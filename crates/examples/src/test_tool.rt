@@ -4,7 +4,7 @@ ghost use Rattle.annotate_snippets.specs.Fits.{AnnotationFits, GroupFits, Snippe
 
 use annotate_snippets::level::ERROR;
 use annotate_snippets::renderer::RenderError;
-use annotate_snippets::{Annotation, AnnotationKind, Element, Group, OptionCow, Renderer, Snippet};
+use annotate_snippets::{Annotation, AnnotationKind, Group, Renderer, Snippet};
 use std::alloc::{AllocError, Global};
 use std::ops::Range;
 
@@ -26,12 +26,8 @@ fn side(
     requires label { TextFits label.now }
     ensures fits { IfOk result (SnippetFits AnnotationFits) }
 {
-    let mark = AnnotationKind::Primary
-        .span(differs)
-        .label(OptionCow::from(label));
-    Snippet::source(alloc, text)
-        .path(OptionCow::from(path))
-        .annotation(mark)
+    let mark = AnnotationKind::Primary.span(differs).label_str(label);
+    Snippet::source(alloc, text).path_str(path).annotation(mark)
 }
 
 /// Both sides, one below the other.
@@ -43,13 +39,13 @@ fn difference(alloc: Global) -> Result<Group<'static>, AllocError>
     let found = side(alloc, "out/receipt.txt", FOUND, 17..19, "found here")?;
     ERROR
         .primary_title("the receipts differ")
-        .element(alloc, Element::from(expected))?
-        .element(Element::from(found))
+        .snippet(alloc, expected)?
+        .snippet(found)
 }
 
 /// The report of an assertion that failed, in the form that the renderer is set to. With `short_message(true)` it is one line,
 /// which begins with a place that editors jump to, and which tells of the first side alone.
 pub fn failure(alloc: Global, renderer: &Renderer) -> Result<String, RenderError> {
-    let group: Group<'static> = difference(alloc).map_err(RenderError::Memory)?;
+    let group: Group<'static> = difference(alloc)?;
     renderer.render(alloc, &[group])
 }

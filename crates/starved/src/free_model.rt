@@ -3,6 +3,7 @@
 use crate::subject::print_subjects;
 use annotate_snippets::level::{ERROR, HELP, Level, NOTE};
 use annotate_snippets::renderer::{Id, MessageOrTitle};
+use annotate_snippets::snippet::report_fits;
 use annotate_snippets::text::CowStr;
 use annotate_snippets::{
     Annotation, AnnotationKind, Element, Group, OptionCow, Origin, Padding, Patch, Snippet, Title,
@@ -19,6 +20,7 @@ pub fn print(rt: &(impl Print + AllocGlobal)) -> io::Result<()> {
             ("names of levels", names()),
             ("titles and messages", headings()),
             ("empty groups", groups(alloc)),
+            ("whether texts fit", fits(alloc)),
             ("settings of snippets", snippets(alloc)),
             ("annotations", annotations()),
             ("patches", patches()),
@@ -96,6 +98,12 @@ fn groups(alloc: Global) -> bool {
 /// Whether a group is empty.
 fn is_empty(group: Group<'_>) -> bool {
     group.is_empty()
+}
+
+/// Whether short texts fit.
+fn fits(alloc: Global) -> bool {
+    let group = Group::with_title(alloc, ERROR.primary_title("e").id("E1"));
+    group.fits() && Element::from(Origin::path("a.rs")).fits() && report_fits(&[group])
 }
 
 /// Whether a snippet has the settings that it is given.

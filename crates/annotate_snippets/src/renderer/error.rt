@@ -107,6 +107,8 @@ impl Error for RenderError {}
 
 /// So that `?` takes up a refused growth of memory: it is [`RenderError::Memory`].
 impl From<AllocError> for RenderError {
+    ghost use Rattle.annotate_snippets.specs.declared.renderer.error.RenderError.{RenderError};
+
     ghost from_gives = { λ error refusal. refusal ≡ RenderError.Memory error };
 
     fn from(error: AllocError) -> RenderError {

@@ -84,6 +84,42 @@ fn whole_group(alloc: Global) -> Result<Group<'static>, AllocError> {
         .elements(alloc, elements)
 }
 
+/// The same group, each element given by a builder for its kind.
+fn whole_group_by_kind(alloc: Global) -> Result<Group<'static>, AllocError> {
+    let remark = NOTE.with_name(OptionCow::from("remark"));
+    ERROR
+        .primary_title("e")
+        .id("E1")
+        .id_url("https://a.example/E1")
+        .message(alloc, remark.message("m"))?
+        .snippet(cause(alloc)?)?
+        .suggestion(suggestion(alloc)?)?
+        .origin(Origin::path("b.rs").line(3).char_column(2))?
+        .padding()
+}
+
+/// A title, and a message below a group.
+fn title_and_message(alloc: Global) -> Result<Group<'static>, AllocError> {
+    Group::with_title(alloc, HELP.secondary_title("t")).message(NOTE.message("m"))
+}
+
+/// A title, and source with annotations below it.
+fn title_and_snippet(alloc: Global) -> Result<Group<'static>, AllocError> {
+    HELP.secondary_title("t").snippet(alloc, cause(alloc)?)
+}
+
+/// A title, and source with patches below it.
+fn title_and_suggestion(alloc: Global) -> Result<Group<'static>, AllocError> {
+    HELP.secondary_title("t")
+        .suggestion(alloc, suggestion(alloc)?)
+}
+
+/// A title, and a place below it.
+fn title_and_origin(alloc: Global) -> Result<Group<'static>, AllocError> {
+    HELP.secondary_title("t")
+        .origin(alloc, Origin::path("b.rs"))
+}
+
 /// A group with two elements, given at once.
 fn pair(alloc: Global) -> Result<Group<'static>, AllocError> {
     let both = [Element::from(Padding), Element::from(Origin::path("b.rs"))];
@@ -102,9 +138,28 @@ fn pair_one_by_one(alloc: Global) -> Result<Group<'static>, AllocError> {
         .element(Element::from(Origin::path("b.rs")))
 }
 
-/// The line with both annotations, given one by one.
+/// The same, given by kind below the title.
+fn pair_by_kind(alloc: Global) -> Result<Group<'static>, AllocError> {
+    HELP.secondary_title("t")
+        .padding(alloc)?
+        .origin(Origin::path("b.rs"))
+}
+
+/// The same annotation with a label, from a borrowed text.
+fn labelled_by_str() -> Annotation<'static> {
+    AnnotationKind::Primary
+        .span(4..5)
+        .label_str("here")
+        .highlight_source(true)
+}
+
+/// The line with both annotations, given one by one, and with its path from a borrowed text.
 fn cause_one_by_one(alloc: Global) -> Result<Snippet<'static, Annotation<'static>>, AllocError> {
-    line(alloc).annotation(labelled())?.annotation(unlabelled())
+    Snippet::source(alloc, LINE)
+        .path_str("a.rs")
+        .line_start(7)
+        .annotation(labelled_by_str())?
+        .annotation(unlabelled())
 }
 
 /// The owned line with both patches, given one by one.
@@ -134,6 +189,11 @@ fn print_snippets(rt: &impl Print, alloc: Global) -> io::Result<()> {
 fn print_groups(rt: &impl Print, alloc: Global) -> io::Result<()> {
     print_made(rt, pair(alloc))?;
     print_made(rt, pair_one_by_one(alloc))?;
+    print_made(rt, pair_by_kind(alloc))?;
+    print_made(rt, title_and_message(alloc))?;
+    print_made(rt, title_and_snippet(alloc))?;
+    print_made(rt, title_and_suggestion(alloc))?;
+    print_made(rt, title_and_origin(alloc))?;
     print_untitled(rt, &Group::with_level(alloc, NOTE))
 }
 
@@ -146,5 +206,6 @@ fn print_untitled(rt: &impl Print, untitled: &Group<'_>) -> io::Result<()> {
 fn print_copy(rt: &impl Print, alloc: Global) -> io::Result<()> {
     let whole = whole_group(alloc)?;
     print_made(rt, whole.clone())?;
-    print_made(rt, Ok(whole))
+    print_made(rt, Ok(whole))?;
+    print_made(rt, whole_group_by_kind(alloc))
 }
