@@ -39,8 +39,8 @@ fn group<'a>(alloc: Global, request: &Request<'a>) -> Result<Group<'a>, AllocErr
         .snippet(alloc, snippet)
 }
 
-/// The report of a request, whatever it holds, or why there is none. A control character in its texts is drawn as a picture of
-/// itself, and so reaches no terminal.
+/// The report of a request, whatever it holds, or why there is none. A control character in its texts is drawn as a
+/// picture of itself, and so reaches no terminal.
 pub fn answer<'a>(alloc: Global, request: &Request<'a>) -> Result<String, &'static str> {
     // A label's line feed is drawn as it is, and what stands after it could look like a row of the report.
     if !is_one_line(request.label) {
