@@ -29,6 +29,7 @@ use Rattle.annotate_snippets.specs.declared.renderer.element_context.Next.{Next 
 use Rattle.annotate_snippets.specs.Around.{is_before_message}
 use Rattle.annotate_snippets.specs.Feeds.{HasNoFeed, HoldsNoFeed, IsNoFeed, IsOneLineId, IsOneLineName, IsOneLineText, IsOneLineTitle}
 use Rattle.annotate_snippets.specs.Rows.{closing_rows, rows_after_title, separator_rows, title_part}
+use Rattle.snippet_titles.proofs.OriginFree.{each-fails}
 use Rattle.annotate_snippets.proofs.FeedLaws.{after_spaces, bare_plain}
 use Rattle.annotate_snippets.proofs.PathFeedLaws.{alone, cells_plain, choice, closing_plain as closing_rows-plain, norm_plain}
 
@@ -90,9 +91,9 @@ sign_plain (Message place) =
     after_spaces (place.frame.gutter + 1) (text_cells LineNumber sign) (cells_plain LineNumber sign (by_decor place.frame.decor place.followed))
   where
     by_decor : (decor : DecorStyle) (followed : Bool) → All IsNoFeed (note_sign_of decor followed)
-    by_decor Ascii followed = All-cons IsNoFeed 61 (32 ∷ []) refl (alone 32 refl)
-    by_decor Unicode true = All-cons IsNoFeed 0x251C (32 ∷ []) refl (alone 32 refl)
-    by_decor Unicode false = All-cons IsNoFeed 0x2570 (32 ∷ []) refl (alone 32 refl)
+    by_decor Ascii followed = each-fails (λ c. c == 10) (note_sign_of Ascii followed) refl
+    by_decor Unicode true = each-fails (λ c. c == 10) (note_sign_of Unicode true) refl
+    by_decor Unicode false = each-fails (λ c. c == 10) (note_sign_of Unicode false) refl
 
 indent_plain : (style : TitleStyle) (width : ℕ) → HasNoFeed (indent_cells style width)
 indent_plain Title width = blank width

@@ -14,7 +14,7 @@ use Rattle.snippet_marks.specs.Entries.{label_role}
 use Rattle.snippet_marks.proofs.HeldLemmas.{are_starts-held, held, label_text-plain, marks_of-held, position_after-held, position_at-held}
 use Rattle.snippet_strokes.specs.Cuts.{cut_of, cuts_of, is_met, is_overlapped, look_ends, looked_after, meets, overlapped, overlapped_by, up_to}
 use Rattle.snippet_strokes.specs.Drawing.{lowest_position, row_count}
-use Rattle.snippet_strokes.specs.Strokes.{connector_of, connectors_of, corner_of, corners_of, is_hidden, label_of, labels_of, stem_of, stems_of, strokes_of}
+use Rattle.snippet_strokes.specs.Strokes.{connector_of, connectors_of, corner_of, corners_of, is_hidden, label_of, labels_of, stem_of, stems_of, line_strokes}
 
 -- ---- how many rows there are
 
@@ -52,8 +52,8 @@ module _ (layout : Layout) (row : ℕ) where
   corners_of-held count es = flat_map-map (corner_of layout row count) held es
 
 -- all strokes of a line
-pub strokes_of-held : (layout : Layout) (row count : ℕ) (placed order : List PlacedEntry) → strokes_of layout row count (map held placed) (map held order) ≡ strokes_of layout row count placed order
-strokes_of-held layout row count placed order =
+pub line_strokes-held : (layout : Layout) (row count : ℕ) (placed order : List PlacedEntry) → line_strokes layout row count (map held placed) (map held order) ≡ line_strokes layout row count placed order
+line_strokes-held layout row count placed order =
     let lines = connectors_of layout (row + 1) placed in
     let bars = corners_of layout row count placed in
     let stems = stems_of layout (row + 1) placed in

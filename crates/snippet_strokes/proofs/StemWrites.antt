@@ -3,7 +3,7 @@ use Rattle.std.proofs.Common.{◌≡◌, ℕ, suc, ◌+◌, ◌<◌, ◌≤◌, 
 use Rattle.std.specs.List.{range_with_len}
 use Rattle.std.proofs.lemmas.List.Elements.{All-append, All-cons, All-head, All-map, All-nil, All-tail, All-weaker}
 use Rattle.std.proofs.lemmas.List.FromFn.{get_or-range_with_len, length-range_with_len}
-use Rattle.snippet_style.specs.Glyphs.{glyph_of}
+use Rattle.snippet_style.specs.Glyphs.{strokes_of}
 use Rattle.snippet_style.specs.Cell.{Cell}
 use Rattle.snippet_text.specs.Normalized.{is_listed}
 use Rattle.snippet_grid.specs.Layout.{Layout}
@@ -15,7 +15,8 @@ use Rattle.snippet_marks.specs.Positions.{has_label, has_stem}
 use Rattle.snippet_marks.specs.Writes.{Write, painted}
 use Rattle.snippet_strokes.specs.Reach.{Reaches, IsWithin, cell_of_write}
 use Rattle.snippet_strokes.specs.Strokes.{is_hidden, stem_write, stem_of, stems_of}
-use Rattle.snippet_strokes.proofs.TextLemmas.{free_foot, free_stem}
+use Rattle.snippet_marks.proofs.StrokeLemmas.{free_strokes}
+use Rattle.snippet_strokes.proofs.StrokeGlyphs.{of_foot}
 use Rattle.snippet_strokes.proofs.WriteLaws.{DrawsFrom-painted, painted-cell, painted-count}
 use Rattle.snippet_marks.proofs.WriteLemmas.{painted-append}
 
@@ -48,9 +49,9 @@ stem_within layout row count from e rows stand =
       below = omega arith;
       there = omega (arith, rows.mark, low);
       right = stand;
-      free = All-cons P (cond (b == e.position) (foot_glyph layout.decor e) (glyph_of layout.decor primary 124 124 0x2502 0x2502)) []
-          (either (b == e.position) (foot_glyph layout.decor e) (glyph_of layout.decor primary 124 124 0x2502 0x2502)
-          (free_foot e.entry.annotation_type layout.decor primary (has_label e)) (free_stem layout.decor primary)) (All-nil P);
+      free = All-cons P (cond (b == e.position) (foot_glyph layout.decor e) (strokes_of layout.decor primary).stem) []
+          (either (b == e.position) (foot_glyph layout.decor e) (strokes_of layout.decor primary).stem
+          (of_foot P e.entry.annotation_type layout.decor primary (has_label e) (free_strokes layout.decor primary).stems) (free_strokes layout.decor primary).stems.stem) (All-nil P);
     })
   where
     either : (b : Bool) (foot stem : ℕ) → is_listed foot ≡ false → is_listed stem ≡ false → is_listed (cond b foot stem) ≡ false

@@ -78,7 +78,7 @@ fn draw_stem(
     let foot = foot_glyph(layout.decor, placed);
     let cell = layout.code + placed.entry.start.display;
     for below in 0..placed.position + 1 {
-        let glyph = stem_glyph(placed, foot, strokes.vertical_text_line, below);
+        let glyph = stem_glyph(placed, foot, strokes.stem, below);
         buffer.putc(row + below, cell, glyph, strokes.style)?;
     }
     Ok(())
@@ -98,8 +98,8 @@ fn foot_glyph(decor: DecorStyle, placed: &PlacedEntry) -> char
 {
     let strokes = decor.underline(is_primary(placed.entry.kind));
     match placed.entry.annotation_type {
-        LineAnnotationType::MultilineStart(_) => strokes.bottom_right,
-        LineAnnotationType::MultilineEnd(_) if placed.has_label() => strokes.bottom_right_with_text,
-        _ => strokes.vertical_text_line,
+        LineAnnotationType::MultilineStart(_) => strokes.corner,
+        LineAnnotationType::MultilineEnd(_) if placed.has_label() => strokes.corner_with_label,
+        _ => strokes.stem,
     }
 }

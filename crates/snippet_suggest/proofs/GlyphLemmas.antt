@@ -10,52 +10,11 @@ use Rattle.snippet_suggest.specs.declared.glyphs.SuggestionGlyph.TheVariants.{Op
 use Rattle.snippet_text.specs.Normalized.{is_listed}
 use Rattle.snippet_suggest.specs.Glyphs.{glyph_of, is_sign}
 use Rattle.snippet_suggest.specs.Rows.{IsSign, is_stroke}
-pub use Rattle.snippet_style.proofs.GlyphLemmas.{chars-end}
 
 -- the characters of the bytes that the code writes for `- `
 pub chars-minus : chars (45 ∷ 32 ∷ []) ≡ codes "- "
 unfolding lib.Utf8.encode
 chars-minus = chars-encodes (codes "- ") refl
-
--- the characters of the bytes that the code writes for `| `
-pub chars-bar_space : chars (124 ∷ 32 ∷ []) ≡ codes "| "
-unfolding lib.Utf8.encode
-chars-bar_space = chars-encodes (codes "| ") refl
-
--- the characters of the bytes that the code writes for `~ `
-pub chars-tilde : chars (126 ∷ 32 ∷ []) ≡ codes "~ "
-unfolding lib.Utf8.encode
-chars-tilde = chars-encodes (codes "~ ") refl
-
--- the characters of the bytes that the code writes for `+ `
-pub chars-plus : chars (43 ∷ 32 ∷ []) ≡ codes "+ "
-unfolding lib.Utf8.encode
-chars-plus = chars-encodes (codes "+ ") refl
-
--- the characters of the bytes that the code writes for `╭╴`
-pub chars-corner : chars (226 ∷ 149 ∷ 173 ∷ 226 ∷ 149 ∷ 180 ∷ []) ≡ codes "╭╴"
-unfolding lib.Utf8.encode
-chars-corner = chars-encodes (codes "╭╴") refl
-
--- the characters of the bytes that the code writes for `├╴`
-pub chars-branch : chars (226 ∷ 148 ∷ 156 ∷ 226 ∷ 149 ∷ 180 ∷ []) ≡ codes "├╴"
-unfolding lib.Utf8.encode
-chars-branch = chars-encodes (codes "├╴") refl
-
--- the characters of the bytes that the code writes for `│`
-pub chars-stroke : chars (226 ∷ 148 ∷ 130 ∷ []) ≡ codes "│"
-unfolding lib.Utf8.encode
-chars-stroke = chars-encodes (codes "│") refl
-
--- the characters of the bytes that the code writes for `│ `
-pub chars-stroke_space : chars (226 ∷ 148 ∷ 130 ∷ 32 ∷ []) ≡ codes "│ "
-unfolding lib.Utf8.encode
-chars-stroke_space = chars-encodes (codes "│ ") refl
-
--- the characters of the bytes that the code writes for `± `
-pub chars-plus_minus : chars (194 ∷ 177 ∷ 32 ∷ []) ≡ codes "± "
-unfolding lib.Utf8.encode
-chars-plus_minus = chars-encodes (codes "± ") refl
 
 -- each has a character or two
 pub glyph_short : (decor : DecorStyle) (glyph : SuggestionGlyph) → length (glyph_of decor glyph) ≤ 2

@@ -1,5 +1,6 @@
 -- The glyphs of suggestions.
 use Rattle.std.specs.Prelude.{ℕ, Bool, true, false, List, codes}
+use Rattle.snippet_style.specs.Glyphs.{char_of}
 use Rattle.snippet_style.specs.declared.glyphs.DecorStyle.{DecorStyle}
 use Rattle.snippet_style.specs.declared.glyphs.DecorStyle.TheVariants.{Ascii, Unicode}
 use Rattle.snippet_style.specs.declared.role.ElementStyle.{ElementStyle}
@@ -61,5 +62,5 @@ role_of Added = Addition
 
 -- the mark below what is put in place of something else
 abbrev pub changed_mark_of : DecorStyle → ℕ
-changed_mark_of Ascii = 126
-changed_mark_of Unicode = 177
+changed_mark_of Ascii = char_of (codes "~")
+changed_mark_of Unicode = char_of (codes "±")

@@ -1,6 +1,7 @@
 -- The marks below the one line of a suggestion, as values.
-use Rattle.std.specs.Prelude.{ℕ, ◌+◌, ◌-◌, ◌^◌, min, nat_le, List, [], ◌∷◌, ◌++◌, chars, filter, length, map, replicate, sum_by, if◌then◌else◌}
+use Rattle.std.specs.Prelude.{ℕ, ◌+◌, ◌-◌, ◌^◌, min, nat_le, List, [], ◌∷◌, ◌++◌, chars, filter, length, map, replicate, sum_by, if◌then◌else◌, codes}
 use Rattle.std.specs.Str.{trim, trim_start}
+use Rattle.snippet_style.specs.Glyphs.{char_of}
 use Rattle.snippet_style.specs.Cell.{Cell}
 use Rattle.snippet_style.specs.declared.glyphs.DecorStyle.{DecorStyle}
 use Rattle.snippet_style.specs.declared.role.ElementStyle.TheVariants.{Addition}
@@ -59,7 +60,7 @@ mark_end earlier c text = moved c.start earlier (capped (capped (c.start + lead_
 
 -- the mark of an edit: `+` where it adds text, else that of what is changed
 abbrev pub mark_of : DecorStyle → List ℕ → Edit → ℕ
-mark_of decor source e = if adds_text source e then 43 else changed_mark_of decor
+mark_of decor source e = if adds_text source e then char_of (codes "+") else changed_mark_of decor
 
 -- a row with a mark in the columns from one to before another, as far as there are columns
 unfoldable pub with_mark : SuggestionLayout → ℕ → ℕ → ℕ → List Cell → List Cell

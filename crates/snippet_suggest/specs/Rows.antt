@@ -1,11 +1,11 @@
 -- What the rows of a suggestion show.
-use Rattle.std.specs.Prelude.{◌≡◌, ◌⊎◌, ℕ, ◌+◌, ◌-◌, ◌<◌, ◌≤◌, ◌==◌, Bool, true, false, Option, List, [], ◌∷◌, ◌++◌, length, map, replicate, take, drop, chars, if◌then◌else◌}
+use Rattle.std.specs.Prelude.{◌≡◌, ◌⊎◌, ℕ, ◌+◌, ◌-◌, ◌<◌, ◌≤◌, ◌==◌, Bool, true, false, Option, List, [], ◌∷◌, ◌++◌, length, map, replicate, take, drop, chars, if◌then◌else◌, codes}
 use Rattle.std.specs.Char.{is_ascii_alphanumeric}
 use Rattle.std.specs.List.{AllZip, list_any, slice_index_or}
 use Rattle.snippet_model.specs.declared.snippet.Snippet.{Snippet}
 use Rattle.snippet_model.specs.declared.snippet.Patch.{Patch}
 use Rattle.snippet_style.specs.declared.glyphs.DecorStyle.{DecorStyle}
-use Rattle.snippet_style.specs.Glyphs.{placeholder_of, separator_of}
+use Rattle.snippet_style.specs.Glyphs.{char_of, placeholder_of, separator_of}
 use Rattle.snippet_style.specs.Cell.{Cell, SPACE}
 use Rattle.snippet_grid.specs.Print.{row_text}
 use Rattle.snippet_text.specs.Normalized.{norm}
@@ -26,7 +26,7 @@ use Rattle.snippet_suggest.specs.Glyphs.{changed_mark_of, glyph_of}
 
 -- what stands beside a line that is offered: a separator, the glyph of a changed line, or `+`
 abbrev pub IsSign : DecorStyle → ℕ → Type 0
-IsSign decor c = (c ≡ separator_of decor) ⊎ (c ≡ changed_mark_of decor) ⊎ (c ≡ 43)
+IsSign decor c = (c ≡ separator_of decor) ⊎ (c ≡ changed_mark_of decor) ⊎ (c ≡ char_of (codes "+"))
 
 -- what stands left of the lines in a row that shows none: spaces, what stands for lines that are left out, and the glyphs that
 -- suggestions begin and end with
@@ -36,7 +36,7 @@ is_stroke decor c =
 
 -- what stands in a row of marks: spaces, `+`, and the mark below what is changed
 abbrev pub IsMarkOrSpace : DecorStyle → ℕ → Type 0
-IsMarkOrSpace decor c = (c ≡ 32) ⊎ (c ≡ 43) ⊎ (c ≡ changed_mark_of decor)
+IsMarkOrSpace decor c = (c ≡ 32) ⊎ (c ≡ char_of (codes "+")) ⊎ (c ≡ changed_mark_of decor)
 
 -- three cells after the gutter the row holds this text, to its end
 abbrev pub HoldsText : ℕ → List ℕ → List Cell → Type 0
@@ -74,7 +74,7 @@ IsLeftOver decor c = IsMarkOrSpace decor c ⊎ ((48 ≤ c) × (c ≤ 57))
 pub record IsRemovedRow (numbers : LineNumbers) (decor : DecorStyle) (gutter : ℕ) (number text : List ℕ) (row : List Cell) : Type 0 where
   pub numbered : length number ≤ gutter + 1 → row_text (take (length number) row) ≡ number
   pub before : (c : ℕ) → c ≤ gutter → IsBeforeSign numbers decor (slice_index_or row c SPACE).ch
-  pub minus : (slice_index_or row (gutter + 1) SPACE).ch ≡ 45
+  pub minus : (slice_index_or row (gutter + 1) SPACE).ch ≡ char_of (codes "-")
   pub space : (slice_index_or row (gutter + 2) SPACE).ch ≡ 32
   pub begins : row_text (take (length text) (drop (gutter + 3) row)) ≡ text
   pub after : (c : ℕ) → gutter + 3 + length text ≤ c → IsLeftOver decor (slice_index_or row c SPACE).ch

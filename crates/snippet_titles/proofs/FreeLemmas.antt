@@ -24,6 +24,7 @@ use Rattle.snippet_titles.specs.Heading.{bracketed_text, closing_of, colon_of, s
 use Rattle.snippet_titles.specs.Shown.{IsFreeButText}
 use Rattle.snippet_titles.proofs.TextLemmas.{row_text-append, row_text-after, row_text-label, row_text-spaces}
 use Rattle.snippet_model.proofs.RowLemmas.{each_fails as fails_each}
+use Rattle.snippet_style.specs.Glyphs.{separator_of}
 use Rattle.snippet_grid.proofs.RowLemmas.{row_text-text_cells}
 
 -- a character that isn't listed
@@ -106,13 +107,13 @@ module _ (P : ℕ → Type 0) (free : (c : ℕ) → IsUnlisted c → P c) where
   spaces-all n = subst (All P) (sym (row_text-spaces n)) (All-replicate P n 32 (free 32 refl))
 
   note_sign-all : (decor : DecorStyle) (followed : Bool) → All P (note_sign_of decor followed)
-  note_sign-all Ascii followed = All-cons P 61 (32 ∷ []) (free 61 refl) (All-cons P 32 [] (free 32 refl) (All-nil P))
-  note_sign-all Unicode true = All-cons P 0x251C (32 ∷ []) (free 0x251C refl) (All-cons P 32 [] (free 32 refl) (All-nil P))
-  note_sign-all Unicode false = All-cons P 0x2570 (32 ∷ []) (free 0x2570 refl) (All-cons P 32 [] (free 32 refl) (All-nil P))
+  note_sign-all Ascii followed = from_free (note_sign_of Ascii followed) (fails_each is_listed (note_sign_of Ascii followed) refl)
+  note_sign-all Unicode true = from_free (note_sign_of Unicode true) (fails_each is_listed (note_sign_of Unicode true) refl)
+  note_sign-all Unicode false = from_free (note_sign_of Unicode false) (fails_each is_listed (note_sign_of Unicode false) refl)
 
   note_bar-free : (decor : DecorStyle) (followed : Bool) → P (note_bar_of decor followed).ch
   note_bar-free Ascii followed = free 32 refl
-  note_bar-free Unicode true = free 0x2502 refl
+  note_bar-free Unicode true = free (separator_of Unicode) refl
   note_bar-free Unicode false = free 32 refl
 
   parts-all : (xs ys : List Cell) → All P (row_text xs) → All P (row_text ys) → All P (row_text (xs ++ ys))

@@ -8,6 +8,7 @@ use Rattle.snippet_style.specs.declared.glyphs.DecorStyle.TheVariants.{Ascii, Un
 use Rattle.snippet_style.specs.declared.role.ElementStyle.{ElementStyle}
 use Rattle.snippet_style.specs.declared.role.ElementStyle.TheVariants as role
 use Rattle.snippet_style.specs.declared.role.LevelInner.{LevelInner}
+use Rattle.snippet_style.specs.Glyphs.{separator_of}
 use Rattle.snippet_grid.specs.Grid.{linked}
 use Rattle.snippet_style.specs.Cell.{Cell, SPACE, unlinked_cell, text_cells}
 use Rattle.snippet_text.specs.Normalized.{norm}
@@ -113,7 +114,7 @@ note_sign_of Unicode false = codes "╰ "
 -- what stands below it: in Unicode the stroke that leads to the element that follows, if there is one; else a space
 abbrev pub note_bar_of : DecorStyle → Bool → Cell
 note_bar_of Ascii followed = SPACE
-note_bar_of Unicode true = unlinked_cell role.LineNumber 0x2502
+note_bar_of Unicode true = unlinked_cell role.LineNumber (separator_of Unicode)
 note_bar_of Unicode false = SPACE
 
 -- what a heading's first row begins with: nothing for a title, and for a message the sign after the gutter

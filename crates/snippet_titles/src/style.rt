@@ -91,7 +91,7 @@ impl MessageContext {
     {
         let frame = self.frame;
         match (frame.decor, self.followed) {
-            (DecorStyle::Unicode, true) => ('│', ElementStyle::LineNumber),
+            (DecorStyle::Unicode, true) => (frame.decor.separator(), ElementStyle::LineNumber),
             (DecorStyle::Unicode, false) | (DecorStyle::Ascii, _) => (' ', ElementStyle::NoStyle),
         }
     }
