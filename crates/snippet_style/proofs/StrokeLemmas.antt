@@ -1,5 +1,5 @@
 -- The table of strokes: what a test says of each of its glyphs, by one computation for each decor and kind.
-use Rattle.std.proofs.Common.{◌≡◌, ℕ, Bool, true, false, List, ◌==◌, get_or, map, replicate, refl, ap}
+use Rattle.std.proofs.Common.{◌≡◌, ℕ, Bool, true, false, ◌==◌, get_or, map, replicate, refl, ap}
 use Rattle.std.specs.List.{list_any}
 use Rattle.snippet_style.specs.Glyphs.{bar_glyphs, bar_strokes, code_strokes, stem_strokes, strokes_of}
 use Rattle.snippet_style.specs.declared.glyphs.DecorStyle.{DecorStyle}

@@ -12,8 +12,8 @@ use Rattle.snippet_text.specs.Width.{width_of}
 use Rattle.snippet_lines.specs.Number.{shown_number}
 use Rattle.snippet_splice.specs.declared.stretches.SubstitutionHighlight.{SubstitutionHighlight}
 use Rattle.snippet_splice.specs.Stretches.{capped}
-use Rattle.snippet_suggest.specs.declared.glyphs.SuggestionGlyph.{SuggestionGlyph}
-use Rattle.snippet_suggest.specs.declared.glyphs.SuggestionGlyph.TheVariants as sign
+use Rattle.snippet_style.specs.declared.glyphs.SuggestionGlyph.{SuggestionGlyph}
+use Rattle.snippet_style.specs.declared.glyphs.SuggestionGlyph.TheVariants as sign
 use Rattle.snippet_suggest.specs.declared.kind.DisplaySuggestion.{DisplaySuggestion}
 use Rattle.snippet_suggest.specs.declared.kind.DisplaySuggestion.TheVariants.{Underline, Diff, Plain, Add}
 use Rattle.snippet_suggest.specs.declared.layout.SuggestionLayout.{SuggestionLayout}
@@ -23,7 +23,7 @@ use Rattle.snippet_parts.specs.declared.source_map.LineInfo.{LineInfo}
 use Rattle.snippet_suggest.specs.declared.shown.ShownLine.{ShownLine}
 use Rattle.snippet_suggest.specs.declared.shown.ShownLine.TheVariants.{Line, Gap}
 use Rattle.snippet_suggest.specs.Given.{is_left_out, last_removed, unless_stays}
-use Rattle.snippet_suggest.specs.Glyphs.{glyph_of, role_of}
+use Rattle.snippet_style.specs.Glyphs.{suggestion_glyph_of, suggestion_role_of}
 use Rattle.snippet_suggest.specs.Order.{number_after}
 use Rattle.snippet_suggest.specs.Rows.{end_glyph}
 
@@ -64,7 +64,7 @@ sign_of kind count line stretches =
 -- after the gutter on. A number that is too long for the gutter stands over the glyph
 unfoldable pub line_cells : SuggestionLayout → SuggestionGlyph → ℕ → List ℕ → List Cell
 line_cells layout glyph number line =
-    let signed = put (role_of glyph) (glyph_of layout.frame.decor glyph) (layout.frame.gutter + 1) [] in
+    let signed = put (suggestion_role_of glyph) (suggestion_glyph_of layout.frame.decor glyph) (layout.frame.gutter + 1) [] in
     let numbered = put LineNumber (shown_number layout.numbers layout.frame.gutter number) 0 signed in
     put NoStyle (norm (chars line)) (layout.frame.gutter + 3) numbered
 
@@ -99,8 +99,8 @@ gap_cells layout =
 
 -- the row that a suggestion begins with, over one that is there or has no cells; below its path that is one that is there
 unfoldable pub begin_cells : SuggestionLayout → SuggestionStart → List Cell → List Cell
-begin_cells layout Opening under = put LineNumber (glyph_of layout.frame.decor sign.Opening) (layout.frame.gutter + 1) under
-begin_cells layout Next under = put LineNumber (glyph_of layout.frame.decor sign.Next) (layout.frame.gutter + 1) under
+begin_cells layout Opening under = put LineNumber (suggestion_glyph_of layout.frame.decor sign.Opening) (layout.frame.gutter + 1) under
+begin_cells layout Next under = put LineNumber (suggestion_glyph_of layout.frame.decor sign.Next) (layout.frame.gutter + 1) under
 begin_cells layout Path under = under
 
 -- the row that it ends with, before a further element or not

@@ -14,7 +14,7 @@ use Rattle.snippet_splice.specs.Stretches.{capped}
 use Rattle.snippet_suggest.specs.declared.layout.SuggestionLayout.{SuggestionLayout}
 use Rattle.snippet_suggest.specs.declared.marks.PatchColumns.{PatchColumns}
 use Rattle.snippet_suggest.specs.Cells.{put}
-use Rattle.snippet_suggest.specs.Glyphs.{changed_mark_of}
+use Rattle.snippet_style.specs.Glyphs.{changed_mark_of}
 use Rattle.snippet_suggest.specs.Kind.{adds_text, is_blank}
 
 -- the columns of a text, and of an edit: where its span starts and ends in its lines of the source, and how many its text has

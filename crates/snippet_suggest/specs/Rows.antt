@@ -21,8 +21,8 @@ use Rattle.snippet_suggest.specs.declared.shown.ShownLine.{ShownLine}
 use Rattle.snippet_suggest.specs.declared.shown.ShownLine.TheVariants.{Line, Gap}
 use Rattle.snippet_suggest.specs.Given.{counted_line, first_given, given_lines}
 use Rattle.snippet_suggest.specs.Order.{Begins, Empty, Ends, Offers, Removes, Skips, SuggestionRow, number_after, rows_of_suggestion}
-use Rattle.snippet_suggest.specs.declared.glyphs.SuggestionGlyph.TheVariants as sign
-use Rattle.snippet_suggest.specs.Glyphs.{changed_mark_of, glyph_of}
+use Rattle.snippet_style.specs.declared.glyphs.SuggestionGlyph.TheVariants as sign
+use Rattle.snippet_style.specs.Glyphs.{changed_mark_of, suggestion_glyph_of}
 
 -- what stands beside a line that is offered: a separator, the glyph of a changed line, or `+`
 abbrev pub IsSign : DecorStyle → ℕ → Type 0
@@ -32,7 +32,7 @@ IsSign decor c = (c ≡ separator_of decor) ⊎ (c ≡ changed_mark_of decor) �
 -- suggestions begin and end with
 abbrev pub is_stroke : DecorStyle → ℕ → Bool
 is_stroke decor c =
-    list_any (λ d. d == c) (32 ∷ (placeholder_of decor ++ glyph_of decor sign.Opening ++ glyph_of decor sign.Next ++ glyph_of decor sign.Leading ++ glyph_of decor sign.Closing))
+    list_any (λ d. d == c) (32 ∷ (placeholder_of decor ++ suggestion_glyph_of decor sign.Opening ++ suggestion_glyph_of decor sign.Next ++ suggestion_glyph_of decor sign.Leading ++ suggestion_glyph_of decor sign.Closing))
 
 -- what stands in a row of marks: spaces, `+`, and the mark below what is changed
 abbrev pub IsMarkOrSpace : DecorStyle → ℕ → Type 0
@@ -94,14 +94,14 @@ beside_gutter gutter glyph = replicate (gutter + 1) 32 ++ glyph
 -- in the row that a suggestion begins with: its opening glyph, or one that joins it to the suggestion before, in the last row of
 -- that; or below its path a separator
 abbrev pub begin_glyph : DecorStyle → SuggestionStart → List ℕ
-begin_glyph decor Opening = glyph_of decor sign.Opening
-begin_glyph decor Next = glyph_of decor sign.Next
+begin_glyph decor Opening = suggestion_glyph_of decor sign.Opening
+begin_glyph decor Next = suggestion_glyph_of decor sign.Next
 begin_glyph decor Path = separator_of decor ∷ []
 
 -- in the row that it ends with: a separator before a further element, or else its closing glyph
 abbrev pub end_glyph : DecorStyle → Bool → List ℕ
-end_glyph decor true = glyph_of decor sign.Leading
-end_glyph decor false = glyph_of decor sign.Closing
+end_glyph decor true = suggestion_glyph_of decor sign.Leading
+end_glyph decor false = suggestion_glyph_of decor sign.Closing
 
 -- in a row in place of lines that are left out: what stands for these, right-aligned in the gutter, or from the first cell on where that
 -- is too narrow

@@ -13,7 +13,6 @@ ghost use Rattle.snippet_lines.specs.Number.{shown_number};
 ghost use Rattle.snippet_suggest.specs.Rows.{AddsRow, AddsShown, NumberFits, IsLineRow, IsShownRow};
 ghost use Rattle.snippet_suggest.specs.Order.{number_after};
 
-use crate::glyphs::SuggestionGlyph;
 use crate::kind::DisplaySuggestion;
 use crate::layout::SuggestionLayout;
 use crate::roles::{paint_stretches, stretches_of};
@@ -22,7 +21,7 @@ use crate::shown::{ShownLine, shown_lines};
 use snippet_grid::StyledBuffer;
 use snippet_lines::CursorLines;
 use snippet_splice::{LineRange, SubstitutionHighlight};
-use snippet_style::ElementStyle;
+use snippet_style::{ElementStyle, SuggestionGlyph};
 use std::alloc::{AllocError, Global};
 
 /// The lines of a text, without their ends.

@@ -9,7 +9,6 @@ ghost use Rattle.snippet_style.specs.Cell.{Cell};
 ghost use Rattle.snippet_suggest.specs.Rows.{AddsRow, IsMarkOrSpace, IsStrokeRow};
 ghost use Rattle.snippet_lines.specs.Span.{IsSpan};
 
-use crate::glyphs::changed_mark;
 use crate::kind::{is_addition, is_blank};
 use crate::layout::SuggestionLayout;
 use snippet_grid::StyledBuffer;
@@ -168,7 +167,7 @@ fn patch_mark(layout: &SuggestionLayout, map: &SourceMap<'_>, patch: &TrimmedPat
     if is_addition(map.source(), patch) {
         '+'
     } else {
-        changed_mark(frame.decor)
+        frame.decor.changed_mark()
     }
 }
 

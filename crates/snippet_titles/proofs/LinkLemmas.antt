@@ -22,7 +22,8 @@ use Rattle.snippet_model.specs.Level.{name_of}
 use Rattle.snippet_titles.specs.declared.style.HeadingRoles.{HeadingRoles}
 use Rattle.snippet_titles.specs.declared.style.TitleStyle.{TitleStyle}
 use Rattle.snippet_titles.specs.declared.style.TitleStyle.TheVariants.{Title, Short, Message}
-use Rattle.snippet_titles.specs.Heading.{address_of, bracketed_cells, closing_of, colon_of, shown_text, heading_lines, heading_rows, id_cells, indent_cells, label_cells, label_width, lines_below, linked_to, note_bar_of, note_sign_of, on_top, opening_of, roles_of, sign_cells, trimmed}
+use Rattle.snippet_titles.specs.Heading.{address_of, bracketed_cells, closing_of, colon_of, shown_text, heading_lines, heading_rows, id_cells, indent_cells, label_cells, label_width, lines_below, linked_to, note_bar_of, on_top, opening_of, roles_of, sign_cells, trimmed}
+use Rattle.snippet_style.specs.Glyphs.{note_sign_of}
 use Rattle.snippet_titles.specs.Title.{id_links, text_links, title_rows}
 
 -- a cell that links to nothing

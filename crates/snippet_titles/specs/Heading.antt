@@ -8,7 +8,7 @@ use Rattle.snippet_style.specs.declared.glyphs.DecorStyle.TheVariants.{Ascii, Un
 use Rattle.snippet_style.specs.declared.role.ElementStyle.{ElementStyle}
 use Rattle.snippet_style.specs.declared.role.ElementStyle.TheVariants as role
 use Rattle.snippet_style.specs.declared.role.LevelInner.{LevelInner}
-use Rattle.snippet_style.specs.Glyphs.{separator_of}
+use Rattle.snippet_style.specs.Glyphs.{note_sign_of, separator_of}
 use Rattle.snippet_grid.specs.Grid.{linked}
 use Rattle.snippet_style.specs.Cell.{Cell, SPACE, unlinked_cell, text_cells}
 use Rattle.snippet_text.specs.Normalized.{norm}
@@ -105,13 +105,7 @@ roles_of Short kind trusted =
 roles_of (Message place) kind trusted =
     record { label = role.MainHeaderMsg; colon = role.NoStyle; text = role.NoStyle }
 
--- what leads from the gutter to a message: '= ', or in Unicode '├ ' where an element follows and else '╰ '
-abbrev pub note_sign_of : DecorStyle → Bool → List ℕ
-note_sign_of Ascii followed = codes "= "
-note_sign_of Unicode true = codes "├ "
-note_sign_of Unicode false = codes "╰ "
-
--- what stands below it: in Unicode the stroke that leads to the element that follows, if there is one; else a space
+-- what stands below what leads to a message: in Unicode the stroke that leads to the element that follows, if there is one; else a space
 abbrev pub note_bar_of : DecorStyle → Bool → Cell
 note_bar_of Ascii followed = SPACE
 note_bar_of Unicode true = unlinked_cell role.LineNumber (separator_of Unicode)
