@@ -30,7 +30,7 @@ use Rattle.snippet_style.specs.declared.stylesheet.Stylesheet.{Stylesheet}
 use Rattle.snippet_grid.proofs.WovenLemmas.{IsWoven-from_prints, plain_woven}
 use Rattle.snippet_text.specs.Normalized.{is_listed, norm}
 use Rattle.snippet_titles.proofs.ShortLaws.{short-free, short-links, short-texts}
-use Rattle.snippet_titles.specs.Heading.{shown_text, heading_lines, indent_cells, label_text, label_width}
+use Rattle.snippet_titles.specs.Heading.{shown_text, heading_lines, indent_cells, heading_label_text, label_width}
 use Rattle.snippet_titles.specs.Origin.{origin_text, place_text}
 use Rattle.snippet_titles.specs.Short.{with_end}
 use Rattle.snippet_titles.specs.Shown.{IsFreeButText, texts_below}
@@ -162,7 +162,7 @@ begins r g title rows are drawable s first path has some none =
     let found = place_known (primary_place lines) (IsLocation (numbered_source s) s.markers.items) (place-named s.fold (numbered_source s) s.markers.items lines can.spans refl some none) in
     let heading : Heading = heading_of_title title in
     let before : List ℕ = before_title r g in
-    let text = first-text before (label_text heading) (row_text (indent_cells style.Short (label_width heading))) (after_title g) (heading_lines heading) (omega (arith, length-slice_split (λ c. c == 10) (shown_text heading))) in
+    let text = first-text before (heading_label_text heading) (row_text (indent_cells style.Short (label_width heading))) (after_title g) (heading_lines heading) (omega (arith, length-slice_split (λ c. c == 10) (shown_text heading))) in
     let named : before ≡ origin_text r.anonymized_origin_line_numbers path (place_found (Some found.0)) ++ codes ": " = ap (place_of_cause r) first ∙ ap (place_of_path r s) has ∙ ap (λ o. origin_text r.anonymized_origin_line_numbers path (place_found o) ++ codes ": ") found.1 in
     record {
       place = found.0;

@@ -15,7 +15,7 @@ use Rattle.snippet_marks.specs.declared.positions.PlacedEntry.{PlacedEntry}
 use Rattle.snippet_marks.specs.Painting.{first_glyph, mark_end, mark_of, marks_of, stroke_role}
 use Rattle.snippet_strokes.specs.Drawing.{foot_glyph}
 use Rattle.snippet_marks.specs.Positions.{has_label, has_stem, label_place}
-use Rattle.snippet_strokes.specs.Strokes.{bar_of, bottom_of, connector_by, connector_of, connectors_of, corner_by, corner_of, corners_of, is_hidden, label_of, label_write, labels_of, line_to, stem_of, stem_write, stems_of, line_strokes, top_of, column_of}
+use Rattle.snippet_strokes.specs.Strokes.{bar_of, bottom_of, connector_by, connector_of, connectors_of, corner_by, corner_of, corners_of, is_stem_covered, label_of, label_write, labels_of, line_to, stem_of, stem_write, stems_of, line_strokes, top_of, column_of}
 use Rattle.snippet_marks.specs.Writes.{Write, glyph_at, painted, stretch_of, written_by}
 
 -- a write so many rows farther down
@@ -158,9 +158,9 @@ module _ (layout : Layout) (n : ℕ) where
   stems-lowered : (row : ℕ) (es : List PlacedEntry) → stems_of layout (n + row) es ≡ map (lowered n) (stems_of layout row es)
   stems-lowered row [] = refl
   stems-lowered row (e ∷ later) =
-      ap (λ ws. ws ++ stems_of layout (n + row) later) (either (is_hidden e later))
-      ∙ ap (λ ws. map (lowered n) (cond (is_hidden e later) [] (stem_of layout row e)) ++ ws) (stems-lowered row later)
-      ∙ sym (map-append (lowered n) (cond (is_hidden e later) [] (stem_of layout row e)) (stems_of layout row later))
+      ap (λ ws. ws ++ stems_of layout (n + row) later) (either (is_stem_covered e later))
+      ∙ ap (λ ws. map (lowered n) (cond (is_stem_covered e later) [] (stem_of layout row e)) ++ ws) (stems-lowered row later)
+      ∙ sym (map-append (lowered n) (cond (is_stem_covered e later) [] (stem_of layout row e)) (stems_of layout row later))
     where
       either : (hidden : Bool) → cond hidden [] (stem_of layout (n + row) e) ≡ map (lowered n) (cond hidden [] (stem_of layout row e))
       either true = refl

@@ -20,7 +20,7 @@ use Rattle.snippet_marks.proofs.WriteLemmas.{painted-append}
 use Rattle.snippet_strokes.specs.Drawing.{foot_glyph}
 use Rattle.snippet_strokes.specs.Labels.{IsStemCell, stem_glyphs}
 use Rattle.snippet_strokes.specs.Reach.{Reaches, cell_of_write}
-use Rattle.snippet_strokes.specs.Strokes.{connectors_of, corners_of, is_hidden, label_of, labels_of, stem_of, stem_write, stems_of, line_strokes}
+use Rattle.snippet_strokes.specs.Strokes.{connectors_of, corners_of, is_stem_covered, label_of, labels_of, stem_of, stem_write, stems_of, line_strokes}
 use Rattle.snippet_strokes.proofs.BarWrites.{All-stretch_of}
 use Rattle.snippet_strokes.proofs.LabelWrites.{All-label_of}
 use Rattle.snippet_strokes.proofs.StemWrites.{All-stem_of, All-stems_of, stems_next, stems_skip}
@@ -46,7 +46,7 @@ record Hides (e next : PlacedEntry) : Type 0 where
   pub column : next.entry.start.display ≡ e.entry.start.display
   pub deep : e.position ≤ next.position
 
-hides : (e next : PlacedEntry) (later : List PlacedEntry) → is_hidden e (next ∷ later) ≡ true → Hides e next
+hides : (e next : PlacedEntry) (later : List PlacedEntry) → is_stem_covered e (next ∷ later) ≡ true → Hides e next
 hides e next later hidden =
     let outer = and_parts (has_stem next) (next.entry.start.display == e.entry.start.display && nat_le e.position next.position) hidden in
     let inner = and_parts (next.entry.start.display == e.entry.start.display) (nat_le e.position next.position) outer.1 in
@@ -114,14 +114,14 @@ module _ (layout : Layout) (r c : ℕ) where
       → P (cell_at (painted (stems_of layout row es) rows) r c)
   stems_stand row [] k b d rows within stem low at_row at_cell = absurd (omega (arith, within))
   stems_stand row (e ∷ later) (suc k) b d rows within stem low at_row at_cell =
-      let own : List Write = cond (is_hidden e later) [] (stem_of layout row e) in
+      let own : List Write = cond (is_stem_covered e later) [] (stem_of layout row e) in
       subst (λ rs. P (cell_at rs r c)) (sym (painted-append own (stems_of layout row later) rows)) (stems_stand row later k b d (painted own rows) (omega (arith, within)) stem low at_row at_cell)
   stems_stand row (e ∷ []) zero b d rows within stem low at_row at_cell =
       let drawn : List (List Cell) = painted (stem_of layout row e) rows in
       subst (λ rs. P (cell_at rs r c)) (stems_next layout row e [] rows drawn refl refl) (stem_stands row b e rows stem low at_row at_cell)
   stems_stand row (e ∷ next ∷ later) zero b d rows within stem low at_row at_cell =
       let others : List PlacedEntry = next ∷ later in
-      elim (cases_Bool (is_hidden e others)) [
+      elim (cases_Bool (is_stem_covered e others)) [
         | inl hidden ↦
             let by : Hides e next = hides e next later hidden in
             subst (λ rs. P (cell_at rs r c)) (stems_skip layout row e others rows hidden) (stems_stand row (next ∷ later) zero b d rows (omega arith) by.stem (omega (arith, low, by.deep)) at_row (omega (arith, at_cell, by.column)))

@@ -49,16 +49,16 @@ abbrev pub stem_of : Layout → ℕ → PlacedEntry → List Write
 stem_of layout row e = if has_stem e then map (stem_write layout row e) (range_with_len 0 (e.position + 1)) else []
 
 -- whether the stem of the next of some later entries covers that of an entry: it stands in the same column, and reaches as far down
-abbrev pub is_hidden : PlacedEntry → List PlacedEntry → Bool
-is_hidden e [] = false
-is_hidden e (next ∷ later) =
+abbrev pub is_stem_covered : PlacedEntry → List PlacedEntry → Bool
+is_stem_covered e [] = false
+is_stem_covered e (next ∷ later) =
     has_stem next && (next.entry.start.display == e.entry.start.display && nat_le e.position next.position)
 
 -- the stems of some entries, but those that the next one's covers
 abbrev pub stems_of : Layout → ℕ → List PlacedEntry → List Write
 stems_of layout row [] = []
 stems_of layout row (e ∷ later) =
-    (if is_hidden e later then [] else stem_of layout row e) ++ stems_of layout row later
+    (if is_stem_covered e later then [] else stem_of layout row e) ++ stems_of layout row later
 
 -- ---- lines to bars
 

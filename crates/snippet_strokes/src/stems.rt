@@ -3,7 +3,7 @@ ghost use Rattle.std.specs.Prelude.{◌≡◌, ◌+◌, ◌^◌, ◌<◌, ◌≤
 ghost use Rattle.snippet_marks.specs.Entries.{HasPlace};
 ghost use Rattle.snippet_strokes.specs.Drawing.{HasRows, foot_glyph};
 ghost use Rattle.snippet_marks.specs.Writes.{painted};
-ghost use Rattle.snippet_strokes.specs.Strokes.{is_hidden, stem_of, stems_of};
+ghost use Rattle.snippet_strokes.specs.Strokes.{is_stem_covered, stem_of, stems_of};
 
 use snippet_grid::StyledBuffer;
 use snippet_marks::{Layout, PlacedEntry, is_primary};
@@ -36,7 +36,7 @@ pub(crate) fn draw_stems(
 {
     for i in 0..placed.len() {
         let entry = &placed[i];
-        if !is_hidden(entry, &placed[i + 1..]) {
+        if !is_stem_covered(entry, &placed[i + 1..]) {
             draw_stem(buffer, layout, row, entry)?;
         }
     }
@@ -45,8 +45,8 @@ pub(crate) fn draw_stems(
 
 /// Whether the stem of the next of some later entries covers that of an entry: it stands in the same column, and reaches as far
 /// down. So of many labels below one column the lowest alone has a stem.
-fn is_hidden(placed: &PlacedEntry, later: &[PlacedEntry]) -> bool
-    ensures value { result ≡ is_hidden placed.now later.now }
+fn is_stem_covered(placed: &PlacedEntry, later: &[PlacedEntry]) -> bool
+    ensures value { result ≡ is_stem_covered placed.now later.now }
 {
     match later {
         [next, ..] => {

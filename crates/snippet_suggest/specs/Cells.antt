@@ -20,8 +20,8 @@ use Rattle.snippet_suggest.specs.declared.layout.SuggestionLayout.{SuggestionLay
 use Rattle.snippet_suggest.specs.declared.layout.SuggestionStart.{SuggestionStart}
 use Rattle.snippet_suggest.specs.declared.layout.SuggestionStart.TheVariants.{Opening, Next, Path}
 use Rattle.snippet_parts.specs.declared.source_map.LineInfo.{LineInfo}
-use Rattle.snippet_suggest.specs.declared.shown.ShownLine.{ShownLine}
-use Rattle.snippet_suggest.specs.declared.shown.ShownLine.TheVariants.{Line, Gap}
+use Rattle.snippet_suggest.specs.declared.shown.SuggestionLine.{SuggestionLine}
+use Rattle.snippet_suggest.specs.declared.shown.SuggestionLine.TheVariants.{Line, Gap}
 use Rattle.snippet_suggest.specs.Given.{is_left_out, last_removed, unless_stays}
 use Rattle.snippet_style.specs.Glyphs.{suggestion_glyph_of, suggestion_role_of}
 use Rattle.snippet_suggest.specs.Order.{number_after}
@@ -108,7 +108,7 @@ unfoldable pub end_cells : SuggestionLayout → Bool → List Cell
 end_cells layout follows = put LineNumber (end_glyph layout.frame.decor follows) (layout.frame.gutter + 1) []
 
 -- the row of a line of some that is shown, of which the first has this number, and one in place of lines that are left out
-abbrev pub shown_cells : SuggestionLayout → DisplaySuggestion → ℕ → List (List ℕ) → (ℕ → List SubstitutionHighlight) → ShownLine → List Cell
+abbrev pub shown_cells : SuggestionLayout → DisplaySuggestion → ℕ → List (List ℕ) → (ℕ → List SubstitutionHighlight) → SuggestionLine → List Cell
 shown_cells layout kind first lines stretches (Line k) =
     offered_cells layout kind (length lines) (number_after first k) (slice_index_or lines k []) (stretches k)
 shown_cells layout kind first lines stretches Gap = gap_cells layout

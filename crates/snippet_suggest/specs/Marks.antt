@@ -59,8 +59,8 @@ abbrev pub mark_end : List PatchColumns → PatchColumns → List ℕ → ℕ
 mark_end earlier c text = moved c.start earlier (capped (capped (c.start + lead_of text) + inner_width c text))
 
 -- the mark of an edit: `+` where it adds text, else that of what is changed
-abbrev pub mark_of : DecorStyle → List ℕ → Edit → ℕ
-mark_of decor source e = if adds_text source e then char_of (codes "+") else changed_mark_of decor
+abbrev pub mark_glyph_of : DecorStyle → List ℕ → Edit → ℕ
+mark_glyph_of decor source e = if adds_text source e then char_of (codes "+") else changed_mark_of decor
 
 -- a row with a mark in the columns from one to before another, as far as there are columns
 unfoldable pub with_mark : SuggestionLayout → ℕ → ℕ → ℕ → List Cell → List Cell
@@ -72,7 +72,7 @@ unfoldable pub with_marks : SuggestionLayout → Source → List PatchColumns �
 with_marks layout s earlier [] row = row
 with_marks layout s earlier (e ∷ es) row =
     let c = columns_of s e in
-    with_marks layout s (earlier ++ c ∷ []) es (with_mark layout (mark_of layout.frame.decor s.text e) (mark_start earlier c e.text) (mark_end earlier c e.text) row)
+    with_marks layout s (earlier ++ c ∷ []) es (with_mark layout (mark_glyph_of layout.frame.decor s.text e) (mark_start earlier c e.text) (mark_end earlier c e.text) row)
 
 -- the edits that some trimmed patches are
 abbrev pub edits_at : List TrimmedPatch → List Edit

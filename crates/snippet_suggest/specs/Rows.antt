@@ -17,8 +17,8 @@ use Rattle.snippet_model.specs.Rows.{IsFree}
 use Rattle.snippet_suggest.specs.declared.layout.SuggestionLayout.{SuggestionLayout}
 use Rattle.snippet_suggest.specs.declared.layout.SuggestionStart.{SuggestionStart}
 use Rattle.snippet_suggest.specs.declared.layout.SuggestionStart.TheVariants.{Opening, Next, Path}
-use Rattle.snippet_suggest.specs.declared.shown.ShownLine.{ShownLine}
-use Rattle.snippet_suggest.specs.declared.shown.ShownLine.TheVariants.{Line, Gap}
+use Rattle.snippet_suggest.specs.declared.shown.SuggestionLine.{SuggestionLine}
+use Rattle.snippet_suggest.specs.declared.shown.SuggestionLine.TheVariants.{Line, Gap}
 use Rattle.snippet_suggest.specs.Given.{counted_line, first_given, given_lines}
 use Rattle.snippet_suggest.specs.Order.{Begins, Empty, Ends, Offers, Removes, Skips, SuggestionRow, number_after, rows_of_suggestion}
 use Rattle.snippet_style.specs.declared.glyphs.SuggestionGlyph.TheVariants as sign
@@ -134,13 +134,13 @@ pub record IsRepainted (above : List (List Cell)) (last : List Cell) (new : List
   pub same : map without_role now ≡ map without_role last
 
 -- the row that a line of some is shown by, the first of which has this number; and one that shows none of them
-abbrev pub IsShownRow : SuggestionLayout → ℕ → List (List ℕ) → ShownLine → List Cell → Type 0
+abbrev pub IsShownRow : SuggestionLayout → ℕ → List (List ℕ) → SuggestionLine → List Cell → Type 0
 IsShownRow layout first lines (Line k) row =
     IsLineRow layout.frame.decor layout.frame.gutter (shown_number layout.numbers layout.frame.gutter (number_after first k)) (norm (chars (slice_index_or lines k []))) row
 IsShownRow layout first lines Gap row = IsStrokeRow layout.frame.decor layout.frame.gutter (gap_left layout.frame.decor layout.frame.gutter) row
 
 -- rows for these, one each, stand below some rows, and nothing else
-pub record AddsShown (layout : SuggestionLayout) (first : ℕ) (lines : List (List ℕ)) (shown : List ShownLine) (above new : List (List Cell)) : Type 0 where
+pub record AddsShown (layout : SuggestionLayout) (first : ℕ) (lines : List (List ℕ)) (shown : List SuggestionLine) (above new : List (List Cell)) : Type 0 where
   pub rows : List (List Cell)
   pub added : new ≡ above ++ rows
   pub are : AllZip (IsShownRow layout first lines) shown rows
@@ -180,7 +180,7 @@ pub record AddsEnd (layout : SuggestionLayout) (glyph : List ℕ) (skipped : ℕ
   pub is : IsStrokeRow layout.frame.decor layout.frame.gutter (beside_gutter layout.frame.gutter glyph) last
 
 -- the number of a line that is shown stands left of the sign
-abbrev pub NumberFits : SuggestionLayout → ℕ → ShownLine → Type 0
+abbrev pub NumberFits : SuggestionLayout → ℕ → SuggestionLine → Type 0
 NumberFits layout first (Line k) =
     length (shown_number layout.numbers layout.frame.gutter (number_after first k)) ≤ layout.frame.gutter + 1
 NumberFits layout first Gap = Unit {0}

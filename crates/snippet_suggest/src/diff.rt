@@ -6,7 +6,7 @@ ghost use Rattle.snippet_suggest.specs.Cells.{diff_cells, offered_cells, taken_c
 ghost use Rattle.std.specs.Str.{bytes_eq};
 ghost use Rattle.snippet_style.specs.Cell.{Cell};
 ghost use Rattle.snippet_suggest.specs.declared.kind.DisplaySuggestion.TheVariants.{Diff};
-ghost use Rattle.snippet_suggest.specs.declared.shown.ShownLine.TheVariants.{Line};
+ghost use Rattle.snippet_suggest.specs.declared.shown.SuggestionLine.TheVariants.{Line};
 ghost use Rattle.snippet_suggest.specs.Given.{is_left_out, last_removed, texts_at, unless_stays};
 ghost use Rattle.snippet_suggest.specs.Rows.{AddsRemoved, AddsRows, IsRepainted, NumberFits, Shows};
 ghost use Rattle.snippet_suggest.specs.Order.{Offers, SuggestionRow, changed_rows, counted_from, removed_from};

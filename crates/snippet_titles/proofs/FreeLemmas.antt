@@ -20,7 +20,7 @@ use Rattle.snippet_model.specs.Level.{name_of}
 use Rattle.snippet_titles.specs.declared.style.HeadingRoles.{HeadingRoles}
 use Rattle.snippet_titles.specs.declared.style.TitleStyle.{TitleStyle}
 use Rattle.snippet_titles.specs.declared.style.TitleStyle.TheVariants.{Title, Short, Message}
-use Rattle.snippet_titles.specs.Heading.{bracketed_text, closing_of, colon_of, shown_text, heading_lines, heading_rows, id_text, indent_cells, is_set, label_cells, label_text, label_width, lines_below, note_bar_of, on_top, opening_of, roles_of, sign_cells, trimmed}
+use Rattle.snippet_titles.specs.Heading.{bracketed_text, closing_bracket_of, colon_of, shown_text, heading_lines, heading_rows, id_text, indent_cells, is_set, label_cells, heading_label_text, label_width, lines_below, note_bar_of, on_top, opening_bracket_of, roles_of, sign_cells, trimmed}
 use Rattle.snippet_style.specs.Glyphs.{note_sign_of}
 use Rattle.snippet_titles.specs.Shown.{IsFreeButText}
 use Rattle.snippet_titles.proofs.TextLemmas.{row_text-append, row_text-after, row_text-label, row_text-spaces}
@@ -73,11 +73,11 @@ module _ (P : ℕ → Type 0) (free : (c : ℕ) → IsUnlisted c → P c) where
   pub from_free : (cs : List ℕ) → All IsUnlisted cs → All P cs
   from_free cs all = All-weaker IsUnlisted P free cs all
 
-  opening-all : (hidden : Bool) → All P (opening_of hidden)
+  opening-all : (hidden : Bool) → All P (opening_bracket_of hidden)
   opening-all true = All-nil P
   opening-all false = All-cons P 91 [] (free 91 refl) (All-nil P)
 
-  closing-all : (hidden : Bool) → All P (closing_of hidden)
+  closing-all : (hidden : Bool) → All P (closing_bracket_of hidden)
   closing-all true = All-nil P
   closing-all false = All-cons P 93 [] (free 93 refl) (All-nil P)
 
@@ -91,14 +91,14 @@ module _ (P : ℕ → Type 0) (free : (c : ℕ) → IsUnlisted c → P c) where
   text-all : (hidden : Bool) (text : Option (List ℕ)) → All P (bracketed_text hidden text)
   text-all hidden None = All-nil P
   text-all hidden (Some text) =
-      All-append P (opening_of hidden ++ norm (chars text)) (closing_of hidden) (All-append P (opening_of hidden) (norm (chars text)) (opening-all hidden) (from_free (norm (chars text)) (norm-free (chars text)))) (closing-all hidden)
+      All-append P (opening_bracket_of hidden ++ norm (chars text)) (closing_bracket_of hidden) (All-append P (opening_bracket_of hidden) (norm (chars text)) (opening-all hidden) (from_free (norm (chars text)) (norm-free (chars text)))) (closing-all hidden)
 
   id-all : (hidden : Bool) (id : Option Id) → All P (id_text hidden id)
   id-all hidden None = All-nil P
   id-all hidden (Some id) = text-all hidden (option_map cow_str_bytes id.id)
 
   -- what holds of what a label is made of holds of its characters
-  pub label-all : (heading : Heading) → All P (label_text heading)
+  pub label-all : (heading : Heading) → All P (heading_label_text heading)
   label-all heading =
       let hidden : Bool = is_hidden heading.level.name in
       let name : List ℕ = norm (chars (name_of heading.level)) in
