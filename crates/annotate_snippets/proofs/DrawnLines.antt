@@ -15,7 +15,7 @@ use Rattle.snippet_view.specs.declared.margin.Margin.{Margin}
 use Rattle.snippet_lines.specs.Number.{shown_number}
 use Rattle.snippet_lines.specs.declared.number.LineNumbers.{LineNumbers}
 use Rattle.snippet_grid.specs.Grid.{cell_at}
-use Rattle.snippet_style.specs.Glyphs.{glyph_of, underline_role}
+use Rattle.snippet_style.specs.Glyphs.{strokes_of, underline_role}
 use Rattle.snippet_strokes.specs.Bars.{Bar, HasOwnDepth, bar_at, bar_of, bars_apart, ends_of_bars}
 use Rattle.snippet_strokes.specs.LineRows.{AreLineRows}
 use Rattle.snippet_marks.specs.SourceRows.{IsSourceRow, window_cells}
@@ -81,7 +81,7 @@ module _ (r : Renderer) (frame : Layout) (closes : Bool) (s : Snippet Annotation
   -- one of them whose depth no other has stands beside each row of the line, in the cell of its depth
   pub bar_shown : (rows : List (List Cell)) → IsLineDrawn r frame closes s open_bars k rows → (bar : Bar) → Contains past bar → HasOwnDepth bar past
       → (i : ℕ) → i < length rows → cell_at rows i (frame.gutter + 2 + bar.depth) ≡ unlinked_cell (underline_role bar.primary)
-      (glyph_of frame.decor bar.primary 124 124 0x2503 0x2502)
+      (strokes_of frame.decor bar.primary).bar
   bar_shown rows line bar among alone i within =
       let ends : ends_of_bars line.entries ≡ bars_on s k = bars_seen s k line.entries line.are in
       let own : Contains (bars_apart open_bars (ends_of_bars line.entries)) bar = subst (λ bs. Contains (bars_apart open_bars bs) bar) (sym ends) among in

@@ -1,5 +1,5 @@
 -- Cells and rows without line feeds: glyphs, the cells left of the code, and the rows in place of lines that are left out.
-use Rattle.std.proofs.Common.{◌≡◌, ℕ, ◌+◌, ◌==◌, not, Bool, true, false, List, [], ◌∷◌, ◌++◌, length, get_or, replicate, refl, sym, ap, subst, ◌∙◌, arith, inl, inr}
+use Rattle.std.proofs.Common.{◌≡◌, ℕ, ◌+◌, ◌==◌, All, not, Bool, true, false, List, [], ◌∷◌, ◌++◌, length, get_or, replicate, refl, sym, ap, subst, ◌∙◌, arith, inl, inr}
 use Rattle.std.specs.List.{list_all, list_any}
 use Rattle.std.proofs.lemmas.Bool.{cases_lt, eqb-true}
 use Rattle.std.proofs.lemmas.List.{get_or_past}
@@ -17,6 +17,9 @@ use Rattle.snippet_grid.specs.Layout.{Layout}
 use Rattle.annotate_snippets.specs.Feeds.{HasNoFeed, HoldsNoFeed, IsNoFeed}
 use Rattle.annotate_snippets.specs.Shown.{IsElided}
 use Rattle.annotate_snippets.proofs.ListLemmas.{from_any}
+use Rattle.snippet_titles.proofs.OriginFree.{each-fails}
+use Rattle.snippet_style.proofs.CellLemmas.{All-text_cells}
+use Rattle.snippet_style.specs.declared.role.ElementStyle.{ElementStyle}
 
 -- ---- cells
 
@@ -47,6 +50,10 @@ bar_cell Unicode cell is = among (bar_glyphs Unicode) cell.ch refl is.glyph
 
 -- ---- rows left of the code
 
+-- the cells of a text without line feeds hold none
+pub cells_plain : (role : ElementStyle) (cs : List ℕ) → All IsNoFeed cs → HasNoFeed (text_cells role cs)
+cells_plain role cs plain = All-text_cells HoldsNoFeed role cs plain
+
 -- spaces before cells without line feeds add none
 pub after_spaces : (n : ℕ) (cells : List Cell) → HasNoFeed cells → HasNoFeed (replicate n SPACE ++ cells)
 after_spaces n cells all =
@@ -57,18 +64,18 @@ one cell holds = All-cons HoldsNoFeed cell [] holds (All-nil HoldsNoFeed)
 
 -- a row of strokes before any stroke is drawn holds no line feed
 pub bare_plain : (decor : DecorStyle) (gutter : ℕ) (closes : Bool) → HasNoFeed (bare_row decor gutter closes)
-bare_plain Ascii gutter false = after_spaces (gutter + 1) (text_cells LineNumber (separator_of Ascii ∷ [])) (one (unlinked_cell LineNumber 124) refl)
-bare_plain Unicode gutter false = after_spaces (gutter + 1) (text_cells LineNumber (separator_of Unicode ∷ [])) (one (unlinked_cell LineNumber 0x2502) refl)
-bare_plain Ascii gutter true = after_spaces (gutter + 1) (text_cells LineNumber (closing_of Ascii)) (one (unlinked_cell LineNumber 124) refl)
-bare_plain Unicode gutter true =
-    after_spaces (gutter + 1) (text_cells LineNumber (closing_of Unicode)) (All-cons HoldsNoFeed (unlinked_cell LineNumber 0x2570) (unlinked_cell LineNumber 0x2574 ∷ []) refl (one (unlinked_cell LineNumber 0x2574) refl))
+bare_plain Ascii gutter false = after_spaces (gutter + 1) (text_cells LineNumber (separator_of Ascii ∷ [])) (one (unlinked_cell LineNumber (separator_of Ascii)) refl)
+bare_plain Unicode gutter false = after_spaces (gutter + 1) (text_cells LineNumber (separator_of Unicode ∷ [])) (one (unlinked_cell LineNumber (separator_of Unicode)) refl)
+bare_plain decor gutter true = after_spaces (gutter + 1) (text_cells LineNumber (closing_of decor)) (cells_plain LineNumber (closing_of decor) (closing decor))
+  where
+    closing : (decor : DecorStyle) → All IsNoFeed (closing_of decor)
+    closing Ascii = each-fails (λ c. c == 10) (closing_of Ascii) refl
+    closing Unicode = each-fails (λ c. c == 10) (closing_of Unicode) refl
 
 bare_elision : (decor : DecorStyle) (gutter : ℕ) → HasNoFeed (bare_elision_row decor gutter)
-bare_elision Ascii gutter =
-    let dot : Cell = unlinked_cell LineNumber 46 in
-    All-cons HoldsNoFeed dot (dot ∷ dot ∷ []) refl (All-cons HoldsNoFeed dot (dot ∷ []) refl (one dot refl))
+bare_elision Ascii gutter = cells_plain LineNumber (elision_of Ascii) (each-fails (λ c. c == 10) (elision_of Ascii) refl)
 bare_elision Unicode gutter =
-    after_spaces (gutter + 1) (text_cells LineNumber (elision_of Unicode)) (one (unlinked_cell LineNumber 0x2506) refl)
+    after_spaces (gutter + 1) (text_cells LineNumber (elision_of Unicode)) (cells_plain LineNumber (elision_of Unicode) (each-fails (λ c. c == 10) (elision_of Unicode) refl))
 
 -- a row in place of lines that are left out holds none
 pub elided : (decor : DecorStyle) (frame : Layout) (row : List Cell) → IsElided decor frame row → HasNoFeed row

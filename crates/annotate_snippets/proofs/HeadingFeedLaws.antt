@@ -16,7 +16,8 @@ use Rattle.snippet_model.specs.Heading.{Heading, heading_of_title, is_hidden}
 use Rattle.snippet_model.specs.Level.{name_of}
 use Rattle.snippet_model.specs.declared.snippet.Id.{Id}
 use Rattle.snippet_model.specs.declared.snippet.Title.{Title as TitleGiven}
-use Rattle.snippet_titles.specs.Heading.{address_of, bracketed_cells, closing_of, colon_of, heading_lines, heading_rows, id_cells, indent_cells, is_set, label_cells, label_width, linked_to, lines_below, note_bar_of, note_sign_of, opening_of, roles_of, shown_text, sign_cells}
+use Rattle.snippet_titles.specs.Heading.{address_of, bracketed_cells, closing_bracket_of, colon_of, heading_lines, heading_rows, id_cells, indent_cells, is_set, label_cells, label_width, linked_to, lines_below, note_bar_of, opening_bracket_of, roles_of, shown_text, sign_cells}
+use Rattle.snippet_style.specs.Glyphs.{note_sign_of}
 use Rattle.snippet_titles.specs.Title.{title_rows}
 use Rattle.snippet_titles.specs.declared.style.HeadingRoles.{HeadingRoles}
 use Rattle.snippet_titles.specs.declared.style.TitleStyle.{TitleStyle}
@@ -29,6 +30,7 @@ use Rattle.annotate_snippets.specs.declared.renderer.element_context.Next.{Next 
 use Rattle.annotate_snippets.specs.Around.{is_before_message}
 use Rattle.annotate_snippets.specs.Feeds.{HasNoFeed, HoldsNoFeed, IsNoFeed, IsOneLineId, IsOneLineName, IsOneLineText, IsOneLineTitle}
 use Rattle.annotate_snippets.specs.Rows.{closing_rows, rows_after_title, separator_rows, title_part}
+use Rattle.snippet_titles.proofs.OriginFree.{each-fails}
 use Rattle.annotate_snippets.proofs.FeedLaws.{after_spaces, bare_plain}
 use Rattle.annotate_snippets.proofs.PathFeedLaws.{alone, cells_plain, choice, closing_plain as closing_rows-plain, norm_plain}
 
@@ -42,11 +44,11 @@ linked_plain : (address : Option (List ℕ)) (cells : List Cell) → HasNoFeed c
 linked_plain None cells plain = plain
 linked_plain (Some url) cells plain = All-map HoldsNoFeed (linked url) cells plain
 
-opening_plain : (hidden : Bool) → All IsNoFeed (opening_of hidden)
+opening_plain : (hidden : Bool) → All IsNoFeed (opening_bracket_of hidden)
 opening_plain true = All-nil IsNoFeed
 opening_plain false = alone 91 refl
 
-closing_plain : (hidden : Bool) → All IsNoFeed (closing_of hidden)
+closing_plain : (hidden : Bool) → All IsNoFeed (closing_bracket_of hidden)
 closing_plain true = All-nil IsNoFeed
 closing_plain false = alone 93 refl
 
@@ -54,10 +56,10 @@ brackets_plain : (hidden : Bool) (role : ElementStyle) (address text : Option (L
 brackets_plain hidden role address None plain = All-nil HoldsNoFeed
 brackets_plain hidden role address (Some text) plain =
     let own : List Cell = linked_to address (text_cells role (norm (chars text))) in
-    let opened : HasNoFeed (text_cells role (opening_of hidden) ++ own) =
-    All-append HoldsNoFeed (text_cells role (opening_of hidden)) own (cells_plain role (opening_of hidden) (opening_plain hidden))
+    let opened : HasNoFeed (text_cells role (opening_bracket_of hidden) ++ own) =
+    All-append HoldsNoFeed (text_cells role (opening_bracket_of hidden)) own (cells_plain role (opening_bracket_of hidden) (opening_plain hidden))
     (linked_plain address (text_cells role (norm (chars text))) (cells_plain role (norm (chars text)) (norm_plain (chars text) plain))) in
-    All-append HoldsNoFeed (text_cells role (opening_of hidden) ++ own) (text_cells role (closing_of hidden)) opened (cells_plain role (closing_of hidden) (closing_plain hidden))
+    All-append HoldsNoFeed (text_cells role (opening_bracket_of hidden) ++ own) (text_cells role (closing_bracket_of hidden)) opened (cells_plain role (closing_bracket_of hidden) (closing_plain hidden))
 
 id_plain : (hyperlink hidden : Bool) (role : ElementStyle) (id : Option Id) → IsOneLineId id → HasNoFeed (id_cells hyperlink hidden role id)
 id_plain hyperlink hidden role None plain = All-nil HoldsNoFeed
@@ -90,9 +92,9 @@ sign_plain (Message place) =
     after_spaces (place.frame.gutter + 1) (text_cells LineNumber sign) (cells_plain LineNumber sign (by_decor place.frame.decor place.followed))
   where
     by_decor : (decor : DecorStyle) (followed : Bool) → All IsNoFeed (note_sign_of decor followed)
-    by_decor Ascii followed = All-cons IsNoFeed 61 (32 ∷ []) refl (alone 32 refl)
-    by_decor Unicode true = All-cons IsNoFeed 0x251C (32 ∷ []) refl (alone 32 refl)
-    by_decor Unicode false = All-cons IsNoFeed 0x2570 (32 ∷ []) refl (alone 32 refl)
+    by_decor Ascii followed = each-fails (λ c. c == 10) (note_sign_of Ascii followed) refl
+    by_decor Unicode true = each-fails (λ c. c == 10) (note_sign_of Unicode true) refl
+    by_decor Unicode false = each-fails (λ c. c == 10) (note_sign_of Unicode false) refl
 
 indent_plain : (style : TitleStyle) (width : ℕ) → HasNoFeed (indent_cells style width)
 indent_plain Title width = blank width

@@ -19,7 +19,10 @@ use Rattle.snippet_model.specs.AnnotationKind.{is_primary}
 use Rattle.snippet_model.specs.declared.snippet.Annotation.{Annotation}
 use Rattle.snippet_model.specs.declared.snippet.Snippet.{Snippet}
 use Rattle.snippet_style.specs.Cell.{Cell, SPACE, text_cells, unlinked_cell, written}
-use Rattle.snippet_style.specs.Glyphs.{glyph_of, placeholder_of, underline_role}
+use Rattle.snippet_style.proofs.StrokeLemmas.{EachBar, EachCode, each_bar, each_code}
+use Rattle.snippet_marks.proofs.StrokeLemmas.{of_first}
+use Rattle.snippet_strokes.proofs.StrokeGlyphs.{of_foot}
+use Rattle.snippet_style.specs.Glyphs.{strokes_of, placeholder_of, underline_role}
 use Rattle.snippet_style.specs.Separators.{closing_row, separator_row}
 use Rattle.snippet_style.specs.declared.glyphs.DecorStyle.{DecorStyle}
 use Rattle.snippet_style.specs.declared.glyphs.DecorStyle.TheVariants.{Ascii, Unicode}
@@ -37,10 +40,10 @@ use Rattle.snippet_strokes.specs.Cuts.{Stretch, cut_row, cuts_of, overlapped}
 use Rattle.snippet_marks.specs.Entries.{label_text, shifted}
 use Rattle.snippet_strokes.specs.LineRows.{AreLineRows, AreOwnRows}
 use Rattle.snippet_marks.specs.Painting.{first_glyph, mark_end, painting_order, mark_of, marks_of, stroke_role}
-use Rattle.snippet_strokes.specs.Drawing.{foot_of, row_count}
-use Rattle.snippet_marks.specs.Positions.{has_label, has_stem, takes_space}
+use Rattle.snippet_strokes.specs.Drawing.{row_count}
+use Rattle.snippet_marks.specs.Positions.{has_label}
 use Rattle.snippet_marks.specs.SourceRows.{bare_row}
-use Rattle.snippet_strokes.specs.Strokes.{StrokesPainted, bar_cell as bar_column, bar_of, begun_rows, connector_of, connectors_of, corner_by, corner_of, corners_of, label_of, label_write, labels_of, stem_write, stems_of, strokes_of, column_of}
+use Rattle.snippet_strokes.specs.Strokes.{StrokesPainted, bar_cell as bar_column, bar_of, begun_rows, connector_of, connectors_of, corner_by, corner_of, corners_of, label_of, label_write, labels_of, stem_write, stems_of, line_strokes, column_of}
 use Rattle.snippet_marks.specs.Writes.{Write, glyph_at, painted, stretch_of}
 use Rattle.snippet_grid.specs.Layout.{Layout}
 use Rattle.snippet_strokes.proofs.BarWrites.{All-connector_of, All-stretch_of}
@@ -83,31 +86,23 @@ line_plain source k utf8 =
 
 -- ---- glyphs. The type of an entry with its place has no name outside its crate, so `_` stands for it
 
--- a glyph of which no form is a line feed
-glyph_plain : (decor : DecorStyle) (primary : Bool) (a b c d : ℕ) → IsNoFeed a → IsNoFeed b → IsNoFeed c → IsNoFeed d → IsNoFeed (glyph_of decor primary a b c d)
-glyph_plain Ascii true a b c d is_a is_b is_c is_d = is_a
-glyph_plain Ascii false a b c d is_a is_b is_c is_d = is_b
-glyph_plain Unicode true a b c d is_a is_b is_c is_d = is_c
-glyph_plain Unicode false a b c d is_a is_b is_c is_d = is_d
+-- no glyph of the table is a line feed
+bars_plain : (decor : DecorStyle) (primary : Bool) → EachBar IsNoFeed (strokes_of decor primary)
+bars_plain Ascii true = each_bar (λ c. c == 10) false (strokes_of Ascii true) refl
+bars_plain Ascii false = each_bar (λ c. c == 10) false (strokes_of Ascii false) refl
+bars_plain Unicode true = each_bar (λ c. c == 10) false (strokes_of Unicode true) refl
+bars_plain Unicode false = each_bar (λ c. c == 10) false (strokes_of Unicode false) refl
 
-foot_plain : (part : LineAnnotationType) (decor : DecorStyle) (primary labelled : Bool) → IsNoFeed (foot_of part decor primary labelled)
-foot_plain Singleline decor primary labelled = glyph_plain decor primary 124 124 0x2502 0x2502 refl refl refl refl
-foot_plain (MultilineStart depth) decor primary labelled = glyph_plain decor primary 124 124 0x2519 0x2518 refl refl refl refl
-foot_plain (MultilineEnd depth) decor primary true = glyph_plain decor primary 124 124 0x2525 0x2524 refl refl refl refl
-foot_plain (MultilineEnd depth) decor primary false = glyph_plain decor primary 124 124 0x2502 0x2502 refl refl refl refl
-foot_plain (MultilineLine depth) decor primary labelled = glyph_plain decor primary 124 124 0x2502 0x2502 refl refl refl refl
+code_plain : (decor : DecorStyle) (primary : Bool) → EachCode IsNoFeed (strokes_of decor primary)
+code_plain Ascii true = each_code (λ c. c == 10) false (strokes_of Ascii true) refl
+code_plain Ascii false = each_code (λ c. c == 10) false (strokes_of Ascii false) refl
+code_plain Unicode true = each_code (λ c. c == 10) false (strokes_of Unicode true) refl
+code_plain Unicode false = each_code (λ c. c == 10) false (strokes_of Unicode false) refl
 
 -- one of two characters, neither of which is a line feed
 either_plain : (b : Bool) (x y : ℕ) → IsNoFeed x → IsNoFeed y → IsNoFeed (cond b x y)
 either_plain true x y one other = one
 either_plain false x y one other = other
-
-first_plain : (decor : DecorStyle) (e : _) → IsNoFeed (first_glyph decor e)
-first_plain decor e =
-    let primary : Bool = is_primary e.entry.kind in
-    either_plain (takes_space e) _ _
-    (either_plain (has_stem e) _ _ (glyph_plain decor primary 94 45 0x257F 0x2502 refl refl refl refl) (glyph_plain decor primary 94 45 0x251B 0x2518 refl refl refl refl))
-    (either_plain (has_stem e) _ _ (glyph_plain decor primary 94 45 0x252F 0x252C refl refl refl refl) (glyph_plain decor primary 94 45 0x2501 0x2500 refl refl refl refl))
 
 -- ---- what is written
 
@@ -130,7 +125,7 @@ module _ (layout : Layout) where
     where
       of_entry : (e : _) → All IsPlainWrite (connector_of layout row e)
       of_entry e =
-          All-connector_of IsPlainWrite layout row e (λ depth. stretch_plain (row + e.position) (layout.gutter + 3 + depth) (layout.code + e.entry.start.display) _ (stroke_role e) (glyph_plain layout.decor (is_primary e.entry.kind) 95 95 0x2501 0x2500 refl refl refl refl))
+          All-connector_of IsPlainWrite layout row e (λ depth. stretch_plain (row + e.position) (layout.gutter + 3 + depth) (layout.code + e.entry.start.display) _ (stroke_role e) (code_plain layout.decor (is_primary e.entry.kind)).connector)
 
   corners_plain : (row count : ℕ) (es : _) → All IsPlainWrite (corners_of layout row count es)
   corners_plain row count es =
@@ -138,20 +133,20 @@ module _ (layout : Layout) where
     where
       bar : (e : _) (depth start end : ℕ) → All IsPlainWrite (bar_of layout e depth start end)
       bar e depth start end =
-          column_plain start end (bar_column layout depth) _ (stroke_role e) (glyph_plain layout.decor (is_primary e.entry.kind) 124 124 0x2503 0x2502 refl refl refl refl)
+          column_plain start end (bar_column layout depth) _ (stroke_role e) (bars_plain layout.decor (is_primary e.entry.kind)).bar
 
       by_part : (e : _) (part : LineAnnotationType) → All IsPlainWrite (corner_by layout row count e part)
       by_part e Singleline = All-nil IsPlainWrite
       by_part e (MultilineStart depth) =
           let at : ℕ = row + 1 + e.position in
-          let corner : ℕ = glyph_of layout.decor (is_primary e.entry.kind) 32 32 0x250F 0x250C in
+          let corner : ℕ = (strokes_of layout.decor (is_primary e.entry.kind)).bar_top in
           let first : Write = glyph_at at (bar_column layout depth) corner (stroke_role e) in
-          All-cons IsPlainWrite first (bar_of layout e depth (at + 1) count) (alone corner (glyph_plain layout.decor (is_primary e.entry.kind) 32 32 0x250F 0x250C refl refl refl refl)) (bar e depth (at + 1) count)
+          All-cons IsPlainWrite first (bar_of layout e depth (at + 1) count) (alone corner (bars_plain layout.decor (is_primary e.entry.kind)).bar_top) (bar e depth (at + 1) count)
       by_part e (MultilineEnd depth) =
           let at : ℕ = row + 1 + e.position in
-          let corner : ℕ = glyph_of layout.decor (is_primary e.entry.kind) 124 124 0x2517 0x2514 in
+          let corner : ℕ = (strokes_of layout.decor (is_primary e.entry.kind)).bar_bottom in
           let last : Write = glyph_at at (bar_column layout depth) corner (stroke_role e) in
-          let one : All IsPlainWrite (last ∷ []) = All-cons IsPlainWrite last [] (alone corner (glyph_plain layout.decor (is_primary e.entry.kind) 124 124 0x2517 0x2514 refl refl refl refl)) (All-nil IsPlainWrite) in
+          let one : All IsPlainWrite (last ∷ []) = All-cons IsPlainWrite last [] (alone corner (bars_plain layout.decor (is_primary e.entry.kind)).bar_bottom) (All-nil IsPlainWrite) in
           All-append IsPlainWrite (bar_of layout e depth row at) (last ∷ []) (bar e depth row at) one
       by_part e (MultilineLine depth) = All-nil IsPlainWrite
 
@@ -162,7 +157,7 @@ module _ (layout : Layout) where
       of_entry : (e : _) (below : ℕ) → IsPlainWrite (stem_write layout row e below)
       of_entry e below =
           let primary : Bool = is_primary e.entry.kind in
-          alone _ (either_plain (below == e.position) _ _ (foot_plain e.entry.annotation_type layout.decor primary (has_label e)) (glyph_plain layout.decor primary 124 124 0x2502 0x2502 refl refl refl refl))
+          alone _ (either_plain (below == e.position) _ _ (of_foot IsNoFeed e.entry.annotation_type layout.decor primary (has_label e) (code_plain layout.decor primary).stems) (code_plain layout.decor primary).stems.stem)
 
   labels_plain : (row : ℕ) (es : _) → ((k : ℕ) (d : _) → k < length es → IsPlainWrite (label_write layout row (get_or es k d))) → All IsPlainWrite (labels_of layout row es)
   labels_plain row es plain =
@@ -176,18 +171,18 @@ module _ (layout : Layout) where
       of_entry e =
           let from : ℕ = layout.code + e.entry.start.display in
           let to : ℕ = layout.code + mark_end e in
-          let line : ℕ = glyph_of layout.decor (is_primary e.entry.kind) 94 45 0x2501 0x2500 in
+          let line : ℕ = (strokes_of layout.decor (is_primary e.entry.kind)).underline in
           let first : Write = glyph_at row from (first_glyph layout.decor e) (stroke_role e) in
           let rest : List Write = stretch_of row (from + 1) to line (stroke_role e) in
           elim (nat_lt from to) as (λ b. All IsPlainWrite (cond b (first ∷ rest) [])) [
-            | true ↦ All-cons IsPlainWrite first rest (alone _ (first_plain layout.decor e)) (stretch_plain row (from + 1) to line (stroke_role e) (glyph_plain layout.decor (is_primary e.entry.kind) 94 45 0x2501 0x2500 refl refl refl refl))
+            | true ↦ All-cons IsPlainWrite first rest (alone _ (of_first IsNoFeed layout.decor e (code_plain layout.decor (is_primary e.entry.kind)))) (stretch_plain row (from + 1) to line (stroke_role e) (code_plain layout.decor (is_primary e.entry.kind)).underline)
             | false ↦ All-nil IsPlainWrite
           ]
 
   -- no stroke of a line is a line feed, where no label holds one
   strokes_plain : (row count : ℕ) (placed order : _)
       → ((k : ℕ) (d : _) → k < length placed → IsPlainWrite (label_write layout (row + 1) (get_or placed k d)))
-      → All IsPlainWrite (strokes_of layout row count placed order)
+      → All IsPlainWrite (line_strokes layout row count placed order)
   strokes_plain row count placed order plain =
       let connectors : List Write = connectors_of layout (row + 1) placed in
       let corners : List Write = corners_of layout row count placed in
@@ -233,7 +228,7 @@ row_cut decor (cut ∷ cuts) row plain =
 -- the bar of a span that goes on past a line, and a row with such bars
 abbrev bar_beside : Layout → Bar → Cell
 bar_beside layout bar =
-    unlinked_cell (underline_role bar.primary) (glyph_of layout.decor bar.primary 124 124 0x2503 0x2502)
+    unlinked_cell (underline_role bar.primary) (strokes_of layout.decor bar.primary).bar
 
 abbrev barred : Layout → List Bar → List Cell → List Cell
 barred layout bars row =
@@ -244,7 +239,7 @@ row_barred layout [] row plain = plain
 row_barred layout (bar ∷ bars) row plain =
     let at : ℕ = layout.gutter + 2 + bar.depth in
     let part : Cell = bar_beside layout bar in
-    let one : HasNoFeed (part ∷ []) = All-cons HoldsNoFeed part [] (glyph_plain layout.decor bar.primary 124 124 0x2503 0x2502 refl refl refl refl) (All-nil HoldsNoFeed) in
+    let one : HasNoFeed (part ∷ []) = All-cons HoldsNoFeed part [] (bars_plain layout.decor bar.primary).bar (All-nil HoldsNoFeed) in
     row_barred layout bars (written SPACE row at (part ∷ [])) (row_written row at (part ∷ []) plain one)
 
 -- a cell of rows without line feeds, or a space beside them
@@ -274,7 +269,7 @@ module _ (layout : Layout) (room : ℕ) (closes : Bool) where
   drawn_plain : (es : List LineAnnotation) (source : List Cell) (rows : List (List Cell)) (strokes : StrokesPainted layout room closes es source rows) → All (λ e. All IsNoFeed (label_text e)) es → All HasNoFeed (strokes.marks ∷ strokes.lower)
   drawn_plain es source rows strokes plain =
       let placed = strokes.placed in
-      let ws : List Write = strokes_of layout 0 (row_count placed + 1) placed (painting_order placed) in
+      let ws : List Write = line_strokes layout 0 (row_count placed + 1) placed (painting_order placed) in
       let begun : List (List Cell) = begun_rows layout closes (row_count placed) source in
       let own = entries_all (λ e. All IsNoFeed (label_text e)) es placed strokes.are.same plain in
       let written : All IsPlainWrite ws = strokes_plain layout 0 (row_count placed + 1) placed (painting_order placed) own in

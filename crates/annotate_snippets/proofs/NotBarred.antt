@@ -7,7 +7,7 @@ use Rattle.std.proofs.lemmas.List.Elements.{All-weaker}
 use Rattle.snippet_model.specs.declared.snippet.Annotation.{Annotation}
 use Rattle.snippet_model.specs.declared.snippet.Snippet.{Snippet}
 use Rattle.snippet_style.specs.Cell.{Cell, SPACE, unlinked_cell}
-use Rattle.snippet_style.specs.Glyphs.{glyph_of, underline_role}
+use Rattle.snippet_style.specs.Glyphs.{strokes_of, underline_role}
 use Rattle.snippet_style.specs.declared.glyphs.DecorStyle.{DecorStyle}
 use Rattle.snippet_style.specs.declared.glyphs.DecorStyle.TheVariants.{Ascii, Unicode}
 use Rattle.snippet_view.specs.Annotated.{is_long}
@@ -25,28 +25,34 @@ use Rattle.annotate_snippets.specs.SpanBars.{ShowsBars, bar_beside, bar_cell_of,
 no_space : (layout : Layout) (name : RowName) (bar : Bar) → bar_beside layout name bar ≡ SPACE → ⊥
 no_space layout name bar same = by_name name same
   where
-    glyph : (decor : DecorStyle) (primary : Bool) (unicode unicode_context : ℕ) → 32 < unicode → 32 < unicode_context → glyph_of decor primary 124 124 unicode unicode_context ≡ 32 → ⊥
-    glyph Ascii true u v some more is = omega (arith, is)
-    glyph Ascii false u v some more is = omega (arith, is)
-    glyph Unicode true u v some more is = omega (arith, is, some)
-    glyph Unicode false u v some more is = omega (arith, is, more)
+    bar_is : (decor : DecorStyle) (primary : Bool) → (strokes_of decor primary).bar ≡ 32 → ⊥
+    bar_is Ascii true is = omega (arith, is)
+    bar_is Ascii false is = omega (arith, is)
+    bar_is Unicode true is = omega (arith, is)
+    bar_is Unicode false is = omega (arith, is)
+
+    elided_is : (decor : DecorStyle) (primary : Bool) → (strokes_of decor primary).elided_bar ≡ 32 → ⊥
+    elided_is Ascii true is = omega (arith, is)
+    elided_is Ascii false is = omega (arith, is)
+    elided_is Unicode true is = omega (arith, is)
+    elided_is Unicode false is = omega (arith, is)
 
     letter : (cell : Cell) → cell ≡ SPACE → cell.ch ≡ 32
     letter cell is = ap (λ (c : Cell). c.ch) is
 
     by_name : (x : RowName) → bar_beside layout x bar ≡ SPACE → ⊥
-    by_name (SourceRow k) is = glyph layout.decor bar.primary 0x2503 0x2502 (omega arith) (omega arith) (letter (solid_bar layout bar) is)
-    by_name Elision is = glyph layout.decor bar.primary 0x2507 0x2506 (omega arith) (omega arith) (letter (dotted_bar layout bar) is)
-    by_name (OfferedLine j) is = glyph layout.decor bar.primary 0x2503 0x2502 (omega arith) (omega arith) (letter (solid_bar layout bar) is)
-    by_name (RemovedLine i) is = glyph layout.decor bar.primary 0x2503 0x2502 (omega arith) (omega arith) (letter (solid_bar layout bar) is)
-    by_name Other is = glyph layout.decor bar.primary 0x2503 0x2502 (omega arith) (omega arith) (letter (solid_bar layout bar) is)
+    by_name (SourceRow k) is = bar_is layout.decor bar.primary (letter (solid_bar layout bar) is)
+    by_name Elision is = elided_is layout.decor bar.primary (letter (dotted_bar layout bar) is)
+    by_name (OfferedLine j) is = bar_is layout.decor bar.primary (letter (solid_bar layout bar) is)
+    by_name (RemovedLine i) is = bar_is layout.decor bar.primary (letter (solid_bar layout bar) is)
+    by_name Other is = bar_is layout.decor bar.primary (letter (solid_bar layout bar) is)
 
 -- nor a part of a line that leads from another
-no_line : (layout : Layout) (bar : Bar) (primary : Bool) → solid_bar layout bar ≡ unlinked_cell (underline_role primary) (glyph_of layout.decor primary 95 95 0x2501 0x2500) → ⊥
+no_line : (layout : Layout) (bar : Bar) (primary : Bool) → solid_bar layout bar ≡ unlinked_cell (underline_role primary) (strokes_of layout.decor primary).connector → ⊥
 no_line layout bar primary same =
     by_kind layout.decor bar.primary primary (ap (λ (cell : Cell). cell.ch) same)
   where
-    by_kind : (decor : DecorStyle) (p q : Bool) → glyph_of decor p 124 124 0x2503 0x2502 ≡ glyph_of decor q 95 95 0x2501 0x2500 → ⊥
+    by_kind : (decor : DecorStyle) (p q : Bool) → (strokes_of decor p).bar ≡ (strokes_of decor q).connector → ⊥
     by_kind Ascii true true is = omega (arith, is)
     by_kind Ascii true false is = omega (arith, is)
     by_kind Ascii false true is = omega (arith, is)

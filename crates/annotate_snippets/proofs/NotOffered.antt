@@ -8,6 +8,7 @@ use Rattle.std.proofs.lemmas.Bool.{eq-eqb}
 use Rattle.std.proofs.lemmas.List.{append_cancel_left}
 use Rattle.std.proofs.lemmas.List.Elements.{All-nil, All-cons, All-head, All-tail, All-weaker, filter_map-append}
 use Rattle.std.proofs.lemmas.List.Sums.{AllPass-from_list_all}
+use Rattle.snippet_style.specs.Glyphs.{char_of}
 use Rattle.snippet_style.specs.Cell.{Cell, SPACE, text_cells}
 use Rattle.snippet_style.specs.declared.glyphs.DecorStyle.TheVariants.{Ascii, Unicode}
 use Rattle.snippet_style.specs.declared.role.ElementStyle.TheVariants.{Addition, LineNumber, Quotation, Removal}
@@ -451,6 +452,6 @@ module _ (v : Vec Patch Global) (frame : Layout) (narrow : frame.gutter ≡ 1) (
       → first.cells ≡ SPACE ∷ SPACE ∷ text_cells LineNumber (codes "╰╴") → ShowsSuggestion r frame around found foo (others (suggestion_head r frame around foo) ++ (first ∷ rest)) → ⊥
   suggestion_closes_the_wrong_way r decor first rest is shown =
       let Begun : DecorStyle → Type 0 = λ d. HasStrokes d 1 (Begins Opening) first.cells in
-      let P : List Cell → Type 0 = λ cells. (get_or cells 2 SPACE).ch ≡ 9581 in
-      let corner : ◌≡◌ {A = ℕ} 9584 9581 = subst P is (subst Begun decor (first_begins r first rest shown) 2 (omega arith)) in
+      let P : List Cell → Type 0 = λ cells. (get_or cells 2 SPACE).ch ≡ char_of (codes "╭") in
+      let corner : char_of (codes "╰") ≡ char_of (codes "╭") = subst P is (subst Begun decor (first_begins r first rest shown) 2 (omega arith)) in
       absurd (omega (arith, corner))

@@ -34,7 +34,7 @@ use Rattle.annotate_snippets.specs.Rows.{cause_head, rows_after_cause}
 use Rattle.annotate_snippets.specs.Settings.{plain_settings}
 use Rattle.snippet_grid.specs.Layout.{Layout}
 use Rattle.annotate_snippets.specs.declared.renderer.element_context.ElementContext.{ElementContext}
-use Rattle.snippet_style.specs.Glyphs.{placeholder_of}
+use Rattle.snippet_style.specs.Glyphs.{IsMarkGlyph, char_of, placeholder_of}
 use Rattle.annotate_snippets.specs.Shown.{cell_of, room_of, normalized_chars, shown_label, ShowsSourceLine, ShowsMarksOf, ShowsLineAndMarks, IsRowBelow, IsRowOf, AreRowsOf, ShowsSnippet}
 use Rattle.annotate_snippets.specs.Gutter.{number_text}
 use Rattle.annotate_snippets.proofs.LeftLaws.{separator_of_left, unnumbered_below, unnumbered_elided}
@@ -159,13 +159,18 @@ mark_of_primary source k p a b at primary narrow =
     not_wider other (inl same) = subst (λ c. span_width source b ≤ span_width source c) same narrow
     not_wider other (inr rest) = subst (λ c. span_width source b ≤ span_width source c) (the_one b other rest) (omega arith)
 
+-- in ASCII a primary mark is '^', whether a label hangs from it or not
+caret : (ch : ℕ) → IsMarkGlyph Ascii true ch → ch ≡ char_of (codes "^")
+caret ch (inl is) = is
+caret ch (inr is) = is
+
 -- what holds of a row that has the marks of such a snippet's first line, in terms of the snippet's source and spans
 module _ {s : Snippet Annotation} {source : List ℕ} {marks : List Annotation} {row : List Cell} (is : IsSnippetOf s source marks) (shown : ShowsMarksOf Ascii frame s 0 0 row) where
   -- below a column that has a primary mark stands nothing but '^'
-  primary_missing : (p : ℕ) → IsMarkOf source marks 0 p Primary → ((slice_index_or row (cell_of frame 0 p) SPACE).ch == 94) ≡ false → ⊥
+  primary_missing : (p : ℕ) → IsMarkOf source marks 0 p Primary → ((slice_index_or row (cell_of frame 0 p) SPACE).ch == char_of (codes "^")) ≡ false → ⊥
   primary_missing p mark other =
       let cell : IsMarkCell Ascii Primary (slice_index_or row (cell_of frame 0 p) SPACE) = shown.marks p Primary (subst (λ text. IsMarkOf text s.markers.items 0 p Primary) (sym is.source_is) (subst (λ spans. IsMarkOf source spans 0 p Primary) (sym is.marks_are) mark)) in
-      let same : ((slice_index_or row (cell_of frame 0 p) SPACE).ch == 94) ≡ true = eq-eqb _ _ cell.0 in
+      let same : ((slice_index_or row (cell_of frame 0 p) SPACE).ch == char_of (codes "^")) ≡ true = eq-eqb _ _ (caret _ cell.0) in
       cc
 
   -- below a column that no span covers no cell is in the role of marks
@@ -393,7 +398,7 @@ marks_not_shifted s is shown =
     let at : IsMarkedAt source 0 2 span = is_marked_at source span 2 3 (record { marked = refl; start_is = refl; end_is = refl }) 2 (omega arith) (omega arith) in
     let mark : IsMarkOf source (span ∷ []) 0 2 Primary = mark_of_one source 0 2 span at in
     let cell : IsMarkCell Ascii Primary SPACE = shown.marks 2 Primary (subst (λ text. IsMarkOf text s.markers.items 0 2 Primary) (sym is.source_is) (subst (λ spans. IsMarkOf source spans 0 2 Primary) (sym is.marks_are) mark)) in
-    let same : ◌≡◌ {A = ℕ} 32 94 = cell.0 in
+    let same : SPACE.ch ≡ char_of (codes "^") = caret SPACE.ch cell.0 in
     absurd (omega (arith, same))
 
 -- ---- a line that isn't kept

@@ -17,9 +17,9 @@ use Rattle.snippet_style.specs.Cell.{Cell, SPACE}
 use Rattle.snippet_style.specs.declared.glyphs.DecorStyle.{DecorStyle}
 use Rattle.snippet_style.specs.declared.glyphs.DecorStyle.TheVariants.{Ascii, Unicode}
 use Rattle.snippet_style.specs.Glyphs.{placeholder_of}
-use Rattle.snippet_suggest.specs.Glyphs.{glyph_of}
+use Rattle.snippet_style.specs.Glyphs.{suggestion_glyph_of}
 use Rattle.snippet_suggest.specs.Rows.{is_stroke}
-use Rattle.snippet_suggest.specs.declared.glyphs.SuggestionGlyph.TheVariants as sign
+use Rattle.snippet_style.specs.declared.glyphs.SuggestionGlyph.TheVariants as sign
 use Rattle.snippet_suggest.specs.declared.SuggestionStart.{SuggestionStart}
 use Rattle.snippet_suggest.specs.declared.SuggestionStart.TheVariants as start
 use Rattle.snippet_titles.specs.Origin.{padding_row, primary_start}
@@ -68,7 +68,7 @@ one_of (d ∷ ds) c none some =
 -- what stands left of the lines in a row of a suggestion that shows none
 abbrev strokes : DecorStyle → List ℕ
 strokes decor =
-    32 ∷ (placeholder_of decor ++ glyph_of decor sign.Opening ++ glyph_of decor sign.Next ++ glyph_of decor sign.Leading ++ glyph_of decor sign.Closing)
+    32 ∷ (placeholder_of decor ++ suggestion_glyph_of decor sign.Opening ++ suggestion_glyph_of decor sign.Next ++ suggestion_glyph_of decor sign.Leading ++ suggestion_glyph_of decor sign.Closing)
 
 -- it is no letter or digit
 stroke_unnumbered : (decor : DecorStyle) (c : ℕ) → is_stroke decor c ≡ true → is_ascii_alphanumeric c ≡ false

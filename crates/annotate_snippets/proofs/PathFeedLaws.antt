@@ -8,9 +8,7 @@ use Rattle.std.proofs.lemmas.List.Elements.{All-append, All-cons, All-head, All-
 use Rattle.snippet_style.specs.Cell.{Cell, text_cells}
 use Rattle.snippet_style.specs.declared.glyphs.DecorStyle.{DecorStyle}
 use Rattle.snippet_style.specs.declared.glyphs.DecorStyle.TheVariants.{Ascii, Unicode}
-use Rattle.snippet_style.specs.declared.role.ElementStyle.{ElementStyle}
 use Rattle.snippet_style.specs.declared.role.ElementStyle.TheVariants.{LineAndColumn, LineNumber}
-use Rattle.snippet_style.proofs.CellLemmas.{All-text_cells}
 use Rattle.snippet_text.specs.Normalized.{has_control_picture, is_bidirectional_control, norm, shown}
 use Rattle.snippet_model.specs.declared.snippet.Annotation.{Annotation}
 use Rattle.snippet_model.specs.declared.snippet.Origin as origin
@@ -33,6 +31,7 @@ use Rattle.annotate_snippets.specs.Gutter.{numbered_source}
 use Rattle.annotate_snippets.specs.Rows.{cause_head, closing_rows, origin_layout, origin_rows, origin_start, place_given, place_named, rows_after_cause, separator_rows}
 use Rattle.annotate_snippets.specs.Feeds.{HasNoFeed, HoldsNoFeed, IsNoFeed, IsOneLineText}
 use Rattle.annotate_snippets.proofs.FeedLaws.{after_spaces, bare_plain}
+pub use Rattle.annotate_snippets.proofs.FeedLaws.{cells_plain}
 use Rattle.snippet_view.specs.Annotated.{annotated_lines}
 
 -- ---- characters
@@ -79,10 +78,6 @@ glyphs_plain Secondary Ascii = refl
 glyphs_plain Secondary Unicode = refl
 
 -- ---- rows
-
--- the cells of a text without line feeds hold none
-pub cells_plain : (role : ElementStyle) (cs : List ℕ) → All IsNoFeed cs → HasNoFeed (text_cells role cs)
-cells_plain role cs plain = All-text_cells HoldsNoFeed role cs plain
 
 file_plain : (layout : OriginLayout) (start : FileStart) → HasNoFeed (file_row layout start)
 unfolding file_row

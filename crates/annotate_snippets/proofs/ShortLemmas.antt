@@ -31,7 +31,7 @@ use Rattle.annotate_snippets.specs.Around.{path_bytes}
 use Rattle.annotate_snippets.specs.Gutter.{numbered_source}
 use Rattle.annotate_snippets.specs.Prepared.{IsDrawable, IsElementDrawable, IsGroupDrawable}
 use Rattle.annotate_snippets.specs.Rows.{place_named}
-use Rattle.annotate_snippets.specs.Short.{first_cause, joined_labels, label_of, place_of_cause, place_of_path, primary_labels}
+use Rattle.annotate_snippets.specs.Short.{first_cause, joined_labels, short_label, place_of_cause, place_of_path, primary_labels}
 use Rattle.snippet_model.specs.AnnotationKind.{is_primary}
 use Rattle.annotate_snippets.specs.declared.renderer.Renderer.{Renderer}
 use Rattle.annotate_snippets.proofs.RoomLemmas.{digits}
@@ -43,9 +43,9 @@ pub primary_labels-append : (xs ys : List Annotation) → primary_labels (xs ++ 
 primary_labels-append xs ys =
     let labelled = λ (zs : List (List ℕ)). filter (λ label. not (list_all is_whitespace label)) zs in
     let primary = λ (zs : List Annotation). filter (λ (a : Annotation). is_primary a.kind) zs in
-    ap (λ zs. labelled (filter_map label_of zs)) (filter-append (λ (a : Annotation). is_primary a.kind) xs ys)
-    ∙ ap labelled (filter_map-append label_of (primary xs) (primary ys))
-    ∙ filter-append (λ label. not (list_all is_whitespace label)) (filter_map label_of (primary xs)) (filter_map label_of (primary ys))
+    ap (λ zs. labelled (filter_map short_label zs)) (filter-append (λ (a : Annotation). is_primary a.kind) xs ys)
+    ∙ ap labelled (filter_map-append short_label (primary xs) (primary ys))
+    ∙ filter-append (λ label. not (list_all is_whitespace label)) (filter_map short_label (primary xs)) (filter_map short_label (primary ys))
 
 -- those of one more span
 pub primary_labels-more : (marks : List Annotation) (i : ℕ) (a : Annotation) → i < length marks → a ≡ get_or marks i a → primary_labels (take i marks) ++ primary_labels (a ∷ []) ≡ primary_labels (take (i + 1) marks)

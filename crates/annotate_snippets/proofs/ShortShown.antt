@@ -30,7 +30,7 @@ use Rattle.snippet_style.specs.declared.stylesheet.Stylesheet.{Stylesheet}
 use Rattle.snippet_grid.proofs.WovenLemmas.{IsWoven-from_prints, plain_woven}
 use Rattle.snippet_text.specs.Normalized.{is_listed, norm}
 use Rattle.snippet_titles.proofs.ShortLaws.{short-free, short-links, short-texts}
-use Rattle.snippet_titles.specs.Heading.{shown_text, heading_lines, indent_cells, label_text, label_width}
+use Rattle.snippet_titles.specs.Heading.{shown_text, heading_lines, indent_cells, heading_label_text, label_width}
 use Rattle.snippet_titles.specs.Origin.{origin_text, place_text}
 use Rattle.snippet_titles.specs.Short.{with_end}
 use Rattle.snippet_titles.specs.Shown.{IsFreeButText, texts_below}
@@ -46,7 +46,7 @@ use Rattle.annotate_snippets.specs.Gutter.{numbered_source}
 use Rattle.annotate_snippets.specs.Page.{PrintsGrids}
 use Rattle.annotate_snippets.specs.Prepared.{IsDrawable, IsGroupDrawable}
 use Rattle.annotate_snippets.specs.Rows.{place_found, place_named}
-use Rattle.annotate_snippets.specs.Short.{before_title, after_title, first_cause, joined_labels, label_of, labels_of_cause, place_of_cause, place_of_path, primary_labels, short_form}
+use Rattle.annotate_snippets.specs.Short.{before_title, after_title, first_cause, joined_labels, short_label, labels_of_cause, place_of_cause, place_of_path, primary_labels, short_form}
 use Rattle.snippet_model.specs.AnnotationKind.{is_primary}
 use Rattle.annotate_snippets.specs.declared.renderer.Renderer.{Renderer}
 use Rattle.annotate_snippets.specs.declared.renderer.graphic.GroupGrid.{GroupGrid}
@@ -63,20 +63,20 @@ use Rattle.snippet_titles.proofs.FreeLemmas.{IsUnlisted, norm-free}
 sep-free : (c : ℕ) → is_listed c ≡ false → All IsUnlisted (c ∷ 32 ∷ [])
 sep-free c free = All-cons IsUnlisted c (32 ∷ []) free (All-cons IsUnlisted 32 [] refl (All-nil IsUnlisted))
 
-label-free : (a : Annotation) (rest : List (List ℕ)) → All (All IsUnlisted) rest → All (All IsUnlisted) (cons_option (label_of a) rest)
+label-free : (a : Annotation) (rest : List (List ℕ)) → All (All IsUnlisted) rest → All (All IsUnlisted) (cons_option (short_label a) rest)
 label-free a rest others = by a.label
   where
     by : (label : Option (CowStr Global)) → All (All IsUnlisted) (cons_option (option_map (λ t. norm (chars (cow_str_bytes t))) label) rest)
     by None = others
     by (Some t) = All-cons (All IsUnlisted) (norm (chars (cow_str_bytes t))) rest (norm-free (chars (cow_str_bytes t))) others
 
-labels-free : (marks : List Annotation) → All (All IsUnlisted) (filter_map label_of marks)
+labels-free : (marks : List Annotation) → All (All IsUnlisted) (filter_map short_label marks)
 labels-free [] = All-nil (All IsUnlisted)
-labels-free (a ∷ marks) = label-free a (filter_map label_of marks) (labels-free marks)
+labels-free (a ∷ marks) = label-free a (filter_map short_label marks) (labels-free marks)
 
 primary-free : (marks : List Annotation) → All (All IsUnlisted) (primary_labels marks)
 primary-free marks =
-    All-filter (λ label. not (list_all is_whitespace label)) (All IsUnlisted) (filter_map label_of (filter (λ (a : Annotation). is_primary a.kind) marks)) (labels-free (filter (λ (a : Annotation). is_primary a.kind) marks))
+    All-filter (λ label. not (list_all is_whitespace label)) (All IsUnlisted) (filter_map short_label (filter (λ (a : Annotation). is_primary a.kind) marks)) (labels-free (filter (λ (a : Annotation). is_primary a.kind) marks))
 
 further-free : (labels : List (List ℕ)) → All (All IsUnlisted) labels → All IsUnlisted (flat_map (λ l. codes ", " ++ l) labels)
 further-free [] free = All-nil IsUnlisted
@@ -162,7 +162,7 @@ begins r g title rows are drawable s first path has some none =
     let found = place_known (primary_place lines) (IsLocation (numbered_source s) s.markers.items) (place-named s.fold (numbered_source s) s.markers.items lines can.spans refl some none) in
     let heading : Heading = heading_of_title title in
     let before : List ℕ = before_title r g in
-    let text = first-text before (label_text heading) (row_text (indent_cells style.Short (label_width heading))) (after_title g) (heading_lines heading) (omega (arith, length-slice_split (λ c. c == 10) (shown_text heading))) in
+    let text = first-text before (heading_label_text heading) (row_text (indent_cells style.Short (label_width heading))) (after_title g) (heading_lines heading) (omega (arith, length-slice_split (λ c. c == 10) (shown_text heading))) in
     let named : before ≡ origin_text r.anonymized_origin_line_numbers path (place_found (Some found.0)) ++ codes ": " = ap (place_of_cause r) first ∙ ap (place_of_path r s) has ∙ ap (λ o. origin_text r.anonymized_origin_line_numbers path (place_found o) ++ codes ": ") found.1 in
     record {
       place = found.0;

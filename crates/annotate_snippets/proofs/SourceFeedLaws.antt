@@ -25,6 +25,7 @@ use Rattle.snippet_grid.specs.Layout.{Layout}
 use Rattle.annotate_snippets.specs.Gutter.{line_numbers, number_text}
 use Rattle.annotate_snippets.specs.Shown.{ShowsSourceLine, bounds_in, cells_left, room_of, wide_spans}
 use Rattle.annotate_snippets.specs.Feeds.{HasNoFeed, HoldsNoFeed, IsNoFeed}
+use Rattle.snippet_titles.proofs.OriginFree.{each-fails}
 use Rattle.annotate_snippets.proofs.FeedLaws.{at_any, bar_cell}
 use Rattle.annotate_snippets.proofs.PathFeedLaws.{alone, cells_plain, digit_plain, norm_plain}
 
@@ -32,8 +33,8 @@ use Rattle.annotate_snippets.proofs.PathFeedLaws.{alone, cells_plain, digit_plai
 
 -- no character of what stands in place of a part of a line is one
 pub placeholder_plain : (decor : DecorStyle) → All IsNoFeed (placeholder_of decor)
-placeholder_plain Ascii = All-cons IsNoFeed 46 (46 ∷ 46 ∷ []) refl (All-cons IsNoFeed 46 (46 ∷ []) refl (alone 46 refl))
-placeholder_plain Unicode = alone 0x2026 refl
+placeholder_plain Ascii = each-fails (λ c. c == 10) (placeholder_of Ascii) refl
+placeholder_plain Unicode = each-fails (λ c. c == 10) (placeholder_of Unicode) refl
 
 written_plain : (xs : List ℕ) (at : ℕ) (new : List ℕ) → All IsNoFeed xs → All IsNoFeed new → All IsNoFeed (written 32 xs at new)
 unfolding written
@@ -101,8 +102,8 @@ number_plain Anonymized gutter n =
 number_plain Hidden gutter n = All-replicate IsNoFeed gutter 32 refl
 
 separator_plain : (decor : DecorStyle) → All IsNoFeed (separator_of decor ∷ [])
-separator_plain Ascii = alone 124 refl
-separator_plain Unicode = alone 0x2502 refl
+separator_plain Ascii = alone (separator_of Ascii) refl
+separator_plain Unicode = alone (separator_of Unicode) refl
 
 left_plain : (decor : DecorStyle) (gutter : ℕ) (shown : List ℕ) → All IsNoFeed shown → HasNoFeed (cells_left decor gutter shown)
 left_plain decor gutter shown plain =

@@ -27,7 +27,7 @@ use Rattle.snippet_titles.proofs.OriginFree.{each-fails}
 use Rattle.snippet_view.proofs.PartLemmas.{All-unmapped}
 use Rattle.snippet_suggest.specs.Cells.{left_out_cells, line_cells, offered_cells, on_last, put, sign_of, stretch_cell, with_stretches}
 use Rattle.snippet_suggest.specs.Given.{edits_of, first_given, given_lines, given_ranges, given_text, is_left_out, last_reached, shown_kind}
-use Rattle.snippet_suggest.specs.Glyphs.{glyph_of, role_of}
+use Rattle.snippet_style.specs.Glyphs.{suggestion_glyph_of, suggestion_role_of}
 use Rattle.snippet_suggest.specs.Order.{Begins, Empty, Ends, Offers, Removes, Skips, SuggestionRow, is_diff, number_after, rows_of_suggestion}
 use Rattle.snippet_suggest.specs.Rows.{IsBareRow, IsBeforeSign, IsLeftOver, IsMarkOrSpace, IsRemovedRow, Shows, is_stroke}
 use Rattle.snippet_suggest.specs.Shown.{is_touched}
@@ -35,8 +35,8 @@ use Rattle.snippet_suggest.specs.Suggested.{body_cells, cells_of as row_cells, c
 use Rattle.snippet_suggest.specs.declared.SuggestionLayout.{SuggestionLayout}
 use Rattle.snippet_suggest.specs.declared.SuggestionStart.{SuggestionStart}
 use Rattle.snippet_suggest.specs.declared.SuggestionStart.TheVariants as start
-use Rattle.snippet_suggest.specs.declared.glyphs.SuggestionGlyph.{SuggestionGlyph}
-use Rattle.snippet_suggest.specs.declared.glyphs.SuggestionGlyph.TheVariants.{Opening, Next, Leading, Closing, Kept, Alone, Changed, Added}
+use Rattle.snippet_style.specs.declared.glyphs.SuggestionGlyph.{SuggestionGlyph}
+use Rattle.snippet_style.specs.declared.glyphs.SuggestionGlyph.TheVariants.{Opening, Next, Leading, Closing, Kept, Alone, Changed, Added}
 use Rattle.snippet_suggest.proofs.ComposeLemmas.{zip_append}
 use Rattle.snippet_suggest.proofs.OrderLaws.{IsRowOf}
 use Rattle.annotate_snippets.specs.declared.renderer.Renderer.{Renderer}
@@ -82,10 +82,10 @@ before_plain Shown decor c (inr digit) = grind (arith, nat_tests, digit)
 before_plain Anonymized decor c (inr letter) = subst IsNoFeed (sym letter) refl
 before_plain Hidden decor c (inr none) = absurd none
 
-glyph_plain : (decor : DecorStyle) (glyph : SuggestionGlyph) → All IsNoFeed (glyph_of decor glyph)
-glyph_plain decor glyph = each-fails (λ c. c == 10) (glyph_of decor glyph) (none decor glyph)
+glyph_plain : (decor : DecorStyle) (glyph : SuggestionGlyph) → All IsNoFeed (suggestion_glyph_of decor glyph)
+glyph_plain decor glyph = each-fails (λ c. c == 10) (suggestion_glyph_of decor glyph) (none decor glyph)
   where
-    none : (decor : DecorStyle) (glyph : SuggestionGlyph) → list_any (λ c. c == 10) (glyph_of decor glyph) ≡ false
+    none : (decor : DecorStyle) (glyph : SuggestionGlyph) → list_any (λ c. c == 10) (suggestion_glyph_of decor glyph) ≡ false
     none Ascii Opening = refl
     none Ascii Next = refl
     none Ascii Leading = refl
@@ -175,9 +175,9 @@ line_row_plain : (layout : SuggestionLayout) (glyph : SuggestionGlyph) (number :
 unfolding line_cells
 line_row_plain layout glyph number line plain =
     let g : ℕ = layout.frame.gutter in
-    let signed : List Cell = put (role_of glyph) (glyph_of layout.frame.decor glyph) (g + 1) [] in
+    let signed : List Cell = put (suggestion_role_of glyph) (suggestion_glyph_of layout.frame.decor glyph) (g + 1) [] in
     let digits : List ℕ = shown_number layout.numbers g number in
-    let signed_plain : HasNoFeed signed = put_plain (role_of glyph) (glyph_of layout.frame.decor glyph) (g + 1) [] (All-nil HoldsNoFeed) (glyph_plain layout.frame.decor glyph) in
+    let signed_plain : HasNoFeed signed = put_plain (suggestion_role_of glyph) (suggestion_glyph_of layout.frame.decor glyph) (g + 1) [] (All-nil HoldsNoFeed) (glyph_plain layout.frame.decor glyph) in
     let numbered_plain = put_plain LineNumber digits 0 signed signed_plain (number_plain layout.numbers g number) in
     put_plain NoStyle (norm (chars line)) (g + 3) (put LineNumber digits 0 signed) numbered_plain (norm_plain (chars line) plain)
 

@@ -12,7 +12,7 @@ use Rattle.snippet_model.specs.Rows.{HasNoNumber}
 use Rattle.snippet_model.specs.declared.snippet.Title.{Title}
 use Rattle.snippet_style.specs.Cell.{Cell, SPACE}
 use Rattle.snippet_text.specs.Normalized.{norm}
-use Rattle.snippet_titles.specs.Heading.{colon_of, heading_lines, id_text, label_text, label_width}
+use Rattle.snippet_titles.specs.Heading.{colon_of, heading_lines, id_text, heading_label_text, label_width}
 use Rattle.snippet_titles.specs.Shown.{texts_below}
 use Rattle.snippet_titles.proofs.OriginNumbers.{closing_row-unnumbered, separator_row-unnumbered}
 use Rattle.annotate_snippets.specs.Numbers.{IsTitleOfWords, IsUnnumbered, begins_with_number, begins_with_word}
@@ -87,7 +87,7 @@ title_unnumbered r frame place follows title rows shown words =
     let heading : Heading = heading_of_title title in
     let hidden : Bool = is_hidden title.level.name in
     let after_name : List ℕ = id_text hidden title.id ++ colon_of hidden title.id in
-    let label : label_text heading ≡ norm (chars (name_of title.level)) ++ after_name = append_assoc (norm (chars (name_of title.level))) (id_text hidden title.id) (colon_of hidden title.id) in
+    let label : heading_label_text heading ≡ norm (chars (name_of title.level)) ++ after_name = append_assoc (norm (chars (name_of title.level))) (id_text hidden title.id) (colon_of hidden title.id) in
     let text_at : List ℕ → ℕ → List ℕ = λ first i. slice_index_or (texts_below first (row_text (replicate (label_width heading) SPACE)) (heading_lines heading)) i [] in
     let each : (i : ℕ) → i < length shown.own → IsUnnumbered frame.gutter (get_or shown.own i []) =
     λ i within. ap (λ text. begins_with_number (take (frame.gutter + 1) text)) (shown.shows.texts i ∙ ap (λ first. text_at first i) label)

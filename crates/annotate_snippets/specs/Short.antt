@@ -43,13 +43,13 @@ place_of_cause r None = []
 place_of_cause r (Some s) = place_of_path r s (path_bytes s.path)
 
 -- a label, normalised
-abbrev pub label_of : Annotation → Option (List ℕ)
-label_of a = option_map (λ t. norm (chars (cow_str_bytes t))) a.label
+abbrev pub short_label : Annotation → Option (List ℕ)
+short_label a = option_map (λ t. norm (chars (cow_str_bytes t))) a.label
 
 -- the labels of primary spans, normalised, as given, without those that are blank
 abbrev pub primary_labels : List Annotation → List (List ℕ)
 primary_labels marks =
-    filter (λ label. not (list_all is_whitespace label)) (filter_map label_of (filter (λ a. is_primary a.kind) marks))
+    filter (λ label. not (list_all is_whitespace label)) (filter_map short_label (filter (λ a. is_primary a.kind) marks))
 
 -- these labels in a row, after a colon: `: a, b`; nothing where there are none
 abbrev pub joined_labels : List (List ℕ) → List ℕ

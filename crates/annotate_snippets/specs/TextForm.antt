@@ -8,7 +8,7 @@ use Rattle.snippet_model.specs.declared.snippet.Element.TheVariants as element
 use Rattle.snippet_model.specs.declared.snippet.Group.{Group}
 use Rattle.snippet_model.specs.declared.snippet.Patch.{Patch}
 use Rattle.snippet_model.specs.declared.snippet.Snippet.{Snippet}
-use Rattle.snippet_text_form.specs.Cause.{cause_form, label_of, named_spans}
+use Rattle.snippet_text_form.specs.Cause.{cause_form, label_characters, named_spans}
 use Rattle.snippet_text_form.specs.Form.{FormPiece}
 use Rattle.snippet_text_form.specs.Heading.{heading_form}
 use Rattle.snippet_text_form.specs.Suggestion.{origin_form, suggestion_form}
@@ -93,7 +93,7 @@ whole_text heading = if is_one_line (shown_text heading) then shown_text heading
 -- of marked spans, normalised
 abbrev pub element_texts : Element → List (List ℕ)
 element_texts (element.Message m) = whole_text (heading_of_message m)
-element_texts (element.Cause s) = map label_of (named_spans s.markers.items)
+element_texts (element.Cause s) = map label_characters (named_spans s.markers.items)
 element_texts (element.Suggestion s) = []
 element_texts (element.Origin o) = []
 element_texts (element.Padding p) = []

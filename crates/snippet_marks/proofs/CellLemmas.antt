@@ -1,8 +1,9 @@
 -- The cells of a window, and how they are written.
 use Rattle.std.proofs.Common.{◌≡◌, ℕ, ◌+◌, ◌-◌, ◌<◌, ◌≤◌, ◌^◌, ◌==◌, cond, true, false, Option, None, Some, IfSome, List, [], ◌∷◌, ◌++◌, length, drop, refl, sym, ap, ◌∙◌, arith, add-zero, All, chars, IsUtf8}
 use Rattle.std.proofs.lemmas.List.{places, same_lists}
-use Rattle.std.proofs.lemmas.List.Elements.{All-take, All-drop, All-cons, All-nil}
+use Rattle.std.proofs.lemmas.List.Elements.{All-take, All-drop}
 use Rattle.std.proofs.lemmas.Str.{chars-nil}
+use Rattle.snippet_model.proofs.RowLemmas.{each_fails}
 use Rattle.snippet_view.proofs.LineWindowLemmas.{uncovered_short, part_short}
 use Rattle.snippet_view.specs.declared.margin.Margin.{Margin}
 use Rattle.snippet_view.specs.Margin.{bounds_of}
@@ -94,12 +95,8 @@ put_ended decor at cells = placeholder_some decor cells at
 
 -- no cell of it is listed
 pub free_placeholder : (decor : DecorStyle) → IsFree (text_cells LineNumber (placeholder_of decor))
-free_placeholder Ascii =
-    let P : ℕ → Type 0 = λ c. is_listed c ≡ false in
-    free_drawn LineNumber (46 ∷ 46 ∷ 46 ∷ []) (All-cons P 46 (46 ∷ 46 ∷ []) refl (All-cons P 46 (46 ∷ []) refl (All-cons P 46 [] refl (All-nil P))))
-free_placeholder Unicode =
-    let P : ℕ → Type 0 = λ c. is_listed c ≡ false in
-    free_drawn LineNumber (0x2026 ∷ []) (All-cons P 0x2026 [] refl (All-nil P))
+free_placeholder Ascii = free_drawn LineNumber (placeholder_of Ascii) (each_fails is_listed (placeholder_of Ascii) refl)
+free_placeholder Unicode = free_drawn LineNumber (placeholder_of Unicode) (each_fails is_listed (placeholder_of Unicode) refl)
 
 free_begun : (decor : DecorStyle) (start : Option ℕ) (text : List ℕ) → All (λ c. is_listed c ≡ false) text → IsFree (begun_cells decor start text)
 free_begun decor None text free = free_drawn Quotation text free

@@ -5,6 +5,7 @@ pub mod PlacedLemmas
 pub mod HeldLemmas
 pub mod CellLemmas
 pub mod WriteLemmas
+pub mod StrokeLemmas
 pub mod PaintLemmas
 pub mod MarkWrites
 pub mod LabelKept

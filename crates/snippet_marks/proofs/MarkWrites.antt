@@ -6,7 +6,7 @@ use Rattle.snippet_grid.specs.Grid.{WritesCells, cells_written}
 use Rattle.snippet_grid.proofs.GridLemmas.{WritesCells-cells_written}
 use Rattle.snippet_model.specs.AnnotationKind.{is_primary}
 use Rattle.snippet_style.specs.Cell.{Cell, text_cells, unlinked_cell}
-use Rattle.snippet_style.specs.Glyphs.{glyph_of}
+use Rattle.snippet_style.specs.Glyphs.{strokes_of}
 use Rattle.snippet_style.specs.declared.role.ElementStyle.{ElementStyle}
 use Rattle.snippet_grid.specs.Layout.{Layout}
 use Rattle.snippet_marks.specs.declared.positions.PlacedEntry.{PlacedEntry}
@@ -23,7 +23,7 @@ paints_some layout row e old some =
     let from = layout.code + e.entry.start.display in
     let to = layout.code + mark_end e in
     let role : ElementStyle = stroke_role e in
-    let glyph : ℕ = glyph_of layout.decor (is_primary e.entry.kind) 94 45 0x2501 0x2500 in
+    let glyph : ℕ = (strokes_of layout.decor (is_primary e.entry.kind)).underline in
     let line : Cell = unlinked_cell role glyph in
     let first : ℕ = first_glyph layout.decor e in
     let marks = mark_cell layout e in

@@ -4,11 +4,9 @@ use Rattle.std.proofs.lemmas.Bool.{cases_lt}
 use Rattle.std.proofs.lemmas.Bool.Decides.{nat_tests}
 use Rattle.std.proofs.lemmas.List.{length-replicate, get_or-replicate, length_push, get_or_append_left, get_or_push, take_more}
 use Rattle.snippet_marks.specs.declared.positions.PlacedEntry.{PlacedEntry}
-use Rattle.snippet_marks.specs.Positions.{has_stem, takes_space}
-use Rattle.snippet_style.specs.declared.glyphs.DecorStyle.{DecorStyle}
-use Rattle.snippet_style.specs.declared.glyphs.DecorStyle.TheVariants.{Ascii, Unicode}
 use Rattle.snippet_style.specs.declared.role.ElementStyle.{ElementStyle}
-use Rattle.snippet_style.specs.Glyphs.{glyph_of, underline_role}
+use Rattle.snippet_marks.proofs.StrokeLemmas.{free_strokes, of_first}
+use Rattle.snippet_style.specs.Glyphs.{strokes_of, underline_role}
 use Rattle.snippet_grid.specs.Grid.{cell_at, row_at, WritesCells}
 use Rattle.snippet_style.specs.Cell.{Cell, SPACE, unlinked_cell}
 use Rattle.snippet_text.specs.Normalized.{is_listed}
@@ -97,41 +95,22 @@ first_cell_is layout e first primary role is_kind is_first is_role =
 
 -- the glyph of an underline is the cell of a mark at each column after the first
 pub other_cell_is : (layout : Layout) (e : PlacedEntry) (glyph : ℕ) (primary : Bool) (role : ElementStyle) → primary ≡ is_primary e.entry.kind
-    → glyph ≡ glyph_of layout.decor primary 94 45 0x2501 0x2500 → role ≡ underline_role primary → (c : ℕ) → layout.code + e.entry.start.display < c
+    → glyph ≡ (strokes_of layout.decor primary).underline → role ≡ underline_role primary → (c : ℕ) → layout.code + e.entry.start.display < c
     → unlinked_cell role glyph ≡ mark_cell layout e c
 other_cell_is layout e glyph primary role is_kind is_glyph is_role c past =
     let other : (c == layout.code + e.entry.start.display) ≡ false = grind (arith, nat_tests) in
     rw (is_role, is_glyph, is_kind, other) refl
 
--- no glyph of a mark is a listed character
-free_glyphs : (decor : DecorStyle) (primary first space stem : Bool)
-    → is_listed (cond first (cond space (cond stem (glyph_of decor primary 94 45 0x257F 0x2502) (glyph_of decor primary 94 45 0x251B 0x2518))
-    (cond stem (glyph_of decor primary 94 45 0x252F 0x252C) (glyph_of decor primary 94 45 0x2501 0x2500)))
-    (glyph_of decor primary 94 45 0x2501 0x2500)) ≡ false
-free_glyphs Ascii true true true true = refl
-free_glyphs Ascii true true true false = refl
-free_glyphs Ascii true true false true = refl
-free_glyphs Ascii true true false false = refl
-free_glyphs Ascii true false space stem = refl
-free_glyphs Ascii false true true true = refl
-free_glyphs Ascii false true true false = refl
-free_glyphs Ascii false true false true = refl
-free_glyphs Ascii false true false false = refl
-free_glyphs Ascii false false space stem = refl
-free_glyphs Unicode true true true true = refl
-free_glyphs Unicode true true true false = refl
-free_glyphs Unicode true true false true = refl
-free_glyphs Unicode true true false false = refl
-free_glyphs Unicode true false space stem = refl
-free_glyphs Unicode false true true true = refl
-free_glyphs Unicode false true true false = refl
-free_glyphs Unicode false true false true = refl
-free_glyphs Unicode false true false false = refl
-free_glyphs Unicode false false space stem = refl
-
+-- no cell of a mark holds a listed character
 free_mark_cell : (layout : Layout) (e : PlacedEntry) (c : ℕ) → IsFreeCell (mark_cell layout e c)
 free_mark_cell layout e c =
-    (free_glyphs layout.decor (is_primary e.entry.kind) (c == layout.code + e.entry.start.display) (takes_space e) (has_stem e), refl)
+    let P : ℕ → Type 0 = λ ch. is_listed ch ≡ false in
+    let each = free_strokes layout.decor (is_primary e.entry.kind) in
+    (either (c == layout.code + e.entry.start.display) _ _ (of_first P layout.decor e each) each.underline, refl)
+  where
+    either : (b : Bool) (x y : ℕ) → is_listed x ≡ false → is_listed y ≡ false → is_listed (cond b x y) ≡ false
+    either true x y one other = one
+    either false x y one other = other
 
 -- no entry is painted yet
 pub Painted-none : (layout : Layout) (row : ℕ) (rows : List (List Cell)) → Painted layout [] row rows rows

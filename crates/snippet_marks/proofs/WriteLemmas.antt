@@ -10,7 +10,7 @@ use Rattle.snippet_style.specs.Cell.{Cell, text_cells}
 use Rattle.snippet_grid.specs.Grid.{cells_written}
 use Rattle.snippet_grid.specs.Layout.{Layout}
 use Rattle.snippet_marks.specs.declared.positions.PlacedEntry.{PlacedEntry}
-use Rattle.snippet_style.specs.Glyphs.{glyph_of}
+use Rattle.snippet_style.specs.Glyphs.{strokes_of}
 use Rattle.snippet_model.specs.AnnotationKind.{is_primary}
 use Rattle.snippet_marks.specs.Painting.{first_glyph, mark_end, mark_of, stroke_role}
 use Rattle.snippet_marks.specs.Writes.{Write, glyph_at, painted, stretch_of, written_by}
@@ -55,20 +55,20 @@ pub mark_of-none : (layout : Layout) (row : ℕ) (e : PlacedEntry) → mark_end 
 mark_of-none layout row e past =
     let from = layout.code + e.entry.start.display in
     let to = layout.code + mark_end e in
-    let ws : List Write = glyph_at row from (first_glyph layout.decor e) (stroke_role e) ∷ stretch_of row (from + 1) to (glyph_of layout.decor (is_primary e.entry.kind) 94 45 0x2501 0x2500) (stroke_role e) in
+    let ws : List Write = glyph_at row from (first_glyph layout.decor e) (stroke_role e) ∷ stretch_of row (from + 1) to (strokes_of layout.decor (is_primary e.entry.kind)).underline (stroke_role e) in
     ap (λ b. cond b ws []) (not_less from to (omega (arith, past)))
 
 -- a mark is its first glyph, and the underline after it
 pub mark_painted : (layout : Layout) (row : ℕ) (e : PlacedEntry) (first underline : ℕ) (role : ElementStyle) (end : ℕ)
     (old mid new : List (List Cell)) → e.entry.start.display < mark_end e → end ≡ mark_end e → first ≡ first_glyph layout.decor e
-    → underline ≡ glyph_of layout.decor (is_primary e.entry.kind) 94 45 0x2501 0x2500 → role ≡ stroke_role e
+    → underline ≡ (strokes_of layout.decor (is_primary e.entry.kind)).underline → role ≡ stroke_role e
     → mid ≡ cells_written old row (layout.code + e.entry.start.display) (text_cells role (first ∷ []))
     → new ≡ painted (stretch_of row (layout.code + e.entry.start.display + 1) (layout.code + end) underline role) mid
     → new ≡ painted (mark_of layout row e) old
 mark_painted layout row e first underline role end old mid new some is_end is_first is_underline is_role begins continues =
     let from = layout.code + e.entry.start.display in
     let to = layout.code + mark_end e in
-    let line : ℕ = glyph_of layout.decor (is_primary e.entry.kind) 94 45 0x2501 0x2500 in
+    let line : ℕ = (strokes_of layout.decor (is_primary e.entry.kind)).underline in
     let ws : List Write = glyph_at row from (first_glyph layout.decor e) (stroke_role e) ∷ stretch_of row (from + 1) to line (stroke_role e) in
     continues ∙ ap (λ n. painted (stretch_of row (from + 1) (layout.code + n) underline role) mid) is_end
     ∙ ap (λ g. painted (stretch_of row (from + 1) to g role) mid) is_underline

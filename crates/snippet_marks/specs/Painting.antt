@@ -3,7 +3,7 @@ use Rattle.std.specs.Prelude.{◌≡◌, ◌≢◌, ℕ, ◌+◌, ◌<◌, ◌�
 use Rattle.snippet_lines.specs.Order.{ordered_by}
 use Rattle.snippet_view.specs.declared.entries.LineAnnotation.{LineAnnotation}
 use Rattle.snippet_style.specs.declared.glyphs.DecorStyle.{DecorStyle}
-use Rattle.snippet_style.specs.Glyphs.{glyph_of, underline_role}
+use Rattle.snippet_style.specs.Glyphs.{strokes_of, underline_role}
 use Rattle.snippet_grid.specs.Grid.{cell_at, row_at}
 use Rattle.snippet_style.specs.Cell.{Cell, unlinked_cell}
 use Rattle.snippet_grid.specs.Layout.{Layout}
@@ -40,8 +40,10 @@ painting_order placed = ordered_by (λ e f. is_painted_before e.entry f.entry) p
 -- or where it has none the underline
 abbrev pub first_glyph : DecorStyle → PlacedEntry → ℕ
 first_glyph decor e =
-    let primary = is_primary e.entry.kind in
-    if takes_space e then (if has_stem e then glyph_of decor primary 94 45 0x257F 0x2502 else glyph_of decor primary 94 45 0x251B 0x2518) else (if has_stem e then glyph_of decor primary 94 45 0x252F 0x252C else glyph_of decor primary 94 45 0x2501 0x2500)
+    let strokes = strokes_of decor (is_primary e.entry.kind) in
+    if takes_space e
+    then (if has_stem e then strokes.end_down else strokes.end_flat)
+    else (if has_stem e then strokes.label_start else strokes.underline)
 
 -- the column after the last one at which an entry's mark is painted: after its first column even where it covers none, if
 -- a glyph of its own stands there
@@ -57,7 +59,7 @@ IsPaintedAt e p = (e.entry.start.display ≤ p) × (p < mark_end e)
 abbrev pub mark_cell : Layout → PlacedEntry → ℕ → Cell
 mark_cell layout e c =
     let primary = is_primary e.entry.kind in
-    unlinked_cell (underline_role primary) (if c == layout.code + e.entry.start.display then first_glyph layout.decor e else glyph_of layout.decor primary 94 45 0x2501 0x2500)
+    unlinked_cell (underline_role primary) (if c == layout.code + e.entry.start.display then first_glyph layout.decor e else (strokes_of layout.decor primary).underline)
 
 -- the cells of a row from `from` to before `to` were painted, and nothing else changed
 pub record Paints (old new : List (List Cell)) (row from to : ℕ) (cell : ℕ → Cell) : Type 0 where
@@ -112,7 +114,7 @@ abbrev pub mark_of : Layout → ℕ → PlacedEntry → List Write
 mark_of layout row e =
     let from = layout.code + e.entry.start.display in
     let to = layout.code + mark_end e in
-    if nat_lt from to then glyph_at row from (first_glyph layout.decor e) (stroke_role e) ∷ stretch_of row (from + 1) to (glyph_of layout.decor (is_primary e.entry.kind) 94 45 0x2501 0x2500) (stroke_role e) else []
+    if nat_lt from to then glyph_at row from (first_glyph layout.decor e) (stroke_role e) ∷ stretch_of row (from + 1) to (strokes_of layout.decor (is_primary e.entry.kind)).underline (stroke_role e) else []
 
 -- the marks of some entries, in the order in which they are painted
 abbrev pub marks_of : Layout → ℕ → List PlacedEntry → List Write

@@ -9,7 +9,7 @@ use crate::positions::PlacedEntry;
 use crate::roles::is_primary;
 use snippet_grid::{Layout, StyledBuffer};
 use snippet_style::DecorStyle;
-use snippet_view::{LineAnnotation, LineAnnotationType};
+use snippet_view::LineAnnotation;
 use std::alloc::{AllocError, Global};
 use std::cmp::Reverse;
 
@@ -128,12 +128,10 @@ fn first_glyph(decor: DecorStyle, placed: &PlacedEntry) -> char
     ensures value { result ≡ first_glyph decor placed.now }
 {
     let strokes = decor.underline(is_primary(placed.entry.kind));
-    match placed.entry.annotation_type {
-        LineAnnotationType::MultilineStart(_) if placed.has_stem() => strokes.multiline_start_down,
-        LineAnnotationType::MultilineStart(_) => strokes.top_right_flat,
-        LineAnnotationType::MultilineEnd(_) if placed.has_stem() => strokes.multiline_end_up,
-        LineAnnotationType::MultilineEnd(_) => strokes.multiline_end_same_line,
-        _ if placed.has_stem() => strokes.label_start,
-        _ => strokes.underline,
+    match (placed.takes_space(), placed.has_stem()) {
+        (true, true) => strokes.end_down,
+        (true, false) => strokes.end_flat,
+        (false, true) => strokes.label_start,
+        (false, false) => strokes.underline,
     }
 }

@@ -19,6 +19,8 @@ use Rattle.snippet_strokes.specs.declared.bars.BarStroke.{BarStroke}
 use Rattle.snippet_strokes.specs.declared.bars.BarStroke.TheVariants.{Top, Solid, Dotted}
 use Rattle.snippet_strokes.specs.EntryMarks.{IsBarCell, IsMarkCell, are_plain, has_mark_role, wide_entries}
 use Rattle.snippet_model.specs.Rows.{IsFreeCell}
+use Rattle.snippet_style.proofs.StrokeLemmas.{bars_among}
+use Rattle.snippet_strokes.proofs.StrokeGlyphs.{free_bars}
 use Rattle.snippet_strokes.specs.Bars.{BarsDrawn, DrawsBars, HasRoom, StandsBeside, bar_glyph, bar_part, barred, with_bar, with_bars}
 use Rattle.snippet_strokes.specs.declared.bars.OpenBar.{OpenBar}
 use Rattle.snippet_strokes.proofs.LabelPlaces.{LabelsStand-kept}
@@ -28,33 +30,15 @@ use Rattle.snippet_strokes.proofs.DrawLemmas.{written_cell}
 
 -- each part of a bar is one of the glyphs that bars are drawn with, and not listed
 pub bar_glyph_known : (stroke : BarStroke) (decor : DecorStyle) (primary : Bool) → list_any (λ g. bar_glyph stroke decor primary == g) (bar_glyphs decor) ≡ true
-bar_glyph_known Top Ascii true = refl
-bar_glyph_known Top Ascii false = refl
-bar_glyph_known Top Unicode true = refl
-bar_glyph_known Top Unicode false = refl
-bar_glyph_known Solid Ascii true = refl
-bar_glyph_known Solid Ascii false = refl
-bar_glyph_known Solid Unicode true = refl
-bar_glyph_known Solid Unicode false = refl
-bar_glyph_known Dotted Ascii true = refl
-bar_glyph_known Dotted Ascii false = refl
-bar_glyph_known Dotted Unicode true = refl
-bar_glyph_known Dotted Unicode false = refl
+bar_glyph_known Top decor primary = (bars_among decor primary).whole_line
+bar_glyph_known Solid decor primary = (bars_among decor primary).bar
+bar_glyph_known Dotted decor primary = (bars_among decor primary).elided_bar
 
 -- the glyph of a bar is no listed character
 pub bar_glyph_free : (stroke : BarStroke) (decor : DecorStyle) (primary : Bool) → is_listed (bar_glyph stroke decor primary) ≡ false
-bar_glyph_free Top Ascii true = refl
-bar_glyph_free Top Ascii false = refl
-bar_glyph_free Top Unicode true = refl
-bar_glyph_free Top Unicode false = refl
-bar_glyph_free Solid Ascii true = refl
-bar_glyph_free Solid Ascii false = refl
-bar_glyph_free Solid Unicode true = refl
-bar_glyph_free Solid Unicode false = refl
-bar_glyph_free Dotted Ascii true = refl
-bar_glyph_free Dotted Ascii false = refl
-bar_glyph_free Dotted Unicode true = refl
-bar_glyph_free Dotted Unicode false = refl
+bar_glyph_free Top decor primary = (free_bars decor primary).whole_line
+bar_glyph_free Solid decor primary = (free_bars decor primary).bar
+bar_glyph_free Dotted decor primary = (free_bars decor primary).elided_bar
 
 -- a space is a part of a bar too
 space_known : (decor : DecorStyle) → list_any (λ g. 32 == g) (bar_glyphs decor) ≡ true

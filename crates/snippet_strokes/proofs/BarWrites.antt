@@ -7,7 +7,7 @@ use Rattle.snippet_grid.specs.Grid.{WritesCells, cells_written}
 use Rattle.snippet_grid.proofs.GridLemmas.{WritesCells-cells_written}
 use Rattle.snippet_model.specs.AnnotationKind.{is_primary}
 use Rattle.snippet_style.specs.Cell.{Cell, text_cells, unlinked_cell}
-use Rattle.snippet_style.specs.Glyphs.{glyph_of}
+use Rattle.snippet_style.specs.Glyphs.{strokes_of}
 use Rattle.snippet_style.specs.declared.glyphs.DecorStyle.{DecorStyle}
 use Rattle.snippet_style.specs.declared.role.ElementStyle.{ElementStyle}
 use Rattle.snippet_text.specs.Normalized.{is_listed}
@@ -67,7 +67,7 @@ connectors_within layout row count es rows =
     All-flat_map W (connector_of layout row) es (λ k d within.
     let e : PlacedEntry = get_or es k d in
     let primary = is_primary e.entry.kind in
-    let glyph : ℕ = glyph_of layout.decor primary 95 95 0x2501 0x2500 in
+    let glyph : ℕ = (strokes_of layout.decor primary).connector in
     let to = layout.code + e.entry.start.display in
     let P : ℕ → Type 0 = λ ch. is_listed ch ≡ false in
     All-connector_of W layout row e (λ depth. All-stretch_of W (row + e.position) (layout.gutter + 3 + depth) to glyph (stroke_role e) (record {
@@ -84,7 +84,7 @@ connectors_bar_cells layout row es =
     All-flat_map R (connector_of layout row) es (λ k d within.
     let e : PlacedEntry = get_or es k d in
     let primary = is_primary e.entry.kind in
-    let glyph : ℕ = glyph_of layout.decor primary 95 95 0x2501 0x2500 in
+    let glyph : ℕ = (strokes_of layout.decor primary).connector in
     let to = layout.code + e.entry.start.display in
     let P : ℕ → Type 0 = λ ch. IsBarCell layout.decor (unlinked_cell (stroke_role e) ch) in
     All-connector_of R layout row e (λ depth. All-stretch_of R (row + e.position) (layout.gutter + 3 + depth) to glyph (stroke_role e) (All-replicate P (to - (layout.gutter + 3 + depth)) glyph (bar_horizontal layout.decor primary (stroke_role e) glyph refl))))
@@ -111,13 +111,13 @@ connectors_none layout row es single =
 
 -- a line to a bar is drawn with the glyph and in the role of its entry
 pub line_painted : (layout : Layout) (row : ℕ) (e : PlacedEntry) (depth glyph : ℕ) (role : ElementStyle) (old new : List (List Cell))
-    → glyph ≡ glyph_of layout.decor (is_primary e.entry.kind) 95 95 0x2501 0x2500 → role ≡ stroke_role e
+    → glyph ≡ (strokes_of layout.decor (is_primary e.entry.kind)).connector → role ≡ stroke_role e
     → new ≡ painted (stretch_of (row + e.position) (layout.gutter + 3 + depth) (layout.code + e.entry.start.display) glyph role) old
     → new ≡ painted (line_to layout row e depth) old
 line_painted layout row e depth glyph role old new is_glyph is_role drawn_now =
     let from = layout.gutter + 3 + depth in
     let to = layout.code + e.entry.start.display in
-    drawn_now ∙ ap (λ g. painted (stretch_of (row + e.position) from to g role) old) is_glyph ∙ ap (λ r. painted (stretch_of (row + e.position) from to (glyph_of layout.decor (is_primary e.entry.kind) 95 95 0x2501 0x2500) r) old) is_role
+    drawn_now ∙ ap (λ g. painted (stretch_of (row + e.position) from to g role) old) is_glyph ∙ ap (λ r. painted (stretch_of (row + e.position) from to (strokes_of layout.decor (is_primary e.entry.kind)).connector r) old) is_role
 
 -- ---- bars
 
@@ -165,7 +165,7 @@ corners_bars layout row count es bar_cells rows =
     bar : (e : PlacedEntry) (depth start end : ℕ) → 0 < depth → layout.gutter + 3 + depth < layout.code → row ≤ start → end ≤ count → All B (bar_of layout e depth start end)
     bar e depth start end some room low high =
         let primary = is_primary e.entry.kind in
-        let glyph : ℕ = glyph_of layout.decor primary 124 124 0x2503 0x2502 in
+        let glyph : ℕ = (strokes_of layout.decor primary).bar in
         All-column_of B start end (layout.gutter + 2 + depth) glyph (stroke_role e) (λ r from to. record {
           below = omega (arith, low, from);
           there = omega (arith, high, to);
@@ -180,7 +180,7 @@ corners_bars layout row count es bar_cells rows =
     by_part e has Singleline bar_cell = All-nil B
     by_part e has (MultilineStart depth) bar_cell =
         let primary = is_primary e.entry.kind in
-        let glyph : ℕ = glyph_of layout.decor primary 32 32 0x250F 0x250C in
+        let glyph : ℕ = (strokes_of layout.decor primary).bar_top in
         let corner = row + 1 + e.position in
         All-cons B (glyph_at corner (layout.gutter + 2 + depth) glyph (stroke_role e)) (bar_of layout e depth (corner + 1) count) (record {
           below = omega arith;
@@ -193,7 +193,7 @@ corners_bars layout row count es bar_cells rows =
         }) (bar e depth (corner + 1) count bar_cell.0 bar_cell.1 (omega arith) (omega arith))
     by_part e has (MultilineEnd depth) bar_cell =
         let primary = is_primary e.entry.kind in
-        let glyph : ℕ = glyph_of layout.decor primary 124 124 0x2517 0x2514 in
+        let glyph : ℕ = (strokes_of layout.decor primary).bar_bottom in
         let corner = row + 1 + e.position in
         All-append B (bar_of layout e depth row corner) (glyph_at corner (layout.gutter + 2 + depth) glyph (stroke_role e) ∷ [])
         (bar e depth row corner bar_cell.0 bar_cell.1 (omega arith) (omega (arith, has.mark)))
@@ -226,22 +226,22 @@ corners_none layout row count es single =
 
 -- a bar grows by a row, in the glyph and in the role of its entry
 pub bar_painted : (layout : Layout) (e : PlacedEntry) (depth start row glyph : ℕ) (role : ElementStyle) (old mid new : List (List Cell))
-    → glyph ≡ glyph_of layout.decor (is_primary e.entry.kind) 124 124 0x2503 0x2502 → role ≡ stroke_role e → start ≤ row
+    → glyph ≡ (strokes_of layout.decor (is_primary e.entry.kind)).bar → role ≡ stroke_role e → start ≤ row
     → mid ≡ painted (bar_of layout e depth start row) old → new ≡ cells_written mid row (layout.gutter + 2 + depth) (text_cells role (glyph ∷ []))
     → new ≡ painted (bar_of layout e depth start (row + 1)) old
 bar_painted layout e depth start row glyph role old mid new is_glyph is_role below so_far writes =
-    let line : ℕ = glyph_of layout.decor (is_primary e.entry.kind) 124 124 0x2503 0x2502 in
+    let line : ℕ = (strokes_of layout.decor (is_primary e.entry.kind)).bar in
     let cell = layout.gutter + 2 + depth in
     column_painted start row cell line (stroke_role e) old mid new below so_far (writes ∙ ap (λ g. cells_written mid row cell (text_cells role (g ∷ []))) is_glyph ∙ ap (λ r. cells_written mid row cell (text_cells r (line ∷ []))) is_role)
 
 -- a bar with no rows is no write
 pub bar_of-none : (layout : Layout) (e : PlacedEntry) (depth start : ℕ) → bar_of layout e depth start start ≡ []
 bar_of-none layout e depth start =
-    column_of-none start (layout.gutter + 2 + depth) (glyph_of layout.decor (is_primary e.entry.kind) 124 124 0x2503 0x2502) (stroke_role e)
+    column_of-none start (layout.gutter + 2 + depth) (strokes_of layout.decor (is_primary e.entry.kind)).bar (stroke_role e)
 
 -- the corner of a start, and the bar below it
 pub top_painted : (layout : Layout) (row count : ℕ) (e : PlacedEntry) (depth end glyph : ℕ) (role : ElementStyle) (old mid new : List (List Cell))
-    → glyph ≡ glyph_of layout.decor (is_primary e.entry.kind) 32 32 0x250F 0x250C → role ≡ stroke_role e → end ≡ count
+    → glyph ≡ (strokes_of layout.decor (is_primary e.entry.kind)).bar_top → role ≡ stroke_role e → end ≡ count
     → mid ≡ cells_written old (row + 1 + e.position) (layout.gutter + 2 + depth) (text_cells role (glyph ∷ []))
     → new ≡ painted (bar_of layout e depth (row + 1 + e.position + 1) end) mid → new ≡ painted (top_of layout row count e depth) old
 top_painted layout row count e depth end glyph role old mid new is_glyph is_role is_end begins continues =
@@ -250,17 +250,17 @@ top_painted layout row count e depth end glyph role old mid new is_glyph is_role
     continues ∙ ap (λ n. painted (bar_of layout e depth (corner + 1) n) mid) is_end
     ∙ ap (painted (bar_of layout e depth (corner + 1) count))
     (begins ∙ ap (λ g. cells_written old corner cell (text_cells role (g ∷ []))) is_glyph
-    ∙ ap (λ r. cells_written old corner cell (text_cells r (glyph_of layout.decor (is_primary e.entry.kind) 32 32 0x250F 0x250C ∷ []))) is_role)
+    ∙ ap (λ r. cells_written old corner cell (text_cells r ((strokes_of layout.decor (is_primary e.entry.kind)).bar_top ∷ []))) is_role)
 
 -- the bar of an end, and the corner below it
 pub bottom_painted : (layout : Layout) (row : ℕ) (e : PlacedEntry) (depth glyph : ℕ) (role : ElementStyle) (old mid new : List (List Cell))
-    → glyph ≡ glyph_of layout.decor (is_primary e.entry.kind) 124 124 0x2517 0x2514 → role ≡ stroke_role e
+    → glyph ≡ (strokes_of layout.decor (is_primary e.entry.kind)).bar_bottom → role ≡ stroke_role e
     → mid ≡ painted (bar_of layout e depth row (row + 1 + e.position)) old
     → new ≡ cells_written mid (row + 1 + e.position) (layout.gutter + 2 + depth) (text_cells role (glyph ∷ []))
     → new ≡ painted (bottom_of layout row e depth) old
 bottom_painted layout row e depth glyph role old mid new is_glyph is_role begins ends =
     let corner = row + 1 + e.position in
     let cell = layout.gutter + 2 + depth in
-    let last : ℕ = glyph_of layout.decor (is_primary e.entry.kind) 124 124 0x2517 0x2514 in
+    let last : ℕ = (strokes_of layout.decor (is_primary e.entry.kind)).bar_bottom in
     let w : Write = glyph_at corner cell last (stroke_role e) in
     ends ∙ ap (λ g. cells_written mid corner cell (text_cells role (g ∷ []))) is_glyph ∙ ap (λ r. cells_written mid corner cell (text_cells r (last ∷ []))) is_role ∙ ap (λ rows. written_by rows w) begins ∙ sym (painted-append (bar_of layout e depth row corner) (w ∷ []) old)

@@ -5,7 +5,7 @@ use Rattle.std.proofs.lemmas.List.{get_or-map, get_or_past, length-map}
 use Rattle.std.proofs.lemmas.List.Elements.{All-append, All-cons, All-filter, All-get_or, All-map, All-nil, All-replicate, All-weaker}
 use Rattle.std.specs.Prelude.{not}
 use Rattle.snippet_style.specs.Cell.{Cell, SPACE, unlinked_cell}
-use Rattle.snippet_style.specs.Glyphs.{glyph_of}
+use Rattle.snippet_style.specs.Glyphs.{strokes_of}
 use Rattle.snippet_style.specs.Separators.{closing_row, separator_row}
 use Rattle.snippet_grid.specs.Grid.{cell_at, row_at}
 use Rattle.snippet_model.specs.AnnotationKind.{is_primary}
@@ -23,7 +23,7 @@ use Rattle.snippet_strokes.specs.Drawing.{row_count}
 use Rattle.snippet_strokes.specs.EndBars.{IsNoBar}
 use Rattle.snippet_strokes.specs.LineRows.{AreLineRows, AreOwnRows}
 use Rattle.snippet_strokes.specs.Reach.{Reaches, cell_of_write}
-use Rattle.snippet_strokes.specs.Strokes.{StrokesPainted, begun_rows, connector_of, connectors_of, corner_of, corners_of, labels_of, stems_of, strokes_of}
+use Rattle.snippet_strokes.specs.Strokes.{StrokesPainted, begun_rows, connector_of, connectors_of, corner_of, corners_of, labels_of, stems_of, line_strokes}
 use Rattle.snippet_strokes.proofs.BarWrites.{All-connector_of, All-stretch_of}
 use Rattle.snippet_strokes.proofs.EndBarLaws.{is_at, labels_right, left_same, marks_right, part_leaves, passed_by, stems_right}
 use Rattle.snippet_strokes.proofs.RowLemmas.{bare_row_right}
@@ -56,7 +56,7 @@ module _ (layout : Layout) (depth : ℕ) (some : 0 < depth) (room : layout.gutte
       line : (e : PlacedEntry) → All (Clear r) (connector_of layout 1 e)
       line e =
           let primary : Bool = is_primary e.entry.kind in
-          let glyph : ℕ = glyph_of layout.decor primary 95 95 0x2501 0x2500 in
+          let glyph : ℕ = (strokes_of layout.decor primary).connector in
           let to : ℕ = layout.code + e.entry.start.display in
           let S : ℕ → Type 0 = λ ch. NoBar (unlinked_cell (stroke_role e) ch) in
           All-connector_of (Clear r) layout 1 e (λ deep.
@@ -64,7 +64,7 @@ module _ (layout : Layout) (depth : ℕ) (some : 0 < depth) (room : layout.gutte
           All-stretch_of (Clear r) (1 + e.position) from to glyph (stroke_role e) (λ there. All-replicate S (to - from) glyph (inr (primary, refl)) (cell - from) 0 (omega (arith, there.from, there.to))))
 
   -- so the strokes of a line leave none, if none was there and no entry has this depth
-  strokes_clear : (count : ℕ) (placed order : List PlacedEntry) (begun : List (List Cell)) (r : ℕ) → All (λ (e : PlacedEntry). is_at depth e.entry.annotation_type ≡ false) placed → NoBar (cell_at begun r cell) → NoBar (cell_at (painted (strokes_of layout 0 count placed order) begun) r cell)
+  strokes_clear : (count : ℕ) (placed order : List PlacedEntry) (begun : List (List Cell)) (r : ℕ) → All (λ (e : PlacedEntry). is_at depth e.entry.annotation_type ≡ false) placed → NoBar (cell_at begun r cell) → NoBar (cell_at (painted (line_strokes layout 0 count placed order) begun) r cell)
   strokes_clear count placed order begun r others before =
       let one : List Write = connectors_of layout 1 placed in
       let two : List Write = corners_of layout 0 count placed in
@@ -76,7 +76,7 @@ module _ (layout : Layout) (depth : ℕ) (some : 0 < depth) (room : layout.gutte
       let barred : All C (one ++ two) = All-append C one two (lines_clear r placed) corners in
       let hung : All C (one ++ two ++ three) = All-append C (one ++ two) three barred (away r three (stems_right layout bar room count placed order begun r)) in
       let named : All C (one ++ two ++ three ++ four) = All-append C (one ++ two ++ three) four hung (away r four (labels_right layout bar room count placed order begun r)) in
-      painted-cell NoBar (strokes_of layout 0 count placed order) begun r cell before (All-append C (one ++ two ++ three ++ four) five named (away r five (marks_right layout bar room count placed order begun r)))
+      painted-cell NoBar (line_strokes layout 0 count placed order) begun r cell before (All-append C (one ++ two ++ three ++ four) five named (away r five (marks_right layout bar room count placed order begun r)))
 
   -- ---- rows
 

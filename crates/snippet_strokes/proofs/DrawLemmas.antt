@@ -3,7 +3,8 @@ use Rattle.std.proofs.Common.{◌≡◌, ℕ, ◌+◌, ◌-◌, ◌<◌, ◌≤�
 use Rattle.std.proofs.lemmas.Bool.{cases_lt, cases_eq}
 use Rattle.snippet_grid.specs.Grid.{cell_at, row_at, WritesCells}
 use Rattle.snippet_style.specs.Cell.{Cell, SPACE, unlinked_cell}
-use Rattle.snippet_style.specs.Glyphs.{glyph_of, bar_glyphs}
+use Rattle.snippet_style.proofs.StrokeLemmas.{bars_among}
+use Rattle.snippet_style.specs.Glyphs.{bar_glyphs, strokes_of}
 use Rattle.snippet_style.specs.declared.glyphs.DecorStyle.{DecorStyle}
 use Rattle.snippet_style.specs.declared.glyphs.DecorStyle.TheVariants.{Ascii, Unicode}
 use Rattle.snippet_style.specs.declared.role.ElementStyle.{ElementStyle}
@@ -115,48 +116,24 @@ bar_space Ascii = record { glyph = refl; link = refl }
 bar_space Unicode = record { glyph = refl; link = refl }
 
 -- the horizontal stroke of a bar is a cell that a bar may have
-pub bar_horizontal : (decor : DecorStyle) (primary : Bool) (role : ElementStyle) (ch : ℕ) → ch ≡ glyph_of decor primary 95 95 0x2501 0x2500 → IsBarCell decor (unlinked_cell role ch)
+pub bar_horizontal : (decor : DecorStyle) (primary : Bool) (role : ElementStyle) (ch : ℕ) → ch ≡ (strokes_of decor primary).connector → IsBarCell decor (unlinked_cell role ch)
 bar_horizontal decor primary role ch is =
-    record { glyph = subst (λ x. list_any (λ g. x == g) (bar_glyphs decor) ≡ true) (sym is) (among decor primary); link = refl }
-  where
-    among : (decor : DecorStyle) (primary : Bool) → list_any (λ g. glyph_of decor primary 95 95 0x2501 0x2500 == g) (bar_glyphs decor) ≡ true
-    among Ascii true = refl
-    among Ascii false = refl
-    among Unicode true = refl
-    among Unicode false = refl
+    record { glyph = subst (λ x. list_any (λ g. x == g) (bar_glyphs decor) ≡ true) (sym is) (bars_among decor primary).connector; link = refl }
 
 -- the vertical stroke of a bar is a cell that a bar may have
-pub bar_vertical : (decor : DecorStyle) (primary : Bool) (role : ElementStyle) (ch : ℕ) → ch ≡ glyph_of decor primary 124 124 0x2503 0x2502 → IsBarCell decor (unlinked_cell role ch)
+pub bar_vertical : (decor : DecorStyle) (primary : Bool) (role : ElementStyle) (ch : ℕ) → ch ≡ (strokes_of decor primary).bar → IsBarCell decor (unlinked_cell role ch)
 bar_vertical decor primary role ch is =
-    record { glyph = subst (λ x. list_any (λ g. x == g) (bar_glyphs decor) ≡ true) (sym is) (among decor primary); link = refl }
-  where
-    among : (decor : DecorStyle) (primary : Bool) → list_any (λ g. glyph_of decor primary 124 124 0x2503 0x2502 == g) (bar_glyphs decor) ≡ true
-    among Ascii true = refl
-    among Ascii false = refl
-    among Unicode true = refl
-    among Unicode false = refl
+    record { glyph = subst (λ x. list_any (λ g. x == g) (bar_glyphs decor) ≡ true) (sym is) (bars_among decor primary).bar; link = refl }
 
 -- the upper corner of a bar is a cell that a bar may have
-pub bar_top : (decor : DecorStyle) (primary : Bool) (role : ElementStyle) (ch : ℕ) → ch ≡ glyph_of decor primary 32 32 0x250F 0x250C → IsBarCell decor (unlinked_cell role ch)
+pub bar_top : (decor : DecorStyle) (primary : Bool) (role : ElementStyle) (ch : ℕ) → ch ≡ (strokes_of decor primary).bar_top → IsBarCell decor (unlinked_cell role ch)
 bar_top decor primary role ch is =
-    record { glyph = subst (λ x. list_any (λ g. x == g) (bar_glyphs decor) ≡ true) (sym is) (among decor primary); link = refl }
-  where
-    among : (decor : DecorStyle) (primary : Bool) → list_any (λ g. glyph_of decor primary 32 32 0x250F 0x250C == g) (bar_glyphs decor) ≡ true
-    among Ascii true = refl
-    among Ascii false = refl
-    among Unicode true = refl
-    among Unicode false = refl
+    record { glyph = subst (λ x. list_any (λ g. x == g) (bar_glyphs decor) ≡ true) (sym is) (bars_among decor primary).bar_top; link = refl }
 
 -- the lower corner of a bar is a cell that a bar may have
-pub bar_bottom : (decor : DecorStyle) (primary : Bool) (role : ElementStyle) (ch : ℕ) → ch ≡ glyph_of decor primary 124 124 0x2517 0x2514 → IsBarCell decor (unlinked_cell role ch)
+pub bar_bottom : (decor : DecorStyle) (primary : Bool) (role : ElementStyle) (ch : ℕ) → ch ≡ (strokes_of decor primary).bar_bottom → IsBarCell decor (unlinked_cell role ch)
 bar_bottom decor primary role ch is =
-    record { glyph = subst (λ x. list_any (λ g. x == g) (bar_glyphs decor) ≡ true) (sym is) (among decor primary); link = refl }
-  where
-    among : (decor : DecorStyle) (primary : Bool) → list_any (λ g. glyph_of decor primary 124 124 0x2517 0x2514 == g) (bar_glyphs decor) ≡ true
-    among Ascii true = refl
-    among Ascii false = refl
-    among Unicode true = refl
-    among Unicode false = refl
+    record { glyph = subst (λ x. list_any (λ g. x == g) (bar_glyphs decor) ≡ true) (sym is) (bars_among decor primary).bar_bottom; link = refl }
 
 -- bars beside rows: none yet, some more, and one cell
 pub DrawsBarCells-none : (layout : Layout) (row : ℕ) (rows : List (List Cell)) → DrawsBarCells layout row rows rows

@@ -1,7 +1,7 @@
 -- The row that stands for lines that are left out.
-use Rattle.std.proofs.Common.{◌≡◌, ℕ, ◌+◌, ◌<◌, ◌≤◌, ◌∷◌, ◌++◌, [], List, false, length, take, drop, replicate, get_or, refl, sym, ap, ◌∙◌, subst, arith}
+use Rattle.std.proofs.Common.{◌≡◌, ℕ, ◌+◌, ◌<◌, ◌≤◌, ◌∷◌, ◌++◌, [], List, length, take, drop, replicate, get_or, refl, sym, ap, ◌∙◌, subst, arith}
 use Rattle.std.proofs.lemmas.List.{places, same_lists, drop_all, drop_more, ext_get_or, get_or_append_left, get_or_past, get_or_push, get_or-take, length-take-le, length_push}
-use Rattle.std.proofs.lemmas.List.Elements.{All-cons, All-nil}
+use Rattle.snippet_model.proofs.RowLemmas.{each_fails}
 use Rattle.snippet_style.proofs.CellLemmas.{length-text_cells}
 use Rattle.snippet_style.specs.declared.glyphs.DecorStyle.{DecorStyle}
 use Rattle.snippet_style.specs.declared.glyphs.DecorStyle.TheVariants.{Ascii, Unicode}
@@ -44,12 +44,8 @@ bare_elision_short Unicode gutter = omega (arith, length-led (gutter + 1) (elisi
 
 -- and holds no listed character
 free_bare_elision : (decor : DecorStyle) (gutter : ℕ) → IsFree (bare_elision_row decor gutter)
-free_bare_elision Ascii gutter =
-    let P : ℕ → Type 0 = λ c. is_listed c ≡ false in
-    free_drawn LineNumber (elision_of Ascii) (All-cons P 46 (46 ∷ 46 ∷ []) refl (All-cons P 46 (46 ∷ []) refl (All-cons P 46 [] refl (All-nil P))))
-free_bare_elision Unicode gutter =
-    let P : ℕ → Type 0 = λ c. is_listed c ≡ false in
-    free_led (gutter + 1) (elision_of Unicode) (All-cons P 0x2506 [] refl (All-nil P))
+free_bare_elision Ascii gutter = free_drawn LineNumber (elision_of Ascii) (each_fails is_listed (elision_of Ascii) refl)
+free_bare_elision Unicode gutter = free_led (gutter + 1) (elision_of Unicode) (each_fails is_listed (elision_of Unicode) refl)
 
 -- the row with its bars
 pub elision_added : (layout : Layout) (open_bars : List OpenBar) (old begun new : List (List Cell)) (row : ℕ) → row ≡ length old

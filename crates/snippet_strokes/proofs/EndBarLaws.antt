@@ -10,7 +10,7 @@ use Rattle.std.proofs.lemmas.List.Concat.{flat_map-append}
 use Rattle.std.proofs.lemmas.List.Elements.{All-append, All-cons, All-contains, All-head, All-map, All-nil, All-tail, All-weaker, filter_passes}
 use Rattle.std.proofs.lemmas.List.Sorted.{list_any-IsPermutation}
 use Rattle.snippet_style.specs.Cell.{Cell, SPACE, unlinked_cell}
-use Rattle.snippet_style.specs.Glyphs.{glyph_of, underline_role}
+use Rattle.snippet_style.specs.Glyphs.{strokes_of, underline_role}
 use Rattle.snippet_style.specs.declared.role.ElementStyle.{ElementStyle}
 use Rattle.snippet_grid.specs.Grid.{cell_at, row_at}
 use Rattle.snippet_model.specs.AnnotationKind.{is_primary}
@@ -37,7 +37,7 @@ use Rattle.snippet_strokes.specs.EndBars.{BarBegins, BarEnds, BeginsBelow, dotte
 use Rattle.snippet_strokes.specs.LineRows.{AreLineRows}
 use Rattle.snippet_strokes.specs.Reach.{Reaches}
 use Rattle.snippet_strokes.specs.Strokes as strokes
-use Rattle.snippet_strokes.specs.Strokes.{StrokesPainted, begun_rows, column_of, connectors_of, corner_by, corner_of, corners_of, label_of, labels_of, line_to, stem_of, stems_of, strokes_of}
+use Rattle.snippet_strokes.specs.Strokes.{StrokesPainted, begun_rows, column_of, connectors_of, corner_by, corner_of, corners_of, label_of, labels_of, line_to, stem_of, stems_of, line_strokes}
 use Rattle.snippet_strokes.proofs.AmongLaws.{all_from_among, among_contains, contains_among, filter_map_cases}
 use Rattle.snippet_strokes.proofs.BarLaws.{bar_stands, drawn_beside}
 use Rattle.snippet_strokes.proofs.BarWrites.{All-column_of, All-stretch_of}
@@ -140,10 +140,10 @@ module _ (layout : Layout) (bar : Bar) (room : layout.gutter + 2 + bar.depth < l
       mark e =
           let from : ℕ = layout.code + e.entry.start.display in
           let to : ℕ = layout.code + mark_end e in
-          elim (nat_lt from to) as (λ b. All (Leaves r) (cond b (glyph_at 1 from (first_glyph layout.decor e) (stroke_role e) ∷ stretch_of 1 (from + 1) to (glyph_of layout.decor (is_primary e.entry.kind) 94 45 0x2501 0x2500) (stroke_role e)) [])) [
-            | true ↦ All-cons (Leaves r) (glyph_at 1 from (first_glyph layout.decor e) (stroke_role e)) (stretch_of 1 (from + 1) to (glyph_of layout.decor (is_primary e.entry.kind) 94 45 0x2501 0x2500) (stroke_role e))
+          elim (nat_lt from to) as (λ b. All (Leaves r) (cond b (glyph_at 1 from (first_glyph layout.decor e) (stroke_role e) ∷ stretch_of 1 (from + 1) to (strokes_of layout.decor (is_primary e.entry.kind)).underline (stroke_role e)) [])) [
+            | true ↦ All-cons (Leaves r) (glyph_at 1 from (first_glyph layout.decor e) (stroke_role e)) (stretch_of 1 (from + 1) to (strokes_of layout.decor (is_primary e.entry.kind)).underline (stroke_role e))
                 (λ there. omega (arith, there.from, room))
-                (All-stretch_of (Leaves r) 1 (from + 1) to (glyph_of layout.decor (is_primary e.entry.kind) 94 45 0x2501 0x2500) (stroke_role e) (λ there. omega (arith, there.from, room)))
+                (All-stretch_of (Leaves r) 1 (from + 1) to (strokes_of layout.decor (is_primary e.entry.kind)).underline (stroke_role e) (λ there. omega (arith, there.from, room)))
             | false ↦ All-nil (Leaves r)
           ]
 
@@ -162,23 +162,23 @@ module _ (layout : Layout) (bar : Bar) (room : layout.gutter + 2 + bar.depth < l
   part_leaves r e (MultilineStart depth) other =
       let apart : depth ≢ bar.depth = λ same. both_ways (depth == bar.depth) other (eq-eqb depth bar.depth same) in
       let corner : ℕ = 0 + 1 + e.position in
-      let glyph : ℕ = glyph_of layout.decor (is_primary e.entry.kind) 32 32 0x250F 0x250C in
-      let line : ℕ = glyph_of layout.decor (is_primary e.entry.kind) 124 124 0x2503 0x2502 in
+      let glyph : ℕ = (strokes_of layout.decor (is_primary e.entry.kind)).bar_top in
+      let line : ℕ = (strokes_of layout.decor (is_primary e.entry.kind)).bar in
       let own : Write = glyph_at corner (layout.gutter + 2 + depth) glyph (stroke_role e) in
       All-cons (Leaves r) own (strokes.bar_of layout e depth (corner + 1) count) (glyph_leaves r corner depth glyph (stroke_role e) apart) (column_leaves r (corner + 1) count depth line (stroke_role e) apart)
   part_leaves r e (MultilineEnd depth) other =
       let apart : depth ≢ bar.depth = λ same. both_ways (depth == bar.depth) other (eq-eqb depth bar.depth same) in
       let corner : ℕ = 0 + 1 + e.position in
-      let glyph : ℕ = glyph_of layout.decor (is_primary e.entry.kind) 124 124 0x2517 0x2514 in
+      let glyph : ℕ = (strokes_of layout.decor (is_primary e.entry.kind)).bar_bottom in
       let own : Write = glyph_at corner (layout.gutter + 2 + depth) glyph (stroke_role e) in
-      let line : ℕ = glyph_of layout.decor (is_primary e.entry.kind) 124 124 0x2503 0x2502 in
+      let line : ℕ = (strokes_of layout.decor (is_primary e.entry.kind)).bar in
       let last : All (Leaves r) (own ∷ []) = All-cons (Leaves r) own [] (glyph_leaves r corner depth glyph (stroke_role e) apart) (All-nil (Leaves r)) in
       All-append (Leaves r) (strokes.bar_of layout e depth 0 corner) (own ∷ []) (column_leaves r 0 corner depth line (stroke_role e) apart) last
   part_leaves r e (MultilineLine depth) other = All-nil (Leaves r)
 
   -- so in it stands what the last entry of its depth leaves there
   last_stands : (before : List PlacedEntry) (e : PlacedEntry) (after : List PlacedEntry) → placed ≡ before ++ e ∷ after → All (λ f. is_at bar.depth f.entry.annotation_type ≡ false) after
-      → (old : List (List Cell)) × ((r : ℕ) → cell_at (painted (strokes_of layout 0 count placed order) begun) r cell ≡ cell_at (painted (corner_of layout 0 count e) old) r cell)
+      → (old : List (List Cell)) × ((r : ℕ) → cell_at (painted (line_strokes layout 0 count placed order) begun) r cell ≡ cell_at (painted (corner_of layout 0 count e) old) r cell)
   last_stands before e after split others =
       let f : PlacedEntry → List Write = corner_of layout 0 count in
       let lines : List Write = connectors_of layout 1 placed in
@@ -209,23 +209,23 @@ module _ (layout : Layout) (bar : Bar) (room : layout.gutter + 2 + bar.depth < l
   abbrev HasKind : PlacedEntry → Type 0
   HasKind e = is_primary e.entry.kind ≡ bar.primary
 
-  solid_by : (e : PlacedEntry) → HasKind e → unlinked_cell (stroke_role e) (glyph_of layout.decor (is_primary e.entry.kind) 124 124 0x2503 0x2502) ≡ bar_part layout Solid bar
+  solid_by : (e : PlacedEntry) → HasKind e → unlinked_cell (stroke_role e) (strokes_of layout.decor (is_primary e.entry.kind)).bar ≡ bar_part layout Solid bar
   solid_by e kind =
-      ap (λ primary. unlinked_cell (underline_role primary) (glyph_of layout.decor primary 124 124 0x2503 0x2502)) kind
+      ap (λ primary. unlinked_cell (underline_role primary) (strokes_of layout.decor primary).bar) kind
 
   start_drawn : (e : PlacedEntry) (old : List (List Cell)) → HasKind e → (cell_at (painted (corner_by layout 0 count e (MultilineStart bar.depth)) old) (1 + e.position) cell ≡ start_corner layout bar)
       × ((r : ℕ) → 1 + e.position < r → r < count → cell_at (painted (corner_by layout 0 count e (MultilineStart bar.depth)) old) r cell ≡ bar_part layout Solid bar)
   start_drawn e old kind =
       let corner : ℕ = 0 + 1 + e.position in
-      let glyph : ℕ = glyph_of layout.decor (is_primary e.entry.kind) 32 32 0x250F 0x250C in
-      let line : ℕ = glyph_of layout.decor (is_primary e.entry.kind) 124 124 0x2503 0x2502 in
+      let glyph : ℕ = (strokes_of layout.decor (is_primary e.entry.kind)).bar_top in
+      let line : ℕ = (strokes_of layout.decor (is_primary e.entry.kind)).bar in
       let own : Write = glyph_at corner cell glyph (stroke_role e) in
       let below : List Write = column_of (corner + 1) count cell line (stroke_role e) in
       let here : corner ≡ 1 + e.position = omega arith in
       let none : cell - cell ≡ 0 = omega arith in
       let leave : All (Leaves (1 + e.position)) below = All-column_of (Leaves (1 + e.position)) (corner + 1) count cell line (stroke_role e) (λ n from to there. omega (arith, there.row, from, here)) in
       let first = painted-last [] below own old (1 + e.position) cell (record { row = here; from = omega arith; to = omega arith }) leave ∙ ap (λ n. unlinked_cell (stroke_role e) (get_or (glyph ∷ []) n 0)) none in (
-        first ∙ ap (λ primary. unlinked_cell (underline_role primary) (glyph_of layout.decor primary 32 32 0x250F 0x250C)) kind,
+        first ∙ ap (λ primary. unlinked_cell (underline_role primary) (strokes_of layout.decor primary).bar_top) kind,
         λ r lower within. column_stands (corner + 1) (count - (corner + 1)) cell line (stroke_role e) (written_by old own) r (omega (arith, lower, here)) (omega (arith, lower, within, here)) ∙ solid_by e kind,
       )
 
@@ -233,14 +233,14 @@ module _ (layout : Layout) (bar : Bar) (room : layout.gutter + 2 + bar.depth < l
       × ((r : ℕ) → r < 1 + e.position → cell_at (painted (corner_by layout 0 count e (MultilineEnd bar.depth)) old) r cell ≡ bar_part layout Solid bar)
   end_drawn e old kind =
       let corner : ℕ = 0 + 1 + e.position in
-      let glyph : ℕ = glyph_of layout.decor (is_primary e.entry.kind) 124 124 0x2517 0x2514 in
-      let line : ℕ = glyph_of layout.decor (is_primary e.entry.kind) 124 124 0x2503 0x2502 in
+      let glyph : ℕ = (strokes_of layout.decor (is_primary e.entry.kind)).bar_bottom in
+      let line : ℕ = (strokes_of layout.decor (is_primary e.entry.kind)).bar in
       let own : Write = glyph_at corner cell glyph (stroke_role e) in
       let above : List Write = column_of 0 corner cell line (stroke_role e) in
       let here : corner ≡ 1 + e.position = omega arith in
       let none : cell - cell ≡ 0 = omega arith in
       let last = painted-last above [] own old (1 + e.position) cell (record { row = here; from = omega arith; to = omega arith }) (All-nil (Leaves (1 + e.position))) ∙ ap (λ n. unlinked_cell (stroke_role e) (get_or (glyph ∷ []) n 0)) none in (
-        last ∙ ap (λ primary. unlinked_cell (underline_role primary) (glyph_of layout.decor primary 124 124 0x2517 0x2514)) kind,
+        last ∙ ap (λ primary. unlinked_cell (underline_role primary) (strokes_of layout.decor primary).bar_bottom) kind,
         λ r higher.
             let one : cell_at (painted (above ++ own ∷ []) old) r cell ≡ cell_at (written_by (painted above old) own) r cell = ap (λ rows. cell_at rows r cell) (painted-append above (own ∷ []) old) in
             one ∙ cell-unwritten own (painted above old) r cell (λ there. omega (arith, there.row, higher, here)) ∙ column_stands 0 (corner - 0) cell line (stroke_role e) old r (omega arith) (omega (arith, higher, here)) ∙ solid_by e kind,
@@ -310,7 +310,7 @@ module _ (layout : Layout) (bar : Bar) (room : layout.gutter + 2 + bar.depth < l
       uncut (suc zero) top marks top_now marks_now lower first second = left_same layout.code (layout.gutter + 2 + bar.depth) marks_now marks (omega (arith, room)) second
       uncut (suc (suc r)) top marks top_now marks_now lower first second = refl
 
-      cut : (r : ℕ) → cell_at rows r (layout.gutter + 2 + bar.depth) ≡ cell_at (painted (strokes_of layout 0 (row_count drawn.placed + 1) drawn.placed (painting_order drawn.placed)) (begun_rows layout closes (row_count drawn.placed) source)) r (layout.gutter + 2 + bar.depth)
+      cut : (r : ℕ) → cell_at rows r (layout.gutter + 2 + bar.depth) ≡ cell_at (painted (line_strokes layout 0 (row_count drawn.placed + 1) drawn.placed (painting_order drawn.placed)) (begun_rows layout closes (row_count drawn.placed) source)) r (layout.gutter + 2 + bar.depth)
       cut r =
           let at : List (List Cell) → Cell = λ all. cell_at all r (layout.gutter + 2 + bar.depth) in
           ap at drawn.cut.new_is ∙ uncut r drawn.top drawn.marks drawn.cut.source_now drawn.cut.marks_now drawn.lower drawn.cut.source_cut.left drawn.cut.marks_cut.left ∙ ap at drawn.painted_are

@@ -1,5 +1,5 @@
 -- The definitions, computed on small inputs.
-use Rattle.std.proofs.Common.{◌≡◌, ℕ, ◌==◌, true, false, None, [], ◌∷◌, ◌++◌, refl}
+use Rattle.std.proofs.Common.{◌≡◌, ℕ, ◌==◌, true, false, None, [], ◌∷◌, ◌++◌, codes, refl}
 use Rattle.std.specs.List.{list_any}
 use Rattle.std.specs.declared.alloc.Global.{Global}
 use Rattle.std.specs.declared.borrow.CowStr.{CowStr}
@@ -8,6 +8,7 @@ use Rattle.snippet_model.specs.declared.snippet.AnnotationKind.{AnnotationKind}
 use Rattle.snippet_model.specs.declared.snippet.AnnotationKind.TheVariants.{Primary, Context}
 use Rattle.snippet_grid.specs.Grid.{replaced_within}
 use Rattle.snippet_style.specs.Cell.{text_cells}
+use Rattle.snippet_style.specs.Glyphs.{char_of}
 use Rattle.snippet_style.specs.declared.glyphs.DecorStyle.TheVariants.{Ascii, Unicode}
 use Rattle.snippet_style.specs.declared.role.ElementStyle.TheVariants.{LineNumber, Quotation}
 use Rattle.snippet_view.specs.declared.entries.LineAnnotation.{LineAnnotation}
@@ -38,13 +39,13 @@ widest_first : (label : CowStr Global) → painting_order (placed label Primary 
 widest_first label = refl
 
 -- `^` and `│` are drawn with strokes, and no letter is
-mark_of_strokes : list_any (λ g. 94 == g) (stroke_glyphs Ascii) ≡ true
+mark_of_strokes : list_any (λ g. char_of (codes "^") == g) (stroke_glyphs Ascii) ≡ true
 mark_of_strokes = refl
 
-stem_of_strokes : list_any (λ g. 0x2502 == g) (stroke_glyphs Unicode) ≡ true
+stem_of_strokes : list_any (λ g. char_of (codes "│") == g) (stroke_glyphs Unicode) ≡ true
 stem_of_strokes = refl
 
-letter_of_none : list_any (λ g. 120 == g) (stroke_glyphs Ascii) ≡ false
+letter_of_none : list_any (λ g. char_of (codes "x") == g) (stroke_glyphs Ascii) ≡ false
 letter_of_none = refl
 
 -- of three marks, from right to left, where all are looked at for each: the two farthest right count for no one, and the third overlaps itself

@@ -14,7 +14,7 @@ use Rattle.snippet_marks.specs.Entries.{label_role}
 use Rattle.snippet_marks.proofs.HeldLemmas.{are_starts-held, held, label_text-plain, marks_of-held, position_after-held, position_at-held}
 use Rattle.snippet_strokes.specs.Cuts.{cut_of, cuts_of, is_met, is_overlapped, look_ends, looked_after, meets, overlapped, overlapped_by, up_to}
 use Rattle.snippet_strokes.specs.Drawing.{lowest_position, row_count}
-use Rattle.snippet_strokes.specs.Strokes.{connector_of, connectors_of, corner_of, corners_of, is_hidden, label_of, labels_of, stem_of, stems_of, strokes_of}
+use Rattle.snippet_strokes.specs.Strokes.{connector_of, connectors_of, corner_of, corners_of, is_stem_covered, label_of, labels_of, stem_of, stems_of, line_strokes}
 
 -- ---- how many rows there are
 
@@ -28,16 +28,16 @@ row_count-held es =
 
 -- ---- strokes
 
-is_hidden-held : (e : PlacedEntry) (later : List PlacedEntry) → is_hidden (held e) (map held later) ≡ is_hidden e later
-is_hidden-held e [] = refl
-is_hidden-held e (next ∷ later) = refl
+is_stem_covered-held : (e : PlacedEntry) (later : List PlacedEntry) → is_stem_covered (held e) (map held later) ≡ is_stem_covered e later
+is_stem_covered-held e [] = refl
+is_stem_covered-held e (next ∷ later) = refl
 
 module _ (layout : Layout) (row : ℕ) where
   stems_of-held : (es : List PlacedEntry) → stems_of layout row (map held es) ≡ stems_of layout row es
   stems_of-held [] = refl
   stems_of-held (e ∷ later) =
-      ap (λ b. cond b [] (stem_of layout row e) ++ stems_of layout row (map held later)) (is_hidden-held e later)
-      ∙ ap (λ ws. cond (is_hidden e later) [] (stem_of layout row e) ++ ws) (stems_of-held later)
+      ap (λ b. cond b [] (stem_of layout row e) ++ stems_of layout row (map held later)) (is_stem_covered-held e later)
+      ∙ ap (λ ws. cond (is_stem_covered e later) [] (stem_of layout row e) ++ ws) (stems_of-held later)
 
   labels_of-held : (es : List PlacedEntry) → labels_of layout row (map held es) ≡ labels_of layout row es
   labels_of-held [] = refl
@@ -52,8 +52,8 @@ module _ (layout : Layout) (row : ℕ) where
   corners_of-held count es = flat_map-map (corner_of layout row count) held es
 
 -- all strokes of a line
-pub strokes_of-held : (layout : Layout) (row count : ℕ) (placed order : List PlacedEntry) → strokes_of layout row count (map held placed) (map held order) ≡ strokes_of layout row count placed order
-strokes_of-held layout row count placed order =
+pub line_strokes-held : (layout : Layout) (row count : ℕ) (placed order : List PlacedEntry) → line_strokes layout row count (map held placed) (map held order) ≡ line_strokes layout row count placed order
+line_strokes-held layout row count placed order =
     let lines = connectors_of layout (row + 1) placed in
     let bars = corners_of layout row count placed in
     let stems = stems_of layout (row + 1) placed in

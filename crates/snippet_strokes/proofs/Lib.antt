@@ -1,5 +1,6 @@
 pub mod NumberLemmas
 pub mod RowLemmas
+pub mod StrokeGlyphs
 pub mod TextLemmas
 pub mod PositionLemmas
 pub mod WindowTextLemmas

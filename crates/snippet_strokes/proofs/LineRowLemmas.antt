@@ -22,7 +22,7 @@ use Rattle.snippet_strokes.specs.Drawing.{row_count}
 use Rattle.snippet_strokes.specs.Cuts.{Stretch, cut_row, cut_rows, cuts_of, is_wide_at, overlapped}
 use Rattle.snippet_strokes.specs.Rows.{IsCut}
 use Rattle.snippet_marks.specs.SourceRows.{bare_row}
-use Rattle.snippet_strokes.specs.Strokes.{AddsPainted, begun_rows, strokes_of}
+use Rattle.snippet_strokes.specs.Strokes.{AddsPainted, begun_rows, line_strokes}
 use Rattle.snippet_marks.specs.Writes.{Write, painted}
 use Rattle.snippet_marks.proofs.OrderLemmas.{IsPermutation-painting_order}
 use Rattle.snippet_strokes.proofs.BarRows.{barred-below}
@@ -55,7 +55,7 @@ module _ (layout : Layout) (room : ℕ) (closes : Bool) (es : List LineAnnotatio
     (old_is : old ≡ above ++ source ∷ [])
     (row_is : row ≡ length above)
     (long : length new ≡ length old + row_count placed)
-    (new_is : new ≡ painted (strokes_of layout row (length old + row_count placed) placed (painting_order placed)) (old ++ replicate (row_count placed - 1) (separator_row layout.decor layout.gutter) ++ bare_row layout.decor layout.gutter closes ∷ []))
+    (new_is : new ≡ painted (line_strokes layout row (length old + row_count placed) placed (painting_order placed)) (old ++ replicate (row_count placed - 1) (separator_row layout.decor layout.gutter) ++ bare_row layout.decor layout.gutter closes ∷ []))
     (flags_are : list_any (is_wide_at room layout.decor) placed ≡ true → flags ≡ overlapped placed)
     (final_is : final ≡ cut_rows layout.decor row (cuts_of layout room (painting_order placed) flags) new) where
   abbrev order : List PlacedEntry
@@ -69,7 +69,7 @@ module _ (layout : Layout) (room : ℕ) (closes : Bool) (es : List LineAnnotatio
   bare = begun_rows layout closes count source
 
   abbrev strokes : List Write
-  strokes = strokes_of layout 0 (count + 1) placed order
+  strokes = line_strokes layout 0 (count + 1) placed order
 
   abbrev own : List (List Cell)
   own = painted strokes bare
@@ -83,9 +83,9 @@ module _ (layout : Layout) (room : ℕ) (closes : Bool) (es : List LineAnnotatio
       let end : List (List Cell) = bare_row layout.decor layout.gutter closes ∷ [] in
       let n : ℕ = length above in
       let begun : old ++ seps ++ end ≡ above ++ bare = ap (λ rs. rs ++ seps ++ end) old_is ∙ begun_below layout closes count above source in
-      let by_row = ap (λ r. painted (strokes_of layout r (length old + count) placed order) (old ++ seps ++ end)) row_is in
-      let by_count = ap (λ m. painted (strokes_of layout n m placed order) (old ++ seps ++ end)) all_rows in
-      let by_rows = ap (painted (strokes_of layout n (n + (count + 1)) placed order)) begun in
+      let by_row = ap (λ r. painted (line_strokes layout r (length old + count) placed order) (old ++ seps ++ end)) row_is in
+      let by_count = ap (λ m. painted (line_strokes layout n m placed order) (old ++ seps ++ end)) all_rows in
+      let by_rows = ap (painted (line_strokes layout n (n + (count + 1)) placed order)) begun in
       let lower = ap (λ ws. painted ws (above ++ bare)) (strokes-lowered layout n (count + 1) placed order) in
       new_is ∙ by_row ∙ by_count ∙ by_rows ∙ lower ∙ painted-below above strokes bare
 

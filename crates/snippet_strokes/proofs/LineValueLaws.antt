@@ -24,8 +24,8 @@ use Rattle.snippet_strokes.specs.Cuts.{Stretch, cut_row, cuts_of, overlapped}
 use Rattle.snippet_strokes.specs.Drawing.{row_count}
 use Rattle.snippet_strokes.specs.LineRows.{AreLineRows, AreOwnRows, line_rows, own_rows}
 use Rattle.snippet_strokes.specs.Rows.{IsHighlighted, highlighted_row, highlights, role_in_source}
-use Rattle.snippet_strokes.specs.Strokes.{StrokesPainted, begun_rows, stroke_rows, strokes_of}
-use Rattle.snippet_strokes.proofs.HeldStrokes.{cuts_of-held, overlapped-held, row_count-held, strokes_of-held}
+use Rattle.snippet_strokes.specs.Strokes.{StrokesPainted, begun_rows, stroke_rows, line_strokes}
+use Rattle.snippet_strokes.proofs.HeldStrokes.{cuts_of-held, overlapped-held, row_count-held, line_strokes-held}
 
 -- ---- the rows of strokes
 
@@ -37,7 +37,7 @@ module _ (layout : Layout) (room : ℕ) (closes : Bool) (source : List Cell) whe
       map (cut_row layout.decor cuts) (take 2 whole) ++ drop 2 whole
 
   abbrev strokes_at : List PlacedEntry → List Write
-  strokes_at placed = strokes_of layout 0 (row_count placed + 1) placed (painting_order placed)
+  strokes_at placed = line_strokes layout 0 (row_count placed + 1) placed (painting_order placed)
 
   abbrev cuts_at : List PlacedEntry → List Stretch
   cuts_at placed = cuts_of layout room (painting_order placed) (overlapped placed)
@@ -48,9 +48,9 @@ module _ (layout : Layout) (room : ℕ) (closes : Bool) (source : List Cell) whe
 
   strokes_at-held : (placed : List PlacedEntry) → strokes_at (map held placed) ≡ strokes_at placed
   strokes_at-held placed =
-      ap (λ n. strokes_of layout 0 (n + 1) (map held placed) (painting_order (map held placed))) (row_count-held placed)
-      ∙ ap (strokes_of layout 0 (row_count placed + 1) (map held placed)) (painting_order-held placed)
-      ∙ strokes_of-held layout 0 (row_count placed + 1) placed (painting_order placed)
+      ap (λ n. line_strokes layout 0 (n + 1) (map held placed) (painting_order (map held placed))) (row_count-held placed)
+      ∙ ap (line_strokes layout 0 (row_count placed + 1) (map held placed)) (painting_order-held placed)
+      ∙ line_strokes-held layout 0 (row_count placed + 1) placed (painting_order placed)
 
   cuts_at-held : (placed : List PlacedEntry) → cuts_at (map held placed) ≡ cuts_at placed
   cuts_at-held placed =

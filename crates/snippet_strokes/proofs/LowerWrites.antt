@@ -6,7 +6,7 @@ use Rattle.std.proofs.lemmas.List.Concat.{flat_map-cons}
 use Rattle.snippet_grid.specs.Grid.{row_at}
 use Rattle.snippet_model.specs.AnnotationKind.{is_primary}
 use Rattle.snippet_style.specs.Cell.{Cell, SPACE, text_cells, written}
-use Rattle.snippet_style.specs.Glyphs.{glyph_of}
+use Rattle.snippet_style.specs.Glyphs.{strokes_of}
 use Rattle.snippet_style.specs.declared.role.ElementStyle.{ElementStyle}
 use Rattle.snippet_view.specs.declared.entries.LineAnnotationType.{LineAnnotationType}
 use Rattle.snippet_view.specs.declared.entries.LineAnnotationType.TheVariants.{Singleline, MultilineStart, MultilineEnd, MultilineLine}
@@ -15,7 +15,7 @@ use Rattle.snippet_marks.specs.declared.positions.PlacedEntry.{PlacedEntry}
 use Rattle.snippet_marks.specs.Painting.{first_glyph, mark_end, mark_of, marks_of, stroke_role}
 use Rattle.snippet_strokes.specs.Drawing.{foot_glyph}
 use Rattle.snippet_marks.specs.Positions.{has_label, has_stem, label_place}
-use Rattle.snippet_strokes.specs.Strokes.{bar_of, bottom_of, connector_by, connector_of, connectors_of, corner_by, corner_of, corners_of, is_hidden, label_of, label_write, labels_of, line_to, stem_of, stem_write, stems_of, strokes_of, top_of, column_of}
+use Rattle.snippet_strokes.specs.Strokes.{bar_of, bottom_of, connector_by, connector_of, connectors_of, corner_by, corner_of, corners_of, is_stem_covered, label_of, label_write, labels_of, line_to, stem_of, stem_write, stems_of, line_strokes, top_of, column_of}
 use Rattle.snippet_marks.specs.Writes.{Write, glyph_at, painted, stretch_of, written_by}
 
 -- a write so many rows farther down
@@ -92,7 +92,7 @@ module _ (layout : Layout) (n : ℕ) where
     where
       line : (e : PlacedEntry) (depth : ℕ) → line_to layout (n + row) e depth ≡ map (lowered n) (line_to layout row e depth)
       line e depth =
-          stretch-lowered n (n + row + e.position) (row + e.position) (layout.gutter + 3 + depth) (layout.code + e.entry.start.display) (glyph_of layout.decor (is_primary e.entry.kind) 95 95 0x2501 0x2500) (stroke_role e) (omega arith)
+          stretch-lowered n (n + row + e.position) (row + e.position) (layout.gutter + 3 + depth) (layout.code + e.entry.start.display) (strokes_of layout.decor (is_primary e.entry.kind)).connector (stroke_role e) (omega arith)
 
       by_part : (e : PlacedEntry) (part : LineAnnotationType) → connector_by layout (n + row) e part ≡ map (lowered n) (connector_by layout row e part)
       by_part e Singleline = refl
@@ -106,21 +106,21 @@ module _ (layout : Layout) (n : ℕ) where
     where
       bar : (e : PlacedEntry) (depth start end low high : ℕ) → low ≡ n + start → high ≡ n + end → bar_of layout e depth low high ≡ map (lowered n) (bar_of layout e depth start end)
       bar e depth start end low high is_low is_high =
-          ap (λ s. bar_of layout e depth s high) is_low ∙ ap (λ t. bar_of layout e depth (n + start) t) is_high ∙ column-lowered n start end (layout.gutter + 2 + depth) (glyph_of layout.decor (is_primary e.entry.kind) 124 124 0x2503 0x2502) (stroke_role e)
+          ap (λ s. bar_of layout e depth s high) is_low ∙ ap (λ t. bar_of layout e depth (n + start) t) is_high ∙ column-lowered n start end (layout.gutter + 2 + depth) (strokes_of layout.decor (is_primary e.entry.kind)).bar (stroke_role e)
 
       corner : (e : PlacedEntry) → n + row + 1 + e.position ≡ n + (row + 1 + e.position)
       corner e = omega arith
 
       top : (e : PlacedEntry) (depth : ℕ) → top_of layout (n + row) (n + count) e depth ≡ map (lowered n) (top_of layout row count e depth)
       top e depth =
-          let glyph : ℕ = glyph_of layout.decor (is_primary e.entry.kind) 32 32 0x250F 0x250C in
+          let glyph : ℕ = (strokes_of layout.decor (is_primary e.entry.kind)).bar_top in
           ap (λ r. glyph_at r (layout.gutter + 2 + depth) glyph (stroke_role e) ∷ bar_of layout e depth (r + 1) (n + count)) (corner e)
           ∙ ap (λ ws. lowered n (glyph_at (row + 1 + e.position) (layout.gutter + 2 + depth) glyph (stroke_role e)) ∷ ws)
           (bar e depth (row + 1 + e.position + 1) count (n + (row + 1 + e.position) + 1) (n + count) (omega arith) refl)
 
       bottom : (e : PlacedEntry) (depth : ℕ) → bottom_of layout (n + row) e depth ≡ map (lowered n) (bottom_of layout row e depth)
       bottom e depth =
-          let glyph : ℕ = glyph_of layout.decor (is_primary e.entry.kind) 124 124 0x2517 0x2514 in
+          let glyph : ℕ = (strokes_of layout.decor (is_primary e.entry.kind)).bar_bottom in
           let own : Write = glyph_at (row + 1 + e.position) (layout.gutter + 2 + depth) glyph (stroke_role e) in
           ap (λ r. bar_of layout e depth (n + row) r ++ glyph_at r (layout.gutter + 2 + depth) glyph (stroke_role e) ∷ []) (corner e)
           ∙ ap (λ ws. ws ++ lowered n own ∷ []) (bar e depth row (row + 1 + e.position) (n + row) (n + (row + 1 + e.position)) refl refl)
@@ -137,7 +137,7 @@ module _ (layout : Layout) (n : ℕ) where
       ap (λ ws. cond (has_stem e) ws []) cells ∙ either (has_stem e) (map (stem_write layout row e) (range_with_len 0 (e.position + 1)))
     where
       glyph : ℕ → ℕ
-      glyph below = cond (below == e.position) (foot_glyph layout.decor e) (glyph_of layout.decor (is_primary e.entry.kind) 124 124 0x2502 0x2502)
+      glyph below = cond (below == e.position) (foot_glyph layout.decor e) (strokes_of layout.decor (is_primary e.entry.kind)).stem
 
       one : (below : ℕ) → stem_write layout (n + row) e below ≡ lowered n (stem_write layout row e below)
       one below =
@@ -158,9 +158,9 @@ module _ (layout : Layout) (n : ℕ) where
   stems-lowered : (row : ℕ) (es : List PlacedEntry) → stems_of layout (n + row) es ≡ map (lowered n) (stems_of layout row es)
   stems-lowered row [] = refl
   stems-lowered row (e ∷ later) =
-      ap (λ ws. ws ++ stems_of layout (n + row) later) (either (is_hidden e later))
-      ∙ ap (λ ws. map (lowered n) (cond (is_hidden e later) [] (stem_of layout row e)) ++ ws) (stems-lowered row later)
-      ∙ sym (map-append (lowered n) (cond (is_hidden e later) [] (stem_of layout row e)) (stems_of layout row later))
+      ap (λ ws. ws ++ stems_of layout (n + row) later) (either (is_stem_covered e later))
+      ∙ ap (λ ws. map (lowered n) (cond (is_stem_covered e later) [] (stem_of layout row e)) ++ ws) (stems-lowered row later)
+      ∙ sym (map-append (lowered n) (cond (is_stem_covered e later) [] (stem_of layout row e)) (stems_of layout row later))
     where
       either : (hidden : Bool) → cond hidden [] (stem_of layout (n + row) e) ≡ map (lowered n) (cond hidden [] (stem_of layout row e))
       either true = refl
@@ -187,17 +187,17 @@ module _ (layout : Layout) (n : ℕ) where
       from e = layout.code + e.entry.start.display
 
       line : PlacedEntry → ℕ → List Write
-      line e r = stretch_of r (layout.code + e.entry.start.display + 1) (layout.code + mark_end e) (glyph_of layout.decor (is_primary e.entry.kind) 94 45 0x2501 0x2500) (stroke_role e)
+      line e r = stretch_of r (layout.code + e.entry.start.display + 1) (layout.code + mark_end e) (strokes_of layout.decor (is_primary e.entry.kind)).underline (stroke_role e)
 
       first : PlacedEntry → ℕ → Write
       first e r = glyph_at r (layout.code + e.entry.start.display) (first_glyph layout.decor e) (stroke_role e)
 
       either : (e : PlacedEntry) (some : Bool) → cond some (first e (n + row) ∷ line e (n + row)) [] ≡ map (lowered n) (cond some (first e row ∷ line e row) [])
-      either e true = ap (λ ws. lowered n (first e row) ∷ ws) (stretch-lowered n (n + row) row (layout.code + e.entry.start.display + 1) (layout.code + mark_end e) (glyph_of layout.decor (is_primary e.entry.kind) 94 45 0x2501 0x2500) (stroke_role e) refl)
+      either e true = ap (λ ws. lowered n (first e row) ∷ ws) (stretch-lowered n (n + row) row (layout.code + e.entry.start.display + 1) (layout.code + mark_end e) (strokes_of layout.decor (is_primary e.entry.kind)).underline (stroke_role e) refl)
       either e false = refl
 
   -- all strokes of a line
-  pub strokes-lowered : (count : ℕ) (placed order : List PlacedEntry) → strokes_of layout n (n + count) placed order ≡ map (lowered n) (strokes_of layout 0 count placed order)
+  pub strokes-lowered : (count : ℕ) (placed order : List PlacedEntry) → line_strokes layout n (n + count) placed order ≡ map (lowered n) (line_strokes layout 0 count placed order)
   strokes-lowered count placed order =
       let none : n + 0 ≡ n = omega arith in
       let one : List Write = connectors_of layout 1 placed in

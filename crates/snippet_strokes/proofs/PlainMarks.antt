@@ -2,7 +2,6 @@
 use Rattle.std.proofs.Common.{◌≡◌, ℕ, ◌+◌, ◌<◌, ◌≤◌, ◌==◌, ◌&&◌, ◌||◌, cond, Bool, true, false, refl, sym, ap, subst, arith, inl, inr}
 use Rattle.std.proofs.lemmas.Bool.Decides.{nat_tests}
 use Rattle.snippet_model.specs.declared.snippet.AnnotationKind.{AnnotationKind}
-use Rattle.snippet_model.specs.declared.snippet.AnnotationKind.TheVariants.{Primary, Context, Visible}
 use Rattle.snippet_view.specs.declared.entries.LineAnnotation.{LineAnnotation}
 use Rattle.snippet_view.specs.declared.entries.LineAnnotationType.{LineAnnotationType}
 use Rattle.snippet_view.specs.declared.entries.LineAnnotationType.TheVariants.{Singleline, MultilineStart, MultilineEnd, MultilineLine}
@@ -10,8 +9,7 @@ use Rattle.snippet_view.specs.Measures.{is_single_part}
 use Rattle.snippet_marks.specs.declared.positions.PlacedEntry.{PlacedEntry}
 use Rattle.snippet_marks.specs.Positions.{has_stem, takes_space}
 use Rattle.snippet_style.specs.declared.glyphs.DecorStyle.{DecorStyle}
-use Rattle.snippet_style.specs.declared.glyphs.DecorStyle.TheVariants.{Ascii, Unicode}
-use Rattle.snippet_style.specs.Glyphs.{glyph_of, underline_role}
+use Rattle.snippet_style.specs.Glyphs.{strokes_of, underline_role}
 use Rattle.snippet_style.specs.Cell.{unlinked_cell}
 use Rattle.snippet_grid.specs.Layout.{Layout}
 use Rattle.snippet_strokes.specs.EntryMarks.{EntryCovers, is_single, IsMarkCell}
@@ -22,36 +20,21 @@ use Rattle.snippet_marks.specs.Painting.{IsPaintedAt, mark_cell, mark_end}
 -- a mark cell of an entry that stands for a whole span is one of its kind
 stroke_is : (decor : DecorStyle) (kind : AnnotationKind) (start stem : Bool)
     → IsMarkCell decor kind (unlinked_cell (underline_role (is_primary kind))
-    (cond start (cond stem (glyph_of decor (is_primary kind) 94 45 0x252F 0x252C) (glyph_of decor (is_primary kind) 94 45 0x2501 0x2500))
-    (glyph_of decor (is_primary kind) 94 45 0x2501 0x2500)))
-stroke_is Ascii Primary true true = (refl, refl)
-stroke_is Ascii Context true true = (refl, refl)
-stroke_is Ascii Visible true true = (refl, refl)
-stroke_is Unicode Primary true true = (inr refl, refl)
-stroke_is Unicode Context true true = (inr refl, refl)
-stroke_is Unicode Visible true true = (inr refl, refl)
-stroke_is Ascii Primary true false = (refl, refl)
-stroke_is Ascii Context true false = (refl, refl)
-stroke_is Ascii Visible true false = (refl, refl)
-stroke_is Unicode Primary true false = (inl refl, refl)
-stroke_is Unicode Context true false = (inl refl, refl)
-stroke_is Unicode Visible true false = (inl refl, refl)
-stroke_is Ascii Primary false stem = (refl, refl)
-stroke_is Ascii Context false stem = (refl, refl)
-stroke_is Ascii Visible false stem = (refl, refl)
-stroke_is Unicode Primary false stem = (inl refl, refl)
-stroke_is Unicode Context false stem = (inl refl, refl)
-stroke_is Unicode Visible false stem = (inl refl, refl)
+    (cond start (cond stem (strokes_of decor (is_primary kind)).label_start (strokes_of decor (is_primary kind)).underline)
+    (strokes_of decor (is_primary kind)).underline))
+stroke_is decor kind true true = (inr refl, refl)
+stroke_is decor kind true false = (inl refl, refl)
+stroke_is decor kind false stem = (inl refl, refl)
 
 -- the cell of a mark is one that a mark of that kind may have
 pub IsMarkCell-mark_cell : (layout : Layout) (e : PlacedEntry) (c : ℕ) → takes_space e ≡ false → IsMarkCell layout.decor e.entry.kind (mark_cell layout e c)
 IsMarkCell-mark_cell layout e c flat =
     let primary = is_primary e.entry.kind in
-    let corner = cond (has_stem e) (glyph_of layout.decor primary 94 45 0x257F 0x2502) (glyph_of layout.decor primary 94 45 0x251B 0x2518) in
-    let own = cond (has_stem e) (glyph_of layout.decor primary 94 45 0x252F 0x252C) (glyph_of layout.decor primary 94 45 0x2501 0x2500) in
+    let corner = cond (has_stem e) (strokes_of layout.decor primary).end_down (strokes_of layout.decor primary).end_flat in
+    let own = cond (has_stem e) (strokes_of layout.decor primary).label_start (strokes_of layout.decor primary).underline in
     subst (λ b. IsMarkCell layout.decor e.entry.kind
     (unlinked_cell (underline_role primary)
-    (cond (c == layout.code + e.entry.start.display) (cond b corner own) (glyph_of layout.decor primary 94 45 0x2501 0x2500)))) (sym flat)
+    (cond (c == layout.code + e.entry.start.display) (cond b corner own) (strokes_of layout.decor primary).underline))) (sym flat)
     (stroke_is layout.decor e.entry.kind (c == layout.code + e.entry.start.display) (has_stem e))
 
 -- an entry that stands for a whole span takes no space, and one that covers a column is painted at its columns alone

@@ -1,8 +1,9 @@
 -- Rows of strokes before any stroke is drawn, read cell by cell.
-use Rattle.std.proofs.Common.{◌≡◌, ℕ, ◌+◌, ◌≤◌, Bool, true, false, List, [], ◌∷◌, ◌++◌, length, replicate, refl, ap, ◌∙◌, arith, All}
+use Rattle.std.proofs.Common.{◌≡◌, ℕ, ◌+◌, ◌≤◌, Bool, true, false, List, ◌++◌, length, replicate, refl, ap, ◌∙◌, arith, All}
 use Rattle.std.specs.List.{slice_index_or}
 use Rattle.std.proofs.lemmas.List.{length-replicate, length-append, get_or_past}
-use Rattle.std.proofs.lemmas.List.Elements.{All-append, All-replicate, All-cons, All-nil}
+use Rattle.std.proofs.lemmas.List.Elements.{All-append, All-replicate}
+use Rattle.snippet_model.proofs.RowLemmas.{each_fails}
 use Rattle.snippet_style.specs.declared.glyphs.DecorStyle.{DecorStyle}
 use Rattle.snippet_style.specs.declared.glyphs.DecorStyle.TheVariants.{Ascii, Unicode}
 use Rattle.snippet_style.specs.declared.role.ElementStyle.TheVariants.{LineNumber}
@@ -33,10 +34,8 @@ closing_short Ascii = omega arith
 closing_short Unicode = omega arith
 
 free_closing : (decor : DecorStyle) → All (λ c. is_listed c ≡ false) (closing_of decor)
-free_closing Ascii = All-cons (λ c. is_listed c ≡ false) 124 [] refl (All-nil (λ c. is_listed c ≡ false))
-free_closing Unicode =
-    let P : ℕ → Type 0 = λ c. is_listed c ≡ false in
-    All-cons P 0x2570 (0x2574 ∷ []) refl (All-cons P 0x2574 [] refl (All-nil P))
+free_closing Ascii = each_fails is_listed (closing_of Ascii) refl
+free_closing Unicode = each_fails is_listed (closing_of Unicode) refl
 
 -- a row of strokes before any stroke is drawn, read cell by cell
 pub bare_row_short : (decor : DecorStyle) (gutter : ℕ) (closes : Bool) → length (bare_row decor gutter closes) ≤ gutter + 3

@@ -4,7 +4,7 @@ use Rattle.std.proofs.lemmas.Bool.{cases_Bool, false_from_ne_true, eqb-true}
 use Rattle.std.proofs.lemmas.List.{get_or-map, get_or_past, length-map}
 use Rattle.std.proofs.lemmas.List.Elements.{All-append, All-cons, All-filter, All-map, All-nil}
 use Rattle.snippet_style.specs.Cell.{Cell, SPACE}
-use Rattle.snippet_style.specs.Glyphs.{glyph_of}
+use Rattle.snippet_style.specs.Glyphs.{strokes_of}
 use Rattle.snippet_grid.specs.Grid.{cell_at, row_at}
 use Rattle.snippet_model.specs.AnnotationKind.{is_primary}
 use Rattle.snippet_view.specs.declared.entries.LineAnnotation.{LineAnnotation}
@@ -25,7 +25,7 @@ use Rattle.snippet_strokes.specs.LineRows.{AreLineRows, AreOwnRows}
 use Rattle.snippet_strokes.specs.Reach.{Reaches}
 use Rattle.snippet_strokes.specs.Rows.{bare_elision_row}
 use Rattle.snippet_strokes.specs.Snippet.{gap_row}
-use Rattle.snippet_strokes.specs.Strokes.{StrokesPainted, begun_rows, column_of, connector_of, connectors_of, corner_by, corner_of, corners_of, labels_of, stems_of, strokes_of}
+use Rattle.snippet_strokes.specs.Strokes.{StrokesPainted, begun_rows, column_of, connector_of, connectors_of, corner_by, corner_of, corners_of, labels_of, stems_of, line_strokes}
 use Rattle.snippet_strokes.proofs.AmongLaws.{all_from_among}
 use Rattle.snippet_strokes.proofs.BarWrites.{All-column_of, All-connector_of, All-stretch_of}
 use Rattle.snippet_strokes.proofs.ElisionLemmas.{bare_elision_short}
@@ -63,14 +63,14 @@ module _ (layout : Layout) (depth : ℕ) (room : layout.gutter + 2 + depth < lay
     where
       line : (e : PlacedEntry) → All Leaves (connector_of layout 1 e)
       line e =
-          All-connector_of Leaves layout 1 e (λ deep. All-stretch_of Leaves (1 + e.position) (layout.gutter + 3 + deep) (layout.code + e.entry.start.display) (glyph_of layout.decor (is_primary e.entry.kind) 95 95 0x2501 0x2500) (stroke_role e) (λ there. omega (arith, there.row)))
+          All-connector_of Leaves layout 1 e (λ deep. All-stretch_of Leaves (1 + e.position) (layout.gutter + 3 + deep) (layout.code + e.entry.start.display) (strokes_of layout.decor (is_primary e.entry.kind)).connector (stroke_role e) (λ there. omega (arith, there.row)))
 
   -- an entry isn't the end of a span of this depth
   abbrev IsNoEnd : LineAnnotation → Type 0
   IsNoEnd e = e.annotation_type ≡ MultilineEnd depth → ⊥
 
   -- so no stroke of a line reaches it, if no entry is such an end: the bar of a start stands below the source row
-  untouched : (count : ℕ) (placed order : List PlacedEntry) (begun : List (List Cell)) → All (λ (e : PlacedEntry). IsNoEnd e.entry) placed → cell_at (painted (strokes_of layout 0 count placed order) begun) 0 cell ≡ cell_at begun 0 cell
+  untouched : (count : ℕ) (placed order : List PlacedEntry) (begun : List (List Cell)) → All (λ (e : PlacedEntry). IsNoEnd e.entry) placed → cell_at (painted (line_strokes layout 0 count placed order) begun) 0 cell ≡ cell_at begun 0 cell
   unfolding is_at
   untouched count placed order begun others =
       let one : List Write = connectors_of layout 1 placed in
@@ -82,14 +82,14 @@ module _ (layout : Layout) (depth : ℕ) (room : layout.gutter + 2 + depth < lay
       let barred : All Leaves (one ++ two) = All-append Leaves one two (lines_below placed) corners in
       let hung : All Leaves (one ++ two ++ three) = All-append Leaves (one ++ two) three barred (stems_right layout bar room count placed order begun 0) in
       let named : All Leaves (one ++ two ++ three ++ four) = All-append Leaves (one ++ two ++ three) four hung (labels_right layout bar room count placed order begun 0) in
-      painted-untouched (strokes_of layout 0 count placed order) begun 0 cell (All-append Leaves (one ++ two ++ three ++ four) five named (marks_right layout bar room count placed order begun 0))
+      painted-untouched (line_strokes layout 0 count placed order) begun 0 cell (All-append Leaves (one ++ two ++ three ++ four) five named (marks_right layout bar room count placed order begun 0))
     where
       by_part : (e : PlacedEntry) (part : LineAnnotationType) → (part ≡ MultilineEnd depth → ⊥) → All Leaves (corner_by layout 0 count e part)
       by_part e Singleline other = All-nil Leaves
       by_part e (MultilineStart d) other =
           let corner : ℕ = 0 + 1 + e.position in
-          let line : ℕ = glyph_of layout.decor (is_primary e.entry.kind) 124 124 0x2503 0x2502 in
-          let own : Write = glyph_at corner (layout.gutter + 2 + d) (glyph_of layout.decor (is_primary e.entry.kind) 32 32 0x250F 0x250C) (stroke_role e) in
+          let line : ℕ = (strokes_of layout.decor (is_primary e.entry.kind)).bar in
+          let own : Write = glyph_at corner (layout.gutter + 2 + d) (strokes_of layout.decor (is_primary e.entry.kind)).bar_top (stroke_role e) in
           let below : List Write = column_of (corner + 1) count (layout.gutter + 2 + d) line (stroke_role e) in
           All-cons Leaves own below (λ there. omega (arith, there.row)) (All-column_of Leaves (corner + 1) count (layout.gutter + 2 + d) line (stroke_role e) (λ n from to there. omega (arith, there.row, from)))
       by_part e (MultilineEnd d) other =

@@ -8,21 +8,19 @@ use Rattle.std.proofs.lemmas.List.FromFn.{get_or-map-range_with_len, length-map-
 use Rattle.snippet_grid.specs.Grid.{cell_at}
 use Rattle.snippet_model.specs.AnnotationKind.{is_primary}
 use Rattle.snippet_style.specs.Cell.{Cell, unlinked_cell}
-use Rattle.snippet_style.specs.Glyphs.{glyph_of, underline_role}
+use Rattle.snippet_style.specs.Glyphs.{strokes_of, underline_role}
 use Rattle.snippet_style.specs.declared.glyphs.DecorStyle.{DecorStyle}
-use Rattle.snippet_style.specs.declared.glyphs.DecorStyle.TheVariants.{Ascii, Unicode}
-use Rattle.snippet_view.specs.declared.entries.LineAnnotationType.{LineAnnotationType}
-use Rattle.snippet_view.specs.declared.entries.LineAnnotationType.TheVariants.{Singleline, MultilineStart, MultilineEnd, MultilineLine}
+use Rattle.snippet_strokes.proofs.StrokeGlyphs.{of_foot, stems_among}
 use Rattle.snippet_grid.specs.Layout.{Layout}
 use Rattle.snippet_marks.specs.declared.positions.PlacedEntry.{PlacedEntry}
 use Rattle.snippet_marks.specs.Painting.{first_glyph, mark_end, mark_of, marks_of, stroke_role}
 use Rattle.snippet_marks.specs.Positions.{has_label, has_stem, takes_space}
 use Rattle.snippet_marks.specs.Writes.{Write, glyph_at, painted, stretch_of, written_by}
 use Rattle.snippet_marks.proofs.WriteLemmas.{painted-append}
-use Rattle.snippet_strokes.specs.Drawing.{foot_glyph, foot_of}
+use Rattle.snippet_strokes.specs.Drawing.{foot_glyph}
 use Rattle.snippet_strokes.specs.Labels.{IsStemCell, stem_glyphs}
 use Rattle.snippet_strokes.specs.Reach.{Reaches, cell_of_write}
-use Rattle.snippet_strokes.specs.Strokes.{connectors_of, corners_of, is_hidden, label_of, labels_of, stem_of, stem_write, stems_of, strokes_of}
+use Rattle.snippet_strokes.specs.Strokes.{connectors_of, corners_of, is_stem_covered, label_of, labels_of, stem_of, stem_write, stems_of, line_strokes}
 use Rattle.snippet_strokes.proofs.BarWrites.{All-stretch_of}
 use Rattle.snippet_strokes.proofs.LabelWrites.{All-label_of}
 use Rattle.snippet_strokes.proofs.StemWrites.{All-stem_of, All-stems_of, stems_next, stems_skip}
@@ -40,25 +38,6 @@ stem_cell : (decor : DecorStyle) (primary : Bool) (ch : ℕ) → Among decor ch 
 stem_cell decor true ch among = (among, refl)
 stem_cell decor false ch among = (among, refl)
 
-stem_among : (decor : DecorStyle) (primary : Bool) → Among decor (glyph_of decor primary 124 124 0x2502 0x2502)
-stem_among Ascii true = refl
-stem_among Ascii false = refl
-stem_among Unicode true = refl
-stem_among Unicode false = refl
-
-foot_among : (part : LineAnnotationType) (decor : DecorStyle) (primary labelled : Bool) → Among decor (foot_of part decor primary labelled)
-foot_among Singleline decor primary labelled = stem_among decor primary
-foot_among (MultilineStart depth) Ascii true labelled = refl
-foot_among (MultilineStart depth) Ascii false labelled = refl
-foot_among (MultilineStart depth) Unicode true labelled = refl
-foot_among (MultilineStart depth) Unicode false labelled = refl
-foot_among (MultilineEnd depth) decor primary false = stem_among decor primary
-foot_among (MultilineEnd depth) Ascii true true = refl
-foot_among (MultilineEnd depth) Ascii false true = refl
-foot_among (MultilineEnd depth) Unicode true true = refl
-foot_among (MultilineEnd depth) Unicode false true = refl
-foot_among (MultilineLine depth) decor primary labelled = stem_among decor primary
-
 -- ---- which entry hides another
 
 -- the stem of the next entry covers that of an entry
@@ -67,7 +46,7 @@ record Hides (e next : PlacedEntry) : Type 0 where
   pub column : next.entry.start.display ≡ e.entry.start.display
   pub deep : e.position ≤ next.position
 
-hides : (e next : PlacedEntry) (later : List PlacedEntry) → is_hidden e (next ∷ later) ≡ true → Hides e next
+hides : (e next : PlacedEntry) (later : List PlacedEntry) → is_stem_covered e (next ∷ later) ≡ true → Hides e next
 hides e next later hidden =
     let outer = and_parts (has_stem next) (next.entry.start.display == e.entry.start.display && nat_le e.position next.position) hidden in
     let inner = and_parts (next.entry.start.display == e.entry.start.display) (nat_le e.position next.position) outer.1 in
@@ -100,9 +79,9 @@ module _ (layout : Layout) (r c : ℕ) where
   stem_leaves row e =
       let primary : Bool = is_primary e.entry.kind in
       let foot : ℕ = foot_glyph layout.decor e in
-      let line : ℕ = glyph_of layout.decor primary 124 124 0x2502 0x2502 in
+      let line : ℕ = (strokes_of layout.decor primary).stem in
       let S : ℕ → Type 0 = λ ch. P (unlinked_cell (stroke_role e) ch) in
-      let among : (b : Bool) → Among layout.decor (cond b foot line) = λ b. either b foot line (foot_among e.entry.annotation_type layout.decor primary (has_label e)) (stem_among layout.decor primary) in
+      let among : (b : Bool) → Among layout.decor (cond b foot line) = λ b. either b foot line (of_foot (Among layout.decor) e.entry.annotation_type layout.decor primary (has_label e) (stems_among layout.decor primary)) (stems_among layout.decor primary).stem in
       All-stem_of Q layout row e (λ b low there.
       let glyph : ℕ = cond (b == e.position) foot line in
       let whole : All S (glyph ∷ []) = All-cons S glyph [] (stem_cell layout.decor primary glyph (among (b == e.position))) (All-nil S) in
@@ -135,14 +114,14 @@ module _ (layout : Layout) (r c : ℕ) where
       → P (cell_at (painted (stems_of layout row es) rows) r c)
   stems_stand row [] k b d rows within stem low at_row at_cell = absurd (omega (arith, within))
   stems_stand row (e ∷ later) (suc k) b d rows within stem low at_row at_cell =
-      let own : List Write = cond (is_hidden e later) [] (stem_of layout row e) in
+      let own : List Write = cond (is_stem_covered e later) [] (stem_of layout row e) in
       subst (λ rs. P (cell_at rs r c)) (sym (painted-append own (stems_of layout row later) rows)) (stems_stand row later k b d (painted own rows) (omega (arith, within)) stem low at_row at_cell)
   stems_stand row (e ∷ []) zero b d rows within stem low at_row at_cell =
       let drawn : List (List Cell) = painted (stem_of layout row e) rows in
       subst (λ rs. P (cell_at rs r c)) (stems_next layout row e [] rows drawn refl refl) (stem_stands row b e rows stem low at_row at_cell)
   stems_stand row (e ∷ next ∷ later) zero b d rows within stem low at_row at_cell =
       let others : List PlacedEntry = next ∷ later in
-      elim (cases_Bool (is_hidden e others)) [
+      elim (cases_Bool (is_stem_covered e others)) [
         | inl hidden ↦
             let by : Hides e next = hides e next later hidden in
             subst (λ rs. P (cell_at rs r c)) (stems_skip layout row e others rows hidden) (stems_stand row (next ∷ later) zero b d rows (omega arith) by.stem (omega (arith, low, by.deep)) at_row (omega (arith, at_cell, by.column)))
@@ -160,7 +139,7 @@ module _ (layout : Layout) (r c : ℕ) where
       mark e =
           let from : ℕ = layout.code + e.entry.start.display in
           let to : ℕ = layout.code + mark_end e in
-          let glyph : ℕ = glyph_of layout.decor (is_primary e.entry.kind) 94 45 0x2501 0x2500 in
+          let glyph : ℕ = (strokes_of layout.decor (is_primary e.entry.kind)).underline in
           let first : Write = glyph_at row from (first_glyph layout.decor e) (stroke_role e) in
           let rest : List Write = stretch_of row (from + 1) to glyph (stroke_role e) in
           elim (nat_lt from to) as (λ b. All Q (cond b (first ∷ rest) [])) [
@@ -173,7 +152,7 @@ module _ (layout : Layout) (r c : ℕ) where
   stem_of_strokes : (row count : ℕ) (placed order : List PlacedEntry) (rows : List (List Cell)) (k b : ℕ) (d : PlacedEntry) → k < length placed
       → has_label (get_or placed k d) ≡ true → 0 < b → b ≤ (get_or placed k d).position → r ≡ row + 1 + b
       → c ≡ layout.code + (get_or placed k d).entry.start.display → BesideLabels layout (row + 1) r c placed
-      → P (cell_at (painted (strokes_of layout row count placed order) rows) r c)
+      → P (cell_at (painted (line_strokes layout row count placed order) rows) r c)
   stem_of_strokes row count placed order rows k b d within has some low at_row at_cell beside =
       let e : PlacedEntry = get_or placed k d in
       let bars : List Write = connectors_of layout (row + 1) placed ++ corners_of layout row count placed in
@@ -196,6 +175,6 @@ IsHung layout row placed rows e =
     has_label e ≡ true → (b : ℕ) → 0 < b → b ≤ e.position → BesideLabels layout row (row + b) (layout.code + e.entry.start.display) placed → IsStemCell layout.decor (cell_at rows (row + b) (layout.code + e.entry.start.display))
 
 -- all strokes of a line leave rows in which each label that hangs is hung so
-pub all_hung : (layout : Layout) (row count : ℕ) (placed order : List PlacedEntry) (rows : List (List Cell)) → All (IsHung layout (row + 1) placed (painted (strokes_of layout row count placed order) rows)) placed
+pub all_hung : (layout : Layout) (row count : ℕ) (placed order : List PlacedEntry) (rows : List (List Cell)) → All (IsHung layout (row + 1) placed (painted (line_strokes layout row count placed order) rows)) placed
 all_hung layout row count placed order rows k d within has b some low beside =
     stem_of_strokes layout (row + 1 + b) (layout.code + (get_or placed k d).entry.start.display) row count placed order rows k b d within has some low refl refl beside

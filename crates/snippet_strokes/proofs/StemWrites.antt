@@ -3,7 +3,7 @@ use Rattle.std.proofs.Common.{◌≡◌, ℕ, suc, ◌+◌, ◌<◌, ◌≤◌, 
 use Rattle.std.specs.List.{range_with_len}
 use Rattle.std.proofs.lemmas.List.Elements.{All-append, All-cons, All-head, All-map, All-nil, All-tail, All-weaker}
 use Rattle.std.proofs.lemmas.List.FromFn.{get_or-range_with_len, length-range_with_len}
-use Rattle.snippet_style.specs.Glyphs.{glyph_of}
+use Rattle.snippet_style.specs.Glyphs.{strokes_of}
 use Rattle.snippet_style.specs.Cell.{Cell}
 use Rattle.snippet_text.specs.Normalized.{is_listed}
 use Rattle.snippet_grid.specs.Layout.{Layout}
@@ -14,8 +14,9 @@ use Rattle.snippet_strokes.specs.Drawing.{DrawsFrom, HasRows, MarksStarts, Stand
 use Rattle.snippet_marks.specs.Positions.{has_label, has_stem}
 use Rattle.snippet_marks.specs.Writes.{Write, painted}
 use Rattle.snippet_strokes.specs.Reach.{Reaches, IsWithin, cell_of_write}
-use Rattle.snippet_strokes.specs.Strokes.{is_hidden, stem_write, stem_of, stems_of}
-use Rattle.snippet_strokes.proofs.TextLemmas.{free_foot, free_stem}
+use Rattle.snippet_strokes.specs.Strokes.{is_stem_covered, stem_write, stem_of, stems_of}
+use Rattle.snippet_marks.proofs.StrokeLemmas.{free_strokes}
+use Rattle.snippet_strokes.proofs.StrokeGlyphs.{of_foot}
 use Rattle.snippet_strokes.proofs.WriteLaws.{DrawsFrom-painted, painted-cell, painted-count}
 use Rattle.snippet_marks.proofs.WriteLemmas.{painted-append}
 
@@ -34,7 +35,7 @@ All-stem_of P layout row e holds =
 pub All-stems_of : (P : Write → Type 0) (layout : Layout) (row : ℕ) (es : List PlacedEntry) → ((k : ℕ) (d : PlacedEntry) → k < length es → All P (stem_of layout row (get_or es k d))) → All P (stems_of layout row es)
 All-stems_of P layout row [] each = All-nil P
 All-stems_of P layout row (e ∷ later) each =
-    All-append P (cond (is_hidden e later) [] (stem_of layout row e)) (stems_of layout row later) (elim (is_hidden e later) as (λ b. All P (cond b [] (stem_of layout row e))) [
+    All-append P (cond (is_stem_covered e later) [] (stem_of layout row e)) (stems_of layout row later) (elim (is_stem_covered e later) as (λ b. All P (cond b [] (stem_of layout row e))) [
       | true ↦ All-nil P
       | false ↦ each 0 e (omega arith)
     ]) (All-stems_of P layout row later (λ k d within. each (suc k) d (omega (arith, within))))
@@ -48,9 +49,9 @@ stem_within layout row count from e rows stand =
       below = omega arith;
       there = omega (arith, rows.mark, low);
       right = stand;
-      free = All-cons P (cond (b == e.position) (foot_glyph layout.decor e) (glyph_of layout.decor primary 124 124 0x2502 0x2502)) []
-          (either (b == e.position) (foot_glyph layout.decor e) (glyph_of layout.decor primary 124 124 0x2502 0x2502)
-          (free_foot e.entry.annotation_type layout.decor primary (has_label e)) (free_stem layout.decor primary)) (All-nil P);
+      free = All-cons P (cond (b == e.position) (foot_glyph layout.decor e) (strokes_of layout.decor primary).stem) []
+          (either (b == e.position) (foot_glyph layout.decor e) (strokes_of layout.decor primary).stem
+          (of_foot P e.entry.annotation_type layout.decor primary (has_label e) (free_strokes layout.decor primary).stems) (free_strokes layout.decor primary).stems.stem) (All-nil P);
     })
   where
     either : (b : Bool) (foot stem : ℕ) → is_listed foot ≡ false → is_listed stem ≡ false → is_listed (cond b foot stem) ≡ false
@@ -74,12 +75,12 @@ stem_count layout row e rows has =
     painted-count (stem_of layout row e) rows n refl (All-weaker (IsWithin row n 0) (λ (w : Write). w.row < n) (λ w is. is.there) (stem_of layout row e) (stem_within layout row n 0 e has (omega arith)))
 
 -- the stems from one entry on are its own, unless the next one's covers it, and those of the later ones
-pub stems_next : (layout : Layout) (row : ℕ) (e : PlacedEntry) (later : List PlacedEntry) (old new : List (List Cell)) → is_hidden e later ≡ false → new ≡ painted (stem_of layout row e) old → painted (stems_of layout row later) new ≡ painted (stems_of layout row (e ∷ later)) old
+pub stems_next : (layout : Layout) (row : ℕ) (e : PlacedEntry) (later : List PlacedEntry) (old new : List (List Cell)) → is_stem_covered e later ≡ false → new ≡ painted (stem_of layout row e) old → painted (stems_of layout row later) new ≡ painted (stems_of layout row (e ∷ later)) old
 stems_next layout row e later old new shown drawn_now =
     ap (painted (stems_of layout row later)) drawn_now ∙ sym (painted-append (stem_of layout row e) (stems_of layout row later) old) ∙ sym (ap (λ b. painted (cond b [] (stem_of layout row e) ++ stems_of layout row later) old) shown)
 
 -- an entry that is hidden by a later one adds no stem
-pub stems_skip : (layout : Layout) (row : ℕ) (e : PlacedEntry) (later : List PlacedEntry) (rows : List (List Cell)) → is_hidden e later ≡ true → painted (stems_of layout row later) rows ≡ painted (stems_of layout row (e ∷ later)) rows
+pub stems_skip : (layout : Layout) (row : ℕ) (e : PlacedEntry) (later : List PlacedEntry) (rows : List (List Cell)) → is_stem_covered e later ≡ true → painted (stems_of layout row later) rows ≡ painted (stems_of layout row (e ∷ later)) rows
 stems_skip layout row e later rows hidden =
     sym (ap (λ b. painted (cond b [] (stem_of layout row e) ++ stems_of layout row later) rows) hidden)
 
@@ -96,7 +97,7 @@ stems_none layout row [] none = refl
 stems_none layout row (e ∷ later) none =
     let N : PlacedEntry → Type 0 = λ x. has_stem x ≡ false in
     let own : stem_of layout row e ≡ [] = ap (λ b. cond b (map (stem_write layout row e) (range_with_len 0 (e.position + 1))) []) (All-head N e later none) in
-    ap (λ ws. cond (is_hidden e later) [] ws ++ stems_of layout row later) own ∙ ap (λ ws. ws ++ stems_of layout row later) (either (is_hidden e later)) ∙ stems_none layout row later (All-tail N e later none)
+    ap (λ ws. cond (is_stem_covered e later) [] ws ++ stems_of layout row later) own ∙ ap (λ ws. ws ++ stems_of layout row later) (either (is_stem_covered e later)) ∙ stems_none layout row later (All-tail N e later none)
   where
     either : (b : Bool) → ◌≡◌ {A = List Write} (cond b [] []) []
     either true = refl

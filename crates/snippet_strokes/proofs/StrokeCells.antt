@@ -5,9 +5,10 @@ use Rattle.std.proofs.lemmas.List.Elements.{All-append, All-cons, All-nil, All-r
 use Rattle.snippet_grid.specs.Grid.{cell_at}
 use Rattle.snippet_model.specs.AnnotationKind.{is_primary}
 use Rattle.snippet_style.specs.Cell.{Cell, unlinked_cell}
-use Rattle.snippet_style.specs.Glyphs.{glyph_of, underline_role}
+use Rattle.snippet_style.specs.Glyphs.{strokes_of, underline_role}
 use Rattle.snippet_style.specs.declared.glyphs.DecorStyle.{DecorStyle}
-use Rattle.snippet_style.specs.declared.glyphs.DecorStyle.TheVariants.{Ascii, Unicode}
+use Rattle.snippet_marks.proofs.StrokeLemmas.{of_first}
+use Rattle.snippet_strokes.proofs.StrokeGlyphs.{code_among, of_foot}
 use Rattle.snippet_view.specs.declared.entries.LineAnnotationType.{LineAnnotationType}
 use Rattle.snippet_view.specs.declared.entries.LineAnnotationType.TheVariants.{Singleline, MultilineStart, MultilineEnd, MultilineLine}
 use Rattle.snippet_grid.specs.Layout.{Layout}
@@ -15,11 +16,11 @@ use Rattle.snippet_marks.specs.declared.positions.PlacedEntry.{PlacedEntry}
 use Rattle.snippet_strokes.specs.EntryMarks.{HasBarCell, HasBarCellAt}
 use Rattle.snippet_strokes.specs.Labels.{IsStrokeCell, stroke_glyphs}
 use Rattle.snippet_marks.specs.Painting.{first_glyph, mark_end, mark_of, marks_of, stroke_role}
-use Rattle.snippet_strokes.specs.Drawing.{foot_glyph, foot_of}
-use Rattle.snippet_marks.specs.Positions.{has_label, has_stem, takes_space}
+use Rattle.snippet_strokes.specs.Drawing.{foot_glyph}
+use Rattle.snippet_marks.specs.Positions.{has_label}
 use Rattle.snippet_strokes.specs.Reach.{Reaches, cell_of_write}
 use Rattle.snippet_marks.specs.Writes.{Write, glyph_at, painted, stretch_of}
-use Rattle.snippet_strokes.specs.Strokes.{bar_of, connector_of, connectors_of, corner_by, corner_of, corners_of, label_of, label_write, labels_of, stems_of, strokes_of, stem_of}
+use Rattle.snippet_strokes.specs.Strokes.{bar_of, connector_of, connectors_of, corner_by, corner_of, corners_of, label_of, label_write, labels_of, stems_of, line_strokes, stem_of}
 use Rattle.snippet_strokes.proofs.BarWrites.{All-column_of, All-connector_of, All-stretch_of}
 use Rattle.snippet_strokes.proofs.LabelWrites.{All-label_of}
 use Rattle.snippet_strokes.proofs.StemWrites.{All-stem_of, All-stems_of}
@@ -35,58 +36,6 @@ Among decor ch = list_any (λ g. ch == g) (stroke_glyphs decor) ≡ true
 stroke_cell : (decor : DecorStyle) (primary : Bool) (ch : ℕ) → Among decor ch → IsStrokeCell decor (unlinked_cell (underline_role primary) ch)
 stroke_cell decor true ch among = inr (among, refl)
 stroke_cell decor false ch among = inr (among, refl)
-
-line_among : (decor : DecorStyle) (primary : Bool) → Among decor (glyph_of decor primary 95 95 0x2501 0x2500)
-line_among Ascii true = refl
-line_among Ascii false = refl
-line_among Unicode true = refl
-line_among Unicode false = refl
-
-stem_among : (decor : DecorStyle) (primary : Bool) → Among decor (glyph_of decor primary 124 124 0x2502 0x2502)
-stem_among Ascii true = refl
-stem_among Ascii false = refl
-stem_among Unicode true = refl
-stem_among Unicode false = refl
-
-mark_among : (decor : DecorStyle) (primary : Bool) → Among decor (glyph_of decor primary 94 45 0x2501 0x2500)
-mark_among Ascii true = refl
-mark_among Ascii false = refl
-mark_among Unicode true = refl
-mark_among Unicode false = refl
-
-foot_among : (part : LineAnnotationType) (decor : DecorStyle) (primary labelled : Bool) → Among decor (foot_of part decor primary labelled)
-foot_among Singleline decor primary labelled = stem_among decor primary
-foot_among (MultilineStart depth) Ascii true labelled = refl
-foot_among (MultilineStart depth) Ascii false labelled = refl
-foot_among (MultilineStart depth) Unicode true labelled = refl
-foot_among (MultilineStart depth) Unicode false labelled = refl
-foot_among (MultilineEnd depth) decor primary false = stem_among decor primary
-foot_among (MultilineEnd depth) Ascii true true = refl
-foot_among (MultilineEnd depth) Ascii false true = refl
-foot_among (MultilineEnd depth) Unicode true true = refl
-foot_among (MultilineEnd depth) Unicode false true = refl
-foot_among (MultilineLine depth) decor primary labelled = stem_among decor primary
-
-first_among : (decor : DecorStyle) (e : PlacedEntry) → Among decor (first_glyph decor e)
-first_among decor e = by_parts decor (is_primary e.entry.kind) (takes_space e) (has_stem e)
-  where
-    by_parts : (decor : DecorStyle) (primary space stem : Bool) → Among decor (cond space (cond stem (glyph_of decor primary 94 45 0x257F 0x2502) (glyph_of decor primary 94 45 0x251B 0x2518)) (cond stem (glyph_of decor primary 94 45 0x252F 0x252C) (glyph_of decor primary 94 45 0x2501 0x2500)))
-    by_parts Ascii true true true = refl
-    by_parts Ascii true true false = refl
-    by_parts Ascii true false true = refl
-    by_parts Ascii true false false = refl
-    by_parts Ascii false true true = refl
-    by_parts Ascii false true false = refl
-    by_parts Ascii false false true = refl
-    by_parts Ascii false false false = refl
-    by_parts Unicode true true true = refl
-    by_parts Unicode true true false = refl
-    by_parts Unicode true false true = refl
-    by_parts Unicode true false false = refl
-    by_parts Unicode false true true = refl
-    by_parts Unicode false true false = refl
-    by_parts Unicode false false true = refl
-    by_parts Unicode false false false = refl
 
 -- ---- writes
 
@@ -121,8 +70,8 @@ module _ (layout : Layout) (r c : ℕ) (right : layout.code ≤ c) where
   connectors row es =
       All-flat_map Q (connector_of layout row) es (λ k d within.
       let e : PlacedEntry = get_or es k d in
-      let glyph : ℕ = glyph_of layout.decor (is_primary e.entry.kind) 95 95 0x2501 0x2500 in
-      All-connector_of Q layout row e (λ depth. of_stretch (row + e.position) (layout.gutter + 3 + depth) (layout.code + e.entry.start.display) glyph e (line_among layout.decor (is_primary e.entry.kind))))
+      let glyph : ℕ = (strokes_of layout.decor (is_primary e.entry.kind)).connector in
+      All-connector_of Q layout row e (λ depth. of_stretch (row + e.position) (layout.gutter + 3 + depth) (layout.code + e.entry.start.display) glyph e (code_among layout.decor (is_primary e.entry.kind)).connector))
 
   -- bars and corners stand left of the code
   corners : (row count : ℕ) (es : List PlacedEntry) → All (λ e. HasBarCell layout e.entry) es → All Q (corners_of layout row count es)
@@ -134,17 +83,17 @@ module _ (layout : Layout) (r c : ℕ) (right : layout.code ≤ c) where
 
       bar : (e : PlacedEntry) (depth start end : ℕ) → layout.gutter + 3 + depth < layout.code → All Q (bar_of layout e depth start end)
       bar e depth start end room =
-          let glyph : ℕ = glyph_of layout.decor (is_primary e.entry.kind) 124 124 0x2503 0x2502 in
+          let glyph : ℕ = (strokes_of layout.decor (is_primary e.entry.kind)).bar in
           All-column_of Q start end (layout.gutter + 2 + depth) glyph (stroke_role e) (λ n from to. left e depth n glyph room)
 
       by_part : (e : PlacedEntry) (part : LineAnnotationType) → HasBarCellAt layout part → All Q (corner_by layout row count e part)
       by_part e Singleline bar_cell = All-nil Q
       by_part e (MultilineStart depth) bar_cell =
-          let glyph : ℕ = glyph_of layout.decor (is_primary e.entry.kind) 32 32 0x250F 0x250C in
+          let glyph : ℕ = (strokes_of layout.decor (is_primary e.entry.kind)).bar_top in
           let corner : ℕ = row + 1 + e.position in
           All-cons Q (glyph_at corner (layout.gutter + 2 + depth) glyph (stroke_role e)) (bar_of layout e depth (corner + 1) count) (left e depth corner glyph bar_cell.1) (bar e depth (corner + 1) count bar_cell.1)
       by_part e (MultilineEnd depth) bar_cell =
-          let glyph : ℕ = glyph_of layout.decor (is_primary e.entry.kind) 124 124 0x2517 0x2514 in
+          let glyph : ℕ = (strokes_of layout.decor (is_primary e.entry.kind)).bar_bottom in
           let corner : ℕ = row + 1 + e.position in
           let own : Write = glyph_at corner (layout.gutter + 2 + depth) glyph (stroke_role e) in
           All-append Q (bar_of layout e depth row corner) (own ∷ []) (bar e depth row corner bar_cell.1) (All-cons Q own [] (left e depth corner glyph bar_cell.1) (All-nil Q))
@@ -161,9 +110,9 @@ module _ (layout : Layout) (r c : ℕ) (right : layout.code ≤ c) where
       stem e =
           let primary : Bool = is_primary e.entry.kind in
           let foot : ℕ = foot_glyph layout.decor e in
-          let line : ℕ = glyph_of layout.decor primary 124 124 0x2502 0x2502 in
-          let is_foot : Among layout.decor foot = foot_among e.entry.annotation_type layout.decor primary (has_label e) in
-          let among : (b : Bool) → Among layout.decor (cond b foot line) = λ b. either b foot line is_foot (stem_among layout.decor primary) in
+          let line : ℕ = (strokes_of layout.decor primary).stem in
+          let is_foot : Among layout.decor foot = of_foot (Among layout.decor) e.entry.annotation_type layout.decor primary (has_label e) (code_among layout.decor primary).stems in
+          let among : (b : Bool) → Among layout.decor (cond b foot line) = λ b. either b foot line is_foot (code_among layout.decor primary).stems.stem in
           All-stem_of Q layout row e (λ b low. of_glyph (row + b) (layout.code + e.entry.start.display) (cond (b == e.position) foot line) e (among (b == e.position)))
 
   labels : (row : ℕ) (es : List PlacedEntry) → BesideLabels layout row r c es → All Q (labels_of layout row es)
@@ -178,16 +127,16 @@ module _ (layout : Layout) (r c : ℕ) (right : layout.code ≤ c) where
       mark e =
           let from : ℕ = layout.code + e.entry.start.display in
           let to : ℕ = layout.code + mark_end e in
-          let glyph : ℕ = glyph_of layout.decor (is_primary e.entry.kind) 94 45 0x2501 0x2500 in
+          let glyph : ℕ = (strokes_of layout.decor (is_primary e.entry.kind)).underline in
           let first : Write = glyph_at row from (first_glyph layout.decor e) (stroke_role e) in
           let rest : List Write = stretch_of row (from + 1) to glyph (stroke_role e) in
           elim (nat_lt from to) as (λ b. All Q (cond b (first ∷ rest) [])) [
-            | true ↦ All-cons Q first rest (of_glyph row from (first_glyph layout.decor e) e (first_among layout.decor e)) (of_stretch row (from + 1) to glyph e (mark_among layout.decor (is_primary e.entry.kind)))
+            | true ↦ All-cons Q first rest (of_glyph row from (first_glyph layout.decor e) e (of_first (Among layout.decor) layout.decor e (code_among layout.decor (is_primary e.entry.kind)))) (of_stretch row (from + 1) to glyph e (code_among layout.decor (is_primary e.entry.kind)).underline)
             | false ↦ All-nil Q
           ]
 
   -- so all strokes of a line leave in a cell that no label reaches a space or a stroke, if nothing else stood there before
-  pub cell_of_strokes : (row count : ℕ) (placed order : List PlacedEntry) (rows : List (List Cell)) → All (λ e. HasBarCell layout e.entry) placed → P (cell_at rows r c) → BesideLabels layout (row + 1) r c placed → P (cell_at (painted (strokes_of layout row count placed order) rows) r c)
+  pub cell_of_strokes : (row count : ℕ) (placed order : List PlacedEntry) (rows : List (List Cell)) → All (λ e. HasBarCell layout e.entry) placed → P (cell_at rows r c) → BesideLabels layout (row + 1) r c placed → P (cell_at (painted (line_strokes layout row count placed order) rows) r c)
   cell_of_strokes row count placed order rows bar_cells before beside =
       let one : List Write = connectors_of layout (row + 1) placed in
       let two : List Write = corners_of layout row count placed in
@@ -197,4 +146,4 @@ module _ (layout : Layout) (r c : ℕ) (right : layout.code ≤ c) where
       let bars : All Q (one ++ two) = All-append Q one two (connectors (row + 1) placed) (corners row count placed bar_cells) in
       let hung : All Q (one ++ two ++ three) = All-append Q (one ++ two) three bars (stems (row + 1) placed) in
       let named : All Q (one ++ two ++ three ++ four) = All-append Q (one ++ two ++ three) four hung (labels (row + 1) placed beside) in
-      painted-cell P (strokes_of layout row count placed order) rows r c before (All-append Q (one ++ two ++ three ++ four) five named (marks (row + 1) order))
+      painted-cell P (line_strokes layout row count placed order) rows r c before (All-append Q (one ++ two ++ three ++ four) five named (marks (row + 1) order))

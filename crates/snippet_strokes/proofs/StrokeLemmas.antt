@@ -31,7 +31,7 @@ use Rattle.snippet_strokes.specs.Rows.{CutsRows, IsBeside, IsCut, HasNoBars, IsS
 use Rattle.snippet_style.specs.Separators.{separator_row}
 use Rattle.snippet_strokes.proofs.DrawLemmas.{DrawsFrom-more, bar_space}
 use Rattle.snippet_strokes.specs.Labels.{IsStrokeCell}
-use Rattle.snippet_strokes.specs.Strokes.{connectors_of, corners_of, labels_of, stems_of, strokes_of}
+use Rattle.snippet_strokes.specs.Strokes.{connectors_of, corners_of, labels_of, stems_of, line_strokes}
 use Rattle.snippet_strokes.proofs.LabelPlaces.{HasStrokesBeside, LabelsStand-placed}
 use Rattle.snippet_strokes.proofs.StrokeCells.{cell_of_strokes}
 use Rattle.snippet_strokes.proofs.StemCells.{IsHung, all_hung}
@@ -145,7 +145,7 @@ module _ (layout : Layout) (room : ℕ) (closes : Bool) (es : List LineAnnotatio
       labels_kept layout row es placed labelled new is places marked (subst (λ rows. All (StandsWhole layout row rows) placed) (sym labels_are) (labels_stand layout row es placed stemmed is places))
 
   -- all strokes, as one list
-  new_is : new ≡ painted (strokes_of layout (length above_rows) (length begun) placed (painting_order placed)) begun
+  new_is : new ≡ painted (line_strokes layout (length above_rows) (length begun) placed (painting_order placed)) begun
   new_is =
       strokes_painted layout (length above_rows) row (length joined) (length begun) placed (painting_order placed) begun begun joined barred stemmed labelled new refl lines.count refl lines_are bars_are stems_are labels_are marks_are
 

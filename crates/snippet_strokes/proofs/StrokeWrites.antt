@@ -8,13 +8,13 @@ use Rattle.snippet_style.specs.Cell.{Cell, text_cells}
 use Rattle.snippet_grid.specs.Grid.{cells_written}
 use Rattle.snippet_grid.specs.Layout.{Layout}
 use Rattle.snippet_marks.specs.declared.positions.PlacedEntry.{PlacedEntry}
-use Rattle.snippet_style.specs.Glyphs.{glyph_of, underline_role}
+use Rattle.snippet_style.specs.Glyphs.{strokes_of, underline_role}
 use Rattle.snippet_model.specs.AnnotationKind.{is_primary}
 use Rattle.snippet_marks.specs.Entries.{label_role, label_text}
 use Rattle.snippet_strokes.specs.Drawing.{foot_glyph}
 use Rattle.snippet_marks.specs.Positions.{has_label, label_place}
 use Rattle.snippet_marks.specs.Writes.{Write, glyph_at, painted, written_by}
-use Rattle.snippet_strokes.specs.Strokes.{column_of, connectors_of, corners_of, label_write, label_of, labels_of, stem_write, stems_of, strokes_of}
+use Rattle.snippet_strokes.specs.Strokes.{column_of, connectors_of, corners_of, label_write, label_of, labels_of, stem_write, stems_of, line_strokes}
 use Rattle.snippet_marks.specs.Painting.{marks_of}
 use Rattle.snippet_marks.proofs.WriteLemmas.{painted-append}
 
@@ -36,16 +36,16 @@ label_painted layout row e place role text old new is_place is_role is_text writ
 -- one cell more of a stem
 pub stem_drawn : (layout : Layout) (row : ℕ) (e : PlacedEntry) (n foot stem glyph : ℕ) (role : ElementStyle) (old mid new : List (List Cell))
     → glyph ≡ cond (n == e.position) foot stem → foot ≡ foot_glyph layout.decor e
-    → stem ≡ glyph_of layout.decor (is_primary e.entry.kind) 124 124 0x2502 0x2502 → role ≡ underline_role (is_primary e.entry.kind)
+    → stem ≡ (strokes_of layout.decor (is_primary e.entry.kind)).stem → role ≡ underline_role (is_primary e.entry.kind)
     → new ≡ cells_written mid (row + n) (layout.code + e.entry.start.display) (text_cells role (glyph ∷ []))
     → mid ≡ painted (map (stem_write layout row e) (range_with_len 0 n)) old
     → new ≡ painted (map (stem_write layout row e) (range_with_len 0 (n + 1))) old
 stem_drawn layout row e n foot stem glyph role old mid new is_glyph is_foot is_stem is_role writes so_far =
     let cell = layout.code + e.entry.start.display in
-    let same : glyph ≡ cond (n == e.position) (foot_glyph layout.decor e) (glyph_of layout.decor (is_primary e.entry.kind) 124 124 0x2502 0x2502) = is_glyph ∙ ap (λ f. cond (n == e.position) f stem) is_foot ∙ ap (λ s. cond (n == e.position) (foot_glyph layout.decor e) s) is_stem in
+    let same : glyph ≡ cond (n == e.position) (foot_glyph layout.decor e) (strokes_of layout.decor (is_primary e.entry.kind)).stem = is_glyph ∙ ap (λ f. cond (n == e.position) f stem) is_foot ∙ ap (λ s. cond (n == e.position) (foot_glyph layout.decor e) s) is_stem in
     writes ∙ ap (λ g. cells_written mid (row + n) cell (text_cells role (g ∷ []))) same
     ∙ ap (λ r. cells_written mid (row + n) cell
-    (text_cells r (cond (n == e.position) (foot_glyph layout.decor e) (glyph_of layout.decor (is_primary e.entry.kind) 124 124 0x2502 0x2502)
+    (text_cells r (cond (n == e.position) (foot_glyph layout.decor e) (strokes_of layout.decor (is_primary e.entry.kind)).stem
     ∷ []))) is_role ∙ ap (λ rows. written_by rows (stem_write layout row e n)) so_far
     ∙ sym (painted-append (map (stem_write layout row e) (range_with_len 0 n)) (stem_write layout row e n ∷ []) old)
     ∙ sym (ap (λ ws. painted ws old) (map-range_with_len_more (stem_write layout row e) 0 n n (omega arith)))
@@ -71,7 +71,7 @@ pub strokes_painted : (layout : Layout) (row below count all : ℕ) (placed orde
     (rows begun joined barred stemmed labelled new : List (List Cell)) → below ≡ row + 1 → count ≡ all → begun ≡ rows
     → joined ≡ painted (connectors_of layout below placed) begun → barred ≡ painted (corners_of layout row count placed) joined
     → stemmed ≡ painted (stems_of layout below placed) barred → labelled ≡ painted (labels_of layout below placed) stemmed
-    → new ≡ painted (marks_of layout below order) labelled → new ≡ painted (strokes_of layout row all placed order) rows
+    → new ≡ painted (marks_of layout below order) labelled → new ≡ painted (line_strokes layout row all placed order) rows
 strokes_painted layout row below count all placed order rows begun joined barred stemmed labelled new is_below is_all is_begun lines bars stems labels marks =
     let one : List Write = connectors_of layout (row + 1) placed in
     let two : List Write = corners_of layout row all placed in

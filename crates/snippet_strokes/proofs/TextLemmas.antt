@@ -1,42 +1,15 @@
 -- The characters of labels, stems and their feet: they are few, and none is listed.
-use Rattle.std.proofs.Common.{◌≡◌, ◌==◌, Bool, true, false, not, refl, ap, ◌∙◌, ℕ, ◌<◌, ◌^◌, List, [], length, map, get_or, arith, All, IfSome, Option, Some, None, Bor, IsUtf8}
+use Rattle.std.proofs.Common.{◌≡◌, ◌==◌, true, false, not, ap, ◌∙◌, ℕ, ◌<◌, ◌^◌, List, [], length, map, get_or, arith, All, IfSome, Option, Some, None, Bor, IsUtf8}
 use Rattle.snippet_view.specs.declared.entries.LineAnnotation.{LineAnnotation}
-use Rattle.snippet_view.specs.declared.entries.LineAnnotationType.{LineAnnotationType}
-use Rattle.snippet_view.specs.declared.entries.LineAnnotationType.TheVariants.{Singleline, MultilineStart, MultilineEnd, MultilineLine}
-use Rattle.snippet_strokes.specs.Drawing.{foot_of}
 use Rattle.snippet_text.proofs.NormLemmas.{list_any-norm}
 use Rattle.snippet_marks.specs.Entries.{label_chars, label_text, shifted}
 use Rattle.std.specs.Str.{chars}
 use Rattle.std.proofs.lemmas.Bool.Decides.{nat_tests}
 use Rattle.std.proofs.lemmas.List.{nil_from_length}
 use Rattle.std.proofs.lemmas.List.Elements.{All-nil, All-map}
-use Rattle.snippet_style.specs.Glyphs.{glyph_of}
-use Rattle.snippet_style.specs.declared.glyphs.DecorStyle.{DecorStyle}
-use Rattle.snippet_style.specs.declared.glyphs.DecorStyle.TheVariants.{Ascii, Unicode}
 use Rattle.snippet_text.specs.Normalized.{is_listed, norm}
 use Rattle.snippet_model.proofs.RowLemmas.{each_fails}
 use Rattle.snippet_marks.proofs.CharLemmas.{is_empty-chars, norm_short}
-
--- a stem is no listed character
-pub free_stem : (decor : DecorStyle) (primary : Bool) → is_listed (glyph_of decor primary 124 124 0x2502 0x2502) ≡ false
-free_stem Ascii true = refl
-free_stem Ascii false = refl
-free_stem Unicode true = refl
-free_stem Unicode false = refl
-
--- nor is what stands at its foot
-pub free_foot : (part : LineAnnotationType) (decor : DecorStyle) (primary labelled : Bool) → is_listed (foot_of part decor primary labelled) ≡ false
-free_foot Singleline decor primary labelled = free_stem decor primary
-free_foot (MultilineStart depth) Ascii true labelled = refl
-free_foot (MultilineStart depth) Ascii false labelled = refl
-free_foot (MultilineStart depth) Unicode true labelled = refl
-free_foot (MultilineStart depth) Unicode false labelled = refl
-free_foot (MultilineEnd depth) Ascii true true = refl
-free_foot (MultilineEnd depth) Ascii false true = refl
-free_foot (MultilineEnd depth) Unicode true true = refl
-free_foot (MultilineEnd depth) Unicode false true = refl
-free_foot (MultilineEnd depth) decor primary false = free_stem decor primary
-free_foot (MultilineLine depth) decor primary labelled = free_stem decor primary
 
 -- a label's characters aren't listed
 pub free_label_text : (e : LineAnnotation) → All (λ c. is_listed c ≡ false) (label_text e)

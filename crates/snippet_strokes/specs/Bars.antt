@@ -6,7 +6,7 @@ use Rattle.snippet_view.specs.declared.entries.LineAnnotation.{LineAnnotation}
 use Rattle.snippet_view.specs.declared.entries.LineAnnotationType.{LineAnnotationType}
 use Rattle.snippet_view.specs.declared.entries.LineAnnotationType.TheVariants.{Singleline, MultilineStart, MultilineEnd, MultilineLine}
 use Rattle.snippet_view.specs.Measures.{is_bar}
-use Rattle.snippet_style.specs.Glyphs.{glyph_of, underline_role}
+use Rattle.snippet_style.specs.Glyphs.{strokes_of, underline_role}
 use Rattle.snippet_grid.specs.Grid.{row_at}
 use Rattle.snippet_style.specs.Cell.{Cell, SPACE, unlinked_cell, written}
 use Rattle.snippet_style.specs.declared.glyphs.DecorStyle.{DecorStyle}
@@ -70,9 +70,9 @@ pub record StandsBeside (first : OpenBar) (cells : ℕ) (bar : OpenBar) : Type 0
 
 -- the glyph of a part of a bar: its top beside a whole line, a part of it beside a line, or beside lines that aren't shown
 abbrev pub bar_glyph : BarStroke → DecorStyle → Bool → ℕ
-bar_glyph Top decor primary = glyph_of decor primary 47 47 0x250F 0x250C
-bar_glyph Solid decor primary = glyph_of decor primary 124 124 0x2503 0x2502
-bar_glyph Dotted decor primary = glyph_of decor primary 124 124 0x2507 0x2506
+bar_glyph Top decor primary = (strokes_of decor primary).whole_line
+bar_glyph Solid decor primary = (strokes_of decor primary).bar
+bar_glyph Dotted decor primary = (strokes_of decor primary).elided_bar
 
 -- the cell of a part of a bar: its glyph, in the role of its strokes
 abbrev pub bar_part : Layout → BarStroke → OpenBar → Cell

@@ -4,7 +4,7 @@ use Rattle.snippet_view.specs.declared.entries.LineAnnotation.{LineAnnotation}
 use Rattle.snippet_view.specs.declared.entries.LineAnnotationType.{LineAnnotationType}
 use Rattle.snippet_view.specs.declared.entries.LineAnnotationType.TheVariants.{Singleline, MultilineStart, MultilineEnd, MultilineLine}
 use Rattle.snippet_style.specs.declared.glyphs.DecorStyle.{DecorStyle}
-use Rattle.snippet_style.specs.Glyphs.{glyph_of}
+use Rattle.snippet_style.specs.Glyphs.{strokes_of}
 use Rattle.snippet_grid.specs.Grid.{cell_at, row_at}
 use Rattle.snippet_style.specs.Cell.{Cell}
 use Rattle.snippet_grid.specs.Layout.{Layout}
@@ -52,11 +52,11 @@ pub record HasRows (row count : ℕ) (e : PlacedEntry) : Type 0 where
 -- the glyph at the foot of the stem of an entry that stands for this part of a span: of a start the corner at which the line
 -- to its bar begins, of an end with a label the branch there, else the stem's own
 abbrev pub foot_of : LineAnnotationType → DecorStyle → Bool → Bool → ℕ
-foot_of Singleline decor primary labelled = glyph_of decor primary 124 124 0x2502 0x2502
-foot_of (MultilineStart depth) decor primary labelled = glyph_of decor primary 124 124 0x2519 0x2518
+foot_of Singleline decor primary labelled = (strokes_of decor primary).stem
+foot_of (MultilineStart depth) decor primary labelled = (strokes_of decor primary).corner
 foot_of (MultilineEnd depth) decor primary labelled =
-    if labelled then glyph_of decor primary 124 124 0x2525 0x2524 else glyph_of decor primary 124 124 0x2502 0x2502
-foot_of (MultilineLine depth) decor primary labelled = glyph_of decor primary 124 124 0x2502 0x2502
+    if labelled then (strokes_of decor primary).corner_with_label else (strokes_of decor primary).stem
+foot_of (MultilineLine depth) decor primary labelled = (strokes_of decor primary).stem
 
 -- the glyph at the foot of an entry's stem
 abbrev pub foot_glyph : DecorStyle → PlacedEntry → ℕ

@@ -1,6 +1,6 @@
 -- The bar of a span of several lines: its cells, and where it stands in the rows of the lines on which the span begins and ends.
 use Rattle.std.specs.Prelude.{◌≡◌, ◌⊎◌, ℕ, ◌+◌, ◌<◌, Bool, List, length}
-use Rattle.snippet_style.specs.Glyphs.{glyph_of, underline_role}
+use Rattle.snippet_style.specs.Glyphs.{strokes_of, underline_role}
 use Rattle.snippet_style.specs.Cell.{Cell, SPACE, unlinked_cell}
 use Rattle.snippet_style.specs.declared.glyphs.DecorStyle.{DecorStyle}
 use Rattle.snippet_grid.specs.Grid.{cell_at}
@@ -22,16 +22,16 @@ bar_top layout bar = bar_part layout Top bar
 
 -- the corner at which a bar begins, left of the line that leads to the span's first mark: in ASCII a space
 abbrev pub start_corner : Layout → Bar → Cell
-start_corner layout bar = unlinked_cell (underline_role bar.primary) (glyph_of layout.decor bar.primary 32 32 0x250F 0x250C)
+start_corner layout bar = unlinked_cell (underline_role bar.primary) (strokes_of layout.decor bar.primary).bar_top
 
 -- the corner at which it ends, left of the line that leads to the span's last mark: in ASCII a part of the bar
 abbrev pub end_corner : Layout → Bar → Cell
-end_corner layout bar = unlinked_cell (underline_role bar.primary) (glyph_of layout.decor bar.primary 124 124 0x2517 0x2514)
+end_corner layout bar = unlinked_cell (underline_role bar.primary) (strokes_of layout.decor bar.primary).bar_bottom
 
 -- no bar stands in the cell: it is a space, or a part of a line that leads from another bar to a mark
 abbrev pub IsNoBar : DecorStyle → Cell → Type 0
 IsNoBar decor cell =
-    (cell ≡ SPACE) ⊎ ((primary : Bool) × (cell ≡ unlinked_cell (underline_role primary) (glyph_of decor primary 95 95 0x2501 0x2500)))
+    (cell ≡ SPACE) ⊎ ((primary : Bool) × (cell ≡ unlinked_cell (underline_role primary) (strokes_of decor primary).connector))
 
 -- in the rows of a line the bar begins: in one below the source row stands its corner, and in each row below that the bar; in the
 -- source row a space stands in its cell

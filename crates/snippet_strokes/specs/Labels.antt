@@ -1,9 +1,9 @@
 -- What is promised of the labels of a line: none is lost.
-use Rattle.std.specs.Prelude.{ℕ, Bool, true, ◌+◌, ◌<◌, ◌≤◌, ◌≡◌, ◌⊎◌, ◌==◌, ◌&&◌, ◌||◌, nat_le, nat_lt, max, All, List, [], codes, count_by, length, map, slice_index_or}
+use Rattle.std.specs.Prelude.{ℕ, Bool, true, false, ◌+◌, ◌<◌, ◌≤◌, ◌≡◌, ◌⊎◌, ◌==◌, ◌&&◌, ◌||◌, nat_le, nat_lt, max, All, List, [], ◌++◌, count_by, length, map, slice_index_or}
 use Rattle.std.specs.List.{list_any}
 use Rattle.snippet_style.specs.Cell.{Cell, SPACE, unlinked_cell}
 use Rattle.snippet_style.specs.declared.glyphs.DecorStyle.{DecorStyle}
-use Rattle.snippet_style.specs.declared.glyphs.DecorStyle.TheVariants.{Ascii, Unicode}
+use Rattle.snippet_style.specs.Glyphs.{code_strokes, strokes_of, stem_strokes}
 use Rattle.snippet_grid.specs.Grid.{cell_at}
 use Rattle.snippet_view.specs.Measures.{is_bar}
 use Rattle.snippet_view.specs.declared.entries.LineAnnotation.{LineAnnotation}
@@ -30,8 +30,7 @@ pub record StandsIn (layout : Layout) (rows : List (List Cell)) (l : PlacedLabel
 
 -- the glyphs that strokes are drawn with from the code on: marks, stems, the lines that lead to bars, and what stands where they meet
 abbrev pub stroke_glyphs : DecorStyle → List ℕ
-stroke_glyphs Ascii = codes "^-|_"
-stroke_glyphs Unicode = codes "━─│┯┬╿┛┘┙┥┤"
+stroke_glyphs decor = code_strokes (strokes_of decor true) ++ code_strokes (strokes_of decor false)
 
 -- a cell below a line, from the code on, that is none of a label's: a space, or the glyph of a stroke in a role of marks
 abbrev pub IsStrokeCell : DecorStyle → Cell → Type 0
@@ -40,8 +39,7 @@ IsStrokeCell decor cell =
 
 -- the glyphs of stems, and of their feet, where lines that lead to bars meet them
 abbrev pub stem_glyphs : DecorStyle → List ℕ
-stem_glyphs Ascii = codes "|"
-stem_glyphs Unicode = codes "│┘┙┥┤"
+stem_glyphs decor = stem_strokes (strokes_of decor true) ++ stem_strokes (strokes_of decor false)
 
 -- a cell in which a stem stands, in a role of marks
 abbrev pub IsStemCell : DecorStyle → Cell → Type 0

@@ -4,7 +4,7 @@ use Rattle.std.specs.Prelude.{ℕ, ◌+◌, ◌-◌, ◌≡◌, List, [], ◌∷
 use Rattle.std.specs.List.{range_with_len, flat_map}
 use Rattle.snippet_style.specs.declared.role.ElementStyle.{ElementStyle}
 use Rattle.snippet_marks.specs.Writes.{Write, glyph_at, painted, stretch_of}
-use Rattle.snippet_style.specs.Glyphs.{glyph_of}
+use Rattle.snippet_style.specs.Glyphs.{strokes_of}
 use Rattle.snippet_view.specs.declared.entries.LineAnnotationType.{LineAnnotationType}
 use Rattle.snippet_view.specs.declared.entries.LineAnnotationType.TheVariants.{Singleline, MultilineStart, MultilineEnd, MultilineLine}
 use Rattle.snippet_model.specs.AnnotationKind.{is_primary}
@@ -42,30 +42,30 @@ labels_of layout row placed = flat_map (label_of layout row) placed
 -- the stem of an entry, so many rows below the row of the marks: at its foot another glyph
 abbrev pub stem_write : Layout → ℕ → PlacedEntry → ℕ → Write
 stem_write layout row e below =
-    glyph_at (row + below) (layout.code + e.entry.start.display) (if below == e.position then foot_glyph layout.decor e else glyph_of layout.decor (is_primary e.entry.kind) 124 124 0x2502 0x2502) (stroke_role e)
+    glyph_at (row + below) (layout.code + e.entry.start.display) (if below == e.position then foot_glyph layout.decor e else (strokes_of layout.decor (is_primary e.entry.kind)).stem) (stroke_role e)
 
 -- the stem of an entry, if it has one, from the row of the marks down
 abbrev pub stem_of : Layout → ℕ → PlacedEntry → List Write
 stem_of layout row e = if has_stem e then map (stem_write layout row e) (range_with_len 0 (e.position + 1)) else []
 
 -- whether the stem of the next of some later entries covers that of an entry: it stands in the same column, and reaches as far down
-abbrev pub is_hidden : PlacedEntry → List PlacedEntry → Bool
-is_hidden e [] = false
-is_hidden e (next ∷ later) =
+abbrev pub is_stem_covered : PlacedEntry → List PlacedEntry → Bool
+is_stem_covered e [] = false
+is_stem_covered e (next ∷ later) =
     has_stem next && (next.entry.start.display == e.entry.start.display && nat_le e.position next.position)
 
 -- the stems of some entries, but those that the next one's covers
 abbrev pub stems_of : Layout → ℕ → List PlacedEntry → List Write
 stems_of layout row [] = []
 stems_of layout row (e ∷ later) =
-    (if is_hidden e later then [] else stem_of layout row e) ++ stems_of layout row later
+    (if is_stem_covered e later then [] else stem_of layout row e) ++ stems_of layout row later
 
 -- ---- lines to bars
 
 -- the line from the bar of this depth to before the start of an entry, in the row of its position
 abbrev pub line_to : Layout → ℕ → PlacedEntry → ℕ → List Write
 line_to layout row e depth =
-    stretch_of (row + e.position) (layout.gutter + 3 + depth) (layout.code + e.entry.start.display) (glyph_of layout.decor (is_primary e.entry.kind) 95 95 0x2501 0x2500) (stroke_role e)
+    stretch_of (row + e.position) (layout.gutter + 3 + depth) (layout.code + e.entry.start.display) (strokes_of layout.decor (is_primary e.entry.kind)).connector (stroke_role e)
 
 -- the line to the bar of an entry that stands for this part of a span: a start or an end has one
 abbrev pub connector_by : Layout → ℕ → PlacedEntry → LineAnnotationType → List Write
@@ -95,20 +95,20 @@ column_of start end cell glyph role = map (λ row. glyph_at row cell glyph role)
 -- a bar in the rows from one to before another
 abbrev pub bar_of : Layout → PlacedEntry → ℕ → ℕ → ℕ → List Write
 bar_of layout e depth start end =
-    column_of start end (bar_cell layout depth) (glyph_of layout.decor (is_primary e.entry.kind) 124 124 0x2503 0x2502) (stroke_role e)
+    column_of start end (bar_cell layout depth) (strokes_of layout.decor (is_primary e.entry.kind)).bar (stroke_role e)
 
 -- the top of a start's bar: the corner in the row of its position, and the bar in all rows below it, of which there are `count`
 -- in all; the line's source row is `row`
 abbrev pub top_of : Layout → ℕ → ℕ → PlacedEntry → ℕ → List Write
 top_of layout row count e depth =
     let corner = row + 1 + e.position in
-    glyph_at corner (bar_cell layout depth) (glyph_of layout.decor (is_primary e.entry.kind) 32 32 0x250F 0x250C) (stroke_role e) ∷ bar_of layout e depth (corner + 1) count
+    glyph_at corner (bar_cell layout depth) (strokes_of layout.decor (is_primary e.entry.kind)).bar_top (stroke_role e) ∷ bar_of layout e depth (corner + 1) count
 
 -- the bottom of an end's bar: the bar in all rows from the source row down to that of its position, and the corner there
 abbrev pub bottom_of : Layout → ℕ → PlacedEntry → ℕ → List Write
 bottom_of layout row e depth =
     let corner = row + 1 + e.position in
-    bar_of layout e depth row corner ++ glyph_at corner (bar_cell layout depth) (glyph_of layout.decor (is_primary e.entry.kind) 124 124 0x2517 0x2514) (stroke_role e) ∷ []
+    bar_of layout e depth row corner ++ glyph_at corner (bar_cell layout depth) (strokes_of layout.decor (is_primary e.entry.kind)).bar_bottom (stroke_role e) ∷ []
 
 -- the bar of an entry that stands for this part of a span: a start or an end has one
 abbrev pub corner_by : Layout → ℕ → ℕ → PlacedEntry → LineAnnotationType → List Write
@@ -129,8 +129,8 @@ corners_of layout row count placed = flat_map (corner_of layout row count) place
 
 -- all strokes of a line, of which the source row is `row`, and below it come as many rows that there are `count` in all: the lines
 -- to bars, the bars, the stems, the labels, and the marks in the order in which they are painted
-abbrev pub strokes_of : Layout → ℕ → ℕ → List PlacedEntry → List PlacedEntry → List Write
-strokes_of layout row count placed order =
+abbrev pub line_strokes : Layout → ℕ → ℕ → List PlacedEntry → List PlacedEntry → List Write
+line_strokes layout row count placed order =
     connectors_of layout (row + 1) placed ++ corners_of layout row count placed ++ stems_of layout (row + 1) placed ++ labels_of layout (row + 1) placed ++ marks_of layout (row + 1) order
 
 -- the source row of a line with the rows of its strokes below it, before they are drawn: separators, with the last row as the window
@@ -147,7 +147,7 @@ stroke_rows layout room closes es source =
     let placed = placed_of es in
     let order = painting_order placed in
     let count = row_count placed in
-    let whole = painted (strokes_of layout 0 (count + 1) placed order) (begun_rows layout closes count source) in
+    let whole = painted (line_strokes layout 0 (count + 1) placed order) (begun_rows layout closes count source) in
     let cuts = cuts_of layout room order (overlapped placed) in
     map (cut_row layout.decor cuts) (take 2 whole) ++ drop 2 whole
 
@@ -160,7 +160,7 @@ pub record StrokesPainted (layout : Layout) (room : ℕ) (closes : Bool) (es : L
   pub top : List Cell
   pub marks : List Cell
   pub lower : List (List Cell)
-  pub painted_are : top ∷ marks ∷ lower ≡ painted (strokes_of layout 0 (row_count placed + 1) placed (painting_order placed)) (begun_rows layout closes (row_count placed) source)
+  pub painted_are : top ∷ marks ∷ lower ≡ painted (line_strokes layout 0 (row_count placed + 1) placed (painting_order placed)) (begun_rows layout closes (row_count placed) source)
   pub rows_are : rows ≡ (let cuts = cuts_of layout room (painting_order placed) (overlapped placed) in cut_row layout.decor cuts top ∷ cut_row layout.decor cuts marks ∷ lower)
   pub cut : CutsRows layout (wide_entries room layout.decor es) [] top marks lower rows
   pub count : length rows ≡ row_count placed + 1

@@ -37,9 +37,9 @@ impl BarStroke {
         ensures value { result ≡ spec.bar_glyph self decor primary }
     {
         match self {
-            BarStroke::Top => decor.underline(primary).multiline_whole_line,
-            BarStroke::Solid => decor.underline(primary).multiline_vertical,
-            BarStroke::Dotted => decor.elision_bar(primary),
+            BarStroke::Top => decor.underline(primary).whole_line,
+            BarStroke::Solid => decor.underline(primary).bar,
+            BarStroke::Dotted => decor.underline(primary).elided_bar,
         }
     }
 }

@@ -87,7 +87,7 @@ fn draw_line_to(
         row + placed.position,
         layout.gutter + 3 + depth,
         start,
-        strokes.multiline_horizontal,
+        strokes.connector,
         strokes.style,
     )
 }

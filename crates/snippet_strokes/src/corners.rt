@@ -76,7 +76,7 @@ fn draw_top(
     let strokes = layout.decor.underline(is_primary(placed.entry.kind));
     let corner = row + 1 + placed.position;
     let cell = layout.gutter + 2 + depth;
-    buffer.putc(corner, cell, strokes.top_left, strokes.style)?;
+    buffer.putc(corner, cell, strokes.bar_top, strokes.style)?;
     let end = buffer.num_lines();
     draw_bar(buffer, layout, corner + 1, end, depth, placed)
 }
@@ -100,7 +100,7 @@ fn draw_bottom(
     let corner = row + 1 + placed.position;
     let cell = layout.gutter + 2 + depth;
     draw_bar(buffer, layout, row, corner, depth, placed)?;
-    buffer.putc(corner, cell, strokes.bottom_left, strokes.style)
+    buffer.putc(corner, cell, strokes.bar_bottom, strokes.style)
 }
 
 /// Draws the bar of an entry at this depth in the rows from `start` to before `end`.
@@ -122,7 +122,7 @@ fn draw_bar(
     let strokes = layout.decor.underline(is_primary(placed.entry.kind));
     let cell = layout.gutter + 2 + depth;
     for row in start..end {
-        buffer.putc(row, cell, strokes.multiline_vertical, strokes.style)?;
+        buffer.putc(row, cell, strokes.bar, strokes.style)?;
     }
     Ok(())
 }

@@ -3,7 +3,7 @@ ghost use Rattle.std.specs.Prelude.{◌≡◌, ◌+◌, ◌^◌, ◌<◌, ◌≤
 ghost use Rattle.snippet_marks.specs.Entries.{HasPlace};
 ghost use Rattle.snippet_strokes.specs.Drawing.{HasRows, foot_glyph};
 ghost use Rattle.snippet_marks.specs.Writes.{painted};
-ghost use Rattle.snippet_strokes.specs.Strokes.{is_hidden, stem_of, stems_of};
+ghost use Rattle.snippet_strokes.specs.Strokes.{is_stem_covered, stem_of, stems_of};
 
 use snippet_grid::StyledBuffer;
 use snippet_marks::{Layout, PlacedEntry, is_primary};
@@ -36,7 +36,7 @@ pub(crate) fn draw_stems(
 {
     for i in 0..placed.len() {
         let entry = &placed[i];
-        if !is_hidden(entry, &placed[i + 1..]) {
+        if !is_stem_covered(entry, &placed[i + 1..]) {
             draw_stem(buffer, layout, row, entry)?;
         }
     }
@@ -45,8 +45,8 @@ pub(crate) fn draw_stems(
 
 /// Whether the stem of the next of some later entries covers that of an entry: it stands in the same column, and reaches as far
 /// down. So of many labels below one column the lowest alone has a stem.
-fn is_hidden(placed: &PlacedEntry, later: &[PlacedEntry]) -> bool
-    ensures value { result ≡ is_hidden placed.now later.now }
+fn is_stem_covered(placed: &PlacedEntry, later: &[PlacedEntry]) -> bool
+    ensures value { result ≡ is_stem_covered placed.now later.now }
 {
     match later {
         [next, ..] => {
@@ -78,7 +78,7 @@ fn draw_stem(
     let foot = foot_glyph(layout.decor, placed);
     let cell = layout.code + placed.entry.start.display;
     for below in 0..placed.position + 1 {
-        let glyph = stem_glyph(placed, foot, strokes.vertical_text_line, below);
+        let glyph = stem_glyph(placed, foot, strokes.stem, below);
         buffer.putc(row + below, cell, glyph, strokes.style)?;
     }
     Ok(())
@@ -98,8 +98,8 @@ fn foot_glyph(decor: DecorStyle, placed: &PlacedEntry) -> char
 {
     let strokes = decor.underline(is_primary(placed.entry.kind));
     match placed.entry.annotation_type {
-        LineAnnotationType::MultilineStart(_) => strokes.bottom_right,
-        LineAnnotationType::MultilineEnd(_) if placed.has_label() => strokes.bottom_right_with_text,
-        _ => strokes.vertical_text_line,
+        LineAnnotationType::MultilineStart(_) => strokes.corner,
+        LineAnnotationType::MultilineEnd(_) if placed.has_label() => strokes.corner_with_label,
+        _ => strokes.stem,
     }
 }

@@ -1,5 +1,5 @@
 -- Rows of cells that are begun by spaces, or written into.
-use Rattle.std.proofs.Common.{◌≡◌, ℕ, ◌+◌, ◌<◌, List, [], ◌++◌, length, replicate, arith, ◌∙◌}
+use Rattle.std.proofs.Common.{◌≡◌, ℕ, ◌<◌, List, [], ◌++◌, length, replicate, arith, ◌∙◌}
 use Rattle.std.specs.List.{slice_index_or}
 use Rattle.std.proofs.lemmas.List.{places, same_lists, length-replicate, get_or_append_left, get_or-replicate}
 use Rattle.snippet_style.specs.declared.glyphs.DecorStyle.{DecorStyle}

@@ -17,8 +17,9 @@ use Rattle.snippet_style.specs.Cell.{Cell, SPACE, text_cells, written}
 use Rattle.snippet_style.proofs.CellLemmas.{All-text_cells, length-chars_le, length-text_cells, slice_index_or-written_after, slice_index_or-written_before, slice_index_or-written_inside}
 use Rattle.snippet_text.specs.Normalized.{is_listed}
 use Rattle.snippet_model.specs.Rows.{IsFreeCell}
-use Rattle.snippet_suggest.specs.declared.glyphs.SuggestionGlyph.{SuggestionGlyph}
-use Rattle.snippet_suggest.specs.Glyphs.{glyph_of, is_sign}
+use Rattle.snippet_style.specs.declared.glyphs.SuggestionGlyph.{SuggestionGlyph}
+use Rattle.snippet_style.specs.Glyphs.{suggestion_glyph_of}
+use Rattle.snippet_suggest.specs.Glyphs.{is_sign}
 use Rattle.snippet_suggest.specs.Rows.{AddsRow, HasLeft, IsBareRow, IsMarkOrSpace, IsStrokeRow, beside_gutter, gap_left, is_stroke}
 use Rattle.snippet_suggest.proofs.GlyphLemmas.{glyph_short, glyph_strokes, glyph_unlisted}
 use Rattle.snippet_suggest.proofs.RowLemmas.{All-from_none, begun_by, ch_at, each_cell, each_written, free_drawn, free_led, free_written, row_text-text_cells}
@@ -33,15 +34,15 @@ bare_none decor gutter =
     }
 
 -- a glyph that is put after the gutter
-pub bare_signed : (decor : DecorStyle) (gutter : ℕ) (role : ElementStyle) (glyph : SuggestionGlyph) (row : List Cell) → is_sign glyph ≡ false → IsBareRow decor gutter row → IsBareRow decor gutter (written SPACE row (gutter + 1) (text_cells role (glyph_of decor glyph)))
+pub bare_signed : (decor : DecorStyle) (gutter : ℕ) (role : ElementStyle) (glyph : SuggestionGlyph) (row : List Cell) → is_sign glyph ≡ false → IsBareRow decor gutter row → IsBareRow decor gutter (written SPACE row (gutter + 1) (text_cells role (suggestion_glyph_of decor glyph)))
 bare_signed decor gutter role glyph row other bare =
     let P : Cell → Type 0 = λ cell. is_stroke decor cell.ch ≡ true in
-    let cells = text_cells role (glyph_of decor glyph) in
-    let short : gutter + 1 + length cells ≤ gutter + 3 = omega (arith, length-text_cells role (glyph_of decor glyph), glyph_short decor glyph) in
+    let cells = text_cells role (suggestion_glyph_of decor glyph) in
+    let short : gutter + 1 + length cells ≤ gutter + 3 = omega (arith, length-text_cells role (suggestion_glyph_of decor glyph), glyph_short decor glyph) in
     record {
-      strokes = each_written P row (gutter + 1) (gutter + 3) cells bare.strokes (All-text_cells P role (glyph_of decor glyph) (AllPass-from_list_all (is_stroke decor) (glyph_of decor glyph) (glyph_strokes decor glyph other)));
+      strokes = each_written P row (gutter + 1) (gutter + 3) cells bare.strokes (All-text_cells P role (suggestion_glyph_of decor glyph) (AllPass-from_list_all (is_stroke decor) (suggestion_glyph_of decor glyph) (glyph_strokes decor glyph other)));
       marks = λ c after. subst (λ (cell : Cell). IsMarkOrSpace decor cell.ch) (sym (slice_index_or-written_after SPACE row (gutter + 1) cells c SPACE (omega (arith, short, after)))) (bare.marks c after);
-      free = free_written row (gutter + 1) cells bare.free (free_drawn role (glyph_of decor glyph) (All-from_none is_listed (glyph_of decor glyph) (glyph_unlisted decor glyph)));
+      free = free_written row (gutter + 1) cells bare.free (free_drawn role (suggestion_glyph_of decor glyph) (All-from_none is_listed (suggestion_glyph_of decor glyph) (glyph_unlisted decor glyph)));
     }
 
 -- a row that spaces lead, and that ends before the line's place with what stands left of it
@@ -98,12 +99,13 @@ put_left gutter role old cs row covers there c inside =
 
 -- a glyph that is written beside the gutter leaves a row of strokes
 pub stroke_put : (decor : DecorStyle) (gutter : ℕ) (role : ElementStyle) (glyph : SuggestionGlyph) (old : List ℕ) (row : List Cell)
-    → is_sign glyph ≡ false → length old ≤ length (glyph_of decor glyph) → IsStrokeRow decor gutter (beside_gutter gutter old) row
-    → IsStrokeRow decor gutter (beside_gutter gutter (glyph_of decor glyph)) (written SPACE row (gutter + 1) (text_cells role (glyph_of decor glyph)))
+    → is_sign glyph ≡ false → length old ≤ length (suggestion_glyph_of decor glyph) → IsStrokeRow decor gutter (beside_gutter gutter old) row
+    → IsStrokeRow decor gutter (beside_gutter gutter (suggestion_glyph_of decor glyph))
+    (written SPACE row (gutter + 1) (text_cells role (suggestion_glyph_of decor glyph)))
 stroke_put decor gutter role glyph old row other covers stroke =
     record {
       bare = bare_signed decor gutter role glyph row other stroke.bare;
-      left_is = put_left gutter role old (glyph_of decor glyph) row covers stroke.left_is;
+      left_is = put_left gutter role old (suggestion_glyph_of decor glyph) row covers stroke.left_is;
     }
 
 -- a row with no cells shows nothing at all
@@ -117,7 +119,7 @@ pub stroke_none : (decor : DecorStyle) (gutter : ℕ) → IsStrokeRow decor gutt
 stroke_none decor gutter = record { bare = bare_none decor gutter; left_is = λ c inside. refl }
 
 -- a glyph that is put after the gutter of such a row
-pub stroke_signed : (decor : DecorStyle) (gutter : ℕ) (role : ElementStyle) (glyph : SuggestionGlyph) → is_sign glyph ≡ false → IsStrokeRow decor gutter (beside_gutter gutter (glyph_of decor glyph)) (written SPACE [] (gutter + 1) (text_cells role (glyph_of decor glyph)))
+pub stroke_signed : (decor : DecorStyle) (gutter : ℕ) (role : ElementStyle) (glyph : SuggestionGlyph) → is_sign glyph ≡ false → IsStrokeRow decor gutter (beside_gutter gutter (suggestion_glyph_of decor glyph)) (written SPACE [] (gutter + 1) (text_cells role (suggestion_glyph_of decor glyph)))
 stroke_signed decor gutter role glyph other =
     stroke_put decor gutter role glyph [] [] other (omega arith) (record { bare = bare_none decor gutter; left_is = λ c inside. sym (spaces_left (gutter + 1) c) })
 

@@ -6,8 +6,8 @@ use Rattle.snippet_text.specs.Normalized.{norm}
 use Rattle.snippet_lines.specs.Number.{shown_number}
 use Rattle.snippet_style.specs.Cell.{Cell}
 use Rattle.snippet_suggest.specs.declared.layout.SuggestionLayout.{SuggestionLayout}
-use Rattle.snippet_suggest.specs.declared.shown.ShownLine.{ShownLine}
-use Rattle.snippet_suggest.specs.declared.shown.ShownLine.TheVariants.{Gap, Line}
+use Rattle.snippet_suggest.specs.declared.shown.SuggestionLine.{SuggestionLine}
+use Rattle.snippet_suggest.specs.declared.shown.SuggestionLine.TheVariants.{Gap, Line}
 use Rattle.snippet_suggest.specs.Order.{Offers, SuggestionRow, number_after, row_of_shown}
 use Rattle.snippet_suggest.specs.Rows.{AddsRow, AddsRows, AddsShown, IsLineRow, IsRepainted, IsShownRow, NumberFits, Shows}
 use Rattle.snippet_suggest.proofs.RepaintLemmas.{line_repainted}
@@ -43,7 +43,7 @@ none_empty layout first lines shown above new adds =
     subst (AddsRows layout first lines shown above) (sym (append-nil new)) adds
 
 -- rows of lines that are shown, with placeholders between them
-shown_zip : (layout : SuggestionLayout) (first : ℕ) (lines : List (List ℕ)) (shown : List ShownLine) (rows : List (List Cell)) → AllZip (IsShownRow layout first lines) shown rows → AllZip (Shows layout first lines) (map row_of_shown shown) rows
+shown_zip : (layout : SuggestionLayout) (first : ℕ) (lines : List (List ℕ)) (shown : List SuggestionLine) (rows : List (List Cell)) → AllZip (IsShownRow layout first lines) shown rows → AllZip (Shows layout first lines) (map row_of_shown shown) rows
 shown_zip layout first lines [] [] are = tt
 shown_zip layout first lines [] (row ∷ rows) are = elim are [ ]
 shown_zip layout first lines (line ∷ shown) [] are = elim are [ ]
@@ -51,7 +51,7 @@ shown_zip layout first lines (Line k ∷ shown) (row ∷ rows) are = (are.0, sho
 shown_zip layout first lines (Gap ∷ shown) (row ∷ rows) are = (are.0, shown_zip layout first lines shown rows are.1)
 
 -- shown lines that are added are rows of the suggestion that are added
-pub rows_shown : (layout : SuggestionLayout) (first : ℕ) (lines : List (List ℕ)) (shown : List ShownLine) (above new : List (List Cell)) → AddsShown layout first lines shown above new → AddsRows layout first lines (map row_of_shown shown) above new
+pub rows_shown : (layout : SuggestionLayout) (first : ℕ) (lines : List (List ℕ)) (shown : List SuggestionLine) (above new : List (List Cell)) → AddsShown layout first lines shown above new → AddsRows layout first lines (map row_of_shown shown) above new
 rows_shown layout first lines shown above new adds =
     record {
       rows = adds.rows;

@@ -5,60 +5,20 @@ use Rattle.std.specs.List.{list_all, list_any, slice_index_or}
 use Rattle.std.proofs.lemmas.Str.{chars-encodes}
 use Rattle.snippet_style.specs.declared.glyphs.DecorStyle.{DecorStyle}
 use Rattle.snippet_style.specs.declared.glyphs.DecorStyle.TheVariants.{Ascii, Unicode}
-use Rattle.snippet_suggest.specs.declared.glyphs.SuggestionGlyph.{SuggestionGlyph}
-use Rattle.snippet_suggest.specs.declared.glyphs.SuggestionGlyph.TheVariants.{Opening, Next, Leading, Closing, Kept, Alone, Changed, Added}
+use Rattle.snippet_style.specs.declared.glyphs.SuggestionGlyph.{SuggestionGlyph}
+use Rattle.snippet_style.specs.declared.glyphs.SuggestionGlyph.TheVariants.{Opening, Next, Leading, Closing, Kept, Alone, Changed, Added}
 use Rattle.snippet_text.specs.Normalized.{is_listed}
-use Rattle.snippet_suggest.specs.Glyphs.{glyph_of, is_sign}
+use Rattle.snippet_style.specs.Glyphs.{suggestion_glyph_of}
+use Rattle.snippet_suggest.specs.Glyphs.{is_sign}
 use Rattle.snippet_suggest.specs.Rows.{IsSign, is_stroke}
-pub use Rattle.snippet_style.proofs.GlyphLemmas.{chars-end}
 
 -- the characters of the bytes that the code writes for `- `
 pub chars-minus : chars (45 ∷ 32 ∷ []) ≡ codes "- "
 unfolding lib.Utf8.encode
 chars-minus = chars-encodes (codes "- ") refl
 
--- the characters of the bytes that the code writes for `| `
-pub chars-bar_space : chars (124 ∷ 32 ∷ []) ≡ codes "| "
-unfolding lib.Utf8.encode
-chars-bar_space = chars-encodes (codes "| ") refl
-
--- the characters of the bytes that the code writes for `~ `
-pub chars-tilde : chars (126 ∷ 32 ∷ []) ≡ codes "~ "
-unfolding lib.Utf8.encode
-chars-tilde = chars-encodes (codes "~ ") refl
-
--- the characters of the bytes that the code writes for `+ `
-pub chars-plus : chars (43 ∷ 32 ∷ []) ≡ codes "+ "
-unfolding lib.Utf8.encode
-chars-plus = chars-encodes (codes "+ ") refl
-
--- the characters of the bytes that the code writes for `╭╴`
-pub chars-corner : chars (226 ∷ 149 ∷ 173 ∷ 226 ∷ 149 ∷ 180 ∷ []) ≡ codes "╭╴"
-unfolding lib.Utf8.encode
-chars-corner = chars-encodes (codes "╭╴") refl
-
--- the characters of the bytes that the code writes for `├╴`
-pub chars-branch : chars (226 ∷ 148 ∷ 156 ∷ 226 ∷ 149 ∷ 180 ∷ []) ≡ codes "├╴"
-unfolding lib.Utf8.encode
-chars-branch = chars-encodes (codes "├╴") refl
-
--- the characters of the bytes that the code writes for `│`
-pub chars-stroke : chars (226 ∷ 148 ∷ 130 ∷ []) ≡ codes "│"
-unfolding lib.Utf8.encode
-chars-stroke = chars-encodes (codes "│") refl
-
--- the characters of the bytes that the code writes for `│ `
-pub chars-stroke_space : chars (226 ∷ 148 ∷ 130 ∷ 32 ∷ []) ≡ codes "│ "
-unfolding lib.Utf8.encode
-chars-stroke_space = chars-encodes (codes "│ ") refl
-
--- the characters of the bytes that the code writes for `± `
-pub chars-plus_minus : chars (194 ∷ 177 ∷ 32 ∷ []) ≡ codes "± "
-unfolding lib.Utf8.encode
-chars-plus_minus = chars-encodes (codes "± ") refl
-
 -- each has a character or two
-pub glyph_short : (decor : DecorStyle) (glyph : SuggestionGlyph) → length (glyph_of decor glyph) ≤ 2
+pub glyph_short : (decor : DecorStyle) (glyph : SuggestionGlyph) → length (suggestion_glyph_of decor glyph) ≤ 2
 glyph_short Ascii Opening = omega arith
 glyph_short Ascii Next = omega arith
 glyph_short Ascii Leading = omega arith
@@ -77,7 +37,7 @@ glyph_short Unicode Changed = omega arith
 glyph_short Unicode Added = omega arith
 
 -- none is listed
-pub glyph_unlisted : (decor : DecorStyle) (glyph : SuggestionGlyph) → list_any is_listed (glyph_of decor glyph) ≡ false
+pub glyph_unlisted : (decor : DecorStyle) (glyph : SuggestionGlyph) → list_any is_listed (suggestion_glyph_of decor glyph) ≡ false
 glyph_unlisted Ascii Opening = refl
 glyph_unlisted Ascii Next = refl
 glyph_unlisted Ascii Leading = refl
@@ -96,7 +56,7 @@ glyph_unlisted Unicode Changed = refl
 glyph_unlisted Unicode Added = refl
 
 -- none holds a letter or digit
-pub glyph_plain : (decor : DecorStyle) (glyph : SuggestionGlyph) → list_any is_ascii_alphanumeric (glyph_of decor glyph) ≡ false
+pub glyph_plain : (decor : DecorStyle) (glyph : SuggestionGlyph) → list_any is_ascii_alphanumeric (suggestion_glyph_of decor glyph) ≡ false
 glyph_plain Ascii Opening = refl
 glyph_plain Ascii Next = refl
 glyph_plain Ascii Leading = refl
@@ -115,7 +75,7 @@ glyph_plain Unicode Changed = refl
 glyph_plain Unicode Added = refl
 
 -- those that no line has stand left of the lines
-pub glyph_strokes : (decor : DecorStyle) (glyph : SuggestionGlyph) → is_sign glyph ≡ false → list_all (is_stroke decor) (glyph_of decor glyph) ≡ true
+pub glyph_strokes : (decor : DecorStyle) (glyph : SuggestionGlyph) → is_sign glyph ≡ false → list_all (is_stroke decor) (suggestion_glyph_of decor glyph) ≡ true
 glyph_strokes Ascii Opening other = refl
 glyph_strokes Ascii Next other = refl
 glyph_strokes Ascii Leading other = refl
@@ -134,7 +94,7 @@ glyph_strokes Unicode Changed other = absurd (cc)
 glyph_strokes Unicode Added other = absurd (cc)
 
 -- a sign begins with what may stand beside a line, and a space stands after that
-pub sign_first : (decor : DecorStyle) (glyph : SuggestionGlyph) → is_sign glyph ≡ true → IsSign decor (slice_index_or (glyph_of decor glyph) 0 32)
+pub sign_first : (decor : DecorStyle) (glyph : SuggestionGlyph) → is_sign glyph ≡ true → IsSign decor (slice_index_or (suggestion_glyph_of decor glyph) 0 32)
 sign_first Ascii Opening is = absurd (cc)
 sign_first Ascii Next is = absurd (cc)
 sign_first Ascii Leading is = absurd (cc)
@@ -153,7 +113,7 @@ sign_first Unicode Changed is = inr (inl refl)
 sign_first Unicode Added is = inr (inr refl)
 
 -- the second character of a sign is a space
-pub sign_second : (decor : DecorStyle) (glyph : SuggestionGlyph) → is_sign glyph ≡ true → slice_index_or (glyph_of decor glyph) 1 32 ≡ 32
+pub sign_second : (decor : DecorStyle) (glyph : SuggestionGlyph) → is_sign glyph ≡ true → slice_index_or (suggestion_glyph_of decor glyph) 1 32 ≡ 32
 sign_second Ascii Opening is = absurd (cc)
 sign_second Ascii Next is = absurd (cc)
 sign_second Ascii Leading is = absurd (cc)

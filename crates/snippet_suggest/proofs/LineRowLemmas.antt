@@ -10,8 +10,9 @@ use Rattle.snippet_style.specs.Cell.{Cell, SPACE, text_cells}
 use Rattle.snippet_grid.specs.Print.{row_text}
 use Rattle.snippet_style.proofs.CellLemmas.{All-text_cells, length-text_cells}
 use Rattle.snippet_text.specs.Normalized.{is_listed}
-use Rattle.snippet_suggest.specs.declared.glyphs.SuggestionGlyph.{SuggestionGlyph}
-use Rattle.snippet_suggest.specs.Glyphs.{glyph_of, is_sign}
+use Rattle.snippet_style.specs.declared.glyphs.SuggestionGlyph.{SuggestionGlyph}
+use Rattle.snippet_style.specs.Glyphs.{suggestion_glyph_of}
+use Rattle.snippet_suggest.specs.Glyphs.{is_sign}
 use Rattle.snippet_suggest.specs.Rows.{IsLineRow, IsSign}
 use Rattle.snippet_suggest.proofs.GlyphLemmas.{glyph_plain, glyph_short, glyph_unlisted, sign_first, sign_second}
 use Rattle.snippet_suggest.proofs.RowLemmas.{All-from_none, begins_texted, each_cell, free_drawn, free_led, free_texted, holds_texted, kept_after, led_ch, left_after, length-texted_ge, length-texted_le, take_texted, texted}
@@ -45,24 +46,24 @@ sign_row_plain gutter role sign plain c =
     each_cell P (sign_row gutter role sign) refl (All-append P (replicate (gutter + 1) SPACE) (text_cells role sign) (All-replicate P (gutter + 1) SPACE refl) (All-text_cells P role sign (All-from_none is_ascii_alphanumeric sign plain))) c
 
 -- and shows the glyph after the gutter, with a space if it has one character
-sign_row_sign : (gutter : ℕ) (role : ElementStyle) (decor : DecorStyle) (glyph : SuggestionGlyph) → is_sign glyph ≡ true → IsSign decor (slice_index_or (sign_row gutter role (glyph_of decor glyph)) (gutter + 1) SPACE).ch
+sign_row_sign : (gutter : ℕ) (role : ElementStyle) (decor : DecorStyle) (glyph : SuggestionGlyph) → is_sign glyph ≡ true → IsSign decor (slice_index_or (sign_row gutter role (suggestion_glyph_of decor glyph)) (gutter + 1) SPACE).ch
 sign_row_sign gutter role decor glyph is =
     let here : gutter + 1 + 0 ≡ gutter + 1 = omega arith in
-    let shows = led_ch (gutter + 1) 0 role (glyph_of decor glyph) in
-    subst (λ (c : ℕ). IsSign decor (slice_index_or (sign_row gutter role (glyph_of decor glyph)) c SPACE).ch) here (subst (λ (ch : ℕ). IsSign decor ch) (sym shows) (sign_first decor glyph is))
+    let shows = led_ch (gutter + 1) 0 role (suggestion_glyph_of decor glyph) in
+    subst (λ (c : ℕ). IsSign decor (slice_index_or (sign_row gutter role (suggestion_glyph_of decor glyph)) c SPACE).ch) here (subst (λ (ch : ℕ). IsSign decor ch) (sym shows) (sign_first decor glyph is))
 
-sign_row_space : (gutter : ℕ) (role : ElementStyle) (decor : DecorStyle) (glyph : SuggestionGlyph) → is_sign glyph ≡ true → (slice_index_or (sign_row gutter role (glyph_of decor glyph)) (gutter + 2) SPACE).ch ≡ 32
+sign_row_space : (gutter : ℕ) (role : ElementStyle) (decor : DecorStyle) (glyph : SuggestionGlyph) → is_sign glyph ≡ true → (slice_index_or (sign_row gutter role (suggestion_glyph_of decor glyph)) (gutter + 2) SPACE).ch ≡ 32
 sign_row_space gutter role decor glyph is =
     let here : gutter + 1 + 1 ≡ gutter + 2 = omega arith in
-    sym (ap (λ c. (slice_index_or (sign_row gutter role (glyph_of decor glyph)) c SPACE).ch) here) ∙ led_ch (gutter + 1) 1 role (glyph_of decor glyph) ∙ sign_second decor glyph is
+    sym (ap (λ c. (slice_index_or (sign_row gutter role (suggestion_glyph_of decor glyph)) c SPACE).ch) here) ∙ led_ch (gutter + 1) 1 role (suggestion_glyph_of decor glyph) ∙ sign_second decor glyph is
 
 -- it offers the line
 line_row_offers : (decor : DecorStyle) (glyph : SuggestionGlyph) (gutter : ℕ) (sign_role number_role line_role : ElementStyle) (number text : List ℕ)
     → is_sign glyph ≡ true → length (chars number) ≤ gutter + 1 → All (λ c. is_listed c ≡ false) (chars number)
     → list_any is_listed (chars text) ≡ false
-    → IsLineRow decor gutter (chars number) (chars text) (line_row gutter sign_role number_role line_role (glyph_of decor glyph) number text)
+    → IsLineRow decor gutter (chars number) (chars text) (line_row gutter sign_role number_role line_role (suggestion_glyph_of decor glyph) number text)
 line_row_offers decor glyph gutter sign_role number_role line_role number text is fits free_number free_text =
-    let sign = glyph_of decor glyph in
+    let sign = suggestion_glyph_of decor glyph in
     let led = sign_row gutter sign_role sign in
     let cells = text_cells number_role (chars number) in
     let numbered = texted number led 0 cells in
@@ -86,11 +87,11 @@ line_row_offers decor glyph gutter sign_role number_role line_role number text i
 
 -- a number, a sign and a text are the row of a line
 pub line_row_is : (decor : DecorStyle) (glyph : SuggestionGlyph) (gutter : ℕ) (sign_role number_role line_role : ElementStyle)
-    (sign number shown text norm_text : List ℕ) → is_sign glyph ≡ true → sign ≡ glyph_of decor glyph → chars number ≡ shown
+    (sign number shown text norm_text : List ℕ) → is_sign glyph ≡ true → sign ≡ suggestion_glyph_of decor glyph → chars number ≡ shown
     → length shown ≤ gutter + 1 → All (λ c. is_listed c ≡ false) shown → chars text ≡ norm_text → list_any is_listed norm_text ≡ false
     → IsLineRow decor gutter shown norm_text (line_row gutter sign_role number_role line_role sign number text)
 line_row_is decor glyph gutter sign_role number_role line_role sign number shown text norm_text is sign_is number_is fits free_number text_is free_text =
     let row = λ (signs : List ℕ). line_row gutter sign_role number_role line_role signs number text in
     let free : All (λ c. is_listed c ≡ false) (chars number) = subst (λ (t : List ℕ). All (λ c. is_listed c ≡ false) t) (sym number_is) free_number in
     let offers = line_row_offers decor glyph gutter sign_role number_role line_role number text is (omega (arith, fits, ap length number_is)) free (ap (list_any is_listed) text_is ∙ free_text) in
-    subst (λ (signs : List ℕ). IsLineRow decor gutter shown norm_text (row signs)) (sym sign_is) (subst (λ (t : List ℕ). IsLineRow decor gutter shown t (row (glyph_of decor glyph))) text_is (subst (λ (n : List ℕ). IsLineRow decor gutter n (chars text) (row (glyph_of decor glyph))) number_is offers))
+    subst (λ (signs : List ℕ). IsLineRow decor gutter shown norm_text (row signs)) (sym sign_is) (subst (λ (t : List ℕ). IsLineRow decor gutter shown t (row (suggestion_glyph_of decor glyph))) text_is (subst (λ (n : List ℕ). IsLineRow decor gutter n (chars text) (row (suggestion_glyph_of decor glyph))) number_is offers))

@@ -10,8 +10,8 @@ use Rattle.snippet_splice.specs.declared.splice.LineRange.{LineRange}
 use Rattle.snippet_suggest.specs.declared.kind.DisplaySuggestion.{DisplaySuggestion}
 use Rattle.snippet_suggest.specs.declared.kind.DisplaySuggestion.TheVariants.{Add, Diff, Plain, Underline}
 use Rattle.snippet_suggest.specs.declared.layout.SuggestionStart.{SuggestionStart}
-use Rattle.snippet_suggest.specs.declared.shown.ShownLine.{ShownLine}
-use Rattle.snippet_suggest.specs.declared.shown.ShownLine.TheVariants.{Gap, Line}
+use Rattle.snippet_suggest.specs.declared.shown.SuggestionLine.{SuggestionLine}
+use Rattle.snippet_suggest.specs.declared.shown.SuggestionLine.TheVariants.{Gap, Line}
 use Rattle.snippet_suggest.specs.Given.{counted_folded, emptied_lines, given_lines, given_ranges, given_text, is_left_out, last_reached, numbers_given, numbers_of, removed_lines, removed_of, replaced_lines, shown_kind, trimmed_of}
 use Rattle.snippet_suggest.specs.Order.{Begins, Empty, Ends, Offers, Removes, Skips, SuggestionRow, changed_rows, is_diff, line_taken, lines_taken, number_offered, numbers_offered, removed_number, removed_row, row_of_shown, rows_of_suggestion, rows_where}
 use Rattle.snippet_suggest.specs.Shown.{is_touched, numbers_shown, shown_lines}
@@ -67,12 +67,12 @@ module _ (start : SuggestionStart) (s : Snippet Patch) where
 
 -- ---- laws
 
-shown_offer : (shown : List ShownLine) → numbers_offered (map row_of_shown shown) ≡ numbers_shown shown
+shown_offer : (shown : List SuggestionLine) → numbers_offered (map row_of_shown shown) ≡ numbers_shown shown
 shown_offer [] = refl
 shown_offer (Line k ∷ shown) = ap (λ ks. k ∷ ks) (shown_offer shown)
 shown_offer (Gap ∷ shown) = shown_offer shown
 
-shown_take : (shown : List ShownLine) → lines_taken (map row_of_shown shown) ≡ []
+shown_take : (shown : List SuggestionLine) → lines_taken (map row_of_shown shown) ≡ []
 shown_take [] = refl
 shown_take (Line k ∷ shown) = shown_take shown
 shown_take (Gap ∷ shown) = shown_take shown
@@ -127,7 +127,7 @@ rows-offer start s =
 
 -- each line that is removed is shown as removed, in order
 taken_where : (kind : DisplaySuggestion) (lines : List (List ℕ)) (touched left : Bool) (start : SuggestionStart) (removed : List SuggestionRow)
-    (shown : List ShownLine) (emptied replaced : List ℕ) → lines_taken removed ≡ removed_of lines kind emptied replaced
+    (shown : List SuggestionLine) (emptied replaced : List ℕ) → lines_taken removed ≡ removed_of lines kind emptied replaced
     → (touched ≡ false → replaced ≡ []) → lines_taken
     (rows_where lines (is_diff kind) (Begins start) removed (changed_rows touched left removed) (map row_of_shown shown))
     ≡ removed_of lines kind emptied replaced
@@ -163,7 +163,7 @@ IsRowOf s (Removes i number text) =
 IsRowOf s Empty = Unit {0}
 IsRowOf s (Ends follows) = Unit {0}
 
-shown_rows : (s : Snippet Patch) (shown : List ShownLine) → All (IsRowOf s) (map row_of_shown shown)
+shown_rows : (s : Snippet Patch) (shown : List SuggestionLine) → All (IsRowOf s) (map row_of_shown shown)
 shown_rows s [] = All-nil (IsRowOf s)
 shown_rows s (Line k ∷ shown) = All-cons (IsRowOf s) (Offers k) (map row_of_shown shown) tt (shown_rows s shown)
 shown_rows s (Gap ∷ shown) = All-cons (IsRowOf s) Skips (map row_of_shown shown) tt (shown_rows s shown)
@@ -190,5 +190,5 @@ rows-own start s =
     let touched : ℕ → Bool = is_touched s.fold (given_ranges s) in
     let removed : List SuggestionRow = map (removed_row s) (removed_lines s) in
     let left : Bool = is_left_out (shown_kind s) (given_lines s) (last_reached s) in
-    let shown : List ShownLine = shown_lines touched (length (given_lines s)) in
+    let shown : List SuggestionLine = shown_lines touched (length (given_lines s)) in
     own_where s (given_lines s) (is_diff (shown_kind s)) start removed (changed_rows (touched 0) left removed) (map row_of_shown shown) (own_rows s (removed_lines s)) (changed_own s (touched 0) left removed (own_rows s (removed_lines s))) (shown_rows s shown)

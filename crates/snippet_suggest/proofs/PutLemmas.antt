@@ -15,8 +15,8 @@ use Rattle.snippet_grid.proofs.GridLemmas.{cells_written_below, cells_written_la
 use Rattle.snippet_text.specs.Normalized.{norm}
 use Rattle.snippet_text.specs.Width.{width_of}
 use Rattle.snippet_lines.specs.Number.{shown_number}
-use Rattle.snippet_suggest.specs.declared.glyphs.SuggestionGlyph.{SuggestionGlyph}
-use Rattle.snippet_suggest.specs.declared.glyphs.SuggestionGlyph.TheVariants as sign
+use Rattle.snippet_style.specs.declared.glyphs.SuggestionGlyph.{SuggestionGlyph}
+use Rattle.snippet_style.specs.declared.glyphs.SuggestionGlyph.TheVariants as sign
 use Rattle.snippet_suggest.specs.declared.layout.SuggestionLayout.{SuggestionLayout}
 use Rattle.snippet_splice.specs.declared.stretches.SubstitutionHighlight.{SubstitutionHighlight}
 use Rattle.snippet_suggest.specs.declared.kind.DisplaySuggestion.{DisplaySuggestion}
@@ -25,7 +25,7 @@ use Rattle.snippet_suggest.specs.declared.layout.SuggestionStart.TheVariants.{Ne
 use Rattle.snippet_suggest.specs.Cells.{begin_cells, end_cells, gap_cells, line_cells, offered_cells, put, removed_cells, sign_of, with_stretches}
 use Rattle.snippet_suggest.specs.Rows.{end_glyph}
 use Rattle.snippet_suggest.proofs.TailLemmas.{skipped_written}
-use Rattle.snippet_suggest.specs.Glyphs.{glyph_of, role_of}
+use Rattle.snippet_style.specs.Glyphs.{suggestion_glyph_of, suggestion_role_of}
 
 -- a text that isn't empty has characters
 chars_some : (b : ℕ) (bs : List ℕ) → IsUtf8 (b ∷ bs) → chars (b ∷ bs) ≢ []
@@ -89,7 +89,7 @@ put_over role (b ∷ bs) at r above tail old new text here is few writes stays =
     }
 
 -- each glyph has characters
-pub glyph_some : (decor : DecorStyle) (glyph : SuggestionGlyph) → glyph_of decor glyph ≢ []
+pub glyph_some : (decor : DecorStyle) (glyph : SuggestionGlyph) → suggestion_glyph_of decor glyph ≢ []
 glyph_some Ascii sign.Opening = λ none. cc
 glyph_some Ascii sign.Next = λ none. cc
 glyph_some Ascii sign.Leading = λ none. cc
@@ -113,8 +113,9 @@ placeholder_some Unicode = λ none. cc
 
 -- the row of a line was drawn
 pub line_drawn : (layout : SuggestionLayout) (glyph : SuggestionGlyph) (number : ℕ) (line : List ℕ) (role : ElementStyle)
-    (signed digits text : List ℕ) (r : ℕ) (old one two new : List (List Cell)) → r ≡ length old → role ≡ role_of glyph
-    → chars signed ≡ glyph_of layout.frame.decor glyph → chars digits ≡ shown_number layout.numbers layout.frame.gutter number → chars text ≡ norm (chars line)
+    (signed digits text : List ℕ) (r : ℕ) (old one two new : List (List Cell)) → r ≡ length old → role ≡ suggestion_role_of glyph
+    → chars signed ≡ suggestion_glyph_of layout.frame.decor glyph
+    → chars digits ≡ shown_number layout.numbers layout.frame.gutter number → chars text ≡ norm (chars line)
     → IsUtf8 digits → IsUtf8 text → one ≡ cells_written old r (layout.frame.gutter + 1) (text_cells role (chars signed))
     → (0 < length digits → two ≡ cells_written one r 0 (text_cells LineNumber (chars digits))) → (digits ≡ [] → two ≡ one)
     → (0 < length text → new ≡ cells_written two r (layout.frame.gutter + 3) (text_cells NoStyle (chars text))) → (text ≡ [] → new ≡ two)
@@ -122,11 +123,11 @@ pub line_drawn : (layout : SuggestionLayout) (glyph : SuggestionGlyph) (number :
 unfolding line_cells
 line_drawn layout glyph number line role signed digits text r old one two new here role_is sign_is digits_are text_is utf8_digits utf8_text signs numbers no_number texts no_text =
     let g = layout.frame.gutter in
-    let sign_row = put (role_of glyph) (glyph_of layout.frame.decor glyph) (g + 1) [] in
+    let sign_row = put (suggestion_role_of glyph) (suggestion_glyph_of layout.frame.decor glyph) (g + 1) [] in
     let first : one ≡ old ++ sign_row ∷ [] =
-    put_begun (role_of glyph) (glyph_of layout.frame.decor glyph) (g + 1) r old [] old one (glyph_some layout.frame.decor glyph) here (sym (append-nil old))
+    put_begun (suggestion_role_of glyph) (suggestion_glyph_of layout.frame.decor glyph) (g + 1) r old [] old one (glyph_some layout.frame.decor glyph) here (sym (append-nil old))
     (omega arith) (signs ∙ ap (λ (k : ElementStyle). cells_written old r (g + 1)
-    (text_cells k (chars signed))) role_is ∙ ap (λ (cs : List ℕ). cells_written old r (g + 1) (text_cells (role_of glyph) cs)) sign_is) in
+    (text_cells k (chars signed))) role_is ∙ ap (λ (cs : List ℕ). cells_written old r (g + 1) (text_cells (suggestion_role_of glyph) cs)) sign_is) in
     let second = put_more LineNumber digits 0 r old sign_row one two utf8_digits here first numbers no_number in
     let third = put_more NoStyle text (g + 3) r old (put LineNumber (chars digits) 0 sign_row) two new utf8_text here second texts no_text in
     third ∙ ap (λ (cs : List ℕ). old ++ put NoStyle cs (g + 3) (put LineNumber (chars digits) 0 sign_row) ∷ []) text_is ∙ ap (λ (cs : List ℕ). old ++ put NoStyle (norm (chars line)) (g + 3) (put LineNumber cs 0 sign_row) ∷ []) digits_are
@@ -175,29 +176,31 @@ offered_is layout kind glyph count counted number numbered line text ss new sign
 
 -- a glyph that was drawn below all rows and so many empty ones
 pub glyph_below : (role : ElementStyle) (decor : DecorStyle) (glyph : SuggestionGlyph) (cs : List ℕ) (at r skipped : ℕ) (old new : List (List Cell))
-    → cs ≡ glyph_of decor glyph → r ≡ length old + skipped → new ≡ cells_written old r at (text_cells role cs)
-    → new ≡ (old ++ replicate skipped []) ++ put role (glyph_of decor glyph) at [] ∷ []
+    → cs ≡ suggestion_glyph_of decor glyph → r ≡ length old + skipped → new ≡ cells_written old r at (text_cells role cs)
+    → new ≡ (old ++ replicate skipped []) ++ put role (suggestion_glyph_of decor glyph) at [] ∷ []
 glyph_below role decor glyph cs at r skipped old new is here writes =
-    let cells = text_cells role (glyph_of decor glyph) in
+    let cells = text_cells role (suggestion_glyph_of decor glyph) in
     writes ∙ ap (λ (t : List ℕ). cells_written old r at (text_cells role t)) is ∙ ap (λ n. cells_written old n at cells) here
     ∙ skipped_written old skipped at cells ∙ sym (append_assoc old (replicate skipped []) (written SPACE [] at cells ∷ []))
     ∙ ap (λ (row : List Cell). (old ++ replicate skipped []) ++ row ∷ [])
-    (sym (put_some role (glyph_of decor glyph) at [] (glyph_some decor glyph)))
+    (sym (put_some role (suggestion_glyph_of decor glyph) at [] (glyph_some decor glyph)))
 
 -- a glyph that is written over the first row below is put there
 pub glyph_over : (role : ElementStyle) (decor : DecorStyle) (glyph : SuggestionGlyph) (cs : List ℕ) (at r : ℕ) (above tail old new : List (List Cell))
-    → cs ≡ glyph_of decor glyph → r ≡ length above → old ≡ above ++ tail → length tail ≤ 1 → new ≡ cells_written old r at (text_cells role cs)
-    → new ≡ above ++ put role (glyph_of decor glyph) at (row_at tail 0) ∷ []
+    → cs ≡ suggestion_glyph_of decor glyph → r ≡ length above → old ≡ above ++ tail → length tail ≤ 1 → new ≡ cells_written old r at (text_cells role cs)
+    → new ≡ above ++ put role (suggestion_glyph_of decor glyph) at (row_at tail 0) ∷ []
 glyph_over role decor glyph cs at r above tail old new is here old_is few writes =
-    put_begun role (glyph_of decor glyph) at r above tail old new (glyph_some decor glyph) here old_is few (writes ∙ ap (λ (t : List ℕ). cells_written old r at (text_cells role t)) is)
+    put_begun role (suggestion_glyph_of decor glyph) at r above tail old new (glyph_some decor glyph) here old_is few (writes ∙ ap (λ (t : List ℕ). cells_written old r at (text_cells role t)) is)
 
 -- what a suggestion begins and ends with
-pub begin_opening : (layout : SuggestionLayout) (under : List Cell) → put LineNumber (glyph_of layout.frame.decor sign.Opening) (layout.frame.gutter + 1) under ≡ begin_cells layout Opening under
+pub begin_opening : (layout : SuggestionLayout) (under : List Cell)
+    → put LineNumber (suggestion_glyph_of layout.frame.decor sign.Opening) (layout.frame.gutter + 1) under ≡ begin_cells layout Opening under
 unfolding begin_cells
 begin_opening layout under = refl
 
 -- the glyph of a next suggestion makes the row that begins it
-pub begin_next : (layout : SuggestionLayout) (under : List Cell) → put LineNumber (glyph_of layout.frame.decor sign.Next) (layout.frame.gutter + 1) under ≡ begin_cells layout Next under
+pub begin_next : (layout : SuggestionLayout) (under : List Cell)
+    → put LineNumber (suggestion_glyph_of layout.frame.decor sign.Next) (layout.frame.gutter + 1) under ≡ begin_cells layout Next under
 unfolding begin_cells
 begin_next layout under = refl
 

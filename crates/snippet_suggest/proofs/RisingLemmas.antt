@@ -5,8 +5,8 @@ use Rattle.std.proofs.lemmas.List.Elements.{filter_map-append, All-cons, All-nil
 use Rattle.std.proofs.lemmas.Bool.{cases_eq}
 use Rattle.std.proofs.lemmas.List.{append-nil}
 use Rattle.snippet_suggest.specs.declared.layout.SuggestionLayout.{SuggestionLayout}
-use Rattle.snippet_suggest.specs.declared.shown.ShownLine.{ShownLine}
-use Rattle.snippet_suggest.specs.declared.shown.ShownLine.TheVariants.{Line, Gap}
+use Rattle.snippet_suggest.specs.declared.shown.SuggestionLine.{SuggestionLine}
+use Rattle.snippet_suggest.specs.declared.shown.SuggestionLine.TheVariants.{Line, Gap}
 use Rattle.snippet_suggest.specs.Rows.{NumberFits}
 use Rattle.snippet_suggest.specs.Shown.{lines_from, shown_run, shown_from, shown_lines, number_of, numbers_shown, AreRising}
 
@@ -61,7 +61,7 @@ rising_shown touched count =
     subst (λ (to : ℕ). AreRising 0 to (numbers_shown (shown_lines touched count))) same (rising_from touched 0 0 count (omega arith))
 
 -- where there is room for the number of each line, there is for those that are shown
-rooms_of : (layout : SuggestionLayout) (first low count : ℕ) (shown : List ShownLine) → AreRising low count (numbers_shown shown) → ((k : ℕ) → k < count → NumberFits layout first (Line k)) → All (NumberFits layout first) shown
+rooms_of : (layout : SuggestionLayout) (first low count : ℕ) (shown : List SuggestionLine) → AreRising low count (numbers_shown shown) → ((k : ℕ) → k < count → NumberFits layout first (Line k)) → All (NumberFits layout first) shown
 rooms_of layout first low count [] rising rooms = All-nil (NumberFits layout first)
 rooms_of layout first low count (Line k ∷ shown) rising rooms =
     All-cons (NumberFits layout first) (Line k) shown (rooms k (omega (arith, rising_bound (k + 1) count (numbers_shown shown) rising.1))) (rooms_of layout first (k + 1) count shown rising.1 rooms)
@@ -74,7 +74,7 @@ rooms_shown layout first count touched rooms =
     rooms_of layout first 0 count (shown_lines touched count) (rising_shown touched count) rooms
 
 -- at the end nothing is still to come
-pub shown_all : (touched : ℕ → Bool) (shown all : List ShownLine) (after line count : ℕ) → count ≤ line → shown ++ shown_from touched after line (count - line) ≡ all → shown ≡ all
+pub shown_all : (touched : ℕ → Bool) (shown all : List SuggestionLine) (after line count : ℕ) → count ≤ line → shown ++ shown_from touched after line (count - line) ≡ all → shown ≡ all
 shown_all touched shown all after line count past whole =
     let none : count - line ≡ 0 = omega (arith, past) in
     sym (append-nil shown) ∙ sym (ap (λ n. shown ++ shown_from touched after line n) none) ∙ whole

@@ -1,17 +1,17 @@
 -- Which lines are shown, one line after another.
 use Rattle.std.proofs.Common.{◌≡◌, ℕ, suc, ◌+◌, ◌-◌, ◌<◌, Bool, true, false, List, [], ◌∷◌, ◌++◌, if◌then◌else◌, sym, ap, ◌∙◌, arith, append_assoc}
-use Rattle.snippet_suggest.specs.declared.shown.ShownLine.{ShownLine}
-use Rattle.snippet_suggest.specs.declared.shown.ShownLine.TheVariants.{Line}
+use Rattle.snippet_suggest.specs.declared.shown.SuggestionLine.{SuggestionLine}
+use Rattle.snippet_suggest.specs.declared.shown.SuggestionLine.TheVariants.{Line}
 use Rattle.snippet_suggest.specs.Shown.{lines_from, shown_run, shown_from}
 
 -- one line more of a run
-pub run_step : (done new all : List ShownLine) (line to : ℕ) → line < to → new ≡ done ++ Line line ∷ [] → done ++ lines_from line (to - line) ≡ all → new ++ lines_from (line + 1) (to - (line + 1)) ≡ all
+pub run_step : (done new all : List SuggestionLine) (line to : ℕ) → line < to → new ≡ done ++ Line line ∷ [] → done ++ lines_from line (to - line) ≡ all → new ++ lines_from (line + 1) (to - (line + 1)) ≡ all
 run_step done new all line to below pushed is =
     let left : to - line ≡ suc (to - (line + 1)) = omega arith in
     ap (λ xs. xs ++ lines_from (line + 1) (to - (line + 1))) pushed ∙ append_assoc done (Line line ∷ []) (lines_from (line + 1) (to - (line + 1))) ∙ sym (ap (λ n. done ++ lines_from line n) left) ∙ is
 
 -- what is still to come, where the line is touched, and where it isn't
-pub touched_step : (touched : ℕ → Bool) (done mid new all : List ShownLine) (after line count : ℕ) → line < count → touched line ≡ true
+pub touched_step : (touched : ℕ → Bool) (done mid new all : List SuggestionLine) (after line count : ℕ) → line < count → touched line ≡ true
     → mid ≡ done ++ shown_run after line → new ≡ mid ++ Line line ∷ [] → done ++ shown_from touched after line (count - line) ≡ all
     → new ++ shown_from touched (line + 1) (line + 1) (count - (line + 1)) ≡ all
 touched_step touched done mid new all after line count below holds run pushed is =
@@ -23,7 +23,7 @@ touched_step touched done mid new all after line count below holds run pushed is
     holds) ∙ sym (ap (λ n. done ++ shown_from touched after line n) left) ∙ is
 
 -- a line that isn't touched adds no shown line
-pub untouched_step : (touched : ℕ → Bool) (done all : List ShownLine) (after line count : ℕ) → line < count → touched line ≡ false → done ++ shown_from touched after line (count - line) ≡ all → done ++ shown_from touched after (line + 1) (count - (line + 1)) ≡ all
+pub untouched_step : (touched : ℕ → Bool) (done all : List SuggestionLine) (after line count : ℕ) → line < count → touched line ≡ false → done ++ shown_from touched after line (count - line) ≡ all → done ++ shown_from touched after (line + 1) (count - (line + 1)) ≡ all
 untouched_step touched done all after line count below holds is =
     let left : count - line ≡ suc (count - (line + 1)) = omega arith in
     let rest = shown_from touched (line + 1) (line + 1) (count - (line + 1)) in

@@ -15,13 +15,13 @@ use Rattle.snippet_text.specs.Normalized.{norm}
 use Rattle.snippet_lines.specs.Number.{shown_number}
 use Rattle.snippet_splice.specs.Spliced.{last_line_reached}
 use Rattle.snippet_splice.specs.declared.stretches.SubstitutionHighlight.{SubstitutionHighlight}
-use Rattle.snippet_suggest.specs.declared.glyphs.SuggestionGlyph.{SuggestionGlyph}
+use Rattle.snippet_style.specs.declared.glyphs.SuggestionGlyph.{SuggestionGlyph}
 use Rattle.snippet_suggest.specs.declared.kind.DisplaySuggestion.{DisplaySuggestion}
 use Rattle.snippet_suggest.specs.declared.layout.SuggestionLayout.{SuggestionLayout}
 use Rattle.snippet_suggest.specs.declared.layout.SuggestionStart.{SuggestionStart}
 use Rattle.snippet_suggest.specs.Cells.{left_out_cells, line_cells, offered_cells, on_last, put, sign_of, stretch_cell, with_stretches}
 use Rattle.snippet_suggest.specs.Given.{edits_of, first_given, given_lines, given_ranges, is_left_out, last_reached, shown_kind}
-use Rattle.snippet_suggest.specs.Glyphs.{glyph_of, role_of}
+use Rattle.snippet_style.specs.Glyphs.{suggestion_glyph_of, suggestion_role_of}
 use Rattle.snippet_suggest.specs.Order.{Begins, Empty, Ends, Offers, Removes, Skips, SuggestionRow, is_diff, rows_of_suggestion}
 use Rattle.snippet_suggest.specs.Rows.{without_role}
 use Rattle.snippet_suggest.specs.Shown.{is_touched}
@@ -60,20 +60,21 @@ put_first role (x ∷ cs) at row some =
 -- the sign stands in the row of a line
 line_sign : (layout : SuggestionLayout) (glyph : SuggestionGlyph) (number : ℕ) (line : List ℕ)
     → length (shown_number layout.numbers layout.frame.gutter number) ≤ layout.frame.gutter + 1
-    → (slice_index_or (line_cells layout glyph number line) (layout.frame.gutter + 1) SPACE).ch ≡ slice_index_or (glyph_of layout.frame.decor glyph) 0 32
+    → (slice_index_or (line_cells layout glyph number line) (layout.frame.gutter + 1) SPACE).ch
+    ≡ slice_index_or (suggestion_glyph_of layout.frame.decor glyph) 0 32
 unfolding line_cells
 line_sign layout glyph number line fits =
     let g : ℕ = layout.frame.gutter in
-    let signed : List Cell = put (role_of glyph) (glyph_of layout.frame.decor glyph) (g + 1) [] in
+    let signed : List Cell = put (suggestion_role_of glyph) (suggestion_glyph_of layout.frame.decor glyph) (g + 1) [] in
     let digits : List ℕ = shown_number layout.numbers g number in
     let numbered : List Cell = put LineNumber digits 0 signed in
     let Ch : Cell → ℕ = λ cell. cell.ch in
-    ap Ch (put_left NoStyle (norm (chars line)) (g + 3) (g + 1) numbered (omega arith)) ∙ ap Ch (put_right LineNumber digits 0 (g + 1) signed (omega (arith, fits))) ∙ put_first (role_of glyph) (glyph_of layout.frame.decor glyph) (g + 1) [] (glyph_some layout.frame.decor glyph)
+    ap Ch (put_left NoStyle (norm (chars line)) (g + 3) (g + 1) numbered (omega arith)) ∙ ap Ch (put_right LineNumber digits 0 (g + 1) signed (omega (arith, fits))) ∙ put_first (suggestion_role_of glyph) (suggestion_glyph_of layout.frame.decor glyph) (g + 1) [] (glyph_some layout.frame.decor glyph)
 
 offered_sign : (layout : SuggestionLayout) (kind : DisplaySuggestion) (count number : ℕ) (line : List ℕ) (ss : List SubstitutionHighlight)
     → length (shown_number layout.numbers layout.frame.gutter number) ≤ layout.frame.gutter + 1
     → (slice_index_or (offered_cells layout kind count number line ss) (layout.frame.gutter + 1) SPACE).ch ≡ slice_index_or
-    (glyph_of layout.frame.decor (sign_of kind count line ss)) 0 32
+    (suggestion_glyph_of layout.frame.decor (sign_of kind count line ss)) 0 32
 unfolding offered_cells
 offered_sign layout kind count number line ss fits =
     let row : List Cell = line_cells layout (sign_of kind count line ss) number line in

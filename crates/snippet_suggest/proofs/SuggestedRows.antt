@@ -20,8 +20,8 @@ use Rattle.snippet_suggest.specs.declared.kind.DisplaySuggestion.TheVariants.{Ad
 use Rattle.snippet_suggest.specs.declared.layout.SuggestionLayout.{SuggestionLayout}
 use Rattle.snippet_suggest.specs.declared.layout.SuggestionStart.{SuggestionStart}
 use Rattle.snippet_suggest.specs.declared.layout.SuggestionStart.TheVariants.{Next, Opening, Path}
-use Rattle.snippet_suggest.specs.declared.shown.ShownLine.{ShownLine}
-use Rattle.snippet_suggest.specs.declared.shown.ShownLine.TheVariants.{Gap, Line}
+use Rattle.snippet_suggest.specs.declared.shown.SuggestionLine.{SuggestionLine}
+use Rattle.snippet_suggest.specs.declared.shown.SuggestionLine.TheVariants.{Gap, Line}
 use Rattle.snippet_suggest.specs.Cells.{begin_cells, diff_cells, emptied_cells, end_cells, gone_of, left_out_cells, offered_cells, on_last, removed_cells, shown_cells, taken_cells, with_stretches}
 use Rattle.snippet_suggest.specs.Given.{edits_of, first_given, given_lines, given_ranges, is_left_out, last_reached, last_removed, shown_kind, trimmed_of, unless_stays}
 use Rattle.snippet_view.specs.Numbered.{numbered_source}
@@ -45,7 +45,7 @@ unfolding cells_of
 empty_is layout s under = refl
 
 -- lines that are shown, which have the same stretches
-pub shown_same : (layout : SuggestionLayout) (kind : DisplaySuggestion) (first : ℕ) (lines : List (List ℕ)) (f g : ℕ → List SubstitutionHighlight) (shown : List ShownLine) → ((k : ℕ) → f k ≡ g k) → map (shown_cells layout kind first lines f) shown ≡ map (shown_cells layout kind first lines g) shown
+pub shown_same : (layout : SuggestionLayout) (kind : DisplaySuggestion) (first : ℕ) (lines : List (List ℕ)) (f g : ℕ → List SubstitutionHighlight) (shown : List SuggestionLine) → ((k : ℕ) → f k ≡ g k) → map (shown_cells layout kind first lines f) shown ≡ map (shown_cells layout kind first lines g) shown
 shown_same layout kind first lines f g [] same = refl
 shown_same layout kind first lines f g (Line k ∷ shown) same =
     let Row : List SubstitutionHighlight → List Cell = λ ss. shown_cells layout kind first lines (λ n. ss) (Line k) in
@@ -53,7 +53,7 @@ shown_same layout kind first lines f g (Line k ∷ shown) same =
 shown_same layout kind first lines f g (Gap ∷ shown) same =
     ap (λ rows. shown_cells layout kind first lines g Gap ∷ rows) (shown_same layout kind first lines f g shown same)
 
-pub shown_is : (layout : SuggestionLayout) (s : Snippet Patch) (shown : List ShownLine) → map (cells_of layout s []) (map row_of_shown shown) ≡ map (shown_cells layout (shown_kind s) (s.line_start + first_given s) (given_lines s) (new_on s)) shown
+pub shown_is : (layout : SuggestionLayout) (s : Snippet Patch) (shown : List SuggestionLine) → map (cells_of layout s []) (map row_of_shown shown) ≡ map (shown_cells layout (shown_kind s) (s.line_start + first_given s) (given_lines s) (new_on s)) shown
 unfolding cells_of
 shown_is layout s [] = refl
 shown_is layout s (Line k ∷ shown) =
@@ -111,7 +111,7 @@ body_plain layout start s under line lines rows some stays is =
 
 -- where lines are given, and no diff is shown, the beginning and the rows of the shown lines are the suggestion's
 pub body_shown : (layout : SuggestionLayout) (start : SuggestionStart) (s : Snippet Patch) (under : List Cell) (line : List ℕ) (lines : List (List ℕ))
-    (shown : List ShownLine) → given_lines s ≡ line ∷ lines → shown_kind s ≢ Diff → rows_of_suggestion start s ≡ Begins start ∷ map row_of_shown shown
+    (shown : List SuggestionLine) → given_lines s ≡ line ∷ lines → shown_kind s ≢ Diff → rows_of_suggestion start s ≡ Begins start ∷ map row_of_shown shown
     → begin_cells layout start under ∷ map (shown_cells layout (shown_kind s) (s.line_start + first_given s) (given_lines s) (new_on s))
     shown ≡ body_cells layout start s under
 body_shown layout start s under line lines shown some other is =

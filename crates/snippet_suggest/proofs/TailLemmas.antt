@@ -15,13 +15,14 @@ use Rattle.snippet_style.proofs.CellLemmas.{length-text_cells, length-written, s
 use Rattle.snippet_text.specs.Normalized.{is_listed}
 use Rattle.snippet_lines.specs.declared.number.LineNumbers.{LineNumbers}
 use Rattle.snippet_model.specs.Rows.{IsFreeCell, IsFree}
-use Rattle.snippet_suggest.specs.declared.glyphs.SuggestionGlyph.{SuggestionGlyph}
+use Rattle.snippet_style.specs.declared.glyphs.SuggestionGlyph.{SuggestionGlyph}
 use Rattle.snippet_suggest.specs.declared.layout.SuggestionLayout.{SuggestionLayout}
-use Rattle.snippet_suggest.specs.Glyphs.{glyph_of, is_begin, is_sign}
+use Rattle.snippet_style.specs.Glyphs.{suggestion_glyph_of}
+use Rattle.snippet_suggest.specs.Glyphs.{is_begin, is_sign}
 use Rattle.snippet_suggest.specs.Rows.{AddsEnd, AddsRow, IsBareRow, IsBeforeSign, IsLeftOver, IsRemovedRow, IsStart, IsStrokeRow, IsTail, begin_glyph, begins_in_last, beside_gutter, end_glyph}
 use Rattle.snippet_suggest.specs.declared.layout.SuggestionStart.{SuggestionStart}
 use Rattle.snippet_suggest.specs.declared.layout.SuggestionStart.TheVariants.{Opening, Next, Path}
-use Rattle.snippet_suggest.specs.declared.glyphs.SuggestionGlyph.TheVariants as sign
+use Rattle.snippet_style.specs.declared.glyphs.SuggestionGlyph.TheVariants as sign
 use Rattle.snippet_style.specs.declared.glyphs.DecorStyle.TheVariants.{Ascii, Unicode}
 use Rattle.snippet_suggest.proofs.BareLemmas.{bare_none, stroke_put, stroke_signed}
 use Rattle.snippet_suggest.proofs.LeftOver.{StaysLeft, before_sign, left_over}
@@ -80,7 +81,7 @@ begin_other sign.Alone is = absurd (cc)
 begin_other sign.Changed is = absurd (cc)
 begin_other sign.Added is = absurd (cc)
 
-begin_covers : (decor : DecorStyle) (glyph : SuggestionGlyph) (follows : Bool) → is_begin glyph ≡ true → length (end_glyph decor follows) ≤ length (glyph_of decor glyph)
+begin_covers : (decor : DecorStyle) (glyph : SuggestionGlyph) (follows : Bool) → is_begin glyph ≡ true → length (end_glyph decor follows) ≤ length (suggestion_glyph_of decor glyph)
 begin_covers Ascii sign.Opening true is = omega arith
 begin_covers Ascii sign.Opening false is = omega arith
 begin_covers Ascii sign.Next true is = omega arith
@@ -98,23 +99,23 @@ begin_covers decor sign.Added follows is = absurd (cc)
 
 tail_stroke : (layout : SuggestionLayout) (shares : Bool) (glyph : SuggestionGlyph) (tail : List (List Cell)) → is_begin glyph ≡ true
     → IsTail layout.frame.decor layout.frame.gutter shares tail
-    → IsStrokeRow layout.frame.decor layout.frame.gutter (beside_gutter layout.frame.gutter (glyph_of layout.frame.decor glyph))
-    (written SPACE (tail_row tail) (layout.frame.gutter + 1) (text_cells LineNumber (glyph_of layout.frame.decor glyph)))
+    → IsStrokeRow layout.frame.decor layout.frame.gutter (beside_gutter layout.frame.gutter (suggestion_glyph_of layout.frame.decor glyph))
+    (written SPACE (tail_row tail) (layout.frame.gutter + 1) (text_cells LineNumber (suggestion_glyph_of layout.frame.decor glyph)))
 tail_stroke layout true glyph tail is shared =
-    let Is : List (List Cell) → Type 0 = λ rs. IsStrokeRow layout.frame.decor layout.frame.gutter (beside_gutter layout.frame.gutter (glyph_of layout.frame.decor glyph)) (written SPACE (tail_row rs) (layout.frame.gutter + 1) (text_cells LineNumber (glyph_of layout.frame.decor glyph))) in
+    let Is : List (List Cell) → Type 0 = λ rs. IsStrokeRow layout.frame.decor layout.frame.gutter (beside_gutter layout.frame.gutter (suggestion_glyph_of layout.frame.decor glyph)) (written SPACE (tail_row rs) (layout.frame.gutter + 1) (text_cells LineNumber (suggestion_glyph_of layout.frame.decor glyph))) in
     subst Is (sym shared.2) (stroke_put layout.frame.decor layout.frame.gutter LineNumber glyph (end_glyph layout.frame.decor shared.1) shared.0 (begin_other glyph is) (begin_covers layout.frame.decor glyph shared.1 is) shared.3)
 tail_stroke layout false glyph tail is none =
-    let Is : List (List Cell) → Type 0 = λ rs. IsStrokeRow layout.frame.decor layout.frame.gutter (beside_gutter layout.frame.gutter (glyph_of layout.frame.decor glyph)) (written SPACE (tail_row rs) (layout.frame.gutter + 1) (text_cells LineNumber (glyph_of layout.frame.decor glyph))) in
+    let Is : List (List Cell) → Type 0 = λ rs. IsStrokeRow layout.frame.decor layout.frame.gutter (beside_gutter layout.frame.gutter (suggestion_glyph_of layout.frame.decor glyph)) (written SPACE (tail_row rs) (layout.frame.gutter + 1) (text_cells LineNumber (suggestion_glyph_of layout.frame.decor glyph))) in
     subst Is (sym none) (stroke_signed layout.frame.decor layout.frame.gutter LineNumber glyph (begin_other glyph is))
 
 -- a glyph that is drawn over the tail is one row of strokes more
 pub glyph_added : (layout : SuggestionLayout) (shares : Bool) (glyph : SuggestionGlyph) (above tail old new : List (List Cell)) (row : ℕ)
-    (text : List ℕ) → is_begin glyph ≡ true → chars text ≡ glyph_of layout.frame.decor glyph
+    (text : List ℕ) → is_begin glyph ≡ true → chars text ≡ suggestion_glyph_of layout.frame.decor glyph
     → new ≡ cells_written old row (layout.frame.gutter + 1) (text_cells LineNumber (chars text)) → row ≡ length above → old ≡ above ++ tail
     → IsTail layout.frame.decor layout.frame.gutter shares tail
-    → AddsRow (IsStrokeRow layout.frame.decor layout.frame.gutter (beside_gutter layout.frame.gutter (glyph_of layout.frame.decor glyph))) above new
+    → AddsRow (IsStrokeRow layout.frame.decor layout.frame.gutter (beside_gutter layout.frame.gutter (suggestion_glyph_of layout.frame.decor glyph))) above new
 glyph_added layout shares glyph above tail old new row text begins is writes here old_is tail_is =
-    let cells = text_cells LineNumber (glyph_of layout.frame.decor glyph) in
+    let cells = text_cells LineNumber (suggestion_glyph_of layout.frame.decor glyph) in
     record {
       row = written SPACE (tail_row tail) (layout.frame.gutter + 1) cells;
       added = tail_put layout shares above tail old new row (layout.frame.gutter + 1) cells here old_is tail_is (writes ∙ ap (λ cs. cells_written old row (layout.frame.gutter + 1) (text_cells LineNumber cs)) is);
@@ -131,11 +132,11 @@ skipped_written rows skipped at cells =
 
 -- a glyph was drawn there
 pub end_added : (layout : SuggestionLayout) (glyph : SuggestionGlyph) (skipped : ℕ) (old new : List (List Cell)) (row : ℕ) (text : List ℕ)
-    → is_sign glyph ≡ false → chars text ≡ glyph_of layout.frame.decor glyph
+    → is_sign glyph ≡ false → chars text ≡ suggestion_glyph_of layout.frame.decor glyph
     → new ≡ cells_written old row (layout.frame.gutter + 1) (text_cells LineNumber (chars text)) → row ≡ length old + skipped
-    → AddsEnd layout (glyph_of layout.frame.decor glyph) skipped old new
+    → AddsEnd layout (suggestion_glyph_of layout.frame.decor glyph) skipped old new
 end_added layout glyph skipped old new row text other is writes here =
-    let cells = text_cells LineNumber (glyph_of layout.frame.decor glyph) in
+    let cells = text_cells LineNumber (suggestion_glyph_of layout.frame.decor glyph) in
     record {
       last = written SPACE [] (layout.frame.gutter + 1) cells;
       added = writes ∙ ap (λ cs. cells_written old row (layout.frame.gutter + 1) (text_cells LineNumber cs)) is ∙ ap (λ r. cells_written old r (layout.frame.gutter + 1) cells) here ∙ skipped_written old skipped (layout.frame.gutter + 1) cells;

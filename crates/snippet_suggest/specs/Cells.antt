@@ -12,18 +12,18 @@ use Rattle.snippet_text.specs.Width.{width_of}
 use Rattle.snippet_lines.specs.Number.{shown_number}
 use Rattle.snippet_splice.specs.declared.stretches.SubstitutionHighlight.{SubstitutionHighlight}
 use Rattle.snippet_splice.specs.Stretches.{capped}
-use Rattle.snippet_suggest.specs.declared.glyphs.SuggestionGlyph.{SuggestionGlyph}
-use Rattle.snippet_suggest.specs.declared.glyphs.SuggestionGlyph.TheVariants as sign
+use Rattle.snippet_style.specs.declared.glyphs.SuggestionGlyph.{SuggestionGlyph}
+use Rattle.snippet_style.specs.declared.glyphs.SuggestionGlyph.TheVariants as sign
 use Rattle.snippet_suggest.specs.declared.kind.DisplaySuggestion.{DisplaySuggestion}
 use Rattle.snippet_suggest.specs.declared.kind.DisplaySuggestion.TheVariants.{Underline, Diff, Plain, Add}
 use Rattle.snippet_suggest.specs.declared.layout.SuggestionLayout.{SuggestionLayout}
 use Rattle.snippet_suggest.specs.declared.layout.SuggestionStart.{SuggestionStart}
 use Rattle.snippet_suggest.specs.declared.layout.SuggestionStart.TheVariants.{Opening, Next, Path}
 use Rattle.snippet_parts.specs.declared.source_map.LineInfo.{LineInfo}
-use Rattle.snippet_suggest.specs.declared.shown.ShownLine.{ShownLine}
-use Rattle.snippet_suggest.specs.declared.shown.ShownLine.TheVariants.{Line, Gap}
+use Rattle.snippet_suggest.specs.declared.shown.SuggestionLine.{SuggestionLine}
+use Rattle.snippet_suggest.specs.declared.shown.SuggestionLine.TheVariants.{Line, Gap}
 use Rattle.snippet_suggest.specs.Given.{is_left_out, last_removed, unless_stays}
-use Rattle.snippet_suggest.specs.Glyphs.{glyph_of, role_of}
+use Rattle.snippet_style.specs.Glyphs.{suggestion_glyph_of, suggestion_role_of}
 use Rattle.snippet_suggest.specs.Order.{number_after}
 use Rattle.snippet_suggest.specs.Rows.{end_glyph}
 
@@ -64,7 +64,7 @@ sign_of kind count line stretches =
 -- after the gutter on. A number that is too long for the gutter stands over the glyph
 unfoldable pub line_cells : SuggestionLayout → SuggestionGlyph → ℕ → List ℕ → List Cell
 line_cells layout glyph number line =
-    let signed = put (role_of glyph) (glyph_of layout.frame.decor glyph) (layout.frame.gutter + 1) [] in
+    let signed = put (suggestion_role_of glyph) (suggestion_glyph_of layout.frame.decor glyph) (layout.frame.gutter + 1) [] in
     let numbered = put LineNumber (shown_number layout.numbers layout.frame.gutter number) 0 signed in
     put NoStyle (norm (chars line)) (layout.frame.gutter + 3) numbered
 
@@ -99,8 +99,8 @@ gap_cells layout =
 
 -- the row that a suggestion begins with, over one that is there or has no cells; below its path that is one that is there
 unfoldable pub begin_cells : SuggestionLayout → SuggestionStart → List Cell → List Cell
-begin_cells layout Opening under = put LineNumber (glyph_of layout.frame.decor sign.Opening) (layout.frame.gutter + 1) under
-begin_cells layout Next under = put LineNumber (glyph_of layout.frame.decor sign.Next) (layout.frame.gutter + 1) under
+begin_cells layout Opening under = put LineNumber (suggestion_glyph_of layout.frame.decor sign.Opening) (layout.frame.gutter + 1) under
+begin_cells layout Next under = put LineNumber (suggestion_glyph_of layout.frame.decor sign.Next) (layout.frame.gutter + 1) under
 begin_cells layout Path under = under
 
 -- the row that it ends with, before a further element or not
@@ -108,7 +108,7 @@ unfoldable pub end_cells : SuggestionLayout → Bool → List Cell
 end_cells layout follows = put LineNumber (end_glyph layout.frame.decor follows) (layout.frame.gutter + 1) []
 
 -- the row of a line of some that is shown, of which the first has this number, and one in place of lines that are left out
-abbrev pub shown_cells : SuggestionLayout → DisplaySuggestion → ℕ → List (List ℕ) → (ℕ → List SubstitutionHighlight) → ShownLine → List Cell
+abbrev pub shown_cells : SuggestionLayout → DisplaySuggestion → ℕ → List (List ℕ) → (ℕ → List SubstitutionHighlight) → SuggestionLine → List Cell
 shown_cells layout kind first lines stretches (Line k) =
     offered_cells layout kind (length lines) (number_after first k) (slice_index_or lines k []) (stretches k)
 shown_cells layout kind first lines stretches Gap = gap_cells layout

@@ -1,6 +1,7 @@
 -- The marks below the one line of a suggestion, as values.
-use Rattle.std.specs.Prelude.{ℕ, ◌+◌, ◌-◌, ◌^◌, min, nat_le, List, [], ◌∷◌, ◌++◌, chars, filter, length, map, replicate, sum_by, if◌then◌else◌}
+use Rattle.std.specs.Prelude.{ℕ, ◌+◌, ◌-◌, ◌^◌, min, nat_le, List, [], ◌∷◌, ◌++◌, chars, filter, length, map, replicate, sum_by, if◌then◌else◌, codes}
 use Rattle.std.specs.Str.{trim, trim_start}
+use Rattle.snippet_style.specs.Glyphs.{char_of}
 use Rattle.snippet_style.specs.Cell.{Cell}
 use Rattle.snippet_style.specs.declared.glyphs.DecorStyle.{DecorStyle}
 use Rattle.snippet_style.specs.declared.role.ElementStyle.TheVariants.{Addition}
@@ -13,7 +14,7 @@ use Rattle.snippet_splice.specs.Stretches.{capped}
 use Rattle.snippet_suggest.specs.declared.layout.SuggestionLayout.{SuggestionLayout}
 use Rattle.snippet_suggest.specs.declared.marks.PatchColumns.{PatchColumns}
 use Rattle.snippet_suggest.specs.Cells.{put}
-use Rattle.snippet_suggest.specs.Glyphs.{changed_mark_of}
+use Rattle.snippet_style.specs.Glyphs.{changed_mark_of}
 use Rattle.snippet_suggest.specs.Kind.{adds_text, is_blank}
 
 -- the columns of a text, and of an edit: where its span starts and ends in its lines of the source, and how many its text has
@@ -58,8 +59,8 @@ abbrev pub mark_end : List PatchColumns → PatchColumns → List ℕ → ℕ
 mark_end earlier c text = moved c.start earlier (capped (capped (c.start + lead_of text) + inner_width c text))
 
 -- the mark of an edit: `+` where it adds text, else that of what is changed
-abbrev pub mark_of : DecorStyle → List ℕ → Edit → ℕ
-mark_of decor source e = if adds_text source e then 43 else changed_mark_of decor
+abbrev pub mark_glyph_of : DecorStyle → List ℕ → Edit → ℕ
+mark_glyph_of decor source e = if adds_text source e then char_of (codes "+") else changed_mark_of decor
 
 -- a row with a mark in the columns from one to before another, as far as there are columns
 unfoldable pub with_mark : SuggestionLayout → ℕ → ℕ → ℕ → List Cell → List Cell
@@ -71,7 +72,7 @@ unfoldable pub with_marks : SuggestionLayout → Source → List PatchColumns �
 with_marks layout s earlier [] row = row
 with_marks layout s earlier (e ∷ es) row =
     let c = columns_of s e in
-    with_marks layout s (earlier ++ c ∷ []) es (with_mark layout (mark_of layout.frame.decor s.text e) (mark_start earlier c e.text) (mark_end earlier c e.text) row)
+    with_marks layout s (earlier ++ c ∷ []) es (with_mark layout (mark_glyph_of layout.frame.decor s.text e) (mark_start earlier c e.text) (mark_end earlier c e.text) row)
 
 -- the edits that some trimmed patches are
 abbrev pub edits_at : List TrimmedPatch → List Edit

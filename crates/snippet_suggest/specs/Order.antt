@@ -12,8 +12,8 @@ use Rattle.snippet_splice.specs.Shown.{first_start}
 use Rattle.snippet_suggest.specs.declared.kind.DisplaySuggestion.{DisplaySuggestion}
 use Rattle.snippet_suggest.specs.declared.kind.DisplaySuggestion.TheVariants.{Underline, Diff, Plain, Add}
 use Rattle.snippet_suggest.specs.declared.layout.SuggestionStart.{SuggestionStart}
-use Rattle.snippet_suggest.specs.declared.shown.ShownLine.{ShownLine}
-use Rattle.snippet_suggest.specs.declared.shown.ShownLine.TheVariants.{Line, Gap}
+use Rattle.snippet_suggest.specs.declared.shown.SuggestionLine.{SuggestionLine}
+use Rattle.snippet_suggest.specs.declared.shown.SuggestionLine.TheVariants.{Line, Gap}
 use Rattle.snippet_suggest.specs.Given.{first_given, given_lines, given_ranges, is_left_out, last_reached, removed_lines, shown_kind, trimmed_of}
 use Rattle.snippet_suggest.specs.Shown.{is_touched, shown_lines}
 
@@ -75,7 +75,7 @@ abbrev pub removed_row : Snippet Patch → ℕ → SuggestionRow
 removed_row s i = Removes i (removed_number s i) (text_at (source_lines (cow_str_bytes s.source)) i)
 
 -- the row of a line that is shown, and one between two lines in place of those that are left out
-abbrev pub row_of_shown : ShownLine → SuggestionRow
+abbrev pub row_of_shown : SuggestionLine → SuggestionRow
 row_of_shown (Line k) = Offers k
 row_of_shown Gap = Skips
 

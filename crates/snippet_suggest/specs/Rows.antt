@@ -1,11 +1,11 @@
 -- What the rows of a suggestion show.
-use Rattle.std.specs.Prelude.{◌≡◌, ◌⊎◌, ℕ, ◌+◌, ◌-◌, ◌<◌, ◌≤◌, ◌==◌, Bool, true, false, Option, List, [], ◌∷◌, ◌++◌, length, map, replicate, take, drop, chars, if◌then◌else◌}
+use Rattle.std.specs.Prelude.{◌≡◌, ◌⊎◌, ℕ, ◌+◌, ◌-◌, ◌<◌, ◌≤◌, ◌==◌, Bool, true, false, Option, List, [], ◌∷◌, ◌++◌, length, map, replicate, take, drop, chars, if◌then◌else◌, codes}
 use Rattle.std.specs.Char.{is_ascii_alphanumeric}
 use Rattle.std.specs.List.{AllZip, list_any, slice_index_or}
 use Rattle.snippet_model.specs.declared.snippet.Snippet.{Snippet}
 use Rattle.snippet_model.specs.declared.snippet.Patch.{Patch}
 use Rattle.snippet_style.specs.declared.glyphs.DecorStyle.{DecorStyle}
-use Rattle.snippet_style.specs.Glyphs.{placeholder_of, separator_of}
+use Rattle.snippet_style.specs.Glyphs.{char_of, placeholder_of, separator_of}
 use Rattle.snippet_style.specs.Cell.{Cell, SPACE}
 use Rattle.snippet_grid.specs.Print.{row_text}
 use Rattle.snippet_text.specs.Normalized.{norm}
@@ -17,26 +17,26 @@ use Rattle.snippet_model.specs.Rows.{IsFree}
 use Rattle.snippet_suggest.specs.declared.layout.SuggestionLayout.{SuggestionLayout}
 use Rattle.snippet_suggest.specs.declared.layout.SuggestionStart.{SuggestionStart}
 use Rattle.snippet_suggest.specs.declared.layout.SuggestionStart.TheVariants.{Opening, Next, Path}
-use Rattle.snippet_suggest.specs.declared.shown.ShownLine.{ShownLine}
-use Rattle.snippet_suggest.specs.declared.shown.ShownLine.TheVariants.{Line, Gap}
+use Rattle.snippet_suggest.specs.declared.shown.SuggestionLine.{SuggestionLine}
+use Rattle.snippet_suggest.specs.declared.shown.SuggestionLine.TheVariants.{Line, Gap}
 use Rattle.snippet_suggest.specs.Given.{counted_line, first_given, given_lines}
 use Rattle.snippet_suggest.specs.Order.{Begins, Empty, Ends, Offers, Removes, Skips, SuggestionRow, number_after, rows_of_suggestion}
-use Rattle.snippet_suggest.specs.declared.glyphs.SuggestionGlyph.TheVariants as sign
-use Rattle.snippet_suggest.specs.Glyphs.{changed_mark_of, glyph_of}
+use Rattle.snippet_style.specs.declared.glyphs.SuggestionGlyph.TheVariants as sign
+use Rattle.snippet_style.specs.Glyphs.{changed_mark_of, suggestion_glyph_of}
 
 -- what stands beside a line that is offered: a separator, the glyph of a changed line, or `+`
 abbrev pub IsSign : DecorStyle → ℕ → Type 0
-IsSign decor c = (c ≡ separator_of decor) ⊎ (c ≡ changed_mark_of decor) ⊎ (c ≡ 43)
+IsSign decor c = (c ≡ separator_of decor) ⊎ (c ≡ changed_mark_of decor) ⊎ (c ≡ char_of (codes "+"))
 
 -- what stands left of the lines in a row that shows none: spaces, what stands for lines that are left out, and the glyphs that
 -- suggestions begin and end with
 abbrev pub is_stroke : DecorStyle → ℕ → Bool
 is_stroke decor c =
-    list_any (λ d. d == c) (32 ∷ (placeholder_of decor ++ glyph_of decor sign.Opening ++ glyph_of decor sign.Next ++ glyph_of decor sign.Leading ++ glyph_of decor sign.Closing))
+    list_any (λ d. d == c) (32 ∷ (placeholder_of decor ++ suggestion_glyph_of decor sign.Opening ++ suggestion_glyph_of decor sign.Next ++ suggestion_glyph_of decor sign.Leading ++ suggestion_glyph_of decor sign.Closing))
 
 -- what stands in a row of marks: spaces, `+`, and the mark below what is changed
 abbrev pub IsMarkOrSpace : DecorStyle → ℕ → Type 0
-IsMarkOrSpace decor c = (c ≡ 32) ⊎ (c ≡ 43) ⊎ (c ≡ changed_mark_of decor)
+IsMarkOrSpace decor c = (c ≡ 32) ⊎ (c ≡ char_of (codes "+")) ⊎ (c ≡ changed_mark_of decor)
 
 -- three cells after the gutter the row holds this text, to its end
 abbrev pub HoldsText : ℕ → List ℕ → List Cell → Type 0
@@ -74,7 +74,7 @@ IsLeftOver decor c = IsMarkOrSpace decor c ⊎ ((48 ≤ c) × (c ≤ 57))
 pub record IsRemovedRow (numbers : LineNumbers) (decor : DecorStyle) (gutter : ℕ) (number text : List ℕ) (row : List Cell) : Type 0 where
   pub numbered : length number ≤ gutter + 1 → row_text (take (length number) row) ≡ number
   pub before : (c : ℕ) → c ≤ gutter → IsBeforeSign numbers decor (slice_index_or row c SPACE).ch
-  pub minus : (slice_index_or row (gutter + 1) SPACE).ch ≡ 45
+  pub minus : (slice_index_or row (gutter + 1) SPACE).ch ≡ char_of (codes "-")
   pub space : (slice_index_or row (gutter + 2) SPACE).ch ≡ 32
   pub begins : row_text (take (length text) (drop (gutter + 3) row)) ≡ text
   pub after : (c : ℕ) → gutter + 3 + length text ≤ c → IsLeftOver decor (slice_index_or row c SPACE).ch
@@ -94,14 +94,14 @@ beside_gutter gutter glyph = replicate (gutter + 1) 32 ++ glyph
 -- in the row that a suggestion begins with: its opening glyph, or one that joins it to the suggestion before, in the last row of
 -- that; or below its path a separator
 abbrev pub begin_glyph : DecorStyle → SuggestionStart → List ℕ
-begin_glyph decor Opening = glyph_of decor sign.Opening
-begin_glyph decor Next = glyph_of decor sign.Next
+begin_glyph decor Opening = suggestion_glyph_of decor sign.Opening
+begin_glyph decor Next = suggestion_glyph_of decor sign.Next
 begin_glyph decor Path = separator_of decor ∷ []
 
 -- in the row that it ends with: a separator before a further element, or else its closing glyph
 abbrev pub end_glyph : DecorStyle → Bool → List ℕ
-end_glyph decor true = glyph_of decor sign.Leading
-end_glyph decor false = glyph_of decor sign.Closing
+end_glyph decor true = suggestion_glyph_of decor sign.Leading
+end_glyph decor false = suggestion_glyph_of decor sign.Closing
 
 -- in a row in place of lines that are left out: what stands for these, right-aligned in the gutter, or from the first cell on where that
 -- is too narrow
@@ -134,13 +134,13 @@ pub record IsRepainted (above : List (List Cell)) (last : List Cell) (new : List
   pub same : map without_role now ≡ map without_role last
 
 -- the row that a line of some is shown by, the first of which has this number; and one that shows none of them
-abbrev pub IsShownRow : SuggestionLayout → ℕ → List (List ℕ) → ShownLine → List Cell → Type 0
+abbrev pub IsShownRow : SuggestionLayout → ℕ → List (List ℕ) → SuggestionLine → List Cell → Type 0
 IsShownRow layout first lines (Line k) row =
     IsLineRow layout.frame.decor layout.frame.gutter (shown_number layout.numbers layout.frame.gutter (number_after first k)) (norm (chars (slice_index_or lines k []))) row
 IsShownRow layout first lines Gap row = IsStrokeRow layout.frame.decor layout.frame.gutter (gap_left layout.frame.decor layout.frame.gutter) row
 
 -- rows for these, one each, stand below some rows, and nothing else
-pub record AddsShown (layout : SuggestionLayout) (first : ℕ) (lines : List (List ℕ)) (shown : List ShownLine) (above new : List (List Cell)) : Type 0 where
+pub record AddsShown (layout : SuggestionLayout) (first : ℕ) (lines : List (List ℕ)) (shown : List SuggestionLine) (above new : List (List Cell)) : Type 0 where
   pub rows : List (List Cell)
   pub added : new ≡ above ++ rows
   pub are : AllZip (IsShownRow layout first lines) shown rows
@@ -180,7 +180,7 @@ pub record AddsEnd (layout : SuggestionLayout) (glyph : List ℕ) (skipped : ℕ
   pub is : IsStrokeRow layout.frame.decor layout.frame.gutter (beside_gutter layout.frame.gutter glyph) last
 
 -- the number of a line that is shown stands left of the sign
-abbrev pub NumberFits : SuggestionLayout → ℕ → ShownLine → Type 0
+abbrev pub NumberFits : SuggestionLayout → ℕ → SuggestionLine → Type 0
 NumberFits layout first (Line k) =
     length (shown_number layout.numbers layout.frame.gutter (number_after first k)) ≤ layout.frame.gutter + 1
 NumberFits layout first Gap = Unit {0}

@@ -15,9 +15,9 @@ use Rattle.snippet_suggest.specs.declared.kind.DisplaySuggestion.{DisplaySuggest
 use Rattle.snippet_suggest.specs.declared.kind.DisplaySuggestion.TheVariants.{Underline, Diff, Plain, Add}
 use Rattle.snippet_suggest.specs.declared.layout.SuggestionLayout.{SuggestionLayout}
 use Rattle.snippet_suggest.specs.declared.layout.SuggestionStart.{SuggestionStart}
-use Rattle.snippet_suggest.specs.declared.shown.ShownLine.TheVariants.{Line}
+use Rattle.snippet_suggest.specs.declared.shown.SuggestionLine.TheVariants.{Line}
 use Rattle.snippet_suggest.specs.Cells.{begin_cells, end_cells, gap_cells, left_out_cells, on_last, removed_cells, shown_cells, sign_of, with_stretches}
-use Rattle.snippet_suggest.specs.Glyphs.{glyph_of}
+use Rattle.snippet_style.specs.Glyphs.{suggestion_glyph_of}
 use Rattle.snippet_suggest.specs.Rows.{NumberFits}
 use Rattle.snippet_suggest.specs.Given.{edits_of, first_given, given_lines, given_ranges, is_left_out, last_reached, shown_kind, trimmed_of}
 use Rattle.snippet_view.specs.Numbered.{numbered_source}
@@ -87,7 +87,7 @@ abbrev pub HasSign : SuggestionLayout → Snippet Patch → SuggestionRow → Li
 HasSign layout s (Begins start) row = Unit {0}
 HasSign layout s (Offers k) row =
     let glyph = sign_of (shown_kind s) (length (given_lines s)) (slice_index_or (given_lines s) k []) (new_on s k) in
-    NumberFits layout (s.line_start + first_given s) (Line k) → (slice_index_or row (layout.frame.gutter + 1) SPACE).ch ≡ slice_index_or (glyph_of layout.frame.decor glyph) 0 32
+    NumberFits layout (s.line_start + first_given s) (Line k) → (slice_index_or row (layout.frame.gutter + 1) SPACE).ch ≡ slice_index_or (suggestion_glyph_of layout.frame.decor glyph) 0 32
 HasSign layout s Skips row = Unit {0}
 HasSign layout s (Removes i number text) row = Unit {0}
 HasSign layout s Empty row = Unit {0}

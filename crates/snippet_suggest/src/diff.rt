@@ -6,12 +6,11 @@ ghost use Rattle.snippet_suggest.specs.Cells.{diff_cells, offered_cells, taken_c
 ghost use Rattle.std.specs.Str.{bytes_eq};
 ghost use Rattle.snippet_style.specs.Cell.{Cell};
 ghost use Rattle.snippet_suggest.specs.declared.kind.DisplaySuggestion.TheVariants.{Diff};
-ghost use Rattle.snippet_suggest.specs.declared.shown.ShownLine.TheVariants.{Line};
+ghost use Rattle.snippet_suggest.specs.declared.shown.SuggestionLine.TheVariants.{Line};
 ghost use Rattle.snippet_suggest.specs.Given.{is_left_out, last_removed, texts_at, unless_stays};
 ghost use Rattle.snippet_suggest.specs.Rows.{AddsRemoved, AddsRows, IsRepainted, NumberFits, Shows};
 ghost use Rattle.snippet_suggest.specs.Order.{Offers, SuggestionRow, changed_rows, counted_from, removed_from};
 
-use crate::glyphs::SuggestionGlyph;
 use crate::kind::is_blank;
 use crate::layout::SuggestionLayout;
 use crate::roles::{paint_stretches, stretches_of};
@@ -19,7 +18,7 @@ use crate::row::{draw_line, draw_removed_line};
 use snippet_grid::StyledBuffer;
 use snippet_parts::LineInfo;
 use snippet_splice::SubstitutionHighlight;
-use snippet_style::ElementStyle;
+use snippet_style::{ElementStyle, SuggestionGlyph};
 use std::alloc::{AllocError, Global};
 
 /// Draws lines that are removed below all that stands in the grid, and the line in their place below them. Where this is

@@ -1,6 +1,7 @@
 //! The rows that a suggestion begins and ends with.
 ghost use Rattle.std.specs.Prelude.{◌≡◌, ℕ, ◌<◌, ◌^◌, ◌≤◌, ◌+◌, ◌++◌, ◌∷◌, [], Bool, true, false, List, IfOk, OnOk, length, replicate};
-ghost use Rattle.snippet_suggest.specs.Glyphs.{glyph_of, is_begin, is_sign};
+ghost use Rattle.snippet_style.specs.Glyphs.{suggestion_glyph_of};
+ghost use Rattle.snippet_suggest.specs.Glyphs.{is_begin, is_sign};
 ghost use Rattle.snippet_suggest.specs.Rows.{AddsEnd, AddsRow, IsStart, IsStrokeRow, IsTail, begin_glyph, beside_gutter, end_glyph, rows_shared};
 ghost use Rattle.snippet_suggest.specs.Cells.{begin_cells, end_cells, put};
 ghost use Rattle.snippet_style.specs.declared.role.ElementStyle.TheVariants.{LineNumber};
@@ -8,10 +9,9 @@ ghost use Rattle.snippet_grid.specs.Grid.{row_at};
 ghost use Rattle.snippet_style.specs.declared.glyphs.DecorStyle.{DecorStyle};
 ghost use Rattle.snippet_style.specs.Cell.{Cell};
 
-use crate::glyphs::SuggestionGlyph;
 use crate::layout::{SuggestionLayout, SuggestionStart};
 use snippet_grid::StyledBuffer;
-use snippet_style::ElementStyle;
+use snippet_style::{ElementStyle, SuggestionGlyph};
 use std::alloc::AllocError;
 
 /// Draws what a suggestion begins with: a row below all that stands in the grid, or a glyph in the last row, or nothing
@@ -58,13 +58,14 @@ fn draw_glyph(
     requires row { row + 1 < 2 ^ 64 }
     ensures added { is_begin glyph ≡ true → (above tail : List (List Cell)) (shares : Bool) → row ≡ length above → buffer.old ≡ above ++ tail
         → IsTail layout.now.frame.decor layout.now.frame.gutter shares tail → OnOk result (AddsRow (IsStrokeRow layout.now.frame.decor layout.now.frame.gutter
-        (beside_gutter layout.now.frame.gutter (glyph_of layout.now.frame.decor glyph))) above buffer.new) }
+        (beside_gutter layout.now.frame.gutter (suggestion_glyph_of layout.now.frame.decor glyph))) above buffer.new) }
     ensures end { is_sign glyph ≡ false → (skipped : ℕ) → row ≡ length buffer.old + skipped
-        → OnOk result (AddsEnd layout.now (glyph_of layout.now.frame.decor glyph) skipped buffer.old buffer.new) }
+        → OnOk result (AddsEnd layout.now (suggestion_glyph_of layout.now.frame.decor glyph) skipped
+        buffer.old buffer.new) }
     ensures over { (above tail : List (List Cell)) → row ≡ length above → buffer.old ≡ above ++ tail → length tail ≤ 1
-        → OnOk result (buffer.new ≡ above ++ put LineNumber (glyph_of layout.now.frame.decor glyph) (layout.now.frame.gutter + 1) (row_at tail 0) ∷ []) }
+        → OnOk result (buffer.new ≡ above ++ put LineNumber (suggestion_glyph_of layout.now.frame.decor glyph) (layout.now.frame.gutter + 1) (row_at tail 0) ∷ []) }
     ensures below { (skipped : ℕ) → row ≡ length buffer.old + skipped → OnOk result (buffer.new
-        ≡ (buffer.old ++ replicate skipped []) ++ put LineNumber (glyph_of layout.now.frame.decor glyph) (layout.now.frame.gutter + 1) [] ∷ []) }
+        ≡ (buffer.old ++ replicate skipped []) ++ put LineNumber (suggestion_glyph_of layout.now.frame.decor glyph) (layout.now.frame.gutter + 1) [] ∷ []) }
 {
     let frame = layout.frame;
     buffer.puts(
@@ -105,7 +106,7 @@ pub(crate) fn draw_end(
 /// The glyph of the row that a suggestion ends with, before a further element or not.
 fn end_glyph(follows: bool) -> SuggestionGlyph
     ensures other { is_sign result ≡ false }
-    ensures value { (decor : DecorStyle) → glyph_of decor result ≡ end_glyph decor follows }
+    ensures value { (decor : DecorStyle) → suggestion_glyph_of decor result ≡ end_glyph decor follows }
 {
     if follows {
         SuggestionGlyph::Leading

@@ -3,7 +3,6 @@
 
 mod diff;
 mod ends;
-mod glyphs;
 mod kind;
 mod layout;
 mod lines;

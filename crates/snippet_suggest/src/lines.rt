@@ -7,22 +7,21 @@ ghost use Rattle.snippet_splice.specs.Spliced.{texts_of};
 ghost use Rattle.snippet_splice.specs.Stretches.{line_stretches};
 ghost use Rattle.snippet_suggest.specs.Cells.{shown_cells, sign_alone, sign_of, sign_touched};
 ghost use Rattle.snippet_suggest.specs.Glyphs.{is_sign};
-ghost use Rattle.snippet_suggest.specs.declared.shown.ShownLine.TheVariants.{Line};
+ghost use Rattle.snippet_suggest.specs.declared.shown.SuggestionLine.TheVariants.{Line};
 ghost use Rattle.snippet_suggest.specs.Shown.{is_touched, shown_lines};
 ghost use Rattle.snippet_lines.specs.Number.{shown_number};
 ghost use Rattle.snippet_suggest.specs.Rows.{AddsRow, AddsShown, NumberFits, IsLineRow, IsShownRow};
 ghost use Rattle.snippet_suggest.specs.Order.{number_after};
 
-use crate::glyphs::SuggestionGlyph;
 use crate::kind::DisplaySuggestion;
 use crate::layout::SuggestionLayout;
 use crate::roles::{paint_stretches, stretches_of};
 use crate::row::{draw_gap, draw_line};
-use crate::shown::{ShownLine, shown_lines};
+use crate::shown::{SuggestionLine, shown_lines};
 use snippet_grid::StyledBuffer;
 use snippet_lines::CursorLines;
 use snippet_splice::{LineRange, SubstitutionHighlight};
-use snippet_style::ElementStyle;
+use snippet_style::{ElementStyle, SuggestionGlyph};
 use std::alloc::{AllocError, Global};
 
 /// The lines of a text, without their ends.
@@ -82,7 +81,7 @@ fn draw_shown(
     first: usize,
     lines: &[&str],
     stretches: &[Vec<SubstitutionHighlight>],
-    shown: &[ShownLine],
+    shown: &[SuggestionLine],
 ) -> Result<(), AllocError>
     ensures added { All (NumberFits layout.now first) shown.now
         → OnOk result (AddsShown layout.now first (map (λ l. l.now) lines.now) shown.now buffer.old buffer.new) }
@@ -104,7 +103,7 @@ fn draw_shown_line(
     first: usize,
     lines: &[&str],
     stretches: &[Vec<SubstitutionHighlight>],
-    line: ShownLine,
+    line: SuggestionLine,
 ) -> Result<(), AllocError>
     ensures added { NumberFits layout.now first line
         → OnOk result (AddsRow (IsShownRow layout.now first (map (λ l. l.now) lines.now) line) buffer.old buffer.new) }
@@ -112,10 +111,10 @@ fn draw_shown_line(
         ++ shown_cells layout.now kind first (map (λ l. l.now) lines.now) (line_stretches stretches.now) line ∷ []) }
 {
     match line {
-        ShownLine::Line(k) => {
+        SuggestionLine::Line(k) => {
             draw_text_line(alloc, buffer, layout, kind, first, lines, stretches, k)
         }
-        ShownLine::Gap => draw_gap(buffer, layout),
+        SuggestionLine::Gap => draw_gap(buffer, layout),
     }
 }
 

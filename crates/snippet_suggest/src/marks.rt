@@ -2,14 +2,13 @@
 ghost use Rattle.std.specs.Prelude.{◌≡◌, ℕ, ◌<◌, ◌^◌, ◌+◌, ◌-◌, ◌++◌, ◌∷◌, [], List, All, OnOk, length};
 ghost use Rattle.snippet_splice.specs.Edits.{trimmed_edit_of};
 ghost use Rattle.snippet_splice.specs.Stretches.{capped};
-ghost use Rattle.snippet_suggest.specs.Marks.{columns_of, edits_at, left_of, mark_end, mark_of, mark_start, text_width, with_mark, with_marks};
+ghost use Rattle.snippet_suggest.specs.Marks.{columns_of, edits_at, left_of, mark_end, mark_glyph_of, mark_start, text_width, with_mark, with_marks};
 ghost use Rattle.snippet_suggest.specs.Moves.{AreMoves, shift_of};
 ghost use Rattle.snippet_suggest.specs.declared.marks.PatchColumns.{PatchColumns};
 ghost use Rattle.snippet_style.specs.Cell.{Cell};
 ghost use Rattle.snippet_suggest.specs.Rows.{AddsRow, IsMarkOrSpace, IsStrokeRow};
 ghost use Rattle.snippet_lines.specs.Span.{IsSpan};
 
-use crate::glyphs::changed_mark;
 use crate::kind::{is_addition, is_blank};
 use crate::layout::SuggestionLayout;
 use snippet_grid::StyledBuffer;
@@ -162,13 +161,13 @@ pub(crate) fn draw_marks(
 fn patch_mark(layout: &SuggestionLayout, map: &SourceMap<'_>, patch: &TrimmedPatch<'_>) -> char
     ensures mark { IsMarkOrSpace layout.now.frame.decor result }
     ensures value { IsSpan map.now.text patch.now.span.start patch.now.span.end
-        → result ≡ mark_of layout.now.frame.decor map.now.text (trimmed_edit_of patch.now) }
+        → result ≡ mark_glyph_of layout.now.frame.decor map.now.text (trimmed_edit_of patch.now) }
 {
     let frame = layout.frame;
     if is_addition(map.source(), patch) {
         '+'
     } else {
-        changed_mark(frame.decor)
+        frame.decor.changed_mark()
     }
 }
 

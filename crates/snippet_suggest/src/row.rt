@@ -8,11 +8,10 @@ ghost use Rattle.snippet_suggest.specs.Cells.{gap_cells, line_cells, removed_cel
 ghost use Rattle.snippet_suggest.specs.Glyphs.{is_sign};
 ghost use Rattle.snippet_suggest.specs.Rows.{AddsRow, IsLineRow, IsRowOfRemoved, IsStrokeRow, IsTail, gap_left};
 
-use crate::glyphs::SuggestionGlyph;
 use crate::layout::SuggestionLayout;
 use snippet_grid::StyledBuffer;
 use snippet_lines::number_text;
-use snippet_style::ElementStyle;
+use snippet_style::{ElementStyle, SuggestionGlyph};
 use snippet_text::{normalized, str_width};
 use std::alloc::{AllocError, Global};
 

@@ -9,7 +9,7 @@ use std::alloc::{AllocError, Global};
 
 /// A row of the lines that are shown.
 #[derive(Clone, Copy, Debug, PartialEq, Eq)]
-pub enum ShownLine {
+pub enum SuggestionLine {
     /// The line of this number, from 0.
     Line(usize),
     /// The placeholder for lines that are left out.
@@ -23,7 +23,7 @@ pub(crate) fn shown_lines(
     count: usize,
     ranges: &[LineRange],
     fold: bool,
-) -> Result<Vec<ShownLine>, AllocError>
+) -> Result<Vec<SuggestionLine>, AllocError>
     ensures value { IfOk result (λ shown. shown.items ≡ spec.shown_lines (spec.is_touched fold ranges.now) count) }
     // Each line at most once, and one below the other.
     ensures rising { IfOk result (λ shown. AreRising 0 count (numbers_shown shown.items)) }
@@ -37,7 +37,7 @@ pub(crate) fn shown_lines(
     for line in 0..count {
         if touched[line] {
             push_run(&mut shown, after, line)?;
-            shown.push(ShownLine::Line(line))?;
+            shown.push(SuggestionLine::Line(line))?;
             after = line + 1;
         }
     }
@@ -91,18 +91,18 @@ fn is_held(ranges: &[LineRange], line: usize) -> bool
 }
 
 /// Adds what is shown of the untouched lines from `from` to before `to`.
-fn push_run(shown: &mut Vec<ShownLine>, from: usize, to: usize) -> Result<(), AllocError>
+fn push_run(shown: &mut Vec<SuggestionLine>, from: usize, to: usize) -> Result<(), AllocError>
     requires ordered { from ≤ to }
     ensures added { OnOk result (shown.new.items ≡ shown.old.items ++ shown_run from to) }
 {
     if to - from > 3 {
-        shown.push(ShownLine::Line(from))?;
-        shown.push(ShownLine::Gap)?;
-        shown.push(ShownLine::Line(to - 1))?;
+        shown.push(SuggestionLine::Line(from))?;
+        shown.push(SuggestionLine::Gap)?;
+        shown.push(SuggestionLine::Line(to - 1))?;
         return Ok(());
     }
     for line in from..to {
-        shown.push(ShownLine::Line(line))?;
+        shown.push(SuggestionLine::Line(line))?;
     }
     Ok(())
 }

@@ -14,7 +14,7 @@ ghost use Rattle.snippet_suggest.specs.Order.{Begins, rows_of_suggestion};
 ghost use Rattle.snippet_suggest.specs.Given.{first_given, first_original, first_original_end, given_lines};
 ghost use Rattle.snippet_suggest.specs.declared.kind.DisplaySuggestion.TheVariants.{Diff};
 ghost use Rattle.snippet_suggest.specs.declared.layout.SuggestionStart.{SuggestionStart};
-ghost use Rattle.snippet_suggest.specs.declared.shown.ShownLine.TheVariants.{Line};
+ghost use Rattle.snippet_suggest.specs.declared.shown.SuggestionLine.TheVariants.{Line};
 
 use crate::diff::draw_diff;
 use crate::ends::{draw_end, draw_head};

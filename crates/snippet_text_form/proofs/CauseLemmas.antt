@@ -20,7 +20,7 @@ use Rattle.snippet_lines.proofs.OrderLemmas.{sorted-only, map-ordered_by}
 use Rattle.snippet_model.specs.declared.snippet.Annotation.{Annotation}
 use Rattle.snippet_model.specs.declared.snippet.Snippet.{Snippet}
 use Rattle.snippet_view.specs.Mark.{is_marking}
-use Rattle.snippet_text_form.specs.Cause.{after_place, cause_form, comes_before, further_indent, has_label, kind_rank, label_of, named_spans, span_form, span_place, spans_form}
+use Rattle.snippet_text_form.specs.Cause.{after_place, cause_form, is_named_before, further_indent, is_labelled, kind_rank, label_characters, named_spans, span_form, span_place, spans_form}
 use Rattle.snippet_view.specs.Numbered.{numbered_source}
 use Rattle.snippet_text_form.specs.Form.{FormPiece, Break, bare}
 use Rattle.snippet_text_form.specs.Position.{place}
@@ -39,7 +39,7 @@ one_way a b c d h = grind (arith, nat_tests)
 chained : (a b c d e f : ℕ) → cond (eqb a c) (ltb b d) (ltb a c) ≡ false → cond (eqb c e) (ltb d f) (ltb c e) ≡ false → cond (eqb a e) (ltb b f) (ltb a e) ≡ false
 chained a b c d e f h k = grind (arith, nat_tests)
 
-pub comes_before-order : IsStrictWeakOrder comes_before
+pub comes_before-order : IsStrictWeakOrder is_named_before
 comes_before-order = record {
   one_way = λ x y h. one_way (kind_rank x.kind) x.span.start (kind_rank y.kind) y.span.start h;
   chain = λ x y z h k. chained (kind_rank x.kind) x.span.start (kind_rank y.kind) y.span.start (kind_rank z.kind) z.span.start h k;
@@ -51,7 +51,7 @@ annotation_of s = s.annotation.now
 
 -- which of two named spans comes first
 abbrev pub span_before : NamedSpan → NamedSpan → Bool
-span_before a b = comes_before (annotation_of a) (annotation_of b)
+span_before a b = is_named_before (annotation_of a) (annotation_of b)
 
 -- which of two named spans comes first is an order
 pub span_before-order : IsStrictWeakOrder span_before
@@ -63,14 +63,14 @@ span_before-order = record {
 -- what a stable sort makes of the spans that are marked
 pub named_spans-is : (given sorted : List NamedSpan) (marks : List Annotation) → IsSortedBy span_before sorted → IsStableBy span_before given sorted → map annotation_of given ≡ filter (λ a. is_marking a.kind) marks → map annotation_of sorted ≡ named_spans marks
 named_spans-is given sorted marks up stable are =
-    ap (map annotation_of) (sorted-only span_before span_before-order given sorted up stable) ∙ map-ordered_by annotation_of comes_before given ∙ ap (ordered_by comes_before) are
+    ap (map annotation_of) (sorted-only span_before span_before-order given sorted up stable) ∙ map-ordered_by annotation_of is_named_before given ∙ ap (ordered_by is_named_before) are
 
 -- ---- what holds of each
 
 -- what holds of each annotation holds of each named span
 pub All-named_spans : (P : Annotation → Type 0) (marks : List Annotation) → All P marks → All P (named_spans marks)
 All-named_spans P marks all =
-    All-order comes_before P (filter (λ a. is_marking a.kind) marks) (All-filter (λ a. is_marking a.kind) P marks all)
+    All-order is_named_before P (filter (λ a. is_marking a.kind) marks) (All-filter (λ a. is_marking a.kind) P marks all)
 
 -- what holds of the annotations of spans holds of each span's
 pub All-annotations : (P : Annotation → Type 0) (spans : List NamedSpan) → All P (map annotation_of spans) → All (λ s. P (annotation_of s)) spans
@@ -109,30 +109,30 @@ place-added old one two three indent place first second third =
 -- a span at its place
 placed : (anonymized : Bool) (source : Source) (indent : List ℕ) (path : Option (List ℕ)) (a : Annotation) (at : Loc × Loc) (old : List FormPiece)
     → at ≡ locations_of source a.span.start a.span.end
-    → old ++ Break ∷ bare ((indent ++ span_place anonymized source path at.0 at.1) ++ after_place (label_of a))
+    → old ++ Break ∷ bare ((indent ++ span_place anonymized source path at.0 at.1) ++ after_place (label_characters a))
     ≡ old ++ span_form anonymized source indent path a
 placed anonymized source indent path a at old is =
-    ap (λ (p : Loc × Loc). old ++ Break ∷ bare ((indent ++ span_place anonymized source path p.0 p.1) ++ after_place (label_of a))) is
+    ap (λ (p : Loc × Loc). old ++ Break ∷ bare ((indent ++ span_place anonymized source path p.0 p.1) ++ after_place (label_characters a))) is
 
 -- a span without a label
 pub span-plain : (anonymized : Bool) (source : Source) (indent : List ℕ) (path : Option (List ℕ)) (a : Annotation) (at : Loc × Loc)
     (old one two three : List FormPiece) → at ≡ locations_of source a.span.start a.span.end → one ≡ old ++ Break ∷ [] → two ≡ one ++ bare indent
-    → three ≡ two ++ bare (span_place anonymized source path at.0 at.1) → has_label a ≡ false
+    → three ≡ two ++ bare (span_place anonymized source path at.0 at.1) → is_labelled a ≡ false
     → three ≡ old ++ span_form anonymized source indent path a
 span-plain anonymized source indent path a at old one two three is first second third none =
     let front : List ℕ = indent ++ span_place anonymized source path at.0 at.1 in
-    let same : front ++ after_place (label_of a) ≡ front = ap (λ l. front ++ l) (cond-false (has_label a) (codes ": " ++ label_of a) [] none) ∙ append-nil front in
+    let same : front ++ after_place (label_characters a) ≡ front = ap (λ l. front ++ l) (cond-false (is_labelled a) (codes ": " ++ label_characters a) [] none) ∙ append-nil front in
     place-added old one two three indent (span_place anonymized source path at.0 at.1) first second third ∙ ap (λ l. old ++ Break ∷ bare l) (sym same) ∙ placed anonymized source indent path a at old is
 
 -- a span with a label
 pub span-labelled : (anonymized : Bool) (source : Source) (indent : List ℕ) (path : Option (List ℕ)) (a : Annotation) (at : Loc × Loc)
     (old one two three four five : List FormPiece) → at ≡ locations_of source a.span.start a.span.end → one ≡ old ++ Break ∷ []
     → two ≡ one ++ bare indent → three ≡ two ++ bare (span_place anonymized source path at.0 at.1) → four ≡ three ++ bare (codes ": ")
-    → five ≡ four ++ bare (label_of a) → has_label a ≡ true → five ≡ old ++ span_form anonymized source indent path a
+    → five ≡ four ++ bare (label_characters a) → is_labelled a ≡ true → five ≡ old ++ span_form anonymized source indent path a
 span-labelled anonymized source indent path a at old one two three four five is first second third fourth fifth some =
     let front : List ℕ = indent ++ span_place anonymized source path at.0 at.1 in
-    let label : List ℕ = label_of a in
-    let after : codes ": " ++ label ≡ after_place label = sym (cond-true (has_label a) (codes ": " ++ label) [] some) in
+    let label : List ℕ = label_characters a in
+    let after : codes ": " ++ label ≡ after_place label = sym (cond-true (is_labelled a) (codes ": " ++ label) [] some) in
     fifth ∙ ap (λ l. l ++ bare label)
     (fourth ∙ ap (λ l. l ++ bare (codes ": "))
     (place-added old one two three indent (span_place anonymized source path at.0 at.1) first second third)) ∙ joined front (codes ": ") label
@@ -144,23 +144,23 @@ span-labelled anonymized source indent path a at old one two three four five is 
 -- ---- spans after the first
 
 -- a span without a label adds nothing
-pub further-none : (form : Annotation → List FormPiece) (old : List FormPiece) (a : Annotation) → has_label a ≡ false → old ≡ old ++ flat_map form (filter has_label (a ∷ []))
+pub further-none : (form : Annotation → List FormPiece) (old : List FormPiece) (a : Annotation) → is_labelled a ≡ false → old ≡ old ++ flat_map form (filter is_labelled (a ∷ []))
 further-none form old a none =
-    sym (ap (λ l. old ++ flat_map form l) (cond-false (has_label a) (a ∷ []) [] none) ∙ append-nil old)
+    sym (ap (λ l. old ++ flat_map form l) (cond-false (is_labelled a) (a ∷ []) [] none) ∙ append-nil old)
 
 -- a span with a label adds its form
-pub further-one : (form : Annotation → List FormPiece) (old new : List FormPiece) (a : Annotation) → has_label a ≡ true → new ≡ old ++ form a → new ≡ old ++ flat_map form (filter has_label (a ∷ []))
+pub further-one : (form : Annotation → List FormPiece) (old new : List FormPiece) (a : Annotation) → is_labelled a ≡ true → new ≡ old ++ form a → new ≡ old ++ flat_map form (filter is_labelled (a ∷ []))
 further-one form old new a some added =
-    added ∙ ap (λ l. old ++ l) (sym (ap (flat_map form) (cond-true (has_label a) (a ∷ []) [] some) ∙ append-nil (form a)))
+    added ∙ ap (λ l. old ++ l) (sym (ap (flat_map form) (cond-true (is_labelled a) (a ∷ []) [] some) ∙ append-nil (form a)))
 
 -- the first span and those after it
 pub spans-added : (anonymized : Bool) (source : Source) (path : Option (List ℕ)) (old one new : List FormPiece) (spans others so_far : List NamedSpan)
     (first : NamedSpan) (indent : List ℕ) → spans ≡ first ∷ others → one ≡ old ++ span_form anonymized source (codes " ") path (annotation_of first)
     → indent ≡ further_indent path → so_far ≡ others
-    → new ≡ one ++ flat_map (span_form anonymized source indent None) (filter has_label (map annotation_of so_far))
+    → new ≡ one ++ flat_map (span_form anonymized source indent None) (filter is_labelled (map annotation_of so_far))
     → new ≡ old ++ spans_form anonymized source path (map annotation_of spans)
 spans-added anonymized source path old one new spans others so_far first indent parts begun by all added =
-    let more : List NamedSpan → List ℕ → List FormPiece = λ ss i. flat_map (span_form anonymized source i None) (filter has_label (map annotation_of ss)) in
+    let more : List NamedSpan → List ℕ → List FormPiece = λ ss i. flat_map (span_form anonymized source i None) (filter is_labelled (map annotation_of ss)) in
     let form : List FormPiece = span_form anonymized source (codes " ") path (annotation_of first) in
     added ∙ ap (λ i. one ++ more so_far i) by ∙ ap (λ ss. one ++ more ss (further_indent path)) all
     ∙ ap (λ l. l ++ more others (further_indent path)) begun ∙ append_assoc old form (more others (further_indent path))

@@ -28,7 +28,7 @@ use Rattle.snippet_titles.specs.Heading.{heading_lines}
 use Rattle.snippet_titles.specs.declared.style.HeadingRoles.{HeadingRoles}
 use Rattle.snippet_text_form.specs.Cause.{cause_form}
 use Rattle.snippet_text_form.specs.Form.{form_bytes, form_links, form_text, plain_from}
-use Rattle.snippet_text_form.specs.Heading.{heading_form, label_form, lines_form, roles_of}
+use Rattle.snippet_text_form.specs.Heading.{heading_form, label_form, lines_form, text_roles_of}
 use Rattle.snippet_text_form.specs.Suggestion.{origin_form, suggestion_form}
 use Rattle.snippet_text_form.specs.declared.heading.HeadingKind.TheVariants.{Title, Message}
 
@@ -90,7 +90,7 @@ nameless =
 several_lines : form_text (heading_form false Title nameless) ≡ codes ": a\n  \n  b"
 unfolding heading_form norm chars
 several_lines =
-    let roles : HeadingRoles = roles_of Title Help false in
+    let roles : HeadingRoles = text_roles_of Title Help false in
     ap (λ width. form_text (label_form false Title roles nameless ++ lines_form roles.text width (heading_lines nameless))) width_of-colon
 
 lines_without_label : plain_from true (heading_form false Message (heading Error Hidden None (codes "a\n\nb"))) ≡ codes "\na\n\nb"

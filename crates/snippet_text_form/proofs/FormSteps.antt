@@ -17,7 +17,7 @@ use Rattle.snippet_grid.specs.Woven.{Piece, Opening, Reset, piece_text}
 use Rattle.snippet_style.specs.declared.style.Style.{Style}
 use Rattle.snippet_style.specs.declared.stylesheet.Stylesheet.{Stylesheet}
 use Rattle.snippet_titles.proofs.DigitLemmas.{IsDigit, decimal-all}
-use Rattle.snippet_text_form.specs.Form.{FormPiece, Char, Break, Styled, bare, begun_after, pieces_of, plain_from, form_bytes, link_codes_before, link_codes_after, in_style, role_style, woven_from}
+use Rattle.snippet_text_form.specs.Form.{FormPiece, Char, Break, Styled, bare, begun_after, pieces_of_part, plain_from, form_bytes, link_codes_before, link_codes_after, in_style, role_style, woven_from}
 use Rattle.snippet_text_form.specs.declared.form.TextPart.{TextPart}
 use Rattle.snippet_text_form.proofs.FormLaws.{woven_chars, in_style-pieces}
 
@@ -190,20 +190,20 @@ begun-number n =
 
 -- this text is that of these parts, and text stands after them or not
 pub record IsRendered (sheet : Stylesheet) (parts : List TextPart) (text : List ℕ) (begun : Bool) : Type 0 where
-  pub text_is : text ≡ form_bytes sheet (flat_map pieces_of parts)
-  pub begun_is : begun ≡ begun_past false (flat_map pieces_of parts)
+  pub text_is : text ≡ form_bytes sheet (flat_map pieces_of_part parts)
+  pub begun_is : begun ≡ begun_past false (flat_map pieces_of_part parts)
 
 -- an empty text renders no pieces
 pub IsRendered-none : (sheet : Stylesheet) (text : List ℕ) → text ≡ [] → IsRendered sheet [] text false
 IsRendered-none sheet text none = record { text_is = none; begun_is = refl }
 
 rendered-push : (sheet : Stylesheet) (parts : List TextPart) (part : TextPart) (old new : List ℕ) (begun after : Bool)
-    → IsRendered sheet parts old begun → new ≡ old ++ flat_map piece_text (woven_from sheet begun (pieces_of part))
-    → after ≡ (begun || begun_after false (plain_from false (pieces_of part))) → IsRendered sheet (parts ++ part ∷ []) new after
+    → IsRendered sheet parts old begun → new ≡ old ++ flat_map piece_text (woven_from sheet begun (pieces_of_part part))
+    → after ≡ (begun || begun_after false (plain_from false (pieces_of_part part))) → IsRendered sheet (parts ++ part ∷ []) new after
 rendered-push sheet parts part old new begun after rendered added is =
-    let front : List FormPiece = flat_map pieces_of parts in
-    let own : List FormPiece = pieces_of part in
-    let split : flat_map pieces_of (parts ++ part ∷ []) ≡ front ++ own = flat_map-append pieces_of parts (part ∷ []) ∙ ap (λ (ps : List FormPiece). front ++ ps) (append-nil own) in
+    let front : List FormPiece = flat_map pieces_of_part parts in
+    let own : List FormPiece = pieces_of_part part in
+    let split : flat_map pieces_of_part (parts ++ part ∷ []) ≡ front ++ own = flat_map-append pieces_of_part parts (part ∷ []) ∙ ap (λ (ps : List FormPiece). front ++ ps) (append-nil own) in
     record {
       text_is = added ∙ ap (λ (bs : List ℕ). bs ++ flat_map piece_text (woven_from sheet begun own)) rendered.text_is
           ∙ ap (λ (b : Bool). form_bytes sheet front ++ flat_map piece_text (woven_from sheet b own)) rendered.begun_is
@@ -215,13 +215,13 @@ rendered-push sheet parts part old new begun after rendered added is =
 -- one part more of a list
 pub IsRendered-more : (sheet : Stylesheet) (parts : List TextPart) (i : ℕ) (part : TextPart) (old new : List ℕ) (begun after : Bool)
     → i < length parts → part ≡ get_or parts i part → IsRendered sheet (take i parts) old begun
-    → new ≡ old ++ flat_map piece_text (woven_from sheet begun (pieces_of part))
-    → after ≡ (begun || begun_after false (plain_from false (pieces_of part))) → IsRendered sheet (take (i + 1) parts) new after
+    → new ≡ old ++ flat_map piece_text (woven_from sheet begun (pieces_of_part part))
+    → after ≡ (begun || begun_after false (plain_from false (pieces_of_part part))) → IsRendered sheet (take (i + 1) parts) new after
 IsRendered-more sheet parts i part old new begun after within read rendered added is =
     let more : take (i + 1) parts ≡ take i parts ++ part ∷ [] = take_more parts i part within ∙ ap (λ (p : TextPart). take i parts ++ p ∷ []) (sym read) in
     subst (λ (ps : List TextPart). IsRendered sheet ps new after) (sym more) (rendered-push sheet (take i parts) part old new begun after rendered added is)
 
 -- all parts
-pub IsRendered-all : (sheet : Stylesheet) (parts : List TextPart) (i : ℕ) (text : List ℕ) (begun : Bool) (form : List FormPiece) → length parts ≤ i → flat_map pieces_of parts ≡ form → IsRendered sheet (take i parts) text begun → text ≡ form_bytes sheet form
+pub IsRendered-all : (sheet : Stylesheet) (parts : List TextPart) (i : ℕ) (text : List ℕ) (begun : Bool) (form : List FormPiece) → length parts ≤ i → flat_map pieces_of_part parts ≡ form → IsRendered sheet (take i parts) text begun → text ≡ form_bytes sheet form
 IsRendered-all sheet parts i text begun form past is rendered =
-    rendered.text_is ∙ ap (λ (ps : List TextPart). form_bytes sheet (flat_map pieces_of ps)) (take_all i parts past) ∙ ap (form_bytes sheet) is
+    rendered.text_is ∙ ap (λ (ps : List TextPart). form_bytes sheet (flat_map pieces_of_part ps)) (take_all i parts past) ∙ ap (form_bytes sheet) is

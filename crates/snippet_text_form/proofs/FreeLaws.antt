@@ -31,12 +31,12 @@ use Rattle.snippet_titles.specs.declared.style.HeadingRoles.{HeadingRoles}
 use Rattle.snippet_titles.proofs.DigitLemmas.{IsDigit, decimal-all}
 use Rattle.snippet_titles.proofs.FreeLemmas.{IsUnlisted, IsOwn, norm-free, own_text, own_unlisted, All-slice_split}
 use Rattle.snippet_titles.proofs.OriginFree.{each-fails}
-use Rattle.snippet_text_form.specs.Cause.{after_place, cause_form, column_unless, end_in_file, end_on_line, has_label, is_blank_before, is_blank_after, label_of, named_spans, further_indent, span_form, span_place, span_text, spans_form}
+use Rattle.snippet_text_form.specs.Cause.{after_place, cause_form, column_unless, end_in_file, end_on_line, is_labelled, is_blank_before, is_blank_after, label_characters, named_spans, further_indent, span_form, span_place, span_text, spans_form}
 use Rattle.snippet_view.specs.Numbered.{numbered_source}
 use Rattle.snippet_text_form.specs.Form.{FormPiece, Break, Styled, bare, begun_after, plain_from, styled}
-use Rattle.snippet_text_form.specs.Heading.{before_id, before_name, colon_form, further_line, heading_form, id_form, id_text_form, label_form, label_text, link_for, linking, lines_form, name_form, roles_of}
+use Rattle.snippet_text_form.specs.Heading.{before_id, before_name, colon_form, further_line, heading_form, id_form, id_text_form, label_form, heading_label, link_for, linking, lines_form, name_form, text_roles_of}
 use Rattle.snippet_text_form.specs.Position.{after_path, column_words, place, place_in_file, place_on_line}
-use Rattle.snippet_text_form.specs.Suggestion.{added_form, edit_form, edit_indent, edit_place, is_whole_line, named_path, option_form, origin_form, overwrites, replaced_to, replaces, suggestion_form}
+use Rattle.snippet_text_form.specs.Suggestion.{added_form, edit_form, edit_indent, edit_place, replaces_whole_line, named_path, option_form, origin_form, overwrites, replaced_to, replaces, suggestion_form}
 use Rattle.snippet_text_form.specs.declared.heading.HeadingKind.{HeadingKind}
 use Rattle.snippet_text_form.specs.declared.heading.HeadingKind.TheVariants.{Title, Message}
 use Rattle.snippet_text_form.specs.declared.suggestion.SuggestionContext.{SuggestionContext}
@@ -179,7 +179,7 @@ span_text-free : (anonymized : Bool) (source : Source) (indent : List ℕ) (path
 span_text-free anonymized source indent path a free =
     let at = locations_of source a.span.start a.span.end in
     let place : List ℕ = span_place anonymized source path at.0 at.1 in
-    free-append (indent ++ place) (after_place (label_of a)) (free-append indent place free (span_place-free anonymized source path at.0 at.1)) (after_place-free (label_of a) (normalized-free (option_map cow_str_bytes a.label)))
+    free-append (indent ++ place) (after_place (label_characters a)) (free-append indent place free (span_place-free anonymized source path at.0 at.1)) (after_place-free (label_characters a) (normalized-free (option_map cow_str_bytes a.label)))
 
 further_indent-free : (path : Option (List ℕ)) → AreFree (further_indent path)
 further_indent-free None = each-fails is_listed (codes " ") refl
@@ -200,10 +200,10 @@ spans-free anonymized source path (a ∷ marks) =
     let indent : List ℕ = further_indent path in
     let further : Annotation → List FormPiece = span_form anonymized source indent None in
     let one : FormIsFree (span_form anonymized source (codes " ") path a) = line-free (span_text anonymized source (codes " ") path a) (span_text-free anonymized source (codes " ") path a (each-fails is_listed (codes " ") refl)) in
-    each-append IsUnlisted refl (span_form anonymized source (codes " ") path a) (flat_map further (filter has_label marks))
+    each-append IsUnlisted refl (span_form anonymized source (codes " ") path a) (flat_map further (filter is_labelled marks))
     one (each-flat_map IsUnlisted refl further
     (λ b. line-free (span_text anonymized source indent None b) (span_text-free anonymized source indent None b (further_indent-free path)))
-    (filter has_label marks))
+    (filter is_labelled marks))
 
 -- a cause holds none
 pub cause-free : (begun anonymized : Bool) (s : Snippet Annotation) → All (λ c. is_listed c ≡ false) (plain_from begun (cause_form anonymized s))
@@ -237,7 +237,7 @@ edit_place-free : (anonymized : Bool) (source : Source) (path : Option (List ℕ
 edit_place-free anonymized source path e start end = of_kind (replaces source.text e)
   where
     column : Option ℕ
-    column = column_unless (is_whole_line source start end e) start
+    column = column_unless (replaces_whole_line source start end e) start
 
     from : List ℕ
     from = place anonymized path start.line (Some (start.char + 1))
@@ -368,8 +368,8 @@ module _ (P : ℕ → Type 0) (free : (c : ℕ) → IsUnlisted c → P c) where
   heading-all : (hyperlink : Bool) (kind : HeadingKind) (heading : Heading) → All P (shown_text heading) → EachPlain P (heading_form hyperlink kind heading)
   unfolding heading_form
   heading-all hyperlink kind heading all =
-      let roles : HeadingRoles = roles_of kind heading.level.kind heading.allows_styling in
-      let width : ℕ = width_of (label_text kind heading) in
+      let roles : HeadingRoles = text_roles_of kind heading.level.kind heading.allows_styling in
+      let width : ℕ = width_of (heading_label kind heading) in
       let label : List FormPiece = label_form hyperlink kind roles heading in
       let lines : List FormPiece = lines_form roles.text width (heading_lines heading) in
       each-break P (free 10 refl) (label ++ lines) (each-append P (free 10 refl) label lines (label-all hyperlink kind roles heading) (lines-all roles.text width (heading_lines heading) (All-slice_split P (λ c. c == 10) (shown_text heading) all)))

@@ -18,7 +18,7 @@ use Rattle.snippet_titles.specs.Heading.{address_of, colon_of, heading_lines, is
 use Rattle.snippet_titles.specs.declared.style.HeadingRoles.{HeadingRoles}
 use Rattle.snippet_titles.proofs.SignLemmas.{chars-colon}
 use Rattle.snippet_text_form.specs.Form.{FormPiece, Break, Styled, bare, styled}
-use Rattle.snippet_text_form.specs.Heading.{before_id, before_name, colon_form, heading_form, id_form, id_label, label_form, label_of_id, label_text, lines_form, link_for, id_text_form, roles_of}
+use Rattle.snippet_text_form.specs.Heading.{before_id, before_name, colon_form, heading_form, id_form, id_label, label_form, label_of_id, heading_label, lines_form, link_for, id_text_form, text_roles_of}
 use Rattle.snippet_text_form.specs.declared.heading.HeadingKind.{HeadingKind}
 use Rattle.snippet_text_form.proofs.AddedLemmas.{added-two, added-two-on_ok}
 use Rattle.snippet_text_form.proofs.FormSteps.{begun-chars}
@@ -100,17 +100,17 @@ label-width kind known level hidden owned id set name shown colon colons leveled
 -- a label and its lines are the form of a heading, on success
 pub heading-added : {T E : Type 0} (r : Result T E) (old one two new : List FormPiece) (hyperlink : Bool) (kind : HeadingKind) (heading : Heading)
     (level : Level) (trusted : Bool) (roles : HeadingRoles) (width : ℕ) → level ≡ heading.level → trusted ≡ heading.allows_styling
-    → roles ≡ roles_of kind level.kind trusted → width ≡ width_of (label_text kind heading) → one ≡ old ++ Break ∷ []
+    → roles ≡ text_roles_of kind level.kind trusted → width ≡ width_of (heading_label kind heading) → one ≡ old ++ Break ∷ []
     → two ≡ one ++ label_form hyperlink kind roles heading → OnOk r (new ≡ two ++ lines_form roles.text width (heading_lines heading))
     → OnOk r (new ≡ old ++ heading_form hyperlink kind heading)
 unfolding heading_form
 heading-added r old one two new hyperlink kind heading level trusted roles width leveled trusts are wide first second third =
     let label : List FormPiece = label_form hyperlink kind roles heading in
     let lines : List FormPiece = lines_form roles.text width (heading_lines heading) in
-    let known : roles ≡ roles_of kind heading.level.kind heading.allows_styling = are ∙ ap (λ (l : Level). roles_of kind l.kind trusted) leveled ∙ ap (roles_of kind heading.level.kind) trusts in
+    let known : roles ≡ text_roles_of kind heading.level.kind heading.allows_styling = are ∙ ap (λ (l : Level). text_roles_of kind l.kind trusted) leveled ∙ ap (text_roles_of kind heading.level.kind) trusts in
     let parts : old ++ (Break ∷ (label ++ lines)) ≡ old ++ heading_form hyperlink kind heading =
     ap (λ (rs : HeadingRoles). old ++ (Break ∷ (label_form hyperlink kind rs heading ++ lines_form rs.text width (heading_lines heading)))) known
     ∙ ap (λ n. old ++ (Break
-    ∷ (label_form hyperlink kind (roles_of kind heading.level.kind heading.allows_styling)
-    heading ++ lines_form (roles_of kind heading.level.kind heading.allows_styling).text n (heading_lines heading)))) wide in
+    ∷ (label_form hyperlink kind (text_roles_of kind heading.level.kind heading.allows_styling)
+    heading ++ lines_form (text_roles_of kind heading.level.kind heading.allows_styling).text n (heading_lines heading)))) wide in
     on_ok_weaker r (λ last. added-two old one new (Break ∷ []) (label ++ lines) first (added-two one two new label lines second last) ∙ parts) third

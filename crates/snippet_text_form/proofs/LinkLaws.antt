@@ -29,10 +29,10 @@ use Rattle.snippet_text.specs.Width.{width_of}
 use Rattle.snippet_titles.specs.Heading.{address_of, heading_lines, is_set}
 use Rattle.snippet_titles.specs.Title.{id_links, text_links}
 use Rattle.snippet_titles.specs.declared.style.HeadingRoles.{HeadingRoles}
-use Rattle.snippet_text_form.specs.Cause.{cause_form, has_label, named_spans, further_indent, span_form, span_text, spans_form}
+use Rattle.snippet_text_form.specs.Cause.{cause_form, is_labelled, named_spans, further_indent, span_form, span_text, spans_form}
 use Rattle.snippet_view.specs.Numbered.{numbered_source}
 use Rattle.snippet_text_form.specs.Form.{FormPiece, bare, form_links, styled}
-use Rattle.snippet_text_form.specs.Heading.{before_id, before_name, colon_form, further_line, heading_form, id_form, id_text_form, label_form, label_text, link_for, linking, lines_form, name_form, roles_of}
+use Rattle.snippet_text_form.specs.Heading.{before_id, before_name, colon_form, further_line, heading_form, id_form, id_text_form, label_form, heading_label, link_for, linking, lines_form, name_form, text_roles_of}
 use Rattle.snippet_text_form.specs.Position.{place, place_in_file}
 use Rattle.snippet_text_form.specs.Suggestion.{added_form, edit_form, edit_indent, edit_place, named_path, option_form, origin_form, overwrites, suggestion_form}
 use Rattle.snippet_text_form.specs.declared.heading.HeadingKind.{HeadingKind}
@@ -115,8 +115,8 @@ lines-links role width (line ∷ lines) =
 pub heading-links : (hyperlink : Bool) (kind : HeadingKind) (heading : Heading) → form_links (heading_form hyperlink kind heading) ≡ id_links hyperlink heading.id
 unfolding heading_form
 heading-links hyperlink kind heading =
-    let roles : HeadingRoles = roles_of kind heading.level.kind heading.allows_styling in
-    let width : ℕ = width_of (label_text kind heading) in
+    let roles : HeadingRoles = text_roles_of kind heading.level.kind heading.allows_styling in
+    let width : ℕ = width_of (heading_label kind heading) in
     let label : List FormPiece = label_form hyperlink kind roles heading in
     let lines : List FormPiece = lines_form roles.text width (heading_lines heading) in
     links-before label lines (lines-links roles.text width (heading_lines heading)) ∙ label-links hyperlink kind roles heading
@@ -127,7 +127,7 @@ spans-links anonymized source path [] = bare-links (codes " " ++ place anonymize
 spans-links anonymized source path (a ∷ marks) =
     let first : List FormPiece = span_form anonymized source (codes " ") path a in
     let further : Annotation → List FormPiece = span_form anonymized source (further_indent path) None in
-    links-after first (flat_map further (filter has_label marks)) (bare-links (span_text anonymized source (codes " ") path a)) ∙ each-links further (λ b. bare-links (span_text anonymized source (further_indent path) None b)) (filter has_label marks)
+    links-after first (flat_map further (filter is_labelled marks)) (bare-links (span_text anonymized source (codes " ") path a)) ∙ each-links further (λ b. bare-links (span_text anonymized source (further_indent path) None b)) (filter is_labelled marks)
 
 -- the text form of a snippet has no link
 pub cause-links : (anonymized : Bool) (s : Snippet Annotation) → form_links (cause_form anonymized s) ≡ []

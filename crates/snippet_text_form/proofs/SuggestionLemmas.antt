@@ -20,7 +20,7 @@ use Rattle.snippet_suggest.specs.declared.PreparedSuggestion.{PreparedSuggestion
 use Rattle.snippet_text_form.specs.Cause.{column_unless}
 use Rattle.snippet_text_form.specs.Form.{FormPiece, Break}
 use Rattle.snippet_text_form.specs.Position.{place}
-use Rattle.snippet_text_form.specs.Suggestion.{edit_form, edit_indent, edit_place, is_whole_line, named_path, option_form, overwrites, replaced_to, replaces, suggestion_form}
+use Rattle.snippet_text_form.specs.Suggestion.{edit_form, edit_indent, edit_place, replaces_whole_line, named_path, option_form, overwrites, replaced_to, replaces, suggestion_form}
 use Rattle.snippet_text_form.specs.declared.suggestion.SuggestionContext.{SuggestionContext}
 use Rattle.snippet_text_form.proofs.AddedLemmas.{added-two}
 
@@ -39,13 +39,13 @@ pub replaced_place : (anonymized : Bool) (source : Source) (path : Option (List 
     ++ replaced_to anonymized start end
 replaced_place anonymized source path e start end over given =
     cond-true (replaces source.text e) (place anonymized path start.line (Some (start.char + 1)) ++ replaced_to anonymized start end)
-    (place anonymized path start.line (column_unless (is_whole_line source start end e) start))
+    (place anonymized path start.line (column_unless (replaces_whole_line source start end e) start))
     (and_from (overwrites source.text e) (not (is_blank e.text)) over (ap not given))
 
 -- the place of an edit that doesn't replace text is where it starts
-pub other_place : (anonymized : Bool) (source : Source) (path : Option (List ℕ)) (e : Edit) (start end : Loc) → replaces source.text e ≡ false → edit_place anonymized source path e start end ≡ place anonymized path start.line (column_unless (is_whole_line source start end e) start)
+pub other_place : (anonymized : Bool) (source : Source) (path : Option (List ℕ)) (e : Edit) (start end : Loc) → replaces source.text e ≡ false → edit_place anonymized source path e start end ≡ place anonymized path start.line (column_unless (replaces_whole_line source start end e) start)
 other_place anonymized source path e start end other =
-    cond-false (replaces source.text e) (place anonymized path start.line (Some (start.char + 1)) ++ replaced_to anonymized start end) (place anonymized path start.line (column_unless (is_whole_line source start end e) start)) other
+    cond-false (replaces source.text e) (place anonymized path start.line (Some (start.char + 1)) ++ replaced_to anonymized start end) (place anonymized path start.line (column_unless (replaces_whole_line source start end e) start)) other
 
 -- what is added for one more patch
 pub edits_more : (f : Edit → List FormPiece) (old mid new : List FormPiece) (ps : List TrimmedPatch) (i : ℕ) (d : TrimmedPatch) → i < length ps

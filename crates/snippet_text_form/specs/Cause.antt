@@ -27,22 +27,22 @@ kind_rank Context = 1
 kind_rank Visible = 1
 
 -- whether an annotation comes before another: a primary one before any other, and among those of a kind the one that starts first
-abbrev pub comes_before : Annotation → Annotation → Bool
-comes_before a b =
+abbrev pub is_named_before : Annotation → Annotation → Bool
+is_named_before a b =
     if kind_rank a.kind == kind_rank b.kind then nat_lt a.span.start b.span.start
     else nat_lt (kind_rank a.kind) (kind_rank b.kind)
 
 -- the annotations that are named, in order: all but visible ones, primary ones first, then by start, else as given
 abbrev pub named_spans : List Annotation → List Annotation
-named_spans marks = ordered_by comes_before (filter (λ a. is_marking a.kind) marks)
+named_spans marks = ordered_by is_named_before (filter (λ a. is_marking a.kind) marks)
 
 -- the characters of an annotation's label, normalised; none where there is no label
-abbrev pub label_of : Annotation → List ℕ
-label_of a = normalized_chars (option_map cow_str_bytes a.label)
+abbrev pub label_characters : Annotation → List ℕ
+label_characters a = normalized_chars (option_map cow_str_bytes a.label)
 
 -- whether an annotation has a label that shows anything
-abbrev pub has_label : Annotation → Bool
-has_label a = nat_lt 0 (length (label_of a))
+abbrev pub is_labelled : Annotation → Bool
+is_labelled a = nat_lt 0 (length (label_characters a))
 
 -- a label after a place
 abbrev pub after_place : List ℕ → List ℕ
@@ -83,7 +83,7 @@ span_place anonymized source (Some path) start end =
 abbrev pub span_text : Bool → Source → List ℕ → Option (List ℕ) → Annotation → List ℕ
 span_text anonymized source indent path a =
     let at = locations_of source a.span.start a.span.end in
-    indent ++ span_place anonymized source path at.0 at.1 ++ after_place (label_of a)
+    indent ++ span_place anonymized source path at.0 at.1 ++ after_place (label_characters a)
 
 abbrev pub span_form : Bool → Source → List ℕ → Option (List ℕ) → Annotation → List FormPiece
 span_form anonymized source indent path a = Break ∷ bare (span_text anonymized source indent path a)
@@ -99,7 +99,7 @@ abbrev pub spans_form : Bool → Source → Option (List ℕ) → List Annotatio
 spans_form anonymized source path [] =
     Break ∷ bare (codes " " ++ place anonymized path source.first None)
 spans_form anonymized source path (a ∷ others) =
-    span_form anonymized source (codes " ") path a ++ flat_map (span_form anonymized source (further_indent path) None) (filter has_label others)
+    span_form anonymized source (codes " ") path a ++ flat_map (span_form anonymized source (further_indent path) None) (filter is_labelled others)
 
 -- an annotated snippet: its annotations, in order
 unfoldable pub cause_form : Bool → Snippet Annotation → List FormPiece

@@ -29,12 +29,12 @@ abbrev pub styled : ElementStyle → List ℕ → List FormPiece
 styled role text = Styled role None text ∷ []
 
 -- the pieces of a part
-abbrev pub pieces_of : TextPart → List FormPiece
-pieces_of part.Break = Break ∷ []
-pieces_of (part.Text text) = bare (chars (cow_str_bytes text))
-pieces_of (part.Number number) = bare (decimal number)
-pieces_of (part.Spaces count) = bare (replicate count 32)
-pieces_of (part.Styled text) =
+abbrev pub pieces_of_part : TextPart → List FormPiece
+pieces_of_part part.Break = Break ∷ []
+pieces_of_part (part.Text text) = bare (chars (cow_str_bytes text))
+pieces_of_part (part.Number number) = bare (decimal number)
+pieces_of_part (part.Spaces count) = bare (replicate count 32)
+pieces_of_part (part.Styled text) =
     Styled text.role (option_copied text.link) (chars (cow_str_bytes text.text)) ∷ []
 
 -- whether text stands before what is after this one, given whether it stands before it

@@ -21,9 +21,9 @@ use Rattle.snippet_text_form.specs.declared.heading.HeadingKind.{HeadingKind}
 use Rattle.snippet_text_form.specs.declared.heading.HeadingKind.TheVariants.{Title, Message}
 
 -- the roles of its parts: those of the graphic form
-abbrev pub roles_of : HeadingKind → LevelInner → Bool → HeadingRoles
-roles_of Title level trusted = titles.roles_of style.Title level trusted
-roles_of Message level trusted =
+abbrev pub text_roles_of : HeadingKind → LevelInner → Bool → HeadingRoles
+text_roles_of Title level trusted = titles.roles_of style.Title level trusted
+text_roles_of Message level trusted =
     record { label = role.MainHeaderMsg; colon = role.NoStyle; text = role.NoStyle }
 
 -- what stands before its name: a space before that of a message
@@ -79,8 +79,8 @@ label_of_id hidden None = []
 label_of_id hidden (Some id) = id_label hidden (option_map cow_str_bytes id.id)
 
 -- the characters of a whole label
-abbrev pub label_text : HeadingKind → Heading → List ℕ
-label_text kind heading =
+abbrev pub heading_label : HeadingKind → Heading → List ℕ
+heading_label kind heading =
     let hidden = is_hidden heading.level.name in
     (if hidden then [] else before_name kind ++ norm (chars (name_of heading.level))) ++ (label_of_id hidden heading.id ++ titles.colon_of hidden heading.id)
 
@@ -102,5 +102,5 @@ lines_form role width (line ∷ lines) = styled role line ++ flat_map (further_l
 -- first. Each of these is in the style of its role
 unfoldable pub heading_form : Bool → HeadingKind → Heading → List FormPiece
 heading_form hyperlink kind heading =
-    let roles = roles_of kind heading.level.kind heading.allows_styling in
-    Break ∷ (label_form hyperlink kind roles heading ++ lines_form roles.text (width_of (label_text kind heading)) (heading_lines heading))
+    let roles = text_roles_of kind heading.level.kind heading.allows_styling in
+    Break ∷ (label_form hyperlink kind roles heading ++ lines_form roles.text (width_of (heading_label kind heading)) (heading_lines heading))

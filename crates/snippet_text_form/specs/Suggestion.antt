@@ -51,15 +51,15 @@ is_alone (Some line) from to anything =
 
 -- whether an edit is that of a whole line: its span is on one line, on which nothing else stands. The bytes at which the line is cut
 -- are those of the source, so it is mostly a first line
-abbrev pub is_whole_line : Source → Loc → Loc → Edit → Bool
-is_whole_line source start end e =
+abbrev pub replaces_whole_line : Source → Loc → Loc → Edit → Bool
+replaces_whole_line source start end e =
     start.line == end.line && is_alone (line_at source start.line) start.byte end.byte (has_several_lines e.text)
 
 -- where an edit stands
 abbrev pub edit_place : Bool → Source → Option (List ℕ) → Edit → Loc → Loc → List ℕ
 edit_place anonymized source path e start end =
     if replaces source.text e then place anonymized path start.line (Some (start.char + 1)) ++ replaced_to anonymized start end
-    else place anonymized path start.line (column_unless (is_whole_line source start end e) start)
+    else place anonymized path start.line (column_unless (replaces_whole_line source start end e) start)
 
 -- what an edit puts there, in the style of additions: its text without the line feeds that end it, normalised; nothing where it
 -- is blank

@@ -6,7 +6,7 @@ ghost use Rattle.std.specs.Cow.{cow_str_bytes};
 ghost use Rattle.std.specs.Option.{option_copied, option_map};
 ghost use Rattle.std.specs.Ordering.{nat_cmp, ordering_then};
 ghost use Rattle.snippet_lines.specs.Span.{IsSpan};
-ghost use Rattle.snippet_text_form.specs.Cause.{cause_form, end_in_file, end_on_line, has_label, kind_rank, span_form, span_place, spans_form};
+ghost use Rattle.snippet_text_form.specs.Cause.{cause_form, end_in_file, end_on_line, is_labelled, kind_rank, span_form, span_place, spans_form};
 ghost use Rattle.snippet_view.specs.Numbered.{numbered_source};
 ghost use Rattle.snippet_text_form.specs.Cause as spec;
 ghost use Rattle.snippet_text_form.specs.Form.{bare};
@@ -145,7 +145,7 @@ fn rank_of(kind: AnnotationKind) -> usize
 
 /// An annotation's label as it is shown, empty where it has none.
 fn label_of<'a>(alloc: Global, annotation: &'a Annotation<'a>) -> Result<CowStr<'a>, AllocError>
-    ensures value { IfOk result (λ label. chars (cow_str_bytes label) ≡ spec.label_of annotation.now) }
+    ensures value { IfOk result (λ label. chars (cow_str_bytes label) ≡ spec.label_characters annotation.now) }
 {
     match &annotation.label {
         Some(label) => normalized(alloc, label.as_str()),
@@ -164,7 +164,7 @@ fn add_further_span<'a>(
 ) -> Result<(), AllocError>
     requires span { IsSpan map.now.text span.now.span.start span.now.span.end }
     ensures added { OnOk result (form.new ≡ form.old
-        ++ flat_map (span_form anonymized map.now (chars indent.now) None) (filter has_label (span.now ∷ []))) }
+        ++ flat_map (span_form anonymized map.now (chars indent.now) None) (filter is_labelled (span.now ∷ []))) }
 {
     let label = label_of(alloc, span)?;
     if is_shown(&label) {
@@ -192,7 +192,7 @@ fn add_span<'a>(
     label: CowStr<'a>,
 ) -> Result<(), AllocError>
     requires span { IsSpan map.now.text span.now.span.start span.now.span.end }
-    requires label { chars (cow_str_bytes label) ≡ spec.label_of span.now }
+    requires label { chars (cow_str_bytes label) ≡ spec.label_characters span.now }
     ensures added { OnOk result (form.new ≡ form.old
         ++ span_form anonymized map.now (chars indent.now) (option_copied path.entry) span.now) }
 {

@@ -10,7 +10,7 @@ ghost use Rattle.std.specs.Fmt.{decimal};
 ghost use Rattle.std.specs.List.{flat_map};
 ghost use Rattle.std.specs.Option.{option_copied};
 ghost use Rattle.snippet_grid.specs.Woven.{IsWoven, piece_text};
-ghost use Rattle.snippet_text_form.specs.Form.{Break, Styled, bare, begun_after, form_bytes, form_links, form_text, in_style, link_codes_before, link_codes_after, pieces_of, plain_from, role_style, woven_from};
+ghost use Rattle.snippet_text_form.specs.Form.{Break, Styled, bare, begun_after, form_bytes, form_links, form_text, in_style, link_codes_before, link_codes_after, pieces_of_part, plain_from, role_style, woven_from};
 
 use snippet_style::{ElementStyle, LevelInner, Style, Stylesheet, reset_code, write_opening};
 use snippet_text::CowStr;
@@ -56,11 +56,11 @@ pub struct TextForm<'a> {
 impl<'a> Model for TextForm<'a> {
     ghost use Rattle.std.specs.Prelude.{List};
     ghost use Rattle.std.specs.List.{flat_map};
-    ghost use Rattle.snippet_text_form.specs.Form.{FormPiece, pieces_of};
+    ghost use Rattle.snippet_text_form.specs.Form.{FormPiece, pieces_of_part};
 
     ghost Value = { List FormPiece };
 
-    ghost view = { λ form. flat_map pieces_of form.parts.items };
+    ghost view = { λ form. flat_map pieces_of_part form.parts.items };
 }
 
 impl<'a> TextForm<'a> {
@@ -151,7 +151,7 @@ impl<'a> TextForm<'a> {
 
 /// Whether a part has text of its own.
 fn has_text(part: &TextPart<'_>) -> bool
-    ensures value { result ≡ begun_after false (plain_from false (pieces_of part.now)) }
+    ensures value { result ≡ begun_after false (plain_from false (pieces_of_part part.now)) }
 {
     match part {
         TextPart::Break => false,
@@ -170,7 +170,7 @@ fn write_part(
     part: &TextPart<'_>,
 ) -> Result<(), AllocError>
     ensures added { OnOk result (string_bytes out.new
-        ≡ string_bytes out.old ++ flat_map piece_text (woven_from sheet.now begun (pieces_of part.now))) }
+        ≡ string_bytes out.old ++ flat_map piece_text (woven_from sheet.now begun (pieces_of_part part.now))) }
 {
     match part {
         TextPart::Break if begun => out.push('\n'),

@@ -10,7 +10,7 @@ ghost use Rattle.snippet_text.specs.Normalized.{norm};
 ghost use Rattle.snippet_text.specs.Width.{width_of};
 ghost use Rattle.snippet_titles.specs.Heading.{heading_lines};
 ghost use Rattle.snippet_text_form.specs.Form.{bare};
-ghost use Rattle.snippet_text_form.specs.Heading.{before_line, before_name, colon_form, heading_form, id_form, label_form, label_of_id, label_text, lines_form, name_form};
+ghost use Rattle.snippet_text_form.specs.Heading.{before_line, before_name, colon_form, heading_form, id_form, label_form, label_of_id, heading_label, lines_form, name_form};
 ghost use Rattle.snippet_text_form.specs.Heading as spec;
 
 use crate::form::TextForm;
@@ -45,7 +45,7 @@ impl HeadingKind {
 
     /// The roles of a heading's parts.
     fn roles(self, level: LevelInner, trusted: bool) -> HeadingRoles
-        ensures value { result ≡ spec.roles_of self level trusted }
+        ensures value { result ≡ spec.text_roles_of self level trusted }
     {
         match self {
             HeadingKind::Title => snippet_titles::roles_of(&TitleStyle::Title, level, trusted),
@@ -173,7 +173,7 @@ fn add_colon(
 /// The columns of what stands before a heading's text.
 fn label_width(kind: HeadingKind, heading: &dyn MessageOrTitle) -> usize
     requires fits { HeadingFits (heading_of heading.now) }
-    ensures value { result ≡ width_of (label_text kind (heading_of heading.now)) }
+    ensures value { result ≡ width_of (heading_label kind (heading_of heading.now)) }
 {
     let hidden = is_hidden(heading.level());
     let colon = colon(hidden, heading.id());
@@ -217,7 +217,7 @@ fn add_lines<'a>(
 ) -> Result<(), AllocError>
     requires fits { HeadingFits (heading_of heading.now) }
     ensures added { OnOk result (form.new ≡ form.old
-        ++ lines_form role (width_of (label_text kind (heading_of heading.now))) (heading_lines (heading_of heading.now))) }
+        ++ lines_form role (width_of (heading_label kind (heading_of heading.now))) (heading_lines (heading_of heading.now))) }
 {
     let trusted = heading.allows_styling();
     let mut width = None;
@@ -238,10 +238,10 @@ fn begin_line(
     heading: &dyn MessageOrTitle,
 ) -> Result<Option<usize>, AllocError>
     requires fits { HeadingFits (heading_of heading.now) }
-    requires known { IfSome known (λ width. width ≡ width_of (label_text kind (heading_of heading.now))) }
+    requires known { IfSome known (λ width. width ≡ width_of (heading_label kind (heading_of heading.now))) }
     ensures added { OnOk result (form.new
-        ≡ form.old ++ bare (before_line (width_of (label_text kind (heading_of heading.now))) index)) }
-    ensures known { IfOk result (λ known. IfSome known (λ width. width ≡ width_of (label_text kind (heading_of heading.now)))) }
+        ≡ form.old ++ bare (before_line (width_of (heading_label kind (heading_of heading.now))) index)) }
+    ensures known { IfOk result (λ known. IfSome known (λ width. width ≡ width_of (heading_label kind (heading_of heading.now)))) }
 {
     if index == 0 {
         return Ok(known);
@@ -255,8 +255,8 @@ fn begin_line(
 /// The columns of what stands before a heading's text, which are given where they are known. A text of one line doesn't ask.
 fn known_width(kind: HeadingKind, known: Option<usize>, heading: &dyn MessageOrTitle) -> usize
     requires fits { HeadingFits (heading_of heading.now) }
-    requires known { IfSome known (λ width. width ≡ width_of (label_text kind (heading_of heading.now))) }
-    ensures value { result ≡ width_of (label_text kind (heading_of heading.now)) }
+    requires known { IfSome known (λ width. width ≡ width_of (heading_label kind (heading_of heading.now))) }
+    ensures value { result ≡ width_of (heading_label kind (heading_of heading.now)) }
 {
     match known {
         Some(width) => width,

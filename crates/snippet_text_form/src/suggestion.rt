@@ -167,7 +167,7 @@ fn add_end(
 /// Whether a patch is that of a whole line: its span is on one line, on which nothing else stands. The bytes at which the line is
 /// cut are those of the source.
 fn is_whole_line(map: &SourceMap<'_>, patch: &TrimmedPatch<'_>, start: Loc, end: Loc) -> bool
-    ensures value { result ≡ spec.is_whole_line map.now start end (trimmed_edit_of patch.now) }
+    ensures value { result ≡ spec.replaces_whole_line map.now start end (trimmed_edit_of patch.now) }
 {
     if start.line != end.line {
         return false;

@@ -1,7 +1,6 @@
 -- What a grid becomes where a row is begun with a glyph after the gutter.
-use Rattle.std.proofs.Common.{◌≡◌, ℕ, ◌+◌, ◌<◌, ◌≤◌, List, [], ◌∷◌, ◌++◌, length, codes, chars, refl, ap, ◌∙◌, sym, arith}
+use Rattle.std.proofs.Common.{◌≡◌, ℕ, ◌+◌, ◌<◌, ◌≤◌, List, [], ◌∷◌, ◌++◌, length, chars, ap, ◌∙◌, sym, arith}
 use Rattle.std.proofs.lemmas.List.{append_assoc, map-append}
-use Rattle.std.proofs.lemmas.Str.{chars-encodes}
 use Rattle.snippet_style.specs.declared.glyphs.DecorStyle.{DecorStyle}
 use Rattle.snippet_style.specs.declared.glyphs.DecorStyle.TheVariants.{Ascii, Unicode}
 use Rattle.snippet_style.specs.declared.role.ElementStyle.TheVariants.{LineAndColumn, LineNumber}
@@ -20,21 +19,6 @@ use Rattle.snippet_titles.proofs.ExtendLemmas.{extended, extended_from, length-b
 use Rattle.snippet_style.proofs.RowLemmas.{closing_some as closing-some}
 use Rattle.snippet_grid.proofs.RowLemmas.{begun_by_text}
 pub use Rattle.snippet_grid.proofs.RowLemmas.{separator_row-begun}
-
--- the glyphs that only the rows of paths have, as characters
-pub chars-alone : chars (32 ∷ 226 ∷ 148 ∷ 128 ∷ 226 ∷ 150 ∷ 184 ∷ 32 ∷ []) ≡ codes " ─▸ "
-unfolding lib.Utf8.encode
-chars-alone = chars-encodes (codes " ─▸ ") refl
-
--- the characters of the bytes that the code writes for `::: `
-pub chars-colons : chars (58 ∷ 58 ∷ 58 ∷ 32 ∷ []) ≡ codes "::: "
-unfolding lib.Utf8.encode
-chars-colons = chars-encodes (codes "::: ") refl
-
--- the characters of the bytes that the code writes for ` ⸬  `
-pub chars-dots : chars (32 ∷ 226 ∷ 184 ∷ 172 ∷ 32 ∷ 32 ∷ []) ≡ codes " ⸬  "
-unfolding lib.Utf8.encode
-chars-dots = chars-encodes (codes " ⸬  ") refl
 
 -- no glyph is empty
 pub file_glyph-some : (start : FileStart) (decor : DecorStyle) → 0 < length (file_glyph start decor)

@@ -20,10 +20,12 @@ use Rattle.snippet_model.specs.Level.{name_of}
 use Rattle.snippet_titles.specs.declared.style.HeadingRoles.{HeadingRoles}
 use Rattle.snippet_titles.specs.declared.style.TitleStyle.{TitleStyle}
 use Rattle.snippet_titles.specs.declared.style.TitleStyle.TheVariants.{Title, Short, Message}
-use Rattle.snippet_titles.specs.Heading.{bracketed_text, closing_of, colon_of, shown_text, heading_lines, heading_rows, id_text, indent_cells, is_set, label_cells, label_text, label_width, lines_below, note_bar_of, note_sign_of, on_top, opening_of, roles_of, sign_cells, trimmed}
+use Rattle.snippet_titles.specs.Heading.{bracketed_text, closing_bracket_of, colon_of, shown_text, heading_lines, heading_rows, id_text, indent_cells, is_set, label_cells, heading_label_text, label_width, lines_below, note_bar_of, on_top, opening_bracket_of, roles_of, sign_cells, trimmed}
+use Rattle.snippet_style.specs.Glyphs.{note_sign_of}
 use Rattle.snippet_titles.specs.Shown.{IsFreeButText}
 use Rattle.snippet_titles.proofs.TextLemmas.{row_text-append, row_text-after, row_text-label, row_text-spaces}
 use Rattle.snippet_model.proofs.RowLemmas.{each_fails as fails_each}
+use Rattle.snippet_style.specs.Glyphs.{separator_of}
 use Rattle.snippet_grid.proofs.RowLemmas.{row_text-text_cells}
 
 -- a character that isn't listed
@@ -71,11 +73,11 @@ module _ (P : ℕ → Type 0) (free : (c : ℕ) → IsUnlisted c → P c) where
   pub from_free : (cs : List ℕ) → All IsUnlisted cs → All P cs
   from_free cs all = All-weaker IsUnlisted P free cs all
 
-  opening-all : (hidden : Bool) → All P (opening_of hidden)
+  opening-all : (hidden : Bool) → All P (opening_bracket_of hidden)
   opening-all true = All-nil P
   opening-all false = All-cons P 91 [] (free 91 refl) (All-nil P)
 
-  closing-all : (hidden : Bool) → All P (closing_of hidden)
+  closing-all : (hidden : Bool) → All P (closing_bracket_of hidden)
   closing-all true = All-nil P
   closing-all false = All-cons P 93 [] (free 93 refl) (All-nil P)
 
@@ -89,14 +91,14 @@ module _ (P : ℕ → Type 0) (free : (c : ℕ) → IsUnlisted c → P c) where
   text-all : (hidden : Bool) (text : Option (List ℕ)) → All P (bracketed_text hidden text)
   text-all hidden None = All-nil P
   text-all hidden (Some text) =
-      All-append P (opening_of hidden ++ norm (chars text)) (closing_of hidden) (All-append P (opening_of hidden) (norm (chars text)) (opening-all hidden) (from_free (norm (chars text)) (norm-free (chars text)))) (closing-all hidden)
+      All-append P (opening_bracket_of hidden ++ norm (chars text)) (closing_bracket_of hidden) (All-append P (opening_bracket_of hidden) (norm (chars text)) (opening-all hidden) (from_free (norm (chars text)) (norm-free (chars text)))) (closing-all hidden)
 
   id-all : (hidden : Bool) (id : Option Id) → All P (id_text hidden id)
   id-all hidden None = All-nil P
   id-all hidden (Some id) = text-all hidden (option_map cow_str_bytes id.id)
 
   -- what holds of what a label is made of holds of its characters
-  pub label-all : (heading : Heading) → All P (label_text heading)
+  pub label-all : (heading : Heading) → All P (heading_label_text heading)
   label-all heading =
       let hidden : Bool = is_hidden heading.level.name in
       let name : List ℕ = norm (chars (name_of heading.level)) in
@@ -106,13 +108,13 @@ module _ (P : ℕ → Type 0) (free : (c : ℕ) → IsUnlisted c → P c) where
   spaces-all n = subst (All P) (sym (row_text-spaces n)) (All-replicate P n 32 (free 32 refl))
 
   note_sign-all : (decor : DecorStyle) (followed : Bool) → All P (note_sign_of decor followed)
-  note_sign-all Ascii followed = All-cons P 61 (32 ∷ []) (free 61 refl) (All-cons P 32 [] (free 32 refl) (All-nil P))
-  note_sign-all Unicode true = All-cons P 0x251C (32 ∷ []) (free 0x251C refl) (All-cons P 32 [] (free 32 refl) (All-nil P))
-  note_sign-all Unicode false = All-cons P 0x2570 (32 ∷ []) (free 0x2570 refl) (All-cons P 32 [] (free 32 refl) (All-nil P))
+  note_sign-all Ascii followed = from_free (note_sign_of Ascii followed) (fails_each is_listed (note_sign_of Ascii followed) refl)
+  note_sign-all Unicode true = from_free (note_sign_of Unicode true) (fails_each is_listed (note_sign_of Unicode true) refl)
+  note_sign-all Unicode false = from_free (note_sign_of Unicode false) (fails_each is_listed (note_sign_of Unicode false) refl)
 
   note_bar-free : (decor : DecorStyle) (followed : Bool) → P (note_bar_of decor followed).ch
   note_bar-free Ascii followed = free 32 refl
-  note_bar-free Unicode true = free 0x2502 refl
+  note_bar-free Unicode true = free (separator_of Unicode) refl
   note_bar-free Unicode false = free 32 refl
 
   parts-all : (xs ys : List Cell) → All P (row_text xs) → All P (row_text ys) → All P (row_text (xs ++ ys))

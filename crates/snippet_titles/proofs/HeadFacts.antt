@@ -21,7 +21,8 @@ use Rattle.snippet_titles.specs.declared.style.HeadingRoles.{HeadingRoles}
 use Rattle.snippet_titles.specs.declared.style.MessageContext.{MessageContext}
 use Rattle.snippet_titles.specs.declared.style.TitleStyle.{TitleStyle}
 use Rattle.snippet_titles.specs.declared.style.TitleStyle.TheVariants.{Message}
-use Rattle.snippet_titles.specs.Heading.{colon_of, heading_lines, heading_rows, id_cells, indent_cells, label_cells, label_width, lines_below, note_bar_of, note_sign_of, roles_of, sign_cells}
+use Rattle.snippet_titles.specs.Heading.{colon_of, heading_lines, heading_rows, id_cells, indent_cells, label_cells, label_width, lines_below, note_bar_of, roles_of, sign_cells}
+use Rattle.snippet_style.specs.Glyphs.{note_sign_of}
 use Rattle.snippet_titles.specs.Origin.{file_glyph, file_row, opening_head, opening_rows, origin_row, origin_text, snippet_head}
 use Rattle.snippet_style.specs.Separators.{separator_row}
 use Rattle.snippet_titles.proofs.FreeLemmas.{All-trimmed}

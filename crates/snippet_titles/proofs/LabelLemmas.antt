@@ -19,7 +19,7 @@ use Rattle.snippet_model.specs.Heading.{Heading, is_hidden}
 use Rattle.snippet_model.specs.Level.{name_of}
 use Rattle.snippet_titles.specs.declared.style.HeadingRoles.{HeadingRoles}
 use Rattle.snippet_titles.specs.Appended.{appended}
-use Rattle.snippet_titles.specs.Heading.{bracketed_text, closing_of, colon_of, id_cells, id_text, label_cells, opening_of}
+use Rattle.snippet_titles.specs.Heading.{bracketed_text, closing_bracket_of, colon_of, id_cells, id_text, label_cells, opening_bracket_of}
 use Rattle.snippet_titles.proofs.AppendLemmas.{row_at-appended}
 use Rattle.snippet_titles.proofs.RowLemmas.{appended-three}
 
@@ -77,9 +77,9 @@ label_width-parts known level hidden owned id set name shown colon colons levele
     omega (arith, one, two, three, width_of-three (norm (chars (name_of known))) (id_text h owned) (colon_of h owned))
 
 -- an id takes the columns of its text, and in brackets two more
-pub width_of-id : (hidden : Bool) (id : Id) (text : List ℕ) → option_map cow_str_bytes id.id ≡ Some text → width_of (id_text hidden (Some id)) ≡ width_of (opening_of hidden) + width_of (chars text) + width_of (closing_of hidden)
+pub width_of-id : (hidden : Bool) (id : Id) (text : List ℕ) → option_map cow_str_bytes id.id ≡ Some text → width_of (id_text hidden (Some id)) ≡ width_of (opening_bracket_of hidden) + width_of (chars text) + width_of (closing_bracket_of hidden)
 width_of-id hidden id text is =
-    ap (λ t. width_of (bracketed_text hidden t)) is ∙ width_of-three (opening_of hidden) (norm (chars text)) (closing_of hidden) ∙ ap (λ n. width_of (opening_of hidden) + n + width_of (closing_of hidden)) (width_of-norm (chars text))
+    ap (λ t. width_of (bracketed_text hidden t)) is ∙ width_of-three (opening_bracket_of hidden) (norm (chars text)) (closing_bracket_of hidden) ∙ ap (λ n. width_of (opening_bracket_of hidden) + n + width_of (closing_bracket_of hidden)) (width_of-norm (chars text))
 
 -- an id without brackets is as wide as its text
 pub width_of-bare : (hidden : Bool) (id : Id) (text : List ℕ) (width : ℕ) → hidden ≡ true → option_map cow_str_bytes id.id ≡ Some text → width ≡ width_of (chars text) → width ≡ width_of (id_text hidden (Some id))

@@ -22,7 +22,8 @@ use Rattle.snippet_model.specs.Level.{name_of}
 use Rattle.snippet_titles.specs.declared.style.HeadingRoles.{HeadingRoles}
 use Rattle.snippet_titles.specs.declared.style.TitleStyle.{TitleStyle}
 use Rattle.snippet_titles.specs.declared.style.TitleStyle.TheVariants.{Title, Short, Message}
-use Rattle.snippet_titles.specs.Heading.{address_of, bracketed_cells, closing_of, colon_of, shown_text, heading_lines, heading_rows, id_cells, indent_cells, label_cells, label_width, lines_below, linked_to, note_bar_of, note_sign_of, on_top, opening_of, roles_of, sign_cells, trimmed}
+use Rattle.snippet_titles.specs.Heading.{address_of, bracketed_cells, closing_bracket_of, colon_of, shown_text, heading_lines, heading_rows, id_cells, indent_cells, label_cells, label_width, lines_below, linked_to, note_bar_of, on_top, opening_bracket_of, roles_of, sign_cells, trimmed}
+use Rattle.snippet_style.specs.Glyphs.{note_sign_of}
 use Rattle.snippet_titles.specs.Title.{id_links, text_links, title_rows}
 
 -- a cell that links to nothing
@@ -91,8 +92,8 @@ links-linked (Some url) r (c ∷ cs) = ap (λ (urls : List (List ℕ)). url ∷ 
 bracketed-links : (hidden : Bool) (r : ElementStyle) (address : Option (List ℕ)) (text : List ℕ) → links_after None (bracketed_cells hidden r address (Some text)) ≡ text_links address (norm (chars text))
 bracketed-links hidden r address text =
     let shown : List Cell = linked_to address (text_cells r (norm (chars text))) in
-    let opening : List Cell = text_cells r (opening_of hidden) in
-    links-after None (opening ++ shown) (text_cells r (closing_of hidden)) (drawn_unlinked r (closing_of hidden)) ∙ links-before opening shown (drawn_unlinked r (opening_of hidden)) ∙ links-linked address r (norm (chars text))
+    let opening : List Cell = text_cells r (opening_bracket_of hidden) in
+    links-after None (opening ++ shown) (text_cells r (closing_bracket_of hidden)) (drawn_unlinked r (closing_bracket_of hidden)) ∙ links-before opening shown (drawn_unlinked r (opening_bracket_of hidden)) ∙ links-linked address r (norm (chars text))
 
 id-links : (hyperlink hidden : Bool) (r : ElementStyle) (id : Option Id) → links_after None (id_cells hyperlink hidden r id) ≡ id_links hyperlink id
 id-links hyperlink hidden r None = refl

@@ -19,7 +19,7 @@ use Rattle.snippet_model.specs.Heading.{Heading, is_hidden}
 use Rattle.snippet_model.specs.Level.{name_of}
 use Rattle.snippet_titles.specs.declared.style.HeadingRoles.{HeadingRoles}
 use Rattle.snippet_titles.specs.declared.style.TitleStyle.{TitleStyle}
-use Rattle.snippet_titles.specs.Heading.{address_of, bracketed_cells, closing_of, colon_of, shown_text, heading_lines, heading_rows, id_cells, indent_cells, label_cells, label_width, lines_below, linked_to, opening_of, roles_of, sign_cells}
+use Rattle.snippet_titles.specs.Heading.{address_of, bracketed_cells, closing_bracket_of, colon_of, shown_text, heading_lines, heading_rows, id_cells, indent_cells, label_cells, label_width, lines_below, linked_to, opening_bracket_of, roles_of, sign_cells}
 use Rattle.snippet_titles.specs.Shown.{LinksId, id_start, is_id_cell}
 use Rattle.snippet_titles.specs.Title.{id_address, id_chars}
 use Rattle.snippet_titles.proofs.EndLemmas.{row_at-trimmed}
@@ -90,10 +90,10 @@ module _ (hyperlink : Bool) (style : TitleStyle) (roles : HeadingRoles) (heading
   -- where the id shows a text
   module _ (id : Id) (text : List ℕ) (own : heading.id ≡ Some id) (given : option_map cow_str_bytes id.id ≡ Some text) where
     abbrev opening : List Cell
-    opening = text_cells roles.label (opening_of hidden)
+    opening = text_cells roles.label (opening_bracket_of hidden)
 
     abbrev closing : List Cell
-    closing = text_cells roles.label (closing_of hidden)
+    closing = text_cells roles.label (closing_bracket_of hidden)
 
     abbrev before : List Cell
     before = sign_cells style ++ (name ++ opening)
@@ -113,7 +113,7 @@ module _ (hyperlink : Bool) (style : TitleStyle) (roles : HeadingRoles) (heading
 
     length-before : length before ≡ id_start style heading
     length-before =
-        omega (arith, length-append (sign_cells style) (name ++ opening), length-append name opening, length-text_cells roles.label name_chars, length-text_cells roles.label (opening_of hidden))
+        omega (arith, length-append (sign_cells style) (name ++ opening), length-append name opening, length-text_cells roles.label name_chars, length-text_cells roles.label (opening_bracket_of hidden))
 
     length-shown : length shown ≡ length (norm (chars text))
     length-shown =
@@ -121,11 +121,11 @@ module _ (hyperlink : Bool) (style : TitleStyle) (roles : HeadingRoles) (heading
 
     before_unlinked : All IsUnlinked before
     before_unlinked =
-        All-append IsUnlinked (sign_cells style) (name ++ opening) (sign_unlinked style) (All-append IsUnlinked name opening (drawn_unlinked roles.label name_chars) (drawn_unlinked roles.label (opening_of hidden)))
+        All-append IsUnlinked (sign_cells style) (name ++ opening) (sign_unlinked style) (All-append IsUnlinked name opening (drawn_unlinked roles.label name_chars) (drawn_unlinked roles.label (opening_bracket_of hidden)))
 
     after_unlinked : All IsUnlinked after
     after_unlinked =
-        All-append IsUnlinked (closing ++ colon) rest (All-append IsUnlinked closing colon (drawn_unlinked roles.label (closing_of hidden)) (drawn_unlinked roles.colon (colon_of hidden heading.id))) (drawn_unlinked roles.text line)
+        All-append IsUnlinked (closing ++ colon) rest (All-append IsUnlinked closing colon (drawn_unlinked roles.label (closing_bracket_of hidden)) (drawn_unlinked roles.colon (colon_of hidden heading.id))) (drawn_unlinked roles.text line)
 
     text_linked : (c : ℕ) → c < length (norm (chars text)) → (get_or row (id_start style heading + c) SPACE).link ≡ address_of hyperlink id
     text_linked c within =

@@ -12,7 +12,8 @@ use Rattle.snippet_text.specs.Normalized.{norm}
 use Rattle.snippet_text.proofs.NormLemmas.{length-norm}
 use Rattle.snippet_model.specs.declared.snippet.Id.{Id}
 use Rattle.snippet_titles.specs.Appended.{appended, linked_from}
-use Rattle.snippet_titles.specs.Heading.{address_of, bracketed_cells, closing_of, id_cells, linked_to, note_sign_of, opening_of}
+use Rattle.snippet_titles.specs.Heading.{address_of, bracketed_cells, closing_bracket_of, id_cells, linked_to, opening_bracket_of}
+use Rattle.snippet_style.specs.Glyphs.{note_sign_of}
 use Rattle.snippet_style.specs.declared.glyphs.DecorStyle.{DecorStyle}
 use Rattle.snippet_style.specs.declared.glyphs.DecorStyle.TheVariants.{Ascii, Unicode}
 use Rattle.snippet_style.specs.declared.role.ElementStyle.TheVariants.{LineNumber}
@@ -63,8 +64,8 @@ appended-three old one two new row xs ys zs first second third =
 -- an id: a bracket, the text, which is linked, and a bracket
 pub id_drawn : (old one two three new : List (List Cell)) (row start from : ℕ) (hyperlink hidden : Bool) (role : ElementStyle) (id : Id)
     (text opening shown closing : List ℕ) (address : Option (List ℕ)) → option_map cow_str_bytes id.id ≡ Some text → length text < 2 ^ 56
-    → start < 2 ^ 60 → length (row_at old row) ≡ start → from ≡ start + length (opening_of hidden) → length (opening_of hidden) ≤ 1
-    → opening ≡ opening_of hidden → shown ≡ norm (chars text) → closing ≡ closing_of hidden → address ≡ address_of hyperlink id
+    → start < 2 ^ 60 → length (row_at old row) ≡ start → from ≡ start + length (opening_bracket_of hidden) → length (opening_bracket_of hidden) ≤ 1
+    → opening ≡ opening_bracket_of hidden → shown ≡ norm (chars text) → closing ≡ closing_bracket_of hidden → address ≡ address_of hyperlink id
     → one ≡ appended old row (text_cells role opening) → two ≡ appended one row (text_cells role shown) → three ≡ linked_from address row from two → new ≡ appended three row (text_cells role closing) → new ≡ appended old row (id_cells hyperlink hidden role (Some id))
 id_drawn old one two three new row start from hyperlink hidden role id text opening shown closing address given fits short size at narrow opens is closes to first second linked last =
     let front : length (row_at one row) ≡ from =
@@ -84,9 +85,9 @@ id_drawn old one two three new row start from hyperlink hidden role id text open
     first third last ∙ ap (λ (cs : List ℕ). appended old row
     (text_cells role cs ++ linked_to address (text_cells role shown) ++ text_cells role closing)) opens
     ∙ ap (λ (cs : List ℕ). appended old row
-    (text_cells role (opening_of hidden) ++ linked_to address (text_cells role cs) ++ text_cells role closing)) is
+    (text_cells role (opening_bracket_of hidden) ++ linked_to address (text_cells role cs) ++ text_cells role closing)) is
     ∙ ap (λ (cs : List ℕ). appended old row
-    (text_cells role (opening_of hidden) ++ linked_to address (text_cells role (norm (chars text))) ++ text_cells role cs)) closes
+    (text_cells role (opening_bracket_of hidden) ++ linked_to address (text_cells role (norm (chars text))) ++ text_cells role cs)) closes
     ∙ ap (λ a. appended old row (bracketed_cells hidden role a (Some text))) to
     ∙ ap (λ t. appended old row (bracketed_cells hidden role (address_of hyperlink id) t)) (sym given)
 

@@ -13,7 +13,7 @@ use Rattle.snippet_text.specs.Normalized.{is_listed}
 use Rattle.snippet_model.specs.Heading.{Heading}
 use Rattle.snippet_titles.specs.declared.style.HeadingRoles.{HeadingRoles}
 use Rattle.snippet_titles.specs.declared.style.TitleStyle.TheVariants.{Short}
-use Rattle.snippet_titles.specs.Heading.{shown_text, heading_lines, indent_cells, label_cells, label_text, label_width, lines_below, roles_of}
+use Rattle.snippet_titles.specs.Heading.{shown_text, heading_lines, indent_cells, label_cells, heading_label_text, label_width, lines_below, roles_of}
 use Rattle.snippet_titles.specs.Short.{short_rows, short_texts, with_end}
 use Rattle.snippet_titles.specs.Shown.{IsFreeButText}
 use Rattle.snippet_titles.specs.Title.{id_links}
@@ -24,7 +24,7 @@ use Rattle.snippet_titles.proofs.TextLemmas.{row_text-append, row_text-after, ro
 use Rattle.snippet_grid.proofs.RowLemmas.{row_text-text_cells}
 
 -- the row that a text and a label begin
-first_text : (hyperlink : Bool) (roles : HeadingRoles) (before : List ℕ) (heading : Heading) → row_text (text_cells LineAndColumn before ++ label_cells hyperlink roles heading) ≡ before ++ label_text heading
+first_text : (hyperlink : Bool) (roles : HeadingRoles) (before : List ℕ) (heading : Heading) → row_text (text_cells LineAndColumn before ++ label_cells hyperlink roles heading) ≡ before ++ heading_label_text heading
 first_text hyperlink roles before heading =
     let label : List Cell = label_cells hyperlink roles heading in
     row_text-append (text_cells LineAndColumn before) label ∙ ap (λ cs. cs ++ row_text label) (row_text-text_cells LineAndColumn before) ∙ ap (λ cs. before ++ cs) (row_text-label hyperlink roles heading)
@@ -44,7 +44,7 @@ short-texts hyperlink before after heading i =
     let further : List Cell = indent_cells Short (label_width heading) in
     let rows : List (List Cell) = lines_below first further roles.text (heading_lines heading) in
     let all : List (List Cell) = with_end (text_cells NoStyle after) rows in
-    ap row_text (row_at-trimmed all i) ∙ text_at all i ∙ ap (λ ts. slice_index_or ts i []) (with_end-texts after rows ∙ ap (with_end after) (texts_of_lines first further (before ++ label_text heading) roles.text (heading_lines heading) (first_text hyperlink roles before heading)))
+    ap row_text (row_at-trimmed all i) ∙ text_at all i ∙ ap (λ ts. slice_index_or ts i []) (with_end-texts after rows ∙ ap (with_end after) (texts_of_lines first further (before ++ heading_label_text heading) roles.text (heading_lines heading) (first_text hyperlink roles before heading)))
 
 -- a text after the first row links to nothing
 with_end-links : (cells : List Cell) (rows : List (List Cell)) → All IsUnlinked cells → links_of (with_end cells rows) ≡ links_of rows
@@ -84,7 +84,7 @@ module _ (P : ℕ → Type 0) (free : (c : ℕ) → IsUnlisted c → P c) where
       let further : List Cell = indent_cells Short (label_width heading) in
       let lines : List (List ℕ) = heading_lines heading in
       let rows : List (List Cell) = lines_below first further roles.text lines in
-      let begun : All P (row_text first) = subst (All P) (sym (first_text hyperlink roles before heading)) (All-append P before (label_text heading) (from_free P free before front) (label-all P free heading)) in
+      let begun : All P (row_text first) = subst (All P) (sym (first_text hyperlink roles before heading)) (All-append P before (heading_label_text heading) (from_free P free before front) (label-all P free heading)) in
       let below : All (λ row. All P (row_text row)) rows = lines-all P free first further roles.text lines begun (indent-all P free Short (label_width heading)) (All-slice_split P (λ c. c == 10) (shown_text heading) all) in
       All-trimmed (λ row. All P (row_text row)) (with_end (text_cells NoStyle after) rows) (with_end-all after rows (from_free P free after back) below)
 

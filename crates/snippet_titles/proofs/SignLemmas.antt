@@ -4,21 +4,6 @@ use Rattle.std.proofs.lemmas.Str.{chars-encodes, chars-nil}
 use Rattle.snippet_model.specs.declared.snippet.Id.{Id}
 use Rattle.snippet_titles.specs.Heading.{colon_of, is_set}
 
--- what leads to a message
-pub chars-equals : chars (61 ∷ 32 ∷ []) ≡ codes "= "
-unfolding lib.Utf8.encode
-chars-equals = chars-encodes (codes "= ") refl
-
--- the characters of the bytes that the code writes for `├ `
-pub chars-branch : chars (226 ∷ 148 ∷ 156 ∷ 32 ∷ []) ≡ codes "├ "
-unfolding lib.Utf8.encode
-chars-branch = chars-encodes (codes "├ ") refl
-
--- the characters of the bytes that the code writes for `╰ `
-pub chars-corner : chars (226 ∷ 149 ∷ 176 ∷ 32 ∷ []) ≡ codes "╰ "
-unfolding lib.Utf8.encode
-chars-corner = chars-encodes (codes "╰ ") refl
-
 -- a colon and a space, and brackets
 pub chars-colon : chars (58 ∷ 32 ∷ []) ≡ codes ": "
 unfolding lib.Utf8.encode

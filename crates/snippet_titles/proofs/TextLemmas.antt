@@ -14,7 +14,7 @@ use Rattle.snippet_model.specs.Heading.{Heading, is_hidden}
 use Rattle.snippet_model.specs.Level.{name_of}
 use Rattle.snippet_titles.specs.declared.style.HeadingRoles.{HeadingRoles}
 use Rattle.snippet_titles.specs.declared.style.TitleStyle.{TitleStyle}
-use Rattle.snippet_titles.specs.Heading.{address_of, bracketed_cells, bracketed_text, closing_of, colon_of, heading_lines, heading_rows, id_cells, id_text, indent_cells, label_cells, label_text, label_width, lines_below, linked_to, opening_of, roles_of, sign_cells}
+use Rattle.snippet_titles.specs.Heading.{address_of, bracketed_cells, bracketed_text, closing_bracket_of, colon_of, heading_lines, heading_rows, id_cells, id_text, indent_cells, label_cells, heading_label_text, label_width, lines_below, linked_to, opening_bracket_of, roles_of, sign_cells}
 use Rattle.snippet_titles.specs.Shown.{heading_texts, texts_below}
 use Rattle.snippet_titles.proofs.EndLemmas.{refilled, row_at-trimmed}
 use Rattle.snippet_grid.proofs.RowLemmas.{row_text-text_cells}
@@ -43,10 +43,10 @@ row_text-three xs ys zs a b c first second third =
 row_text-bracketed : (hidden : Bool) (r : ElementStyle) (address text : Option (List ℕ)) → row_text (bracketed_cells hidden r address text) ≡ bracketed_text hidden text
 row_text-bracketed hidden r address None = refl
 row_text-bracketed hidden r address (Some text) =
-    row_text-three (text_cells r (opening_of hidden)) (linked_to address (text_cells r (norm (chars text)))) (text_cells r (closing_of hidden))
-    _ _ _ (row_text-text_cells r (opening_of hidden))
+    row_text-three (text_cells r (opening_bracket_of hidden)) (linked_to address (text_cells r (norm (chars text)))) (text_cells r (closing_bracket_of hidden))
+    _ _ _ (row_text-text_cells r (opening_bracket_of hidden))
     (row_text-linked address (text_cells r (norm (chars text))) ∙ row_text-text_cells r (norm (chars text)))
-    (row_text-text_cells r (closing_of hidden))
+    (row_text-text_cells r (closing_bracket_of hidden))
 
 pub row_text-id : (hyperlink hidden : Bool) (r : ElementStyle) (id : Option Id) → row_text (id_cells hyperlink hidden r id) ≡ id_text hidden id
 row_text-id hyperlink hidden r None = refl
@@ -54,7 +54,7 @@ row_text-id hyperlink hidden r (Some id) =
     row_text-bracketed hidden r (address_of hyperlink id) (option_map cow_str_bytes id.id)
 
 -- the text of a label's cells is the label's text
-pub row_text-label : (hyperlink : Bool) (roles : HeadingRoles) (heading : Heading) → row_text (label_cells hyperlink roles heading) ≡ label_text heading
+pub row_text-label : (hyperlink : Bool) (roles : HeadingRoles) (heading : Heading) → row_text (label_cells hyperlink roles heading) ≡ heading_label_text heading
 unfolding label_cells
 row_text-label hyperlink roles heading =
     let hidden : Bool = is_hidden heading.level.name in
@@ -93,8 +93,8 @@ heading_rows-texts hyperlink style heading k =
     let first : List Cell = sign_cells style ++ label_cells hyperlink roles heading in
     let further : List Cell = indent_cells style (label_width heading) in
     let rows : List (List Cell) = lines_below first further roles.text (heading_lines heading) in
-    let begun : row_text first ≡ row_text (sign_cells style) ++ label_text heading = row_text-append (sign_cells style) (label_cells hyperlink roles heading) ∙ ap (λ cs. row_text (sign_cells style) ++ cs) (row_text-label hyperlink roles heading) in
-    ap row_text (row_at-trimmed rows k) ∙ text_at rows k ∙ ap (λ ts. get_or ts k []) (texts_of_lines first further (row_text (sign_cells style) ++ label_text heading) roles.text (heading_lines heading) begun)
+    let begun : row_text first ≡ row_text (sign_cells style) ++ heading_label_text heading = row_text-append (sign_cells style) (label_cells hyperlink roles heading) ∙ ap (λ cs. row_text (sign_cells style) ++ cs) (row_text-label hyperlink roles heading) in
+    ap row_text (row_at-trimmed rows k) ∙ text_at rows k ∙ ap (λ ts. get_or ts k []) (texts_of_lines first further (row_text (sign_cells style) ++ heading_label_text heading) roles.text (heading_lines heading) begun)
 
 -- no row stands below those of the lines
 lines_count : (first further : List Cell) (r : ElementStyle) (lines : List (List ℕ)) → length (lines_below first further r lines) ≡ length lines
@@ -112,4 +112,4 @@ heading_rows-count hyperlink style heading =
     let first : List Cell = sign_cells style ++ label_cells hyperlink roles heading in
     let further : List Cell = indent_cells style (label_width heading) in
     let lines : List (List ℕ) = heading_lines heading in
-    omega (arith, (refilled (lines_below first further roles.text lines)).1, lines_count first further roles.text lines, texts_count (row_text (sign_cells style) ++ label_text heading) (row_text further) lines)
+    omega (arith, (refilled (lines_below first further roles.text lines)).1, lines_count first further roles.text lines, texts_count (row_text (sign_cells style) ++ heading_label_text heading) (row_text further) lines)

@@ -8,6 +8,7 @@ use Rattle.snippet_style.specs.declared.glyphs.DecorStyle.TheVariants.{Ascii, Un
 use Rattle.snippet_style.specs.declared.role.ElementStyle.{ElementStyle}
 use Rattle.snippet_style.specs.declared.role.ElementStyle.TheVariants as role
 use Rattle.snippet_style.specs.declared.role.LevelInner.{LevelInner}
+use Rattle.snippet_style.specs.Glyphs.{note_sign_of, separator_of}
 use Rattle.snippet_grid.specs.Grid.{linked}
 use Rattle.snippet_style.specs.Cell.{Cell, SPACE, unlinked_cell, text_cells}
 use Rattle.snippet_text.specs.Normalized.{norm}
@@ -33,17 +34,17 @@ linked_to None cells = cells
 linked_to (Some url) cells = map (linked url) cells
 
 -- the brackets around an id's text, which stand where the level's name isn't hidden
-abbrev pub opening_of : Bool → List ℕ
-opening_of hidden = if hidden then [] else codes "["
+abbrev pub opening_bracket_of : Bool → List ℕ
+opening_bracket_of hidden = if hidden then [] else codes "["
 
-abbrev pub closing_of : Bool → List ℕ
-closing_of hidden = if hidden then [] else codes "]"
+abbrev pub closing_bracket_of : Bool → List ℕ
+closing_bracket_of hidden = if hidden then [] else codes "]"
 
 -- an id's text: normalised, and linked but for the brackets; no cells where there is no text
 abbrev pub bracketed_cells : Bool → ElementStyle → Option (List ℕ) → Option (List ℕ) → List Cell
 bracketed_cells hidden role address None = []
 bracketed_cells hidden role address (Some text) =
-    text_cells role (opening_of hidden) ++ linked_to address (text_cells role (norm (chars text))) ++ text_cells role (closing_of hidden)
+    text_cells role (opening_bracket_of hidden) ++ linked_to address (text_cells role (norm (chars text))) ++ text_cells role (closing_bracket_of hidden)
 
 -- the cells of an id, where there is one
 abbrev pub id_cells : Bool → Bool → ElementStyle → Option Id → List Cell
@@ -69,21 +70,21 @@ label_cells hyperlink roles heading =
 -- its characters: those of an id, and of all of it
 abbrev pub bracketed_text : Bool → Option (List ℕ) → List ℕ
 bracketed_text hidden None = []
-bracketed_text hidden (Some text) = opening_of hidden ++ norm (chars text) ++ closing_of hidden
+bracketed_text hidden (Some text) = opening_bracket_of hidden ++ norm (chars text) ++ closing_bracket_of hidden
 
 abbrev pub id_text : Bool → Option Id → List ℕ
 id_text hidden None = []
 id_text hidden (Some id) = bracketed_text hidden (option_map cow_str_bytes id.id)
 
 -- the characters of a whole label
-abbrev pub label_text : Heading → List ℕ
-label_text heading =
+abbrev pub heading_label_text : Heading → List ℕ
+heading_label_text heading =
     let hidden = is_hidden heading.level.name in
     norm (chars (name_of heading.level)) ++ id_text hidden heading.id ++ colon_of hidden heading.id
 
 -- the columns that it takes
 abbrev pub label_width : Heading → ℕ
-label_width heading = width_of (label_text heading)
+label_width heading = width_of (heading_label_text heading)
 
 -- the role of a title's colon, and of its text if that isn't trusted; in the short form or not
 abbrev pub title_role : Bool → Bool → ElementStyle
@@ -104,16 +105,10 @@ roles_of Short kind trusted =
 roles_of (Message place) kind trusted =
     record { label = role.MainHeaderMsg; colon = role.NoStyle; text = role.NoStyle }
 
--- what leads from the gutter to a message: '= ', or in Unicode '├ ' where an element follows and else '╰ '
-abbrev pub note_sign_of : DecorStyle → Bool → List ℕ
-note_sign_of Ascii followed = codes "= "
-note_sign_of Unicode true = codes "├ "
-note_sign_of Unicode false = codes "╰ "
-
--- what stands below it: in Unicode the stroke that leads to the element that follows, if there is one; else a space
+-- what stands below what leads to a message: in Unicode the stroke that leads to the element that follows, if there is one; else a space
 abbrev pub note_bar_of : DecorStyle → Bool → Cell
 note_bar_of Ascii followed = SPACE
-note_bar_of Unicode true = unlinked_cell role.LineNumber 0x2502
+note_bar_of Unicode true = unlinked_cell role.LineNumber (separator_of Unicode)
 note_bar_of Unicode false = SPACE
 
 -- what a heading's first row begins with: nothing for a title, and for a message the sign after the gutter

@@ -4,7 +4,7 @@ use Rattle.std.specs.Fmt.{decimal}
 use Rattle.snippet_style.specs.declared.glyphs.DecorStyle.{DecorStyle}
 use Rattle.snippet_style.specs.declared.glyphs.DecorStyle.TheVariants.{Ascii, Unicode}
 use Rattle.snippet_style.specs.declared.role.ElementStyle.TheVariants.{LineAndColumn, LineNumber}
-use Rattle.snippet_style.specs.Glyphs.{file_start_of}
+use Rattle.snippet_style.specs.Glyphs.{alone_start_of, file_start_of, other_start_of}
 use Rattle.snippet_style.specs.Separators.{closing_row, separator_row}
 use Rattle.snippet_style.specs.Cell.{Cell, SPACE, text_cells}
 use Rattle.snippet_text.specs.Normalized.{norm}
@@ -36,16 +36,13 @@ place_text anonymized place = line_text anonymized place.line place.column
 unfoldable pub origin_text : Bool → List ℕ → OriginLocation → List ℕ
 origin_text anonymized path place = norm (chars path) ++ place_text anonymized place
 
--- what leads from the gutter to a path: '--> ', or '::: ' to any but the group's primary file. In Unicode ' ─▸ ' where the
--- path is all that the group shows, ' ╭▸ ' where it is of the first element, ' ├▸ ' of a later one, and ' ⸬  ' to any but
--- the primary file
+-- what leads from the gutter to a path: to the group's primary file, where its path is all that the group shows, from the
+-- first element or from a later one, or to any other file
 abbrev pub file_glyph : FileStart → DecorStyle → List ℕ
-file_glyph Alone Ascii = codes "--> "
-file_glyph Alone Unicode = codes " ─▸ "
+file_glyph Alone decor = alone_start_of decor
 file_glyph First decor = file_start_of decor true
 file_glyph Later decor = file_start_of decor false
-file_glyph Secondary Ascii = codes "::: "
-file_glyph Secondary Unicode = codes " ⸬  "
+file_glyph Secondary decor = other_start_of decor
 
 -- a row that leads to a file without naming it: the gutter is empty, and the glyph stands from cell `gutter` on
 unfoldable pub file_row : OriginLayout → FileStart → List Cell

@@ -5,7 +5,7 @@ use Rattle.snippet_style.specs.Cell.{Cell, text_cells}
 use Rattle.snippet_grid.specs.Print.{row_text}
 use Rattle.snippet_model.specs.Heading.{Heading}
 use Rattle.snippet_titles.specs.declared.style.TitleStyle.TheVariants.{Short}
-use Rattle.snippet_titles.specs.Heading.{heading_lines, indent_cells, label_cells, label_text, label_width, lines_below, roles_of, trimmed}
+use Rattle.snippet_titles.specs.Heading.{heading_lines, indent_cells, label_cells, heading_label_text, label_width, lines_below, roles_of, trimmed}
 use Rattle.snippet_titles.specs.Shown.{texts_below}
 
 -- some rows, or some texts, of which the first goes on with these cells, or characters
@@ -23,4 +23,4 @@ short_rows hyperlink before after heading =
 -- the text of each row
 abbrev pub short_texts : List ℕ → List ℕ → Heading → List (List ℕ)
 short_texts before after heading =
-    with_end after (texts_below (before ++ label_text heading) (row_text (indent_cells Short (label_width heading))) (heading_lines heading))
+    with_end after (texts_below (before ++ heading_label_text heading) (row_text (indent_cells Short (label_width heading))) (heading_lines heading))

@@ -7,7 +7,7 @@ use Rattle.snippet_text.specs.Normalized.{norm, is_listed}
 use Rattle.snippet_model.specs.Heading.{Heading, is_hidden}
 use Rattle.snippet_model.specs.Level.{name_of}
 use Rattle.snippet_titles.specs.declared.style.TitleStyle.{TitleStyle}
-use Rattle.snippet_titles.specs.Heading.{heading_lines, indent_cells, label_text, label_width, opening_of, sign_cells}
+use Rattle.snippet_titles.specs.Heading.{heading_lines, indent_cells, heading_label_text, label_width, opening_bracket_of, sign_cells}
 use Rattle.snippet_titles.specs.Title.{id_address, id_chars}
 
 -- the texts of lines: the first stands after these characters, each further one after those
@@ -18,7 +18,7 @@ texts_below first further (line ∷ lines) = (first ++ line) ∷ map (λ l. furt
 -- the text of each row of a heading: its first line after the sign and the label, each further one below its text
 abbrev pub heading_texts : TitleStyle → Heading → List (List ℕ)
 heading_texts style heading =
-    texts_below (row_text (sign_cells style) ++ label_text heading) (row_text (indent_cells style (label_width heading))) (heading_lines heading)
+    texts_below (row_text (sign_cells style) ++ heading_label_text heading) (row_text (indent_cells style (label_width heading))) (heading_lines heading)
 
 -- each listed character of a row stands in the heading's text, and that is trusted
 abbrev pub IsFreeButText : Heading → List Cell → Type 0
@@ -28,7 +28,7 @@ IsFreeButText heading row =
 -- the cell of a heading's first row at which the text of its id begins
 abbrev pub id_start : TitleStyle → Heading → ℕ
 id_start style heading =
-    length (sign_cells style) + length (norm (chars (name_of heading.level))) + length (opening_of (is_hidden heading.level.name))
+    length (sign_cells style) + length (norm (chars (name_of heading.level))) + length (opening_bracket_of (is_hidden heading.level.name))
 
 -- whether cell c of row i of a heading is one of the text of its id
 abbrev pub is_id_cell : TitleStyle → Heading → ℕ → ℕ → Bool

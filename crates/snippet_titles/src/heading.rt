@@ -117,7 +117,7 @@ pub fn colon(hidden: bool, id: Option<&Id>) -> &'static str
 /// The columns of what stands before a heading's text.
 fn label_width(heading: &dyn MessageOrTitle) -> usize
     requires fits { HeadingFits (heading_of heading.now) }
-    ensures value { result ≡ width_of (spec.label_text (heading_of heading.now)) }
+    ensures value { result ≡ width_of (spec.heading_label_text (heading_of heading.now)) }
     ensures small { result < 2 ^ 60 }
 {
     let hidden = is_hidden(heading.level());

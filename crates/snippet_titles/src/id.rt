@@ -67,8 +67,8 @@ fn shown_text<'r>(alloc: Global, text: &'r CowStr<'_>) -> Result<CowStr<'r>, All
 
 /// What stands before an id's text.
 pub(crate) fn opening_bracket(hidden: bool) -> &'static str
-    ensures value { chars result.now ≡ spec.opening_of hidden }
-    ensures length { length result.now ≡ length (spec.opening_of hidden) }
+    ensures value { chars result.now ≡ spec.opening_bracket_of hidden }
+    ensures length { length result.now ≡ length (spec.opening_bracket_of hidden) }
     ensures short { length result.now ≤ 1 }
 {
     if hidden { "" } else { "[" }
@@ -76,7 +76,7 @@ pub(crate) fn opening_bracket(hidden: bool) -> &'static str
 
 /// What stands after an id's text.
 pub(crate) fn closing_bracket(hidden: bool) -> &'static str
-    ensures value { chars result.now ≡ spec.closing_of hidden }
+    ensures value { chars result.now ≡ spec.closing_bracket_of hidden }
     ensures short { length result.now ≤ 1 }
 {
     if hidden { "" } else { "]" }

@@ -50,13 +50,11 @@ impl FileStart {
     fn glyph(self, decor: DecorStyle) -> &'static str
         ensures value { chars result.now ≡ file_glyph self decor }
     {
-        match (self, decor) {
-            (FileStart::Alone, DecorStyle::Ascii) => "--> ",
-            (FileStart::Alone, DecorStyle::Unicode) => " ─▸ ",
-            (FileStart::First, _) => decor.file_start(true),
-            (FileStart::Later, _) => decor.file_start(false),
-            (FileStart::Secondary, DecorStyle::Ascii) => "::: ",
-            (FileStart::Secondary, DecorStyle::Unicode) => " ⸬  ",
+        match self {
+            FileStart::Alone => decor.alone_start(),
+            FileStart::First => decor.file_start(true),
+            FileStart::Later => decor.file_start(false),
+            FileStart::Secondary => decor.other_start(),
         }
     }
 }

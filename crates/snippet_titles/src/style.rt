@@ -1,6 +1,7 @@
 //! Where a title or message stands, and what that makes of its rows: the roles of their parts, and what they begin with.
 ghost use Rattle.std.specs.Prelude.{◌≡◌, ◌<◌, ◌^◌, chars, length};
 ghost use Rattle.snippet_style.specs.Cell.{unlinked_cell};
+ghost use Rattle.snippet_style.specs.Glyphs.{note_sign_of};
 ghost use Rattle.snippet_titles.specs.Heading as spec;
 ghost use Rattle.snippet_style.specs.declared.role.ElementStyle.TheVariants.{Level};
 
@@ -74,15 +75,11 @@ fn title_roles(short: bool, kind: LevelInner, trusted: bool) -> HeadingRoles
 impl MessageContext {
     /// What leads from the gutter to the message.
     pub(crate) fn sign(self) -> &'static str
-        ensures value { chars result.now ≡ spec.note_sign_of self.frame.decor self.followed }
+        ensures value { chars result.now ≡ note_sign_of self.frame.decor self.followed }
         ensures some { 0 < length result.now }
     {
         let frame = self.frame;
-        match (frame.decor, self.followed) {
-            (DecorStyle::Ascii, _) => "= ",
-            (DecorStyle::Unicode, true) => "├ ",
-            (DecorStyle::Unicode, false) => "╰ ",
-        }
+        frame.decor.note_sign(self.followed)
     }
 
     /// What stands below its first character in the message's further rows, and its role.
@@ -91,7 +88,7 @@ impl MessageContext {
     {
         let frame = self.frame;
         match (frame.decor, self.followed) {
-            (DecorStyle::Unicode, true) => ('│', ElementStyle::LineNumber),
+            (DecorStyle::Unicode, true) => (frame.decor.separator(), ElementStyle::LineNumber),
             (DecorStyle::Unicode, false) | (DecorStyle::Ascii, _) => (' ', ElementStyle::NoStyle),
         }
     }

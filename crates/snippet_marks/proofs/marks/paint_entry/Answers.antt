@@ -1,9 +1,10 @@
 use Rattle.std.proofs.Common.{◌≡◌, ◌∙◌, ◌<◌, ap, sym, arith}
 use Rattle.std.proofs.lemmas.Result.{on_ok_weaker}
-use Rattle.snippet_style.specs.Glyphs.{glyph_of, underline_role}
+use Rattle.snippet_style.specs.Glyphs.{strokes_of, underline_role}
 use Rattle.snippet_grid.specs.LayoutOf.{layout_of}
 use Rattle.snippet_marks.specs.Painting.{mark_end}
 use Rattle.snippet_marks.specs.Writes.{painted}
+use Rattle.snippet_style.specs.declared.glyphs.Strokes.{Strokes}
 use Rattle.snippet_marks.proofs.WriteLemmas.{mark_of-none, mark_painted}
 use Rattle.snippet_marks.proofs.marks.paint_entry.Goals as goal
 
@@ -22,8 +23,8 @@ returns c =
     let strokes = c.underline-strokes in
     let is_end : c.mark_end-end.result ≡ mark_end placed = c.mark_end-end.ensures.value in
     let some : placed.entry.start.display < mark_end placed = omega (arith, c.if-end-start.false, is_end) in
-    let is_line = strokes.ensures.underline ∙ ap (λ b. glyph_of layout.decor b 94 45 0x2501 0x2500) c.is_primary.ensures.value in
-    let is_role = strokes.ensures.style ∙ ap underline_role c.is_primary.ensures.value in
+    let is_line = ap (λ (s : Strokes). s.underline) strokes.ensures.value ∙ ap (λ b. (strokes_of layout.decor b).underline) c.is_primary.ensures.value in
+    let is_role = ap (λ (s : Strokes). s.style) strokes.ensures.value ∙ ap underline_role c.is_primary.ensures.value in
     rw (← c.layout.view_is) (record {
       painted = on_ok_weaker c.draw_stretch.result
           (λ drawn_now. mark_painted layout c.args.row placed c.first_glyph-first.result strokes.result.underline strokes.result.style

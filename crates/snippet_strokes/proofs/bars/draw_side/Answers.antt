@@ -7,6 +7,7 @@ use Rattle.snippet_strokes.specs.Bars.{bar_glyph, bar_part}
 use Rattle.snippet_strokes.proofs.BarRows.{ChangesRows-next, ChangesRows-none, changed-is}
 use Rattle.snippet_style.specs.Cell.{text_cells, unlinked_cell}
 use Rattle.snippet_marks.proofs.LineLemmas.{text_cells-replicate, some_bytes}
+use Rattle.snippet_style.specs.declared.glyphs.Strokes.{Strokes}
 use Rattle.snippet_strokes.proofs.bars.draw_side.Goals as goal
 
 pub puts-requires-clause-end : goal.puts-requires-clause-end
@@ -26,7 +27,7 @@ loop-r-preserved c =
     let gutter_is : c.layout.inside.gutter ≡ layout.gutter = ap (λ (l : Layout). l.gutter) c.layout.view_is in
     let written_is : c.puts.new.self ≡ cells_written c.loop-r.buffer c.loop-r.r at (text_cells role (chars c.as_str.result.now)) =
     c.in_ok-puts.ensures.ok (some_bytes c.as_str.result.now n glyph.result is c.requires.some) ∙ ap (λ g. cells_written c.loop-r.buffer c.loop-r.r (g + 2 + c.args.first.depth) (text_cells role (chars c.as_str.result.now))) gutter_is in
-    let part : unlinked_cell role glyph.result ≡ bar_part layout c.args.stroke c.args.first = ap (unlinked_cell role) glyph_is ∙ ap (λ r. unlinked_cell r (bar_glyph c.args.stroke layout.decor c.args.first.primary)) c.underline-role.ensures.style in
+    let part : unlinked_cell role glyph.result ≡ bar_part layout c.args.stroke c.args.first = ap (unlinked_cell role) glyph_is ∙ ap (λ r. unlinked_cell r (bar_glyph c.args.stroke layout.decor c.args.first.primary)) (ap (λ (s : Strokes). s.style) c.underline-role.ensures.value) in
     let parts : text_cells role (chars c.as_str.result.now) ≡ replicate n (bar_part layout c.args.stroke c.args.first) = ap (text_cells role) is ∙ text_cells-replicate role n glyph.result ∙ ap (replicate n) part in
     let there : c.loop-r.r < length c.args.buffer.now = omega (arith, c.loop-r.invariant.count, c.num_lines-r-end.ensures.count, c.loop-r-test.true) in
     ChangesRows-next at (replicate n (bar_part layout c.args.stroke c.args.first)) c.args.row c.loop-r.r c.args.buffer.now c.loop-r.buffer c.puts.new.self (omega arith) there c.loop-r.invariant (written_is ∙ ap (cells_written c.loop-r.buffer c.loop-r.r at) parts)

@@ -3,9 +3,10 @@ use Rattle.snippet_grid.specs.Layout.{Layout}
 use Rattle.snippet_grid.specs.Grid.{cells_written}
 use Rattle.snippet_model.specs.AnnotationKind.{is_primary}
 use Rattle.snippet_style.specs.Cell.{unlinked_cell}
-use Rattle.snippet_style.specs.Glyphs.{glyph_of, underline_role}
+use Rattle.snippet_style.specs.Glyphs.{strokes_of, underline_role}
 use Rattle.snippet_strokes.specs.Strokes.{bar_of}
 use Rattle.snippet_marks.specs.Writes.{painted}
+use Rattle.snippet_style.specs.declared.glyphs.Strokes.{Strokes}
 use Rattle.snippet_strokes.proofs.BarWrites.{bar_of-none, bar_painted}
 use Rattle.snippet_strokes.proofs.corners.draw_bar.Goals as goal
 
@@ -16,11 +17,11 @@ loop-row-init c =
 pub loop-row-preserved : goal.loop-row-preserved
 loop-row-preserved c =
     let strokes = c.underline-strokes in
-    bar_painted c.args.layout c.args.placed.now c.args.depth c.args.start c.loop-row.row strokes.result.multiline_vertical strokes.result.style
+    bar_painted c.args.layout c.args.placed.now c.args.depth c.args.start c.loop-row.row strokes.result.bar strokes.result.style
     c.args.buffer.now c.loop-row.buffer c.putc.new.self
-    (strokes.ensures.multiline_vertical ∙ ap (λ b. glyph_of c.layout.inside.decor b 124 124 0x2503 0x2502) c.is_primary.ensures.value ∙ ap (λ (l : Layout). glyph_of l.decor (is_primary c.args.placed.now.entry.kind) 124 124 0x2503 0x2502) c.layout.view_is)
-    (strokes.ensures.style ∙ ap underline_role c.is_primary.ensures.value) (omega arith) c.loop-row.invariant
-    (c.in_ok-putc.ensures.ok ∙ ap (λ (l : Layout). cells_written c.loop-row.buffer c.loop-row.row (l.gutter + 2 + c.args.depth) (unlinked_cell strokes.result.style strokes.result.multiline_vertical ∷ [])) c.layout.view_is)
+    (ap (λ (s : Strokes). s.bar) strokes.ensures.value ∙ ap (λ b. (strokes_of c.layout.inside.decor b).bar) c.is_primary.ensures.value ∙ ap (λ (l : Layout). (strokes_of l.decor (is_primary c.args.placed.now.entry.kind)).bar) c.layout.view_is)
+    (ap (λ (s : Strokes). s.style) strokes.ensures.value ∙ ap underline_role c.is_primary.ensures.value) (omega arith) c.loop-row.invariant
+    (c.in_ok-putc.ensures.ok ∙ ap (λ (l : Layout). cells_written c.loop-row.buffer c.loop-row.row (l.gutter + 2 + c.args.depth) (unlinked_cell strokes.result.style strokes.result.bar ∷ [])) c.layout.view_is)
 
 pub returns : goal.returns
 returns c =

@@ -3,9 +3,10 @@ use Rattle.std.specs.Result.{OnOk}
 use Rattle.std.proofs.lemmas.Result.{on_ok_weaker}
 use Rattle.snippet_grid.specs.Layout.{Layout}
 use Rattle.snippet_grid.specs.LayoutOf.{layout_of}
-use Rattle.snippet_style.specs.Glyphs.{glyph_of, underline_role}
+use Rattle.snippet_style.specs.Glyphs.{strokes_of, underline_role}
 use Rattle.snippet_marks.specs.Writes.{painted}
 use Rattle.snippet_strokes.specs.Strokes.{bar_of}
+use Rattle.snippet_style.specs.declared.glyphs.Strokes.{Strokes}
 use Rattle.snippet_strokes.proofs.BarWrites.{top_painted}
 use Rattle.snippet_strokes.proofs.corners.draw_top.Goals as goal
 
@@ -19,7 +20,7 @@ returns c =
     rw (← c.layout.view_is) (record {
       painted = on_ok_weaker c.draw_bar.result
           (λ continues. top_painted (layout_of c.layout.inside) c.args.row (length old)
-          c.args.placed.now c.args.depth c.num_lines-end.result strokes.result.top_left strokes.result.style old mid c.draw_bar.new.buffer
-          (strokes.ensures.top_left ∙ ap (λ b. glyph_of c.layout.inside.decor b 32 32 0x250F 0x250C) c.is_primary.ensures.value)
-          (strokes.ensures.style ∙ ap underline_role c.is_primary.ensures.value) same c.in_ok-putc.ensures.ok continues) drawn;
+          c.args.placed.now c.args.depth c.num_lines-end.result strokes.result.bar_top strokes.result.style old mid c.draw_bar.new.buffer
+          (ap (λ (s : Strokes). s.bar_top) strokes.ensures.value ∙ ap (λ b. (strokes_of c.layout.inside.decor b).bar_top) c.is_primary.ensures.value)
+          (ap (λ (s : Strokes). s.style) strokes.ensures.value ∙ ap underline_role c.is_primary.ensures.value) same c.in_ok-putc.ensures.ok continues) drawn;
     })

@@ -4,6 +4,7 @@ use Rattle.std.proofs.lemmas.List.{get_or_past}
 use Rattle.snippet_grid.specs.Grid.{row_at, cell_at, restyled}
 use Rattle.snippet_model.specs.AnnotationKind.{is_primary}
 use Rattle.snippet_style.specs.Cell.{SPACE}
+use Rattle.snippet_style.specs.declared.glyphs.Strokes.{Strokes}
 use Rattle.snippet_style.specs.Glyphs.{underline_role}
 use Rattle.snippet_strokes.proofs.highlight.highlight_entry.Goals as goal
 
@@ -20,7 +21,7 @@ returns c =
     let to = code + e.end.char - c.args.dropped in
     let reads = c.in_ok-set_style_range.ensures.reads in
     let is_primary_is : c.is_primary-primary.result ≡ primary = c.is_primary-primary.ensures.value in
-    let role : c.underline.result.style ≡ underline_role primary = c.underline.ensures.style ∙ ap underline_role is_primary_is in
+    let role : c.underline.result.style ≡ underline_role primary = ap (λ (s : Strokes). s.style) c.underline.ensures.value ∙ ap underline_role is_primary_is in
     let first : c.max.result ≤ from = omega (arith, c.max.ensures, c.saturating_sub.ensures, c.saturating_add.ensures) in
     let first_there : (k : ℕ) → k < length (row_at old row) → c.max.result ≤ k → from ≤ k = λ k there reached. omega (arith, c.max.ensures, c.saturating_sub.ensures, c.saturating_add.ensures, there, reached, c.requires.short, c.requires.near) in
     let last : c.saturating_sub-2.result ≤ to = omega (arith, c.saturating_sub-2.ensures, c.saturating_add-2.ensures) in

@@ -1,10 +1,10 @@
 use Rattle.std.proofs.Common.{◌≡◌, ◌∙◌, ◌+◌, ◌-◌, ◌∷◌, false, true, ap, sym, subst, arith, drop, length, take}
 use Rattle.std.proofs.lemmas.List.{drop_more, drop_all, length-drop, take_all}
 use Rattle.snippet_strokes.specs.Drawing.{HasRows}
-use Rattle.snippet_strokes.specs.Strokes.{is_hidden, stems_of}
+use Rattle.snippet_strokes.specs.Strokes.{is_stem_covered, stems_of}
 use Rattle.snippet_marks.specs.Writes.{painted}
 use Rattle.snippet_strokes.proofs.StemWrites.{stem_count, stems_next, stems_skip}
-use Rattle.snippet_strokes.proofs.stems.draw_stems.Goals.{then-not-is_hidden+in_ok-draw_stem, else-not-is_hidden}
+use Rattle.snippet_strokes.proofs.stems.draw_stems.Goals.{then-not-is_stem_covered+in_ok-draw_stem, else-not-is_stem_covered}
 use Rattle.snippet_strokes.proofs.stems.draw_stems.Goals as goal
 
 pub loop-i-preserved : goal.loop-i-preserved
@@ -17,20 +17,20 @@ loop-i-preserved c =
     let later = drop (i + 1) es in
     let mid = c.loop-i.buffer in
     let whole : take (length es - (i + 1)) later ≡ later = take_all (length es - (i + 1)) later (omega (arith, length-drop (i + 1) es)) in
-    let hidden : c.is_hidden.result ≡ is_hidden e later = c.is_hidden.ensures.value ∙ ap (is_hidden e) whole in
+    let hidden : c.is_stem_covered.result ≡ is_stem_covered e later = c.is_stem_covered.ensures.value ∙ ap (is_stem_covered e) whole in
     let rest : drop i es ≡ e ∷ later = drop_more es i e c.loop-i-test.true ∙ ap (λ x. x ∷ later) (sym c.index-placed-i.is) in
     let so_far = sym (ap (λ xs. painted (stems_of layout row xs) mid) rest) ∙ c.loop-i.invariant.0 in
     let has : HasRows row (length mid) e = subst (λ n. HasRows row n e) (sym c.loop-i.invariant.1) (subst (HasRows row (length c.args.buffer.now)) (sym c.index-placed-i.is) (c.requires.rows i e c.loop-i-test.true)) in
-    elim c.if-not-is_hidden.branch [
-      | then-not-is_hidden+in_ok-draw_stem w ↦
-          let shown : is_hidden e later ≡ false = sym hidden ∙ cc in (
+    elim c.if-not-is_stem_covered.branch [
+      | then-not-is_stem_covered+in_ok-draw_stem w ↦
+          let shown : is_stem_covered e later ≡ false = sym hidden ∙ cc in (
             ap (painted (stems_of layout row later)) w.buffer-is
                 ∙ stems_next layout row e later mid w.draw_stem.new.buffer shown (cc w.in_ok-draw_stem.ensures.painted) ∙ so_far,
             ap length w.buffer-is
                 ∙ ap length (cc w.in_ok-draw_stem.ensures.painted) ∙ stem_count layout row e mid has ∙ c.loop-i.invariant.1,
           )
-      | else-not-is_hidden w ↦
-          let covered : is_hidden e later ≡ true = sym hidden ∙ cc in
+      | else-not-is_stem_covered w ↦
+          let covered : is_stem_covered e later ≡ true = sym hidden ∙ cc in
           (ap (painted (stems_of layout row later)) w.buffer-is ∙ stems_skip layout row e later mid covered ∙ so_far, ap length w.buffer-is ∙ c.loop-i.invariant.1)
     ]
 

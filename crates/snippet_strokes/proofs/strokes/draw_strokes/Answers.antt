@@ -24,7 +24,7 @@ use Rattle.snippet_strokes.proofs.ReadyRows.{count_connectors, count_corners, co
 use Rattle.snippet_strokes.proofs.StrokeLemmas.{strokes_drawn}
 use Rattle.snippet_strokes.proofs.NoStrokes.{strokes_none}
 use Rattle.snippet_strokes.proofs.TextLemmas.{labels_short}
-use Rattle.snippet_strokes.specs.Strokes.{connectors_of, corners_of, labels_of, stems_of, strokes_of}
+use Rattle.snippet_strokes.specs.Strokes.{connectors_of, corners_of, labels_of, stems_of, line_strokes}
 use Rattle.snippet_marks.specs.Writes.{painted}
 use Rattle.snippet_strokes.proofs.StrokeWrites.{strokes_painted}
 use Rattle.snippet_strokes.proofs.LineRowLemmas.{painted_added}
@@ -259,7 +259,7 @@ returns c =
           let last_row : c.args.row ≡ length above = omega (arith, c.requires.last, ap length old_is, length_push above plain) in
           let all : ℕ = length old + row_count placed in
           let lined : length joined ≡ length begun = count_connectors enough c.begin_rows.new.buffer refl c.deref-3.ensures.value c.draw_connectors.new.buffer c.in_ok-draw_connectors.ensures.painted in
-          let new_is : new ≡ painted (strokes_of layout c.args.row all placed after) rows =
+          let new_is : new ≡ painted (line_strokes layout c.args.row all placed after) rows =
           strokes_painted layout c.args.row below (length joined) all placed after rows begun joined barred stemmed labelled new enough.is
           (lined ∙ long) begun_is lines bars stems labels marks in
           let barred_long = count_corners enough c.draw_connectors.new.buffer lined c.deref-4.ensures.value c.draw_corners.new.buffer c.in_ok-draw_corners.ensures.painted in

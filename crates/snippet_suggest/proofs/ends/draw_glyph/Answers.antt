@@ -3,7 +3,7 @@ use Rattle.snippet_style.specs.Cell.{text_cells}
 use Rattle.snippet_grid.specs.Grid.{cells_written}
 use Rattle.snippet_grid.specs.Layout.{Layout}
 use Rattle.snippet_style.specs.declared.role.ElementStyle.TheVariants.{LineNumber}
-use Rattle.snippet_suggest.specs.Glyphs.{glyph_of}
+use Rattle.snippet_style.specs.Glyphs.{suggestion_glyph_of}
 use Rattle.snippet_suggest.proofs.PutLemmas.{glyph_below, glyph_over}
 use Rattle.snippet_suggest.proofs.GlyphLemmas.{glyph_short}
 use Rattle.snippet_suggest.proofs.TailLemmas.{end_added, glyph_added}
@@ -15,7 +15,7 @@ puts-requires-clause-end c =
 
 pub returns : goal.returns
 returns c =
-    let shown = c.text.ensures.value ∙ ap (λ (l : Layout). glyph_of l.decor c.args.glyph) c.frame.view_is in
+    let shown = c.text.ensures.value ∙ ap (λ (l : Layout). suggestion_glyph_of l.decor c.args.glyph) c.frame.view_is in
     let drawn = c.in_ok-puts.ensures.ok c.text.ensures.some ∙ ap (λ (l : Layout). cells_written c.args.buffer.now c.args.row (l.gutter + 1) (text_cells LineNumber (chars c.text.result.now))) c.frame.view_is in
     record {
       added = λ other above tail shares. glyph_added c.args.layout.now shares c.args.glyph above tail c.args.buffer.now c.puts.new.self c.args.row c.text.result.now other shown drawn;

@@ -1,5 +1,5 @@
 use Rattle.std.proofs.Common.{◌∙◌, ◌++◌, ap, sym, subst, map, length, All, List}
-use Rattle.snippet_suggest.specs.declared.shown.ShownLine.{ShownLine}
+use Rattle.snippet_suggest.specs.declared.shown.SuggestionLine.{SuggestionLine}
 use Rattle.snippet_splice.specs.Stretches.{line_stretches}
 use Rattle.snippet_suggest.specs.Cells.{shown_cells}
 use Rattle.snippet_suggest.specs.Rows.{AddsShown, NumberFits}
@@ -12,10 +12,10 @@ returns c =
     let a = c.args in
     let is = c.deref.ensures.value ∙ c.in_ok-shown.ensures.value in
     record {
-      added = λ rooms. subst (λ (s : List ShownLine). AddsShown a.layout.now a.first (map (λ l. l.now) a.lines.now)
+      added = λ rooms. subst (λ (s : List SuggestionLine). AddsShown a.layout.now a.first (map (λ l. l.now) a.lines.now)
           s a.buffer.now c.draw_shown.new.buffer) is
           (c.in_ok-draw_shown.ensures.added
           (subst (All (NumberFits a.layout.now a.first)) (sym is)
           (rooms_shown a.layout.now a.first (length a.lines.now) (is_touched a.fold a.ranges.now) rooms)));
-      cells = c.in_ok-draw_shown.ensures.cells ∙ ap (λ (s : List ShownLine). a.buffer.now ++ map (shown_cells a.layout.now a.kind a.first (map (λ l. l.now) a.lines.now) (line_stretches a.stretches.now)) s) is;
+      cells = c.in_ok-draw_shown.ensures.cells ∙ ap (λ (s : List SuggestionLine). a.buffer.now ++ map (shown_cells a.layout.now a.kind a.first (map (λ l. l.now) a.lines.now) (line_stretches a.stretches.now)) s) is;
     }

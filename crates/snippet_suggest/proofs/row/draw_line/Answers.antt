@@ -7,7 +7,7 @@ use Rattle.snippet_text.specs.Normalized.{norm}
 use Rattle.snippet_text.proofs.NormLemmas.{list_any-norm}
 use Rattle.snippet_lines.specs.Number.{shown_number}
 use Rattle.snippet_lines.proofs.NumberLemmas.{chars-shown_number, shown_number_unlisted}
-use Rattle.snippet_suggest.specs.Glyphs.{glyph_of}
+use Rattle.snippet_style.specs.Glyphs.{suggestion_glyph_of}
 use Rattle.snippet_suggest.proofs.RowLemmas.{begun_by, text_put, texted}
 use Rattle.snippet_suggest.proofs.LineRowLemmas.{line_row, line_row_is, sign_row}
 use Rattle.snippet_style.proofs.CellLemmas.{length-chars_le}
@@ -33,7 +33,7 @@ returns-clause-added c fits =
     let number = c.as_str.result.now in
     let text = c.as_str-2.result.now in
     let shown = shown_number c.args.layout.now.numbers g c.args.number in
-    let is_sign = c.text-sign.ensures.value ∙ ap (λ (l : Layout). glyph_of l.decor c.args.glyph) c.frame.view_is in
+    let is_sign = c.text-sign.ensures.value ∙ ap (λ (l : Layout). suggestion_glyph_of l.decor c.args.glyph) c.frame.view_is in
     let led = sign_row g c.role.result sign in
     let numbered = texted number led 0 (text_cells LineNumber (chars number)) in
     let is_number : chars number ≡ shown = ap chars (c.as_str.ensures.value ∙ c.in_ok-number.ensures.text) ∙ chars-shown_number c.args.layout.now.numbers c.frame.inside.gutter c.args.number (omega arith)
@@ -59,7 +59,7 @@ returns-clause-cells c =
     let is_number : chars c.as_str.result.now ≡ shown_number a.layout.now.numbers a.layout.now.frame.gutter a.number = ap chars (c.as_str.ensures.value ∙ c.in_ok-number.ensures.text) ∙ chars-shown_number a.layout.now.numbers c.frame.inside.gutter a.number (omega arith)
     ∙ ap (λ (l : Layout). shown_number a.layout.now.numbers l.gutter a.number) c.frame.view_is in
     let is_text : chars c.as_str-2.result.now ≡ norm (chars a.line.now) = ap chars c.as_str-2.ensures.value ∙ c.in_ok-text.ensures.value in
-    let is_sign = c.text-sign.ensures.value ∙ ap (λ (l : Layout). glyph_of l.decor c.args.glyph) c.frame.view_is in
+    let is_sign = c.text-sign.ensures.value ∙ ap (λ (l : Layout). suggestion_glyph_of l.decor c.args.glyph) c.frame.view_is in
     let signed = c.in_ok-puts.ensures.ok c.text-sign.ensures.some ∙ ap (λ (l : Layout). cells_written a.buffer.now c.num_lines-row.result (l.gutter + 1) (text_cells c.role.result (chars c.text-sign.result.now))) c.frame.view_is in
     let lined = λ (some : 0 < length c.as_str-2.result.now). c.in_ok-puts-3.ensures.ok some ∙ ap (λ (l : Layout). cells_written c.puts-2.new.self c.num_lines-row.result (l.gutter + 3) (text_cells NoStyle (chars c.as_str-2.result.now))) c.frame.view_is in
     line_drawn a.layout.now a.glyph a.number a.line.now c.role.result c.text-sign.result.now c.as_str.result.now c.as_str-2.result.now

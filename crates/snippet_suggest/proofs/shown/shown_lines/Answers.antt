@@ -1,6 +1,6 @@
 use Rattle.std.proofs.Common.{◌≡◌, ◌+◌, ◌<◌, ◌∙◌, false, length, get_or, sym, subst, arith, ℕ, Vec, Global, List, Contains}
 use Rattle.std.proofs.lemmas.List.{get_or_default}
-use Rattle.snippet_suggest.specs.declared.shown.ShownLine.{ShownLine}
+use Rattle.snippet_suggest.specs.declared.shown.SuggestionLine.{SuggestionLine}
 use Rattle.snippet_suggest.specs.Shown.{is_touched, shown_lines, numbers_shown, AreRising}
 use Rattle.snippet_suggest.proofs.RisingLemmas.{rising_shown, shown_all, touched_shown}
 use Rattle.snippet_suggest.proofs.ShownLemmas.{touched_step, untouched_step}
@@ -19,12 +19,12 @@ loop-line-preserved c =
     let told : touched l.line ≡ c.index.result.now = at ∙ get_or_default c.in_ok-touched.touched.items l.line false c.index.result.now within ∙ sym c.index.ensures in
     elim c.if-index.branch [
       | then-index+in_ok-push_run+in_ok-push w ↦
-          subst (λ (b : ℕ). Shows touched count b (l.line + 1) next.shown.items) (sym w.after-is) (subst (λ (v : Vec ShownLine Global). Shows touched count (l.line + 1) (l.line + 1) v.items) (sym w.shown-is) (record {
+          subst (λ (b : ℕ). Shows touched count b (l.line + 1) next.shown.items) (sym w.after-is) (subst (λ (v : Vec SuggestionLine Global). Shows touched count (l.line + 1) (l.line + 1) v.items) (sym w.shown-is) (record {
             before = omega arith;
             whole = touched_step touched l.shown.items w.push_run.new.shown.items w.push.new.self.items _ l.after l.line count c.loop-line-test.true (told ∙ w.if-index.true) w.in_ok-push_run.ensures.added w.in_ok-push.ensures.items l.invariant.whole;
           }))
       | else-index w ↦
-          subst (λ (b : ℕ). Shows touched count b (l.line + 1) next.shown.items) (sym w.after-is) (subst (λ (v : Vec ShownLine Global). Shows touched count l.after (l.line + 1) v.items) (sym w.shown-is) (record {
+          subst (λ (b : ℕ). Shows touched count b (l.line + 1) next.shown.items) (sym w.after-is) (subst (λ (v : Vec SuggestionLine Global). Shows touched count l.after (l.line + 1) v.items) (sym w.shown-is) (record {
             before = omega (arith, l.invariant.before);
             whole = untouched_step touched l.shown.items _ l.after l.line count c.loop-line-test.true (told ∙ w.if-index.false) l.invariant.whole;
           }))
@@ -35,11 +35,11 @@ returns-clause-rising c =
     let touched = is_touched c.args.fold c.args.ranges.now in
     let l = c.loop-line in
     let all = shown_all touched l.shown.items (shown_lines touched c.args.count) l.after l.line c.args.count (omega (arith, c.loop-line-test.false)) l.invariant.whole in
-    subst (λ (shown : List ShownLine). AreRising 0 c.args.count (numbers_shown shown)) (sym all) (rising_shown touched c.args.count)
+    subst (λ (shown : List SuggestionLine). AreRising 0 c.args.count (numbers_shown shown)) (sym all) (rising_shown touched c.args.count)
 
 pub returns-clause-touched : goal.returns-clause-touched
 returns-clause-touched c = λ k below holds.
     let touched = is_touched c.args.fold c.args.ranges.now in
     let l = c.loop-line in
     let all = shown_all touched l.shown.items (shown_lines touched c.args.count) l.after l.line c.args.count (omega (arith, c.loop-line-test.false)) l.invariant.whole in
-    subst (λ (shown : List ShownLine). Contains (numbers_shown shown) k) (sym all) (touched_shown touched c.args.count k below holds)
+    subst (λ (shown : List SuggestionLine). Contains (numbers_shown shown) k) (sym all) (touched_shown touched c.args.count k below holds)

@@ -16,7 +16,7 @@ use Rattle.snippet_lines.specs.Span.{IsSpan}
 use Rattle.snippet_splice.specs.declared.patches.TrimmedPatch.{TrimmedPatch}
 use Rattle.snippet_suggest.specs.contracts.kind.DisplaySuggestion.{the_type}
 use Rattle.snippet_suggest.specs.declared.kind.DisplaySuggestion.TheVariants.{Diff}
-use Rattle.snippet_suggest.specs.declared.shown.ShownLine.TheVariants.{Line}
+use Rattle.snippet_suggest.specs.declared.shown.SuggestionLine.TheVariants.{Line}
 use Rattle.snippet_splice.specs.declared.splice.LineRange.{LineRange}
 use Rattle.snippet_suggest.specs.Given.{first_given, first_original, given_lines, given_ranges, shown_kind}
 use Rattle.snippet_suggest.specs.Order.{Begins, SuggestionRow, row_of_shown, rows_of_suggestion}

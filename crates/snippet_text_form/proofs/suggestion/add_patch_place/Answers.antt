@@ -7,7 +7,7 @@ use Rattle.snippet_suggest.specs.Kind.{is_blank}
 use Rattle.snippet_text_form.specs.Cause.{column_unless}
 use Rattle.snippet_text_form.specs.Form.{FormPiece, bare}
 use Rattle.snippet_text_form.specs.Position.{place}
-use Rattle.snippet_text_form.specs.Suggestion.{is_whole_line, overwrites, replaced_to, replaces}
+use Rattle.snippet_text_form.specs.Suggestion.{replaces_whole_line, overwrites, replaced_to, replaces}
 use Rattle.snippet_text_form.proofs.AddedLemmas.{text-two}
 use Rattle.snippet_text_form.proofs.SuggestionLemmas.{other_place, replaced_place, seen_over}
 use Rattle.snippet_text_form.proofs.suggestion.add_patch_place.Goals as goal
@@ -44,7 +44,7 @@ returns-else-overwrites c =
       | else-overwrites-via-else-overwrites w ↦
           and_left over (not (is_blank e.text)) (sym seen ∙ w.if-overwrites.false)
     ] in
-    let column : c.column_unless-column.result ≡ column_unless (is_whole_line a.map.now a.start a.end e) a.start = c.column_unless-column.ensures.value ∙ ap (λ whole. column_unless whole a.start) c.is_whole_line-whole.ensures.value in
+    let column : c.column_unless-column.result ≡ column_unless (replaces_whole_line a.map.now a.start a.end e) a.start = c.column_unless-column.ensures.value ∙ ap (λ whole. column_unless whole a.start) c.is_whole_line-whole.ensures.value in
     record {
       added = on_ok_weaker c.add_place-else-overwrites.result (λ added. added ∙ ap (λ to. old ++ bare (place a.anonymized path a.start.line to)) column ∙ ap (λ text. old ++ bare text) (sym (other_place a.anonymized a.map.now path e a.start a.end other))) c.add_place-else-overwrites.ensures.added;
     }
