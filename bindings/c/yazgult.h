@@ -1,0 +1,64 @@
+/* Draws diagnostic reports as compilers print them.
+ *
+ * Each function fills `output` as snprintf does: with as many bytes of its answer as there is room for, and it returns how many the
+ * answer has. Where that is more than `output_length`, call it again with so much room. It writes nothing else, no end of a string
+ * either. Nothing is kept between calls, so they may be made from any thread.
+ *
+ * No pointer may be null, of no bytes either, and `input` and `output` may not overlap: nothing checks that.
+ * Link with libyazgult.a or libyazgult.so.
+ */
+#ifndef YAZGULT_H
+#define YAZGULT_H
+
+#include <stddef.h>
+#include <stdint.h>
+
+#ifdef __cplusplus
+extern "C" {
+#endif
+
+/* The first byte of an answer of yazgult_draw, and what follows it. A number is 8 bytes, the little end first; a text is the number of
+ * its bytes, and its bytes in UTF-8. */
+enum yazgult_answer {
+    /* How many texts there are, one under each sheet, and each. */
+    YAZGULT_TEXTS = 0,
+    /* The report is refused: a byte of yazgult_refusal, the numbers that it names, and its words. */
+    YAZGULT_REFUSED = 1,
+    /* The input is no report: a byte of yazgult_wrong, the number of bytes before what is wrong, and its words. */
+    YAZGULT_NO_REPORT = 2,
+    /* There was no memory. Nothing follows. */
+    YAZGULT_MEMORY = 3
+};
+
+/* Why a report is refused, and the numbers that are named, each counted from 0. */
+enum yazgult_refusal {
+    YAZGULT_NO_GROUP = 0,              /* none */
+    YAZGULT_NO_TITLE = 1,              /* none */
+    YAZGULT_SPAN_REVERSED = 2,         /* group, element, marker */
+    YAZGULT_SPAN_PAST_END = 3,         /* group, element, marker */
+    YAZGULT_SPAN_OFF_BOUNDARY = 4,     /* group, element, marker */
+    YAZGULT_PATCHES_OVERLAP = 5,       /* group, element, first marker, second marker */
+    YAZGULT_LINE_NUMBER_TOO_LARGE = 6  /* group, element */
+};
+
+/* What is wrong with bytes that are no report. */
+enum yazgult_wrong {
+    YAZGULT_SHORT = 0,    /* they end before what has to stand there does */
+    YAZGULT_FLAG = 1,     /* a byte that says yes or no is neither 0 nor 1 */
+    YAZGULT_KIND = 2,     /* a byte names a kind that there isn't */
+    YAZGULT_LONG = 3,     /* a text has 2^56 bytes or more */
+    YAZGULT_NOT_TEXT = 4, /* a text isn't UTF-8 */
+    YAZGULT_TRAILING = 5  /* bytes stand after the report */
+};
+
+/* Draws the report that stands in `input`, in the form of docs/BINDINGS.md. Any bytes are answered. */
+size_t yazgult_draw(const uint8_t *input, size_t input_length, uint8_t *output, size_t output_length);
+
+/* The version of the library, as "1.0.0". */
+size_t yazgult_version(uint8_t *output, size_t output_length);
+
+#ifdef __cplusplus
+}
+#endif
+
+#endif

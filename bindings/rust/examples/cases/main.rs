@@ -1,0 +1,86 @@
+//! Draws cases, which are reports as lines of JSON, through the API.
+//!
+//! - `cases check EXPECTED FILE ..` compares what becomes of each case with what stands in the same line of EXPECTED.
+//! - `cases draw TIMES FILE` builds and draws the reports of a file so many times, and prints how many bytes their texts have and how
+//!   long one round took.
+
+mod json;
+mod report;
+
+use json::Json;
+use std::process::ExitCode;
+use std::time::Instant;
+
+fn main() -> ExitCode {
+    let words: Vec<String> = std::env::args().skip(1).collect();
+    match words.iter().map(String::as_str).collect::<Vec<_>>().as_slice() {
+        ["check", files @ ..] if files.len() % 2 == 0 => check(files),
+        ["draw", times, file] => draw(times.parse().expect("how many times"), file),
+        _ => {
+            eprintln!("usage: cases check EXPECTED FILE [EXPECTED FILE ..]\n       cases draw TIMES FILE");
+            ExitCode::from(2)
+        }
+    }
+}
+
+/// The values that the lines of a file hold.
+fn lines(file: &str) -> Vec<Json> {
+    let text = std::fs::read_to_string(file).unwrap_or_else(|error| panic!("{file}: {error}"));
+    text.lines().map(Json::read).collect()
+}
+
+fn check(files: &[&str]) -> ExitCode {
+    let (mut passed, mut failed) = (0, 0);
+    for pair in files.chunks(2) {
+        let (expected, cases) = (lines(pair[0]), lines(pair[1]));
+        assert_eq!(expected.len(), cases.len(), "{} and {} have as many lines", pair[0], pair[1]);
+        for (expected, case) in expected.iter().zip(&cases) {
+            if is_met(expected, case) {
+                passed += 1;
+            } else {
+                failed += 1;
+                println!("{}: {:?} differs", pair[1], case.text("id"));
+            }
+        }
+    }
+    println!("{passed} passed, {failed} failed");
+    ExitCode::from(u8::from(failed > 0))
+}
+
+/// Whether what is expected becomes of a case.
+fn is_met(expected: &Json, case: &Json) -> bool {
+    let (renderer, sheets, groups) = (report::renderer(case), report::sheets(case), report::groups(case));
+    match renderer.render_sheets(&groups, &sheets) {
+        Ok(texts) => {
+            let wanted = expected.list("ok").iter().map(|it| if let Json::Text(text) = it { text.as_str() } else { "" });
+            expected.get("ok").is_some() && wanted.eq(texts.iter().map(String::as_str))
+        }
+        Err(refusal) => {
+            let debug = format!("{refusal:?}");
+            let name = debug.split([' ', '{']).next();
+            expected.text("refused") == name && expected.text("text") == Some(&refusal.to_string())
+        }
+    }
+}
+
+fn draw(times: usize, file: &str) -> ExitCode {
+    let cases = lines(file);
+    let settings: Vec<_> = cases.iter().map(report::renderer).collect();
+    let mut length = 0;
+    let start = Instant::now();
+    for _ in 0..times {
+        for (case, renderer) in cases.iter().zip(&settings) {
+            length += round(case, renderer);
+        }
+    }
+    let each = start.elapsed().as_nanos() / times.max(1) as u128;
+    println!("{length} bytes, {each} ns a round");
+    ExitCode::SUCCESS
+}
+
+/// Builds and draws the report of a case.
+#[inline(never)]
+fn round(case: &Json, renderer: &yazgult::Renderer) -> usize {
+    let groups = report::groups(case);
+    renderer.render(&groups).len()
+}

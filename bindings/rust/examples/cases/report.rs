@@ -1,0 +1,203 @@
+//! Cases as the API's values.
+
+use crate::json::Json;
+use yazgult::renderer::{Ansi256Color, AnsiColor, Color, DecorStyle, Effects, RgbColor, Style, Stylesheet};
+use yazgult::{
+    Annotation, AnnotationKind, Element, Group, Level, Message, Origin, Padding, Patch, Renderer, Snippet, Title,
+};
+
+/// The renderer of a case, without its sheet.
+pub fn renderer(case: &Json) -> Renderer {
+    let none = Json::Null;
+    let s = case.get("settings").unwrap_or(&none);
+    let decor = if s.flag("unicode", false) { DecorStyle::Unicode } else { DecorStyle::Ascii };
+    Renderer::plain()
+        .no_graphics(s.flag("no_graphics", false))
+        .short_message(s.flag("short_message", false))
+        .term_width(s.number("term_width").unwrap_or(140))
+        .decor_style(decor)
+        .anonymized_snippet_line_numbers(s.flag("anonymized_snippet", false))
+        .anonymized_origin_line_numbers(s.flag("anonymized_origin", false))
+        .hyperlink(s.flag("hyperlink", false))
+}
+
+/// The sheets of a case: the plain one where none is named.
+pub fn sheets(case: &Json) -> Vec<Stylesheet> {
+    match case.get("sheets") {
+        Some(Json::List(sheets)) => sheets.iter().map(sheet).collect(),
+        _ => vec![Stylesheet::plain()],
+    }
+}
+
+fn sheet(sheet: &Json) -> Stylesheet {
+    match sheet {
+        Json::Text(name) if name == "default" => Stylesheet::styled(),
+        _ => Stylesheet {
+            error: style(sheet.get("error")),
+            warning: style(sheet.get("warning")),
+            info: style(sheet.get("info")),
+            note: style(sheet.get("note")),
+            help: style(sheet.get("help")),
+            line_num: style(sheet.get("line_num")),
+            emphasis: style(sheet.get("emphasis")),
+            none: style(sheet.get("none")),
+            context: style(sheet.get("context")),
+            addition: style(sheet.get("addition")),
+            removal: style(sheet.get("removal")),
+        },
+    }
+}
+
+fn style(style: Option<&Json>) -> Style {
+    let Some(style) = style else {
+        return Style::new();
+    };
+    let effects = style.list("effects").iter().fold(Effects::new(), |all, each| all | effect(each));
+    Style::new().fg_color(style.get("fg").map(color)).bg_color(style.get("bg").map(color)).effects(effects)
+}
+
+fn effect(effect: &Json) -> Effects {
+    let names = ["BOLD", "DIMMED", "ITALIC", "UNDERLINE", "BLINK", "INVERT", "HIDDEN", "STRIKETHROUGH"];
+    let effects = [
+        Effects::BOLD,
+        Effects::DIMMED,
+        Effects::ITALIC,
+        Effects::UNDERLINE,
+        Effects::BLINK,
+        Effects::INVERT,
+        Effects::HIDDEN,
+        Effects::STRIKETHROUGH,
+    ];
+    let Json::Text(name) = effect else { panic!("the name of an effect") };
+    effects[names.iter().position(|it| it == name).expect("an effect")]
+}
+
+fn color(color: &Json) -> Color {
+    if let Json::Text(name) = color {
+        return Color::Ansi(ansi(name));
+    }
+    if let Some(index) = color.number("ansi256") {
+        return Ansi256Color(index as u8).into();
+    }
+    let rgb: Vec<u8> = color.list("rgb").iter().map(|it| if let Json::Number(n) = it { *n as u8 } else { 0 }).collect();
+    RgbColor(rgb[0], rgb[1], rgb[2]).into()
+}
+
+fn ansi(name: &str) -> AnsiColor {
+    match name {
+        "Black" => AnsiColor::Black,
+        "Red" => AnsiColor::Red,
+        "Green" => AnsiColor::Green,
+        "Yellow" => AnsiColor::Yellow,
+        "Blue" => AnsiColor::Blue,
+        "Magenta" => AnsiColor::Magenta,
+        "Cyan" => AnsiColor::Cyan,
+        "White" => AnsiColor::White,
+        "BrightBlack" => AnsiColor::BrightBlack,
+        "BrightRed" => AnsiColor::BrightRed,
+        "BrightGreen" => AnsiColor::BrightGreen,
+        "BrightYellow" => AnsiColor::BrightYellow,
+        "BrightBlue" => AnsiColor::BrightBlue,
+        "BrightMagenta" => AnsiColor::BrightMagenta,
+        "BrightCyan" => AnsiColor::BrightCyan,
+        "BrightWhite" => AnsiColor::BrightWhite,
+        _ => panic!("there is no colour {name}"),
+    }
+}
+
+/// The report of a case.
+pub fn groups(case: &Json) -> Vec<Group<'_>> {
+    case.list("groups").iter().map(group).collect()
+}
+
+fn group(g: &Json) -> Group<'_> {
+    let group = match g.get("title") {
+        Some(Json::Object(_)) => Group::with_title(title(&g.get("title").expect("a title"))),
+        _ => Group::with_level(level(g)),
+    };
+    group.elements(g.list("elements").iter().map(element))
+}
+
+fn title(t: &Json) -> Title<'_> {
+    let text = t.text("text").expect("the text of a title");
+    let mut title =
+        if t.flag("primary", false) { level(t).primary_title(text) } else { level(t).secondary_title(text) };
+    if let Some(id) = t.text("id") {
+        title = title.id(id);
+    }
+    if let Some(url) = t.text("url") {
+        title = title.id_url(url);
+    }
+    title
+}
+
+/// The level in the field of that name.
+fn level(holder: &Json) -> Level<'_> {
+    let l = holder.get("level").expect("a level");
+    let level = match l.text("kind").expect("a kind of level") {
+        "error" => Level::ERROR,
+        "warning" => Level::WARNING,
+        "info" => Level::INFO,
+        "note" => Level::NOTE,
+        _ => Level::HELP,
+    };
+    match l.get("name") {
+        None => level,
+        Some(Json::Text(name)) => level.with_name(name),
+        Some(_) => level.no_name(),
+    }
+}
+
+fn element(e: &Json) -> Element<'_> {
+    if let Some(m) = e.get("message") {
+        return message(m).into();
+    }
+    if let Some(s) = e.get("cause") {
+        return snippet(s).annotations(s.list("annotations").iter().map(annotation)).into();
+    }
+    if let Some(s) = e.get("suggestion") {
+        return snippet(s).patches(s.list("patches").iter().map(patch)).into();
+    }
+    match e.get("origin") {
+        Some(o) => origin(o).into(),
+        None => Padding.into(),
+    }
+}
+
+fn message(m: &Json) -> Message<'_> {
+    level(m).message(m.text("text").expect("the text of a message"))
+}
+
+fn snippet<T: Clone>(s: &Json) -> Snippet<'_, T> {
+    Snippet::source(s.text("source").expect("a source"))
+        .path(s.text("path"))
+        .line_start(s.number("line_start").unwrap_or(1))
+        .line_numbering(s.flag("line_numbering", true))
+        .fold(s.flag("fold", true))
+}
+
+fn annotation(a: &Json) -> Annotation<'_> {
+    let kind = match a.text("kind").expect("a kind of annotation") {
+        "primary" => AnnotationKind::Primary,
+        "context" => AnnotationKind::Context,
+        _ => AnnotationKind::Visible,
+    };
+    let span = a.number("start").expect("a start")..a.number("end").expect("an end");
+    kind.span(span).label(a.text("label")).highlight_source(a.flag("highlight_source", false))
+}
+
+fn patch(p: &Json) -> Patch<'_> {
+    let span = p.number("start").expect("a start")..p.number("end").expect("an end");
+    Patch::new(span, p.text("text").expect("a text"))
+}
+
+fn origin(o: &Json) -> Origin<'_> {
+    let mut origin = Origin::path(o.text("path").expect("a path"));
+    if let Some(line) = o.number("line") {
+        origin = origin.line(line);
+    }
+    if let Some(column) = o.number("column") {
+        origin = origin.char_column(column);
+    }
+    origin
+}

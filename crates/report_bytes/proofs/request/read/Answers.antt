@@ -1,0 +1,5 @@
+use Rattle.report_bytes.proofs.Again.{no_fault}
+use Rattle.report_bytes.proofs.request.read.Goals as goal
+
+pub returns-clause-only : goal.returns-clause-only
+returns-clause-only c = λ r is same. no_fault c.whole.result c.args.bytes.now r c.whole.ensures.left is same

@@ -1,0 +1,180 @@
+-- The form of a report as bytes. Each definition gives the bytes of a thing, and then the bytes that follow it, which are its last
+-- argument.
+use Rattle.std.specs.Prelude.{ℕ, Bool, List, [], ◌∷◌, ◌++◌, Option, Some, None, length, if◌then◌else◌}
+use Rattle.std.specs.Int.{w64, to_le_bytes}
+use Rattle.std.specs.Cow.{cow_str_bytes}
+use Rattle.std.specs.declared.borrow.CowStr.{CowStr}
+use Rattle.std.specs.declared.alloc.Global.{Global}
+use Rattle.std.specs.declared.ops.Range.{Range}
+use Rattle.snippet_style.specs.declared.glyphs.DecorStyle.{DecorStyle}
+use Rattle.snippet_style.specs.declared.glyphs.DecorStyle.TheVariants as decor
+use Rattle.snippet_style.specs.declared.role.LevelInner.{LevelInner}
+use Rattle.snippet_style.specs.declared.role.LevelInner.TheVariants as severity
+use Rattle.snippet_style.specs.declared.style.AnsiColor.{AnsiColor}
+use Rattle.snippet_style.specs.declared.style.AnsiColor.TheVariants as ansi
+use Rattle.snippet_style.specs.declared.style.Color.{Color}
+use Rattle.snippet_style.specs.declared.style.Color.TheVariants.{Ansi, Ansi256, Rgb}
+use Rattle.snippet_style.specs.declared.style.Effects.{Effects}
+use Rattle.snippet_style.specs.declared.style.Style.{Style}
+use Rattle.snippet_style.specs.declared.stylesheet.Stylesheet.{Stylesheet}
+use Rattle.snippet_model.specs.declared.level.Level.{Level}
+use Rattle.snippet_model.specs.declared.level.LevelName.{LevelName}
+use Rattle.snippet_model.specs.declared.level.LevelName.TheVariants.{Standard, Hidden, Own}
+use Rattle.snippet_model.specs.declared.snippet.Annotation.{Annotation}
+use Rattle.snippet_model.specs.declared.snippet.AnnotationKind.{AnnotationKind}
+use Rattle.snippet_model.specs.declared.snippet.AnnotationKind.TheVariants as mark
+use Rattle.snippet_model.specs.declared.snippet.Element.{Element}
+use Rattle.snippet_model.specs.declared.snippet.Element.TheVariants as element
+use Rattle.snippet_model.specs.declared.snippet.Group.{Group}
+use Rattle.snippet_model.specs.declared.snippet.Id.{Id}
+use Rattle.snippet_model.specs.declared.snippet.Message.{Message}
+use Rattle.snippet_model.specs.declared.snippet.Origin.{Origin}
+use Rattle.snippet_model.specs.declared.snippet.Patch.{Patch}
+use Rattle.snippet_model.specs.declared.snippet.Snippet.{Snippet}
+use Rattle.snippet_model.specs.declared.snippet.Title.{Title}
+use Rattle.report_bytes.specs.declared.settings.Settings.{Settings}
+use Rattle.report_bytes.specs.declared.request.Request.{Request}
+
+-- ---- numbers, texts, what may be missing, lists
+
+-- a number: eight bytes, the little end first
+abbrev pub number_then : ℕ → List ℕ → List ℕ
+number_then n rest = to_le_bytes w64 n ++ rest
+
+-- yes is 1, and no is 0
+abbrev pub flag_then : Bool → List ℕ → List ℕ
+flag_then set rest = (if set then 1 else 0) ∷ rest
+
+-- a text: how many bytes it has, and its bytes in UTF-8
+abbrev pub text_then : CowStr Global → List ℕ → List ℕ
+text_then text rest = number_then (length (cow_str_bytes text)) (cow_str_bytes text ++ rest)
+
+-- what may be missing: 0 where it is, else 1 and what is there
+abbrev pub option_then : {X : Type 0} → (X → List ℕ → List ℕ) → Option X → List ℕ → List ℕ
+option_then f None rest = 0 ∷ rest
+option_then f (Some x) rest = 1 ∷ f x rest
+
+-- the members of a list, one after the other
+abbrev pub members_then : {X : Type 0} → (X → List ℕ → List ℕ) → List X → List ℕ → List ℕ
+members_then f [] rest = rest
+members_then f (x ∷ xs) rest = f x (members_then f xs rest)
+
+-- a list: how many members it has, and its members
+abbrev pub list_then : {X : Type 0} → (X → List ℕ → List ℕ) → List X → List ℕ → List ℕ
+list_then f xs rest = number_then (length xs) (members_then f xs rest)
+
+-- ---- kinds: one byte each, counted from 0 as they are listed in the model
+
+abbrev pub severity_number : LevelInner → ℕ
+severity_number severity.Error = 0
+severity_number severity.Warning = 1
+severity_number severity.Info = 2
+severity_number severity.Note = 3
+severity_number severity.Help = 4
+
+abbrev pub mark_number : AnnotationKind → ℕ
+mark_number mark.Primary = 0
+mark_number mark.Context = 1
+mark_number mark.Visible = 2
+
+abbrev pub decor_number : DecorStyle → ℕ
+decor_number decor.Ascii = 0
+decor_number decor.Unicode = 1
+
+abbrev pub ansi_number : AnsiColor → ℕ
+ansi_number ansi.Black = 0
+ansi_number ansi.Red = 1
+ansi_number ansi.Green = 2
+ansi_number ansi.Yellow = 3
+ansi_number ansi.Blue = 4
+ansi_number ansi.Magenta = 5
+ansi_number ansi.Cyan = 6
+ansi_number ansi.White = 7
+ansi_number ansi.BrightBlack = 8
+ansi_number ansi.BrightRed = 9
+ansi_number ansi.BrightGreen = 10
+ansi_number ansi.BrightYellow = 11
+ansi_number ansi.BrightBlue = 12
+ansi_number ansi.BrightMagenta = 13
+ansi_number ansi.BrightCyan = 14
+ansi_number ansi.BrightWhite = 15
+
+-- ---- settings and sheets
+
+abbrev pub settings_then : Settings → List ℕ → List ℕ
+settings_then s rest =
+    flag_then s.anonymized_origin_line_numbers (flag_then s.anonymized_snippet_line_numbers (number_then s.term_width
+    (decor_number s.decor_style ∷ flag_then s.hyperlink (flag_then s.short_message (flag_then s.no_graphics rest)))))
+
+abbrev pub color_then : Color → List ℕ → List ℕ
+color_then (Ansi color) rest = 0 ∷ ansi_number color ∷ rest
+color_then (Ansi256 index) rest = 1 ∷ index ∷ rest
+color_then (Rgb red green blue) rest = 2 ∷ red ∷ green ∷ blue ∷ rest
+
+abbrev pub effects_then : Effects → List ℕ → List ℕ
+effects_then e rest =
+    flag_then e.bold (flag_then e.dimmed (flag_then e.italic (flag_then e.underline
+    (flag_then e.blink (flag_then e.invert (flag_then e.hidden (flag_then e.strikethrough rest)))))))
+
+abbrev pub style_then : Style → List ℕ → List ℕ
+style_then s rest = option_then color_then s.fg (option_then color_then s.bg (effects_then s.effects rest))
+
+abbrev pub sheet_then : Stylesheet → List ℕ → List ℕ
+sheet_then s rest =
+    style_then s.error (style_then s.warning (style_then s.info (style_then s.note (style_then s.help
+    (style_then s.line_num (style_then s.emphasis (style_then s.none (style_then s.context
+    (style_then s.addition (style_then s.removal rest))))))))))
+
+-- ---- groups
+
+abbrev pub name_then : LevelName → List ℕ → List ℕ
+name_then Standard rest = 0 ∷ rest
+name_then Hidden rest = 1 ∷ rest
+name_then (Own name) rest = 2 ∷ text_then name rest
+
+abbrev pub level_then : Level → List ℕ → List ℕ
+level_then l rest = name_then l.name (severity_number l.kind ∷ rest)
+
+abbrev pub id_then : Id → List ℕ → List ℕ
+id_then i rest = option_then text_then i.id (option_then text_then i.url rest)
+
+abbrev pub title_then : Title → List ℕ → List ℕ
+title_then t rest = level_then t.level (option_then id_then t.id (text_then t.text (flag_then t.allows_styling rest)))
+
+abbrev pub message_then : Message → List ℕ → List ℕ
+message_then m rest = level_then m.level (text_then m.text rest)
+
+abbrev pub span_then : Range ℕ → List ℕ → List ℕ
+span_then span rest = number_then span.start (number_then span.end rest)
+
+abbrev pub annotation_then : Annotation → List ℕ → List ℕ
+annotation_then a rest =
+    span_then a.span (option_then text_then a.label (mark_number a.kind ∷ flag_then a.highlight_source rest))
+
+abbrev pub patch_then : Patch → List ℕ → List ℕ
+patch_then p rest = span_then p.span (text_then p.replacement rest)
+
+abbrev pub snippet_then : {T : Type 0} → (T → List ℕ → List ℕ) → Snippet T → List ℕ → List ℕ
+snippet_then f s rest =
+    option_then text_then s.path (number_then s.line_start (text_then s.source
+    (list_then f s.markers.items (flag_then s.line_numbering (flag_then s.fold rest)))))
+
+abbrev pub origin_then : Origin → List ℕ → List ℕ
+origin_then o rest = text_then o.path (option_then number_then o.line (option_then number_then o.char_column rest))
+
+abbrev pub element_then : Element → List ℕ → List ℕ
+element_then (element.Message message) rest = 0 ∷ message_then message rest
+element_then (element.Cause snippet) rest = 1 ∷ snippet_then annotation_then snippet rest
+element_then (element.Suggestion snippet) rest = 2 ∷ snippet_then patch_then snippet rest
+element_then (element.Origin origin) rest = 3 ∷ origin_then origin rest
+element_then (element.Padding padding) rest = 4 ∷ rest
+
+abbrev pub group_then : Group → List ℕ → List ℕ
+group_then g rest =
+    severity_number g.level ∷ option_then title_then g.title (list_then element_then g.elements.items rest)
+
+-- ---- the whole
+
+-- the bytes of a report: its settings, its sheets, its groups, and nothing else
+abbrev pub request_bytes : Request → List ℕ
+request_bytes r = settings_then r.settings (list_then sheet_then r.sheets.items (list_then group_then r.groups.items []))

@@ -1,0 +1,86 @@
+//! How groups and their elements are read.
+
+ghost use Rattle.std.specs.Prelude.{◌≡◌, IfOk};
+ghost use Rattle.std.specs.Cow.{cow_str_bytes};
+ghost use Rattle.snippet_model.specs.Fits.{ElementFits, GroupFits, TextFits};
+ghost use Rattle.report_bytes.specs.Bytes.{element_then, group_then, origin_then};
+ghost use Rattle.report_bytes.specs.Reading.{Gives, after_element, after_group, after_origin};
+
+use crate::fault::ReadError;
+use crate::field::{kind, text};
+use crate::kind::severity;
+use crate::part::{Part, list, option};
+use crate::title::message;
+use snippet_model::{Element, Group, Origin, Padding, Snippet};
+use std::alloc::Global;
+
+impl<'v> Part<'v> for Group<'v> {
+    ghost part_then = { group_then };
+
+    ghost after = { after_group };
+
+    ghost fits = { GroupFits };
+
+    #[tactic(auto, unfolding(crate::specs::Reading::after_group))]
+    fn read(alloc: Global, bytes: &'v [u8]) -> Result<(Self, &'v [u8]), ReadError> {
+        let (number, rest) = kind(5, bytes)?;
+        let (title, rest) = option(alloc, rest)?;
+        let (elements, rest) = list(alloc, rest)?;
+        let group = Group {
+            level: severity(number),
+            title,
+            elements,
+        };
+        Ok((group, rest))
+    }
+}
+
+impl<'v> Part<'v> for Element<'v> {
+    ghost part_then = { element_then };
+
+    ghost after = { after_element };
+
+    ghost fits = { ElementFits };
+
+    #[tactic(auto, unfolding(crate::specs::Reading::after_element))]
+    fn read(alloc: Global, bytes: &'v [u8]) -> Result<(Self, &'v [u8]), ReadError> {
+        let (number, rest) = kind(5, bytes)?;
+        match number {
+            0 => {
+                let (message, rest) = message(rest)?;
+                Ok((Element::Message(message), rest))
+            }
+            1 => {
+                let (cause, rest) = Snippet::read(alloc, rest)?;
+                Ok((Element::Cause(cause), rest))
+            }
+            2 => {
+                let (suggestion, rest) = Snippet::read(alloc, rest)?;
+                Ok((Element::Suggestion(suggestion), rest))
+            }
+            3 => {
+                let (origin, rest) = origin(alloc, rest)?;
+                Ok((Element::Origin(origin), rest))
+            }
+            _ => Ok((Element::Padding(Padding), rest)),
+        }
+    }
+}
+
+/// The origin at the front.
+#[tactic(auto, unfolding(crate::specs::Reading::after_origin))]
+fn origin(alloc: Global, bytes: &[u8]) -> Result<(Origin<'_>, &[u8]), ReadError>
+    ensures left { Gives (λ x. x.1.now) result (after_origin bytes.now) }
+    ensures spelled { IfOk result (λ x. bytes.now ≡ origin_then x.0 x.1.now) }
+    ensures fits { IfOk result (λ x. TextFits (cow_str_bytes x.0.path)) }
+{
+    let (path, rest) = text(bytes)?;
+    let (line, rest) = option(alloc, rest)?;
+    let (char_column, rest) = option(alloc, rest)?;
+    let origin = Origin {
+        path,
+        line,
+        char_column,
+    };
+    Ok((origin, rest))
+}

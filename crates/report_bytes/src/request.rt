@@ -1,0 +1,65 @@
+//! A report with all that it is drawn by, and how it is read.
+
+ghost use Rattle.std.specs.Prelude.{◌≡◌, [], IfOk, IsOkUnless};
+ghost use Rattle.snippet_model.specs.Fits.{ReportFits};
+ghost use Rattle.report_bytes.specs.Bytes.{request_bytes};
+ghost use Rattle.report_bytes.specs.Reading.{Gives, after_request};
+ghost use Rattle.report_bytes.specs.Report.{IsReport};
+ghost use Rattle.report_bytes.specs.declared.fault.ReadError.TheVariants.{Memory};
+ghost use Rattle.report_bytes.specs.declared.request.Request.{Request};
+
+use crate::fault::{ReadError, Wrong};
+use crate::part::list;
+use crate::settings::{Settings, settings_at};
+use snippet_model::Group;
+use snippet_style::Stylesheet;
+use std::alloc::Global;
+
+/// What is to be drawn, and how. Its texts are those of the bytes that it was read from.
+#[derive(Debug, Drop)]
+pub struct Request<'v> {
+    pub settings: Settings,
+    /// The sheets that the report is printed under, one text for each.
+    pub sheets: Vec<Stylesheet>,
+    pub groups: Vec<Group<'v>>,
+}
+
+/// The report that the bytes are, all of them.
+///
+/// # Errors
+///
+/// What is wrong with the bytes, the first fault from left to right; `Memory` where there is none.
+pub fn read(alloc: Global, bytes: &[u8]) -> Result<Request<'_>, ReadError>
+    // What is read is the report that the bytes are.
+    ensures spelled { IfOk result (λ request. bytes.now ≡ request_bytes request) }
+
+    // The bytes of a report are read, where memory is found.
+    ensures only { (request : Request) → IsReport request → bytes.now ≡ request_bytes request
+        → IsOkUnless result Memory }
+
+    // Bytes that are none are refused for the first fault.
+    ensures left { Gives (λ request. []) result (after_request bytes.now) }
+    ensures fits { IfOk result (λ request. ReportFits request.groups.items) }
+{
+    whole(alloc, bytes)
+}
+
+/// The report at the front, after which there is nothing.
+#[tactic(auto, unfolding(crate::specs::Reading::after_request))]
+fn whole(alloc: Global, bytes: &[u8]) -> Result<Request<'_>, ReadError>
+    ensures spelled { IfOk result (λ request. bytes.now ≡ request_bytes request) }
+    ensures left { Gives (λ request. []) result (after_request bytes.now) }
+    ensures fits { IfOk result (λ request. ReportFits request.groups.items) }
+{
+    let (settings, rest) = settings_at(bytes)?;
+    let (sheets, rest) = list(alloc, rest)?;
+    let (groups, rest) = list(alloc, rest)?;
+    if !rest.is_empty() {
+        return Err(ReadError::at(Wrong::Trailing, rest));
+    }
+    Ok(Request {
+        settings,
+        sheets,
+        groups,
+    })
+}

@@ -1,0 +1,54 @@
+//! The settings of a report, and how they are read.
+
+ghost use Rattle.std.specs.Prelude.{◌≡◌, IfOk};
+ghost use Rattle.report_bytes.specs.Bytes.{settings_then};
+ghost use Rattle.report_bytes.specs.Reading.{Gives, after_settings};
+
+use crate::fault::ReadError;
+use crate::field::{flag, kind, number};
+use crate::kind::decor;
+use snippet_style::DecorStyle;
+
+/// How a report is drawn: the settings of a renderer, but for its sheet.
+#[derive(Clone, Copy, Debug)]
+pub struct Settings {
+    /// Whether line numbers after a path are shown as `LL`.
+    pub anonymized_origin_line_numbers: bool,
+    /// Whether line numbers of snippets are shown as `LL`.
+    pub anonymized_snippet_line_numbers: bool,
+    /// The width that lines are cut to, in columns.
+    pub term_width: usize,
+    /// The characters that strokes are drawn with.
+    pub decor_style: DecorStyle,
+    /// Whether the identifiers of titles link to their addresses.
+    pub hyperlink: bool,
+    /// Whether a report is drawn on one line.
+    pub short_message: bool,
+    /// Whether a report is written without graphics, for speech and Braille.
+    pub no_graphics: bool,
+}
+
+/// The settings at the front.
+#[tactic(auto, unfolding(crate::specs::Reading::after_settings))]
+pub fn settings_at(bytes: &[u8]) -> Result<(Settings, &[u8]), ReadError>
+    ensures left { Gives (λ x. x.1.now) result (after_settings bytes.now) }
+    ensures spelled { IfOk result (λ x. bytes.now ≡ settings_then x.0 x.1.now) }
+{
+    let (anonymized_origin_line_numbers, rest) = flag(bytes)?;
+    let (anonymized_snippet_line_numbers, rest) = flag(rest)?;
+    let (term_width, rest) = number(rest)?;
+    let (decor_style, rest) = kind(2, rest)?;
+    let (hyperlink, rest) = flag(rest)?;
+    let (short_message, rest) = flag(rest)?;
+    let (no_graphics, rest) = flag(rest)?;
+    let settings = Settings {
+        anonymized_origin_line_numbers,
+        anonymized_snippet_line_numbers,
+        term_width,
+        decor_style: decor(decor_style),
+        hyperlink,
+        short_message,
+        no_graphics,
+    };
+    Ok((settings, rest))
+}

@@ -1,0 +1,132 @@
+-- What becomes of the bytes of a report, and the bytes of that.
+use Rattle.std.specs.Prelude.{◌≡◌, ℕ, ◌-◌, List, [], ◌∷◌, ◌++◌, Some, Result, Ok, Err, String, codes, length, map, string_bytes}
+use Rattle.std.specs.Int.{w64, to_le_bytes}
+use Rattle.std.specs.Prelude.{Vec}
+use Rattle.std.specs.declared.alloc.Global.{Global}
+use Rattle.std.specs.List.{flat_map}
+use Rattle.snippet_style.specs.Stylesheet.{plain_sheet}
+use Rattle.annotate_snippets.specs.Fault.{first_refusal}
+use Rattle.annotate_snippets.specs.Forms.{TextsShown}
+use Rattle.annotate_snippets.specs.Refusal.{refusal_text}
+use Rattle.annotate_snippets.specs.declared.renderer.Renderer.{Renderer}
+use Rattle.annotate_snippets.specs.declared.renderer.error.RenderError.{RenderError}
+use Rattle.annotate_snippets.specs.declared.renderer.error.RenderError.TheVariants as refusal
+use Rattle.report_bytes.specs.Bytes.{request_bytes}
+use Rattle.report_bytes.specs.Reading.{after_request}
+use Rattle.report_bytes.specs.declared.fault.Wrong.{Wrong}
+use Rattle.report_bytes.specs.declared.fault.Wrong.TheVariants.{Short, Flag, Kind, Long, NotText, Trailing}
+use Rattle.report_bytes.specs.declared.request.Request.{Request}
+use Rattle.report_bytes.specs.declared.settings.Settings.{Settings}
+use Rattle.yazgult_c.specs.declared.answer.Answer.{Answer}
+use Rattle.yazgult_c.specs.declared.answer.Answer.TheVariants.{Texts, Refused, NoReport, Memory}
+
+-- the renderer of these settings
+abbrev pub renderer_of : Settings → Renderer
+renderer_of s =
+    record {
+      anonymized_origin_line_numbers = s.anonymized_origin_line_numbers;
+      anonymized_snippet_line_numbers = s.anonymized_snippet_line_numbers;
+      term_width = s.term_width;
+      decor_style = s.decor_style;
+      stylesheet = plain_sheet;
+      hyperlink = s.hyperlink;
+      short_message = s.short_message;
+      no_graphics = s.no_graphics;
+    }
+
+-- a refusal as an answer; that there was no memory is no refusal
+abbrev pub answer_of_refusal : RenderError → Answer
+answer_of_refusal (refusal.Memory refused) = Memory
+answer_of_refusal refusal.NoGroup = Refused refusal.NoGroup
+answer_of_refusal refusal.NoTitle = Refused refusal.NoTitle
+answer_of_refusal (refusal.SpanReversed group element marker) = Refused (refusal.SpanReversed group element marker)
+answer_of_refusal (refusal.SpanPastEnd group element marker) = Refused (refusal.SpanPastEnd group element marker)
+answer_of_refusal (refusal.SpanOffBoundary group element marker) = Refused (refusal.SpanOffBoundary group element marker)
+answer_of_refusal (refusal.PatchesOverlap group element first second) = Refused (refusal.PatchesOverlap group element first second)
+answer_of_refusal (refusal.LineNumberTooLarge group element) = Refused (refusal.LineNumberTooLarge group element)
+
+-- what was drawn, or not, as an answer
+abbrev pub answer_of : Result (Vec (String Global) Global) RenderError → Answer
+answer_of (Ok texts) = Texts texts
+answer_of (Err refusal) = answer_of_refusal refusal
+
+-- what becomes of a report: texts that show it, one under each of its sheets, or the refusal that stands first, or nothing where
+-- memory ran out
+abbrev pub IsDrawn : Request → Answer → Type 0
+IsDrawn r (Texts texts) = TextsShown (renderer_of r.settings) r.groups.items r.sheets.items (map string_bytes texts.items)
+IsDrawn r (Refused refusal) = first_refusal (renderer_of r.settings) r.groups.items ≡ Some refusal
+IsDrawn r (NoReport wrong place) = ⊥
+IsDrawn r Memory = Unit {0}
+
+-- what becomes of some bytes: of the report that they are, or, where they are none, what is wrong with them and how many bytes stand
+-- before that, or nothing where memory ran out
+abbrev pub IsAnswerTo : List ℕ → Answer → Type 0
+IsAnswerTo input (Texts texts) = (r : Request) × (input ≡ request_bytes r) × IsDrawn r (Texts texts)
+IsAnswerTo input (Refused refusal) = (r : Request) × (input ≡ request_bytes r) × IsDrawn r (Refused refusal)
+IsAnswerTo input (NoReport wrong place) =
+    (left : ℕ) × (after_request input ≡ Err (record { wrong = wrong; left = left })) × (place ≡ length input - left)
+IsAnswerTo input Memory = Unit {0}
+
+-- ---- the bytes of an answer
+
+-- a number: eight bytes, the little end first
+abbrev pub number_bytes : ℕ → List ℕ
+number_bytes n = to_le_bytes w64 n
+
+-- a text: how many bytes it has, and its bytes
+abbrev pub text_bytes : List ℕ → List ℕ
+text_bytes text = number_bytes (length text) ++ text
+
+-- the number of a refusal and the numbers of a marker
+abbrev pub marker_bytes : ℕ → ℕ → ℕ → ℕ → List ℕ
+marker_bytes number group element marker = number ∷ (number_bytes group ++ (number_bytes element ++ number_bytes marker))
+
+-- the number of a refusal and the numbers of an element
+abbrev pub element_bytes : ℕ → ℕ → ℕ → List ℕ
+element_bytes number group element = number ∷ (number_bytes group ++ number_bytes element)
+
+-- the number of a refusal and the numbers of two markers
+abbrev pub overlap_bytes : ℕ → ℕ → ℕ → ℕ → List ℕ
+overlap_bytes group element first second =
+    5 ∷ (number_bytes group ++ (number_bytes element ++ (number_bytes first ++ number_bytes second)))
+
+-- the number of a refusal, and the numbers that it names
+abbrev pub refusal_fields : RenderError → List ℕ
+refusal_fields refusal.NoGroup = 0 ∷ []
+refusal_fields refusal.NoTitle = 1 ∷ []
+refusal_fields (refusal.SpanReversed group element marker) = marker_bytes 2 group element marker
+refusal_fields (refusal.SpanPastEnd group element marker) = marker_bytes 3 group element marker
+refusal_fields (refusal.SpanOffBoundary group element marker) = marker_bytes 4 group element marker
+refusal_fields (refusal.PatchesOverlap group element first second) = overlap_bytes group element first second
+refusal_fields (refusal.LineNumberTooLarge group element) = element_bytes 6 group element
+refusal_fields (refusal.Memory refused) = 7 ∷ []
+
+-- a refusal: its number, the numbers that it names, and its words
+abbrev pub refusal_bytes : RenderError → List ℕ
+refusal_bytes refusal = refusal_fields refusal ++ text_bytes (refusal_text refusal)
+
+-- the number of what is wrong with bytes
+abbrev pub wrong_number : Wrong → ℕ
+wrong_number Short = 0
+wrong_number Flag = 1
+wrong_number Kind = 2
+wrong_number Long = 3
+wrong_number NotText = 4
+wrong_number Trailing = 5
+
+-- what is wrong with bytes, in words
+abbrev pub wrong_text : Wrong → List ℕ
+wrong_text Short = codes "the bytes end before what has to stand here does"
+wrong_text Flag = codes "neither 0 nor 1"
+wrong_text Kind = codes "there is no kind of this number"
+wrong_text Long = codes "a text has 2^56 bytes or more"
+wrong_text NotText = codes "a text is not UTF-8"
+wrong_text Trailing = codes "bytes stand after the report"
+
+-- an answer: its kind, and then the texts, how many and each; the refusal; what is wrong, at which byte, and its words; or nothing
+abbrev pub answer_bytes : Answer → List ℕ
+answer_bytes (Texts texts) =
+    0 ∷ (number_bytes (length texts.items) ++ flat_map text_bytes (map string_bytes texts.items))
+answer_bytes (Refused refusal) = 1 ∷ refusal_bytes refusal
+answer_bytes (NoReport wrong place) = 2 ∷ (wrong_number wrong ∷ (number_bytes place ++ text_bytes (wrong_text wrong)))
+answer_bytes Memory = 3 ∷ []

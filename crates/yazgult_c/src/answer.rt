@@ -1,0 +1,124 @@
+//! What becomes of the bytes of a report.
+
+ghost use Rattle.std.specs.Prelude.{◌≡◌};
+ghost use Rattle.annotate_snippets.specs.Fits.{ReportFits};
+ghost use Rattle.yazgult_c.specs.Answer.{IsAnswerTo, IsDrawn, answer_of, answer_of_refusal, renderer_of};
+
+use annotate_snippets::Renderer;
+use annotate_snippets::renderer::{RenderError, Stylesheet};
+use report_bytes::{ReadError, Request, Settings, Wrong, read};
+use std::alloc::Global;
+
+/// What becomes of the bytes of a report.
+#[derive(Drop)]
+pub enum Answer {
+    /// A text under each sheet, in order.
+    Texts(Vec<String>),
+    /// The report is refused.
+    Refused(RenderError),
+    /// The bytes are no report: what is wrong with them, and how many bytes stand before that.
+    NoReport(Wrong, usize),
+    /// A growth of memory was refused.
+    Memory,
+}
+
+/// What becomes of these bytes.
+#[tactic(auto, using(crate::proofs::Drawing::of_drawn))]
+pub fn answer_to(alloc: Global, input: &[u8]) -> Answer
+    ensures answers { IsAnswerTo input.now result }
+{
+    match read(alloc, input) {
+        Ok(request) => drawn(alloc, &request),
+        Err(ReadError::Memory) => Answer::Memory,
+        Err(ReadError::Fault(fault)) => {
+            Answer::NoReport(fault.wrong, input.len().saturating_sub(fault.left))
+        }
+    }
+}
+
+/// What becomes of what is asked for.
+fn drawn(alloc: Global, request: &Request<'_>) -> Answer
+    requires fits { ReportFits request.now.groups.items }
+    ensures drawn { IsDrawn request.now result }
+{
+    let renderer = renderer(&request.settings);
+    answered(renderer.render_sheets(alloc, &request.groups, &request.sheets))
+}
+
+/// What `render_sheets` gave, as an answer.
+fn answered(given: Result<Vec<String>, RenderError>) -> Answer
+    ensures answer { result ≡ answer_of given }
+{
+    match given {
+        Ok(texts) => Answer::Texts(texts),
+        Err(refusal) => refused(refusal),
+    }
+}
+
+/// A refusal as an answer; that there was no memory is no refusal.
+fn refused(refusal: RenderError) -> Answer
+    ensures answer { result ≡ answer_of_refusal refusal }
+{
+    match refusal {
+        RenderError::Memory(_) => Answer::Memory,
+        RenderError::NoGroup => Answer::Refused(RenderError::NoGroup),
+        RenderError::NoTitle => Answer::Refused(RenderError::NoTitle),
+        RenderError::SpanReversed {
+            group,
+            element,
+            marker,
+        } => Answer::Refused(RenderError::SpanReversed {
+            group,
+            element,
+            marker,
+        }),
+        RenderError::SpanPastEnd {
+            group,
+            element,
+            marker,
+        } => Answer::Refused(RenderError::SpanPastEnd {
+            group,
+            element,
+            marker,
+        }),
+        RenderError::SpanOffBoundary {
+            group,
+            element,
+            marker,
+        } => Answer::Refused(RenderError::SpanOffBoundary {
+            group,
+            element,
+            marker,
+        }),
+        RenderError::PatchesOverlap {
+            group,
+            element,
+            first,
+            second,
+        } => Answer::Refused(RenderError::PatchesOverlap {
+            group,
+            element,
+            first,
+            second,
+        }),
+        RenderError::LineNumberTooLarge { group, element } => {
+            Answer::Refused(RenderError::LineNumberTooLarge { group, element })
+        }
+    }
+}
+
+/// The renderer of these settings; its own sheet isn't looked at.
+fn renderer(settings: &Settings) -> Renderer
+    ensures renderer { result ≡ renderer_of settings.now }
+{
+    Renderer {
+        anonymized_origin_line_numbers: settings.anonymized_origin_line_numbers,
+        anonymized_snippet_line_numbers: settings.anonymized_snippet_line_numbers,
+        term_width: settings.term_width,
+        decor_style: settings.decor_style,
+        stylesheet: Stylesheet::plain(),
+        hyperlink: settings.hyperlink,
+        short_message: settings.short_message,
+        no_graphics: settings.no_graphics,
+    }
+}
