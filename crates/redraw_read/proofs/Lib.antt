@@ -1,1 +1,5 @@
-mod AllNext
+pub mod After
+pub mod AllNext
+pub mod Offered
+mod Rows
+pub mod Walked

@@ -1,4 +1,4 @@
 -- The vocabulary of what is read for a report.
+pub mod Extract
 pub mod Placed
 pub mod Rendered
-pub mod Told

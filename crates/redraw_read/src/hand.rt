@@ -1,8 +1,9 @@
 //! What is at hand to show a part of a file in: the file, or lines that the input has of it.
 
-ghost use Rattle.std.specs.Prelude.{◌≡◌, string_bytes};
+ghost use Rattle.std.specs.Prelude.{◌≡◌, Some, string_bytes};
 ghost use Rattle.std.specs.Option.{option_map};
-ghost use Rattle.redraw_read.specs.Placed.{text_of};
+ghost use Rattle.redraw_read.specs.Extract as spec;
+ghost use Rattle.redraw_read.specs.Extract.{chosen, text_of};
 
 use crate::lines::has_lines;
 use crate::source::Source;
@@ -34,7 +35,10 @@ pub fn lines_for<'a>(
     hand: Hand<'a>,
     file: &str,
     carried: &'a Option<Carried>,
-) -> Option<Extract<'a>> {
+) -> Option<Extract<'a>>
+    ensures value { option_map chosen result
+        ≡ spec.lines_for (text_of hand.entry.files.now file.now hand.entry.home.now) carried.now }
+{
     match (source_of(hand, file), carried) {
         (None, None) => None,
         (None, Some(lines)) => Some(Extract::Part(lines)),
@@ -44,7 +48,9 @@ pub fn lines_for<'a>(
 }
 
 /// The file, where it has these lines of it; else the lines. Parts of lines may be other than the file's: it counts more than they.
-fn choice_of<'a>(source: &'a Source, lines: &'a Carried) -> Extract<'a> {
+fn choice_of<'a>(source: &'a Source, lines: &'a Carried) -> Extract<'a>
+    ensures value { Some (chosen result) ≡ spec.lines_for (Some (string_bytes source.now.text)) (Some lines.now) }
+{
     if !lines.is_whole || has_lines(source, lines.first_line, lines.text.as_str()) {
         Extract::Whole(source)
     } else {

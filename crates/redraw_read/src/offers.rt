@@ -1,102 +1,175 @@
 //! The suggestions that alternatives become: the edits of one are made together, in one source, or it isn't drawn.
 
-ghost use Rattle.std.specs.Prelude.{◌≡◌, ◌++◌, OnOk, map};
+ghost use Rattle.std.specs.Prelude.{◌≡◌, ◌+◌, ◌≤◌, ◌++◌, ◌∷◌, [], Some, None, true, false, if◌then◌else◌, ◌&&◌};
+ghost use Rattle.std.specs.Prelude.{IfOk, IfSome, OnOk, length, map, string_bytes, take};
+ghost use Rattle.std.specs.List.{AllZip, filter_map};
 ghost use Rattle.std.specs.Option.{option_map};
 ghost use Rattle.redraw_report.specs.Report.{edited_of};
-ghost use Rattle.redraw_read.specs.Placed.{edit_at};
+ghost use Rattle.redraw_read.specs.Placed as spec;
+ghost use Rattle.redraw_read.specs.Placed.{AreOffersOf, IsOfferAt, IsOfferOf, IsSpotOf, at_hand, edit_at, edits_at};
+ghost use Rattle.redraw_read.specs.Placed.{IsAttributeAt, IsAttributeIn, IsAttributeOffer, IsLastStart, IsLineIn};
+ghost use Rattle.redraw_read.specs.Placed.{Lines, offered_view, sight_of};
 
 use crate::hand::Hand;
-use crate::spot::{Placing, Spot, counted, index_of};
+use crate::spot::{Placing, Spot, counted};
 use crate::words::{begins_with, finishes_with};
 use redraw_report::diagnostic::{Edit, Region};
-use redraw_report::finding::{Change, Content, Offer, Shown};
+use redraw_report::finding::{Change, Content, Offer, Shown, is_same};
 use std::alloc::{AllocError, Global};
 
 /// The offers of some alternatives.
 pub fn offers_of<'a>(
-    placing: &mut Placing<'a>,
+    placing: &mut Placing,
     hand: Hand<'a>,
     alternatives: &'a Vec<Vec<Edit>>,
-) -> Result<Vec<Offer<'a>>, AllocError> {
+) -> Result<Vec<Offer<'a>>, AllocError>
+    ensures are { IfOk result (λ offers. AreOffersOf (at_hand hand.entry) alternatives.now.items offers.items) }
+{
     let mut offers = Vec::new(placing.alloc);
     for edits in alternatives {
-        if let Some(offer) = offer_of(placing, hand, edits)? {
-            offers.push(offer)?;
-        }
+        let offer = offer_of(placing, hand, edits)?;
+        add_offer(&mut offers, offer)?;
     }
     Ok(offers)
 }
 
+/// Adds an offer, if there is one.
+fn add_offer<'a>(offers: &mut Vec<Offer<'a>>, offer: Option<Offer<'a>>) -> Result<(), AllocError>
+    ensures added { OnOk result (offers.new.items ≡ offers.old.items ++ filter_map (λ o. o) (offer.entry ∷ [])) }
+{
+    if let Some(offer) = offer {
+        offers.push(offer)?;
+    }
+    Ok(())
+}
+
 /// The offer of an alternative's edits, if they are in one source. One that isn't drawn is counted.
 fn offer_of<'a>(
-    placing: &mut Placing<'a>,
+    placing: &mut Placing,
     hand: Hand<'a>,
-    edits: &'a [Edit],
-) -> Result<Option<Offer<'a>>, AllocError> {
+    edits: &'a Vec<Edit>,
+) -> Result<Option<Offer<'a>>, AllocError>
+    ensures is { IfOk result (IsOfferOf (at_hand hand.entry) edits.now.items) }
+{
     let spots = spots_of(placing, hand, edits)?;
-    let offer = match attribute_of(placing, &spots, edits)? {
-        Some(offer) => Some(offer),
-        None => offer_at(placing.alloc, &spots, edits)?,
-    };
+    let offer = offer_by(placing.alloc, &spots, edits)?;
     placing.undrawn = counted(placing.undrawn, offer.is_none());
     Ok(offer)
 }
 
 /// Where some edits are.
 fn spots_of<'a>(
-    placing: &mut Placing<'a>,
+    placing: &mut Placing,
     hand: Hand<'a>,
-    edits: &'a [Edit],
-) -> Result<Vec<Spot>, AllocError> {
+    edits: &'a Vec<Edit>,
+) -> Result<Vec<Spot<'a>>, AllocError>
+    ensures are { IfOk result (λ spots. AllZip (IsSpotOf (at_hand hand.entry)) edits.now.items spots.items) }
+{
     let mut spots = Vec::new(placing.alloc);
     for edit in edits {
-        spots.push(placing.spot_named(hand, &edit.file, edit.region, &edit.carried)?)?;
+        spots.push(spot_of(placing, hand, edit)?)?;
     }
     Ok(spots)
+}
+
+/// Where an edit is.
+fn spot_of<'a>(
+    placing: &mut Placing,
+    hand: Hand<'a>,
+    edit: &'a Edit,
+) -> Result<Spot<'a>, AllocError>
+    ensures is { IfOk result (IsSpotOf (at_hand hand.entry) edit.now) }
+{
+    placing.spot(hand, &edit.file, edit.region, &edit.carried)
+}
+
+/// The offer of edits at these places, if there is one: of an attribute, which is shown with its line, or of any edits.
+fn offer_by<'a>(
+    alloc: Global,
+    spots: &[Spot<'a>],
+    edits: &'a [Edit],
+) -> Result<Option<Offer<'a>>, AllocError>
+    ensures is { IfOk result (IsOfferAt spots.now edits.now) }
+{
+    match attribute_of(alloc, spots, edits)? {
+        Some(offer) => Ok(Some(offer)),
+        None => offer_at(alloc, spots, edits),
+    }
 }
 
 /// The offer of edits at these places, if the places are in one source, of which lines are at hand.
 fn offer_at<'a>(
     alloc: Global,
-    spots: &[Spot],
+    spots: &[Spot<'a>],
     edits: &'a [Edit],
-) -> Result<Option<Offer<'a>>, AllocError> {
+) -> Result<Option<Offer<'a>>, AllocError>
+    ensures value { IfOk result (λ offer. option_map offered_view offer ≡ spec.offer_at spots.now edits.now) }
+{
     match one_source(spots) {
-        Some(source) => Ok(Some(Offer {
-            source,
-            changes: changes_at(alloc, spots, edits)?,
-            is_folded: true,
-        })),
+        Some(source) => {
+            let changes = changes_at(alloc, spots, edits)?;
+            Ok(Some(folded_offer(source, changes)))
+        }
         None => Ok(None),
     }
 }
 
-/// The source that all of these places are in, if there is one and it has lines of a file.
-fn one_source(spots: &[Spot]) -> Option<usize> {
-    match spots.get(0) {
-        Some(first) => source_if(are_in(first.source, spots), first.source),
-        None => None,
+/// The offer of changes, of which only the lines around them are shown.
+fn folded_offer<'a>(source: Shown<'a>, changes: Vec<Change<'a>>) -> Offer<'a>
+    ensures value { offered_view result
+        ≡ record { source = source.entry; edits = map edited_of changes.entry.items; folded = true } }
+{
+    Offer {
+        source,
+        changes,
+        is_folded: true,
     }
 }
 
-/// This source, if it is the one.
-fn source_if(is_one: bool, source: usize) -> Option<usize> {
-    if is_one { Some(source) } else { None }
+/// The source that all of these places are in, if there is one and it has lines of a file.
+fn one_source<'a>(spots: &[Spot<'a>]) -> Option<Shown<'a>>
+    ensures value { result ≡ spec.one_source spots.now }
+{
+    match spots {
+        [first, rest @ ..] => source_if(first.source, rest),
+        [] => None,
+    }
 }
 
-/// Whether all of these places are in this source, which has lines of a file.
-fn are_in(source: usize, spots: &[Spot]) -> bool {
-    spots
-        .iter()
-        .all(|spot| spot.is_at_hand && spot.source == source)
+/// This source, if it has lines of a file and all of these places are in it too.
+fn source_if<'a>(source: Shown<'a>, rest: &[Spot<'a>]) -> Option<Shown<'a>>
+    ensures value { result
+        ≡ if spec.has_text source.entry.content && spec.are_in source.entry rest.now then Some source.entry else None }
+{
+    if has_text(source.content) && are_in(&source, rest) {
+        Some(source)
+    } else {
+        None
+    }
+}
+
+/// Whether a source has lines of a file.
+fn has_text(content: Content<'_>) -> bool
+    ensures value { result ≡ spec.has_text content.entry }
+{
+    matches!(content, Content::Lines { .. })
+}
+
+/// Whether all of these places are in this source.
+fn are_in(source: &Shown<'_>, spots: &[Spot<'_>]) -> bool
+    ensures value { result ≡ spec.are_in source.now spots.now }
+{
+    spots.iter().all(|spot| is_same(&spot.source, source))
 }
 
 /// The changes of edits at these places.
 fn changes_at<'a>(
     alloc: Global,
-    spots: &[Spot],
+    spots: &[Spot<'_>],
     edits: &'a [Edit],
-) -> Result<Vec<Change<'a>>, AllocError> {
+) -> Result<Vec<Change<'a>>, AllocError>
+    ensures value { IfOk result (λ changes. map edited_of changes.items ≡ edits_at spots.now edits.now) }
+{
     let mut changes = Vec::new(alloc);
     for (index, edit) in edits.iter().enumerate() {
         add_change(&mut changes, spots.get(index), edit)?;
@@ -107,7 +180,7 @@ fn changes_at<'a>(
 /// Adds the change of an edit at this place, if there is one.
 fn add_change<'a>(
     changes: &mut Vec<Change<'a>>,
-    spot: Option<&Spot>,
+    spot: Option<&Spot<'_>>,
     edit: &'a Edit,
 ) -> Result<(), AllocError>
     ensures added { OnOk result (map edited_of changes.new.items
@@ -124,75 +197,142 @@ fn add_change<'a>(
 }
 
 /// Whether a text is an attribute of Rust and a line end: rustc puts it above a line, and shows it with that line.
-pub fn is_attribute(text: &str) -> bool {
+pub fn is_attribute(text: &str) -> bool
+    ensures value { result ≡ spec.is_attribute text.now }
+{
     let trimmed = text.trim();
     begins_with(trimmed, "#[") && finishes_with(trimmed, "]") && finishes_with(text, "\n")
 }
 
 /// The offer of an attribute, if this is one and lines are at hand where it is to stand.
 fn attribute_of<'a>(
-    placing: &mut Placing<'a>,
-    spots: &[Spot],
+    alloc: Global,
+    spots: &[Spot<'a>],
     edits: &'a [Edit],
-) -> Result<Option<Offer<'a>>, AllocError> {
+) -> Result<Option<Offer<'a>>, AllocError>
+    ensures is { IfOk result (λ offer. IfSome offer (IsAttributeOffer spots.now edits.now)) }
+{
     match (spots, edits) {
-        ([spot], [edit]) if spot.is_at_hand && is_attribute(edit.replacement.as_str()) => {
-            attribute_at(placing, *spot, edit)
+        ([spot], [edit]) => attribute_at(alloc, spot, edit),
+        _ => Ok(None),
+    }
+}
+
+/// The offer of an edit, if it puts an attribute above a line that is at hand.
+fn attribute_at<'a>(
+    alloc: Global,
+    spot: &Spot<'a>,
+    edit: &'a Edit,
+) -> Result<Option<Offer<'a>>, AllocError>
+    ensures is { IfOk result (λ offer. IfSome offer
+        (IsAttributeAt spot.now.source.content edit.now.region spot.now edit.now)) }
+{
+    match (spot.source.content, edit.region) {
+        (Content::Lines { text, .. }, Region::Lines(region)) => {
+            attribute_if(alloc, text, region.start_line, spot, edit)
         }
         _ => Ok(None),
     }
 }
 
-/// The offer of an attribute, which is shown with the line that it stands above.
-fn attribute_at<'a>(
-    placing: &mut Placing<'a>,
-    spot: Spot,
+/// The same in a text, where the line that it stands above has this number.
+fn attribute_if<'a>(
+    alloc: Global,
+    text: &'a str,
+    number: usize,
+    spot: &Spot<'a>,
     edit: &'a Edit,
-) -> Result<Option<Offer<'a>>, AllocError> {
-    let Some((start, line)) = line_at(placing, spot, edit.region) else {
-        return Ok(None);
-    };
-    let at = spot.start.saturating_sub(start);
-    let source = index_of(&mut placing.shown, line)?;
-    let mut changes = Vec::new(placing.alloc);
+) -> Result<Option<Offer<'a>>, AllocError>
+    ensures is { IfOk result (λ offer. IfSome offer (λ o.
+        (spec.is_attribute (string_bytes edit.now.replacement) ≡ true)
+        × IsAttributeIn text.now number spot.now edit.now o)) }
+{
+    if is_attribute(edit.replacement.as_str()) {
+        attribute_in(alloc, text, number, spot, edit)
+    } else {
+        Ok(None)
+    }
+}
+
+/// The offer of an attribute, which is shown with the line that it stands above.
+fn attribute_in<'a>(
+    alloc: Global,
+    text: &'a str,
+    number: usize,
+    spot: &Spot<'a>,
+    edit: &'a Edit,
+) -> Result<Option<Offer<'a>>, AllocError>
+    ensures is { IfOk result (λ offer. IfSome offer (IsAttributeIn text.now number spot.now edit.now)) }
+{
+    match line_around(text, spot.start) {
+        Some(line) => {
+            let at = spot.start.saturating_sub(line.start);
+            let changes = one_change(alloc, at, edit)?;
+            Ok(Some(line_offer(spot.source.path, line.text, number, changes)))
+        }
+        None => Ok(None),
+    }
+}
+
+/// The change that puts the text of an edit in at a byte.
+fn one_change<'a>(alloc: Global, at: usize, edit: &'a Edit) -> Result<Vec<Change<'a>>, AllocError>
+    ensures value { IfOk result (λ changes. map edited_of changes.items
+        ≡ record { start = at; end = at; text = string_bytes edit.now.replacement } ∷ []) }
+{
+    let mut changes = Vec::new(alloc);
     changes.push(Change {
         start: at,
         end: at,
         text: edit.replacement.as_str(),
     })?;
-    Ok(Some(Offer {
-        source,
+    Ok(changes)
+}
+
+/// The offer of changes to a line of this number, which is shown whole.
+fn line_offer<'a>(
+    path: &'a str,
+    text: &'a str,
+    first_line: usize,
+    changes: Vec<Change<'a>>,
+) -> Offer<'a>
+    ensures path { result.source.path.now ≡ path.now }
+    ensures shows { sight_of result.source.content ≡ Lines text.now first_line }
+    ensures changes { result.changes ≡ changes.entry }
+    ensures unfolded { result.is_folded ≡ false }
+{
+    let content = Content::Lines { text, first_line };
+    Offer {
+        source: Shown { path, content },
         changes,
         is_folded: false,
-    }))
+    }
 }
 
-/// The line around a place as a source of its own, and the byte where it starts.
-fn line_at<'a>(placing: &Placing<'a>, spot: Spot, region: Region) -> Option<(usize, Shown<'a>)> {
-    let Region::Lines(region) = region else {
-        return None;
-    };
-    let shown = placing.shown.get(spot.source)?;
-    let (start, text) = line_around(shown, spot.start)?;
-    let content = Content::Lines {
-        text,
-        first_line: region.start_line,
-    };
-    let path = shown.path;
-    Some((start, Shown { path, content }))
+/// A line of a text, and the byte where it starts.
+#[derive(Clone, Copy)]
+struct Line<'a> {
+    start: usize,
+    text: &'a str,
 }
 
-/// The line of a source around a byte, and the byte where it starts.
-fn line_around<'a>(shown: &Shown<'a>, at: usize) -> Option<(usize, &'a str)> {
-    let Content::Lines { text, .. } = shown.content else {
-        return None;
-    };
+/// The line of a text around a byte.
+fn line_around<'a>(text: &'a str, at: usize) -> Option<Line<'a>>
+    ensures is { IfSome result (λ line. IsLineIn text.now line.text.now (take line.start text.now)) }
+    ensures start { IfSome result (λ line. length (take line.start text.now) ≡ line.start) }
+    ensures from { IfSome result (λ line. line.start ≤ at) }
+    ensures to { IfSome result (λ line. at ≤ line.start + length line.text.now) }
+{
     let start = last_start(text.get(..at)?);
-    Some((start, first_line(text.get(start..)?)))
+    Some(Line {
+        start,
+        text: first_line(text.get(start..)?),
+    })
 }
 
 /// The byte of a text where its last line starts.
-fn last_start(text: &str) -> usize {
+fn last_start(text: &str) -> usize
+    ensures is { IsLastStart text.now result }
+{
     match text.rfind('\n') {
         Some(feed) => feed + 1,
         None => 0,
@@ -200,7 +340,9 @@ fn last_start(text: &str) -> usize {
 }
 
 /// The first line of a text, without the line feed.
-fn first_line(text: &str) -> &str {
+fn first_line(text: &str) -> &str
+    ensures is { IsLineIn text.now result.now [] }
+{
     match text.split_once('\n') {
         Some((line, _)) => line,
         None => text,

@@ -1,9 +1,10 @@
 //! The finding that a diagnostic reports: its places and edits, in the sources that are at hand.
 
 ghost use Rattle.std.specs.Prelude.{◌≡◌, IfOk, string_bytes};
+ghost use Rattle.std.specs.List.{AllZip};
 ghost use Rattle.std.specs.Option.{option_map};
 ghost use Rattle.redraw_report.specs.Report.{lent};
-ghost use Rattle.redraw_read.specs.Told.{FindingTells, MarkTells, MarksTell, RemarkTells, RemarksTell};
+ghost use Rattle.redraw_read.specs.Placed.{IsFindingOf, IsMarkOf, IsRemarkOf, at_hand, home_of};
 
 use crate::hand::Hand;
 use crate::offers::offers_of;
@@ -53,30 +54,31 @@ fn load_edits<S: Shelf + Drop>(
     Ok(())
 }
 
-impl<'a> Placing<'a> {
-    /// No sources yet. In the short form places are told by marks alone.
-    pub fn new(alloc: Global, is_short: bool) -> Placing<'a> {
+impl Placing {
+    /// Nothing was found wrong yet.
+    pub fn new(alloc: Global) -> Placing {
         Placing {
             alloc,
-            shown: Vec::new(alloc),
             clamped: 0,
             undrawn: 0,
-            is_short,
         }
     }
 
-    /// The finding that a diagnostic reports.
-    pub fn finding<S: Shelf + Drop>(
+    /// The finding that a diagnostic reports. In the short form places are told by marks alone.
+    pub fn finding<'a, S: Shelf + Drop>(
         &mut self,
         sources: &'a Sources<S>,
         diagnostic: &'a Diagnostic,
+        is_short: bool,
     ) -> Result<Finding<'a>, AllocError>
-        ensures tells { IfOk result (FindingTells diagnostic.now) }
+        ensures is { IfOk result (IsFindingOf
+            record { files = sources.now.files.items; home = home_of diagnostic.now.homes.items; is_short = is_short }
+            diagnostic.now) }
     {
         let hand = Hand {
             files: sources.files(),
             home: first_home(&diagnostic.homes),
-            is_short: self.is_short,
+            is_short,
         };
         finding_in(self, hand, diagnostic)
     }
@@ -84,11 +86,11 @@ impl<'a> Placing<'a> {
 
 /// The finding that a diagnostic reports, by what is at hand.
 pub fn finding_in<'a>(
-    placing: &mut Placing<'a>,
+    placing: &mut Placing,
     hand: Hand<'a>,
     diagnostic: &'a Diagnostic,
 ) -> Result<Finding<'a>, AllocError>
-    ensures tells { IfOk result (FindingTells diagnostic.now) }
+    ensures is { IfOk result (IsFindingOf (at_hand hand.entry) diagnostic.now) }
 {
     let marks = marks_of(placing, hand, &diagnostic.spans)?;
     let remarks = remarks_of(placing, hand, &diagnostic.children)?;
@@ -103,11 +105,11 @@ pub fn finding_in<'a>(
 
 /// The marks of some places.
 fn marks_of<'a>(
-    placing: &mut Placing<'a>,
+    placing: &mut Placing,
     hand: Hand<'a>,
     spans: &'a Vec<FileSpan>,
 ) -> Result<Vec<Mark<'a>>, AllocError>
-    ensures tell { IfOk result (λ marks. MarksTell spans.now.items marks.items) }
+    ensures are { IfOk result (λ marks. AllZip (IsMarkOf (at_hand hand.entry)) spans.now.items marks.items) }
 {
     let mut marks = Vec::new(placing.alloc);
     for span in spans {
@@ -118,13 +120,13 @@ fn marks_of<'a>(
 
 /// The mark of a place.
 fn mark_of<'a>(
-    placing: &mut Placing<'a>,
+    placing: &mut Placing,
     hand: Hand<'a>,
     span: &'a FileSpan,
 ) -> Result<Mark<'a>, AllocError>
-    ensures tells { IfOk result (MarkTells span.now) }
+    ensures is { IfOk result (IsMarkOf (at_hand hand.entry) span.now) }
 {
-    let spot = placing.spot_named(hand, &span.file, span.region, &span.carried)?;
+    let spot = placing.spot(hand, &span.file, span.region, &span.carried)?;
     Ok(Mark {
         source: spot.source,
         start: spot.start,
@@ -146,11 +148,11 @@ fn label_of(span: &FileSpan) -> Option<&str>
 
 /// The remarks that some children make.
 fn remarks_of<'a>(
-    placing: &mut Placing<'a>,
+    placing: &mut Placing,
     hand: Hand<'a>,
     children: &'a Vec<Child>,
 ) -> Result<Vec<Remark<'a>>, AllocError>
-    ensures tell { IfOk result (λ remarks. RemarksTell children.now.items remarks.items) }
+    ensures are { IfOk result (λ remarks. AllZip (IsRemarkOf (at_hand hand.entry)) children.now.items remarks.items) }
 {
     let mut remarks = Vec::new(placing.alloc);
     for child in children {
@@ -161,11 +163,11 @@ fn remarks_of<'a>(
 
 /// The remark that a child makes.
 fn remark_of<'a>(
-    placing: &mut Placing<'a>,
+    placing: &mut Placing,
     hand: Hand<'a>,
     child: &'a Child,
 ) -> Result<Remark<'a>, AllocError>
-    ensures tells { IfOk result (RemarkTells child.now) }
+    ensures is { IfOk result (IsRemarkOf (at_hand hand.entry) child.now) }
 {
     let marks = marks_of(placing, hand, &child.spans)?;
     let offers = offers_of(placing, hand, &child.alternatives)?;

@@ -1,10 +1,16 @@
 //! How a suggestion is shown, which rustc's own text of a diagnostic tells: its JSON says of each suggestion only what it
 //! changes.
 
+ghost use Rattle.std.specs.Prelude.{◌≡◌, ◌==◌};
+ghost use Rattle.std.specs.List.{slice_split};
+ghost use Rattle.redraw_read.specs.Rendered as spec;
+ghost use Rattle.redraw_read.specs.Rendered.{way, way_of};
+ghost use Rattle.redraw_report.specs.Report.{lent};
+
 use crate::columns::show_columns;
 use crate::plain::without_styles;
 use crate::roles::settle_roles;
-use crate::words::begins_with;
+use crate::words::{after, after_first, begins_with};
 use redraw_report::diagnostic::{Child, Diagnostic, Edit, FileSpan};
 use snippet_text::normalized;
 use std::alloc::{AllocError, Global};
@@ -34,7 +40,9 @@ enum Stand {
 }
 
 /// How a suggestion with this message is shown in a text.
-pub fn manner_of<'t>(message: &str, text: &'t str) -> Manner<'t> {
+pub fn manner_of<'t>(message: &str, text: &'t str) -> Manner<'t>
+    ensures value { way_of result ≡ way message.now text.now }
+{
     if let Some(title) = first_shown(Stand::Title, message, text) {
         return Manner::Group(title);
     }
@@ -48,7 +56,9 @@ pub fn manner_of<'t>(message: &str, text: &'t str) -> Manner<'t> {
 }
 
 /// What the first line of a text that shows this message there shows of it.
-fn first_shown<'t>(place: Stand, message: &str, text: &'t str) -> Option<&'t str> {
+fn first_shown<'t>(place: Stand, message: &str, text: &'t str) -> Option<&'t str>
+    ensures value { lent result ≡ spec.first_shown place message.now (slice_split (λ b. b == 10) text.now) }
+{
     for line in text.split('\n') {
         if let Some(shown) = shown_in(place, message, line) {
             return Some(shown);
@@ -58,27 +68,34 @@ fn first_shown<'t>(place: Stand, message: &str, text: &'t str) -> Option<&'t str
 }
 
 /// What a line shows of this message there, if it does.
-fn shown_in<'t>(place: Stand, message: &str, line: &'t str) -> Option<&'t str> {
+fn shown_in<'t>(place: Stand, message: &str, line: &'t str) -> Option<&'t str>
+    ensures value { lent result ≡ spec.shown_in place message.now line.now }
+{
     match stands_in(place, line) {
-        Some(shown) if begins_with(shown, message) => Some(shown),
-        _ => None,
+        Some(text) => begun(message, text),
+        None => None,
+    }
+}
+
+/// A text, if it begins with a message.
+fn begun<'t>(message: &str, text: &'t str) -> Option<&'t str>
+    ensures value { lent result ≡ spec.begun message.now text.now }
+{
+    if begins_with(text, message) {
+        Some(text)
+    } else {
+        None
     }
 }
 
 /// What stands in a line where a message may stand.
-fn stands_in<'t>(place: Stand, line: &'t str) -> Option<&'t str> {
+fn stands_in<'t>(place: Stand, line: &'t str) -> Option<&'t str>
+    ensures value { lent result ≡ spec.stands_in place line.now }
+{
     match place {
-        Stand::Title => line.strip_prefix("help: "),
-        Stand::Message => line.trim_start().strip_prefix("= help: "),
-        Stand::Label => after_help(line),
-    }
-}
-
-/// What comes after the first `help: ` of a line.
-fn after_help(line: &str) -> Option<&str> {
-    match line.split_once("help: ") {
-        Some((_, after)) => Some(after),
-        None => None,
+        Stand::Title => after(line, "help: "),
+        Stand::Message => after(line.trim_start(), "= help: "),
+        Stand::Label => after_first(line, "help: "),
     }
 }
 

@@ -2,8 +2,9 @@
 
 ghost use Rattle.std.specs.Prelude.{◌≡◌, string_bytes};
 ghost use Rattle.std.specs.Option.{option_map};
-ghost use Rattle.redraw_read.specs.Placed as spec;
-ghost use Rattle.redraw_read.specs.Placed.{held};
+ghost use Rattle.redraw_read.specs.Extract as spec;
+ghost use Rattle.redraw_read.specs.Extract.{held};
+ghost use Rattle.redraw_read.specs.Placed.{home_of};
 
 use crate::source::Source;
 use std::alloc::{AllocError, Global};
@@ -131,7 +132,9 @@ impl<S: Shelf + Drop> Sources<S> {
     }
 
     /// The names of the files that couldn't be read since this was asked before.
-    pub fn take_unread(&mut self) -> Vec<String> {
+    pub fn take_unread(&mut self) -> Vec<String>
+        ensures kept { self.new.files ≡ self.old.files }
+    {
         std::mem::replace(&mut self.unread, Vec::new(self.alloc))
     }
 
@@ -149,7 +152,9 @@ impl<S: Shelf + Drop> Sources<S> {
 }
 
 /// The first of some files of a project; empty where there is none.
-pub fn first_home(homes: &[String]) -> &str {
+pub fn first_home(homes: &[String]) -> &str
+    ensures value { result.now ≡ home_of homes.now }
+{
     match homes.first() {
         Some(home) => home.as_str(),
         None => "",

@@ -3,19 +3,18 @@ use Rattle.std.proofs.Common.{◌≡◌, false, List, [], ◌∷◌, ◌++◌, m
 use Rattle.std.proofs.lemmas.List.{map-append}
 use Rattle.snippet_model.specs.declared.snippet.Group.{Group}
 use Rattle.redraw_report.specs.declared.finding.Remark.{Remark}
-use Rattle.redraw_report.specs.declared.finding.Shown.{Shown}
 use Rattle.redraw_report.specs.Report.{is_bare, remark_section, sections_from, with_message}
 use Rattle.redraw_report.specs.View.{Section, section_view}
 
 -- a remark with places or edits begins a group of its own
-pub own-group : (shown : List Shown) (old new : List Group) (last g : Group) (r : Remark)
-    → new ≡ old ++ last ∷ [] → is_bare r ≡ false → section_view g ≡ remark_section shown r → (rest : List Remark)
-    → map section_view new ++ sections_from shown (section_view g) rest
-    ≡ map section_view old ++ sections_from shown (section_view last) (r ∷ rest)
-own-group shown old new last g r grown bare is rest =
-    let after = sections_from shown (remark_section shown r) rest in
-    let message = sections_from shown (with_message (section_view last) r) rest in
-    ap (λ (s : Section). map section_view new ++ sections_from shown s rest) is
+pub own-group : (old new : List Group) (last g : Group) (r : Remark)
+    → new ≡ old ++ last ∷ [] → is_bare r ≡ false → section_view g ≡ remark_section r → (rest : List Remark)
+    → map section_view new ++ sections_from (section_view g) rest
+    ≡ map section_view old ++ sections_from (section_view last) (r ∷ rest)
+own-group old new last g r grown bare is rest =
+    let after = sections_from (remark_section r) rest in
+    let message = sections_from (with_message (section_view last) r) rest in
+    ap (λ (s : Section). map section_view new ++ sections_from s rest) is
     ∙ ap (λ (gs : List Group). map section_view gs ++ after) grown
     ∙ ap (λ (l : List Section). l ++ after) (map-append section_view old (last ∷ []))
     ∙ append_assoc (map section_view old) (section_view last ∷ []) after

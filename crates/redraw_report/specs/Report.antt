@@ -1,8 +1,8 @@
 -- The report that a finding becomes: which title, which place with which label, which edit.
-use Rattle.std.specs.Prelude.{string_bytes, ℕ, ◌-◌, Bool, true, false, nat_lt, ◌==◌, ◌&&◌, List, [], ◌∷◌, ◌++◌, Option, Some, None, chars, codes, length, map, slice_get, take, not, if◌then◌else◌}
+use Rattle.std.specs.Prelude.{string_bytes, ℕ, ◌-◌, Bool, true, false, nat_lt, ◌==◌, ◌&&◌, List, [], ◌∷◌, ◌++◌, Option, Some, None, chars, codes, length, map, take, not, if◌then◌else◌}
 use Rattle.std.specs.List.{flat_map, list_any, repeat}
 use Rattle.std.specs.Fmt.{decimal}
-use Rattle.std.specs.Option.{option_map, option_map_or}
+use Rattle.std.specs.Option.{option_map}
 use Rattle.std.specs.Borrow.{Bor}
 use Rattle.snippet_style.specs.declared.role.LevelInner.TheVariants as kind
 use Rattle.snippet_text.specs.Normalized.{norm}
@@ -20,6 +20,7 @@ use Rattle.redraw_report.specs.declared.finding.Mark.{Mark}
 use Rattle.redraw_report.specs.declared.finding.Offer.{Offer}
 use Rattle.redraw_report.specs.declared.finding.Remark.{Remark}
 use Rattle.redraw_report.specs.declared.finding.Shown.{Shown}
+use Rattle.redraw_report.specs.Shown.{same_source}
 use Rattle.redraw_report.specs.View.{Edited, Edits, Gap, Headed, Lines, Marked, Marks, Named, Names, Part, Says, Section}
 
 -- the level of a severity: the standard one, and that of a note, but without its name, for a plain text
@@ -50,18 +51,18 @@ marked_of m =
       highlighted = false;
     }
 
--- the mark of a place, if it is in the source with this index
-abbrev pub mark_in : ℕ → Mark → List Marked
-mark_in source m = if m.source == source then marked_of m ∷ [] else []
+-- the mark of a place, if it is in this source
+abbrev pub mark_in : Shown → Mark → List Marked
+mark_in source m = if same_source m.source source then marked_of m ∷ [] else []
 
 -- what is said of a place, if it is in that source: below an empty row
 abbrev pub label_rows : Option (Bor (List ℕ)) → List Part
 label_rows None = []
 label_rows (Some label) = Gap ∷ said Note label.now ∷ []
 
--- what is said of a place, if it is in the source with this index
-abbrev pub label_in : ℕ → Mark → List Part
-label_in source m = if m.source == source then label_rows m.label else []
+-- what is said of a place, if it is in this source
+abbrev pub label_in : Shown → Mark → List Part
+label_in source m = if same_source m.source source then label_rows m.label else []
 
 -- lines of a file as they are shown
 abbrev pub lines_of : List ℕ → List ℕ → ℕ → Bool → Lines
@@ -74,60 +75,52 @@ blanks_before column = repeat (column - 1) (codes " ")
 
 -- a source with those of some places that are in it: its lines with a mark for each, or where it has none its place and what is said,
 -- or a line of blanks with the marks
-abbrev pub content_parts : List Mark → ℕ → List ℕ → Content → List Part
-content_parts marks source path (content.Lines text first_line) =
-    Marks (lines_of path text.now first_line true) (flat_map (mark_in source) marks) ∷ []
-content_parts marks source path (content.Blank line column) =
-    Marks (lines_of path (blanks_before column) line true) (flat_map (mark_in source) marks) ∷ []
-content_parts marks source path (content.Nothing line column) = Names path line column ∷ flat_map (label_in source) marks
+abbrev pub content_parts : List Mark → Shown → Content → List Part
+content_parts marks source (content.Lines text first_line) =
+    Marks (lines_of source.path.now text.now first_line true) (flat_map (mark_in source) marks) ∷ []
+content_parts marks source (content.Blank line column) =
+    Marks (lines_of source.path.now (blanks_before column) line true) (flat_map (mark_in source) marks) ∷ []
+content_parts marks source (content.Nothing line column) = Names source.path.now line column ∷ flat_map (label_in source) marks
 
 -- the same of a source as it is shown
-abbrev pub source_parts : List Mark → ℕ → Shown → List Part
-source_parts marks source shown = content_parts marks source shown.path.now shown.content
+abbrev pub source_parts : List Mark → Shown → List Part
+source_parts marks source = content_parts marks source source.content
 
--- the same of the source with this index
-abbrev pub parts_at : List Shown → List Mark → ℕ → List Part
-parts_at shown marks source = option_map_or (source_parts marks source) (slice_get shown source) []
+-- some sources, and one more if it isn't among them
+abbrev pub with_shown : List Shown → Shown → List Shown
+with_shown order source = if list_any (λ known. same_source known source) order then order else order ++ source ∷ []
 
--- some indexes, and one more if it isn't among them
-abbrev pub with_index : List ℕ → ℕ → List ℕ
-with_index order i = if list_any (λ j. j == i) order then order else order ++ i ∷ []
-
--- some indexes, and that of a place's source, but of a place that isn't primary only where all are taken
-abbrev pub with_source : Bool → List ℕ → Mark → List ℕ
-with_source primary order m = if primary && not m.is_primary then order else with_index order m.source
+-- some sources, and that of a place, but of a place that isn't primary only where all are taken
+abbrev pub with_source : Bool → List Shown → Mark → List Shown
+with_source primary order m = if primary && not m.is_primary then order else with_shown order m.source
 
 -- the same of some places, one after another
-abbrev pub with_sources : Bool → List ℕ → List Mark → List ℕ
+abbrev pub with_sources : Bool → List Shown → List Mark → List Shown
 with_sources primary order [] = order
 with_sources primary order (m ∷ ms) = with_sources primary (with_source primary order m) ms
 
 -- the sources of some places, each once: those of primary places first, then the others as they come
-abbrev pub sources_of : List Mark → List ℕ
+abbrev pub sources_of : List Mark → List Shown
 sources_of marks = with_sources false (with_sources true [] marks) marks
 
 -- what is shown of some places: each source with those that are in it
-abbrev pub marked_parts : List Shown → List Mark → List Part
-marked_parts shown marks = flat_map (parts_at shown marks) (sources_of marks)
+abbrev pub marked_parts : List Mark → List Part
+marked_parts marks = flat_map (source_parts marks) (sources_of marks)
 
 -- an edit
 abbrev pub edited_of : Change → Edited
 edited_of c = record { start = c.start; end = c.end; text = c.text.now }
 
 -- an offer: the lines of its source with all of its edits; nothing where the source has no lines
-abbrev pub edits_on : Offer → List ℕ → Content → List Part
-edits_on offer path (content.Lines text first_line) =
-    Edits (lines_of path text.now first_line offer.is_folded) (map edited_of offer.changes.items) ∷ []
-edits_on offer path (content.Nothing line column) = []
-edits_on offer path (content.Blank line column) = []
+abbrev pub edits_on : Offer → Content → List Part
+edits_on offer (content.Lines text first_line) =
+    Edits (lines_of offer.source.path.now text.now first_line offer.is_folded) (map edited_of offer.changes.items) ∷ []
+edits_on offer (content.Nothing line column) = []
+edits_on offer (content.Blank line column) = []
 
--- the same of an offer's source as it is shown
-abbrev pub offer_parts : Offer → Shown → List Part
-offer_parts offer shown = edits_on offer shown.path.now shown.content
-
--- the same of an offer whose source is among these; else nothing
-abbrev pub offered : List Shown → Offer → List Part
-offered shown offer = option_map_or (offer_parts offer) (slice_get shown offer.source) []
+-- the same of the source as it is shown
+abbrev pub offered : Offer → List Part
+offered offer = edits_on offer offer.source.content
 
 -- how many offers there are beside those that are shown
 abbrev pub more_text : ℕ → List ℕ
@@ -139,8 +132,8 @@ abbrev pub more_parts : ℕ → List Part
 more_parts more = if nat_lt 0 more then Says (level_of Plain) (chars (more_text more)) ∷ [] else []
 
 -- the first four of some offers, and how many more there are
-abbrev pub offers_parts : List Shown → List Offer → List Part
-offers_parts shown offers = flat_map (offered shown) (take 4 offers) ++ more_parts (length offers - 4)
+abbrev pub offers_parts : List Offer → List Part
+offers_parts offers = flat_map offered (take 4 offers) ++ more_parts (length offers - 4)
 
 -- the name and address of a rule
 abbrev pub named_of : Code → Named
@@ -166,9 +159,8 @@ abbrev pub section_of : Headed → List Part → Section
 section_of headed parts = record { kind = headed.level.kind; title = Some headed; parts = parts }
 
 -- the group of a remark: what is shown of its places, and the edits that it offers
-abbrev pub remark_section : List Shown → Remark → Section
-remark_section shown r =
-    section_of (remark_headed r) (marked_parts shown r.marks.items ++ offers_parts shown r.offers.items)
+abbrev pub remark_section : Remark → Section
+remark_section r = section_of (remark_headed r) (marked_parts r.marks.items ++ offers_parts r.offers.items)
 
 -- whether a remark has neither places nor edits
 abbrev pub is_bare : Remark → Bool
@@ -180,13 +172,11 @@ with_message section r =
     record section { parts = section.parts ++ said r.severity r.message.now ∷ [] }
 
 -- a group, and the groups of some remarks: one without places and edits is a message of the group before it
-abbrev pub sections_from : List Shown → Section → List Remark → List Section
-sections_from shown section [] = section ∷ []
-sections_from shown section (r ∷ rs) =
-    if is_bare r then sections_from shown (with_message section r) rs
-    else section ∷ sections_from shown (remark_section shown r) rs
+abbrev pub sections_from : Section → List Remark → List Section
+sections_from section [] = section ∷ []
+sections_from section (r ∷ rs) =
+    if is_bare r then sections_from (with_message section r) rs else section ∷ sections_from (remark_section r) rs
 
--- the report of a finding whose places are in these sources: the group of its message and places, then those of what else is said
-abbrev pub report_of : List Shown → Finding → List Section
-report_of shown f =
-    sections_from shown (section_of (headed_of f) (marked_parts shown f.marks.items)) f.remarks.items
+-- the report of a finding: the group of its message and places, then those of what else is said
+abbrev pub report_of : Finding → List Section
+report_of f = sections_from (section_of (headed_of f) (marked_parts f.marks.items)) f.remarks.items

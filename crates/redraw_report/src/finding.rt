@@ -1,4 +1,6 @@
 //! A finding whose places have been found in the sources that are shown: all that a report is made of.
+ghost use Rattle.std.specs.Prelude.{◌≡◌};
+ghost use Rattle.redraw_report.specs.Shown.{same_content, same_source};
 
 use crate::diagnostic::{Code, Severity};
 
@@ -31,7 +33,7 @@ pub enum Content<'a> {
     },
 }
 
-/// A finding, by places in sources, which are named by their index in a list.
+/// A finding, by places in sources.
 #[derive(Drop)]
 pub struct Finding<'a> {
     pub severity: Severity,
@@ -48,8 +50,8 @@ pub struct Finding<'a> {
 /// A place that is spoken of.
 #[derive(Clone, Copy)]
 pub struct Mark<'a> {
-    /// The source, by its index.
-    pub source: usize,
+    /// The source that it is in.
+    pub source: Shown<'a>,
     /// The byte of the source where the place starts.
     pub start: usize,
     /// The byte after it.
@@ -75,8 +77,8 @@ pub struct Remark<'a> {
 /// A suggestion: edits of one source, which are made together.
 #[derive(Drop)]
 pub struct Offer<'a> {
-    /// The source, by its index.
-    pub source: usize,
+    /// The source that it changes.
+    pub source: Shown<'a>,
     pub changes: Vec<Change<'a>>,
     /// Whether only the lines around the edits are shown, and not all of the source.
     pub is_folded: bool,
@@ -91,4 +93,41 @@ pub struct Change<'a> {
     pub end: usize,
     /// What stands in its place. The text isn't trusted.
     pub text: &'a str,
+}
+
+/// Whether two sources are one: they are of the same path and show the same.
+pub fn is_same(known: &Shown<'_>, other: &Shown<'_>) -> bool
+    ensures value { result ≡ same_source known.now other.now }
+{
+    known.path == other.path && holds_same(known.content, other.content)
+}
+
+/// Whether the same is shown of two files.
+fn holds_same(known: Content<'_>, other: Content<'_>) -> bool
+    ensures value { result ≡ same_content known.entry other.entry }
+{
+    match (known, other) {
+        (
+            Content::Lines { text, first_line },
+            Content::Lines {
+                text: other_text,
+                first_line: other_line,
+            },
+        ) => first_line == other_line && text == other_text,
+        (
+            Content::Nothing { line, column },
+            Content::Nothing {
+                line: other_line,
+                column: other_column,
+            },
+        ) => line == other_line && column == other_column,
+        (
+            Content::Blank { line, column },
+            Content::Blank {
+                line: other_line,
+                column: other_column,
+            },
+        ) => line == other_line && column == other_column,
+        _ => false,
+    }
 }

@@ -1,43 +1,55 @@
 //! What is drawn of places: each source with those that are in it.
 ghost use Rattle.std.specs.Prelude.{◌≡◌, ◌++◌, [], ◌∷◌, IfOk, OnOk, map, string_bytes, true};
 ghost use Rattle.std.specs.Cow.{cow_str_bytes};
-ghost use Rattle.std.specs.List.{flat_map};
+ghost use Rattle.std.specs.List.{flat_map, list_any};
 ghost use Rattle.redraw_report.specs.Report as spec;
-ghost use Rattle.redraw_report.specs.Report.{label_in, label_rows, lines_of, mark_in, marked_of, marked_parts, parts_at, said, source_parts, with_index, with_source, with_sources};
+ghost use Rattle.redraw_report.specs.Report.{label_in, label_rows, lines_of, mark_in, marked_of, marked_parts, said, source_parts, with_shown, with_source, with_sources};
+ghost use Rattle.redraw_report.specs.Shown.{same_source};
 ghost use Rattle.redraw_report.specs.View.{Gap, Marks, marked_view, part_view};
 ghost use Rattle.redraw_report.specs.declared.diagnostic.Severity.TheVariants.{Note};
 
 use crate::diagnostic::Severity;
-use crate::finding::{Content, Mark, Shown};
+use crate::finding::{Content, Mark, Shown, is_same};
 use crate::titles::message_of;
 use snippet_model::{Annotation, AnnotationKind, Element, Origin, Padding, Snippet};
 use snippet_text::CowStr;
 use std::alloc::{AllocError, Global};
 
-/// Adds an index, if it isn't there yet.
-fn add_index(order: &mut Vec<usize>, index: usize) -> Result<(), AllocError>
-    ensures order { OnOk result (order.new.items ≡ with_index order.old.items index) }
+/// Whether a source is among these.
+fn has_source(order: &[Shown<'_>], source: &Shown<'_>) -> bool
+    ensures value { result ≡ list_any (λ known. same_source known source.now) order.now }
 {
-    if !order.contains(&index) {
-        order.push(index)?;
+    order.iter().any(|known| is_same(known, source))
+}
+
+/// Adds a source, if it isn't there yet.
+fn add_shown<'a>(order: &mut Vec<Shown<'a>>, source: Shown<'a>) -> Result<(), AllocError>
+    ensures order { OnOk result (order.new.items ≡ with_shown order.old.items source.entry) }
+{
+    if !has_source(order, &source) {
+        order.push(source)?;
     }
     Ok(())
 }
 
-/// Adds the index of a place's source, but of a place that isn't primary only where all are taken.
-fn add_source_of(order: &mut Vec<usize>, mark: &Mark<'_>, primary: bool) -> Result<(), AllocError>
+/// Adds the source of a place, but of a place that isn't primary only where all are taken.
+fn add_source_of<'a>(
+    order: &mut Vec<Shown<'a>>,
+    mark: &Mark<'a>,
+    primary: bool,
+) -> Result<(), AllocError>
     ensures order { OnOk result (order.new.items ≡ with_source primary order.old.items mark.now) }
 {
     if primary && !mark.is_primary {
         return Ok(());
     }
-    add_index(order, mark.source)
+    add_shown(order, mark.source)
 }
 
-/// Adds the indexes of the sources of some places, or only of the primary ones.
-fn add_sources_of(
-    order: &mut Vec<usize>,
-    marks: &[Mark<'_>],
+/// Adds the sources of some places, or only of the primary ones.
+fn add_sources_of<'a>(
+    order: &mut Vec<Shown<'a>>,
+    marks: &[Mark<'a>],
     primary: bool,
 ) -> Result<(), AllocError>
     ensures order { OnOk result (order.new.items ≡ with_sources primary order.old.items marks.now) }
@@ -48,8 +60,8 @@ fn add_sources_of(
     Ok(())
 }
 
-/// The sources of some places, by their index, each once: those of primary places first, then the others as they come.
-fn sources_of(alloc: Global, marks: &[Mark<'_>]) -> Result<Vec<usize>, AllocError>
+/// The sources of some places, each once: those of primary places first, then the others as they come.
+fn sources_of<'a>(alloc: Global, marks: &[Mark<'a>]) -> Result<Vec<Shown<'a>>, AllocError>
     ensures value { IfOk result (λ order. order.items ≡ spec.sources_of marks.now) }
 {
     let mut order = Vec::new(alloc);
@@ -87,13 +99,13 @@ fn annotation_of<'a>(mark: &Mark<'a>) -> Annotation<'a>
 /// Adds the annotation of a place, if it is in this source.
 fn add_annotation<'a>(
     annotations: &mut Vec<Annotation<'a>>,
-    source: usize,
+    source: &Shown<'a>,
     mark: &Mark<'a>,
 ) -> Result<(), AllocError>
     ensures added { OnOk result (map marked_view annotations.new.items
-        ≡ map marked_view annotations.old.items ++ mark_in source mark.now) }
+        ≡ map marked_view annotations.old.items ++ mark_in source.now mark.now) }
 {
-    if mark.source == source {
+    if is_same(&mark.source, source) {
         annotations.push(annotation_of(mark))?;
     }
     Ok(())
@@ -102,10 +114,10 @@ fn add_annotation<'a>(
 /// The annotations of the places that are in this source.
 fn annotations_in<'a>(
     alloc: Global,
-    source: usize,
+    source: &Shown<'a>,
     marks: &[Mark<'a>],
 ) -> Result<Vec<Annotation<'a>>, AllocError>
-    ensures value { IfOk result (λ annotations. map marked_view annotations.items ≡ flat_map (mark_in source) marks.now) }
+    ensures value { IfOk result (λ annotations. map marked_view annotations.items ≡ flat_map (mark_in source.now) marks.now) }
 {
     let mut annotations = Vec::new(alloc);
     for mark in marks {
@@ -158,12 +170,12 @@ fn add_note<'a>(
 fn add_label<'a>(
     alloc: Global,
     elements: &mut Vec<Element<'a>>,
-    source: usize,
+    source: &Shown<'a>,
     mark: &Mark<'a>,
 ) -> Result<(), AllocError>
-    ensures added { OnOk result (map part_view elements.new.items ≡ map part_view elements.old.items ++ label_in source mark.now) }
+    ensures added { OnOk result (map part_view elements.new.items ≡ map part_view elements.old.items ++ label_in source.now mark.now) }
 {
-    if mark.source == source {
+    if is_same(&mark.source, source) {
         add_label_rows(alloc, elements, mark.label)?;
     }
     Ok(())
@@ -173,11 +185,11 @@ fn add_label<'a>(
 fn add_labels<'a>(
     alloc: Global,
     elements: &mut Vec<Element<'a>>,
-    source: usize,
+    source: &Shown<'a>,
     marks: &[Mark<'a>],
 ) -> Result<(), AllocError>
     ensures added { OnOk result (map part_view elements.new.items
-        ≡ map part_view elements.old.items ++ flat_map (label_in source) marks.now) }
+        ≡ map part_view elements.old.items ++ flat_map (label_in source.now) marks.now) }
 {
     for mark in marks {
         add_label(alloc, elements, source, mark)?;
@@ -189,21 +201,20 @@ fn add_labels<'a>(
 fn add_source<'a>(
     alloc: Global,
     elements: &mut Vec<Element<'a>>,
-    shown: &Shown<'a>,
-    source: usize,
+    source: &Shown<'a>,
     marks: &[Mark<'a>],
 ) -> Result<(), AllocError>
     ensures added { OnOk result (map part_view elements.new.items
-        ≡ map part_view elements.old.items ++ source_parts marks.now source shown.now) }
+        ≡ map part_view elements.old.items ++ source_parts marks.now source.now) }
 {
-    match shown.content {
+    match source.content {
         Content::Lines { text, first_line } => {
             let text = CowStr::Borrowed(text);
-            add_marked(alloc, elements, shown.path, text, first_line, source, marks)
+            add_marked(alloc, elements, source, text, first_line, marks)
         }
         Content::Nothing { line, column } => {
             elements.push(Element::Origin(Origin {
-                path: CowStr::Borrowed(shown.path),
+                path: CowStr::Borrowed(source.path),
                 line,
                 char_column: column,
             }))?;
@@ -211,15 +222,7 @@ fn add_source<'a>(
         }
         Content::Blank { line, column } => {
             let text = blanks_before(alloc, column)?;
-            add_marked(
-                alloc,
-                elements,
-                shown.path,
-                CowStr::Owned(text),
-                line,
-                source,
-                marks,
-            )
+            add_marked(alloc, elements, source, CowStr::Owned(text), line, marks)
         }
     }
 }
@@ -231,22 +234,21 @@ fn blanks_before(alloc: Global, column: usize) -> Result<String, AllocError>
     " ".repeat(alloc, column.saturating_sub(1))
 }
 
-/// Adds lines of a file, with the marks of the places that are in this source.
+/// Adds lines of a source, with the marks of the places that are in it.
 fn add_marked<'a>(
     alloc: Global,
     elements: &mut Vec<Element<'a>>,
-    path: &'a str,
+    source: &Shown<'a>,
     text: CowStr<'a>,
     first_line: usize,
-    source: usize,
     marks: &[Mark<'a>],
 ) -> Result<(), AllocError>
     ensures added { OnOk result (map part_view elements.new.items ≡ map part_view elements.old.items
-        ++ Marks (lines_of path.now (cow_str_bytes text.entry) first_line true) (flat_map (mark_in source) marks.now) ∷ []) }
+        ++ Marks (lines_of source.now.path.now (cow_str_bytes text.entry) first_line true) (flat_map (mark_in source.now) marks.now) ∷ []) }
 {
     let markers = annotations_in(alloc, source, marks)?;
     elements.push(Element::Cause(Snippet {
-        path: Some(CowStr::Borrowed(path)),
+        path: Some(CowStr::Borrowed(source.path)),
         line_start: first_line,
         source: text,
         markers,
@@ -256,36 +258,18 @@ fn add_marked<'a>(
     Ok(())
 }
 
-/// The same of the source with this index; nothing where there is none.
-fn add_source_at<'a>(
-    alloc: Global,
-    elements: &mut Vec<Element<'a>>,
-    sources: &[Shown<'a>],
-    source: usize,
-    marks: &[Mark<'a>],
-) -> Result<(), AllocError>
-    ensures added { OnOk result (map part_view elements.new.items
-        ≡ map part_view elements.old.items ++ parts_at sources.now marks.now source) }
-{
-    match sources.get(source) {
-        Some(shown) => add_source(alloc, elements, shown, source, marks),
-        None => Ok(()),
-    }
-}
-
-/// The same of the sources with these indexes, in their order.
+/// The same of some sources, in their order.
 fn add_each_source<'a>(
     alloc: Global,
     elements: &mut Vec<Element<'a>>,
-    sources: &[Shown<'a>],
-    order: &[usize],
+    order: &[Shown<'a>],
     marks: &[Mark<'a>],
 ) -> Result<(), AllocError>
     ensures added { OnOk result (map part_view elements.new.items
-        ≡ map part_view elements.old.items ++ flat_map (parts_at sources.now marks.now) order.now) }
+        ≡ map part_view elements.old.items ++ flat_map (source_parts marks.now) order.now) }
 {
     for source in order {
-        add_source_at(alloc, elements, sources, *source, marks)?;
+        add_source(alloc, elements, source, marks)?;
     }
     Ok(())
 }
@@ -293,13 +277,12 @@ fn add_each_source<'a>(
 /// What is drawn of some places: each source with those that are in it.
 pub fn marked_elements<'a>(
     alloc: Global,
-    sources: &[Shown<'a>],
     marks: &[Mark<'a>],
 ) -> Result<Vec<Element<'a>>, AllocError>
-    ensures value { IfOk result (λ elements. map part_view elements.items ≡ marked_parts sources.now marks.now) }
+    ensures value { IfOk result (λ elements. map part_view elements.items ≡ marked_parts marks.now) }
 {
     let order = sources_of(alloc, marks)?;
     let mut elements = Vec::new(alloc);
-    add_each_source(alloc, &mut elements, sources, &order, marks)?;
+    add_each_source(alloc, &mut elements, &order, marks)?;
     Ok(elements)
 }

@@ -6,7 +6,7 @@ ghost use Rattle.redraw_report.specs.Report.{edited_of, more_parts, offered, off
 ghost use Rattle.redraw_report.specs.View.{edited_view, part_view};
 
 use crate::diagnostic::Severity;
-use crate::finding::{Change, Content, Offer, Shown};
+use crate::finding::{Change, Content, Offer};
 use crate::titles::level_of;
 use snippet_model::{Element, Patch, Snippet};
 use snippet_text::CowStr;
@@ -36,20 +36,18 @@ fn patches_of<'a>(alloc: Global, changes: &[Change<'a>]) -> Result<Vec<Patch<'a>
     Ok(patches)
 }
 
-/// Adds lines with the edits of an offer; nothing where there are none.
-fn add_edits<'a>(
+/// Adds what is drawn of an offer: the lines of its source with its edits; nothing where there are none.
+fn add_offer<'a>(
     alloc: Global,
     elements: &mut Vec<Element<'a>>,
-    shown: &Shown<'a>,
     offer: &Offer<'a>,
 ) -> Result<(), AllocError>
-    ensures added { OnOk result (map part_view elements.new.items
-        ≡ map part_view elements.old.items ++ spec.offer_parts offer.now shown.now) }
+    ensures added { OnOk result (map part_view elements.new.items ≡ map part_view elements.old.items ++ offered offer.now) }
 {
-    if let Content::Lines { text, first_line } = shown.content {
+    if let Content::Lines { text, first_line } = offer.source.content {
         let markers = patches_of(alloc, &offer.changes)?;
         elements.push(Element::Suggestion(Snippet {
-            path: Some(CowStr::Borrowed(shown.path)),
+            path: Some(CowStr::Borrowed(offer.source.path)),
             line_start: first_line,
             source: CowStr::Borrowed(text),
             markers,
@@ -60,34 +58,17 @@ fn add_edits<'a>(
     Ok(())
 }
 
-/// Adds what is drawn of an offer.
-fn add_offer<'a>(
-    alloc: Global,
-    elements: &mut Vec<Element<'a>>,
-    sources: &[Shown<'a>],
-    offer: &Offer<'a>,
-) -> Result<(), AllocError>
-    ensures added { OnOk result (map part_view elements.new.items
-        ≡ map part_view elements.old.items ++ offered sources.now offer.now) }
-{
-    match sources.get(offer.source) {
-        Some(shown) => add_edits(alloc, elements, shown, offer),
-        None => Ok(()),
-    }
-}
-
 /// Adds what is drawn of some offers, one below the other.
 fn add_each_offer<'a>(
     alloc: Global,
     elements: &mut Vec<Element<'a>>,
-    sources: &[Shown<'a>],
     offers: &[Offer<'a>],
 ) -> Result<(), AllocError>
     ensures added { OnOk result (map part_view elements.new.items
-        ≡ map part_view elements.old.items ++ flat_map (offered sources.now) offers.now) }
+        ≡ map part_view elements.old.items ++ flat_map offered offers.now) }
 {
     for offer in offers {
-        add_offer(alloc, elements, sources, offer)?;
+        add_offer(alloc, elements, offer)?;
     }
     Ok(())
 }
@@ -123,13 +104,12 @@ fn add_more<'a>(
 pub fn add_offers<'a>(
     alloc: Global,
     elements: &mut Vec<Element<'a>>,
-    sources: &[Shown<'a>],
     offers: &[Offer<'a>],
 ) -> Result<(), AllocError>
     ensures added { OnOk result (map part_view elements.new.items
-        ≡ map part_view elements.old.items ++ offers_parts sources.now offers.now) }
+        ≡ map part_view elements.old.items ++ offers_parts offers.now) }
 {
     let count = offers.len().min(SHOWN_OFFERS);
-    add_each_offer(alloc, elements, sources, &offers[..count])?;
+    add_each_offer(alloc, elements, &offers[..count])?;
     add_more(alloc, elements, offers.len() - count)
 }

@@ -5,7 +5,7 @@ ghost use Rattle.redraw_report.specs.Report as spec;
 ghost use Rattle.redraw_report.specs.Report.{headed_of, marked_parts, offers_parts, remark_section, report_of, section_of, sections_from};
 ghost use Rattle.redraw_report.specs.View.{headed_view, part_view, section_view};
 
-use crate::finding::{Finding, Remark, Shown};
+use crate::finding::{Finding, Remark};
 use crate::marks::marked_elements;
 use crate::offers::add_offers;
 use crate::titles::{message_of, remark_title, title_of};
@@ -26,40 +26,37 @@ fn group_of<'a>(title: Title<'a>, elements: Vec<Element<'a>>) -> Group<'a>
 /// The group of a remark that has places or edits.
 fn remark_group<'a>(
     alloc: Global,
-    sources: &[Shown<'a>],
     remark: &Remark<'a>,
 ) -> Result<Group<'a>, AllocError>
-    ensures value { IfOk result (λ group. section_view group ≡ remark_section sources.now remark.now) }
+    ensures value { IfOk result (λ group. section_view group ≡ remark_section remark.now) }
 {
     let title = remark_title(alloc, remark)?;
-    let elements = remark_elements(alloc, sources, remark)?;
+    let elements = remark_elements(alloc, remark)?;
     Ok(group_of(title, elements))
 }
 
 /// What stands below the title of such a remark: its places, and the edits that it offers.
 fn remark_elements<'a>(
     alloc: Global,
-    sources: &[Shown<'a>],
     remark: &Remark<'a>,
 ) -> Result<Vec<Element<'a>>, AllocError>
     ensures value { IfOk result (λ elements. map part_view elements.items
-        ≡ marked_parts sources.now remark.now.marks.items ++ offers_parts sources.now remark.now.offers.items) }
+        ≡ marked_parts remark.now.marks.items ++ offers_parts remark.now.offers.items) }
 {
-    let mut elements = marked_elements(alloc, sources, &remark.marks)?;
-    add_offers(alloc, &mut elements, sources, &remark.offers)?;
+    let mut elements = marked_elements(alloc, &remark.marks)?;
+    add_offers(alloc, &mut elements, &remark.offers)?;
     Ok(elements)
 }
 
 /// The group of a finding itself.
 fn first_group<'a>(
     alloc: Global,
-    sources: &[Shown<'a>],
     finding: &Finding<'a>,
 ) -> Result<Group<'a>, AllocError>
     ensures value { IfOk result (λ group.
-        section_view group ≡ section_of (headed_of finding.now) (marked_parts sources.now finding.now.marks.items)) }
+        section_view group ≡ section_of (headed_of finding.now) (marked_parts finding.now.marks.items)) }
 {
-    let elements = marked_elements(alloc, sources, &finding.marks)?;
+    let elements = marked_elements(alloc, &finding.marks)?;
     Ok(group_of(title_of(finding), elements))
 }
 
@@ -88,18 +85,17 @@ fn add_remark<'a>(
     alloc: Global,
     groups: &mut Vec<Group<'a>>,
     group: Group<'a>,
-    sources: &[Shown<'a>],
     remark: &Remark<'a>,
 ) -> Result<Group<'a>, AllocError>
     ensures taken { IfOk result (λ g. (rest : List Remark)
-        → map section_view groups.new.items ++ sections_from sources.now (section_view g) rest
-        ≡ map section_view groups.old.items ++ sections_from sources.now (section_view group.entry) (remark.now ∷ rest)) }
+        → map section_view groups.new.items ++ sections_from (section_view g) rest
+        ≡ map section_view groups.old.items ++ sections_from (section_view group.entry) (remark.now ∷ rest)) }
 {
     if is_bare(remark) {
         with_message(alloc, group, remark)
     } else {
         groups.push(group)?;
-        remark_group(alloc, sources, remark)
+        remark_group(alloc, remark)
     }
 }
 
@@ -108,29 +104,27 @@ fn add_remarks<'a>(
     alloc: Global,
     groups: &mut Vec<Group<'a>>,
     mut group: Group<'a>,
-    sources: &[Shown<'a>],
     remarks: &[Remark<'a>],
 ) -> Result<Group<'a>, AllocError>
     ensures taken { IfOk result (λ g. map section_view groups.new.items ++ section_view g ∷ []
-        ≡ map section_view groups.old.items ++ sections_from sources.now (section_view group.entry) remarks.now) }
+        ≡ map section_view groups.old.items ++ sections_from (section_view group.entry) remarks.now) }
 {
     for remark in remarks {
-        group = add_remark(alloc, groups, group, sources, remark)?;
+        group = add_remark(alloc, groups, group, remark)?;
     }
     Ok(group)
 }
 
-/// The report of a finding, whose places are in these sources.
+/// The report of a finding.
 pub fn report<'a>(
     alloc: Global,
-    sources: &[Shown<'a>],
     finding: &Finding<'a>,
 ) -> Result<Vec<Group<'a>>, AllocError>
-    ensures told { IfOk result (λ groups. map section_view groups.items ≡ report_of sources.now finding.now) }
+    ensures told { IfOk result (λ groups. map section_view groups.items ≡ report_of finding.now) }
 {
     let mut groups = Vec::new(alloc);
-    let first = first_group(alloc, sources, finding)?;
-    let last = add_remarks(alloc, &mut groups, first, sources, &finding.remarks)?;
+    let first = first_group(alloc, finding)?;
+    let last = add_remarks(alloc, &mut groups, first, &finding.remarks)?;
     groups.push(last)?;
     Ok(groups)
 }

@@ -9,23 +9,22 @@ use Rattle.redraw_command.specs.Tally.{one_more, tallied}
 use Rattle.redraw_command.specs.declared.choice.Form.{Form}
 use Rattle.redraw_command.specs.declared.choice.Form.TheVariants.{Report, Workflow}
 use Rattle.redraw_command.specs.declared.tally.Tally.{Tally}
-use Rattle.redraw_read.specs.Told.{FindingTells}
+use Rattle.redraw_read.specs.Placed.{IsFindingOf, home_of}
+use Rattle.redraw_read.specs.declared.sources.File.{File}
 use Rattle.redraw_report.specs.Report.{report_of}
 use Rattle.redraw_report.specs.View.{section_view}
 use Rattle.redraw_report.specs.declared.diagnostic.Diagnostic.{Diagnostic}
 use Rattle.redraw_report.specs.declared.diagnostic.Severity.{Severity}
 use Rattle.redraw_report.specs.declared.diagnostic.Severity.TheVariants.{Error, Warning, Info, Note, Help, Plain}
 use Rattle.redraw_report.specs.declared.finding.Finding.{Finding}
-use Rattle.redraw_report.specs.declared.finding.Shown.{Shown}
 
--- the text shows, in the renderer's settings and under its sheet, the report of a finding in some sources, and that finding tells what the
--- diagnostic reports
-pub record ShowsFinding (r : Renderer) (d : Diagnostic) (text : List ℕ) : Type 0 where
-  pub sources : List Shown
+-- the text shows, in the renderer's settings and under its sheet, the report of the finding that the diagnostic reports, its places
+-- looked for in these files
+pub record ShowsFinding (r : Renderer) (files : List File) (d : Diagnostic) (text : List ℕ) : Type 0 where
   pub finding : Finding
-  pub tells : FindingTells d finding
+  pub is : IsFindingOf record { files = files; home = home_of d.homes.items; is_short = r.short_message } d finding
   pub groups : List Group
-  pub told : map section_view groups ≡ report_of sources finding
+  pub told : map section_view groups ≡ report_of finding
   pub shows : ShowsReport r groups r.stylesheet text
 
 -- what stands after a report: an empty line, but nothing in the short form, and nothing after a text without a level
@@ -46,9 +45,9 @@ abbrev pub IsLeftOut : Tally → Tally → Type 0
 IsLeftOut old new = new ≡ record old { wrong = one_more old.wrong }
 
 -- a finding is drawn as a report: to what a writer held, a text that shows it is added, and what stands after it; and it is counted
-pub record IsDrawn (r : Renderer) (d : Diagnostic) (old new : Option (List ℕ)) (before after : Tally) : Type 0 where
+pub record IsDrawn (r : Renderer) (files : List File) (d : Diagnostic) (old new : Option (List ℕ)) (before after : Tally) : Type 0 where
   pub text : List ℕ
-  pub shows : ShowsFinding r d text
+  pub shows : ShowsFinding r files d text
   pub written : Appends old new (text ++ (ending_after r.short_message d.severity ++ 10 ∷ []))
   pub counted : IsCounted d before after
 
@@ -60,6 +59,6 @@ pub record IsCommanded (d : Diagnostic) (old new : Option (List ℕ)) (before af
 
 -- what becomes of a finding, by the form that is asked for. As a report it is drawn, or left out: then nothing is written (Same), and
 -- it is counted as left out. As a command it is written, or is none: then nothing is written, and nothing counted
-abbrev pub Draws : Form → Renderer → Diagnostic → Option (List ℕ) → Option (List ℕ) → Type 0 → Tally → Tally → Type 0
-Draws Report r d old new Same before after = IsDrawn r d old new before after ⊎ (Same × IsLeftOut before after)
-Draws Workflow r d old new Same before after = IsCommanded d old new before after ⊎ (Same × (after ≡ before))
+abbrev pub Draws : Form → Renderer → List File → Diagnostic → Option (List ℕ) → Option (List ℕ) → Type 0 → Tally → Tally → Type 0
+Draws Report r files d old new Same before after = IsDrawn r files d old new before after ⊎ (Same × IsLeftOut before after)
+Draws Workflow r files d old new Same before after = IsCommanded d old new before after ⊎ (Same × (after ≡ before))

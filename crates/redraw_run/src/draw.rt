@@ -143,8 +143,9 @@ impl<S: Shelf + Drop> Drawing<'_, S> {
         out: &mut W,
         err: &mut V,
     ) -> Result<(), Stop>
-        ensures draws { OnOk result (Draws self.old.choice.form self.old.renderer diagnostic.now
-            (W.contents out.old) (W.contents out.new) (out.new ≡ out.old) self.old.tally self.new.tally) }
+        ensures draws { OnOk result (Draws self.old.choice.form self.old.renderer self.new.sources.files.items
+            diagnostic.now (W.contents out.old) (W.contents out.new) (out.new ≡ out.old)
+            self.old.tally self.new.tally) }
         ensures kept { (self.new.renderer ≡ self.old.renderer) × (self.new.choice ≡ self.old.choice) }
     {
         match self.choice.form {
@@ -160,7 +161,7 @@ impl<S: Shelf + Drop> Drawing<'_, S> {
         out: &mut W,
         err: &mut V,
     ) -> Result<(), Stop>
-        ensures draws { OnOk result (Draws Report self.old.renderer diagnostic.now
+        ensures draws { OnOk result (Draws Report self.old.renderer self.new.sources.files.items diagnostic.now
             (W.contents out.old) (W.contents out.new) (out.new ≡ out.old) self.old.tally self.new.tally) }
         ensures kept { (self.new.renderer ≡ self.old.renderer) × (self.new.choice ≡ self.old.choice) }
     {
@@ -173,7 +174,7 @@ impl<S: Shelf + Drop> Drawing<'_, S> {
 
     /// Draws it as a workflow command, if it is one.
     fn draw_command<W: Write>(&mut self, diagnostic: &Diagnostic, out: &mut W) -> Result<(), Stop>
-        ensures draws { OnOk result (Draws Workflow self.old.renderer diagnostic.now
+        ensures draws { OnOk result (Draws Workflow self.old.renderer self.new.sources.files.items diagnostic.now
             (W.contents out.old) (W.contents out.new) (out.new ≡ out.old) self.old.tally self.new.tally) }
         ensures kept { (self.new.renderer ≡ self.old.renderer) × (self.new.choice ≡ self.old.choice) }
     {
@@ -189,6 +190,7 @@ impl<S: Shelf + Drop> Drawing<'_, S> {
     /// Tells which files couldn't be read, each once.
     fn tell_unread<V: Write>(&mut self, err: &mut V)
         ensures kept { (self.new.renderer ≡ self.old.renderer) × (self.new.choice ≡ self.old.choice) × (self.new.tally ≡ self.old.tally) }
+        ensures files { self.new.sources.files ≡ self.old.sources.files }
     {
         for name in self.sources.take_unread() {
             let what = "--root names the folder that paths begin in";
@@ -222,6 +224,7 @@ impl<S: Shelf + Drop> Drawing<'_, S> {
         ensures untold { OnOk result (IfOk text (λ t. err.new ≡ err.old)) }
         ensures left_out { OnOk result (IfErr text (λ e. (out.new ≡ out.old) × IsLeftOut self.old.tally self.new.tally)) }
         ensures kept { (self.new.renderer ≡ self.old.renderer) × (self.new.choice ≡ self.old.choice) }
+        ensures files { self.new.sources.files ≡ self.old.sources.files }
     {
         match text {
             Ok(text) => {
@@ -251,6 +254,7 @@ impl<S: Shelf + Drop> Drawing<'_, S> {
     fn count(&mut self, diagnostic: &Diagnostic) -> Result<(), AllocError>
         ensures counted { OnOk result (IsCounted diagnostic.now self.old.tally self.new.tally) }
         ensures kept { (self.new.renderer ≡ self.old.renderer) × (self.new.choice ≡ self.old.choice) }
+        ensures files { self.new.sources.files ≡ self.old.sources.files }
     {
         add_files(&mut self.files, &diagnostic.spans)?;
         self.tally = self.tally.with(diagnostic.severity, is_sum(diagnostic));

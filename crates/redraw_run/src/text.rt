@@ -31,11 +31,11 @@ pub fn drawn_of<S: Shelf + Drop>(
     diagnostic: &Diagnostic,
 ) -> Result<Drawn, AllocError>
     ensures shows { IfOk result (λ drawn. IfOk drawn.text (λ text.
-        ShowsFinding renderer.now diagnostic.now (string_bytes text))) }
+        ShowsFinding renderer.now sources.now.files.items diagnostic.now (string_bytes text))) }
 {
-    let mut placing = Placing::new(alloc, renderer.short_message);
-    let finding = placing.finding(sources, diagnostic)?;
-    let groups = report(alloc, &placing.shown, &finding)?;
+    let mut placing = Placing::new(alloc);
+    let finding = placing.finding(sources, diagnostic, renderer.short_message)?;
+    let groups = report(alloc, &finding)?;
     Ok(Drawn {
         text: render_fitting(alloc, renderer, &groups),
         clamped: placing.clamped,

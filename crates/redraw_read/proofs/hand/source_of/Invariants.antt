@@ -1,5 +1,5 @@
 use Rattle.std.proofs.Common.{◌≡◌, drop}
-use Rattle.redraw_read.specs.Placed.{text_of}
+use Rattle.redraw_read.specs.Extract.{text_of}
 use Rattle.redraw_read.proofs.hand.source_of.Given as goal
 
 -- none of the files so far is the one

@@ -8,14 +8,13 @@ use Rattle.redraw_report.proofs.report.add_remark.Goals as goal
 
 pub returns-in_ok-push : goal.returns-in_ok-push
 returns-in_ok-push c =
-    let shown = c.args.sources.now in
     let old = c.args.groups.now.items in
     let new = c.push.new.self.items in
     let last = c.args.group in
     let r = c.args.remark.now in
     record {
-      taken = IfOk-weaker c.remark_group.result (λ g. section_view g ≡ remark_section shown r)
-          (λ g. (rest : List Remark) → map section_view new ++ sections_from shown (section_view g) rest
-          ≡ map section_view old ++ sections_from shown (section_view last) (r ∷ rest))
-          (λ g is. own-group shown old new last g r c.in_ok-push.ensures.items (sym c.is_bare.ensures.value ∙ c.if-is_bare.false) is) c.remark_group.ensures.value;
+      taken = IfOk-weaker c.remark_group.result (λ g. section_view g ≡ remark_section r)
+          (λ g. (rest : List Remark) → map section_view new ++ sections_from (section_view g) rest
+          ≡ map section_view old ++ sections_from (section_view last) (r ∷ rest))
+          (λ g is. own-group old new last g r c.in_ok-push.ensures.items (sym c.is_bare.ensures.value ∙ c.if-is_bare.false) is) c.remark_group.ensures.value;
     }

@@ -10,11 +10,10 @@ returns g c =
     record {
       shows =
           IfOk-weaker c.render_fitting.result (λ text. ShowsReport r c.in_ok-groups.groups.items r.stylesheet (string_bytes text))
-          (λ text. ShowsFinding r c.args.diagnostic.now (string_bytes text))
+          (λ text. ShowsFinding r c.args.sources.now.files.items c.args.diagnostic.now (string_bytes text))
           (λ text shown. record {
-            sources = _;
             finding = c.in_ok-finding.finding;
-            tells = c.in_ok-finding.ensures.tells;
+            is = c.in_ok-finding.ensures.is;
             groups = c.in_ok-groups.groups.items;
             told = c.in_ok-groups.ensures.told;
             shows = shown;

@@ -1,0 +1,85 @@
+-- Edits at spots, one after another, and the line around a spot.
+use Rattle.std.proofs.Common.{◌≡◌, ◌≢◌, ◌⊎◌, ℕ, zero, suc, ◌+◌, ◌<◌, ◌≤◌, List, [], ◌∷◌, ◌++◌, Option, Some, None, drop, take, get_or, get_or-drop, length, length-append, length-drop, slice_get, refl, sym, ap, ◌∙◌, subst, arith, inl, inr, append-nil}
+use Rattle.std.specs.Borrow.{Bor}
+use Rattle.std.specs.List.{HoldsAt}
+use Rattle.std.specs.Option.{MatchOption, option_map}
+use Rattle.std.proofs.lemmas.Option.{slice_get_past, slice_get_read}
+use Rattle.std.proofs.Math.Seq.{get_or-append_seam, take-suc}
+use Rattle.std.proofs.lemmas.Bool.{cases_lt}
+use Rattle.std.proofs.lemmas.List.{at_drop_more, get_or-take, length-take-le}
+use Rattle.std.proofs.lemmas.List.Elements.{All-from_get_or}
+use Rattle.redraw_report.specs.declared.diagnostic.Edit.{Edit}
+use Rattle.redraw_read.specs.Placed.{HasNoFeed, IsLastStart, IsLineIn, edit_at, edits_at}
+use Rattle.redraw_read.specs.declared.spot.Spot.{Spot}
+
+-- without spots there are no edits
+edits-nowhere : (es : List Edit) → edits_at [] es ≡ []
+edits-nowhere [] = refl
+edits-nowhere (e ∷ es) = refl
+
+-- an edit at the spot that comes next, and the others at those after it
+edits-cons : (spots : List Spot) (i : ℕ) (e : Edit) (es : List Edit)
+    → edits_at (drop i spots) (e ∷ es) ≡ edit_at (slice_get spots i) e ++ edits_at (drop (suc i) spots) es
+edits-cons [] zero e es = sym (edits-nowhere es)
+edits-cons [] (suc i) e es = sym (edits-nowhere es)
+edits-cons (s ∷ spots) zero e es = refl
+edits-cons (s ∷ spots) (suc i) e es = edits-cons spots i e es
+
+-- the edits that are left are the next and those after it
+pub edits-next : (spots : List Spot) (edits : List Edit) (i : ℕ) (e : Edit) → i < length edits → e ≡ get_or edits i e
+    → edits_at (drop i spots) (drop i edits) ≡ edit_at (slice_get spots i) e ++ edits_at (drop (i + 1) spots) (drop (i + 1) edits)
+edits-next spots edits i e within is =
+    let count : suc i ≡ i + 1 = omega arith in
+    at_drop_more (edits_at (drop i spots)) edits i e within
+    ∙ ap (λ (x : Edit). edits_at (drop i spots) (x ∷ drop (i + 1) edits)) (sym is)
+    ∙ edits-cons spots i e (drop (i + 1) edits)
+    ∙ ap (λ n. edit_at (slice_get spots i) e ++ edits_at (drop n spots) (drop (i + 1) edits)) count
+
+-- what is looked up at an index is the element there
+pub looked-up : (spots : List Spot) (i : ℕ) (r : Option (Bor Spot))
+    → MatchOption r (length spots ≤ i) (λ x. (i < length spots) × HoldsAt (λ (y : Spot). x.now ≡ y) spots i)
+    → option_map (λ (s : Bor Spot). s.now) r ≡ slice_get spots i
+looked-up spots i None past = sym (slice_get_past spots i past)
+looked-up spots i (Some x) h = sym (slice_get_read spots (length spots) i x.now refl h.0 (h.1 x.now))
+
+-- after the last line feed of a text its last line starts
+pub start-after : (text : List ℕ) (feed : ℕ)
+    → (feed < length text) × (get_or text feed 0 ≡ 10) × ((i : ℕ) → feed < i → i < length text → get_or text i 0 ≢ 10) → IsLastStart text (feed + 1)
+start-after text feed h =
+    let count : feed + 1 ≡ suc feed = omega arith in
+    record {
+      within = omega (arith, h.0);
+      starts =
+          inr (
+            take feed text,
+            ap (λ n. take n text) count ∙ take-suc text feed 0 h.0 ∙ ap (λ b. take feed text ++ b ∷ []) h.1,
+          );
+      last =
+          All-from_get_or (λ b. b ≢ 10) (drop (feed + 1) text) 0
+          (λ i less same. h.2 (feed + 1 + i) (omega arith) (omega (arith, less, length-drop (feed + 1) text))
+          (sym (get_or-drop (feed + 1) text i 0) ∙ same));
+    }
+
+-- no line feed stands between where the last line of a text up to a byte starts and that byte: so the byte is in the line, or at its end
+pub reaches : (text : List ℕ) (at start : ℕ) (line : List ℕ) → at ≤ length text → start ≤ at → HasNoFeed (drop start (take at text))
+    → IsLineIn (drop start text) line [] → at ≤ start + length line
+reaches text at start line within from none is = by_cases (cases_lt (start + length line) at)
+  where
+    k : ℕ
+    k = length line
+
+    fed : start + k < at → (after : List ℕ) → drop start text ≡ line ++ after → (after ≡ []) ⊎ ((rest : List ℕ) × (after ≡ 10 ∷ rest)) → ⊥
+    fed less after cut (inl nothing) =
+        let all : length (drop start text) ≡ length line + length after = ap length cut ∙ length-append line after in
+        let zero_after : length after ≡ 0 = ap length nothing in
+        omega (arith, all, zero_after, length-drop start text)
+    fed less after cut (inr begun) =
+        let feed : get_or (drop start text) k 0 ≡ 10 =
+        ap (λ l. get_or l k 0) (cut ∙ ap (λ a. line ++ a) begun.1) ∙ get_or-append_seam line 10 begun.0 0 in
+        let same : get_or (drop start (take at text)) k 0 ≡ 10 =
+        get_or-drop start (take at text) k 0 ∙ get_or-take at text (start + k) 0 less ∙ sym (get_or-drop start text k 0) ∙ feed in
+        none k 0 (omega (arith, length-drop start (take at text), length-take-le at text within)) same
+
+    by_cases : (start + length line < at) ⊎ (at ≤ start + length line) → at ≤ start + length line
+    by_cases (inl less) = absurd (fed less is.after is.is is.ends)
+    by_cases (inr done) = done
