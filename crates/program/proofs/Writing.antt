@@ -1,8 +1,8 @@
 -- What writes add, one after another.
-use Rattle.std.proofs.Common.{◌≡◌, ℕ, ◌-◌, ◌<◌, ◌==◌, ◌⊎◌, inl, inr, List, [], ◌∷◌, ◌++◌, zero, suc, Bool, true, false, Option, Some, None, arith, length, take, drop, refl, sym, ap, ◌∙◌, subst, append_assoc, append-nil, length-append, take-append-drop}
+use Rattle.std.proofs.Common.{◌≡◌, ℕ, ◌-◌, ◌<◌, ◌==◌, List, [], ◌∷◌, ◌++◌, zero, suc, false, Option, Some, None, arith, length, take, drop, refl, sym, ap, ◌∙◌, subst, append_assoc, append-nil, length-append, take-append-drop}
 use Rattle.std.proofs.Math.Seq.{take-append_seam}
 use Rattle.std.proofs.lemmas.List.{take-append-le, take_rest}
-use Rattle.std.specs.Bool.{OnFalse, OnTrue}
+use Rattle.std.specs.Prelude.{OnErr, Result, Ok, Err}
 use Rattle.std.specs.Io.KnownBytes.{Appends, Keeps}
 use Rattle.program.specs.Stream.{AppendsPart, line_of}
 
@@ -61,24 +61,11 @@ text_of_line a b c text added part =
     let kept : Keeps b c = none_kept b c (subst (λ n. Appends b c (take n (10 ∷ []))) none part.appended) in
     part_of a b c (line_of text) text (10 ∷ []) refl (omega arith) added kept
 
--- where one of two things holds by a test, it is enough to show the other where the test fails
-pub unless_true : (b : Bool) (P : Type 0) → (b ≡ false → P) → OnFalse b P
-unless_true true P holds = tt
-unless_true false P holds = holds refl
-
-pub on_false : (b : Bool) (P Q : Type 0) → OnFalse b P → (P → Q) → OnFalse b Q
-on_false true P Q holds gives = tt
-on_false false P Q holds gives = gives holds
+-- what holds anyway holds where a result is an error
+pub anyway : {T E P : Type 0} (r : Result T E) → P → OnErr r P
+anyway (Ok x) h = tt
+anyway (Err e) h = h
 
 pub some_left : (n : ℕ) → (n == 0) ≡ false → 0 < n
 some_left zero none = cc
 some_left (suc n) none = omega arith
-
-pub on_true : (b : Bool) (P Q : Type 0) → OnTrue b P → (P → Q) → OnTrue b Q
-on_true true P Q holds gives = gives holds
-on_true false P Q holds gives = tt
-
--- where one holds on a test and the other where it fails, one of them holds
-pub one_of : (b : Bool) (P Q : Type 0) → OnTrue b P → OnFalse b Q → P ⊎ Q
-one_of true P Q holds fails = inl holds
-one_of false P Q holds fails = inr fails

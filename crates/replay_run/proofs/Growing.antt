@@ -1,7 +1,9 @@
 -- A writer that grows twice has grown.
-use Rattle.std.proofs.Common.{◌≡◌, ℕ, ◌-◌, List, [], ◌++◌, Option, Some, None, ap, sym, ◌∙◌, append_assoc, length, take, drop, take-append-drop}
+use Rattle.std.proofs.Common.{List, ℕ, [], ◌++◌, Option, Some, None, ap, sym, ◌∙◌, append_assoc, take, drop, take-append-drop}
 use Rattle.std.specs.Io.KnownBytes.{Appends, Keeps}
-use Rattle.std.proofs.lemmas.List.{append-nil, take_rest}
+use Rattle.std.proofs.lemmas.List.{append-nil}
+use Rattle.program.specs.Stream.{AppendsPart}
+use Rattle.replay_run.specs.Answered.{AppendsFirst}
 use Rattle.replay_run.specs.Growth.{Grows}
 
 -- what grows and grows again has grown
@@ -36,7 +38,12 @@ appends_kept (Some x) None c text one kept = absurd one
 appends_kept (Some x) (Some y) None text one kept = absurd kept
 appends_kept (Some x) (Some y) (Some z) text one kept = kept ∙ one
 
--- what was to be written is what is written and the rest, of which more is written
-pub moves_front : (all done rest : List ℕ) (n : ℕ) → all ≡ done ++ rest → all ≡ (done ++ take n rest) ++ take (length rest - n) (drop n rest)
-moves_front all done rest n e =
-    e ∙ ap (λ (l : List ℕ). done ++ l) (sym (take-append-drop n rest)) ∙ sym (append_assoc done (take n rest) (drop n rest)) ∙ ap (λ (l : List ℕ). (done ++ take n rest) ++ l) (sym (take_rest rest n))
+-- a first part that isn't all is a first part
+pub first_part : (old new : Option (List ℕ)) (bytes : List ℕ) → AppendsPart old new bytes → AppendsFirst old new bytes
+first_part old new bytes h =
+    record {
+      part = take h.count bytes;
+      rest = drop h.count bytes;
+      split = sym (take-append-drop h.count bytes);
+      added = h.appended;
+    }

@@ -5,3 +5,4 @@ pub mod Commands
 pub mod Ending
 pub mod Growing
 pub mod Judging
+pub mod Telling

@@ -6,4 +6,5 @@ pub mod Expected
 pub mod Growth
 pub mod Judged
 pub mod Outcome
+pub mod Trouble
 pub mod Words

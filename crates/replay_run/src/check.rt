@@ -9,7 +9,7 @@ ghost use Rattle.replay_run.specs.Judged.{CountsLines, JudgesCase, JudgesLine, m
 use crate::expected::{Expected, expected_of, write_wanted};
 use crate::lines::{numbered_case, value_of, write_line, write_outcome};
 use crate::outcome::{Outcome, outcome_of};
-use crate::trouble::{Line, Trouble};
+use crate::trouble::{Line, Trouble, wrong_line};
 use serde_json::Value;
 use std::alloc::Global;
 use std::io;
@@ -115,7 +115,7 @@ fn numbered_answer<'v>(
 ) -> Result<Expected<'v>, Trouble>
     ensures value { IfOk result (IsExpectedOf (view value.now)) }
 {
-    expected_of(alloc, value).map_err(|fault| Trouble::Fault(Line::Expected(number), fault))
+    expected_of(alloc, value).map_err(|fault| wrong_line(Line::Expected(number), fault))
 }
 
 /// Whether the case of a line became what is expected; if not, it is written.

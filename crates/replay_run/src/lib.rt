@@ -13,4 +13,3 @@ pub mod repeat;
 pub mod run;
 pub mod spans;
 pub mod trouble;
-mod write;

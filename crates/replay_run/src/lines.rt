@@ -16,9 +16,9 @@ ghost use Rattle.replay_run.specs.declared.outcome.Outcome.{Outcome};
 use crate::case::Case;
 use crate::outcome::{Outcome, answer_of, outcome_of};
 use crate::read::case_of;
-use crate::trouble::{Line, Trouble};
-use crate::write::write_whole;
-use serde_json::Value;
+use crate::trouble::{Line, Trouble, wrong_line};
+use program::line::write_whole;
+use serde_json::{Error, Value};
 use std::alloc::{AllocError, Global};
 use std::io;
 use std::io::{BufRead, Write};
@@ -107,7 +107,7 @@ pub fn numbered_case<'v>(alloc: Global, value: &'v Value, number: u64) -> Result
     ensures value { IfOk result (IsCaseOf (view value.now)) }
     ensures fits { IfOk result (λ case. ReportFits case.groups.items) }
 {
-    case_of(alloc, value).map_err(|fault| Trouble::Fault(Line::Case(number), fault))
+    case_of(alloc, value).map_err(|fault| wrong_line(Line::Case(number), fault))
 }
 
 /// What this line holds.
@@ -116,10 +116,19 @@ pub fn value_of(alloc: Global, line: Line, text: io::Result<String>) -> Result<V
 {
     match text {
         Ok(text) => {
-            Value::from_str(alloc, text.as_str()).map_err(|error| Trouble::NotJson(line, error))
+            Value::from_str(alloc, text.as_str()).map_err(|error| not_json(line, &error))
         }
         Err(error) if error.kind() == io::ErrorKind::InvalidData => Err(Trouble::NotText(line)),
         Err(error) => Err(Trouble::Read(error)),
+    }
+}
+
+/// The trouble with a line in which reading JSON met this.
+fn not_json(line: Line, error: &Error) -> Trouble {
+    if error.is_memory() {
+        Trouble::Memory
+    } else {
+        Trouble::NotJson(line, error.column(), error.is_eof())
     }
 }
 

@@ -1,35 +1,42 @@
 //! A run of the program: what its words ask for is done, and the status tells how it went.
 
-ghost use Rattle.std.specs.Prelude.{◌≡◌, ◌<◌, ◌≤◌, List, [], ◌∷◌, codes, length, IfOk, OnErr, OnOk};
+ghost use Rattle.std.specs.Prelude.{◌≡◌, ◌⊎◌, ℕ, ◌<◌, ◌≤◌, List, [], ◌∷◌, codes, length, IfOk, OnErr, OnOk, string_bytes};
 ghost use Rattle.std.specs.Io.Buffered.{reader_inner, reader_remaining};
 ghost use Rattle.std.specs.Io.KnownBytes.{Appends};
+ghost use Rattle.program.specs.Stream.{Receives};
 ghost use Rattle.replay_run.specs.Answered.{AnswersReader, AnswersReaders, StopsAt, StopsReaders};
 ghost use Rattle.replay_run.specs.Compared.{EndsComparison, count_line};
 ghost use Rattle.replay_run.specs.Growth.{Grows};
 ghost use Rattle.replay_run.specs.Judged.{CountsLines};
 ghost use Rattle.replay_run.specs.Answer.{line_of};
+ghost use Rattle.replay_run.specs.Trouble.{TellsMisuse, TellsStop, misuse_text, shown, stop_text};
 ghost use Rattle.replay_run.specs.Words.{Word, words_at, usage_text, AsksAnswers, IsCommandLine, IsComparison, IfAnswers, IfComparison, Compares};
 ghost use Rattle.replay_run.specs.declared.command.Command.{Command};
 ghost use Rattle.replay_run.specs.declared.command.Command.TheVariants.{Help};
 ghost use Rattle.replay_run.specs.declared.lines.Form.{Form};
+ghost use Rattle.replay_run.specs.declared.trouble.Trouble.{Trouble};
 
 use crate::check::{Counts, check_lines};
 use crate::command::{Command, command_of};
-use crate::lines::{Form, answer_lines, write_line};
-use crate::misuse::misuse_of;
+use crate::lines::{Form, answer_lines, write_line as write_answer_line};
+use crate::misuse::{Misuse, misuse_of};
 use crate::repeat::{Tally, repeat_lines, write_tally};
-use crate::trouble::Trouble;
+use crate::trouble::{Trouble, words_of};
 use annotate_snippets::text::normalize_untrusted_str;
+use program::line::write_line;
 use std::alloc::{AllocError, Global};
 use std::io::{BufReader, Write};
 use std::rt::{Clock, Files};
-use std::{fmt, fs, io};
+use std::{fs, io};
 
 /// How the words are to be written.
 const USAGE: &str = "usage: replay [--text] [FILE ..]
        replay --check EXPECTED FILE [EXPECTED FILE ..]
        replay --repeat N [FILE ..]
        replay --help";
+
+/// What is told where there is no memory to tell more.
+const OUT_OF_MEMORY: &str = "replay: out of memory";
 
 /// The status of a run that did all that was asked, and found nothing that differs.
 const DONE: u8 = 0;
@@ -43,14 +50,6 @@ const STOPPED: u8 = 2;
 struct Stop<'a> {
     file: &'a str,
     trouble: Trouble,
-}
-
-impl fmt::Display for Stop<'_> {
-    fn fmt<W: fmt::Write>(&self, f: &mut fmt::Formatter<W>) -> fmt::Result {
-        let file = self.file;
-        let trouble = &self.trouble;
-        write!(f, "replay: {file}: {trouble}")
-    }
 }
 
 /// What was tried with this file; trouble with it stops the run.
@@ -72,6 +71,8 @@ pub fn run<R: Files + Input + Clock + AllocGlobal, W: Write, V: Write>(
 ) -> u8
     ensures status { result ≤ 2 }
     ensures silent { result ≤ 1 → err.new ≡ err.old }
+    ensures told { result ≡ 2 → TellsMisuse (Receives V.contents err.old err.new)
+        ⊎ ((name : Word) × (trouble : Trouble) × TellsStop name trouble (Receives V.contents err.old err.new)) }
     ensures usage { (IsCommandLine (words_at words.now) → ⊥) → result ≡ 2 }
     ensures no_answer { (IsCommandLine (words_at words.now) → ⊥) → out.new ≡ out.old }
     ensures differs { result ≡ 1 → Compares (words_at words.now) }
@@ -91,14 +92,13 @@ pub fn run<R: Files + Input + Clock + AllocGlobal, W: Write, V: Write>(
         → Appends (W.contents out.old) (W.contents out.new) (line_of usage_text) }
 {
     let Some(command) = command_of(words) else {
-        let misuse = misuse_of(words);
-        tell(rt.alloc(), format_args!("replay: {misuse}\n{USAGE}"), err);
+        tell_misuse(rt.alloc(), misuse_of(words), err);
         return STOPPED;
     };
     match finish(rt, &command, out) {
         Ok(status) => status,
         Err(stop) => {
-            tell(rt.alloc(), &stop, err);
+            tell_stop(rt.alloc(), &stop, err);
             STOPPED
         }
     }
@@ -139,21 +139,43 @@ fn finish<'a, R: Files + Input + Clock + AllocGlobal, W: Write>(
     }
 }
 
-/// Writes a message, with nothing in it that could change how a terminal shows it.
-fn tell<V: Write, D: fmt::Display + Drop>(alloc: Global, message: D, err: &mut V) {
-    match shown(alloc, message) {
-        Ok(message) => {
-            let _ = err.writeln(message.as_str());
-        }
-        Err(AllocError) => {
-            let _ = err.writeln("replay: out of memory");
-        }
-    }
+/// Tells what is wrong with the words, or that there was no memory for that.
+fn tell_misuse<V: Write>(alloc: Global, misuse: Misuse<'_>, err: &mut V)
+    ensures told { TellsMisuse (Receives V.contents err.old err.new) }
+{
+    match misuse_message(alloc, misuse) {
+        Ok(message) => write_line(message.as_str(), err),
+        Err(AllocError) => write_line(OUT_OF_MEMORY, err),
+    };
 }
 
-/// A message as it may be shown.
-fn shown<D: fmt::Display + Drop>(alloc: Global, message: D) -> Result<String, AllocError> {
-    let message = format!(in alloc; "{message}")?;
+/// What is told of words that aren't of the form.
+fn misuse_message(alloc: Global, misuse: Misuse<'_>) -> Result<String, AllocError>
+    ensures message { IfOk result (λ text. (said : List ℕ) × (string_bytes text ≡ shown (misuse_text said))) }
+{
+    let said = format!(in alloc; "{misuse}")?;
+    let message = format!(in alloc; "replay: {said}\n{USAGE}")?;
+    normalize_untrusted_str(alloc, message.as_str())
+}
+
+/// Tells what stopped a run, or that there was no memory for that.
+fn tell_stop<V: Write>(alloc: Global, stop: &Stop<'_>, err: &mut V)
+    ensures told { TellsStop stop.now.file.now stop.now.trouble (Receives V.contents err.old err.new) }
+{
+    match stop_message(alloc, stop) {
+        Ok(message) => write_line(message.as_str(), err),
+        Err(AllocError) => write_line(OUT_OF_MEMORY, err),
+    };
+}
+
+/// What is told of what stopped a run.
+fn stop_message(alloc: Global, stop: &Stop<'_>) -> Result<String, AllocError>
+    ensures message { IfOk result (λ text. (said : List ℕ)
+        × (string_bytes text ≡ shown (stop_text stop.now.file.now stop.now.trouble said))) }
+{
+    let file = stop.file;
+    let words = words_of(alloc, &stop.trouble)?;
+    let message = format!(in alloc; "replay: {file}: {words}")?;
     normalize_untrusted_str(alloc, message.as_str())
 }
 
@@ -182,7 +204,10 @@ fn do_command<'a, R: Files + Input + Clock + AllocGlobal, W: Write>(
         Command::Check(files) => check(rt, files, out),
         Command::Repeat(times, files) => repeat(rt, times, files, out),
         Command::Help => {
-            or_stop(OUTPUT, write_line(USAGE, out).map_err(Trouble::Write))?;
+            or_stop(
+                OUTPUT,
+                write_answer_line(USAGE, out).map_err(Trouble::Write),
+            )?;
             Ok(DONE)
         }
     }

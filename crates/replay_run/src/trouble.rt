@@ -1,7 +1,10 @@
-//! What stops a run.
+//! What stops a run, and what is told of it.
+
+ghost use Rattle.std.specs.Prelude.{◌≡◌, ℕ, List, Some, IfOk, string_bytes};
+ghost use Rattle.replay_run.specs.Trouble.{json_text, line_text, trouble_text, unpaired_text};
 
 use json_node::fault::Fault;
-use std::alloc::{AllocError, AllocFailed};
+use std::alloc::{AllocError, AllocFailed, Global};
 use std::{fmt, io};
 
 /// What stops a run.
@@ -9,10 +12,10 @@ use std::{fmt, io};
 pub enum Trouble {
     /// A line isn't UTF-8.
     NotText(Line),
-    /// A line isn't valid JSON, or there was no memory to read it.
-    NotJson(Line, serde_json::Error),
-    /// A line describes no case, or no answer where one is expected.
-    Fault(Line, Fault),
+    /// A line isn't valid JSON from this column on, or it ends before it is.
+    NotJson(Line, usize, bool),
+    /// A line describes no case, or no answer where one is expected: what is wrong with it, in words.
+    Wrong(Line, String),
     /// At this line, counted from 1, there is a case or an expected answer, and not both.
     Unpaired(u64),
     /// There are more lines than can be counted.
@@ -48,41 +51,83 @@ impl<T: Drop> From<AllocFailed<T>> for Trouble {
     }
 }
 
-impl fmt::Display for Trouble {
-    fn fmt<W: fmt::Write>(&self, f: &mut fmt::Formatter<W>) -> fmt::Result {
-        match self {
-            Trouble::NotText(line) => write!(f, "{line}: not valid UTF-8"),
-            Trouble::NotJson(_, error) if error.is_memory() => write!(f, "out of memory"),
-            Trouble::NotJson(line, error) => {
-                let column = error.column();
-                let ending = if error.is_eof() {
-                    ": it ends too early"
-                } else {
-                    ""
-                };
-                write!(f, "{line}, column {column}: not valid JSON{ending}")
-            }
-            Trouble::Fault(line, fault) => write!(f, "{line}: {fault}"),
-            Trouble::Unpaired(line) => {
-                write!(
-                    f,
-                    "line {line}: a case without an expected answer, or an answer without a case"
-                )
-            }
-            Trouble::TooManyLines => write!(f, "too many lines"),
-            Trouble::Read(error) => write!(f, "cannot read: {error}"),
-            Trouble::Clock(error) => write!(f, "cannot read the clock: {error}"),
-            Trouble::Write(error) => write!(f, "cannot write: {error}"),
-            Trouble::Memory => write!(f, "out of memory"),
-        }
-    }
-}
-
 impl fmt::Display for Line {
+    ghost output = { λ line. Some (line_text line) };
+
     fn fmt<W: fmt::Write>(&self, f: &mut fmt::Formatter<W>) -> fmt::Result {
         match self {
             Line::Case(number) => write!(f, "line {number}"),
             Line::Expected(number) => write!(f, "line {number} of what is expected"),
         }
     }
+}
+
+/// The trouble with a line of which this is wrong.
+pub fn wrong_line(line: Line, fault: Fault) -> Trouble {
+    match fault {
+        Fault::Wrong(words) => Trouble::Wrong(line, words),
+        Fault::Memory => Trouble::Memory,
+    }
+}
+
+/// What is told of trouble.
+pub fn words_of(alloc: Global, trouble: &Trouble) -> Result<String, AllocError>
+    ensures words { IfOk result (λ text. (said : List ℕ) × (string_bytes text ≡ trouble_text trouble.now said)) }
+{
+    let said = said_of(alloc, trouble)?;
+    words_with(alloc, trouble, said.as_str())
+}
+
+/// What the system says of trouble with it.
+fn said_of(alloc: Global, trouble: &Trouble) -> Result<String, AllocError> {
+    match trouble {
+        Trouble::Read(error) | Trouble::Clock(error) | Trouble::Write(error) => {
+            format!(in alloc; "{error}")
+        }
+        _ => Ok(String::new(alloc)),
+    }
+}
+
+/// What is told of trouble, where this is what the system says of it.
+fn words_with(alloc: Global, trouble: &Trouble, said: &str) -> Result<String, AllocError>
+    ensures words { IfOk result (λ text. string_bytes text ≡ trouble_text trouble.now said.now) }
+{
+    match trouble {
+        Trouble::NotText(line) => format!(in alloc; "{line}: not valid UTF-8"),
+        Trouble::NotJson(line, column, ends_early) => {
+            json_words(alloc, *line, *column, *ends_early)
+        }
+        Trouble::Wrong(line, words) => format!(in alloc; "{line}: {words}"),
+        Trouble::Unpaired(number) => unpaired_words(alloc, *number),
+        Trouble::TooManyLines => format!(in alloc; "too many lines"),
+        Trouble::Read(_) => format!(in alloc; "cannot read: {said}"),
+        Trouble::Clock(_) => format!(in alloc; "cannot read the clock: {said}"),
+        Trouble::Write(_) => format!(in alloc; "cannot write: {said}"),
+        Trouble::Memory => format!(in alloc; "out of memory"),
+    }
+}
+
+/// What is told of a line that isn't valid JSON.
+fn json_words(
+    alloc: Global,
+    line: Line,
+    column: usize,
+    ends_early: bool,
+) -> Result<String, AllocError>
+    ensures words { IfOk result (λ text. string_bytes text ≡ json_text line column ends_early) }
+{
+    if ends_early {
+        format!(in alloc; "{line}, column {column}: not valid JSON: it ends too early")
+    } else {
+        format!(in alloc; "{line}, column {column}: not valid JSON")
+    }
+}
+
+/// What is told of a line that stands alone where there are to be two.
+fn unpaired_words(alloc: Global, number: u64) -> Result<String, AllocError>
+    ensures words { IfOk result (λ text. string_bytes text ≡ unpaired_text number) }
+{
+    format!(in alloc;
+        "line {number}: a case without an expected answer, or an answer without a case"
+    )
 }

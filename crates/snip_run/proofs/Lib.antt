@@ -3,3 +3,4 @@ pub mod Reading
 pub mod Reporting
 pub mod Ending
 mod NotEnded
+mod Follows

@@ -11,6 +11,7 @@ use replay_run::lines::{Form, answer_lines};
 use replay_run::outcome::{Outcome, outcome_of};
 use replay_run::read::case_of;
 use replay_run::run::run;
+use replay_run::trouble::words_of;
 use serde_json::Value;
 use std::alloc::Global;
 use std::io;
@@ -164,7 +165,7 @@ fn answered(alloc: Global, lines: &str) -> Result<(Vec<u8>, String), Fail> {
     let mut is_first = true;
     let told = match answer_lines(alloc, lines.as_bytes(), Form::Json, &mut is_first, &mut out) {
         Ok(()) => String::new(alloc),
-        Err(trouble) => format!(in alloc; "{trouble}")?,
+        Err(trouble) => words_of(alloc, &trouble)?,
     };
     Ok((out, told))
 }

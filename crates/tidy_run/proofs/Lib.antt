@@ -12,3 +12,5 @@ mod FileLemmas
 pub mod OfferLaws
 pub mod WrittenLemmas
 mod Ending
+mod Follows
+mod NotEnded

@@ -1,8 +1,9 @@
 use Rattle.std.proofs.Common.{inl, inr, subst}
 use Rattle.std.proofs.KnownBytes.{Keeps-refl}
 use Rattle.std.specs.Io.KnownBytes.{Appends}
-use Rattle.replay_run.specs.Answered.{AppendsFirst}
+use Rattle.program.specs.Stream.{AppendsPart}
 use Rattle.replay_run.proofs.AnsweredReaders.{anyway}
+use Rattle.replay_run.proofs.Growing.{first_part}
 use Rattle.replay_run.proofs.Judging.{ok_and}
 use Rattle.replay_run.proofs.lines.answer_line.Goals as goal
 
@@ -16,5 +17,5 @@ returns-in-Ok-clause-answers g c =
 
 pub returns-clause-stops : goal.returns-clause-stops
 returns-clause-stops g c =
-    let written = subst (AppendsFirst (g.W.Write.contents c.args.out.now) (g.W.Write.contents c.write_whole.new.out)) c.as_slice.ensures.value c.in-Err.ensures.part in
-    inr (ok_and c.args.line (λ line answers. (c.in_ok-text.text.items, answers, written)) c.in_ok-text.ensures.answers)
+    let written = subst (AppendsPart (g.W.Write.contents c.args.out.now) (g.W.Write.contents c.write_whole.new.out)) c.as_slice.ensures.value c.in-Err.ensures.cut in
+    inr (ok_and c.args.line (λ line answers. (c.in_ok-text.text.items, answers, first_part _ _ _ written)) c.in_ok-text.ensures.answers)

@@ -1,4 +1,4 @@
-use Rattle.std.proofs.Common.{◌≡◌, ◌<◌, List, [], length, refl, subst}
+use Rattle.std.proofs.Common.{◌≡◌, ◌<◌, List, [], inr, length, refl, subst}
 use Rattle.replay_run.specs.Answered.{AnswersReaders, StopsReaders}
 use Rattle.replay_run.specs.Compared.{EndsComparison}
 use Rattle.replay_run.specs.Words.{Word, Asks, words_at}
@@ -47,3 +47,6 @@ returns-in_default-clause-stops g c = λ stopped form files asks some.
 pub returns-in_default-clause-stops_input : goal.returns-in_default-clause-stops_input
 returns-in_default-clause-stops_input g c = λ stopped form asks.
     none_stop g.R.Reader.Read.remaining form 1 _
+
+pub returns-in-Err-clause-told : goal.returns-in-Err-clause-told
+returns-in-Err-clause-told g c = λ stopped. inr (c.in-Err.stop.file.now, c.in-Err.stop.trouble, c.tell_stop.ensures.told)

@@ -1,0 +1,73 @@
+-- Ends of a run that the definition excludes: what a wrong program would give the writers.
+use Rattle.std.proofs.Common.{◌≡◌, ℕ, List, [], ◌∷◌, Option, Some, None, MatchOption, ap, arith, length, length-append, refl, subst, sym, ◌∙◌}
+use Rattle.std.proofs.lemmas.Slice.Zip.{AllZip-long}
+use Rattle.program.specs.Stream.{Output, Silent, Whole, Receives}
+use Rattle.tidy_run.specs.Report.{Told}
+use Rattle.tidy_run.specs.Run.{Clean, End, Ends, Failed, Found, MayEnd, Misused, Unlogged, Unprinted, err_of, log_of, out_of, sheets_for, status_of}
+use Rattle.tidy_run.specs.Words.{Line, Word, line_of}
+
+module _ (file : Option (List ℕ)) (tells : List ℕ → List Told) (Out Err Log : Output → Type 0) where
+  abbrev May : Option Line → End → Type 0
+  May line end = MatchOption line (end ≡ Misused) (λ l. MayEnd l file tells end)
+
+  silent_at : (line : Option Line) (end : End) → (file ≡ None) → May line end → Out (out_of end) → Out Silent
+  silent_at None end none may out = subst (λ e. Out (out_of e)) may out
+  silent_at (Some line) Clean none may out = out
+  silent_at (Some line) (Found shown logged) none may out =
+      let never : None ≡ Some may.source = sym none ∙ may.reads.file_is in
+      cc
+  silent_at (Some line) (Unprinted shown logged) none may out =
+      let never : None ≡ Some may.source = sym none ∙ may.reads.file_is in
+      cc
+  silent_at (Some line) (Unlogged shown plain failure) none may out = out
+  silent_at (Some line) (Failed failure) none may out = out
+  silent_at (Some line) Misused none may out = out
+
+  -- where FILE can't be read, standard output is given nothing
+  pub silent_without_file : (words : List Word) (status : ℕ) → file ≡ None → Ends words file tells status Out Err Log → Out Silent
+  silent_without_file words status none ends = silent_at (line_of words) ends.end none ends.may ends.out
+
+  quiet_at : (end : End) → status_of end ≡ 0 → Out (out_of end) → Err (err_of end) → Log (log_of end) → Out Silent × Err Silent × Log Silent
+  quiet_at Clean is out err log = (out, err, log)
+  quiet_at (Found shown logged) is out err log = cc
+  quiet_at (Unprinted shown logged) is out err log = cc
+  quiet_at (Unlogged shown plain failure) is out err log = cc
+  quiet_at (Failed failure) is out err log = cc
+  quiet_at Misused is out err log = cc
+
+  -- with status 0 no writer is given anything
+  pub quiet : (words : List Word) → Ends words file tells 0 Out Err Log → Out Silent × Err Silent × Log Silent
+  quiet words ends = quiet_at ends.end (sym ends.status_is) ends.out ends.err ends.log
+
+-- bytes that stay the same weren't given a line
+line_added : (text : List ℕ) → Receives (λ held. held) (Some []) (Some []) (Whole text) → ⊥
+line_added text whole =
+    let long = length-append text (10 ∷ []) in
+    omega (arith, ap length whole, long)
+
+-- with LOG there are two texts
+two_texts : (log : Option Word) (shown : List ℕ) → (log ≡ None → ⊥) → length (sheets_for log) ≡ length (shown ∷ []) → ⊥
+two_texts None shown named many = named refl
+two_texts (Some name) shown named many = cc
+
+module _ (file : Option (List ℕ)) (tells : List ℕ → List Told) (line : Line) (named : line.log ≡ None → ⊥) (Out Err : Output → Type 0) where
+  -- what was in LOG is there as it was
+  abbrev Untouched : Output → Type 0
+  Untouched = Receives (λ (held : Option (List ℕ)). held) (Some []) (Some [])
+
+  unlogged_at : (end : End) → MayEnd line file tells end → status_of end ≡ 2 → Out (out_of end) → Untouched (log_of end)
+      → Out Silent
+  unlogged_at Clean may is out log = out
+  unlogged_at (Found shown logged) may is out log = cc
+  unlogged_at (Unprinted shown None) may is out log =
+      absurd (two_texts line.log shown named (sym (AllZip-long _ (sheets_for line.log) (shown ∷ []) may.shows.shows.printed)))
+  unlogged_at (Unprinted shown (Some plain)) may is out log = absurd (line_added plain log)
+  unlogged_at (Unlogged shown plain failure) may is out log = out
+  unlogged_at (Failed failure) may is out log = out
+  unlogged_at Misused may is out log = out
+
+  -- with status 2, and nothing in LOG, standard output is given nothing: that LOG can't be written isn't told there
+  pub silent_unlogged : (words : List Word) → line_of words ≡ Some line → Ends words file tells 2 Out Err Untouched → Out Silent
+  silent_unlogged words is ends =
+      let may = subst (λ l. MatchOption l (ends.end ≡ Misused) (λ x. MayEnd x file tells ends.end)) is ends.may in
+      unlogged_at ends.end may (sym ends.status_is) ends.out ends.log
