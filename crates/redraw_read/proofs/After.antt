@@ -53,7 +53,7 @@ first-lacking n (b ∷ bs) none =
 pub parted : (n s : List ℕ) (r : Option (Bor (List ℕ) × Bor (List ℕ)))
     → MatchOption r (FindsText n s None)
     (λ x. (i : ℕ) × (j : ℕ) × FindsText n s (Some (i, j)) × (x.0.now ≡ take i s) × (x.1.now ≡ drop j s) × (i ≤ j) × (length x.0.now ≡ i)
-        × (length x.1.now + j ≡ length s))
+    × (length x.1.now + j ≡ length s))
     → MatchOption r (after_first n s ≡ None) (λ x. after_first n s ≡ Some x.1.now)
 parted n s None h = first-lacking n s h
 parted n s (Some x) h =

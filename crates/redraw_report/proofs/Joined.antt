@@ -6,7 +6,8 @@ use Rattle.redraw_report.specs.declared.finding.Shown.{Shown}
 use Rattle.redraw_report.specs.Report.{with_source, with_sources}
 
 -- the sources of places, and of one place more
-sources-join : (primary : Bool) (order : List Shown) (ms : List Mark) (m : Mark) → with_sources primary order (ms ++ m ∷ []) ≡ with_source primary (with_sources primary order ms) m
+sources-join : (primary : Bool) (order : List Shown) (ms : List Mark) (m : Mark)
+    → with_sources primary order (ms ++ m ∷ []) ≡ with_source primary (with_sources primary order ms) m
 sources-join primary order [] m = refl
 sources-join primary order (n ∷ ns) m = sources-join primary (with_source primary order n) ns m
 

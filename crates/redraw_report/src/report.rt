@@ -24,10 +24,7 @@ fn group_of<'a>(title: Title<'a>, elements: Vec<Element<'a>>) -> Group<'a>
 }
 
 /// The group of a remark that has places or edits.
-fn remark_group<'a>(
-    alloc: Global,
-    remark: &Remark<'a>,
-) -> Result<Group<'a>, AllocError>
+fn remark_group<'a>(alloc: Global, remark: &Remark<'a>) -> Result<Group<'a>, AllocError>
     ensures value { IfOk result (λ group. section_view group ≡ remark_section remark.now) }
 {
     let title = remark_title(alloc, remark)?;
@@ -36,10 +33,7 @@ fn remark_group<'a>(
 }
 
 /// What stands below the title of such a remark: its places, and the edits that it offers.
-fn remark_elements<'a>(
-    alloc: Global,
-    remark: &Remark<'a>,
-) -> Result<Vec<Element<'a>>, AllocError>
+fn remark_elements<'a>(alloc: Global, remark: &Remark<'a>) -> Result<Vec<Element<'a>>, AllocError>
     ensures value { IfOk result (λ elements. map part_view elements.items
         ≡ marked_parts remark.now.marks.items ++ offers_parts remark.now.offers.items) }
 {
@@ -49,10 +43,7 @@ fn remark_elements<'a>(
 }
 
 /// The group of a finding itself.
-fn first_group<'a>(
-    alloc: Global,
-    finding: &Finding<'a>,
-) -> Result<Group<'a>, AllocError>
+fn first_group<'a>(alloc: Global, finding: &Finding<'a>) -> Result<Group<'a>, AllocError>
     ensures value { IfOk result (λ group.
         section_view group ≡ section_of (headed_of finding.now) (marked_parts finding.now.marks.items)) }
 {
@@ -116,10 +107,7 @@ fn add_remarks<'a>(
 }
 
 /// The report of a finding.
-pub fn report<'a>(
-    alloc: Global,
-    finding: &Finding<'a>,
-) -> Result<Vec<Group<'a>>, AllocError>
+pub fn report<'a>(alloc: Global, finding: &Finding<'a>) -> Result<Vec<Group<'a>>, AllocError>
     ensures told { IfOk result (λ groups. map section_view groups.items ≡ report_of finding.now) }
 {
     let mut groups = Vec::new(alloc);
