@@ -1,14 +1,17 @@
 -- The readers answered so far.
-use Rattle.std.proofs.Common.{◌≡◌, ℕ, ◌+◌, Bool, true, List, [], ◌∷◌, ◌++◌, Option, arith, refl, sym, ap, ◌∙◌, subst, inl, inr, ◌≤◌}
-use Rattle.std.specs.Prelude.{OnErr, OnOk, Result, Ok, Err}
-use Rattle.std.specs.Io.KnownBytes.{Keeps}
+use Rattle.std.proofs.Common.{◌≡◌, ◌⊎◌, ℕ, zero, suc, ◌+◌, ◌<◌, Bool, true, List, [], ◌∷◌, ◌++◌, Bor, Option, arith, codes, length, map, slice_index_or, refl, sym, ap, ◌∙◌, subst, inl, inr}
+use Rattle.std.specs.Prelude.{IfErr, OnErr, OnOk, Result, Ok, Err}
+use Rattle.std.specs.Io.KnownBytes.{Appends, Keeps}
 use Rattle.std.specs.List.{concat, flat_map}
-use Rattle.std.proofs.KnownBytes.{Keeps-refl, Keeps-trans}
+use Rattle.std.proofs.KnownBytes.{Keeps-trans}
 use Rattle.std.proofs.lemmas.List.{append-nil, length_push}
 use Rattle.std.proofs.lemmas.List.Concat.{flat_map-append}
 use Rattle.std.proofs.lemmas.List.Elements.{All-push}
 use Rattle.replay_run.specs.Answer.{AnswersLines, first_after}
-use Rattle.replay_run.specs.Answered.{AnswersReader, AnswersReaders, AreRead, StopsAt, StopsReader, StopsReaders}
+use Rattle.replay_run.specs.Answered.{AnswersReader, AnswersReaders, AppendsFirst, AreRead, StopsAfter, StopsAt, StopsReader, StopsReaders}
+use Rattle.replay_run.specs.Trouble.{IsWrite}
+use Rattle.replay_run.specs.Words.{Word}
+use Rattle.replay_run.specs.declared.trouble.Trouble.{Trouble}
 use Rattle.replay_run.specs.declared.lines.Form.{Form}
 use Rattle.replay_run.proofs.AnsweredLines.{answered_twice, first_twice, written_twice}
 use Rattle.replay_run.proofs.Growing.{appends_kept, appends_none}
@@ -99,68 +102,99 @@ pub anyway : {T E P : Type 0} (r : Result T E) → P → OnErr r P
 anyway (Ok x) h = tt
 anyway (Err e) h = h
 
-pub stopped_same : (form : Form) (is_first : Bool) (held same old new : Option (List ℕ)) → held ≡ same → StopsReader form is_first held old new → StopsReader form is_first same old new
-stopped_same form is_first held same old new is h =
-    subst (λ bytes. StopsReader form is_first bytes old new) is h
+-- what holds of each error of a kind holds of an answer that is one
+pub if_err : {T E : Type 0} {P Q : E → Type 0} (r : Result T E) → ((e : E) → P e → Q e) → IfErr r P → IfErr r Q
+if_err (Ok x) tells h = tt
+if_err (Err e) tells h = tells e h
+
+pub stopped_same : (form : Form) (is_first : Bool) (held same old new : Option (List ℕ)) (trouble : Trouble) → held ≡ same → StopsReader form is_first held old new trouble → StopsReader form is_first same old new trouble
+stopped_same form is_first held same old new trouble is h =
+    subst (λ bytes. StopsReader form is_first bytes old new trouble) is h
+
+part_kept : (held old mid new : Option (List ℕ)) (lines : List (List ℕ)) (whole : List ℕ) (trouble : Trouble) → (IsWrite trouble × AppendsFirst old mid whole) ⊎ (Appends old mid whole × StopsAfter held lines trouble)
+    → Keeps mid new → (IsWrite trouble × AppendsFirst old new whole) ⊎ (Appends old new whole × StopsAfter held lines trouble)
+part_kept held old mid new lines whole trouble (inl h) kept =
+    inl (
+      h.0,
+      record {
+        part = h.1.part;
+        rest = h.1.rest;
+        split = h.1.split;
+        added = appends_kept old mid new h.1.part h.1.added kept;
+      },
+    )
+part_kept held old mid new lines whole trouble (inr h) kept = inr (appends_kept old mid new whole h.0 kept, h.1)
 
 -- nothing more is written after it stopped
-stopped_kept : (form : Form) (is_first : Bool) (held old mid new : Option (List ℕ)) → StopsReader form is_first held old mid → Keeps mid new → StopsReader form is_first held old new
-stopped_kept form is_first held old mid new h kept =
+stopped_kept : (form : Form) (is_first : Bool) (held old mid new : Option (List ℕ)) (trouble : Trouble) → StopsReader form is_first held old mid trouble → Keeps mid new → StopsReader form is_first held old new trouble
+stopped_kept form is_first held old mid new trouble h kept =
     record {
       lines = h.lines;
       read = h.read;
       texts = h.texts;
       answered = h.answered;
-      written = record {
-        part = h.written.part;
-        rest = h.written.rest;
-        split = h.written.split;
-        added = appends_kept old mid new h.written.part h.written.added kept;
-      };
+      written = part_kept held old mid new h.lines (concat h.texts) trouble h.written kept;
     }
 
-at_kept : {Reader : Type 0} (bytes : Reader → Option (List ℕ)) (form : Form) (is_first : Bool) (old mid new : Option (List ℕ)) → StopsAt Reader bytes form is_first old mid → Keeps mid new → StopsAt Reader bytes form is_first old new
-at_kept bytes form is_first old mid new (inl same) kept = inl (Keeps-trans old mid new same kept)
-at_kept bytes form is_first old mid new (inr (reader, h)) kept =
-    inr (reader, stopped_kept form is_first (bytes reader) old mid new h kept)
+at_kept : {Reader : Type 0} (bytes : Reader → Option (List ℕ)) (form : Form) (is_first : Bool) (old mid new : Option (List ℕ)) (trouble : Trouble) → StopsAt Reader bytes form is_first old mid trouble → Keeps mid new → StopsAt Reader bytes form is_first old new trouble
+at_kept bytes form is_first old mid new trouble (inl h) kept = inl (Keeps-trans old mid new h.0 kept, h.1)
+at_kept bytes form is_first old mid new trouble (inr h) kept =
+    inr (h.0, stopped_kept form is_first (bytes h.0) old mid new trouble h.1 kept)
 
--- it stops after the readers so far
-pub readers_stop : {Reader : Type 0} (bytes : Reader → Option (List ℕ)) (form : Form) (before count : ℕ) (is_first : Bool) (old mid new : Option (List ℕ)) → before ≤ count → HaveAnsweredReaders Reader bytes form before is_first old mid → StopsAt Reader bytes form is_first mid new → StopsReaders Reader bytes form count old new
-readers_stop {Reader} bytes form before count is_first old mid new within h stops =
+-- the name at this place, and those before and after it
+pub names_at : (refs : List (Bor Word)) (i : ℕ) (d : Bor Word) → i < length refs
+    → (before : List Word) × (after : List Word) × (map (λ (w : Bor Word). w.now) refs ≡ before ++ (slice_index_or refs i d).now ∷ after) × (length before ≡ i)
+names_at [] i d within = absurd (omega (arith, within))
+names_at (r ∷ refs) zero d within = ([], map (λ (w : Bor Word). w.now) refs, refl, refl)
+names_at (r ∷ refs) (suc i) d within =
+    let (before, after, split, many) = names_at refs i d (omega (arith, within)) in
+    (r.now ∷ before, after, ap (λ (l : List Word). r.now ∷ l) split, ap suc many)
+
+-- with so many readers answered it stops at the next
+pub readers_stop : {Reader : Type 0} (bytes : Reader → Option (List ℕ)) (form : Form) (count : ℕ) (names before after : List Word) (name : Word) (is_first : Bool) (old mid new : Option (List ℕ)) (trouble : Trouble)
+    → HaveAnsweredReaders Reader bytes form count is_first old mid → names ≡ before ++ name ∷ after → length before ≡ count
+    → StopsAt Reader bytes form is_first mid new trouble → StopsReaders Reader bytes form names old new name trouble
+readers_stop {Reader} bytes form count names before after name is_first old mid new trouble h split many stops =
+    let all : HaveAnsweredReaders Reader bytes form (length before) is_first old mid = subst (λ n. HaveAnsweredReaders Reader bytes form n is_first old mid) (sym many) h in
     record {
       before = before;
-      within = within;
       mid = mid;
-      answered = h.all;
-      stops = subst (λ f. StopsAt Reader bytes form f mid new) h.still stops;
+      answered = all.all;
+      stops = inl (after, split, subst (λ f. StopsAt Reader bytes form f mid new trouble) all.still stops);
     }
 
--- it stops before any reader, or within the first
-pub first_stops : {Reader : Type 0} (bytes : Reader → Option (List ℕ)) (form : Form) (count : ℕ) (old new : Option (List ℕ)) → StopsAt Reader bytes form true old new → StopsReaders Reader bytes form count old new
-first_stops bytes form count old new stops =
-    readers_stop bytes form 0 count true old old new (omega arith) (readers_none bytes form old) stops
+-- it stops at the first reader
+pub first_stops : {Reader : Type 0} (bytes : Reader → Option (List ℕ)) (form : Form) (name : Word) (old new : Option (List ℕ)) (trouble : Trouble) → StopsAt Reader bytes form true old new trouble → StopsReaders Reader bytes form (name ∷ []) old new name trouble
+first_stops bytes form name old new trouble stops =
+    readers_stop bytes form 0 (name ∷ []) [] [] name true old old new trouble (readers_none bytes form old) refl refl stops
 
 -- it stops where all readers are answered, as the last flush fails
-pub all_stop : {Reader : Type 0} (bytes : Reader → Option (List ℕ)) (form : Form) (count : ℕ) (old mid new : Option (List ℕ)) → AnswersReaders Reader bytes form count old mid → Keeps mid new → StopsReaders Reader bytes form count old new
-all_stop bytes form count old mid new h kept =
+pub all_stop : {Reader : Type 0} (bytes : Reader → Option (List ℕ)) (form : Form) (names : List Word) (old mid new : Option (List ℕ)) (trouble : Trouble) → AnswersReaders Reader bytes form (length names) old mid
+    → Keeps mid new → IsWrite trouble → StopsReaders Reader bytes form names old new (codes "standard output") trouble
+all_stop bytes form names old mid new trouble h kept write =
     record {
-      before = count;
-      within = omega arith;
+      before = names;
       mid = mid;
       answered = h;
-      stops = inl kept;
+      stops = inr (refl, refl, write, kept);
     }
 
-pub stops_kept : {Reader : Type 0} (bytes : Reader → Option (List ℕ)) (form : Form) (count : ℕ) (old mid new : Option (List ℕ)) → StopsReaders Reader bytes form count old mid → Keeps mid new → StopsReaders Reader bytes form count old new
-stops_kept bytes form count old mid new h kept =
-    record {
-      before = h.before;
-      within = h.within;
-      mid = h.mid;
-      answered = h.answered;
-      stops = at_kept bytes form _ h.mid mid new h.stops kept;
-    }
-
--- nothing is written, and nothing is answered
-pub none_stop : {Reader : Type 0} (bytes : Reader → Option (List ℕ)) (form : Form) (count : ℕ) (old : Option (List ℕ)) → StopsReaders Reader bytes form count old old
-none_stop bytes form count old = first_stops bytes form count old old (inl (Keeps-refl old))
+pub stops_kept : {Reader : Type 0} (bytes : Reader → Option (List ℕ)) (form : Form) (names : List Word) (old mid new : Option (List ℕ)) (name : Word) (trouble : Trouble) → StopsReaders Reader bytes form names old mid name trouble → Keeps mid new → StopsReaders Reader bytes form names old new name trouble
+stops_kept {Reader} bytes form names old mid new name trouble h kept = kept_at h.stops
+  where
+    kept_at : ((after : List Word) × (names ≡ h.before ++ name ∷ after) × StopsAt Reader bytes form (first_after true (lines_of h.answered.readers)) h.mid mid trouble)
+        ⊎ ((names ≡ h.before) × (name ≡ codes "standard output") × IsWrite trouble × Keeps h.mid mid) → StopsReaders Reader bytes form names old new name trouble
+    kept_at (inl at) =
+        record {
+          before = h.before;
+          mid = h.mid;
+          answered = h.answered;
+          stops = inl (at.0, at.1, at_kept bytes form _ h.mid mid new trouble at.2 kept);
+        }
+    kept_at (inr end) =
+        record {
+          before = h.before;
+          mid = h.mid;
+          answered = h.answered;
+          stops = inr (end.0, end.1, end.2, Keeps-trans h.mid mid new end.3 kept);
+        }

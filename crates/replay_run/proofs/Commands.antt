@@ -78,22 +78,17 @@ files_compared ws (Repeat times files) P h known =
     absurd (apart (codes "--check") (codes "--repeat") ws (h.0 ∷ words_at files.now) refl refl h.1)
 files_compared ws Help P h known = absurd (apart (codes "--check") (codes "--help") ws [] refl refl h)
 
--- as many files as words for them
-as_many : (words : List Word) (refs : List (Bor Word)) → words ≡ words_at refs → length refs ≡ length words
-as_many words refs same = sym (ap length same ∙ length-map refs (λ (w : Bor Word). w.now))
-
 -- no word for a file begins the words of another command
 no_option : (ws rest : List Word) (name : Word) → ws ≡ (codes "--" ++ name) ∷ rest → AreFiles ws → ⊥
 no_option ws rest name is files = no_file name rest (subst AreFiles is files)
 
--- what is known of the form of the answers and of the number of the files, by the words
-pub files_answered : (ws : List Word) (c : Command) (P : Form → ℕ → Type 0) (form : Form) (files : List Word) → Asks ws c → AsksAnswers ws form files → IfAnswers c P → P form (length files)
-files_answered ws (Answer Json refs) P Json files h asks known =
-    subst (P Json) (as_many files refs.now (sym asks.0 ∙ h.0)) known
+-- what is known of the form of the answers and of the files, by the words
+pub files_answered : (ws : List Word) (c : Command) (P : Form → List Word → Type 0) (form : Form) (files : List Word) → Asks ws c → AsksAnswers ws form files → IfAnswers c P → P form files
+files_answered ws (Answer Json refs) P Json files h asks known = subst (P Json) (sym h.0 ∙ asks.0) known
 files_answered ws (Answer Texts refs) P Texts files h asks known =
     let both : codes "--text" ∷ files ≡ codes "--text" ∷ words_at refs.now = sym asks.0 ∙ h.0 in
-    let rest : files ≡ words_at refs.now = cc both in
-    subst (P Texts) (as_many files refs.now rest) known
+    let rest : words_at refs.now ≡ files = cc both in
+    subst (P Texts) rest known
 files_answered ws (Answer Json refs) P Texts files h asks known =
     absurd (no_option ws files (codes "text") asks.0 h.1)
 files_answered ws (Answer Texts refs) P Json files h asks known =
@@ -112,8 +107,8 @@ files_answered ws Help P Texts files h asks known =
     absurd (apart (codes "--text") (codes "--help") files [] refl refl (sym asks.0 ∙ h))
 
 -- what is known of a command's answers, or of its comparison, tells more
-pub if_answers : (c : Command) (P Q : Form → ℕ → Type 0) → ((form : Form) (files : ℕ) → P form files → Q form files) → IfAnswers c P → IfAnswers c Q
-if_answers (Answer form files) P Q tells h = tells form (length files.now) h
+pub if_answers : (c : Command) (P Q : Form → List Word → Type 0) → ((form : Form) (files : List Word) → P form files → Q form files) → IfAnswers c P → IfAnswers c Q
+if_answers (Answer form files) P Q tells h = tells form (words_at files.now) h
 if_answers (Check files) P Q tells h = tt
 if_answers (Repeat times files) P Q tells h = tt
 if_answers Help P Q tells h = tt
@@ -123,3 +118,15 @@ if_comparison (Answer form files) P Q tells h = tt
 if_comparison (Check files) P Q tells h = tells (length files.now) h
 if_comparison (Repeat times files) P Q tells h = tt
 if_comparison Help P Q tells h = tt
+
+-- words that ask for answers ask for a command
+asked_texts : (place : ℕ × ℕ) (refs : List (Bor Word)) (files : List Word) → words_at refs ≡ codes "--text" ∷ files → AreFiles files → (command : Command) × Asks (words_at refs) command
+asked_texts place [] files is are = cc
+asked_texts place (word ∷ refs) files is are =
+    let head : word.now ≡ codes "--text" = cc in
+    let rest : words_at refs ≡ files = cc in
+    (Answer Texts (record { ref_ptr = place; now = refs }), (ap (λ (w : Word). w ∷ words_at refs) head, subst AreFiles (sym rest) are))
+
+pub asked : (refs : Bor (List (Bor Word))) (form : Form) (files : List Word) → AsksAnswers (words_at refs.now) form files → (command : Command) × Asks (words_at refs.now) command
+asked refs Json files asks = (Answer Json refs, (refl, asks.1))
+asked refs Texts files asks = asked_texts refs.ref_ptr refs.now files asks.0 asks.1

@@ -5,4 +5,6 @@ pub mod Commands
 pub mod Ending
 pub mod Growing
 pub mod Judging
+pub mod Reading
+mod NotStopped
 pub mod Telling

@@ -4,7 +4,8 @@ use Rattle.std.specs.Io.BufRead.{first_line, drop_through}
 use Rattle.std.specs.List.{flat_map}
 use Rattle.serde_json.specs.Data.{Data, string, array, object, Items, no_items, item, member, no_members}
 use Rattle.serde_json.specs.Written.{compact_text}
-use Rattle.replay_run.specs.Outcome.{Becomes}
+use Rattle.replay_run.specs.Case.{IsCaseOf}
+use Rattle.replay_run.specs.Outcome.{Becomes, IsOutcomeOf}
 use Rattle.replay_run.specs.declared.case.Case.{Case}
 use Rattle.replay_run.specs.declared.lines.Form.{Form}
 use Rattle.replay_run.specs.declared.lines.Form.TheVariants as form
@@ -37,6 +38,14 @@ outcome_text (Refused name words span) =
 abbrev pub answer_text : Form → Bool → List ℕ → Outcome → List ℕ
 answer_text form.Json is_first id outcome = line_of (compact_text (answer_of id outcome))
 answer_text form.Texts is_first id outcome = (if is_first then [] else line_of []) ++ outcome_text outcome
+
+-- the text answers a line that holds this value: it says what became of the case that the value describes
+pub record AnswersValue (form : Form) (is_first : Bool) (d : Data) (text : List ℕ) : Type 0 where
+  pub case : Case
+  pub outcome : Outcome
+  pub case_is : IsCaseOf d case
+  pub became : IsOutcomeOf case outcome
+  pub text_is : text ≡ answer_text form is_first case.id.now outcome
 
 -- the text answers the line: it says what became of the case that the line describes
 pub record AnswersLine (form : Form) (is_first : Bool) (line text : List ℕ) : Type 0 where

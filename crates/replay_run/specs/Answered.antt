@@ -1,10 +1,19 @@
 -- What is written where the lines that readers hold are answered.
-use Rattle.std.specs.Prelude.{◌≡◌, ◌⊎◌, ℕ, ◌≤◌, Bool, true, List, ◌++◌, Option, Result, String, IfSome, IsOkAnd, length, All, string_bytes}
+use Rattle.std.specs.Prelude.{◌≡◌, ◌⊎◌, ℕ, ◌+◌, Bool, true, List, [], ◌∷◌, ◌++◌, Option, Some, None, Result, String, IfSome, IsOkAnd, codes, length, min, All, string_bytes}
 use Rattle.std.specs.Io.KnownBytes.{Appends, Keeps}
 use Rattle.std.specs.declared.alloc.Global.{Global}
 use Rattle.std.specs.List.{concat, flat_map}
+use Rattle.serde_json.specs.Data.{Data}
+use Rattle.serde_json.specs.Read.{read}
 use Rattle.replay_run.specs.Answer.{AreFirstLines, AreLines, AnswersLine, AnswersLines, first_after}
+use Rattle.replay_run.specs.Judged.{most}
+use Rattle.replay_run.specs.Trouble.{IsRead, IsTroubleWith, IsWrite}
+use Rattle.replay_run.specs.Words.{Word}
 use Rattle.replay_run.specs.declared.lines.Form.{Form}
+use Rattle.replay_run.specs.declared.trouble.Line.{Line}
+use Rattle.replay_run.specs.declared.trouble.Line.TheVariants.{Case}
+use Rattle.replay_run.specs.declared.trouble.Trouble.{Trouble}
+use Rattle.replay_run.specs.declared.trouble.Trouble.TheVariants.{NotText, NotJson, Wrong, Unpaired, TooManyLines, Read, Clock, Write, Memory}
 
 -- the lines that were read of what a reader holds: all its lines, where it is known what it holds
 abbrev pub AreRead : Option (List ℕ) → List (List ℕ) → Type 0
@@ -41,29 +50,52 @@ pub record AppendsFirst (old new : Option (List ℕ)) (whole : List ℕ) : Type 
   pub split : whole ≡ part ++ rest
   pub added : Appends old new part
 
--- of the text that answers what was read as a line, nothing or a first part is added to what a writer held
-abbrev pub AnswersPart : {E : Type 0} → Form → Bool → Result (String Global) E → Option (List ℕ) → Option (List ℕ) → Type 0
-AnswersPart form is_first line old new =
-    Keeps old new ⊎ IsOkAnd line (λ line. (text : List ℕ) × AnswersLine form is_first (string_bytes line) text × AppendsFirst old new text)
+-- answering a line stops: a write failed, and of the text that answers it a first part is added to what a writer held; or nothing is
+-- added, and the line of this number is no case
+abbrev pub StopsLine : {E : Type 0} → Form → Bool → ℕ → Result (String Global) E → Option (List ℕ) → Option (List ℕ) → Trouble → Type 0
+StopsLine form is_first number line old new trouble =
+    (IsWrite trouble × IsOkAnd line (λ line. (text : List ℕ) × AnswersLine form is_first (string_bytes line) text × AppendsFirst old new text))
+    ⊎ (Keeps old new × IsTroubleWith (Case number) line trouble)
 
--- answering a reader stops: of the texts that answer its first lines, in order, a first part is added to what a writer held, and nothing
--- else
-pub record StopsReader (form : Form) (is_first : Bool) (held old new : Option (List ℕ)) : Type 0 where
+-- the line after these, by its number, as far as can be counted
+abbrev pub line_after : List (List ℕ) → Line
+line_after lines = Case (min (length lines + 1) most)
+
+-- it stops at the line after these, which is no case: it is no text, or no JSON, or JSON that describes none; or what the reader holds
+-- couldn't be read any further, or there was no memory
+abbrev pub StopsAfter : Option (List ℕ) → List (List ℕ) → Trouble → Type 0
+StopsAfter held lines (NotText place) = place ≡ line_after lines
+StopsAfter held lines (NotJson place column ends_early) =
+    (place ≡ line_after lines) × (line : List ℕ) × AreFirstRead held (lines ++ line ∷ []) × (read line ≡ None)
+StopsAfter held lines (Wrong place words) =
+    (place ≡ line_after lines) × (line : List ℕ) × AreFirstRead held (lines ++ line ∷ []) × (d : Data) × (read line ≡ Some d)
+StopsAfter held lines (Unpaired number) = ⊥
+StopsAfter held lines TooManyLines = ⊥
+StopsAfter held lines (Read error) = Unit {0}
+StopsAfter held lines (Clock error) = ⊥
+StopsAfter held lines (Write error) = ⊥
+StopsAfter held lines Memory = Unit {0}
+
+-- answering a reader stops: its first lines are answered, in order. To what a writer held the texts that answer them are added, all of
+-- them and nothing else, and it stops at the line after these; or a write failed, and a first part of the texts is added
+pub record StopsReader (form : Form) (is_first : Bool) (held old new : Option (List ℕ)) (trouble : Trouble) : Type 0 where
   pub lines : List (List ℕ)
   pub read : AreFirstRead held lines
   pub texts : List (List ℕ)
   pub answered : AnswersLines form is_first lines texts
-  pub written : AppendsFirst old new (concat texts)
+  pub written : (IsWrite trouble × AppendsFirst old new (concat texts)) ⊎ (Appends old new (concat texts) × StopsAfter held lines trouble)
 
--- answering stops before a reader, or within it
-abbrev pub StopsAt : (Reader : Type 0) → (Reader → Option (List ℕ)) → Form → Bool → Option (List ℕ) → Option (List ℕ) → Type 0
-StopsAt Reader bytes form is_first old new =
-    Keeps old new ⊎ ((reader : Reader) × StopsReader form is_first (bytes reader) old new)
+-- answering stops at a reader that can't be had, or within it
+abbrev pub StopsAt : (Reader : Type 0) → (Reader → Option (List ℕ)) → Form → Bool → Option (List ℕ) → Option (List ℕ) → Trouble → Type 0
+StopsAt Reader bytes form is_first old new trouble =
+    (Keeps old new × IsRead trouble) ⊎ ((reader : Reader) × StopsReader form is_first (bytes reader) old new trouble)
 
--- answering this many readers stops: some are answered, and then it stops
-pub record StopsReaders (Reader : Type 0) (bytes : Reader → Option (List ℕ)) (form : Form) (count : ℕ) (old new : Option (List ℕ)) : Type 0 where
-  pub before : ℕ
-  pub within : before ≤ count
+-- answering the readers of these names stops: those of the first names are answered, each to its end, and it stops at the next; or all
+-- are answered, and what was written can't be handed on
+pub record StopsReaders (Reader : Type 0) (bytes : Reader → Option (List ℕ)) (form : Form) (names : List Word) (old new : Option (List ℕ)) (name : Word) (trouble : Trouble) : Type 0 where
+  pub before : List Word
   pub mid : Option (List ℕ)
-  pub answered : AnswersReaders Reader bytes form before old mid
-  pub stops : StopsAt Reader bytes form (first_after true (flat_map (λ reader. reader.1) answered.readers)) mid new
+  pub answered : AnswersReaders Reader bytes form (length before) old mid
+  pub stops : ((after : List Word) × (names ≡ before ++ name ∷ after)
+      × StopsAt Reader bytes form (first_after true (flat_map (λ reader. reader.1) answered.readers)) mid new trouble)
+      ⊎ ((names ≡ before) × (name ≡ codes "standard output") × IsWrite trouble × Keeps mid new)

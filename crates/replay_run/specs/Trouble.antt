@@ -1,7 +1,11 @@
 -- What stops a run, and what is told of it.
-use Rattle.std.specs.Prelude.{◌⊎◌, ℕ, Bool, List, ◌++◌, chars, codes, decimal, encode_utf8_all, if◌then◌else◌, string_bytes}
+use Rattle.std.specs.Prelude.{◌≡◌, ◌⊎◌, ℕ, Bool, List, ◌++◌, Some, None, Result, String, IsOkAnd, chars, codes, decimal, encode_utf8_all, if◌then◌else◌, string_bytes}
+use Rattle.std.specs.declared.alloc.Global.{Global}
+use Rattle.std.specs.declared.io.Error.{Error}
 use Rattle.annotate_snippets.specs.Normalized.{norm}
 use Rattle.program.specs.Stream.{Output, Told}
+use Rattle.serde_json.specs.Data.{Data}
+use Rattle.serde_json.specs.Read.{read}
 use Rattle.replay_run.specs.declared.trouble.Line.{Line}
 use Rattle.replay_run.specs.declared.trouble.Line.TheVariants.{Case, Expected}
 use Rattle.replay_run.specs.declared.trouble.Trouble.{Trouble}
@@ -55,3 +59,37 @@ misuse_text said = codes "replay: " ++ (said ++ (codes "\n" ++ usage_text))
 -- that is told; or that there was no memory for it
 abbrev pub TellsMisuse : (Output → Type 0) → Type 0
 TellsMisuse Err = ((said : List ℕ) × Err (Told (shown (misuse_text said)))) ⊎ Err (Told (codes "replay: out of memory"))
+
+-- the trouble is a write that failed
+abbrev pub IsWrite : Trouble → Type 0
+IsWrite trouble = (error : Error) × (trouble ≡ Write error)
+
+-- it is an input that can't be read
+abbrev pub IsRead : Trouble → Type 0
+IsRead trouble = (error : Error) × (trouble ≡ Read error)
+
+-- a line has this place and is no case: it is no text, or no JSON, or JSON that describes none; or it couldn't be read, or there was no
+-- memory for that
+abbrev pub IsTroubleWith : {E : Type 0} → Line → Result (String Global) E → Trouble → Type 0
+IsTroubleWith at line (NotText place) = place ≡ at
+IsTroubleWith at line (NotJson place column ends_early) = (place ≡ at) × IsOkAnd line (λ text. read (string_bytes text) ≡ None)
+IsTroubleWith at line (Wrong place words) =
+    (place ≡ at) × IsOkAnd line (λ text. (d : Data) × (read (string_bytes text) ≡ Some d))
+IsTroubleWith at line (Unpaired number) = ⊥
+IsTroubleWith at line TooManyLines = ⊥
+IsTroubleWith at line (Read error) = Unit {0}
+IsTroubleWith at line (Clock error) = ⊥
+IsTroubleWith at line (Write error) = ⊥
+IsTroubleWith at line Memory = Unit {0}
+
+-- a value in a line that has this place describes nothing, or there was no memory to read it
+abbrev pub IsMisread : Line → Trouble → Type 0
+IsMisread at (NotText place) = ⊥
+IsMisread at (NotJson place column ends_early) = ⊥
+IsMisread at (Wrong place words) = place ≡ at
+IsMisread at (Unpaired number) = ⊥
+IsMisread at TooManyLines = ⊥
+IsMisread at (Read error) = ⊥
+IsMisread at (Clock error) = ⊥
+IsMisread at (Write error) = ⊥
+IsMisread at Memory = Unit {0}

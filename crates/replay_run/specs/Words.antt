@@ -68,9 +68,9 @@ IfComparison (Check files) P = P (length files.now)
 IfComparison (Repeat times files) P = Unit {0}
 IfComparison Help P = Unit {0}
 
--- P holds of the form of the answers and of the number of the files whose cases the command answers, if it does
-abbrev pub IfAnswers : Command → (Form → ℕ → Type 0) → Type 0
-IfAnswers (Answer form files) P = P form (length files.now)
+-- P holds of the form of the answers and of the files whose cases the command answers, if it does
+abbrev pub IfAnswers : Command → (Form → List Word → Type 0) → Type 0
+IfAnswers (Answer form files) P = P form (words_at files.now)
 IfAnswers (Check files) P = Unit {0}
 IfAnswers (Repeat times files) P = Unit {0}
 IfAnswers Help P = Unit {0}

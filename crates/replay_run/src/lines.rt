@@ -1,16 +1,18 @@
 //! Lines of cases, answered one after another. Nothing of a line is kept after it.
 
-ghost use Rattle.std.specs.Prelude.{◌≡◌, ℕ, List, [], ◌++◌, Some, OnErr, OnOk, IfOk, IsOkAnd, if◌then◌else◌, string_bytes};
+ghost use Rattle.std.specs.Prelude.{◌≡◌, ℕ, Bool, List, [], ◌++◌, Some, OnOk, IfErr, IfOk, IsOkAnd, if◌then◌else◌, string_bytes};
 ghost use Rattle.std.specs.Io.KnownBytes.{Appends};
 ghost use Rattle.annotate_snippets.specs.Fits.{ReportFits};
+ghost use Rattle.serde_json.specs.Errors.{IsMemory};
 ghost use Rattle.serde_json.specs.Read.{read};
 ghost use Rattle.serde_json.specs.View.{view};
 ghost use Rattle.serde_json.specs.Written.{compact_text};
 ghost use Rattle.replay_run.specs.Answer as spec;
-ghost use Rattle.replay_run.specs.Answer.{AnswersLine, answer_text, line_of, outcome_text};
-ghost use Rattle.replay_run.specs.Answered.{AnswersPart, AnswersReader, StopsReader};
+ghost use Rattle.replay_run.specs.Answer.{AnswersLine, AnswersValue, answer_text, line_of, outcome_text};
+ghost use Rattle.replay_run.specs.Answered.{AnswersReader, StopsLine, StopsReader};
 ghost use Rattle.replay_run.specs.Outcome.{IsOutcomeOf};
 ghost use Rattle.replay_run.specs.Case.{IsCaseOf};
+ghost use Rattle.replay_run.specs.Trouble.{IsMisread, IsTroubleWith};
 ghost use Rattle.replay_run.specs.declared.outcome.Outcome.{Outcome};
 
 use crate::case::Case;
@@ -42,13 +44,19 @@ pub fn answer_lines<B: BufRead + Drop, W: Write>(
 ) -> Result<(), Trouble>
     ensures answers { OnOk result (AnswersReader form is_first.old is_first.new (B.remaining input)
         (W.contents out.old) (W.contents out.new)) }
-    ensures stops { OnErr result (StopsReader form is_first.old (B.remaining input) (W.contents out.old) (W.contents out.new)) }
+    ensures stops { IfErr result (StopsReader form is_first.old (B.remaining input) (W.contents out.old) (W.contents out.new)) }
 {
     let mut number = 0u64;
     for line in input.lines(alloc) {
         number = number.saturating_add(1);
-        answer_line(alloc, line, number, form, *is_first, out)?;
-        out.flush().map_err(Trouble::Write)?;
+        match answer_line(alloc, line, number, form, *is_first, out) {
+            Ok(()) => {}
+            Err(trouble) => return Err(trouble),
+        }
+        match out.flush() {
+            Ok(()) => {}
+            Err(error) => return Err(Trouble::Write(error)),
+        }
         *is_first = false;
     }
     Ok(())
@@ -66,12 +74,14 @@ fn answer_line<W: Write>(
     ensures answers { OnOk result (IsOkAnd line (λ line. (text : List ℕ)
         × AnswersLine form is_first (string_bytes line) text
         × Appends (W.contents out.old) (W.contents out.new) text)) }
-    ensures stops { OnErr result (AnswersPart form is_first line (W.contents out.old) (W.contents out.new)) }
+    ensures stops { IfErr result (StopsLine form is_first number line (W.contents out.old) (W.contents out.new)) }
 {
-    let text = text_for(alloc, line, number, form, is_first)?;
-    match write_whole(text.as_slice(), out) {
-        Ok(()) => Ok(()),
-        Err(error) => Err(Trouble::Write(error)),
+    match text_for(alloc, line, number, form, is_first) {
+        Ok(text) => match write_whole(text.as_slice(), out) {
+            Ok(()) => Ok(()),
+            Err(error) => Err(Trouble::Write(error)),
+        },
+        Err(trouble) => Err(trouble),
     }
 }
 
@@ -84,21 +94,49 @@ fn text_for(
     is_first: bool,
 ) -> Result<Vec<u8>, Trouble>
     ensures answers { IfOk result (λ text. IsOkAnd line (λ line. AnswersLine form is_first (string_bytes line) text.items)) }
+    ensures stops { IfErr result (IsTroubleWith (Line.Case number) line) }
 {
-    let value = value_of(alloc, Line::Case(number), line)?;
-    let case = numbered_case(alloc, &value, number)?;
-    let mut text = Vec::new(alloc);
-    match write_answer(alloc, &case, form, is_first, &mut text) {
-        Ok(()) => Ok(text),
-        Err(trouble) => Err(unkept(trouble)),
+    match value_of(alloc, Line::Case(number), line) {
+        Ok(value) => text_of(alloc, &value, number, form, is_first),
+        Err(trouble) => Err(trouble),
     }
 }
 
-/// The trouble with a text that is kept in memory: a write that failed there was refused a growth.
-fn unkept(trouble: Trouble) -> Trouble {
-    match trouble {
-        Trouble::Write(_) => Trouble::Memory,
-        other => other,
+/// What is to be written for the line of this number, which holds this.
+fn text_of(
+    alloc: Global,
+    value: &Value,
+    number: u64,
+    form: Form,
+    is_first: bool,
+) -> Result<Vec<u8>, Trouble>
+    ensures answers { IfOk result (λ text. AnswersValue form is_first (view value.now) text.items) }
+    ensures misread { IfErr result (IsMisread (Line.Case number)) }
+{
+    match numbered_case(alloc, value, number) {
+        Ok(case) => match case_text(alloc, &case, form, is_first) {
+            Ok(text) => Ok(text),
+            Err(AllocError) => Err(Trouble::Memory),
+        },
+        Err(trouble) => Err(trouble),
+    }
+}
+
+/// What is to be written for a case.
+fn case_text(
+    alloc: Global,
+    case: &Case<'_>,
+    form: Form,
+    is_first: bool,
+) -> Result<Vec<u8>, AllocError>
+    requires fits { ReportFits case.now.groups.items }
+    ensures text { IfOk result (λ text. (outcome : Outcome) × IsOutcomeOf case.now outcome
+        × (text.items ≡ answer_text form is_first case.now.id.now outcome)) }
+{
+    let mut text = Vec::new(alloc);
+    match write_answer(alloc, case, form, is_first, &mut text) {
+        Ok(()) => Ok(text),
+        Err(_) => Err(AllocError),
     }
 }
 
@@ -106,25 +144,34 @@ fn unkept(trouble: Trouble) -> Trouble {
 pub fn numbered_case<'v>(alloc: Global, value: &'v Value, number: u64) -> Result<Case<'v>, Trouble>
     ensures value { IfOk result (IsCaseOf (view value.now)) }
     ensures fits { IfOk result (λ case. ReportFits case.groups.items) }
+    ensures misread { IfErr result (IsMisread (Line.Case number)) }
 {
-    case_of(alloc, value).map_err(|fault| wrong_line(Line::Case(number), fault))
+    match case_of(alloc, value) {
+        Ok(case) => Ok(case),
+        Err(fault) => Err(wrong_line(Line::Case(number), fault)),
+    }
 }
 
 /// What this line holds.
 pub fn value_of(alloc: Global, line: Line, text: io::Result<String>) -> Result<Value, Trouble>
     ensures value { IfOk result (λ value. IsOkAnd text (λ text. read (string_bytes text) ≡ Some (view value))) }
+    ensures stops { IfErr result (IsTroubleWith line text) }
 {
     match text {
-        Ok(text) => {
-            Value::from_str(alloc, text.as_str()).map_err(|error| not_json(line, &error))
-        }
+        Ok(text) => match Value::from_str(alloc, text.as_str()) {
+            Ok(value) => Ok(value),
+            Err(error) => Err(not_json(line, error)),
+        },
         Err(error) if error.kind() == io::ErrorKind::InvalidData => Err(Trouble::NotText(line)),
         Err(error) => Err(Trouble::Read(error)),
     }
 }
 
-/// The trouble with a line in which reading JSON met this.
-fn not_json(line: Line, error: &Error) -> Trouble {
+/// The trouble with a line at which reading JSON met this.
+fn not_json(line: Line, error: Error) -> Trouble
+    ensures memory { IsMemory error → result ≡ Trouble.Memory }
+    ensures text { (IsMemory error → ⊥) → (column : ℕ) × (ends_early : Bool) × (result ≡ Trouble.NotJson line column ends_early) }
+{
     if error.is_memory() {
         Trouble::Memory
     } else {

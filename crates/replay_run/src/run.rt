@@ -1,6 +1,6 @@
 //! A run of the program: what its words ask for is done, and the status tells how it went.
 
-ghost use Rattle.std.specs.Prelude.{◌≡◌, ◌⊎◌, ℕ, ◌<◌, ◌≤◌, List, [], ◌∷◌, codes, length, IfOk, OnErr, OnOk, string_bytes};
+ghost use Rattle.std.specs.Prelude.{◌≡◌, ◌⊎◌, ℕ, ◌<◌, ◌≤◌, List, [], ◌∷◌, codes, length, IfErr, IfOk, OnOk, string_bytes};
 ghost use Rattle.std.specs.Io.Buffered.{reader_inner, reader_remaining};
 ghost use Rattle.std.specs.Io.KnownBytes.{Appends};
 ghost use Rattle.program.specs.Stream.{Receives};
@@ -9,7 +9,7 @@ ghost use Rattle.replay_run.specs.Compared.{EndsComparison, count_line};
 ghost use Rattle.replay_run.specs.Growth.{Grows};
 ghost use Rattle.replay_run.specs.Judged.{CountsLines};
 ghost use Rattle.replay_run.specs.Answer.{line_of};
-ghost use Rattle.replay_run.specs.Trouble.{TellsMisuse, TellsStop, misuse_text, shown, stop_text};
+ghost use Rattle.replay_run.specs.Trouble.{IsRead, TellsMisuse, TellsStop, misuse_text, shown, stop_text};
 ghost use Rattle.replay_run.specs.Words.{Word, words_at, usage_text, AsksAnswers, IsCommandLine, IsComparison, IfAnswers, IfComparison, Compares};
 ghost use Rattle.replay_run.specs.declared.command.Command.{Command};
 ghost use Rattle.replay_run.specs.declared.command.Command.TheVariants.{Help};
@@ -84,10 +84,11 @@ pub fn run<R: Files + Input + Clock + AllocGlobal, W: Write, V: Write>(
     ensures answers_input { result ≡ 0 → (form : Form) → AsksAnswers (words_at words.now) form []
         → AnswersReaders R.Reader R.Reader.remaining form 1 (W.contents out.old) (W.contents out.new) }
     ensures stops { result ≡ 2 → (form : Form) → (files : List Word) → AsksAnswers (words_at words.now) form files
-        → 0 < length files
-        → StopsReaders R.File R.File.remaining form (length files) (W.contents out.old) (W.contents out.new) }
+        → 0 < length files → (name : Word) × (trouble : Trouble) × TellsStop name trouble (Receives V.contents err.old err.new)
+        × StopsReaders R.File R.File.remaining form files (W.contents out.old) (W.contents out.new) name trouble }
     ensures stops_input { result ≡ 2 → (form : Form) → AsksAnswers (words_at words.now) form []
-        → StopsReaders R.Reader R.Reader.remaining form 1 (W.contents out.old) (W.contents out.new) }
+        → (name : Word) × (trouble : Trouble) × TellsStop name trouble (Receives V.contents err.old err.new)
+        × StopsReaders R.Reader R.Reader.remaining form (codes "standard input" ∷ []) (W.contents out.old) (W.contents out.new) name trouble }
     ensures help { result ≡ 0 → words_at words.now ≡ codes "--help" ∷ []
         → Appends (W.contents out.old) (W.contents out.new) (line_of usage_text) }
 {
@@ -114,14 +115,14 @@ fn finish<'a, R: Files + Input + Clock + AllocGlobal, W: Write>(
     ensures differs { IfOk result (λ status. status ≡ 1 → IsComparison command.now) }
     ensures compares { IfOk result (λ status. IfComparison command.now (λ files.
         EndsComparison R.File R.File.remaining files (W.contents out.old) (W.contents out.new) status)) }
-    ensures answers { OnOk result (IfAnswers command.now (λ form files. 0 < files
-        → AnswersReaders R.File R.File.remaining form files (W.contents out.old) (W.contents out.new))) }
-    ensures answers_input { OnOk result (IfAnswers command.now (λ form files. files ≡ 0
+    ensures answers { OnOk result (IfAnswers command.now (λ form files. 0 < length files
+        → AnswersReaders R.File R.File.remaining form (length files) (W.contents out.old) (W.contents out.new))) }
+    ensures answers_input { OnOk result (IfAnswers command.now (λ form files. length files ≡ 0
         → AnswersReaders R.Reader R.Reader.remaining form 1 (W.contents out.old) (W.contents out.new))) }
-    ensures stops { OnErr result (IfAnswers command.now (λ form files. 0 < files
-        → StopsReaders R.File R.File.remaining form files (W.contents out.old) (W.contents out.new))) }
-    ensures stops_input { OnErr result (IfAnswers command.now (λ form files. files ≡ 0
-        → StopsReaders R.Reader R.Reader.remaining form 1 (W.contents out.old) (W.contents out.new))) }
+    ensures stops { IfErr result (λ stop. IfAnswers command.now (λ form files. 0 < length files
+        → StopsReaders R.File R.File.remaining form files (W.contents out.old) (W.contents out.new) stop.file.now stop.trouble)) }
+    ensures stops_input { IfErr result (λ stop. IfAnswers command.now (λ form files. length files ≡ 0
+        → StopsReaders R.Reader R.Reader.remaining form (codes "standard input" ∷ []) (W.contents out.old) (W.contents out.new) stop.file.now stop.trouble)) }
     ensures help { OnOk result (command.now ≡ Help → Appends (W.contents out.old) (W.contents out.new) (line_of usage_text)) }
 {
     match do_command(rt, command, out) {
@@ -189,14 +190,14 @@ fn do_command<'a, R: Files + Input + Clock + AllocGlobal, W: Write>(
     ensures differs { IfOk result (λ status. status ≡ 1 → IsComparison command.now) }
     ensures compares { IfOk result (λ status. IfComparison command.now (λ files.
         EndsComparison R.File R.File.remaining files (W.contents out.old) (W.contents out.new) status)) }
-    ensures answers { OnOk result (IfAnswers command.now (λ form files. 0 < files
-        → AnswersReaders R.File R.File.remaining form files (W.contents out.old) (W.contents out.new))) }
-    ensures answers_input { OnOk result (IfAnswers command.now (λ form files. files ≡ 0
+    ensures answers { OnOk result (IfAnswers command.now (λ form files. 0 < length files
+        → AnswersReaders R.File R.File.remaining form (length files) (W.contents out.old) (W.contents out.new))) }
+    ensures answers_input { OnOk result (IfAnswers command.now (λ form files. length files ≡ 0
         → AnswersReaders R.Reader R.Reader.remaining form 1 (W.contents out.old) (W.contents out.new))) }
-    ensures stops { OnErr result (IfAnswers command.now (λ form files. 0 < files
-        → StopsReaders R.File R.File.remaining form files (W.contents out.old) (W.contents out.new))) }
-    ensures stops_input { OnErr result (IfAnswers command.now (λ form files. files ≡ 0
-        → StopsReaders R.Reader R.Reader.remaining form 1 (W.contents out.old) (W.contents out.new))) }
+    ensures stops { IfErr result (λ stop. IfAnswers command.now (λ form files. 0 < length files
+        → StopsReaders R.File R.File.remaining form files (W.contents out.old) (W.contents out.new) stop.file.now stop.trouble)) }
+    ensures stops_input { IfErr result (λ stop. IfAnswers command.now (λ form files. length files ≡ 0
+        → StopsReaders R.Reader R.Reader.remaining form (codes "standard input" ∷ []) (W.contents out.old) (W.contents out.new) stop.file.now stop.trouble)) }
     ensures help { OnOk result (command.now ≡ Help → Appends (W.contents out.old) (W.contents out.new) (line_of usage_text)) }
 {
     match *command {
@@ -224,25 +225,28 @@ fn answer<'a, R: Files + Input + AllocGlobal, W: Write>(
     out: &mut W,
 ) -> Result<u8, Stop<'a>>
     ensures status { IfOk result (λ status. status ≡ 0) }
-    ensures answers { OnOk result (0 < length files.now
-        → AnswersReaders R.File R.File.remaining form (length files.now) (W.contents out.old) (W.contents out.new)) }
-    ensures answers_input { OnOk result (length files.now ≡ 0
+    ensures answers { OnOk result (0 < length (words_at files.now) → AnswersReaders R.File R.File.remaining form
+        (length (words_at files.now)) (W.contents out.old) (W.contents out.new)) }
+    ensures answers_input { OnOk result (length (words_at files.now) ≡ 0
         → AnswersReaders R.Reader R.Reader.remaining form 1 (W.contents out.old) (W.contents out.new)) }
-    ensures stops { OnErr result (0 < length files.now
-        → StopsReaders R.File R.File.remaining form (length files.now) (W.contents out.old) (W.contents out.new)) }
-    ensures stops_input { OnErr result (length files.now ≡ 0
-        → StopsReaders R.Reader R.Reader.remaining form 1 (W.contents out.old) (W.contents out.new)) }
+    ensures stops { IfErr result (λ stop. 0 < length (words_at files.now) → StopsReaders R.File R.File.remaining form
+        (words_at files.now) (W.contents out.old) (W.contents out.new) stop.file.now stop.trouble) }
+    ensures stops_input { IfErr result (λ stop. length (words_at files.now) ≡ 0 → StopsReaders R.Reader R.Reader.remaining form
+        (codes "standard input" ∷ []) (W.contents out.old) (W.contents out.new) stop.file.now stop.trouble) }
 {
-    if !files.is_empty() {
-        answer_files(rt, form, files, out)?;
-        return Ok(DONE);
-    }
-    match answer_input(rt, form, out) {
-        Ok(()) => Ok(DONE),
-        Err(trouble) => Err(Stop {
-            file: INPUT,
-            trouble,
-        }),
+    if files.is_empty() {
+        match answer_input(rt, form, out) {
+            Ok(()) => Ok(DONE),
+            Err(trouble) => Err(Stop {
+                file: INPUT,
+                trouble,
+            }),
+        }
+    } else {
+        match answer_files(rt, form, files, out) {
+            Ok(()) => Ok(DONE),
+            Err(stop) => Err(stop),
+        }
     }
 }
 
@@ -253,10 +257,10 @@ fn answer_files<'a, R: Files + AllocGlobal, W: Write>(
     files: &[&'a str],
     out: &mut W,
 ) -> Result<(), Stop<'a>>
-    ensures answers { OnOk result
-        (AnswersReaders R.File R.File.remaining form (length files.now) (W.contents out.old) (W.contents out.new)) }
-    ensures stops { OnErr result
-        (StopsReaders R.File R.File.remaining form (length files.now) (W.contents out.old) (W.contents out.new)) }
+    ensures answers { OnOk result (AnswersReaders R.File R.File.remaining form (length (words_at files.now))
+        (W.contents out.old) (W.contents out.new)) }
+    ensures stops { IfErr result (λ stop. StopsReaders R.File R.File.remaining form (words_at files.now)
+        (W.contents out.old) (W.contents out.new) stop.file.now stop.trouble) }
 {
     let mut is_first = true;
     for file in files {
@@ -277,17 +281,27 @@ fn answer_files<'a, R: Files + AllocGlobal, W: Write>(
 fn opened<R: Files + AllocGlobal>(rt: &R, file: &str) -> Result<BufReader<R::File>, Trouble>
     ensures bytes { IfOk result (λ reader.
         reader_remaining R.File.remaining reader ≡ R.File.remaining (reader_inner reader)) }
+    ensures unread { IfErr result IsRead }
 {
-    let input = fs::open(rt, file).map_err(Trouble::Read)?;
-    BufReader::new(rt.alloc(), input).map_err(Trouble::Read)
+    match fs::open(rt, file) {
+        Ok(input) => match BufReader::new(rt.alloc(), input) {
+            Ok(reader) => Ok(reader),
+            Err(error) => Err(Trouble::Read(error)),
+        },
+        Err(error) => Err(Trouble::Read(error)),
+    }
 }
 
 /// The bytes of standard input.
 fn opened_input<R: Input + AllocGlobal>(rt: &R) -> Result<BufReader<R::Reader>, Trouble>
     ensures bytes { IfOk result (λ reader.
         reader_remaining R.Reader.remaining reader ≡ R.Reader.remaining (reader_inner reader)) }
+    ensures unread { IfErr result IsRead }
 {
-    BufReader::new(rt.alloc(), rt.reader()).map_err(Trouble::Read)
+    match BufReader::new(rt.alloc(), rt.reader()) {
+        Ok(reader) => Ok(reader),
+        Err(error) => Err(Trouble::Read(error)),
+    }
 }
 
 /// Answers the cases of standard input.
@@ -298,12 +312,14 @@ fn answer_input<R: Input + AllocGlobal, W: Write>(
 ) -> Result<(), Trouble>
     ensures answers { OnOk result
         (AnswersReaders R.Reader R.Reader.remaining form 1 (W.contents out.old) (W.contents out.new)) }
-    ensures stops { OnErr result
-        (StopsReaders R.Reader R.Reader.remaining form 1 (W.contents out.old) (W.contents out.new)) }
+    ensures stops { IfErr result (StopsReaders R.Reader R.Reader.remaining form (codes "standard input" ∷ [])
+        (W.contents out.old) (W.contents out.new) (codes "standard input")) }
 {
-    let input = opened_input(rt)?;
     let mut is_first = true;
-    answer_lines(rt.alloc(), input, form, &mut is_first, out)
+    match opened_input(rt) {
+        Ok(input) => answer_lines(rt.alloc(), input, form, &mut is_first, out),
+        Err(trouble) => Err(trouble),
+    }
 }
 
 /// Answers the cases of one file.
@@ -316,10 +332,12 @@ fn answer_file<R: Files + AllocGlobal, W: Write>(
 ) -> Result<(), Trouble>
     ensures answers { OnOk result ((input : R.File) × AnswersReader form is_first.old is_first.new (R.File.remaining input)
         (W.contents out.old) (W.contents out.new)) }
-    ensures stops { OnErr result (StopsAt R.File R.File.remaining form is_first.old (W.contents out.old) (W.contents out.new)) }
+    ensures stops { IfErr result (StopsAt R.File R.File.remaining form is_first.old (W.contents out.old) (W.contents out.new)) }
 {
-    let input = opened(rt, file)?;
-    answer_lines(rt.alloc(), input, form, is_first, out)
+    match opened(rt, file) {
+        Ok(input) => answer_lines(rt.alloc(), input, form, is_first, out),
+        Err(trouble) => Err(trouble),
+    }
 }
 
 /// Compares each pair of files, and prints the counts.

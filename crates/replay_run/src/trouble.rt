@@ -1,7 +1,7 @@
 //! What stops a run, and what is told of it.
 
 ghost use Rattle.std.specs.Prelude.{◌≡◌, ℕ, List, Some, IfOk, string_bytes};
-ghost use Rattle.replay_run.specs.Trouble.{json_text, line_text, trouble_text, unpaired_text};
+ghost use Rattle.replay_run.specs.Trouble.{IsMisread, json_text, line_text, trouble_text, unpaired_text};
 
 use json_node::fault::Fault;
 use std::alloc::{AllocError, AllocFailed, Global};
@@ -63,7 +63,9 @@ impl fmt::Display for Line {
 }
 
 /// The trouble with a line of which this is wrong.
-pub fn wrong_line(line: Line, fault: Fault) -> Trouble {
+pub fn wrong_line(line: Line, fault: Fault) -> Trouble
+    ensures line { IsMisread line result }
+{
     match fault {
         Fault::Wrong(words) => Trouble::Wrong(line, words),
         Fault::Memory => Trouble::Memory,

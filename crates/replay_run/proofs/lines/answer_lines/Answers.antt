@@ -1,8 +1,7 @@
-use Rattle.std.proofs.Common.{ap, ◌∙◌}
+use Rattle.std.proofs.Common.{ap, refl, ◌∙◌}
 use Rattle.std.specs.Io.Iter.{lines_known_bytes}
 use Rattle.std.proofs.KnownBytes.{Keeps-refl}
 use Rattle.replay_run.proofs.AnsweredLines.{answered_all, answered_none, answered_step, stops_after, stops_within}
-use Rattle.replay_run.proofs.AnsweredReaders.{anyway}
 use Rattle.replay_run.proofs.lines.answer_lines.Goals as goal
 
 pub loop-line-init : goal.loop-line-init
@@ -11,16 +10,16 @@ loop-line-init g c =
 
 pub loop-line-preserved : goal.loop-line-preserved
 loop-line-preserved g c =
-    answered_step _ _ _ _ _ _ _ _ _ _ _ c.in-Some.line c.loop-line.invariant c.in-Some.is c.next.ensures.steps.1 c.in_ok-answer_line.ensures.answers c.flush.ensures.bytes
+    answered_step _ _ _ _ _ _ _ _ _ _ _ _ _ c.in-Some.line c.loop-line.invariant c.saturating_add-number.ensures c.in-Some.is c.next.ensures.steps.1 c.in-Ok.ensures.answers c.flush.ensures.bytes
 
-pub returns-in_err-answer_line-clause-stops : goal.returns-in_err-answer_line-clause-stops
-returns-in_err-answer_line-clause-stops g c =
-    anyway c.from_residual.result (stops_within _ _ _ _ _ _ _ _ _ _ c.in-Some.line c.loop-line.invariant c.in-Some.is c.next.ensures.steps.1 c.in_err-answer_line.ensures.stops)
+pub returns-in-Err-clause-stops : goal.returns-in-Err-clause-stops
+returns-in-Err-clause-stops g c =
+    stops_within _ _ _ _ _ _ _ _ _ _ _ _ _ c.in-Some.line c.loop-line.invariant c.saturating_add-number.ensures c.in-Some.is c.next.ensures.steps.1 c.in-Err.ensures.stops
 
-pub returns-in_err-map_err-clause-stops : goal.returns-in_err-map_err-clause-stops
-returns-in_err-map_err-clause-stops g c =
-    let more = answered_step _ _ _ _ _ _ _ _ _ _ _ c.in-Some.line c.loop-line.invariant c.in-Some.is c.next.ensures.steps.1 c.in_ok-answer_line.ensures.answers c.flush.ensures.bytes in
-    anyway c.from_residual-in_err-map_err.result (stops_after _ _ _ _ _ _ _ _ more (Keeps-refl _))
+pub returns-in-Err-flush-clause-stops : goal.returns-in-Err-flush-clause-stops
+returns-in-Err-flush-clause-stops g c =
+    let more = answered_step _ _ _ _ _ _ _ _ _ _ _ _ _ c.in-Some.line c.loop-line.invariant c.saturating_add-number.ensures c.in-Some.is c.next.ensures.steps.1 c.in-Ok.ensures.answers c.flush.ensures.bytes in
+    stops_after _ _ _ _ _ _ _ _ _ _ more (Keeps-refl _) (c.in-Err-flush.error, refl)
 
 pub returns-clause-answers : goal.returns-clause-answers
-returns-clause-answers g c = answered_all _ _ _ _ _ _ _ _ _ c.loop-line.invariant c.in-None.is c.next.ensures.steps.1
+returns-clause-answers g c = answered_all _ _ _ _ _ _ _ _ _ _ c.loop-line.invariant c.in-None.is c.next.ensures.steps.1

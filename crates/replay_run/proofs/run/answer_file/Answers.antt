@@ -1,16 +1,16 @@
 use Rattle.std.proofs.Common.{inl, inr}
 use Rattle.std.proofs.KnownBytes.{Keeps-refl}
 use Rattle.std.specs.Io.Buffered.{reader_inner}
-use Rattle.replay_run.proofs.AnsweredReaders.{answered_same, anyway, on_err, on_ok, stopped_same}
+use Rattle.replay_run.proofs.AnsweredReaders.{answered_same, if_err, on_ok, stopped_same}
 use Rattle.replay_run.proofs.run.answer_file.Goals as goal
 
-pub returns-in_err-input-clause-stops : goal.returns-in_err-input-clause-stops
-returns-in_err-input-clause-stops g c = anyway c.from_residual.result (inl (Keeps-refl _))
+pub returns-in-Err-clause-stops : goal.returns-in-Err-clause-stops
+returns-in-Err-clause-stops g c = inl (Keeps-refl _, c.in-Err.ensures.unread)
 
-pub returns-clause-answers : goal.returns-clause-answers
-returns-clause-answers g c =
-    on_ok c.answer_lines.result (λ h. (reader_inner c.in_ok-input.input, answered_same _ _ _ _ _ _ _ c.in_ok-input.ensures.bytes h)) c.answer_lines.ensures.answers
+pub returns-in-Ok-clause-answers : goal.returns-in-Ok-clause-answers
+returns-in-Ok-clause-answers g c =
+    on_ok c.answer_lines.result (λ h. (reader_inner c.in-Ok.input, answered_same _ _ _ _ _ _ _ c.in-Ok.ensures.bytes h)) c.answer_lines.ensures.answers
 
-pub returns-clause-stops : goal.returns-clause-stops
-returns-clause-stops g c =
-    on_err c.answer_lines.result (λ h. inr (reader_inner c.in_ok-input.input, stopped_same _ _ _ _ _ _ c.in_ok-input.ensures.bytes h)) c.answer_lines.ensures.stops
+pub returns-in-Ok-clause-stops : goal.returns-in-Ok-clause-stops
+returns-in-Ok-clause-stops g c =
+    if_err c.answer_lines.result (λ trouble h. inr (reader_inner c.in-Ok.input, stopped_same _ _ _ _ _ _ trouble c.in-Ok.ensures.bytes h)) c.answer_lines.ensures.stops

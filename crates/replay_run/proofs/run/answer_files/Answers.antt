@@ -1,6 +1,7 @@
-use Rattle.std.proofs.Common.{◌≡◌, arith, length, subst}
+use Rattle.std.proofs.Common.{◌≡◌, arith, length, subst, sym, ◌∙◌}
+use Rattle.std.proofs.lemmas.List.{length-map}
 use Rattle.replay_run.specs.Answered.{AnswersReaders}
-use Rattle.replay_run.proofs.AnsweredReaders.{readers_more, readers_none, readers_stop}
+use Rattle.replay_run.proofs.AnsweredReaders.{names_at, readers_more, readers_none, readers_stop}
 use Rattle.replay_run.proofs.run.answer_files.Goals as goal
 
 pub loop-file-init : goal.loop-file-init
@@ -13,9 +14,10 @@ loop-file-preserved g c =
 
 pub returns-in-Err-clause-stops : goal.returns-in-Err-clause-stops
 returns-in-Err-clause-stops g c =
-    readers_stop g.R.File.Read.remaining c.args.form c.loop-file.file-index (length c.args.files.now) _ _ _ _ (omega (arith, c.loop-file-test.true)) c.loop-file.invariant c.in-Err.ensures.stops
+    let (before, after, split, many) = names_at c.args.files.now c.loop-file.file-index _ (omega (arith, c.loop-file-test.true)) in
+    readers_stop g.R.File.Read.remaining c.args.form c.loop-file.file-index _ before after _ _ _ _ _ _ c.loop-file.invariant split many c.in-Err.ensures.stops
 
 pub returns-clause-answers : goal.returns-clause-answers
 returns-clause-answers g c =
     let all : c.loop-file.file-index ≡ length c.args.files.now = omega arith in
-    subst (λ n. AnswersReaders g.row.R-File.Denot g.R.File.Read.remaining c.args.form n (g.W.Write.contents c.args.out.now) (g.W.Write.contents c.loop-file.out)) all c.loop-file.invariant.all
+    subst (λ n. AnswersReaders g.row.R-File.Denot g.R.File.Read.remaining c.args.form n (g.W.Write.contents c.args.out.now) (g.W.Write.contents c.loop-file.out)) (all ∙ sym (length-map c.args.files.now (λ w. w.now))) c.loop-file.invariant.all

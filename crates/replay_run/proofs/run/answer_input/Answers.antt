@@ -1,15 +1,17 @@
-use Rattle.std.proofs.Common.{inr}
+use Rattle.std.proofs.Common.{codes, inl, inr}
+use Rattle.std.proofs.KnownBytes.{Keeps-refl}
 use Rattle.std.specs.Io.Buffered.{reader_inner}
-use Rattle.replay_run.proofs.AnsweredReaders.{answered_same, anyway, first_stops, none_stop, on_err, on_ok, reader_alone, stopped_same}
+use Rattle.replay_run.proofs.AnsweredReaders.{answered_same, first_stops, if_err, on_ok, reader_alone, stopped_same}
 use Rattle.replay_run.proofs.run.answer_input.Goals as goal
 
-pub returns-in_err-input-clause-stops : goal.returns-in_err-input-clause-stops
-returns-in_err-input-clause-stops g c = anyway c.from_residual.result (none_stop g.R.Reader.Read.remaining c.args.form 1 _)
+pub returns-in-Err-clause-stops : goal.returns-in-Err-clause-stops
+returns-in-Err-clause-stops g c =
+    first_stops g.R.Reader.Read.remaining c.args.form (codes "standard input") _ _ c.in-Err.trouble (inl (Keeps-refl _, c.in-Err.ensures.unread))
 
-pub returns-clause-answers : goal.returns-clause-answers
-returns-clause-answers g c =
-    on_ok c.answer_lines.result (λ h. reader_alone g.R.Reader.Read.remaining c.args.form _ _ _ (reader_inner c.in_ok-input.input) (answered_same _ _ _ _ _ _ _ c.in_ok-input.ensures.bytes h)) c.answer_lines.ensures.answers
+pub returns-in-Ok-clause-answers : goal.returns-in-Ok-clause-answers
+returns-in-Ok-clause-answers g c =
+    on_ok c.answer_lines.result (λ h. reader_alone g.R.Reader.Read.remaining c.args.form _ _ _ (reader_inner c.in-Ok.input) (answered_same _ _ _ _ _ _ _ c.in-Ok.ensures.bytes h)) c.answer_lines.ensures.answers
 
-pub returns-clause-stops : goal.returns-clause-stops
-returns-clause-stops g c =
-    on_err c.answer_lines.result (λ h. first_stops g.R.Reader.Read.remaining c.args.form 1 _ _ (inr (reader_inner c.in_ok-input.input, stopped_same _ _ _ _ _ _ c.in_ok-input.ensures.bytes h))) c.answer_lines.ensures.stops
+pub returns-in-Ok-clause-stops : goal.returns-in-Ok-clause-stops
+returns-in-Ok-clause-stops g c =
+    if_err c.answer_lines.result (λ trouble h. first_stops g.R.Reader.Read.remaining c.args.form (codes "standard input") _ _ trouble (inr (reader_inner c.in-Ok.input, stopped_same _ _ _ _ _ _ trouble c.in-Ok.ensures.bytes h))) c.answer_lines.ensures.stops

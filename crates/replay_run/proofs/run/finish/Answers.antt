@@ -1,7 +1,8 @@
-use Rattle.std.proofs.Common.{◌≡◌, ◌<◌}
+use Rattle.std.proofs.Common.{◌≡◌, ◌<◌, [], ◌∷◌, codes, length, refl}
 use Rattle.replay_run.specs.Answered.{AnswersReaders, StopsReaders}
 use Rattle.replay_run.specs.Compared.{EndsComparison}
 use Rattle.replay_run.proofs.AnsweredReaders.{all_stop, readers_kept, stops_kept}
+use Rattle.replay_run.specs.declared.trouble.Trouble.TheVariants.{Write}
 use Rattle.replay_run.proofs.Commands.{if_answers, if_comparison}
 use Rattle.replay_run.proofs.Growing.{appends_kept}
 use Rattle.replay_run.proofs.Ending.{ends_kept}
@@ -18,16 +19,16 @@ returns-in-Ok-flush-clause-compares g c =
 pub returns-in-Ok-flush-clause-answers : goal.returns-in-Ok-flush-clause-answers
 returns-in-Ok-flush-clause-answers g c =
     if_answers c.args.command.now
-    (λ f n. 0 < n → AnswersReaders g.row.R-File.Denot g.R.File.Read.remaining f n (g.W.Write.contents c.args.out.now) (g.W.Write.contents c.do_command.new.out))
-    (λ f n. 0 < n → AnswersReaders g.row.R-File.Denot g.R.File.Read.remaining f n (g.W.Write.contents c.args.out.now) (g.W.Write.contents c.flush.new.self))
-    (λ f n told some. readers_kept g.R.File.Read.remaining f n _ _ _ (told some) c.in-Ok-flush.ensures.bytes)
+    (λ f n. 0 < length n → AnswersReaders g.row.R-File.Denot g.R.File.Read.remaining f (length n) (g.W.Write.contents c.args.out.now) (g.W.Write.contents c.do_command.new.out))
+    (λ f n. 0 < length n → AnswersReaders g.row.R-File.Denot g.R.File.Read.remaining f (length n) (g.W.Write.contents c.args.out.now) (g.W.Write.contents c.flush.new.self))
+    (λ f n told some. readers_kept g.R.File.Read.remaining f (length n) _ _ _ (told some) c.in-Ok-flush.ensures.bytes)
     c.in-Ok.ensures.answers
 
 pub returns-in-Ok-flush-clause-answers_input : goal.returns-in-Ok-flush-clause-answers_input
 returns-in-Ok-flush-clause-answers_input g c =
     if_answers c.args.command.now
-    (λ f n. n ≡ 0 → AnswersReaders g.row.R-Reader.Denot g.R.Reader.Read.remaining f 1 (g.W.Write.contents c.args.out.now) (g.W.Write.contents c.do_command.new.out))
-    (λ f n. n ≡ 0 → AnswersReaders g.row.R-Reader.Denot g.R.Reader.Read.remaining f 1 (g.W.Write.contents c.args.out.now) (g.W.Write.contents c.flush.new.self))
+    (λ f n. length n ≡ 0 → AnswersReaders g.row.R-Reader.Denot g.R.Reader.Read.remaining f 1 (g.W.Write.contents c.args.out.now) (g.W.Write.contents c.do_command.new.out))
+    (λ f n. length n ≡ 0 → AnswersReaders g.row.R-Reader.Denot g.R.Reader.Read.remaining f 1 (g.W.Write.contents c.args.out.now) (g.W.Write.contents c.flush.new.self))
     (λ f n told none. readers_kept g.R.Reader.Read.remaining f 1 _ _ _ (told none) c.in-Ok-flush.ensures.bytes)
     c.in-Ok.ensures.answers_input
 
@@ -38,31 +39,31 @@ returns-in-Ok-flush-clause-help g c =
 pub returns-in-Err-flush-clause-stops : goal.returns-in-Err-flush-clause-stops
 returns-in-Err-flush-clause-stops g c =
     if_answers c.args.command.now
-    (λ f n. 0 < n → AnswersReaders g.row.R-File.Denot g.R.File.Read.remaining f n (g.W.Write.contents c.args.out.now) (g.W.Write.contents c.do_command.new.out))
-    (λ f n. 0 < n → StopsReaders g.row.R-File.Denot g.R.File.Read.remaining f n (g.W.Write.contents c.args.out.now) (g.W.Write.contents c.flush.new.self))
-    (λ f n told some. all_stop g.R.File.Read.remaining f n _ _ _ (told some) c.in-Err-flush.ensures.bytes)
+    (λ f n. 0 < length n → AnswersReaders g.row.R-File.Denot g.R.File.Read.remaining f (length n) (g.W.Write.contents c.args.out.now) (g.W.Write.contents c.do_command.new.out))
+    (λ f n. 0 < length n → StopsReaders g.row.R-File.Denot g.R.File.Read.remaining f n (g.W.Write.contents c.args.out.now) (g.W.Write.contents c.flush.new.self) (codes "standard output") (Write c.in-Err-flush.error))
+    (λ f n told some. all_stop g.R.File.Read.remaining f n _ _ _ (Write c.in-Err-flush.error) (told some) c.in-Err-flush.ensures.bytes (c.in-Err-flush.error, refl))
     c.in-Ok.ensures.answers
 
 pub returns-in-Err-flush-clause-stops_input : goal.returns-in-Err-flush-clause-stops_input
 returns-in-Err-flush-clause-stops_input g c =
     if_answers c.args.command.now
-    (λ f n. n ≡ 0 → AnswersReaders g.row.R-Reader.Denot g.R.Reader.Read.remaining f 1 (g.W.Write.contents c.args.out.now) (g.W.Write.contents c.do_command.new.out))
-    (λ f n. n ≡ 0 → StopsReaders g.row.R-Reader.Denot g.R.Reader.Read.remaining f 1 (g.W.Write.contents c.args.out.now) (g.W.Write.contents c.flush.new.self))
-    (λ f n told none. all_stop g.R.Reader.Read.remaining f 1 _ _ _ (told none) c.in-Err-flush.ensures.bytes)
+    (λ f n. length n ≡ 0 → AnswersReaders g.row.R-Reader.Denot g.R.Reader.Read.remaining f 1 (g.W.Write.contents c.args.out.now) (g.W.Write.contents c.do_command.new.out))
+    (λ f n. length n ≡ 0 → StopsReaders g.row.R-Reader.Denot g.R.Reader.Read.remaining f (codes "standard input" ∷ []) (g.W.Write.contents c.args.out.now) (g.W.Write.contents c.flush.new.self) (codes "standard output") (Write c.in-Err-flush.error))
+    (λ f n told none. all_stop g.R.Reader.Read.remaining f (codes "standard input" ∷ []) _ _ _ (Write c.in-Err-flush.error) (told none) c.in-Err-flush.ensures.bytes (c.in-Err-flush.error, refl))
     c.in-Ok.ensures.answers_input
 
 pub returns-in-Err-clause-stops : goal.returns-in-Err-clause-stops
 returns-in-Err-clause-stops g c =
     if_answers c.args.command.now
-    (λ f n. 0 < n → StopsReaders g.row.R-File.Denot g.R.File.Read.remaining f n (g.W.Write.contents c.args.out.now) (g.W.Write.contents c.do_command.new.out))
-    (λ f n. 0 < n → StopsReaders g.row.R-File.Denot g.R.File.Read.remaining f n (g.W.Write.contents c.args.out.now) (g.W.Write.contents c.flush-in-Err.new.self))
-    (λ f n told some. stops_kept g.R.File.Read.remaining f n _ _ _ (told some) c.flush-in-Err.ensures.bytes)
+    (λ f n. 0 < length n → StopsReaders g.row.R-File.Denot g.R.File.Read.remaining f n (g.W.Write.contents c.args.out.now) (g.W.Write.contents c.do_command.new.out) c.in-Err.stop.file.now c.in-Err.stop.trouble)
+    (λ f n. 0 < length n → StopsReaders g.row.R-File.Denot g.R.File.Read.remaining f n (g.W.Write.contents c.args.out.now) (g.W.Write.contents c.flush-in-Err.new.self) c.in-Err.stop.file.now c.in-Err.stop.trouble)
+    (λ f n told some. stops_kept g.R.File.Read.remaining f n _ _ _ _ c.in-Err.stop.trouble (told some) c.flush-in-Err.ensures.bytes)
     c.in-Err.ensures.stops
 
 pub returns-in-Err-clause-stops_input : goal.returns-in-Err-clause-stops_input
 returns-in-Err-clause-stops_input g c =
     if_answers c.args.command.now
-    (λ f n. n ≡ 0 → StopsReaders g.row.R-Reader.Denot g.R.Reader.Read.remaining f 1 (g.W.Write.contents c.args.out.now) (g.W.Write.contents c.do_command.new.out))
-    (λ f n. n ≡ 0 → StopsReaders g.row.R-Reader.Denot g.R.Reader.Read.remaining f 1 (g.W.Write.contents c.args.out.now) (g.W.Write.contents c.flush-in-Err.new.self))
-    (λ f n told none. stops_kept g.R.Reader.Read.remaining f 1 _ _ _ (told none) c.flush-in-Err.ensures.bytes)
+    (λ f n. length n ≡ 0 → StopsReaders g.row.R-Reader.Denot g.R.Reader.Read.remaining f (codes "standard input" ∷ []) (g.W.Write.contents c.args.out.now) (g.W.Write.contents c.do_command.new.out) c.in-Err.stop.file.now c.in-Err.stop.trouble)
+    (λ f n. length n ≡ 0 → StopsReaders g.row.R-Reader.Denot g.R.Reader.Read.remaining f (codes "standard input" ∷ []) (g.W.Write.contents c.args.out.now) (g.W.Write.contents c.flush-in-Err.new.self) c.in-Err.stop.file.now c.in-Err.stop.trouble)
+    (λ f n told none. stops_kept g.R.Reader.Read.remaining f (codes "standard input" ∷ []) _ _ _ _ c.in-Err.stop.trouble (told none) c.flush-in-Err.ensures.bytes)
     c.in-Err.ensures.stops_input

@@ -1,9 +1,8 @@
-use Rattle.std.proofs.Common.{◌≡◌, ◌<◌, List, [], inr, length, refl, subst}
+use Rattle.std.proofs.Common.{◌≡◌, ◌<◌, List, [], ◌∷◌, codes, inr, length, refl, rules, subst}
 use Rattle.replay_run.specs.Answered.{AnswersReaders, StopsReaders}
 use Rattle.replay_run.specs.Compared.{EndsComparison}
 use Rattle.replay_run.specs.Words.{Word, Asks, words_at}
-use Rattle.replay_run.proofs.AnsweredReaders.{none_stop}
-use Rattle.replay_run.proofs.Commands.{asks_help, files_answered, files_compared}
+use Rattle.replay_run.proofs.Commands.{asked, asks_help, files_answered, files_compared}
 use Rattle.replay_run.proofs.run.run.Goals as goal
 
 pub returns-in-Ok-clause-compares : goal.returns-in-Ok-clause-compares
@@ -14,13 +13,13 @@ returns-in-Ok-clause-compares g c = λ within files is.
 pub returns-in-Ok-clause-answers : goal.returns-in-Ok-clause-answers
 returns-in-Ok-clause-answers g c = λ done form files asks some.
     files_answered (words_at c.args.words.now)
-    c.in-Some.command (λ f n. 0 < n → AnswersReaders g.row.R-File.Denot g.R.File.Read.remaining f n (g.W.Write.contents c.args.out.now)
+    c.in-Some.command (λ f n. 0 < length n → AnswersReaders g.row.R-File.Denot g.R.File.Read.remaining f (length n) (g.W.Write.contents c.args.out.now)
     (g.W.Write.contents c.finish.new.out)) form files c.in-Some.ensures.command asks c.in-Ok.ensures.answers some
 
 pub returns-in-Ok-clause-answers_input : goal.returns-in-Ok-clause-answers_input
 returns-in-Ok-clause-answers_input g c = λ done form asks.
     files_answered (words_at c.args.words.now)
-    c.in-Some.command (λ f n. n ≡ 0 → AnswersReaders g.row.R-Reader.Denot g.R.Reader.Read.remaining f 1 (g.W.Write.contents c.args.out.now)
+    c.in-Some.command (λ f n. length n ≡ 0 → AnswersReaders g.row.R-Reader.Denot g.R.Reader.Read.remaining f 1 (g.W.Write.contents c.args.out.now)
     (g.W.Write.contents c.finish.new.out)) form [] c.in-Some.ensures.command asks c.in-Ok.ensures.answers_input refl
 
 pub returns-in-Ok-clause-help : goal.returns-in-Ok-clause-help
@@ -29,24 +28,34 @@ returns-in-Ok-clause-help g c = λ done is.
     c.in-Ok.ensures.help (asks_help [] c.in-Some.command asks).1
 
 pub returns-in-Err-clause-stops : goal.returns-in-Err-clause-stops
-returns-in-Err-clause-stops g c = λ stopped form files asks some.
-    files_answered (words_at c.args.words.now)
-    c.in-Some.command (λ f n. 0 < n → StopsReaders g.row.R-File.Denot g.R.File.Read.remaining f n (g.W.Write.contents c.args.out.now)
-    (g.W.Write.contents c.finish.new.out)) form files c.in-Some.ensures.command asks c.in-Err.ensures.stops some
+returns-in-Err-clause-stops g c = λ stopped form files asks some. (
+  c.in-Err.stop.file.now,
+  c.in-Err.stop.trouble,
+  c.tell_stop.ensures.told,
+  files_answered (words_at c.args.words.now)
+      c.in-Some.command (λ f n. 0 < length n → StopsReaders g.row.R-File.Denot g.R.File.Read.remaining f n (g.W.Write.contents c.args.out.now)
+      (g.W.Write.contents c.finish.new.out) c.in-Err.stop.file.now c.in-Err.stop.trouble) form files c.in-Some.ensures.command asks c.in-Err.ensures.stops some,
+)
 
 pub returns-in-Err-clause-stops_input : goal.returns-in-Err-clause-stops_input
-returns-in-Err-clause-stops_input g c = λ stopped form asks.
-    files_answered (words_at c.args.words.now)
-    c.in-Some.command (λ f n. n ≡ 0 → StopsReaders g.row.R-Reader.Denot g.R.Reader.Read.remaining f 1 (g.W.Write.contents c.args.out.now)
-    (g.W.Write.contents c.finish.new.out)) form [] c.in-Some.ensures.command asks c.in-Err.ensures.stops_input refl
+returns-in-Err-clause-stops_input g c = λ stopped form asks. (
+  c.in-Err.stop.file.now,
+  c.in-Err.stop.trouble,
+  c.tell_stop.ensures.told,
+  files_answered (words_at c.args.words.now)
+      c.in-Some.command (λ f n. length n ≡ 0 → StopsReaders g.row.R-Reader.Denot g.R.Reader.Read.remaining f (codes "standard input" ∷ []) (g.W.Write.contents c.args.out.now)
+      (g.W.Write.contents c.finish.new.out) c.in-Err.stop.file.now c.in-Err.stop.trouble) form [] c.in-Some.ensures.command asks c.in-Err.ensures.stops_input refl,
+)
 
 pub returns-in_default-clause-stops : goal.returns-in_default-clause-stops
 returns-in_default-clause-stops g c = λ stopped form files asks some.
-    none_stop g.R.File.Read.remaining form (length files) _
+    let (command, are) = asked c.args.words form files asks in
+    absurd (c.in_default.ensures.none (search rules) command are)
 
 pub returns-in_default-clause-stops_input : goal.returns-in_default-clause-stops_input
 returns-in_default-clause-stops_input g c = λ stopped form asks.
-    none_stop g.R.Reader.Read.remaining form 1 _
+    let (command, are) = asked c.args.words form [] asks in
+    absurd (c.in_default.ensures.none (search rules) command are)
 
 pub returns-in-Err-clause-told : goal.returns-in-Err-clause-told
 returns-in-Err-clause-told g c = λ stopped. inr (c.in-Err.stop.file.now, c.in-Err.stop.trouble, c.tell_stop.ensures.told)
