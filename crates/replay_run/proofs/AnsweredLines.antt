@@ -1,5 +1,6 @@
 -- The lines answered so far, and what is left to read.
-use Rattle.std.proofs.Common.{◌≡◌, ℕ, ◌+◌, min, arith, length, Bool, false, List, [], ◌∷◌, ◌++◌, Option, Some, None, refl, sym, ap, ◌∙◌, subst, inl, inr, append_assoc}
+use Rattle.std.proofs.Common.{◌≡◌, ℕ, ◌+◌, min, arith, length, Bool, false, List, [], ◌∷◌, ◌++◌, Option, Some, None, refl, sym, ap, ◌∙◌, subst, inl, inr}
+use Rattle.std.proofs.Common.{append_assoc}
 use Rattle.std.specs.Prelude.{IfSome, IsOkAnd, Result, Ok, Err, String, string_bytes}
 use Rattle.std.specs.Io.BufRead.{first_line, drop_through}
 use Rattle.std.specs.Io.Iter.{YieldsKnownPiece}
@@ -31,7 +32,8 @@ first_twice is_first [] lines = refl
 first_twice is_first (line ∷ before) lines = sym (not_first lines)
 
 -- lines and then more lines are answered
-pub answered_twice : (form : Form) (is_first : Bool) (before texts lines more : List (List ℕ)) → AnswersLines form is_first before texts → AnswersLines form (first_after is_first before) lines more → AnswersLines form is_first (before ++ lines) (texts ++ more)
+pub answered_twice : (form : Form) (is_first : Bool) (before texts lines more : List (List ℕ)) → AnswersLines form is_first before texts
+    → AnswersLines form (first_after is_first before) lines more → AnswersLines form is_first (before ++ lines) (texts ++ more)
 answered_twice form is_first [] [] lines more one two = two
 answered_twice form is_first [] (text ∷ texts) lines more one two = absurd one
 answered_twice form is_first (line ∷ before) [] lines more one two = absurd one
@@ -41,7 +43,8 @@ answered_twice form is_first (line ∷ before) (text ∷ texts) lines more one t
 )
 
 -- texts and then more texts are added
-pub written_twice : (a b c : Option (List ℕ)) (texts more : List (List ℕ)) → Appends a b (concat texts) → Appends b c (concat more) → Appends a c (concat (texts ++ more))
+pub written_twice : (a b c : Option (List ℕ)) (texts more : List (List ℕ)) → Appends a b (concat texts) → Appends b c (concat more)
+    → Appends a c (concat (texts ++ more))
 written_twice a b c texts more one two =
     subst (Appends a c) (sym (concat-append texts more)) (appends_twice a b c (concat texts) (concat more) one two)
 
@@ -55,7 +58,8 @@ left_none : (held left : Option (List ℕ)) → left ≡ held → LeavesAfter he
 left_none None left is = tt
 left_none (Some text) left is = (text, is, λ more are. are, λ more are. are)
 
-left_more : (held left next : Option (List ℕ)) (lines : List (List ℕ)) (line : List ℕ) → LeavesAfter held left lines → GivesLine left next line → LeavesAfter held next (lines ++ line ∷ [])
+left_more : (held left next : Option (List ℕ)) (lines : List (List ℕ)) (line : List ℕ) → LeavesAfter held left lines → GivesLine left next line
+    → LeavesAfter held next (lines ++ line ∷ [])
 left_more None left next lines line h gives = tt
 left_more (Some text) left next lines line h gives =
     let from : GivesLine (Some h.0) next line = subst (λ l. GivesLine l next line) h.1 gives in (
@@ -143,7 +147,8 @@ answered_all form is_first still_first number held left next old new r h is give
     }
 
 -- what was written can't be handed on after the lines so far
-pub stops_after : (form : Form) (is_first still_first : Bool) (number : ℕ) (held left old mid new : Option (List ℕ)) (trouble : Trouble) → HaveAnswered form is_first still_first number held left old mid
+pub stops_after : (form : Form) (is_first still_first : Bool) (number : ℕ) (held left old mid new : Option (List ℕ)) (trouble : Trouble)
+    → HaveAnswered form is_first still_first number held left old mid
     → Keeps mid new → IsWrite trouble → StopsReader form is_first held old new trouble
 stops_after form is_first still_first number held left old mid new trouble h kept write =
     record {
@@ -185,7 +190,8 @@ stops_in form is_first still_first number held left next old mid new trouble lin
     }
 
 -- a line that is no case stands after the lines so far
-trouble_after : {E : Type 0} (held left next : Option (List ℕ)) (lines : List (List ℕ)) (at : Line) (line : Result (String Global) E) (trouble : Trouble) → LeavesAfter held left lines
+trouble_after : {E : Type 0} (held left next : Option (List ℕ)) (lines : List (List ℕ)) (at : Line) (line : Result (String Global) E) (trouble : Trouble)
+    → LeavesAfter held left lines
     → YieldsKnownPiece string_bytes first_line 10 left (Some line) next → at ≡ line_after lines → IsTroubleWith at line trouble → StopsAfter held lines trouble
 trouble_after held left next lines at line (NotText place) h gives at_is with = with ∙ at_is
 trouble_after held left next lines at (Ok x) (NotJson place column ends_early) h gives at_is with = (

@@ -1,5 +1,6 @@
 -- The readers answered so far.
-use Rattle.std.proofs.Common.{◌≡◌, ◌⊎◌, ℕ, zero, suc, ◌+◌, ◌<◌, Bool, true, List, [], ◌∷◌, ◌++◌, Bor, Option, arith, codes, length, map, slice_index_or, refl, sym, ap, ◌∙◌, subst, inl, inr}
+use Rattle.std.proofs.Common.{◌≡◌, ◌⊎◌, ℕ, zero, suc, ◌+◌, ◌<◌, Bool, true, List, [], ◌∷◌, ◌++◌, Bor, Option, arith, codes, length, map, slice_index_or, refl}
+use Rattle.std.proofs.Common.{sym, ap, ◌∙◌, subst, inl, inr}
 use Rattle.std.specs.Prelude.{IfErr, OnErr, OnOk, Result, Ok, Err}
 use Rattle.std.specs.Io.KnownBytes.{Appends, Keeps}
 use Rattle.std.specs.List.{concat, flat_map}
@@ -20,7 +21,8 @@ use Rattle.replay_run.proofs.Growing.{appends_kept, appends_none}
 abbrev pub lines_of : {Reader : Type 0} → List (Reader × List (List ℕ)) → List (List ℕ)
 lines_of readers = flat_map (λ reader. reader.1) readers
 
-lines_push : {Reader : Type 0} (readers : List (Reader × List (List ℕ))) (reader : Reader) (lines : List (List ℕ)) → lines_of (readers ++ (reader, lines) ∷ []) ≡ lines_of readers ++ lines
+lines_push : {Reader : Type 0} (readers : List (Reader × List (List ℕ))) (reader : Reader) (lines : List (List ℕ))
+    → lines_of (readers ++ (reader, lines) ∷ []) ≡ lines_of readers ++ lines
 lines_push readers reader lines =
     flat_map-append (λ r. r.1) readers ((reader, lines) ∷ []) ∙ ap (λ (l : List (List ℕ)). lines_of readers ++ l) (append-nil lines)
 
@@ -30,7 +32,8 @@ pub record HaveAnsweredReaders (Reader : Type 0) (bytes : Reader → Option (Lis
   pub still : still_first ≡ first_after true (lines_of all.readers)
 
 -- before any reader is read nothing is answered
-pub readers_none : {Reader : Type 0} (bytes : Reader → Option (List ℕ)) (form : Form) (old : Option (List ℕ)) → HaveAnsweredReaders Reader bytes form 0 true old old
+pub readers_none : {Reader : Type 0} (bytes : Reader → Option (List ℕ)) (form : Form) (old : Option (List ℕ))
+    → HaveAnsweredReaders Reader bytes form 0 true old old
 readers_none bytes form old =
     record {
       all = record {
@@ -65,13 +68,15 @@ readers_more bytes form count is_first still_first old mid new reader h one =
     }
 
 -- one reader alone
-pub reader_alone : {Reader : Type 0} (bytes : Reader → Option (List ℕ)) (form : Form) (still_first : Bool) (old new : Option (List ℕ)) (reader : Reader) → AnswersReader form true still_first (bytes reader) old new → AnswersReaders Reader bytes form 1 old new
+pub reader_alone : {Reader : Type 0} (bytes : Reader → Option (List ℕ)) (form : Form) (still_first : Bool) (old new : Option (List ℕ)) (reader : Reader)
+    → AnswersReader form true still_first (bytes reader) old new → AnswersReaders Reader bytes form 1 old new
 reader_alone bytes form still_first old new reader one =
     let more = readers_more bytes form 0 true still_first old old new reader (readers_none bytes form old) one in
     more.all
 
 -- a flush afterwards changes nothing
-pub readers_kept : {Reader : Type 0} (bytes : Reader → Option (List ℕ)) (form : Form) (count : ℕ) (old mid new : Option (List ℕ)) → AnswersReaders Reader bytes form count old mid → Keeps mid new → AnswersReaders Reader bytes form count old new
+pub readers_kept : {Reader : Type 0} (bytes : Reader → Option (List ℕ)) (form : Form) (count : ℕ) (old mid new : Option (List ℕ))
+    → AnswersReaders Reader bytes form count old mid → Keeps mid new → AnswersReaders Reader bytes form count old new
 readers_kept bytes form count old mid new h kept =
     record {
       readers = h.readers;
@@ -88,7 +93,8 @@ on_ok (Ok x) tells h = tells h
 on_ok (Err e) tells h = tt
 
 -- two readers that hold the same are answered by the same
-pub answered_same : (form : Form) (is_first still_first : Bool) (held same old new : Option (List ℕ)) → held ≡ same → AnswersReader form is_first still_first held old new → AnswersReader form is_first still_first same old new
+pub answered_same : (form : Form) (is_first still_first : Bool) (held same old new : Option (List ℕ)) → held ≡ same
+    → AnswersReader form is_first still_first held old new → AnswersReader form is_first still_first same old new
 answered_same form is_first still_first held same old new is h =
     subst (λ bytes. AnswersReader form is_first still_first bytes old new) is h
 
@@ -107,11 +113,13 @@ pub if_err : {T E : Type 0} {P Q : E → Type 0} (r : Result T E) → ((e : E) �
 if_err (Ok x) tells h = tt
 if_err (Err e) tells h = tells e h
 
-pub stopped_same : (form : Form) (is_first : Bool) (held same old new : Option (List ℕ)) (trouble : Trouble) → held ≡ same → StopsReader form is_first held old new trouble → StopsReader form is_first same old new trouble
+pub stopped_same : (form : Form) (is_first : Bool) (held same old new : Option (List ℕ)) (trouble : Trouble) → held ≡ same
+    → StopsReader form is_first held old new trouble → StopsReader form is_first same old new trouble
 stopped_same form is_first held same old new trouble is h =
     subst (λ bytes. StopsReader form is_first bytes old new trouble) is h
 
-part_kept : (held old mid new : Option (List ℕ)) (lines : List (List ℕ)) (whole : List ℕ) (trouble : Trouble) → (IsWrite trouble × AppendsFirst old mid whole) ⊎ (Appends old mid whole × StopsAfter held lines trouble)
+part_kept : (held old mid new : Option (List ℕ)) (lines : List (List ℕ)) (whole : List ℕ) (trouble : Trouble)
+    → (IsWrite trouble × AppendsFirst old mid whole) ⊎ (Appends old mid whole × StopsAfter held lines trouble)
     → Keeps mid new → (IsWrite trouble × AppendsFirst old new whole) ⊎ (Appends old new whole × StopsAfter held lines trouble)
 part_kept held old mid new lines whole trouble (inl h) kept =
     inl (
@@ -126,7 +134,8 @@ part_kept held old mid new lines whole trouble (inl h) kept =
 part_kept held old mid new lines whole trouble (inr h) kept = inr (appends_kept old mid new whole h.0 kept, h.1)
 
 -- nothing more is written after it stopped
-stopped_kept : (form : Form) (is_first : Bool) (held old mid new : Option (List ℕ)) (trouble : Trouble) → StopsReader form is_first held old mid trouble → Keeps mid new → StopsReader form is_first held old new trouble
+stopped_kept : (form : Form) (is_first : Bool) (held old mid new : Option (List ℕ)) (trouble : Trouble) → StopsReader form is_first held old mid trouble
+    → Keeps mid new → StopsReader form is_first held old new trouble
 stopped_kept form is_first held old mid new trouble h kept =
     record {
       lines = h.lines;
@@ -136,7 +145,8 @@ stopped_kept form is_first held old mid new trouble h kept =
       written = part_kept held old mid new h.lines (concat h.texts) trouble h.written kept;
     }
 
-at_kept : {Reader : Type 0} (bytes : Reader → Option (List ℕ)) (form : Form) (is_first : Bool) (old mid new : Option (List ℕ)) (trouble : Trouble) → StopsAt Reader bytes form is_first old mid trouble → Keeps mid new → StopsAt Reader bytes form is_first old new trouble
+at_kept : {Reader : Type 0} (bytes : Reader → Option (List ℕ)) (form : Form) (is_first : Bool) (old mid new : Option (List ℕ)) (trouble : Trouble)
+    → StopsAt Reader bytes form is_first old mid trouble → Keeps mid new → StopsAt Reader bytes form is_first old new trouble
 at_kept bytes form is_first old mid new trouble (inl h) kept = inl (Keeps-trans old mid new h.0 kept, h.1)
 at_kept bytes form is_first old mid new trouble (inr h) kept =
     inr (h.0, stopped_kept form is_first (bytes h.0) old mid new trouble h.1 kept)
@@ -164,12 +174,14 @@ readers_stop {Reader} bytes form count names before after name is_first old mid 
     }
 
 -- it stops at the first reader
-pub first_stops : {Reader : Type 0} (bytes : Reader → Option (List ℕ)) (form : Form) (name : Word) (old new : Option (List ℕ)) (trouble : Trouble) → StopsAt Reader bytes form true old new trouble → StopsReaders Reader bytes form (name ∷ []) old new name trouble
+pub first_stops : {Reader : Type 0} (bytes : Reader → Option (List ℕ)) (form : Form) (name : Word) (old new : Option (List ℕ)) (trouble : Trouble)
+    → StopsAt Reader bytes form true old new trouble → StopsReaders Reader bytes form (name ∷ []) old new name trouble
 first_stops bytes form name old new trouble stops =
     readers_stop bytes form 0 (name ∷ []) [] [] name true old old new trouble (readers_none bytes form old) refl refl stops
 
 -- it stops where all readers are answered, as the last flush fails
-pub all_stop : {Reader : Type 0} (bytes : Reader → Option (List ℕ)) (form : Form) (names : List Word) (old mid new : Option (List ℕ)) (trouble : Trouble) → AnswersReaders Reader bytes form (length names) old mid
+pub all_stop : {Reader : Type 0} (bytes : Reader → Option (List ℕ)) (form : Form) (names : List Word) (old mid new : Option (List ℕ)) (trouble : Trouble)
+    → AnswersReaders Reader bytes form (length names) old mid
     → Keeps mid new → IsWrite trouble → StopsReaders Reader bytes form names old new (codes "standard output") trouble
 all_stop bytes form names old mid new trouble h kept write =
     record {

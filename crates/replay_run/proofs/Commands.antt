@@ -45,7 +45,8 @@ asks_check ws (Repeat times files) h =
 asks_check ws Help h = absurd (apart (codes "--check") (codes "--help") ws [] refl refl h)
 
 -- what `--repeat` asks for names a number and then files
-pub asks_repeat : (ws : List Word) (c : Command) → Asks (codes "--repeat" ∷ ws) c → (digits : Word) × (files : List Word) × (ws ≡ digits ∷ files) × IsNumber digits × AreFiles files
+pub asks_repeat : (ws : List Word) (c : Command) → Asks (codes "--repeat" ∷ ws) c
+    → (digits : Word) × (files : List Word) × (ws ≡ digits ∷ files) × IsNumber digits × AreFiles files
 asks_repeat ws (Answer Json files) h = absurd (no_file (codes "repeat") ws h.1)
 asks_repeat ws (Answer Texts files) h =
     absurd (apart (codes "--repeat") (codes "--text") ws (words_at files.now) refl refl h.0)
@@ -83,7 +84,8 @@ no_option : (ws rest : List Word) (name : Word) → ws ≡ (codes "--" ++ name) 
 no_option ws rest name is files = no_file name rest (subst AreFiles is files)
 
 -- what is known of the form of the answers and of the files, by the words
-pub files_answered : (ws : List Word) (c : Command) (P : Form → List Word → Type 0) (form : Form) (files : List Word) → Asks ws c → AsksAnswers ws form files → IfAnswers c P → P form files
+pub files_answered : (ws : List Word) (c : Command) (P : Form → List Word → Type 0) (form : Form) (files : List Word) → Asks ws c → AsksAnswers ws form files
+    → IfAnswers c P → P form files
 files_answered ws (Answer Json refs) P Json files h asks known = subst (P Json) (sym h.0 ∙ asks.0) known
 files_answered ws (Answer Texts refs) P Texts files h asks known =
     let both : codes "--text" ∷ files ≡ codes "--text" ∷ words_at refs.now = sym asks.0 ∙ h.0 in
@@ -107,7 +109,8 @@ files_answered ws Help P Texts files h asks known =
     absurd (apart (codes "--text") (codes "--help") files [] refl refl (sym asks.0 ∙ h))
 
 -- what is known of a command's answers, or of its comparison, tells more
-pub if_answers : (c : Command) (P Q : Form → List Word → Type 0) → ((form : Form) (files : List Word) → P form files → Q form files) → IfAnswers c P → IfAnswers c Q
+pub if_answers : (c : Command) (P Q : Form → List Word → Type 0) → ((form : Form) (files : List Word) → P form files → Q form files) → IfAnswers c P
+    → IfAnswers c Q
 if_answers (Answer form files) P Q tells h = tells form (words_at files.now) h
 if_answers (Check files) P Q tells h = tt
 if_answers (Repeat times files) P Q tells h = tt
@@ -120,13 +123,15 @@ if_comparison (Repeat times files) P Q tells h = tt
 if_comparison Help P Q tells h = tt
 
 -- words that ask for answers ask for a command
-asked_texts : (place : ℕ × ℕ) (refs : List (Bor Word)) (files : List Word) → words_at refs ≡ codes "--text" ∷ files → AreFiles files → (command : Command) × Asks (words_at refs) command
+asked_texts : (place : ℕ × ℕ) (refs : List (Bor Word)) (files : List Word) → words_at refs ≡ codes "--text" ∷ files → AreFiles files
+    → (command : Command) × Asks (words_at refs) command
 asked_texts place [] files is are = cc
 asked_texts place (word ∷ refs) files is are =
     let head : word.now ≡ codes "--text" = cc in
     let rest : words_at refs ≡ files = cc in
     (Answer Texts (record { ref_ptr = place; now = refs }), (ap (λ (w : Word). w ∷ words_at refs) head, subst AreFiles (sym rest) are))
 
-pub asked : (refs : Bor (List (Bor Word))) (form : Form) (files : List Word) → AsksAnswers (words_at refs.now) form files → (command : Command) × Asks (words_at refs.now) command
+pub asked : (refs : Bor (List (Bor Word))) (form : Form) (files : List Word) → AsksAnswers (words_at refs.now) form files
+    → (command : Command) × Asks (words_at refs.now) command
 asked refs Json files asks = (Answer Json refs, (refl, asks.1))
 asked refs Texts files asks = asked_texts refs.ref_ptr refs.now files asks.0 asks.1

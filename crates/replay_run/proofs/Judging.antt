@@ -1,5 +1,6 @@
 -- The verdicts on the lines read so far, and what is left to read.
-use Rattle.std.proofs.Common.{◌≡◌, ℕ, ◌+◌, ◌<◌, Bool, true, false, not, cond, List, [], ◌∷◌, ◌++◌, Option, Some, None, length, min, arith, refl, sym, ap, ◌∙◌, subst, append_assoc}
+use Rattle.std.proofs.Common.{◌≡◌, ℕ, ◌+◌, ◌<◌, Bool, true, false, not, cond, List, [], ◌∷◌, ◌++◌, Option, Some, None, length, min, arith, refl, sym, ap, ◌∙◌}
+use Rattle.std.proofs.Common.{subst, append_assoc}
 use Rattle.std.specs.Prelude.{IfSome, IsOkAnd, Result, Ok, Err, if◌then◌else◌, count_by}
 use Rattle.std.specs.Io.BufRead.{first_line, drop_through, DropsThrough}
 use Rattle.std.specs.Io.Iter.{YieldsKnownPiece}
@@ -33,7 +34,8 @@ HaveJudgedKnown expected cases expected_left cases_left counts =
     IfSome expected (λ answers. IfSome cases (λ lines. HaveJudged answers lines expected_left cases_left counts))
 
 -- before any case is read none is judged
-pub judged_none : (expected cases expected_left cases_left : Option (List ℕ)) (counts : Counts) → expected_left ≡ expected → cases_left ≡ cases → counts.passed ≡ 0 → counts.failed ≡ 0 → HaveJudgedKnown expected cases expected_left cases_left counts
+pub judged_none : (expected cases expected_left cases_left : Option (List ℕ)) (counts : Counts) → expected_left ≡ expected → cases_left ≡ cases
+    → counts.passed ≡ 0 → counts.failed ≡ 0 → HaveJudgedKnown expected cases expected_left cases_left counts
 judged_none None cases expected_left cases_left counts answers_are lines_are passed failed = tt
 judged_none (Some answers) None expected_left cases_left counts answers_are lines_are passed failed = tt
 judged_none (Some answers) (Some lines) expected_left cases_left counts answers_are lines_are passed failed =
@@ -82,7 +84,8 @@ judged_more (Some answers) (Some lines) expected_left cases_left expected_next c
     }
 
 -- once no case is left all are counted
-pub judged_all : (expected cases expected_left cases_left : Option (List ℕ)) (counts : Counts) → HaveJudgedKnown expected cases expected_left cases_left counts → IsAtEnd expected_left → IsAtEnd cases_left → CountsLines expected cases counts
+pub judged_all : (expected cases expected_left cases_left : Option (List ℕ)) (counts : Counts) → HaveJudgedKnown expected cases expected_left cases_left counts
+    → IsAtEnd expected_left → IsAtEnd cases_left → CountsLines expected cases counts
 judged_all None cases _ _ _ h answers lines = tt
 judged_all (Some answers) None _ _ _ h no_answers no_lines = tt
 judged_all (Some answers) (Some lines) expected_left cases_left counts h no_answers no_lines =
@@ -124,7 +127,8 @@ pub none_failed : (a b top sum : ℕ) → 0 < top → sum ≡ min (a + b) top �
 none_failed a b top sum some is none = (omega arith, omega arith)
 
 -- what a reader's next line tells, or that there is none
-pub ended : {E : Type 0} (old new : Option (List ℕ)) (r : Option (Result (String Global) E)) → r ≡ None → YieldsKnownPiece string_bytes first_line 10 old r new → IsAtEnd old
+pub ended : {E : Type 0} (old new : Option (List ℕ)) (r : Option (Result (String Global) E)) → r ≡ None → YieldsKnownPiece string_bytes first_line 10 old r new
+    → IsAtEnd old
 ended old new r is piece =
     subst (λ next. YieldsKnownPiece string_bytes first_line 10 old next new) is piece
 

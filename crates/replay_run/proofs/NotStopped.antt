@@ -20,7 +20,8 @@ noise status b rest done silent =
     cc
 
 -- no line is answered where a reader holds no byte
-none_of_none : (form : Form) (is_first : Bool) (lines texts : List (List ℕ)) → AreFirstLines [] lines → AnswersLines form is_first lines texts → concat texts ≡ []
+none_of_none : (form : Form) (is_first : Bool) (lines texts : List (List ℕ)) → AreFirstLines [] lines → AnswersLines form is_first lines texts
+    → concat texts ≡ []
 none_of_none form is_first [] [] first answers = refl
 none_of_none form is_first [] (text ∷ texts) first answers = absurd answers
 none_of_none form is_first (line ∷ lines) texts first answers = absurd (omega (arith, first.0))
@@ -31,7 +32,8 @@ part_of_none b rest whole part more none split is =
     omega (arith, ap length none, ap length split, ap length is, long)
 
 -- an answer that is written where nothing was read is no answer: `{"id":"a","ok":[]}` before it stops
-pub invented : (form : Form) (is_first : Bool) (b : ℕ) (rest : List ℕ) (trouble : Trouble) → StopsReader form is_first (Some []) (Some []) (Some (b ∷ rest)) trouble → ⊥
+pub invented : (form : Form) (is_first : Bool) (b : ℕ) (rest : List ℕ) (trouble : Trouble)
+    → StopsReader form is_first (Some []) (Some []) (Some (b ∷ rest)) trouble → ⊥
 invented form is_first b rest trouble h = written h.written
   where
     none : concat h.texts ≡ []

@@ -27,7 +27,8 @@ line_answered form is_first line d (Ok text) reads h =
 line_answered form is_first line d (Err trouble) reads h = tt
 
 -- a value that describes nothing is that of a line that does
-pub line_misread : {T E : Type 0} (at : Line) (line : Result (String Global) E) (d : Data) (r : Result T Trouble) → IsOkAnd line (λ text. read (string_bytes text) ≡ Some d)
+pub line_misread : {T E : Type 0} (at : Line) (line : Result (String Global) E) (d : Data) (r : Result T Trouble)
+    → IsOkAnd line (λ text. read (string_bytes text) ≡ Some d)
     → IfErr r (IsMisread at) → IfErr r (IsTroubleWith at line)
 line_misread at line d (Ok x) reads h = tt
 line_misread at line d (Err (NotText place)) reads h = absurd h

@@ -5,6 +5,7 @@ use Rattle.annotate_snippets.specs.Normalized.{norm}
 use Rattle.replay_run.specs.Trouble.{shown}
 
 -- what is shown for a text is spelled by the characters that are shown for it
-pub shown_message : (text : String Global) (given whole : List ℕ) → chars (string_bytes text) ≡ norm (chars given) → given ≡ whole → string_bytes text ≡ shown whole
+pub shown_message : (text : String Global) (given whole : List ℕ) → chars (string_bytes text) ≡ norm (chars given) → given ≡ whole
+    → string_bytes text ≡ shown whole
 shown_message text given whole value same =
     sym (encodes-chars (string_bytes text) (IsUtf8-string_bytes text)) ∙ ap encode_utf8_all value ∙ ap shown same

@@ -5,7 +5,8 @@ use Rattle.serde_json.specs.Read.{read}
 use Rattle.annotate_snippets.specs.Fault.{first_refusal}
 use Rattle.annotate_snippets.specs.Forms.{TextsShown}
 use Rattle.annotate_snippets.specs.declared.renderer.RenderError.{RenderError}
-use Rattle.annotate_snippets.specs.declared.renderer.RenderError.TheVariants.{NoGroup, NoTitle, SpanReversed, SpanPastEnd, SpanOffBoundary, PatchesOverlap, LineNumberTooLarge, Memory}
+use Rattle.annotate_snippets.specs.declared.renderer.RenderError.TheVariants.{NoGroup, NoTitle, SpanReversed, SpanPastEnd, SpanOffBoundary, PatchesOverlap}
+use Rattle.annotate_snippets.specs.declared.renderer.RenderError.TheVariants.{LineNumberTooLarge, Memory}
 use Rattle.replay_run.specs.Case.{IsCaseOf}
 use Rattle.replay_run.specs.declared.case.Case.{Case}
 use Rattle.replay_run.specs.declared.outcome.Outcome.{Outcome}

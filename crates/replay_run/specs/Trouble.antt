@@ -1,5 +1,6 @@
 -- What stops a run, and what is told of it.
-use Rattle.std.specs.Prelude.{◌≡◌, ◌⊎◌, ℕ, Bool, List, ◌++◌, Some, None, Result, String, IsOkAnd, chars, codes, decimal, encode_utf8_all, if◌then◌else◌, string_bytes}
+use Rattle.std.specs.Prelude.{◌≡◌, ◌⊎◌, ℕ, Bool, List, ◌++◌, Some, None, Result, String, IsOkAnd, chars, codes, decimal, encode_utf8_all, if◌then◌else◌}
+use Rattle.std.specs.Prelude.{string_bytes}
 use Rattle.std.specs.declared.alloc.Global.{Global}
 use Rattle.std.specs.declared.io.Error.{Error}
 use Rattle.annotate_snippets.specs.Normalized.{norm}

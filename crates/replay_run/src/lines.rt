@@ -1,6 +1,7 @@
 //! Lines of cases, answered one after another. Nothing of a line is kept after it.
 
-ghost use Rattle.std.specs.Prelude.{◌≡◌, ℕ, Bool, List, [], ◌++◌, Some, OnOk, IfErr, IfOk, IsOkAnd, if◌then◌else◌, string_bytes};
+ghost use Rattle.std.specs.Prelude.{◌≡◌, ℕ, Bool, List, [], ◌++◌, Some, OnOk, IfErr, IfOk, IsOkAnd, if◌then◌else◌};
+ghost use Rattle.std.specs.Prelude.{string_bytes};
 ghost use Rattle.std.specs.Io.KnownBytes.{Appends};
 ghost use Rattle.annotate_snippets.specs.Fits.{ReportFits};
 ghost use Rattle.serde_json.specs.Errors.{IsMemory};

@@ -1,6 +1,7 @@
 //! A run of the program: what its words ask for is done, and the status tells how it went.
 
-ghost use Rattle.std.specs.Prelude.{◌≡◌, ◌⊎◌, ℕ, ◌<◌, ◌≤◌, List, [], ◌∷◌, codes, length, IfErr, IfOk, OnOk, string_bytes};
+ghost use Rattle.std.specs.Prelude.{◌≡◌, ◌⊎◌, ℕ, ◌<◌, ◌≤◌, List, [], ◌∷◌, codes, length, IfErr, IfOk, OnOk};
+ghost use Rattle.std.specs.Prelude.{string_bytes};
 ghost use Rattle.std.specs.Io.Buffered.{reader_inner, reader_remaining};
 ghost use Rattle.std.specs.Io.KnownBytes.{Appends};
 ghost use Rattle.program.specs.Stream.{Receives};
@@ -10,7 +11,8 @@ ghost use Rattle.replay_run.specs.Growth.{Grows};
 ghost use Rattle.replay_run.specs.Judged.{CountsLines};
 ghost use Rattle.replay_run.specs.Answer.{line_of};
 ghost use Rattle.replay_run.specs.Trouble.{IsRead, TellsMisuse, TellsStop, misuse_text, shown, stop_text};
-ghost use Rattle.replay_run.specs.Words.{Word, words_at, usage_text, AsksAnswers, IsCommandLine, IsComparison, IfAnswers, IfComparison, Compares};
+ghost use Rattle.replay_run.specs.Words.{Word, words_at, usage_text, AsksAnswers, IsCommandLine, IsComparison};
+ghost use Rattle.replay_run.specs.Words.{IfAnswers, IfComparison, Compares};
 ghost use Rattle.replay_run.specs.declared.command.Command.{Command};
 ghost use Rattle.replay_run.specs.declared.command.Command.TheVariants.{Help};
 ghost use Rattle.replay_run.specs.declared.lines.Form.{Form};
@@ -84,11 +86,13 @@ pub fn run<R: Files + Input + Clock + AllocGlobal, W: Write, V: Write>(
     ensures answers_input { result ≡ 0 → (form : Form) → AsksAnswers (words_at words.now) form []
         → AnswersReaders R.Reader R.Reader.remaining form 1 (W.contents out.old) (W.contents out.new) }
     ensures stops { result ≡ 2 → (form : Form) → (files : List Word) → AsksAnswers (words_at words.now) form files
-        → 0 < length files → (name : Word) × (trouble : Trouble) × TellsStop name trouble (Receives V.contents err.old err.new)
+        → 0 < length files
+        → (name : Word) × (trouble : Trouble) × TellsStop name trouble (Receives V.contents err.old err.new)
         × StopsReaders R.File R.File.remaining form files (W.contents out.old) (W.contents out.new) name trouble }
     ensures stops_input { result ≡ 2 → (form : Form) → AsksAnswers (words_at words.now) form []
         → (name : Word) × (trouble : Trouble) × TellsStop name trouble (Receives V.contents err.old err.new)
-        × StopsReaders R.Reader R.Reader.remaining form (codes "standard input" ∷ []) (W.contents out.old) (W.contents out.new) name trouble }
+        × StopsReaders R.Reader R.Reader.remaining form (codes "standard input" ∷ [])
+        (W.contents out.old) (W.contents out.new) name trouble }
     ensures help { result ≡ 0 → words_at words.now ≡ codes "--help" ∷ []
         → Appends (W.contents out.old) (W.contents out.new) (line_of usage_text) }
 {
@@ -120,9 +124,11 @@ fn finish<'a, R: Files + Input + Clock + AllocGlobal, W: Write>(
     ensures answers_input { OnOk result (IfAnswers command.now (λ form files. length files ≡ 0
         → AnswersReaders R.Reader R.Reader.remaining form 1 (W.contents out.old) (W.contents out.new))) }
     ensures stops { IfErr result (λ stop. IfAnswers command.now (λ form files. 0 < length files
-        → StopsReaders R.File R.File.remaining form files (W.contents out.old) (W.contents out.new) stop.file.now stop.trouble)) }
+        → StopsReaders R.File R.File.remaining form files (W.contents out.old) (W.contents out.new)
+        stop.file.now stop.trouble)) }
     ensures stops_input { IfErr result (λ stop. IfAnswers command.now (λ form files. length files ≡ 0
-        → StopsReaders R.Reader R.Reader.remaining form (codes "standard input" ∷ []) (W.contents out.old) (W.contents out.new) stop.file.now stop.trouble)) }
+        → StopsReaders R.Reader R.Reader.remaining form (codes "standard input" ∷ [])
+        (W.contents out.old) (W.contents out.new) stop.file.now stop.trouble)) }
     ensures help { OnOk result (command.now ≡ Help → Appends (W.contents out.old) (W.contents out.new) (line_of usage_text)) }
 {
     match do_command(rt, command, out) {
@@ -195,9 +201,11 @@ fn do_command<'a, R: Files + Input + Clock + AllocGlobal, W: Write>(
     ensures answers_input { OnOk result (IfAnswers command.now (λ form files. length files ≡ 0
         → AnswersReaders R.Reader R.Reader.remaining form 1 (W.contents out.old) (W.contents out.new))) }
     ensures stops { IfErr result (λ stop. IfAnswers command.now (λ form files. 0 < length files
-        → StopsReaders R.File R.File.remaining form files (W.contents out.old) (W.contents out.new) stop.file.now stop.trouble)) }
+        → StopsReaders R.File R.File.remaining form files (W.contents out.old) (W.contents out.new)
+        stop.file.now stop.trouble)) }
     ensures stops_input { IfErr result (λ stop. IfAnswers command.now (λ form files. length files ≡ 0
-        → StopsReaders R.Reader R.Reader.remaining form (codes "standard input" ∷ []) (W.contents out.old) (W.contents out.new) stop.file.now stop.trouble)) }
+        → StopsReaders R.Reader R.Reader.remaining form (codes "standard input" ∷ [])
+        (W.contents out.old) (W.contents out.new) stop.file.now stop.trouble)) }
     ensures help { OnOk result (command.now ≡ Help → Appends (W.contents out.old) (W.contents out.new) (line_of usage_text)) }
 {
     match *command {

@@ -20,7 +20,8 @@ references_name ws all k d within =
     let P : Word → Type 0 = λ w. IsOption w → ⊥ in
     subst P (get_or-map (λ (w : Bor Word). w.now) ws k d d.now within) (all k d.now (omega (arith, length-map ws (λ (w : Bor Word). w.now))))
 
-words_name : (ws : List (Bor Word)) (r : Bool) → MatchBool r (AllWithin Names ws 0 (length ws)) ((k : ℕ) × (k < length ws) × HoldsAt Begins ws k) → IsTrue r → AreFiles (words_at ws)
+words_name : (ws : List (Bor Word)) (r : Bool) → MatchBool r (AllWithin Names ws 0 (length ws)) ((k : ℕ) × (k < length ws) × HoldsAt Begins ws k) → IsTrue r
+    → AreFiles (words_at ws)
 words_name ws true all h = All-map (λ w. IsOption w → ⊥) (λ (w : Bor Word). w.now) ws (All-from_all_within Names ws all)
 words_name ws false some h = absurd (false≢true h)
 
