@@ -1,12 +1,14 @@
 -- Laws of what stands around the elements of a group.
-use Rattle.std.proofs.Common.{◌≡◌, ℕ, ◌+◌, ◌-◌, nat_eq, ◌&&◌, not, Bool, true, false, if◌then◌else◌, Option, None, Some, List, [], ◌∷◌, drop, length, zero, suc, refl, sym, ap, ◌∙◌, arith, subst}
+use Rattle.std.proofs.Common.{◌≡◌, ℕ, ◌+◌, ◌-◌, nat_eq, ◌&&◌, not, Bool, true, false, if◌then◌else◌, Option, None, Some, List, [], ◌∷◌, drop, length, zero, suc}
+use Rattle.std.proofs.Common.{refl, sym, ap, ◌∙◌, arith, subst}
 use Rattle.std.specs.List.{slice_get}
 use Rattle.std.specs.Option.{is_some}
 use Rattle.std.proofs.lemmas.Bool.Decides.{nat_tests}
 use Rattle.snippet_model.specs.declared.snippet.Element.{Element}
 use Rattle.snippet_model.specs.declared.snippet.Element.TheVariants.{Cause, Message, Origin, Padding, Suggestion}
 use Rattle.snippet_suggest.specs.declared.SuggestionStart.TheVariants.{Next, Opening, Path}
-use Rattle.annotate_snippets.specs.Around.{CanStandIn, begins_in_row_above, first_two_share, is_end, is_message, is_next_start, is_other_file, next_of, path_bytes, share_file, context_at}
+use Rattle.annotate_snippets.specs.Around.{CanStandIn, begins_in_row_above, first_two_share, is_end, is_message, is_next_start, is_other_file, next_of}
+use Rattle.annotate_snippets.specs.Around.{path_bytes, share_file, context_at}
 use Rattle.annotate_snippets.specs.declared.renderer.element_context.GroupPosition.{GroupPosition}
 use Rattle.annotate_snippets.specs.declared.renderer.element_context.Next.TheVariants as next
 
@@ -46,7 +48,8 @@ first_alone : (e : Element) (rest : List Element) → ((d : Element) → share_f
 first_alone e [] never = refl
 first_alone e (d ∷ rest) never = never d
 
-shared_not : (es : List Element) (i : ℕ) (e : Element) → slice_get es i ≡ Some e → ((d : Element) → share_file e d ≡ false) → first_two_share (drop i es) ≡ false
+shared_not : (es : List Element) (i : ℕ) (e : Element) → slice_get es i ≡ Some e → ((d : Element) → share_file e d ≡ false)
+    → first_two_share (drop i es) ≡ false
 shared_not es i e is never =
     let from = from_element es i e is in
     ap first_two_share from.1 ∙ first_alone e from.0 never
@@ -110,13 +113,15 @@ other_has : (file path : Option (List ℕ)) → is_other_file file path ≡ true
 other_has file None other = other
 other_has file (Some path) other = refl
 
-path_start : (shares other : Bool) (file path : Option (List ℕ)) → is_other_file file path ≡ other → (if shares then Next else (if other then Path else Opening)) ≡ Path → is_some path ≡ true
+path_start : (shares other : Bool) (file path : Option (List ℕ)) → is_other_file file path ≡ other
+    → (if shares then Next else (if other then Path else Opening)) ≡ Path → is_some path ≡ true
 path_start true other file path is starts = absurd (cc)
 path_start false true file path is starts = other_has file path is
 path_start false false file path is starts = absurd (cc)
 
 -- each element can stand in what is around it
-pub can_stand : (place : GroupPosition) (file : Option (List ℕ)) (es : List Element) (i : ℕ) (e : Element) → slice_get es i ≡ Some e → CanStandIn (context_at place file es i e) e
+pub can_stand : (place : GroupPosition) (file : Option (List ℕ)) (es : List Element) (i : ℕ) (e : Element) → slice_get es i ≡ Some e
+    → CanStandIn (context_at place file es i e) e
 can_stand place file es i (Message message) is = (refl, shared_not es i (Message message) is (λ d. refl))
 can_stand place file es i (Cause snippet) is = (refl, shared_not es i (Cause snippet) is (λ d. refl))
 can_stand place file es i (Suggestion snippet) is = λ starts. path_start (shares_before es i) (is_other_file file (path_bytes snippet.path)) file (path_bytes snippet.path) refl starts
@@ -130,7 +135,8 @@ next_start false true = refl
 next_start false false = refl
 
 -- an element begins in the row above where it shares that with the one before
-pub begins_is : (place : GroupPosition) (file : Option (List ℕ)) (es : List Element) (i : ℕ) (e : Element) → slice_get es i ≡ Some e → begins_in_row_above (context_at place file es i e) ≡ shares_before es i
+pub begins_is : (place : GroupPosition) (file : Option (List ℕ)) (es : List Element) (i : ℕ) (e : Element) → slice_get es i ≡ Some e
+    → begins_in_row_above (context_at place file es i e) ≡ shares_before es i
 begins_is place file es i (Message message) is = sym (before_alone es i (Message message) is refl)
 begins_is place file es i (Cause snippet) is = sym (before_alone es i (Cause snippet) is refl)
 begins_is place file es i (Suggestion snippet) is = next_start (shares_before es i) (is_other_file file (path_bytes snippet.path))

@@ -1,5 +1,6 @@
 -- When a report is within bounds: laws for those who make one.
-use Rattle.std.proofs.Common.{◌≡◌, ◌⊎◌, ℕ, suc, ◌+◌, ◌^◌, ◌<◌, ◌≤◌, ◌&&◌, ◌||◌, ◌==◌, nat_lt, Bool, true, false, List, [], ◌∷◌, ◌++◌, Some, None, All, length, map, slice_index, refl, ap, ◌∙◌, arith, inl, inr, if◌then◌else◌}
+use Rattle.std.proofs.Common.{◌≡◌, ◌⊎◌, ℕ, suc, ◌+◌, ◌^◌, ◌<◌, ◌≤◌, ◌&&◌, ◌||◌, ◌==◌, nat_lt, Bool, true, false, List, [], ◌∷◌, ◌++◌, Some, None, All, length}
+use Rattle.std.proofs.Common.{map, slice_index, refl, ap, ◌∙◌, arith, inl, inr, if◌then◌else◌}
 use Rattle.std.specs.Cow.{cow_str_bytes}
 use Rattle.std.specs.List.{count_by, position_from, sum_by}
 use Rattle.std.specs.Option.{option_map, option_or, option_to_list}
@@ -23,7 +24,8 @@ use Rattle.snippet_model.specs.Fits.{GroupFits}
 use Rattle.snippet_lines.specs.Order.{put_in}
 use Rattle.snippet_splice.specs.Edits.{AreApart, Edit, edit_of, in_order, precedes}
 use Rattle.snippet_splice.specs.Overlap.{first_overlap, first_overlap_from, overlap}
-use Rattle.annotate_snippets.specs.Fault.{IsGroupWithinBounds, IsWithinBounds, added_lines, element_faults, faults_from, first_fault, first_of, group_faults, number_after_lines, number_faults, overlap_faults, refusal_of, span_faults}
+use Rattle.annotate_snippets.specs.Fault.{IsGroupWithinBounds, IsWithinBounds, added_lines, element_faults, faults_from, first_fault, first_of, group_faults}
+use Rattle.annotate_snippets.specs.Fault.{number_after_lines, number_faults, overlap_faults, refusal_of, span_faults}
 use Rattle.annotate_snippets.specs.Settings.{plain_settings}
 use Rattle.annotate_snippets.specs.declared.renderer.error.RenderError.{RenderError}
 use Rattle.annotate_snippets.specs.declared.renderer.error.RenderError.TheVariants.{LineNumberTooLarge, PatchesOverlap}
@@ -50,7 +52,8 @@ border-between source b between = by_cases (cases_lt b (length source))
         border (low between.0 (let none : slice_index source b ≡ 0 = get_or_past source b 0 past in omega (arith, none)))
 
 -- a part of a source that starts and ends between characters is a span without a fault
-pub span-faultless : (source : List ℕ) (start end : ℕ) → start ≤ end → IsCharBoundary source start → IsCharBoundary source end → span_fault source start end ≡ None
+pub span-faultless : (source : List ℕ) (start end : ℕ) → start ≤ end → IsCharBoundary source start → IsCharBoundary source end
+    → span_fault source start end ≡ None
 unfolding span_fault
 span-faultless source start end ordered starts ends =
     let forward : nat_lt end start ≡ false = le-ltb end start ordered in
@@ -112,7 +115,9 @@ none-clear f n (x ∷ xs) all =
     ∙ none-clear f (n + 1) xs (All-tail (λ y. (m : ℕ) → f m y ≡ []) x xs all)
 
 -- markers none of whose spans has a fault
-spans-clear : {X : Type 0} (span_of : X → Range ℕ) (group element : ℕ) (source : List ℕ) (marks : List X) → All (λ x. span_fault source (span_of x).start (span_of x).end ≡ None) marks → faults_from (λ m x. span_faults group element source m (span_of x)) 0 marks ≡ []
+spans-clear : {X : Type 0} (span_of : X → Range ℕ) (group element : ℕ) (source : List ℕ) (marks : List X)
+    → All (λ x. span_fault source (span_of x).start (span_of x).end ≡ None) marks
+    → faults_from (λ m x. span_faults group element source m (span_of x)) 0 marks ≡ []
 spans-clear span_of group element source marks all =
     none-clear (λ m x. span_faults group element source m (span_of x)) 0 marks
     (All-weaker (λ x. span_fault source (span_of x).start (span_of x).end ≡ None) (λ x. (m : ℕ) → span_faults group element source m (span_of x) ≡ [])
@@ -122,7 +127,8 @@ number-clear : (group element number : ℕ) → number < 2 ^ 64 → number_fault
 number-clear group element number fits = ap (λ t. if t then [] else LineNumberTooLarge group element ∷ []) (lt-ltb number (2 ^ 64) fits)
 
 -- an annotated snippet without a fault: none of its spans has one, and the numbers of so many lines as it has bytes fit
-pub cause-clear : (group element : ℕ) (s : Snippet Annotation) → All (λ (a : Annotation). span_fault (cow_str_bytes s.source) a.span.start a.span.end ≡ None) s.markers.items
+pub cause-clear : (group element : ℕ) (s : Snippet Annotation)
+    → All (λ (a : Annotation). span_fault (cow_str_bytes s.source) a.span.start a.span.end ≡ None) s.markers.items
     → s.line_start + (length (cow_str_bytes s.source) + 1) < 2 ^ 64 → element_faults group element (Cause s) ≡ []
 cause-clear group element s spans numbers =
     let few = source_lines-few (cow_str_bytes s.source) in
@@ -132,7 +138,8 @@ cause-clear group element s spans numbers =
 
 -- a suggestion without a fault: none of its spans has one, its patches stand one after the other, and the numbers of so many
 -- lines fit as it and they have bytes
-pub suggestion-clear : (group element : ℕ) (s : Snippet Patch) → All (λ (p : Patch). span_fault (cow_str_bytes s.source) p.span.start p.span.end ≡ None) s.markers.items
+pub suggestion-clear : (group element : ℕ) (s : Snippet Patch)
+    → All (λ (p : Patch). span_fault (cow_str_bytes s.source) p.span.start p.span.end ≡ None) s.markers.items
     → AreApart 0 (map edit_of s.markers.items)
     → s.line_start + (length (cow_str_bytes s.source) + 1) + sum_by (λ (p : Patch). length (cow_str_bytes p.replacement)) s.markers.items < 2 ^ 64
     → element_faults group element (Suggestion s) ≡ []

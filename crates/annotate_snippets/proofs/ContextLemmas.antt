@@ -1,5 +1,6 @@
 -- What stands around the elements of a group is found one by one.
-use Rattle.std.proofs.Common.{◌≡◌, ◌∙◌, ℕ, ◌+◌, ◌-◌, ◌<◌, ◌==◌, ◌&&◌, ◌||◌, nat_eq, not, Bool, true, false, List, [], ◌∷◌, ◌++◌, Option, Some, length, map, take, drop, get_or, refl, sym, ap, arith, inl, inr}
+use Rattle.std.proofs.Common.{◌≡◌, ◌∙◌, ℕ, ◌+◌, ◌-◌, ◌<◌, ◌==◌, ◌&&◌, ◌||◌, nat_eq, not, Bool, true, false, List, [], ◌∷◌, ◌++◌, Option, Some, length, map}
+use Rattle.std.proofs.Common.{take, drop, get_or, refl, sym, ap, arith, inl, inr}
 use Rattle.std.specs.List.{list_any, slice_get}
 use Rattle.std.specs.Option.{option_map}
 use Rattle.std.proofs.lemmas.Bool.{cases_lt}
@@ -45,7 +46,8 @@ around_next place file es i e primary shares shared start next p s starts pairs 
     let begins : start ≡ start_of file (shares_before es i) e = starts ∙ ap (λ b. start_of file b e) s in
     rw p (rw begins (rw pairs (rw follows refl)))
 
-primary_next : (es : List Element) (i : ℕ) (e : Element) (primary : Bool) → slice_get es i ≡ Some e → primary ≡ primary_before es i → (primary && not (has_file e)) ≡ primary_before es (i + 1)
+primary_next : (es : List Element) (i : ℕ) (e : Element) (primary : Bool) → slice_get es i ≡ Some e → primary ≡ primary_before es i
+    → (primary && not (has_file e)) ≡ primary_before es (i + 1)
 primary_next es i e primary at is =
     let more : take (i + 1) es ≡ take i es ++ e ∷ [] = take_more es i e (slice_get_within es i e at) ∙ ap (λ (d : Element). take i es ++ d ∷ []) (get_or_from_slice_get es i e e at) in
     let either : list_any has_file (take (i + 1) es) ≡ (list_any has_file (take i es) || has_file e) = ap (list_any has_file) more ∙ list_any-append has_file (take i es) (e ∷ []) ∙ ap (λ b. list_any has_file (take i es) || b) (last (has_file e)) in
@@ -100,12 +102,14 @@ around_same place file es i primary primary_said shares shares_said around befor
     record { count = before.count; each = before.each; primary_is = p ∙ before.primary_is; shares_is = s ∙ before.shares_is }
 
 -- all of them
-pub all_around : (place : GroupPosition) (file : Option (List ℕ)) (es : List Element) (i : ℕ) (primary shares : Bool) (around : List ElementContext) → AreAroundBefore place file es i primary shares around → i ≡ length es → AreAround place file es around
+pub all_around : (place : GroupPosition) (file : Option (List ℕ)) (es : List Element) (i : ℕ) (primary shares : Bool) (around : List ElementContext)
+    → AreAroundBefore place file es i primary shares around → i ≡ length es → AreAround place file es around
 all_around place file es i primary shares around before whole =
     record { count = before.count ∙ whole; each = λ j e same. before.each j e (omega (arith, whole, slice_get_within es j e same)) same }
 
 -- the element of this number, as it was prepared
-pub element_read : (ps : List PreparedElement) (i : ℕ) (p : PreparedElement) → i < length ps → p ≡ get_or ps i p → slice_get (map element_of ps) i ≡ Some (element_of p)
+pub element_read : (ps : List PreparedElement) (i : ℕ) (p : PreparedElement) → i < length ps → p ≡ get_or ps i p
+    → slice_get (map element_of ps) i ≡ Some (element_of p)
 element_read ps i p within is =
     slice_get-map element_of ps i ∙ ap (λ (o : Option PreparedElement). option_map element_of o) (slice_get_read ps (length ps) i p refl within is)
 

@@ -21,7 +21,9 @@ each_fails test i [] none k within = absurd (omega arith)
 each_fails test i (e ∷ es) none k within =
     by_cases (test e) refl none (λ rest j low. each_fails test (i + 1) es rest j low) k within
   where
-    by_cases : (t : Bool) → test e ≡ t → cond t (Some i) (position_from test (i + 1) es) ≡ None → (position_from test (i + 1) es ≡ None → (j : ℕ) → j < length es → test (get_or es j no_edit) ≡ false) → (k : ℕ) → k < length (e ∷ es) → test (get_or (e ∷ es) k no_edit) ≡ false
+    by_cases : (t : Bool) → test e ≡ t → cond t (Some i) (position_from test (i + 1) es) ≡ None
+        → (position_from test (i + 1) es ≡ None → (j : ℕ) → j < length es → test (get_or es j no_edit) ≡ false) → (k : ℕ) → k < length (e ∷ es)
+        → test (get_or (e ∷ es) k no_edit) ≡ false
     by_cases true is none later k within = cc
     by_cases false is none later zero within = is
     by_cases false is none later (suc k) within = later none k (omega arith)

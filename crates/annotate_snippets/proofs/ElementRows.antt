@@ -1,5 +1,6 @@
 -- The rows of a group's elements, one below the other.
-use Rattle.std.proofs.Common.{◌≡◌, ℕ, ◌+◌, ◌-◌, ◌<◌, Bool, true, false, not, drop, Option, Some, List, [], ◌∷◌, ◌++◌, length, get_or, map, inl, inr, refl, sym, ap, ◌∙◌, arith, subst, append_assoc, zero, suc}
+use Rattle.std.proofs.Common.{◌≡◌, ℕ, ◌+◌, ◌-◌, ◌<◌, Bool, true, false, not, drop, Option, Some, List, [], ◌∷◌, ◌++◌, length, get_or, map, inl, inr, refl, sym}
+use Rattle.std.proofs.Common.{ap, ◌∙◌, arith, subst, append_assoc, zero, suc}
 use Rattle.std.specs.List.{enumerate_from, flat_map, slice_get, slice_index_or}
 use Rattle.std.proofs.lemmas.Bool.{cases_lt}
 use Rattle.std.proofs.lemmas.Grind.{flat_map-append}
@@ -26,12 +27,14 @@ pub record DrawnSoFar (r : Renderer) (frame : Layout) (place : GroupPosition) (f
   pub tail : List (List Cell)
   pub added : new ≡ (old ++ flat_map (λ part. part) parts) ++ tail
   pub count : length parts ≡ n
-  pub each : (i : ℕ) (e : Element) → i < n → slice_get es i ≡ Some e → IsElementDrawn r frame (context_at place file es i e) (found_at r frame es i) e (slice_index_or parts i [])
+  pub each : (i : ℕ) (e : Element) → i < n → slice_get es i ≡ Some e
+      → IsElementDrawn r frame (context_at place file es i e) (found_at r frame es i) e (slice_index_or parts i [])
   pub ends : IsTail frame.decor frame.gutter (shares_before es n) tail
   pub last : shares_before es n ≡ true → tail ≡ found_at r frame es n ∷ []
 
 -- before the first element nothing is drawn
-pub drawn_none : (r : Renderer) (frame : Layout) (place : GroupPosition) (file : Option (List ℕ)) (es : List Element) (old : List (List Cell)) → DrawnSoFar r frame place file es 0 old old
+pub drawn_none : (r : Renderer) (frame : Layout) (place : GroupPosition) (file : Option (List ℕ)) (es : List Element) (old : List (List Cell))
+    → DrawnSoFar r frame place file es 0 old old
 drawn_none r frame place file es old =
     record {
       parts = [];
@@ -76,7 +79,8 @@ drawn_more r frame place file es n e old mid new before here adds =
     one_back : (n : ℕ) → n ≡ n + 1 - 1
     one_back n = omega arith
 
-    early_part : (parts : List (List (List Cell))) (rows : List (List Cell)) (i : ℕ) → i < length parts → slice_index_or (parts ++ rows ∷ []) i [] ≡ slice_index_or parts i []
+    early_part : (parts : List (List (List Cell))) (rows : List (List Cell)) (i : ℕ) → i < length parts
+        → slice_index_or (parts ++ rows ∷ []) i [] ≡ slice_index_or parts i []
     early_part parts rows i below = grind (arith, places)
 
     last_part : (parts : List (List (List Cell))) (rows : List (List Cell)) (n : ℕ) → length parts ≡ n → slice_index_or (parts ++ rows ∷ []) n [] ≡ rows
@@ -88,7 +92,8 @@ drawn_more r frame place file es n e old mid new before here adds =
         cc
 
 -- all of them
-pub drawn_all : (r : Renderer) (frame : Layout) (place : GroupPosition) (file : Option (List ℕ)) (es : List Element) (n : ℕ) (old new : List (List Cell)) → n ≡ length es → DrawnSoFar r frame place file es n old new → AddsElements r frame place file es old new
+pub drawn_all : (r : Renderer) (frame : Layout) (place : GroupPosition) (file : Option (List ℕ)) (es : List Element) (n : ℕ) (old new : List (List Cell))
+    → n ≡ length es → DrawnSoFar r frame place file es n old new → AddsElements r frame place file es old new
 drawn_all r frame place file es n old new all drawn =
     let none : drawn.tail ≡ [] = subst (λ b. IsTail frame.decor frame.gutter b drawn.tail) (ap (shares_before es) all ∙ shares_end es) drawn.ends in
     record {
@@ -104,7 +109,8 @@ drawn_all r frame place file es n old new all drawn =
     within es i e is = slice_get_within es i e is
 
 -- the item that an iteration has is the next of some, with its number
-pub turn_item : {X : Type 0} (xs : List X) (n i : ℕ) (x : X) → (n < length (enumerate_from 0 xs)) × ((i, x) ≡ get_or (enumerate_from 0 xs) n (i, x)) → (i ≡ n) × (slice_get xs n ≡ Some x)
+pub turn_item : {X : Type 0} (xs : List X) (n i : ℕ) (x : X) → (n < length (enumerate_from 0 xs)) × ((i, x) ≡ get_or (enumerate_from 0 xs) n (i, x))
+    → (i ≡ n) × (slice_get xs n ≡ Some x)
 turn_item xs n i x turn =
     let within : n < length xs = omega (arith, turn.0, length-enumerate_from 0 xs) in
     let at : 0 + n ≡ n = omega arith in

@@ -1,5 +1,6 @@
 -- What a report without faults is.
-use Rattle.std.proofs.Common.{◌≡◌, ℕ, ◌+◌, ◌<◌, ◌≤◌, ◌&&◌, count_by, get_or, take, ◌==◌, nat_lt, Bool, true, false, List, [], ◌∷◌, ◌++◌, Option, Some, None, All, length, map, refl, sym, ap, ◌∙◌, arith, inl, inr, cond, ◌^◌}
+use Rattle.std.proofs.Common.{◌≡◌, ℕ, ◌+◌, ◌<◌, ◌≤◌, ◌&&◌, count_by, get_or, take, ◌==◌, nat_lt, Bool, true, false, List, [], ◌∷◌, ◌++◌, Option, Some, None}
+use Rattle.std.proofs.Common.{All, length, map, refl, sym, ap, ◌∙◌, arith, inl, inr, cond, ◌^◌}
 use Rattle.std.specs.List.{slice_get}
 use Rattle.std.specs.Option.{option_map, option_or, option_to_list}
 use Rattle.std.proofs.lemmas.Bool.Decides.{nat_tests}
@@ -20,7 +21,8 @@ use Rattle.snippet_lines.specs.declared.span.SpanFault.TheVariants.{Reversed, Pa
 use Rattle.snippet_lines.specs.Span.{IsSpan, IsSpanBorder, is_span_border, is_character_border, span_fault}
 use Rattle.snippet_splice.specs.Edits.{edit_of}
 use Rattle.snippet_splice.specs.Overlap.{first_overlap}
-use Rattle.annotate_snippets.specs.Fault.{added_lines, faults_from, missing_title, number_after_lines, first_of, span_faults, overlap_faults, group_faults, element_faults, first_fault, refusal_of, number_faults}
+use Rattle.annotate_snippets.specs.Fault.{added_lines, faults_from, missing_title, number_after_lines, first_of, span_faults, overlap_faults, group_faults}
+use Rattle.annotate_snippets.specs.Fault.{element_faults, first_fault, refusal_of, number_faults}
 use Rattle.snippet_suggest.specs.Prepared.{IsSuggestible}
 use Rattle.annotate_snippets.specs.Prepared.{IsDrawable, IsElementDrawable, IsGroupDrawable}
 use Rattle.annotate_snippets.proofs.DisjointLemmas.{first_overlap-clear}
@@ -32,7 +34,8 @@ use Rattle.annotate_snippets.specs.declared.renderer.form.Form.TheVariants.{Shor
 use Rattle.snippet_grid.proofs.WeaveLemmas.{some_same}
 
 -- one more patch adds no more lines than its replacement has bytes
-pub added_more : (patches : List Patch) (i : ℕ) (p : Patch) → i < length patches → p ≡ get_or patches i p → added_lines (take (i + 1) patches) ≤ added_lines (take i patches) + length (cow_str_bytes p.replacement)
+pub added_more : (patches : List Patch) (i : ℕ) (p : Patch) → i < length patches → p ≡ get_or patches i p
+    → added_lines (take (i + 1) patches) ≤ added_lines (take i patches) + length (cow_str_bytes p.replacement)
 added_more patches i p within is =
     let feeds : Patch → ℕ = λ q. count_by (λ b. b == 10) (cow_str_bytes q.replacement) in
     let more : take (i + 1) patches ≡ take i patches ++ p ∷ [] = take_more patches i p within ∙ ap (λ (q : Patch). take i patches ++ q ∷ []) (sym is) in
@@ -113,7 +116,8 @@ IsSpan-faultless source start end none = by_cases (nat_lt end start) (nat_lt (le
     by_cases false false false to r p f t h = cc
 
 -- things whose spans have no faults have spans
-pub spans-faultless : {X : Type 0} (span_of : X → Range ℕ) (group element n : ℕ) (source : List ℕ) (marks : List X) → faults_from (λ m x. span_faults group element source m (span_of x)) n marks ≡ [] → All (λ x. IsSpan source (span_of x).start (span_of x).end) marks
+pub spans-faultless : {X : Type 0} (span_of : X → Range ℕ) (group element n : ℕ) (source : List ℕ) (marks : List X)
+    → faults_from (λ m x. span_faults group element source m (span_of x)) n marks ≡ [] → All (λ x. IsSpan source (span_of x).start (span_of x).end) marks
 spans-faultless span_of group element n source [] none =
     All-nil (λ x. IsSpan source (span_of x).start (span_of x).end)
 spans-faultless span_of group element n source (x ∷ marks) none =
@@ -123,7 +127,9 @@ spans-faultless span_of group element n source (x ∷ marks) none =
     (spans-faultless span_of group element (n + 1) source marks (back_none _ _ none))
 
 -- the first refusal of patches of which two overlap, after no refusal of their spans
-pub overlap-first : (spans after : List RenderError) (group element : ℕ) (patches : List Patch) (m n : ℕ) → spans ≡ [] → first_overlap (map edit_of patches) ≡ Some (m, n) → Some (PatchesOverlap group element m n) ≡ first_of (spans ++ overlap_faults group element patches ++ after)
+pub overlap-first : (spans after : List RenderError) (group element : ℕ) (patches : List Patch) (m n : ℕ) → spans ≡ []
+    → first_overlap (map edit_of patches) ≡ Some (m, n)
+    → Some (PatchesOverlap group element m n) ≡ first_of (spans ++ overlap_faults group element patches ++ after)
 overlap-first spans after group element patches m n none pair =
     sym (ap (λ faults. first_of (faults ++ overlap_faults group element patches ++ after)) none ∙ ap (λ (p : Option (ℕ × ℕ)). first_of (option_to_list (option_map (λ t. PatchesOverlap group element t.0 t.1) p) ++ after)) pair)
 

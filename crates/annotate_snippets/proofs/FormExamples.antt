@@ -51,7 +51,8 @@ labelled label kind start end = labelled_span (Some (text_of (label ∷ []))) ki
 --       | -- ^^ y
 --       | |
 --       | x
-two_labels : (v : Vec Annotation Global) → texts_of (rows_of_lines plain_settings frame false (marked v (codes "ab cd") (labelled 120 Context 0 2 ∷ labelled 121 Primary 3 5 ∷ []) (omega arith)) [] (0 ∷ [])) ≡ codes "1 | ab cd" ∷ codes "  | -- ^^ y" ∷ codes "  | |" ∷ codes "  | x" ∷ []
+two_labels : (v : Vec Annotation Global)
+    → texts_of (rows_of_lines plain_settings frame false (marked v (codes "ab cd") (labelled 120 Context 0 2 ∷ labelled 121 Primary 3 5 ∷ []) (omega arith)) [] (0 ∷ [])) ≡ codes "1 | ab cd" ∷ codes "  | -- ^^ y" ∷ codes "  | |" ∷ codes "  | x" ∷ []
 unfolding place_of line_of start_of chars char_width unicode_width norm locations_of start_location location_of end_location steps_after_text written digits
 two_labels v = refl
 
@@ -65,11 +66,13 @@ two_labels v = refl
 abbrev four_lines : Vec Annotation Global → Snippet Annotation
 four_lines v = marked v (codes "a\nb\nc\nd") (span_of Primary 0 1 ∷ span_of Primary 6 7 ∷ []) (omega arith)
 
-lines_left_out : (v : Vec Annotation Global) → texts_of (rows_of_lines plain_settings frame false (four_lines v) [] (0 ∷ 3 ∷ [])) ≡ codes "1 | a" ∷ codes "  | ^" ∷ codes "..." ∷ codes "4 | d" ∷ codes "  | ^" ∷ []
+lines_left_out : (v : Vec Annotation Global)
+    → texts_of (rows_of_lines plain_settings frame false (four_lines v) [] (0 ∷ 3 ∷ [])) ≡ codes "1 | a" ∷ codes "  | ^" ∷ codes "..." ∷ codes "4 | d" ∷ codes "  | ^" ∷ []
 unfolding place_of line_of start_of chars char_width unicode_width norm locations_of start_location location_of end_location steps_after_text written digits
 lines_left_out v = refl
 
-names_of_rows : (v : Vec Annotation Global) → names_of (rows_of_lines plain_settings frame false (four_lines v) [] (0 ∷ 3 ∷ [])) ≡ SourceRow 0 ∷ Other ∷ Elision ∷ SourceRow 3 ∷ Other ∷ []
+names_of_rows : (v : Vec Annotation Global)
+    → names_of (rows_of_lines plain_settings frame false (four_lines v) [] (0 ∷ 3 ∷ [])) ≡ SourceRow 0 ∷ Other ∷ Elision ∷ SourceRow 3 ∷ Other ∷ []
 unfolding place_of line_of start_of chars char_width unicode_width norm locations_of start_location location_of end_location steps_after_text written digits
 names_of_rows v = refl
 
@@ -79,7 +82,8 @@ names_of_rows v = refl
 --     2 | | b
 --     3 | | c
 --       | |_^
-one_bar : (v : Vec Annotation Global) → texts_of (rows_of_lines plain_settings (record { gutter = 1; code = 6; decor = Ascii }) false (marked v (codes "a\nb\nc") (span_of Primary 0 5 ∷ []) (omega arith)) []
+one_bar : (v : Vec Annotation Global)
+    → texts_of (rows_of_lines plain_settings (record { gutter = 1; code = 6; decor = Ascii }) false (marked v (codes "a\nb\nc") (span_of Primary 0 5 ∷ []) (omega arith)) []
     (0 ∷ 1 ∷ 2 ∷ [])) ≡ codes "1 | / a" ∷ codes "2 | | b" ∷ codes "3 | | c" ∷ codes "  | |_^" ∷ []
 unfolding place_of line_of start_of chars char_width unicode_width norm locations_of start_location location_of end_location steps_after_text written digits
 one_bar v = refl

@@ -1,5 +1,6 @@
 -- The text form of a group's elements, and that of a report's groups, are made one by one.
-use Rattle.std.proofs.Common.{◌≡◌, ◌∙◌, ℕ, ◌+◌, ◌^◌, ◌<◌, ◌≤◌, suc, Bool, true, false, List, [], ◌∷◌, ◌++◌, Option, None, Some, IfSome, if◌then◌else◌, length, take, drop, get_or, refl, sym, ap, subst, arith}
+use Rattle.std.proofs.Common.{◌≡◌, ◌∙◌, ℕ, ◌+◌, ◌^◌, ◌<◌, ◌≤◌, suc, Bool, true, false, List, [], ◌∷◌, ◌++◌, Option, None, Some, IfSome, if◌then◌else◌, length}
+use Rattle.std.proofs.Common.{take, drop, get_or, refl, sym, ap, subst, arith}
 use Rattle.std.specs.List.{flat_map, slice_get}
 use Rattle.std.specs.Option.{option_to_list}
 use Rattle.std.proofs.Math.Seq.{drop-cons}
@@ -30,7 +31,8 @@ pub none_added : (r : Renderer) (file : Option (List ℕ)) (es : List Element) (
 none_added r file es old = record { left = refl; numbered = tt }
 
 -- the number after a suggestion
-number_within : (before : Option PreviousSuggestion) (path : Option (List ℕ)) (i : ℕ) → IfSome before (λ (b : PreviousSuggestion). b.number ≤ i) → option_number before path ≤ i + 1
+number_within : (before : Option PreviousSuggestion) (path : Option (List ℕ)) (i : ℕ) → IfSome before (λ (b : PreviousSuggestion). b.number ≤ i)
+    → option_number before path ≤ i + 1
 number_within None path i small = omega arith
 number_within (Some before) path i small = by (is_same_file before.path path)
   where
@@ -38,7 +40,8 @@ number_within (Some before) path i small = by (is_same_file before.path path)
     by true = omega (arith, small)
     by false = omega arith
 
-next_within : (before : Option PreviousSuggestion) (e : Element) (i : ℕ) → IfSome before (λ (b : PreviousSuggestion). b.number ≤ i) → IfSome (before_next before e) (λ (b : PreviousSuggestion). b.number ≤ i + 1)
+next_within : (before : Option PreviousSuggestion) (e : Element) (i : ℕ) → IfSome before (λ (b : PreviousSuggestion). b.number ≤ i)
+    → IfSome (before_next before e) (λ (b : PreviousSuggestion). b.number ≤ i + 1)
 next_within before (Message m) i small = tt
 next_within before (Cause s) i small = tt
 next_within before (Suggestion s) i small = number_within before (path_bytes s.path) i small
@@ -64,12 +67,14 @@ element_added r file es i e old form new before after followed at shares added f
     }
 
 -- all of them
-pub all_added : (r : Renderer) (file : Option (List ℕ)) (es : List Element) (i : ℕ) (old form : List FormPiece) (before : Option PreviousSuggestion) → length es ≤ i → ElementsSoFar r file es i old form before → form ≡ old ++ elements_form r file None es
+pub all_added : (r : Renderer) (file : Option (List ℕ)) (es : List Element) (i : ℕ) (old form : List FormPiece) (before : Option PreviousSuggestion)
+    → length es ≤ i → ElementsSoFar r file es i old form before → form ≡ old ++ elements_form r file None es
 all_added r file es i old form before past so_far =
     sym (append-nil form) ∙ ap (λ (xs : List Element). form ++ elements_form r file before xs) (sym (drop_all i es past)) ∙ so_far.left
 
 -- so the number of the suggestion right before is small
-pub number_small : (before : Option code.PreviousSuggestion) (i count : ℕ) → IfSome (before_seen before) (λ (b : PreviousSuggestion). b.number ≤ i) → i < count → count < 2 ^ 64 → IfSome before (λ b. b.number + 1 < 2 ^ 64)
+pub number_small : (before : Option code.PreviousSuggestion) (i count : ℕ) → IfSome (before_seen before) (λ (b : PreviousSuggestion). b.number ≤ i) → i < count
+    → count < 2 ^ 64 → IfSome before (λ b. b.number + 1 < 2 ^ 64)
 number_small None i count small within room = tt
 number_small (Some before) i count small within room = omega (arith, small, within, room)
 
@@ -79,7 +84,8 @@ title_form r title =
     flat_map (λ (t : Title). heading_form r.hyperlink kind.Title (heading_of_title t)) (option_to_list title)
 
 -- it is added, where there is one
-pub title_added : (r : Renderer) (title : Option Title) (t : Title) (old new : List FormPiece) → title ≡ Some t → new ≡ old ++ heading_form r.hyperlink kind.Title (heading_of_title t) → new ≡ old ++ title_form r title
+pub title_added : (r : Renderer) (title : Option Title) (t : Title) (old new : List FormPiece) → title ≡ Some t
+    → new ≡ old ++ heading_form r.hyperlink kind.Title (heading_of_title t) → new ≡ old ++ title_form r title
 title_added r title t old new is added =
     added ∙ ap (λ (x : List FormPiece). old ++ x) (sym (append-nil (heading_form r.hyperlink kind.Title (heading_of_title t)))) ∙ ap (λ (x : Option Title). old ++ title_form r x) (sym is)
 
@@ -102,7 +108,8 @@ group_added r groups g file es old titled new of drawn title added =
 abbrev pub groups_form : Renderer → List Group → List Group → List FormPiece
 groups_form r groups gs = flat_map (group_form r groups) gs
 
-pub one_group_added : (r : Renderer) (groups gs : List Group) (i : ℕ) (g : Group) (form new : List FormPiece) → i < length gs → g ≡ get_or gs i g → form ≡ groups_form r groups (take i gs) → new ≡ form ++ group_form r groups g → new ≡ groups_form r groups (take (i + 1) gs)
+pub one_group_added : (r : Renderer) (groups gs : List Group) (i : ℕ) (g : Group) (form new : List FormPiece) → i < length gs → g ≡ get_or gs i g
+    → form ≡ groups_form r groups (take i gs) → new ≡ form ++ group_form r groups g → new ≡ groups_form r groups (take (i + 1) gs)
 one_group_added r groups gs i g form new within is so_far added =
     let own : Group → List FormPiece = group_form r groups in
     let more : take (i + 1) gs ≡ take i gs ++ g ∷ [] = take_more gs i g within ∙ ap (λ (h : Group). take i gs ++ h ∷ []) (sym is) in

@@ -31,7 +31,8 @@ abbrev IsOfForm : List FormPiece → Stylesheet → List ℕ → Type 0
 IsOfForm form sheet text = (text ≡ form_bytes sheet form) × IsWoven sheet text (form_text form) (form_links form)
 
 module _ (r : Renderer) (groups : List Group) (sheets : List Stylesheet) (texts : List (List ℕ)) where
-  shown-in : (form : Form) (report : Drawn) → All IsGroupDrawable groups → IsDrawnAs form r groups report → AllZip (IsPrintedAs report) sheets texts → ShowsForm form r groups sheets texts
+  shown-in : (form : Form) (report : Drawn) → All IsGroupDrawable groups → IsDrawnAs form r groups report → AllZip (IsPrintedAs report) sheets texts
+      → ShowsForm form r groups sheets texts
   shown-in Graphic (drawn.Page grids) drawable are printed =
       sheets_shown r groups grids.items drawable are sheets texts printed
   shown-in Graphic (drawn.Text form) drawable are printed = absurd are
@@ -43,7 +44,8 @@ module _ (r : Renderer) (groups : List Group) (sheets : List Stylesheet) (texts 
       text-shown r groups sheets texts (subst (λ (f : List FormPiece). AllZip (IsOfForm f) sheets texts) is printed)
 
   -- the texts of a report that is drawn in the renderer's form show it in that form
-  pub texts-shown : (report : Drawn) → All IsGroupDrawable groups → IsDrawnAs (form_of r) r groups report → AllZip (IsPrintedAs report) sheets texts → TextsShown r groups sheets texts
+  pub texts-shown : (report : Drawn) → All IsGroupDrawable groups → IsDrawnAs (form_of r) r groups report → AllZip (IsPrintedAs report) sheets texts
+      → TextsShown r groups sheets texts
   texts-shown report = shown-in (form_of r) report
 
   free-in : (form : Form) → ShowsForm form r groups sheets texts → AreFree (trusted_texts groups) (links_in form r groups) sheets texts

@@ -1,5 +1,6 @@
 -- The grids of a report's groups, in order.
-use Rattle.std.proofs.Common.{◌≡◌, ℕ, ◌+◌, ◌<◌, All, Option, None, Some, List, [], ◌∷◌, ◌++◌, length, get_or, map, take, zero, suc, Bor, inl, inr, refl, sym, ap, ◌∙◌, arith, subst}
+use Rattle.std.proofs.Common.{◌≡◌, ℕ, ◌+◌, ◌<◌, All, Option, None, Some, List, [], ◌∷◌, ◌++◌, length, get_or, map, take, zero, suc, Bor, inl, inr, refl, sym}
+use Rattle.std.proofs.Common.{ap, ◌∙◌, arith, subst}
 use Rattle.std.specs.List.{enumerate_from, slice_get}
 use Rattle.std.specs.Option.{option_copied, option_or}
 use Rattle.std.proofs.lemmas.Bool.{cases_lt}
@@ -26,7 +27,8 @@ use Rattle.annotate_snippets.proofs.RoomLemmas.{room_in_report}
 pub record GridsSoFar (r : Renderer) (groups : List Group) (n : ℕ) (grids : List GroupGrid) : Type 0 where
   pub count : length grids ≡ n
   pub levels : map (λ (grid : GroupGrid). grid.level) grids ≡ map (λ (g : Group). g.level) (take n groups)
-  pub each : (i : ℕ) (g : Group) (grid : GroupGrid) → slice_get groups i ≡ Some g → slice_get grids i ≡ Some grid → IsGroupGrid r (frame_of r groups g) (place_at (length groups) i) (file_of_group groups g) g grid.buffer
+  pub each : (i : ℕ) (g : Group) (grid : GroupGrid) → slice_get groups i ≡ Some g → slice_get grids i ≡ Some grid
+      → IsGroupGrid r (frame_of r groups g) (place_at (length groups) i) (file_of_group groups g) g grid.buffer
 
 -- no grid stands for the first none of the groups
 pub grids_none : (r : Renderer) (groups : List Group) (grids : List GroupGrid) → grids ≡ [] → GridsSoFar r groups 0 grids
@@ -50,7 +52,8 @@ abbrev framed : ℕ → ℕ → DecorStyle → Layout
 framed gutter code decor = record { gutter = gutter; code = code; decor = decor }
 
 -- the frame is the one that the report gives the group
-pub frame_is : (r : Renderer) (groups gs : List Group) (g : Group) (frame : Layout) (gutter depth : ℕ) → gs ≡ groups → gutter ≡ gutter_of_report r gs → depth ≡ depth_of_group g → frame.gutter ≡ gutter → frame.code ≡ code_after gutter depth → frame.decor ≡ r.decor_style → frame ≡ frame_of r groups g
+pub frame_is : (r : Renderer) (groups gs : List Group) (g : Group) (frame : Layout) (gutter depth : ℕ) → gs ≡ groups → gutter ≡ gutter_of_report r gs
+    → depth ≡ depth_of_group g → frame.gutter ≡ gutter → frame.code ≡ code_after gutter depth → frame.decor ≡ r.decor_style → frame ≡ frame_of r groups g
 frame_is r groups gs g frame gutter depth same wide deep left code decor =
     let wanted : gutter ≡ gutter_of_report r groups = wide ∙ ap (gutter_of_report r) same in
     let after : frame.code ≡ code_after (gutter_of_report r groups) (depth_of_group g) = code ∙ ap (λ w. code_after w depth) wanted ∙ ap (code_after (gutter_of_report r groups)) deep in
@@ -58,12 +61,14 @@ frame_is r groups gs g frame gutter depth same wide deep left code decor =
     first ∙ ap (λ c. framed (gutter_of_report r groups) c frame.decor) after ∙ ap (framed (gutter_of_report r groups) (code_after (gutter_of_report r groups) (depth_of_group g))) decor
 
 -- an iteration's group is the next of the report
-pub turn_group : (groups : List Group) (ps : List PreparedGroup) (n i : ℕ) (p : PreparedGroup) → map group_of ps ≡ groups → (n < length (enumerate_from 0 ps)) × ((i, p) ≡ get_or (enumerate_from 0 ps) n (i, p)) → slice_get groups n ≡ Some p.group.now
+pub turn_group : (groups : List Group) (ps : List PreparedGroup) (n i : ℕ) (p : PreparedGroup) → map group_of ps ≡ groups
+    → (n < length (enumerate_from 0 ps)) × ((i, p) ≡ get_or (enumerate_from 0 ps) n (i, p)) → slice_get groups n ≡ Some p.group.now
 turn_group groups ps n i p same turn =
     ap (λ (gs : List Group). slice_get gs n) (sym same) ∙ get-mapped group_of ps n p (turn_item ps n i p turn).1
 
 -- it is prepared
-pub turn_prepared : (ps : List PreparedGroup) (n i : ℕ) (p : PreparedGroup) → All IsGroupPrepared ps → (n < length (enumerate_from 0 ps)) × ((i, p) ≡ get_or (enumerate_from 0 ps) n (i, p)) → IsGroupPrepared p
+pub turn_prepared : (ps : List PreparedGroup) (n i : ℕ) (p : PreparedGroup) → All IsGroupPrepared ps
+    → (n < length (enumerate_from 0 ps)) × ((i, p) ≡ get_or (enumerate_from 0 ps) n (i, p)) → IsGroupPrepared p
 turn_prepared ps n i p all turn =
     let item : slice_get ps n ≡ Some p = (turn_item ps n i p turn).1 in
     let within : n < length ps = slice_get_within ps n p item in
@@ -132,7 +137,8 @@ turn_grid r groups ps n m i p frame place file grid grids new same turn frame_he
     last (x ∷ xs) grid d (suc j) at is = last xs grid d j (omega (arith, at)) is
 
 -- all of them
-pub grids_all : (r : Renderer) (groups : List Group) (ps : List PreparedGroup) (n : ℕ) (grids : List GroupGrid) → map group_of ps ≡ groups → n ≡ length (enumerate_from 0 ps) → GridsSoFar r groups n grids → AreGridsOf r groups grids
+pub grids_all : (r : Renderer) (groups : List Group) (ps : List PreparedGroup) (n : ℕ) (grids : List GroupGrid) → map group_of ps ≡ groups
+    → n ≡ length (enumerate_from 0 ps) → GridsSoFar r groups n grids → AreGridsOf r groups grids
 grids_all r groups ps n grids same all drawn =
     let size : n ≡ length groups = omega (arith, all, length-enumerate_from 0 ps, length-map ps group_of, ap length same) in
     record {

@@ -1,5 +1,6 @@
 -- The rows of a group show it.
-use Rattle.std.proofs.Common.{◌≡◌, ◌≢◌, ◌∙◌, ℕ, zero, suc, ◌<◌, ◌==◌, true, not, Option, None, Some, List, [], ◌∷◌, ◌++◌, map, length, get_or, refl, sym, ap, subst, arith, inl, inr}
+use Rattle.std.proofs.Common.{◌≡◌, ◌≢◌, ◌∙◌, ℕ, zero, suc, ◌<◌, ◌==◌, true, not, Option, None, Some, List, [], ◌∷◌, ◌++◌, map, length, get_or, refl, sym, ap}
+use Rattle.std.proofs.Common.{subst, arith, inl, inr}
 use Rattle.std.specs.List.{All, enumerate_from, flat_map, slice_get}
 use Rattle.std.specs.Option.{option_to_list}
 use Rattle.std.proofs.lemmas.Bool.{cases_lt}
@@ -47,7 +48,8 @@ use Rattle.annotate_snippets.proofs.SuggestionShown.{suggestion_shown}
 use Rattle.annotate_snippets.proofs.TrustedLemmas.{AreTextsAmong, IsFreeRow, after_title-free, element-free, free_text, texts_among, title_part-free}
 
 -- the rows of an element that is drawn show it
-pub element_shown : (r : Renderer) (frame : Layout) (around : ElementContext) (found : List Cell) (e : Element) (rows : List (List Cell)) → IsElementDrawable e → is_drawn e ≡ true → HasRoomFor r frame e → IsElementDrawn r frame around found e rows → ElementShown r frame around found e rows
+pub element_shown : (r : Renderer) (frame : Layout) (around : ElementContext) (found : List Cell) (e : Element) (rows : List (List Cell)) → IsElementDrawable e
+    → is_drawn e ≡ true → HasRoomFor r frame e → IsElementDrawn r frame around found e rows → ElementShown r frame around found e rows
 element_shown r frame around found (Message message) rows drawable drawn room is = message_shown r frame around found message rows is
 element_shown r frame around found (Cause snippet) rows drawable drawn room is = cause_shown r frame around found snippet rows drawable room is
 element_shown r frame around found (Suggestion snippet) rows drawable drawn room is =
@@ -60,20 +62,23 @@ element_shown r frame around found (Origin origin) rows drawable drawn room is =
 element_shown r frame around found (Padding padding) rows drawable drawn room is = padding_shown r frame around found padding rows is
 
 -- where there is a value for each item of a list, by its index, there is a list of them
-chosen : {X Y : Type 0} (R : ℕ → X → Y → Type 0) (d : Y) (xs : List X) → ((i : ℕ) (x : X) → slice_get xs i ≡ Some x → (y : Y) × R i x y) → (ys : List Y) × (length ys ≡ length xs) × ((i : ℕ) (x : X) → slice_get xs i ≡ Some x → R i x (get_or ys i d))
+chosen : {X Y : Type 0} (R : ℕ → X → Y → Type 0) (d : Y) (xs : List X) → ((i : ℕ) (x : X) → slice_get xs i ≡ Some x → (y : Y) × R i x y)
+    → (ys : List Y) × (length ys ≡ length xs) × ((i : ℕ) (x : X) → slice_get xs i ≡ Some x → R i x (get_or ys i d))
 chosen {X} {Y} R d [] at = ([], refl, λ i x is. cc)
 chosen {X} {Y} R d (z ∷ xs) at =
     let rest = chosen (λ i. R (suc i)) d xs (λ i x is. at (suc i) x is) in
     ((at 0 z refl).0 ∷ rest.0, ap suc rest.1, by rest.0 rest.2)
   where
-    by : (ys : List Y) → ((i : ℕ) (x : X) → slice_get xs i ≡ Some x → R (suc i) x (get_or ys i d)) → (i : ℕ) (x : X) → slice_get (z ∷ xs) i ≡ Some x → R i x (get_or ((at 0 z refl).0 ∷ ys) i d)
+    by : (ys : List Y) → ((i : ℕ) (x : X) → slice_get xs i ≡ Some x → R (suc i) x (get_or ys i d)) → (i : ℕ) (x : X) → slice_get (z ∷ xs) i ≡ Some x
+        → R i x (get_or ((at 0 z refl).0 ∷ ys) i d)
     by ys more zero x is =
         let same : z ≡ x = cc in
         subst (λ v. R 0 v (at 0 z refl).0) same (at 0 z refl).1
     by ys more (suc i) x is = more i x is
 
 -- what holds of each part of a list holds of the whole
-All-flat_map : {X Y : Type 0} (P : Y → Type 0) (f : X → List Y) (xs : List X) (d : X) → ((i : ℕ) → i < length xs → All P (f (get_or xs i d))) → All P (flat_map f xs)
+All-flat_map : {X Y : Type 0} (P : Y → Type 0) (f : X → List Y) (xs : List X) (d : X) → ((i : ℕ) → i < length xs → All P (f (get_or xs i d)))
+    → All P (flat_map f xs)
 All-flat_map P f [] d each = All-nil P
 All-flat_map P f (x ∷ xs) d each =
     All-append P (f x) (flat_map f xs) (each 0 (omega arith)) (All-flat_map P f xs d (λ i within. each (suc i) (omega (arith, within))))
@@ -101,7 +106,8 @@ no_links rows none =
         ]
 
 -- the rows of an element link to nothing
-element-unlinked : (r : Renderer) (frame : Layout) (around : ElementContext) (found : List Cell) (e : Element) (part : List NamedRow) → ShowsElement r frame around found e part → IsFreeElement e part → All IsUnlinked (cells_of part)
+element-unlinked : (r : Renderer) (frame : Layout) (around : ElementContext) (found : List Cell) (e : Element) (part : List NamedRow)
+    → ShowsElement r frame around found e part → IsFreeElement e part → All IsUnlinked (cells_of part)
 element-unlinked r frame around found (Message message) part shows free =
     subst (All IsUnlinked) (sym shows.shows.rows_are) (message_rows-unlinked r.hyperlink (record { frame = frame; followed = not (is_end around.next) }) (heading_of_message message) refl)
 element-unlinked r frame around found (Cause snippet) part shows free =
@@ -119,7 +125,8 @@ links-append xs ys none =
     flat_map-append (λ row. links_after None row) xs ys ∙ ap (λ urls. links_of xs ++ urls) (no_links ys none) ∙ append-nil (links_of xs)
 
 -- a title's part of a group links to what the title's id links to
-title_part-links : (r : Renderer) (frame : Layout) (place : GroupPosition) (follows : Next) (title : Option Title) → links_of (title_part r frame place follows title) ≡ flat_map (λ (t : Title). id_links r.hyperlink t.id) (option_to_list title)
+title_part-links : (r : Renderer) (frame : Layout) (place : GroupPosition) (follows : Next) (title : Option Title)
+    → links_of (title_part r frame place follows title) ≡ flat_map (λ (t : Title). id_links r.hyperlink t.id) (option_to_list title)
 title_part-links r frame place follows None = refl
 title_part-links r frame place follows (Some title) =
     let after : List (List Cell) = rows_after_title r frame place follows title.allows_styling in
@@ -204,7 +211,8 @@ module _ (r : Renderer) (frame : Layout) (place : GroupPosition) (file : Option 
           element-unlinked r frame (context_at place file es i e.0) (found_at r frame es i) e.0 (get_or names.named i []) part.shows part.free
 
   -- and hold no listed character but those of trusted texts
-  parts-free : (trusted : List (List ℕ)) → All (λ e. AreTextsAmong trusted (trusted_of_element e)) es → (names : AreNamed) → All (IsFreeRow trusted) (flat_map cells_of names.named)
+  parts-free : (trusted : List (List ℕ)) → All (λ e. AreTextsAmong trusted (trusted_of_element e)) es → (names : AreNamed)
+      → All (IsFreeRow trusted) (flat_map cells_of names.named)
   parts-free trusted among names = All-flat_map (IsFreeRow trusted) cells_of names.named [] each
     where
       each : (i : ℕ) → i < length names.named → All (IsFreeRow trusted) (cells_of (get_or names.named i []))
@@ -225,7 +233,8 @@ module _ (r : Renderer) (frame : Layout) (place : GroupPosition) (file : Option 
           (names.each i e.0 e.1).one_line (subst IsOneLineElement own (All-get_or IsOneLineElement es i e.0 (slice_get_within es i e.0 e.1) plain))
 
 -- the rows of a group show it: each part that is drawn shows its element
-pub group_shown : (r : Renderer) (frame : Layout) (place : GroupPosition) (file : Option (List ℕ)) (g : Group) (rows : List (List Cell)) → IsGroupDrawable g → All (HasRoomFor r frame) (drawn_elements g) → IsGroupGrid r frame place file g rows → GroupShown r frame place file g rows
+pub group_shown : (r : Renderer) (frame : Layout) (place : GroupPosition) (file : Option (List ℕ)) (g : Group) (rows : List (List Cell)) → IsGroupDrawable g
+    → All (HasRoomFor r frame) (drawn_elements g) → IsGroupGrid r frame place file g rows → GroupShown r frame place file g rows
 group_shown r frame place file g rows drawable room grid =
     let es : List Element = drawn_elements g in
     let parts : List (List (List Cell)) = grid.parts in

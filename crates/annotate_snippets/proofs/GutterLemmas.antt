@@ -1,5 +1,6 @@
 -- Why a line's number takes at most one cell more than the gutter has.
-use Rattle.std.proofs.Common.{◌≡◌, ◌≢◌, ℕ, zero, suc, ◌+◌, ◌-◌, ◌/◌, ◌<◌, ◌≤◌, ◌^◌, max, ◌==◌, ◌&&◌, not, nat_le, nat_lt, Bool, true, false, cond, List, [], ◌∷◌, All, length, take, map, fold, count_by, get_or, replicate, refl, sym, ap, subst, ◌∙◌, arith, inl, inr}
+use Rattle.std.proofs.Common.{◌≡◌, ◌≢◌, ℕ, zero, suc, ◌+◌, ◌-◌, ◌/◌, ◌<◌, ◌≤◌, ◌^◌, max, ◌==◌, ◌&&◌, not, nat_le, nat_lt, Bool, true, false, cond, List, []}
+use Rattle.std.proofs.Common.{◌∷◌, All, length, take, map, fold, count_by, get_or, replicate, refl, sym, ap, subst, ◌∙◌, arith, inl, inr}
 use Rattle.std.specs.Cow.{cow_str_bytes}
 use Rattle.std.specs.Fmt.{decimal}
 use Rattle.std.proofs.lemmas.List.{take-take, length-append, length-replicate}
@@ -163,7 +164,8 @@ between-counted n (j ∷ k ∷ ks) low =
     ]
 
 -- what holds of lines holds of what is seen of them
-pub All-of_lines : (P : KeptLine → Type 0) (f : ℕ → KeptLine) (ks : List ℕ) (infos : List AnnotatedLineInfo) → map seen_kept infos ≡ map f ks → All (λ k. P (f k)) ks → All (λ info. P (seen_kept info)) infos
+pub All-of_lines : (P : KeptLine → Type 0) (f : ℕ → KeptLine) (ks : List ℕ) (infos : List AnnotatedLineInfo) → map seen_kept infos ≡ map f ks
+    → All (λ k. P (f k)) ks → All (λ info. P (seen_kept info)) infos
 All-of_lines P f [] [] same each = All-nil (λ (info : AnnotatedLineInfo). P (seen_kept info))
 All-of_lines P f [] (info ∷ infos) same each = cc
 All-of_lines P f (k ∷ ks) [] same each = cc
@@ -205,10 +207,12 @@ length-shown Anonymized gutter number fits =
 length-shown Hidden gutter number fits = omega (arith, length-replicate {A = ℕ} gutter 32)
 
 -- a frame with room for a snippet has it for the number counted
-pub counted-width : (r : Renderer) (frame : Layout) (s : Snippet Annotation) → HasRoomFor r frame (Cause s) → number_width (line_numbers r s.line_numbering) (counted_number s) ≤ frame.gutter
+pub counted-width : (r : Renderer) (frame : Layout) (s : Snippet Annotation) → HasRoomFor r frame (Cause s)
+    → number_width (line_numbers r s.line_numbering) (counted_number s) ≤ frame.gutter
 counted-width r frame s room = by_cases s.line_numbering refl r.anonymized_snippet_line_numbers refl
   where
-    by_cases : (numbered : Bool) → s.line_numbering ≡ numbered → (anonymized : Bool) → r.anonymized_snippet_line_numbers ≡ anonymized → number_width (cond numbered (cond anonymized Anonymized Shown) Hidden) (counted_number s) ≤ frame.gutter
+    by_cases : (numbered : Bool) → s.line_numbering ≡ numbered → (anonymized : Bool) → r.anonymized_snippet_line_numbers ≡ anonymized
+        → number_width (cond numbered (cond anonymized Anonymized Shown) Hidden) (counted_number s) ≤ frame.gutter
     by_cases true on true hidden = room.anonymized hidden
     by_cases true on false seen =
         let wide : gutter_of s ≡ length (decimal (counted_number s)) = ap (λ b. cond b (length (decimal (counted_number s))) 0) on in

@@ -1,5 +1,6 @@
 -- The rows of a title or message hold a line feed only where its level's name or its id does: its text is cut at each.
-use Rattle.std.proofs.Common.{◌≡◌, ℕ, ◌+◌, ◌==◌, ◌&&◌, not, Bool, true, false, cond, IfSome, Option, None, Some, List, [], ◌∷◌, ◌++◌, All, chars, map, replicate, codes, refl, sym, subst}
+use Rattle.std.proofs.Common.{◌≡◌, ℕ, ◌+◌, ◌==◌, ◌&&◌, not, Bool, true, false, cond, IfSome, Option, None, Some, List, [], ◌∷◌, ◌++◌, All, chars, map}
+use Rattle.std.proofs.Common.{replicate, codes, refl, sym, subst}
 use Rattle.std.specs.Cow.{cow_str_bytes}
 use Rattle.std.specs.List.{onto_first, slice_split}
 use Rattle.std.specs.Option.{option_map}
@@ -16,7 +17,8 @@ use Rattle.snippet_model.specs.Heading.{Heading, heading_of_title, is_hidden}
 use Rattle.snippet_model.specs.Level.{name_of}
 use Rattle.snippet_model.specs.declared.snippet.Id.{Id}
 use Rattle.snippet_model.specs.declared.snippet.Title.{Title as TitleGiven}
-use Rattle.snippet_titles.specs.Heading.{address_of, bracketed_cells, closing_bracket_of, colon_of, heading_lines, heading_rows, id_cells, indent_cells, is_set, label_cells, label_width, linked_to, lines_below, note_bar_of, opening_bracket_of, roles_of, shown_text, sign_cells}
+use Rattle.snippet_titles.specs.Heading.{address_of, bracketed_cells, closing_bracket_of, colon_of, heading_lines, heading_rows, id_cells, indent_cells, is_set}
+use Rattle.snippet_titles.specs.Heading.{label_cells, label_width, linked_to, lines_below, note_bar_of, opening_bracket_of, roles_of, shown_text, sign_cells}
 use Rattle.snippet_style.specs.Glyphs.{note_sign_of}
 use Rattle.snippet_titles.specs.Title.{title_rows}
 use Rattle.snippet_titles.specs.declared.style.HeadingRoles.{HeadingRoles}
@@ -52,7 +54,8 @@ closing_plain : (hidden : Bool) → All IsNoFeed (closing_bracket_of hidden)
 closing_plain true = All-nil IsNoFeed
 closing_plain false = alone 93 refl
 
-brackets_plain : (hidden : Bool) (role : ElementStyle) (address text : Option (List ℕ)) → IsOneLineText text → HasNoFeed (bracketed_cells hidden role address text)
+brackets_plain : (hidden : Bool) (role : ElementStyle) (address text : Option (List ℕ)) → IsOneLineText text
+    → HasNoFeed (bracketed_cells hidden role address text)
 brackets_plain hidden role address None plain = All-nil HoldsNoFeed
 brackets_plain hidden role address (Some text) plain =
     let own : List Cell = linked_to address (text_cells role (norm (chars text))) in
@@ -116,7 +119,8 @@ onto_plain c [] plain all = All-cons (All IsNoFeed) (c ∷ []) [] (alone c plain
 onto_plain c (part ∷ parts) plain all =
     All-cons (All IsNoFeed) (c ∷ part) parts (All-cons IsNoFeed c part plain (All-head (All IsNoFeed) part parts all)) (All-tail (All IsNoFeed) part parts all)
 
-one_more : (c : ℕ) (cs : List ℕ) (feed : Bool) → (c == 10) ≡ feed → All (All IsNoFeed) (slice_split (λ x. x == 10) cs) → All (All IsNoFeed) (slice_split (λ x. x == 10) (c ∷ cs))
+one_more : (c : ℕ) (cs : List ℕ) (feed : Bool) → (c == 10) ≡ feed → All (All IsNoFeed) (slice_split (λ x. x == 10) cs)
+    → All (All IsNoFeed) (slice_split (λ x. x == 10) (c ∷ cs))
 one_more c cs true is all =
     subst (All (All IsNoFeed)) (sym (slice_split-cons_yes (λ x. x == 10) c cs is)) (All-cons (All IsNoFeed) [] (slice_split (λ x. x == 10) cs) (All-nil IsNoFeed) all)
 one_more c cs false is all =
@@ -131,7 +135,8 @@ after_plain : (front : List Cell) (role : ElementStyle) (line : List ℕ) → Ha
 after_plain front role line plain own =
     All-append HoldsNoFeed front (text_cells role line) plain (cells_plain role line own)
 
-lines_plain : (first further : List Cell) (role : ElementStyle) (lines : List (List ℕ)) → HasNoFeed first → HasNoFeed further → All (All IsNoFeed) lines → All HasNoFeed (lines_below first further role lines)
+lines_plain : (first further : List Cell) (role : ElementStyle) (lines : List (List ℕ)) → HasNoFeed first → HasNoFeed further → All (All IsNoFeed) lines
+    → All HasNoFeed (lines_below first further role lines)
 lines_plain first further role [] begun below all = All-nil HasNoFeed
 lines_plain first further role (line ∷ lines) begun below all =
     let rest : List (List Cell) = map (λ l. further ++ text_cells role l) lines in
@@ -139,7 +144,8 @@ lines_plain first further role (line ∷ lines) begun below all =
     All-cons HasNoFeed (first ++ text_cells role line) rest (after_plain first role line begun (All-head (All IsNoFeed) line lines all)) (All-map HasNoFeed (λ l. further ++ text_cells role l) lines (λ k d within. after_plain further role _ below (later k d within)))
 
 -- so no row of a title or message holds one, whatever its text is, where its level's name and its id hold none
-pub heading_one_line : (hyperlink : Bool) (style : TitleStyle) (heading : Heading) → IsOneLineHeading heading → All HasNoFeed (heading_rows hyperlink style heading)
+pub heading_one_line : (hyperlink : Bool) (style : TitleStyle) (heading : Heading) → IsOneLineHeading heading
+    → All HasNoFeed (heading_rows hyperlink style heading)
 unfolding heading_rows
 heading_one_line hyperlink style heading plain =
     let roles : HeadingRoles = roles_of style heading.level.kind heading.allows_styling in
@@ -150,7 +156,8 @@ heading_one_line hyperlink style heading plain =
     All-trimmed HasNoFeed (lines_below (sign ++ label) indent roles.text (heading_lines heading)) (lines_plain (sign ++ label) indent roles.text (heading_lines heading) begun (indent_plain style (label_width heading)) (parts_plain (shown_text heading)))
 
 -- so no row of a group's title does, and none below it
-pub title_part-one_line : (r : Renderer) (frame : Layout) (place : GroupPosition) (follows : NextElement) (title : Option TitleGiven) → IfSome title IsOneLineTitle → All HasNoFeed (title_part r frame place follows title)
+pub title_part-one_line : (r : Renderer) (frame : Layout) (place : GroupPosition) (follows : NextElement) (title : Option TitleGiven)
+    → IfSome title IsOneLineTitle → All HasNoFeed (title_part r frame place follows title)
 title_part-one_line r frame place follows None plain = All-nil HasNoFeed
 title_part-one_line r frame place follows (Some title) plain =
     let own : List (List Cell) = title_rows r.hyperlink title in

@@ -56,7 +56,8 @@ heading_shown hyperlink place heading =
     }
 
 -- so do those of a message
-pub message_shown : (r : Renderer) (frame : Layout) (around : ElementContext) (found : List Cell) (message : the_message.Message) (rows : List (List Cell)) → rows ≡ message_rows r frame around message → ElementShown r frame around found (Message message) rows
+pub message_shown : (r : Renderer) (frame : Layout) (around : ElementContext) (found : List Cell) (message : the_message.Message) (rows : List (List Cell))
+    → rows ≡ message_rows r frame around message → ElementShown r frame around found (Message message) rows
 message_shown r frame around found message rows are =
     let heading : Heading = heading_of_message message in
     let shows : ShowsHeading r.hyperlink (message_style r frame around) heading rows = subst (ShowsHeading r.hyperlink (message_style r frame around) heading) (sym are) (heading_shown r.hyperlink (message_style r frame around) heading) in
@@ -78,7 +79,8 @@ closing-free r frame true = All-cons IsFree _ [] (closing_row-free frame.decor f
 closing-free r frame false = All-nil IsFree
 
 -- the rows of an origin show it
-pub origin_shown : (r : Renderer) (frame : Layout) (around : ElementContext) (found : List Cell) (origin : the_origin.Origin) (rows : List (List Cell)) → rows ≡ origin_rows r frame around origin → ElementShown r frame around found (Origin origin) rows
+pub origin_shown : (r : Renderer) (frame : Layout) (around : ElementContext) (found : List Cell) (origin : the_origin.Origin) (rows : List (List Cell))
+    → rows ≡ origin_rows r frame around origin → ElementShown r frame around found (Origin origin) rows
 origin_shown r frame around found origin rows are =
     let path : List ℕ = cow_str_bytes origin.path in
     let row : List Cell = origin_row (origin_layout r frame) (origin_start around) path (place_given origin) in
@@ -96,7 +98,8 @@ origin_shown r frame around found origin rows are =
     }
 
 -- and that of a padding
-pub padding_shown : (r : Renderer) (frame : Layout) (around : ElementContext) (found : List Cell) (padding : the_padding.Padding) (rows : List (List Cell)) → rows ≡ padding_row frame.decor frame.gutter (is_end around.next) ∷ [] → ElementShown r frame around found (Padding padding) rows
+pub padding_shown : (r : Renderer) (frame : Layout) (around : ElementContext) (found : List Cell) (padding : the_padding.Padding) (rows : List (List Cell))
+    → rows ≡ padding_row frame.decor frame.gutter (is_end around.next) ∷ [] → ElementShown r frame around found (Padding padding) rows
 padding_shown r frame around found padding rows are =
     let row : List Cell = padding_row frame.decor frame.gutter (is_end around.next) in
     let free : All IsFree (row ∷ []) = All-cons IsFree row [] (padding_row-free frame.decor frame.gutter (is_end around.next)) (All-nil IsFree) in
@@ -110,7 +113,8 @@ padding_shown r frame around found padding rows are =
     }
 
 -- the title's part of a group shows the title
-pub title_shown : (r : Renderer) (frame : Layout) (place : GroupPosition) (follows : Next) (title : Option Title) → ShowsTitlePart r frame place follows title (title_part r frame place follows title)
+pub title_shown : (r : Renderer) (frame : Layout) (place : GroupPosition) (follows : Next) (title : Option Title)
+    → ShowsTitlePart r frame place follows title (title_part r frame place follows title)
 title_shown r frame place follows None = refl
 title_shown r frame place follows (Some title) =
     record {

@@ -1,5 +1,6 @@
 -- The labels of a line's entries are those of its spans.
-use Rattle.std.proofs.Common.{◌≡◌, ℕ, ◌+◌, ◌-◌, ◌<◌, ◌≤◌, ◌==◌, ◌&&◌, ◌||◌, max, cond, not, Bool, true, false, None, Option, List, [], ◌∷◌, ◌++◌, map, length, get_or, count_by, refl, sym, ap, subst, ◌∙◌, arith, inl, inr}
+use Rattle.std.proofs.Common.{◌≡◌, ℕ, ◌+◌, ◌-◌, ◌<◌, ◌≤◌, ◌==◌, ◌&&◌, ◌||◌, max, cond, not, Bool, true, false, None, Option, List, [], ◌∷◌, ◌++◌, map, length}
+use Rattle.std.proofs.Common.{get_or, count_by, refl, sym, ap, subst, ◌∙◌, arith, inl, inr}
 use Rattle.std.specs.List.{All, filter}
 use Rattle.std.specs.Prelude.{nat_le, nat_lt}
 use Rattle.std.proofs.lemmas.Bool.{and_parts}
@@ -11,7 +12,8 @@ use Rattle.snippet_style.specs.Cell.{Cell, unlinked_cell}
 use Rattle.snippet_model.specs.declared.snippet.Annotation.{Annotation}
 use Rattle.snippet_model.specs.declared.snippet.AnnotationKind.{AnnotationKind}
 use Rattle.snippet_lines.specs.Lines.{Source}
-use Rattle.snippet_view.specs.Annotated.{PartEntry, promoted, end_part, is_short, long_parts, long_place, long_places, long_spans, made_parts, parts_on, seen_part, single_part, span_parts, stands_among, start_part}
+use Rattle.snippet_view.specs.Annotated.{PartEntry, promoted, end_part, is_short, long_parts, long_place, long_places, long_spans, made_parts, parts_on}
+use Rattle.snippet_view.specs.Annotated.{seen_part, single_part, span_parts, stands_among, start_part}
 use Rattle.snippet_view.specs.Depths.{depth_among}
 use Rattle.snippet_view.specs.declared.depths.LongExtent.{LongExtent}
 use Rattle.snippet_model.specs.declared.snippet.Snippet.{Snippet}
@@ -28,7 +30,8 @@ use Rattle.snippet_marks.specs.Entries.{label_role, label_text, shifted}
 use Rattle.snippet_strokes.specs.Labels.{IsLabelledAtEnd, IsLedTo, LabelsStand, PlacedLabel, StandsIn, is_cell_of}
 use Rattle.snippet_marks.specs.Positions.{is_start_part}
 use Rattle.snippet_grid.specs.Layout.{Layout}
-use Rattle.annotate_snippets.specs.Shown.{HasStem, ShowsLabel, ShowsLabels, ShownLabel, SpanLabel, promoted_spans, is_in_label, label_of_end, label_of_span, normalized_chars, shown_label}
+use Rattle.annotate_snippets.specs.Shown.{HasStem, ShowsLabel, ShowsLabels, ShownLabel, SpanLabel, promoted_spans, is_in_label, label_of_end, label_of_span}
+use Rattle.annotate_snippets.specs.Shown.{normalized_chars, shown_label}
 use Rattle.annotate_snippets.proofs.MarkLemmas.{end_of_entry, label_is, start_of_entry}
 
 -- lists that are the same begin with the same
@@ -57,7 +60,8 @@ none_before s marks =
     })
 
 -- so an entry of a line has a label only where a span ends
-pub labelled_at_end : (s : Source) (marks : List Annotation) (k dropped : ℕ) (es : List LineAnnotation) → map seen_part es ≡ parts_on s marks k → All IsLabelledAtEnd (map (shifted dropped) es)
+pub labelled_at_end : (s : Source) (marks : List Annotation) (k dropped : ℕ) (es : List LineAnnotation) → map seen_part es ≡ parts_on s marks k
+    → All IsLabelledAtEnd (map (shifted dropped) es)
 labelled_at_end s marks k dropped es same =
     each es (subst (All HasNoneBefore) (sym same) (All-filter (λ (p : PartEntry). p.entry.start.line == s.first + k) HasNoneBefore (made_parts s marks) (none_before s marks)))
   where
@@ -93,7 +97,8 @@ shown_labels (e ∷ es) [] = []
 shown_labels (e ∷ es) (l ∷ ls) =
     cond (ends_here (seen_part e)) (shown_at e l ∷ shown_labels es ls) (shown_labels es ls)
 
-labels_are : (es : List LineAnnotation) (ls : List PlacedLabel) → length ls ≡ length es → map (λ (l : ShownLabel). l.label) (shown_labels es ls) ≡ map label_of_part (filter ends_here (map seen_part es))
+labels_are : (es : List LineAnnotation) (ls : List PlacedLabel) → length ls ≡ length es
+    → map (λ (l : ShownLabel). l.label) (shown_labels es ls) ≡ map label_of_part (filter ends_here (map seen_part es))
 unfolding shown_labels
 labels_are [] ls long = refl
 labels_are (e ∷ es) [] long = absurd (omega (arith, long))
@@ -119,7 +124,8 @@ module _ (dropped : ℕ) (frame : Layout) (layout : Layout) (code : layout.code 
   text_is : (e : LineAnnotation) (l : PlacedLabel) → l.entry ≡ shifted dropped e → label_text l.entry ≡ normalized_chars (seen_part e).entry.label
   text_is e l entry = ap label_text entry ∙ label_is e.label
 
-  one_label : (e : LineAnnotation) (l : PlacedLabel) → l.entry ≡ shifted dropped e → IsClear e → ends_here (seen_part e) ≡ true → Stands l → Shows (shown_at e l)
+  one_label : (e : LineAnnotation) (l : PlacedLabel) → l.entry ≡ shifted dropped e → IsClear e → ends_here (seen_part e) ≡ true → Stands l
+      → Shows (shown_at e l)
   one_label e l entry clear ends stands some =
       let text = text_is e l entry in
       let there : StandsIn layout rows l = stands (omega (arith, ap length text, some)) in
@@ -140,7 +146,8 @@ module _ (dropped : ℕ) (frame : Layout) (layout : Layout) (code : layout.code 
       no_bar false true is = cc is
       no_bar false false is = refl
 
-  all_shown : (es : List LineAnnotation) (ls : List PlacedLabel) → map (λ (l : PlacedLabel). l.entry) ls ≡ map (shifted dropped) es → All IsClear es → All Stands ls → All Shows (shown_labels es ls)
+  all_shown : (es : List LineAnnotation) (ls : List PlacedLabel) → map (λ (l : PlacedLabel). l.entry) ls ≡ map (shifted dropped) es → All IsClear es
+      → All Stands ls → All Shows (shown_labels es ls)
   unfolding shown_labels
   all_shown [] ls entries clear stand = All-nil Shows
   all_shown (e ∷ es) [] entries clear stand = cc entries
@@ -149,7 +156,8 @@ module _ (dropped : ℕ) (frame : Layout) (layout : Layout) (code : layout.code 
       let further = tail_same l.entry (shifted dropped e) (map (λ (x : PlacedLabel). x.entry) ls) (map (shifted dropped) es) entries in
       both (ends_here (seen_part e)) (one_label e l entry (All-head IsClear e es clear)) (All-head Stands l ls stand) (all_shown es ls further (All-tail IsClear e es clear) (All-tail Stands l ls stand))
     where
-      both : (b : Bool) → (b ≡ true → Stands l → Shows (shown_at e l)) → Stands l → All Shows (shown_labels es ls) → All Shows (cond b (shown_at e l ∷ shown_labels es ls) (shown_labels es ls))
+      both : (b : Bool) → (b ≡ true → Stands l → Shows (shown_at e l)) → Stands l → All Shows (shown_labels es ls)
+          → All Shows (cond b (shown_at e l ∷ shown_labels es ls) (shown_labels es ls))
       both true own stands rest = All-cons Shows (shown_at e l) (shown_labels es ls) (own refl stands) rest
       both false own stands rest = rest
 
@@ -172,12 +180,14 @@ module _ (dropped : ℕ) (frame : Layout) (layout : Layout) (code : layout.code 
       let own : Stemmed shown (shown_at e l) = λ some r under above none. All-head (Led all) l ls led (omega (arith, ap length (text_is e l entry), some)) r under above (clear r l.cell none) in
       both (ends_here (seen_part e)) own (all_led all shown clear es ls further (All-tail (Led all) l ls led))
     where
-      both : (b : Bool) → Stemmed shown (shown_at e l) → All (Stemmed shown) (shown_labels es ls) → All (Stemmed shown) (cond b (shown_at e l ∷ shown_labels es ls) (shown_labels es ls))
+      both : (b : Bool) → Stemmed shown (shown_at e l) → All (Stemmed shown) (shown_labels es ls)
+          → All (Stemmed shown) (cond b (shown_at e l ∷ shown_labels es ls) (shown_labels es ls))
       both true own rest = All-cons (Stemmed shown) (shown_at e l) (shown_labels es ls) own rest
       both false own rest = rest
 
   -- a cell is in no more of these than of all the entries' labels
-  cells_few : (r c : ℕ) (es : List LineAnnotation) (ls : List PlacedLabel) → map (λ (l : PlacedLabel). l.entry) ls ≡ map (shifted dropped) es → count_by (is_in_label r c) (shown_labels es ls) ≤ count_by (is_cell_of r c) ls
+  cells_few : (r c : ℕ) (es : List LineAnnotation) (ls : List PlacedLabel) → map (λ (l : PlacedLabel). l.entry) ls ≡ map (shifted dropped) es
+      → count_by (is_in_label r c) (shown_labels es ls) ≤ count_by (is_cell_of r c) ls
   unfolding shown_labels
   cells_few r c [] ls entries = omega arith
   cells_few r c (e ∷ es) [] entries = omega arith
@@ -187,7 +197,8 @@ module _ (dropped : ℕ) (frame : Layout) (layout : Layout) (code : layout.code 
       let one : is_in_label r c (shown_at e l) ≡ is_cell_of r c l = ap (λ (n : ℕ). l.row == r && (nat_le l.cell c && nat_lt c (l.cell + n))) (sym (ap length (text_is e l entry))) in
       both (ends_here (seen_part e)) one (cells_few r c es ls further)
     where
-      both : (b : Bool) → is_in_label r c (shown_at e l) ≡ is_cell_of r c l → count_by (is_in_label r c) (shown_labels es ls) ≤ count_by (is_cell_of r c) ls → count_by (is_in_label r c) (cond b (shown_at e l ∷ shown_labels es ls) (shown_labels es ls)) ≤ count_by (is_cell_of r c) (l ∷ ls)
+      both : (b : Bool) → is_in_label r c (shown_at e l) ≡ is_cell_of r c l → count_by (is_in_label r c) (shown_labels es ls) ≤ count_by (is_cell_of r c) ls
+          → count_by (is_in_label r c) (cond b (shown_at e l ∷ shown_labels es ls) (shown_labels es ls)) ≤ count_by (is_cell_of r c) (l ∷ ls)
       both true one rest =
           let f : ShownLabel → ℕ = λ x. cond (is_in_label r c x) 1 0 in
           let g : PlacedLabel → ℕ = λ x. cond (is_cell_of r c x) 1 0 in
@@ -198,7 +209,8 @@ module _ (dropped : ℕ) (frame : Layout) (layout : Layout) (code : layout.code 
           omega (arith, rest, sum_by-cons g l ls)
 
   -- nor in fewer, since no other entry has a label
-  cells_all : (r c : ℕ) (es : List LineAnnotation) (ls : List PlacedLabel) → map (λ (l : PlacedLabel). l.entry) ls ≡ map (shifted dropped) es → All IsLabelledAtEnd (map (shifted dropped) es) → count_by (is_cell_of r c) ls ≤ count_by (is_in_label r c) (shown_labels es ls)
+  cells_all : (r c : ℕ) (es : List LineAnnotation) (ls : List PlacedLabel) → map (λ (l : PlacedLabel). l.entry) ls ≡ map (shifted dropped) es
+      → All IsLabelledAtEnd (map (shifted dropped) es) → count_by (is_cell_of r c) ls ≤ count_by (is_in_label r c) (shown_labels es ls)
   unfolding shown_labels
   cells_all r c [] [] entries ends = omega arith
   cells_all r c [] (l ∷ ls) entries ends = cc entries
@@ -231,7 +243,8 @@ module _ (dropped : ℕ) (frame : Layout) (layout : Layout) (code : layout.code 
 -- ---- which spans these are
 
 -- of the entries of a span of several lines the last one alone is where it ends
-one_end : (s : Source) (k depth : ℕ) (again : Bool) (e : Entry) → map label_of_part (filter ends_here (filter (λ (p : PartEntry). p.entry.start.line == s.first + k) (span_parts s depth again e))) ≡ map label_of_end (cond (e.end.line == s.first + k) (e ∷ []) [])
+one_end : (s : Source) (k depth : ℕ) (again : Bool) (e : Entry)
+    → map label_of_part (filter ends_here (filter (λ (p : PartEntry). p.entry.start.line == s.first + k) (span_parts s depth again e))) ≡ map label_of_end (cond (e.end.line == s.first + k) (e ∷ []) [])
 one_end s k depth true e = both (e.end.line == s.first + k)
   where
     both : (b : Bool) → map label_of_part (filter ends_here (cond b (end_part e Singleline ∷ []) [])) ≡ map label_of_end (cond b (e ∷ []) [])
@@ -278,12 +291,14 @@ long_ends s k places before (e ∷ later) =
     ∙ ap (λ xs. map label_of_end (cond (ends (promoted before e)) (promoted before e ∷ []) []) ++ xs)
     (long_ends s k places (before ++ e ∷ []) later) ∙ both (ends (promoted before e)) (filter ends rest)
   where
-    both : (b : Bool) (xs : List Entry) → map label_of_end (cond b (promoted before e ∷ []) []) ++ map label_of_end xs ≡ map label_of_end (cond b (promoted before e ∷ xs) xs)
+    both : (b : Bool) (xs : List Entry)
+        → map label_of_end (cond b (promoted before e ∷ []) []) ++ map label_of_end xs ≡ map label_of_end (cond b (promoted before e ∷ xs) xs)
     both true xs = refl
     both false xs = refl
 
 -- a span on one line has its entry's label
-single_labels : (s : Source) (k : ℕ) (marked : List Annotation) → All (λ a. is_marked_on s.text k a ≡ true) marked → map label_of_part (filter ends_here (map (single_part s) marked)) ≡ map (label_of_span s.text) marked
+single_labels : (s : Source) (k : ℕ) (marked : List Annotation) → All (λ a. is_marked_on s.text k a ≡ true) marked
+    → map label_of_part (filter ends_here (map (single_part s) marked)) ≡ map (label_of_span s.text) marked
 single_labels s k [] own = refl
 single_labels s k (a ∷ marked) own =
     let O : Annotation → Type 0 = λ x. is_marked_on s.text k x ≡ true in

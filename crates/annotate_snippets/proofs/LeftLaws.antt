@@ -1,8 +1,10 @@
 -- Laws of what stands left of the code: what follows for its characters, and which rows hold it.
-use Rattle.std.proofs.Common.{◌≡◌, ℕ, zero, suc, ◌+◌, ◌-◌, ◌<◌, ◌≤◌, Bool, false, List, [], ◌∷◌, ◌++◌, codes, length, take, get_or, replicate, refl, sym, ap, ◌∙◌, arith, inl, inr}
+use Rattle.std.proofs.Common.{◌≡◌, ℕ, zero, suc, ◌+◌, ◌-◌, ◌<◌, ◌≤◌, Bool, false, List, [], ◌∷◌, ◌++◌, codes, length, take, get_or, replicate, refl, sym, ap}
+use Rattle.std.proofs.Common.{◌∙◌, arith, inl, inr}
 use Rattle.std.specs.Char.{is_ascii_alphanumeric}
 use Rattle.std.proofs.lemmas.Bool.{cases_lt, cases_eq, false≢true}
-use Rattle.std.proofs.lemmas.List.{get_or-append_right, get_or-replicate, get_or-take, get_or_append_left, get_or_past, length-append, length-replicate, length-take, take-append-le, take-take, take_all}
+use Rattle.std.proofs.lemmas.List.{get_or-append_right, get_or-replicate, get_or-take, get_or_append_left, get_or_past, length-append, length-replicate}
+use Rattle.std.proofs.lemmas.List.{length-take, take-append-le, take-take, take_all}
 use Rattle.snippet_style.specs.Cell.{Cell, SPACE, gives_way, text_cells, unlinked_cell}
 use Rattle.snippet_style.specs.Glyphs.{elision_of, separator_of}
 use Rattle.snippet_style.specs.declared.glyphs.DecorStyle.{DecorStyle}
@@ -66,7 +68,8 @@ module _ (decor : DecorStyle) (gutter : ℕ) (shown : List ℕ) where
         after_number (gutter + 1) fits ∙ get_or-append_right spaces end n n SPACE (length-replicate n SPACE) (omega arith) ∙ ap (λ i. get_or end i SPACE) none
 
   -- so the separator stands in its cell, in the role of line numbers
-  pub separator_of_left : (row : List Cell) → take (gutter + 2) row ≡ cells_left decor gutter shown → get_or row (gutter + 1) SPACE ≡ unlinked_cell LineNumber (separator_of decor)
+  pub separator_of_left : (row : List Cell) → take (gutter + 2) row ≡ cells_left decor gutter shown
+      → get_or row (gutter + 1) SPACE ≡ unlinked_cell LineNumber (separator_of decor)
   separator_of_left row is =
       sym (get_or-take (gutter + 2) row (gutter + 1) SPACE (omega arith)) ∙ ap (λ cs. get_or cs (gutter + 1) SPACE) is ∙ at_separator (number_fits row is)
 
@@ -104,7 +107,8 @@ module _ (layout : Layout) (shown : List ℕ) (cells plain row : List Cell) (fit
       same (layout.gutter + 2) (omega arith) ∙ is.blank (layout.gutter + 2) (omega (arith, fits)) (λ at. omega (arith, at)) (omega (arith, place))
 
 -- no row below a line holds a letter or digit in the gutter
-pub unnumbered_below : (decor : DecorStyle) (frame : Layout) (closes : Bool) (row : List Cell) → IsRowBelow decor frame closes row → HasNoNumber frame.gutter row
+pub unnumbered_below : (decor : DecorStyle) (frame : Layout) (closes : Bool) (row : List Cell) → IsRowBelow decor frame closes row
+    → HasNoNumber frame.gutter row
 unnumbered_below decor frame closes row is c left =
     ap (λ (cell : Cell). is_ascii_alphanumeric cell.ch) (is.left c (omega (arith, left)) ∙ bare_row_left decor frame.gutter closes c left)
 

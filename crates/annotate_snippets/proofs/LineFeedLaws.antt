@@ -1,5 +1,6 @@
 -- The rows of an annotated snippet's lines hold a line feed only where a label does, whatever is cut of them.
-use Rattle.std.proofs.Common.{◌≡◌, ◌≢◌, ℕ, suc, ◌+◌, ◌-◌, ◌<◌, ◌==◌, ◌&&◌, nat_le, nat_lt, Bool, true, false, cond, Option, None, Some, List, [], ◌∷◌, ◌++◌, All, chars, take, drop, map, length, fold, get_or, replicate, refl, sym, ap, subst, ◌∙◌, arith, inl, inr}
+use Rattle.std.proofs.Common.{◌≡◌, ◌≢◌, ℕ, suc, ◌+◌, ◌-◌, ◌<◌, ◌==◌, ◌&&◌, nat_le, nat_lt, Bool, true, false, cond, Option, None, Some, List, [], ◌∷◌, ◌++◌}
+use Rattle.std.proofs.Common.{All, chars, take, drop, map, length, fold, get_or, replicate, refl, sym, ap, subst, ◌∙◌, arith, inl, inr}
 use Rattle.std.specs.Cow.{cow_str_bytes}
 use Rattle.std.specs.List.{Contains, range_with_len}
 use Rattle.std.specs.Option.{option_map}
@@ -7,7 +8,8 @@ use Rattle.std.specs.Str.{IsUtf8}
 use Rattle.std.proofs.lemmas.Bool.{cases_Bool, cases_lt}
 use Rattle.std.proofs.lemmas.Bool.Decides.{nat_tests}
 use Rattle.std.proofs.lemmas.List.{get_or_past}
-use Rattle.std.proofs.lemmas.List.Elements.{All-append, All-cons, All-contains, All-drop, All-filter, All-from_get_or, All-get_or, All-head, All-map, All-nil, All-replicate, All-tail, All-take, All-weaker}
+use Rattle.std.proofs.lemmas.List.Elements.{All-append, All-cons, All-contains, All-drop, All-filter, All-from_get_or, All-get_or, All-head, All-map, All-nil}
+use Rattle.std.proofs.lemmas.List.Elements.{All-replicate, All-tail, All-take, All-weaker}
 use Rattle.std.proofs.lemmas.List.Splits.{slice_split_none}
 use Rattle.std.proofs.lemmas.Str.{IsUtf8-nil}
 use Rattle.snippet_grid.specs.Grid.{cell_at, replaced_within, row_at}
@@ -43,7 +45,8 @@ use Rattle.snippet_marks.specs.Painting.{first_glyph, mark_end, painting_order, 
 use Rattle.snippet_strokes.specs.Drawing.{row_count}
 use Rattle.snippet_marks.specs.Positions.{has_label}
 use Rattle.snippet_marks.specs.SourceRows.{bare_row}
-use Rattle.snippet_strokes.specs.Strokes.{StrokesPainted, bar_cell as bar_column, bar_of, begun_rows, connector_of, connectors_of, corner_by, corner_of, corners_of, label_of, label_write, labels_of, stem_write, stems_of, line_strokes, column_of}
+use Rattle.snippet_strokes.specs.Strokes.{StrokesPainted, bar_cell as bar_column, bar_of, begun_rows, connector_of, connectors_of, corner_by, corner_of}
+use Rattle.snippet_strokes.specs.Strokes.{corners_of, label_of, label_write, labels_of, stem_write, stems_of, line_strokes, column_of}
 use Rattle.snippet_marks.specs.Writes.{Write, glyph_at, painted, stretch_of}
 use Rattle.snippet_grid.specs.Layout.{Layout}
 use Rattle.snippet_strokes.proofs.BarWrites.{All-connector_of, All-stretch_of}
@@ -159,7 +162,8 @@ module _ (layout : Layout) where
           let primary : Bool = is_primary e.entry.kind in
           alone _ (either_plain (below == e.position) _ _ (of_foot IsNoFeed e.entry.annotation_type layout.decor primary (has_label e) (code_plain layout.decor primary).stems) (code_plain layout.decor primary).stems.stem)
 
-  labels_plain : (row : ℕ) (es : _) → ((k : ℕ) (d : _) → k < length es → IsPlainWrite (label_write layout row (get_or es k d))) → All IsPlainWrite (labels_of layout row es)
+  labels_plain : (row : ℕ) (es : _) → ((k : ℕ) (d : _) → k < length es → IsPlainWrite (label_write layout row (get_or es k d)))
+      → All IsPlainWrite (labels_of layout row es)
   labels_plain row es plain =
       All-flat_map IsPlainWrite (label_of layout row) es (λ k d within. All-label_of IsPlainWrite layout row (get_or es k d) (λ has. plain k d within))
 
@@ -194,7 +198,8 @@ module _ (layout : Layout) where
       All-append IsPlainWrite (connectors ++ corners ++ stems ++ labels) (marks_of layout (row + 1) order) named (marks_plain (row + 1) order)
 
 -- such writes leave no line feed in a cell
-painted_plain : (ws : List Write) (rows : List (List Cell)) (r c : ℕ) → HoldsNoFeed (cell_at rows r c) → All IsPlainWrite ws → HoldsNoFeed (cell_at (painted ws rows) r c)
+painted_plain : (ws : List Write) (rows : List (List Cell)) (r c : ℕ) → HoldsNoFeed (cell_at rows r c) → All IsPlainWrite ws
+    → HoldsNoFeed (cell_at (painted ws rows) r c)
 painted_plain ws rows r c before all =
     painted-cell HoldsNoFeed ws rows r c before (λ k d within there.
     let w : Write = get_or ws k d in
@@ -266,7 +271,8 @@ module _ (layout : Layout) (room : ℕ) (closes : Bool) where
       All-append HasNoFeed (replicate count empty) (last ∷ []) above (All-cons HasNoFeed last [] (bare_plain layout.decor layout.gutter closes) (All-nil HasNoFeed))
 
   -- nor after that
-  drawn_plain : (es : List LineAnnotation) (source : List Cell) (rows : List (List Cell)) (strokes : StrokesPainted layout room closes es source rows) → All (λ e. All IsNoFeed (label_text e)) es → All HasNoFeed (strokes.marks ∷ strokes.lower)
+  drawn_plain : (es : List LineAnnotation) (source : List Cell) (rows : List (List Cell)) (strokes : StrokesPainted layout room closes es source rows)
+      → All (λ e. All IsNoFeed (label_text e)) es → All HasNoFeed (strokes.marks ∷ strokes.lower)
   drawn_plain es source rows strokes plain =
       let placed = strokes.placed in
       let ws : List Write = line_strokes layout 0 (row_count placed + 1) placed (painting_order placed) in
@@ -285,7 +291,8 @@ module _ (layout : Layout) (room : ℕ) (closes : Bool) where
       ]
 
   -- so a line's own rows below it hold none
-  own_plain : (text : List ℕ) (dropped : ℕ) (es : List LineAnnotation) (source row : List Cell) (below : List (List Cell)) → AreOwnRows layout room closes text dropped es source (row ∷ below) → All (λ e. All IsNoFeed (label_text e)) es → All HasNoFeed below
+  own_plain : (text : List ℕ) (dropped : ℕ) (es : List LineAnnotation) (source row : List Cell) (below : List (List Cell))
+      → AreOwnRows layout room closes text dropped es source (row ∷ below) → All (λ e. All IsNoFeed (label_text e)) es → All HasNoFeed below
   own_plain text dropped [] source row below are plain =
       subst (All HasNoFeed) (sym (tail_same row source below (cond closes (closing_row layout.decor layout.gutter ∷ []) []) (are.none refl))) end_plain
   own_plain text dropped (e ∷ es) source row below are plain =
@@ -339,7 +346,8 @@ parts_one_line s marks plain =
     of_label a among = shown_text_plain (option_map cow_str_bytes a.label) (All-contains IsOneLineLabel marks a plain among)
 
 -- the label of each entry of a line is one of its spans'
-entries_plain : (s : Snippet Annotation) (k : ℕ) (es : List LineAnnotation) → map seen_part es ≡ entries_on s k → All IsOneLineLabel s.markers.items → All (λ e. All IsNoFeed (label_text e)) es
+entries_plain : (s : Snippet Annotation) (k : ℕ) (es : List LineAnnotation) → map seen_part es ≡ entries_on s k → All IsOneLineLabel s.markers.items
+    → All (λ e. All IsNoFeed (label_text e)) es
 entries_plain s k es are plain =
     let source : Source = numbered_source s in
     each es (subst (All IsPlainPart) (sym are) (All-filter (λ (p : PartEntry). p.entry.start.line == source.first + k) IsPlainPart (made_parts source s.markers.items) (parts_one_line source s.markers.items plain)))
@@ -356,7 +364,8 @@ abbrev IsRowOfText : NamedRow → Type 0
 IsRowOfText row = HasNoFeed row.cells
 
 module _ (r : Renderer) (frame : Layout) (closes : Bool) (s : Snippet Annotation) (utf8 : IsUtf8 (cow_str_bytes s.source)) (plain : All IsOneLineLabel s.markers.items) where
-  line_below : (open_bars : List Bar) (k : ℕ) (row : List Cell) (below : List (List Cell)) (ends : Bool) → IsLineDrawn r frame ends s open_bars k (row ∷ below) → All HasNoFeed below
+  line_below : (open_bars : List Bar) (k : ℕ) (row : List Cell) (below : List (List Cell)) (ends : Bool) → IsLineDrawn r frame ends s open_bars k (row ∷ below)
+      → All HasNoFeed below
   line_below open_bars k row below ends drawn =
       below_plain frame drawn.margin.term_width ends drawn.text drawn.dropped open_bars drawn.entries drawn.highlighted row below drawn.drawn (entries_plain s k drawn.entries drawn.are plain)
 
@@ -372,7 +381,8 @@ module _ (r : Renderer) (frame : Layout) (closes : Bool) (s : Snippet Annotation
   one_row open_bars Other cells rows shows drawn below =
       (All-head HasNoFeed cells (rows_below rows) below, All-tail HasNoFeed cells (rows_below rows) below)
 
-  all_rows : (open_bars : List Bar) (rows : List NamedRow) → AreRowsOf r frame closes s rows → AreRowsDrawn r frame closes s open_bars rows → All HasNoFeed (rows_below rows) → All IsRowOfText rows
+  all_rows : (open_bars : List Bar) (rows : List NamedRow) → AreRowsOf r frame closes s rows → AreRowsDrawn r frame closes s open_bars rows
+      → All HasNoFeed (rows_below rows) → All IsRowOfText rows
   all_rows open_bars [] shows drawn below = All-nil IsRowOfText
   all_rows open_bars (row ∷ rows) shows drawn below =
       let own = one_row open_bars row.name row.cells rows shows.0 drawn.0 below in

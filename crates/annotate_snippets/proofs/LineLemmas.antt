@@ -1,5 +1,6 @@
 -- The rows of a line show it: its source row, the row of its marks, and the others below.
-use Rattle.std.proofs.Common.{◌≡◌, ℕ, ◌+◌, ◌-◌, ◌<◌, ◌≤◌, ◌==◌, ◌&&◌, nat_le, not, Bool, true, false, cond, List, [], ◌∷◌, map, length, drop, chars, count_by, get_or, refl, sym, ap, subst, ◌∙◌, arith, inl, inr}
+use Rattle.std.proofs.Common.{◌≡◌, ℕ, ◌+◌, ◌-◌, ◌<◌, ◌≤◌, ◌==◌, ◌&&◌, nat_le, not, Bool, true, false, cond, List, [], ◌∷◌, map, length, drop, chars, count_by}
+use Rattle.std.proofs.Common.{get_or, refl, sym, ap, subst, ◌∙◌, arith, inl, inr}
 use Rattle.std.specs.List.{All, filter, list_all, list_any}
 use Rattle.std.specs.Cow.{cow_str_bytes}
 use Rattle.std.proofs.lemmas.Bool.{and_parts, and_from, cases_lt, eq-eqb, lt-ltb}
@@ -45,7 +46,8 @@ use Rattle.annotate_snippets.specs.Gutter.{line_numbers, number_text, numbered_s
 use Rattle.annotate_snippets.specs.Shown.{IsRowBelow, ShowsLabels, ShowsMarksOf, ShowsSourceLine, bounds_in, cells_left, room_of, shown_label, wide_spans}
 use Rattle.annotate_snippets.proofs.LabelLemmas.{labelled_at_end, labels_shown, head_same, tail_same}
 use Rattle.annotate_snippets.proofs.LeftLaws.{left_of_source, space_of_source}
-use Rattle.annotate_snippets.proofs.MarkLemmas.{span_of_entry, IsEntryOf, mark_of_entries, unmarked_by_entries, entries_after, unlabelled_entries, lone_entry, some_entry, shifted_mark, shifted_unmarked, shifted_after}
+use Rattle.annotate_snippets.proofs.MarkLemmas.{span_of_entry, IsEntryOf, mark_of_entries, unmarked_by_entries, entries_after, unlabelled_entries, lone_entry}
+use Rattle.annotate_snippets.proofs.MarkLemmas.{some_entry, shifted_mark, shifted_unmarked, shifted_after}
 use Rattle.annotate_snippets.proofs.PartsFacts.{stands_left, untouched, wide_on_line}
 use Rattle.annotate_snippets.proofs.WindowLemmas.{dropped-none}
 use Rattle.snippet_grid.proofs.RowLemmas.{row_text-text_cells}
@@ -58,7 +60,8 @@ row_below decor frame closes plain es rows i is =
     record { left = is.left; bars = is.bar_cells }
 
 -- a wide entry stays one, however many columns are dropped left of it
-wide_shifted : (dropped room width : ℕ) (e : LineAnnotation) → (is_bar e.annotation_type ≡ false → dropped ≤ e.start.display) → is_wide_entry room width (shifted dropped e) ≡ is_wide_entry room width e
+wide_shifted : (dropped room width : ℕ) (e : LineAnnotation) → (is_bar e.annotation_type ≡ false → dropped ≤ e.start.display)
+    → is_wide_entry room width (shifted dropped e) ≡ is_wide_entry room width e
 wide_shifted dropped room width e clear =
     by_part e.annotation_type refl
   where
@@ -71,7 +74,8 @@ wide_shifted dropped room width e clear =
     by_part (MultilineEnd depth) is = rw is refl
     by_part (MultilineLine depth) is = rw is refl
 
-wide-shifted : (dropped room width : ℕ) (es : List LineAnnotation) → All (λ e. is_bar e.annotation_type ≡ false → dropped ≤ e.start.display) es → count_by (is_wide_entry room width) (map (shifted dropped) es) ≡ count_by (is_wide_entry room width) es
+wide-shifted : (dropped room width : ℕ) (es : List LineAnnotation) → All (λ e. is_bar e.annotation_type ≡ false → dropped ≤ e.start.display) es
+    → count_by (is_wide_entry room width) (map (shifted dropped) es) ≡ count_by (is_wide_entry room width) es
 wide-shifted dropped room width [] clear = refl
 wide-shifted dropped room width (e ∷ es) clear =
     let here = wide_shifted dropped room width e (All-head (λ (x : LineAnnotation). is_bar x.annotation_type ≡ false → dropped ≤ x.start.display) e es clear) in
@@ -134,7 +138,8 @@ single-shifted dropped (e ∷ es) all =
     and_from (is_single e) (list_all is_single (map (shifted dropped) es)) parts.0 (single-shifted dropped es parts.1)
 
 -- an entry that stands for a whole span is no bar
-single_columns : (dropped : ℕ) (es : List LineAnnotation) → list_all is_single es ≡ true → All (λ e. is_bar e.annotation_type ≡ false → dropped ≤ e.start.display) es → All (λ e. dropped ≤ e.start.display) es
+single_columns : (dropped : ℕ) (es : List LineAnnotation) → list_all is_single es ≡ true
+    → All (λ e. is_bar e.annotation_type ≡ false → dropped ≤ e.start.display) es → All (λ e. dropped ≤ e.start.display) es
 single_columns dropped es all clear = λ i d within.
     clear i d within (no_bar (get_or es i d).annotation_type (AllPass-from_list_all is_single es all i d within))
   where
@@ -206,7 +211,8 @@ module _ (r : Renderer) (frame : Layout) (s : Snippet Annotation)
         shows.dropped_is ∙ ap (λ (b : Bounds). width_of (dropped_part b.left (norm (chars info.line.now)))) bounds ∙ ap (λ cs. width_of (dropped_part (bounds_in r frame s).left cs)) line_text
 
     -- where the line stands whole, nothing is dropped and nothing is cut
-    whole_text : stands_whole (room_of r frame) placeholder_width s.fold (cow_str_bytes s.source) s.markers.items k ≡ true → (shows.dropped ≡ 0) × (row_text (drop frame.code shows.source) ≡ text)
+    whole_text : stands_whole (room_of r frame) placeholder_width s.fold (cow_str_bytes s.source) s.markers.items k ≡ true
+        → (shows.dropped ≡ 0) × (row_text (drop frame.code shows.source) ≡ text)
     whole_text stands =
         let left : (bounds_in r frame s).left ≡ 0 = stands_left (numbered_source s) s.markers.items spans (room_of r frame) placeholder_width s.fold k stands in
         let parts = and_parts _ _ stands in

@@ -60,7 +60,8 @@ module _ (r : Renderer) (frame : Layout) (closes : Bool) (s : Snippet Annotation
       (source_row frame (number_text r s.line_numbering frame.gutter (s.line_start + k)) (window_cells frame.decor margin text)))
 
   -- they don't depend on where labels stand in memory
-  made_plain : (margin : Margin) (text : List ℕ) (dropped : ℕ) (es : List LineAnnotation) → made margin text dropped (map plain_entry es) ≡ made margin text dropped es
+  made_plain : (margin : Margin) (text : List ℕ) (dropped : ℕ) (es : List LineAnnotation)
+      → made margin text dropped (map plain_entry es) ≡ made margin text dropped es
   made_plain margin text dropped es =
       let source : List Cell = source_row frame (number_text r s.line_numbering frame.gutter (s.line_start + k)) (window_cells frame.decor margin text) in
       let Rows : List LineAnnotation → List Cell → List (List Cell) = λ xs row. line_rows frame margin.term_width closes text dropped open_bars xs row in

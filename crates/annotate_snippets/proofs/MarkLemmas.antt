@@ -1,5 +1,6 @@
 -- The marks of a line's spans are those of its entries.
-use Rattle.std.proofs.Common.{Option, Some, None, ◌≡◌, ℕ, ◌+◌, ◌-◌, ◌<◌, ◌≤◌, ◌==◌, ◌&&◌, max, true, false, List, [], ◌∷◌, map, length, get_or, refl, sym, ap, subst, ◌∙◌, arith, inl, inr}
+use Rattle.std.proofs.Common.{Option, Some, None, ◌≡◌, ℕ, ◌+◌, ◌-◌, ◌<◌, ◌≤◌, ◌==◌, ◌&&◌, max, true, false, List, [], ◌∷◌, map, length, get_or, refl, sym, ap}
+use Rattle.std.proofs.Common.{subst, ◌∙◌, arith, inl, inr}
 use Rattle.std.specs.List.{All, Contains, filter, list_any}
 use Rattle.std.proofs.lemmas.Bool.{and_parts, eqb-true, eq-eqb, cases_Bool}
 use Rattle.std.proofs.lemmas.List.{length-map}
@@ -35,7 +36,8 @@ end_of_empty s a empty =
     let same : a.span.start ≡ a.span.end = eqb-true a.span.start a.span.end empty in
     rw empty (ap (λ b. max (place_of s.text b).column (start_column s.text a + 1)) same)
 
-end_of_other : (s : Source) (a : Annotation) → (a.span.start == a.span.end) ≡ false → is_single_line s.text a ≡ true → (entry_of s a).end.display ≡ end_column s.text a
+end_of_other : (s : Source) (a : Annotation) → (a.span.start == a.span.end) ≡ false → is_single_line s.text a ≡ true
+    → (entry_of s a).end.display ≡ end_column s.text a
 unfolding locations_of start_location end_location location_of place_of
 end_of_other s a other single =
     let same : last_line s.text a ≡ first_line s.text a = eqb-true (last_line s.text a) (first_line s.text a) single in
@@ -63,7 +65,8 @@ pub label_is : (label : Option (Bor (List ℕ))) → entry.label_chars label ≡
 label_is None = refl
 label_is (Some l) = refl
 
-entry_is : (s : Source) (k : ℕ) (a : Annotation) (e : LineAnnotation) → is_marked_on s.text k a ≡ true → is_single_line s.text a ≡ true → seen_entry e ≡ entry_of s a → IsEntryOf s k a e
+entry_is : (s : Source) (k : ℕ) (a : Annotation) (e : LineAnnotation) → is_marked_on s.text k a ≡ true → is_single_line s.text a ≡ true
+    → seen_entry e ≡ entry_of s a → IsEntryOf s k a e
 entry_is s k a e marked single same =
     record {
       marked = marked;
@@ -195,7 +198,8 @@ module _ (s : Source) (marks : List Annotation) (k : ℕ) (es : List LineAnnotat
 -- a column of the line, where no entry stands left of those that are dropped
 module _ (dropped : ℕ) (es : List LineAnnotation) (clear : All (λ e. dropped ≤ e.start.display) es) where
   -- an entry as it stands then is one of the line
-  pub unshifted_entry : (e : LineAnnotation) → Contains (map (shifted dropped) es) e → (own : LineAnnotation) × Contains es own × (e ≡ shifted dropped own) × (dropped ≤ own.start.display)
+  pub unshifted_entry : (e : LineAnnotation) → Contains (map (shifted dropped) es) e
+      → (own : LineAnnotation) × Contains es own × (e ≡ shifted dropped own) × (dropped ≤ own.start.display)
   unshifted_entry e among =
       let found = from_map (shifted dropped) es e among in
       (found.0, found.1, sym found.2, All-contains (λ x. dropped ≤ x.start.display) es found.0 clear found.1)
@@ -230,6 +234,7 @@ module _ (dropped : ℕ) (es : List LineAnnotation) (clear : All (λ e. dropped 
       All-map (λ (e : LineAnnotation). EntryCovers e (p - dropped) → ⊥) (shifted dropped) es (λ i d within covers. none i d within (omega (arith, clear i d within, right, covers.0), omega (arith, clear i d within, right, covers.1)))
 
   -- entries that stand after a column stand after it
-  pub shifted_after : (code p : ℕ) → dropped ≤ p → All (StandsFrom code (code + p + 1)) es → All (StandsFrom code (code + (p - dropped) + 1)) (map (shifted dropped) es)
+  pub shifted_after : (code p : ℕ) → dropped ≤ p → All (StandsFrom code (code + p + 1)) es
+      → All (StandsFrom code (code + (p - dropped) + 1)) (map (shifted dropped) es)
   shifted_after code p right after =
       All-map (StandsFrom code (code + (p - dropped) + 1)) (shifted dropped) es (λ i d within. omega (arith, clear i d within, after i d within, right))

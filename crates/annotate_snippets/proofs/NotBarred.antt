@@ -48,7 +48,8 @@ no_space layout name bar same = by_name name same
     by_name Other is = bar_is layout.decor bar.primary (letter (solid_bar layout bar) is)
 
 -- nor a part of a line that leads from another
-no_line : (layout : Layout) (bar : Bar) (primary : Bool) → solid_bar layout bar ≡ unlinked_cell (underline_role primary) (strokes_of layout.decor primary).connector → ⊥
+no_line : (layout : Layout) (bar : Bar) (primary : Bool)
+    → solid_bar layout bar ≡ unlinked_cell (underline_role primary) (strokes_of layout.decor primary).connector → ⊥
 no_line layout bar primary same =
     by_kind layout.decor bar.primary primary (ap (λ (cell : Cell). cell.ch) same)
   where
@@ -90,7 +91,8 @@ module _ (r : Renderer) (frame : Layout) (s : Snippet Annotation) (rows : List N
   -- a bar of no span, beside a line or lines that are left out, in a snippet that has no span of several lines:
   --
   --     2 ┃ b
-  pub bar_of_no_span : All (λ a. is_long (cow_str_bytes s.source) a ≡ false) s.markers.items → shows_lines row.name ≡ true → (c : ℕ) → frame.gutter + 3 ≤ c → c < frame.code → (slice_index_or row.cells c SPACE ≡ SPACE → ⊥) → ⊥
+  pub bar_of_no_span : All (λ a. is_long (cow_str_bytes s.source) a ≡ false) s.markers.items → shows_lines row.name ≡ true → (c : ℕ) → frame.gutter + 3 ≤ c
+      → c < frame.code → (slice_index_or row.cells c SPACE ≡ SPACE → ⊥) → ⊥
   bar_of_no_span none shows c from to filled =
       filled (shown.spaces above row below is shows c from to (All-weaker (λ (a : Annotation). is_long (cow_str_bytes s.source) a ≡ false)
       (λ a. is_long (cow_str_bytes s.source) a ≡ true → touches (cow_str_bytes s.source) a (line_beside above row.name) ≡ true → bar_cell_of frame s a ≢ c) (λ a short long touched same. both_ways (is_long (cow_str_bytes s.source) a) short long) s.markers.items none))
@@ -99,7 +101,8 @@ module _ (r : Renderer) (frame : Layout) (s : Snippet Annotation) (rows : List N
   --
   --     2 | b
   --       ┃ ^
-  pub bar_of_no_span_below : All (λ a. is_long (cow_str_bytes s.source) a ≡ false) s.markers.items → (bar : Bar) → frame.gutter + 3 ≤ frame.gutter + 2 + bar.depth → frame.gutter + 2 + bar.depth < frame.code
+  pub bar_of_no_span_below : All (λ a. is_long (cow_str_bytes s.source) a ≡ false) s.markers.items → (bar : Bar)
+      → frame.gutter + 3 ≤ frame.gutter + 2 + bar.depth → frame.gutter + 2 + bar.depth < frame.code
       → slice_index_or row.cells (frame.gutter + 2 + bar.depth) SPACE ≡ solid_bar frame bar → ⊥
   bar_of_no_span_below none bar from to there =
       let c : ℕ = frame.gutter + 2 + bar.depth in
@@ -116,7 +119,8 @@ module _ (r : Renderer) (frame : Layout) (s : Snippet Annotation) (rows : List N
   --       |  ___^
   --     2 |   }
   --       | |_^
-  pub bar_left_out_at_its_end : (a : Annotation) → Contains s.markers.items a → is_long (cow_str_bytes s.source) a ≡ true → row.name ≡ SourceRow (last_line (cow_str_bytes s.source) a) → slice_index_or row.cells (bar_cell_of frame s a) SPACE ≡ SPACE → ⊥
+  pub bar_left_out_at_its_end : (a : Annotation) → Contains s.markers.items a → is_long (cow_str_bytes s.source) a ≡ true
+      → row.name ≡ SourceRow (last_line (cow_str_bytes s.source) a) → slice_index_or row.cells (bar_cell_of frame s a) SPACE ≡ SPACE → ⊥
   bar_left_out_at_its_end a among long last empty =
       let ends = shown.end a among long above row below is last in
       no_space frame Other (bar_of_span s a) (sym (ends.beside 0 ends.below) ∙ empty)
@@ -125,7 +129,8 @@ module _ (r : Renderer) (frame : Layout) (s : Snippet Annotation) (rows : List N
   --
   --     2 ┃   }
   --       ┃━━━┛
-  pub corner_left_out : (a : Annotation) → Contains s.markers.items a → is_long (cow_str_bytes s.source) a ≡ true → row.name ≡ SourceRow (last_line (cow_str_bytes s.source) a)
+  pub corner_left_out : (a : Annotation) → Contains s.markers.items a → is_long (cow_str_bytes s.source) a ≡ true
+      → row.name ≡ SourceRow (last_line (cow_str_bytes s.source) a)
       → ((i : ℕ) → cell_at (row.cells ∷ rows_below below) i (bar_cell_of frame s a) ≡ end_corner frame (bar_of_span s a) → ⊥) → ⊥
   corner_left_out a among long last none =
       let ends = shown.end a among long above row below is last in
@@ -139,7 +144,8 @@ module _ (r : Renderer) (frame : Layout) (s : Snippet Annotation) (rows : List N
   --     2 | | b {
   --       | |___^
   --     3 | |   c
-  pub bars_all_in_one_column : (a b : Annotation) → Contains s.markers.items a → Contains s.markers.items b → is_long (cow_str_bytes s.source) a ≡ true → is_long (cow_str_bytes s.source) b ≡ true
+  pub bars_all_in_one_column : (a b : Annotation) → Contains s.markers.items a → Contains s.markers.items b → is_long (cow_str_bytes s.source) a ≡ true
+      → is_long (cow_str_bytes s.source) b ≡ true
       → first_line (cow_str_bytes s.source) a < line_beside above row.name → line_beside above row.name < last_line (cow_str_bytes s.source) a
       → first_line (cow_str_bytes s.source) b < line_beside above row.name → line_beside above row.name < last_line (cow_str_bytes s.source) b
       → (a.span.start ≡ b.span.start → a.span.end ≡ b.span.end → ⊥)

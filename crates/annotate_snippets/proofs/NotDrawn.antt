@@ -23,7 +23,8 @@ use Rattle.snippet_grid.specs.Layout.{Layout}
 use Rattle.annotate_snippets.specs.declared.renderer.element_context.ElementContext.{ElementContext}
 use Rattle.annotate_snippets.specs.Around.{closes_with}
 use Rattle.annotate_snippets.specs.LineRows.{AreRowsDrawn, IsLineDrawn, IsRowDrawn, bars_on, entries_on}
-use Rattle.annotate_snippets.specs.Page.{Elision, NamedRow, OfferedLine, Other, RemovedLine, RowName, SourceRow, line_named, names_in, names_of_lines, others, rows_below, shows_lines}
+use Rattle.annotate_snippets.specs.Page.{Elision, NamedRow, OfferedLine, Other, RemovedLine, RowName, SourceRow, line_named, names_in, names_of_lines, others}
+use Rattle.annotate_snippets.specs.Page.{rows_below, shows_lines}
 use Rattle.annotate_snippets.specs.Rows.{cause_head, rows_after_cause}
 use Rattle.annotate_snippets.specs.Settings.{plain_settings}
 use Rattle.annotate_snippets.specs.Shown.{AreRowsOf, IsRowBelow, IsRowOf, ShowsSnippet, ShowsSourceLine}
@@ -36,7 +37,8 @@ use Rattle.annotate_snippets.proofs.NotWhole.{IsLineA, unnamed}
 --     1 | ab cd
 --       | ^^
 --       |
-pub row_doubled : (r : Renderer) (frame : Layout) (closes : Bool) (s : Snippet Annotation) (open_bars : List Bar) (k : ℕ) (rows : List (List Cell)) → IsLineDrawn r frame closes s open_bars k rows → length (entries_on s k) ≡ 1 → 2 < length rows → ⊥
+pub row_doubled : (r : Renderer) (frame : Layout) (closes : Bool) (s : Snippet Annotation) (open_bars : List Bar) (k : ℕ) (rows : List (List Cell))
+    → IsLineDrawn r frame closes s open_bars k rows → length (entries_on s k) ≡ 1 → 2 < length rows → ⊥
 row_doubled r frame closes s open_bars k rows line lone many =
     let one : length line.entries ≡ 1 = sym (length-map line.entries seen_part) ∙ ap length line.are ∙ lone in
     omega (arith, many, lone_rows frame line.margin.term_width closes line.text line.dropped line.highlighted rows open_bars line.entries line.drawn one)
@@ -72,7 +74,8 @@ page_of s around rows =
 --       |
 --     1 | a
 --       | ^
-pub row_above_the_first_line : (s : Snippet Annotation) → IsLineA s → (around : ElementContext) (row : NamedRow) (more : List NamedRow) → HasNoNumber 1 row.cells → ShowsSnippet plain_settings frame around s (page_of s around (row ∷ more)) → ⊥
+pub row_above_the_first_line : (s : Snippet Annotation) → IsLineA s → (around : ElementContext) (row : NamedRow) (more : List NamedRow)
+    → HasNoNumber 1 row.cells → ShowsSnippet plain_settings frame around s (page_of s around (row ∷ more)) → ⊥
 row_above_the_first_line s is around row more none shown =
     let closes : Bool = closes_with around in
     let tail : List NamedRow = others (rows_after_cause plain_settings frame around) in
@@ -82,7 +85,8 @@ row_above_the_first_line s is around row more none shown =
     by_name row.name (unnamed closes s is row.name row.cells more none named) (subst (λ rows. rows_below rows ≡ []) same shown.begins) names
   where
     -- it is no row of a line, a row in place of lines would be one too many, and any other belongs to a line above it
-    by_name : (name : RowName) → line_named name ≡ None → rows_below (record { name = name; cells = row.cells } ∷ more) ≡ [] → names_in (record { name = name; cells = row.cells } ∷ more) ≡ SourceRow 0 ∷ [] → ⊥
+    by_name : (name : RowName) → line_named name ≡ None → rows_below (record { name = name; cells = row.cells } ∷ more) ≡ []
+        → names_in (record { name = name; cells = row.cells } ∷ more) ≡ SourceRow 0 ∷ [] → ⊥
     by_name (SourceRow k) no_line begins names = cc
     by_name Elision no_line begins names = cc
     by_name (OfferedLine j) no_line begins names = cc
@@ -105,7 +109,8 @@ row_below_an_elision r frame closes s open_bars above row more elided other draw
 -- a colon in place of the space after the separator of a line:
 --
 --     1 |:ab
-pub punctuation_left_of_the_code : (s : Snippet Annotation) (k dropped : ℕ) → ShowsSourceLine plain_settings frame s k dropped (text_cells LineNumber (codes "1") ++ SPACE ∷ text_cells LineNumber (codes "|:") ++ text_cells Quotation (codes "ab")) → ⊥
+pub punctuation_left_of_the_code : (s : Snippet Annotation) (k dropped : ℕ)
+    → ShowsSourceLine plain_settings frame s k dropped (text_cells LineNumber (codes "1") ++ SPACE ∷ text_cells LineNumber (codes "|:") ++ text_cells Quotation (codes "ab")) → ⊥
 punctuation_left_of_the_code s k dropped shown =
     let letter : ◌≡◌ {A = ℕ} 58 32 = ap (λ (cell : Cell). cell.ch) shown.space in
     absurd (omega (arith, letter))
@@ -113,7 +118,8 @@ punctuation_left_of_the_code s k dropped shown =
 -- a full stop in the gutter of a row below a line, be it the last or not:
 --
 --     . | ^^
-pub punctuation_in_the_gutter : (closes : Bool) (cells : List Cell) → IsRowBelow Ascii frame closes (text_cells LineNumber (codes ".") ++ SPACE ∷ text_cells LineNumber (codes "|") ++ cells) → ⊥
+pub punctuation_in_the_gutter : (closes : Bool) (cells : List Cell)
+    → IsRowBelow Ascii frame closes (text_cells LineNumber (codes ".") ++ SPACE ∷ text_cells LineNumber (codes "|") ++ cells) → ⊥
 punctuation_in_the_gutter closes cells shown =
     let letter : ◌≡◌ {A = ℕ} 46 32 = ap (λ (cell : Cell). cell.ch) (shown.left 0 (omega arith) ∙ bare_row_left Ascii 1 closes 0 (omega arith)) in
     absurd (omega (arith, letter))

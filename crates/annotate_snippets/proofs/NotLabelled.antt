@@ -1,5 +1,6 @@
 -- Rows in which a label is lost, or a word stands that is none: each contradicts what is shown of labels.
-use Rattle.std.proofs.Common.{◌≡◌, ℕ, ◌+◌, ◌<◌, ◌≤◌, ◌==◌, ◌&&◌, cond, Bool, true, false, List, [], ◌∷◌, map, length, count_by, refl, sym, ap, subst, ◌∙◌, arith, inl, inr}
+use Rattle.std.proofs.Common.{◌≡◌, ℕ, ◌+◌, ◌<◌, ◌≤◌, ◌==◌, ◌&&◌, cond, Bool, true, false, List, [], ◌∷◌, map, length, count_by, refl, sym, ap, subst, ◌∙◌}
+use Rattle.std.proofs.Common.{arith, inl, inr}
 use Rattle.std.specs.List.{All, Contains}
 use Rattle.std.specs.Prelude.{nat_le, nat_lt}
 use Rattle.std.proofs.lemmas.Bool.{false≢true}
@@ -34,7 +35,8 @@ label_role_is Context = refl
 label_role_is Visible = refl
 
 -- a label that stands begins with a cell in such a role
-begins : (frame : Layout) (dropped : ℕ) (rows : List (List Cell)) (l : ShownLabel) → 0 < length l.label.text → ShowsLabel frame dropped rows l → is_label_role (cell_at rows l.row l.cell).role ≡ true
+begins : (frame : Layout) (dropped : ℕ) (rows : List (List Cell)) (l : ShownLabel) → 0 < length l.label.text → ShowsLabel frame dropped rows l
+    → is_label_role (cell_at rows l.row l.cell).role ≡ true
 begins frame dropped rows l some shows =
     let first : l.cell + 0 ≡ l.cell = omega arith in
     ap (λ c. is_label_role (cell_at rows l.row c).role) (sym first) ∙ ap (λ (cell : Cell). is_label_role cell.role) (shows.whole 0 some) ∙ label_role_is l.label.kind
@@ -83,7 +85,8 @@ label_over_another decor frame s k dropped rows shows a b spans some_a some_b ro
         let other : ◌≡◌ {A = ℕ} (cond q 1 0) 1 = ap (λ x. cond x 1 0) second in
         omega (arith, few, one, other)
 
-    over : (labels : List ShownLabel) → map (λ (l : ShownLabel). l.label) labels ≡ a ∷ b ∷ [] → All (Stands frame dropped rows) labels → count_by (is_in_label row cell) labels ≤ 1 → ⊥
+    over : (labels : List ShownLabel) → map (λ (l : ShownLabel). l.label) labels ≡ a ∷ b ∷ [] → All (Stands frame dropped rows) labels
+        → count_by (is_in_label row cell) labels ≤ 1 → ⊥
     over [] are stand few = cc are
     over (l ∷ []) are stand few = cc are
     over (l ∷ m ∷ []) are stand few =
@@ -118,7 +121,8 @@ HasNoLabel s k = All (λ (l : SpanLabel). l.text ≡ []) (labels_ending_on s k)
 --
 --     1 | ab
 --       | ^^ x
-pub stray_word_below_a_line : (decor : DecorStyle) (frame : Layout) (s : Snippet Annotation) (k dropped : ℕ) (rows : List (List Cell)) → ShowsLabels decor frame s k dropped rows → HasNoLabel s k → (r c : ℕ) → frame.code ≤ c → is_label_role (cell_at rows r c).role ≡ true → ⊥
+pub stray_word_below_a_line : (decor : DecorStyle) (frame : Layout) (s : Snippet Annotation) (k dropped : ℕ) (rows : List (List Cell))
+    → ShowsLabels decor frame s k dropped rows → HasNoLabel s k → (r c : ℕ) → frame.code ≤ c → is_label_role (cell_at rows r c).role ≡ true → ⊥
 stray_word_below_a_line decor frame s k dropped rows shows none r c right label =
     elim (shows.others r c right (no_cells shows.labels (subst (All (λ (l : SpanLabel). l.text ≡ [])) (sym shows.spans) none))) [
       | inl space ↦ false≢true (sym (ap (λ (cell : Cell). is_label_role cell.role) space) ∙ label)
@@ -135,7 +139,8 @@ stray_word_below_a_line decor frame s k dropped rows shows none r c right label 
     no_cell : (row cell n : ℕ) → n ≡ 0 → (row == r && (nat_le cell c && nat_lt c (cell + n))) ≡ false
     no_cell row cell n is = grind (arith, nat_tests, is)
 
-    no_cells : (labels : List ShownLabel) → All (λ (l : SpanLabel). l.text ≡ []) (map (λ (l : ShownLabel). l.label) labels) → count_by (is_in_label r c) labels ≡ 0
+    no_cells : (labels : List ShownLabel) → All (λ (l : SpanLabel). l.text ≡ []) (map (λ (l : ShownLabel). l.label) labels)
+        → count_by (is_in_label r c) labels ≡ 0
     no_cells [] empty = refl
     no_cells (l ∷ labels) empty =
         let E : SpanLabel → Type 0 = λ x. x.text ≡ [] in

@@ -1,6 +1,7 @@
 -- What is not offered: rows of suggestions that are wrong, each on a small report, contradict the definitions of what rows
 -- show.
-use Rattle.std.proofs.Common.{◌≡◌, ◌≢◌, ℕ, ◌-◌, ◌≤◌, ◌==◌, not, Bool, true, false, if◌then◌else◌, List, [], ◌∷◌, ◌++◌, Vec, codes, get_or, length, map, take, refl, sym, ap, subst, ◌∙◌, arith, inl, inr}
+use Rattle.std.proofs.Common.{◌≡◌, ◌≢◌, ℕ, ◌-◌, ◌≤◌, ◌==◌, not, Bool, true, false, if◌then◌else◌, List, [], ◌∷◌, ◌++◌, Vec, codes, get_or, length, map, take}
+use Rattle.std.proofs.Common.{refl, sym, ap, subst, ◌∙◌, arith, inl, inr}
 use Rattle.std.specs.Cow.{cow_str_bytes}
 use Rattle.std.specs.List.{All, AllZip, Contains, list_all}
 use Rattle.std.specs.Str.{chars}
@@ -61,7 +62,8 @@ record IsSnippetOf (s : Snippet Patch) (source : List ℕ) (es : List Edit) : Ty
   edits_are : edits_of s ≡ es
 
 -- what is given of a snippet, by its source and its edits
-given_by : (s : Snippet Patch) (source : List ℕ) (es : List Edit) (lines : List (List ℕ)) → IsSnippetOf s source es → ((fold : Bool) → texts_of (lines_of (shown_text fold source es)) ≡ lines) → given_lines s ≡ lines
+given_by : (s : Snippet Patch) (source : List ℕ) (es : List Edit) (lines : List (List ℕ)) → IsSnippetOf s source es
+    → ((fold : Bool) → texts_of (lines_of (shown_text fold source es)) ≡ lines) → given_lines s ≡ lines
 given_by s source es lines is given =
     ap (λ text. texts_of (lines_of (shown_text s.fold text (edits_of s)))) is.source_is ∙ ap (λ xs. texts_of (lines_of (shown_text s.fold source xs))) is.edits_are ∙ given s.fold
 
@@ -96,7 +98,8 @@ from_first true = refl
 from_first false = refl
 
 -- a row `1 + ac` can only be named as that of the first line of `ac`: it has a digit in the gutter, and `+` after it
-named_first : (s : Snippet Patch) → IsSnippetOf s (codes "ab") one_edit → (name : RowName) (cells : List Cell) → cells ≡ offering_row (codes "ac") → IsSuggestionRow plain_settings Ascii 1 s name cells → name ≡ OfferedLine 0
+named_first : (s : Snippet Patch) → IsSnippetOf s (codes "ab") one_edit → (name : RowName) (cells : List Cell) → cells ≡ offering_row (codes "ac")
+    → IsSuggestionRow plain_settings Ascii 1 s name cells → name ≡ OfferedLine 0
 named_first s is (SourceRow k) cells same shows = absurd shows
 named_first s is Elision cells same shows = absurd shows
 named_first s is (OfferedLine j) cells same shows =
@@ -122,7 +125,8 @@ row_named s (first ∷ before) row after named =
     row_named s before row after (All-tail (λ r. IsSuggestionRow plain_settings Ascii 1 s r.name r.cells) first (before ++ (row ∷ after)) named)
 
 -- the row `1 + ab` is none of a suggestion that gives `ac`, whatever it is named
-old_row_named : (s : Snippet Patch) → IsSnippetOf s (codes "ab") one_edit → (name : RowName) (cells : List Cell) → cells ≡ offering_row (codes "ab") → IsSuggestionRow plain_settings Ascii 1 s name cells → ⊥
+old_row_named : (s : Snippet Patch) → IsSnippetOf s (codes "ab") one_edit → (name : RowName) (cells : List Cell) → cells ≡ offering_row (codes "ab")
+    → IsSuggestionRow plain_settings Ascii 1 s name cells → ⊥
 old_row_named s is (SourceRow k) cells same shows = shows
 old_row_named s is Elision cells same shows = shows
 old_row_named s is (OfferedLine j) cells same shows =
@@ -139,7 +143,8 @@ old_row_named s is Other cells same shows =
 --
 --     1 - ab
 --     1 + ab
-suggestion_repeats_old_lines : {found : List Cell} (s : Snippet Patch) → IsSnippetOf s (codes "ab") one_edit → (frame : Layout) → frame.gutter ≡ 1 → frame.decor ≡ Ascii
+suggestion_repeats_old_lines : {found : List Cell} (s : Snippet Patch) → IsSnippetOf s (codes "ab") one_edit → (frame : Layout) → frame.gutter ≡ 1
+    → frame.decor ≡ Ascii
     → (around : ElementContext) (row : NamedRow) (before after : List NamedRow) → row.cells ≡ offering_row (codes "ab")
     → ShowsSuggestion plain_settings frame around found s (others (suggestion_head plain_settings frame around s) ++ (before ++ (row ∷ after))) → ⊥
 suggestion_repeats_old_lines s is frame narrow ascii around row before after row_is shown =
@@ -229,8 +234,10 @@ two_spliced false = refl
 -- so no rows show it that don't offer its second line, as where the text is cut off after the first:
 --
 --     1 ~ x
-touched_left_out : {found : List Cell} (s : Snippet Patch) → IsSnippetOf s two_lines two_edits → (frame : Layout) (around : ElementContext) (rows : List NamedRow)
-    → (Contains (lines_offered rows) 1 → ⊥) → ShowsSuggestion plain_settings frame around found s (others (suggestion_head plain_settings frame around s) ++ rows) → ⊥
+touched_left_out : {found : List Cell} (s : Snippet Patch) → IsSnippetOf s two_lines two_edits
+    → (frame : Layout) (around : ElementContext) (rows : List NamedRow)
+    → (Contains (lines_offered rows) 1 → ⊥)
+    → ShowsSuggestion plain_settings frame around found s (others (suggestion_head plain_settings frame around s) ++ rows) → ⊥
 touched_left_out s is frame around rows out shown =
     let same : shown.after ≡ rows = append_cancel_left (others (suggestion_head plain_settings frame around s)) shown.after rows (sym shown.rows_are) in
     let touched : IsTouched (cow_str_bytes s.source) (edits_of s) 1 = subst (λ text. IsTouched text (edits_of s) 1) (sym is.source_is) (subst (λ es. IsTouched two_lines es 1) (sym is.edits_are) second_touched) in
@@ -290,7 +297,8 @@ rest_spliced false = refl
 -- so no rows show it that don't offer its second line, as where the text is cut off after the line feed with which it ends so far:
 --
 --     1 ~ xa
-cut_at_any_line_feed : {found : List Cell} (s : Snippet Patch) → IsSnippetOf s lines_of_three put_in_and_deleted → (frame : Layout) (around : ElementContext) (rows : List NamedRow)
+cut_at_any_line_feed : {found : List Cell} (s : Snippet Patch) → IsSnippetOf s lines_of_three put_in_and_deleted
+    → (frame : Layout) (around : ElementContext) (rows : List NamedRow)
     → (Contains (lines_offered rows) 1 → ⊥) → ShowsSuggestion plain_settings frame around found s
     (others (suggestion_head plain_settings frame around s) ++ rows) → ⊥
 cut_at_any_line_feed s is frame around rows out shown =
@@ -320,7 +328,8 @@ gives_xb false = refl
 -- so no row offers a line in which the replacement stands first, and what it replaced again after what is put in:
 --
 --     1 + bxa
-replacement_before_insertion : (s : Snippet Patch) → IsSnippetOf s (codes "a") replaced_and_put_in → (j : ℕ) → IsOfferedRow plain_settings Ascii 1 s j (offering_row (codes "bxa")) → ⊥
+replacement_before_insertion : (s : Snippet Patch) → IsSnippetOf s (codes "a") replaced_and_put_in → (j : ℕ)
+    → IsOfferedRow plain_settings Ascii 1 s j (offering_row (codes "bxa")) → ⊥
 unfolding char_width unicode_width norm chars
 replacement_before_insertion s is j offers =
     let given : given_lines s ≡ codes "xb" ∷ [] = given_by s (codes "a") replaced_and_put_in (codes "xb" ∷ []) is gives_xb in
@@ -381,7 +390,8 @@ module _ (v : Vec Patch Global) (frame : Layout) (narrow : frame.gutter ≡ 1) (
       ap (λ rows. rows ++ (if around.shared then [] else Ends (not (is_end around.next)) ∷ [])) (ap (λ at. rows_of_suggestion at foo) opens ∙ (one_word_gives v).rows_are)
 
   -- rows that show it, after the row of its path: the second is that of the removed line, whatever it holds
-  second_removed : {found : List Cell} → frame.decor ≡ Ascii → (first row : NamedRow) (rest : List NamedRow) → ShowsSuggestion plain_settings frame around found foo (others (suggestion_head plain_settings frame around foo) ++ (first ∷ row ∷ rest))
+  second_removed : {found : List Cell} → frame.decor ≡ Ascii → (first row : NamedRow) (rest : List NamedRow)
+      → ShowsSuggestion plain_settings frame around found foo (others (suggestion_head plain_settings frame around foo) ++ (first ∷ row ∷ rest))
       → IsSuggestionRow plain_settings Ascii 1 foo (RemovedLine 0) row.cells
   second_removed ascii first row rest shown =
       let rows : List NamedRow = first ∷ row ∷ rest in
@@ -398,7 +408,8 @@ module _ (v : Vec Patch Global) (frame : Layout) (narrow : frame.gutter ≡ 1) (
   --     1 + bar
   --     1 - foo
   --       |
-  new_line_above_removed : {found : List Cell} → frame.decor ≡ Ascii → (first row : NamedRow) (rest : List NamedRow) → row.cells ≡ offering_row (codes "bar") → ShowsSuggestion plain_settings frame around found foo (others (suggestion_head plain_settings frame around foo) ++ (first ∷ row ∷ rest)) → ⊥
+  new_line_above_removed : {found : List Cell} → frame.decor ≡ Ascii → (first row : NamedRow) (rest : List NamedRow) → row.cells ≡ offering_row (codes "bar")
+      → ShowsSuggestion plain_settings frame around found foo (others (suggestion_head plain_settings frame around foo) ++ (first ∷ row ∷ rest)) → ⊥
   new_line_above_removed ascii first row rest is shown =
       let P : List Cell → Type 0 = λ cells. (get_or cells 2 SPACE).ch ≡ 45 in
       let minus : ◌≡◌ {A = ℕ} 43 45 = subst P is (second_removed ascii first row rest shown).minus in
@@ -422,7 +433,9 @@ module _ (v : Vec Patch Global) (frame : Layout) (narrow : frame.gutter ≡ 1) (
       absurd (omega (arith, digit))
 
   -- the first is that which it begins with
-  first_begins : {found : List Cell} (r : Renderer) (first : NamedRow) (rest : List NamedRow) → ShowsSuggestion r frame around found foo (others (suggestion_head r frame around foo) ++ (first ∷ rest)) → HasStrokes frame.decor 1 (Begins Opening) first.cells
+  first_begins : {found : List Cell} (r : Renderer) (first : NamedRow) (rest : List NamedRow)
+      → ShowsSuggestion r frame around found foo (others (suggestion_head r frame around foo) ++ (first ∷ rest))
+      → HasStrokes frame.decor 1 (Begins Opening) first.cells
   first_begins r first rest shown =
       let same : shown.after ≡ first ∷ rest = append_cancel_left (others (suggestion_head r frame around foo)) shown.after (first ∷ rest) (sym shown.rows_are) in
       let Strokes : ℕ → SuggestionRow → List Cell → Type 0 = HasStrokes frame.decor in
@@ -435,7 +448,8 @@ module _ (v : Vec Patch Global) (frame : Layout) (narrow : frame.gutter ≡ 1) (
   --     1 - foo
   --     1 + bar
   --       |
-  gap_row_over_separator : {found : List Cell} → frame.decor ≡ Ascii → (first : NamedRow) (rest : List NamedRow) → first.cells ≡ text_cells LineNumber (codes "...")
+  gap_row_over_separator : {found : List Cell} → frame.decor ≡ Ascii → (first : NamedRow) (rest : List NamedRow)
+      → first.cells ≡ text_cells LineNumber (codes "...")
       → ShowsSuggestion plain_settings frame around found foo (others (suggestion_head plain_settings frame around foo) ++ (first ∷ rest)) → ⊥
   gap_row_over_separator ascii first rest is shown =
       let P : List Cell → Type 0 = λ cells. (get_or cells 2 SPACE).ch ≡ 124 in
@@ -449,7 +463,8 @@ module _ (v : Vec Patch Global) (frame : Layout) (narrow : frame.gutter ≡ 1) (
   --     1 + bar
   --       ╰╴
   suggestion_closes_the_wrong_way : {found : List Cell} (r : Renderer) → frame.decor ≡ Unicode → (first : NamedRow) (rest : List NamedRow)
-      → first.cells ≡ SPACE ∷ SPACE ∷ text_cells LineNumber (codes "╰╴") → ShowsSuggestion r frame around found foo (others (suggestion_head r frame around foo) ++ (first ∷ rest)) → ⊥
+      → first.cells ≡ SPACE ∷ SPACE ∷ text_cells LineNumber (codes "╰╴")
+      → ShowsSuggestion r frame around found foo (others (suggestion_head r frame around foo) ++ (first ∷ rest)) → ⊥
   suggestion_closes_the_wrong_way r decor first rest is shown =
       let Begun : DecorStyle → Type 0 = λ d. HasStrokes d 1 (Begins Opening) first.cells in
       let P : List Cell → Type 0 = λ cells. (get_or cells 2 SPACE).ch ≡ char_of (codes "╭") in

@@ -28,7 +28,8 @@ two_lines : text_lines (row_text forged_row) ≡ codes "  |     ^ here" ∷ code
 two_lines = refl
 
 -- no page that has such a row in one of its groups shows a report whose texts are on one line
-pub forged_line : (r : Renderer) (groups : List Group) (sheets : List Stylesheet) (texts : List (List ℕ)) (shown : SheetsShown r groups sheets texts) → HasOneLineTexts groups
+pub forged_line : (r : Renderer) (groups : List Group) (sheets : List Stylesheet) (texts : List (List ℕ)) (shown : SheetsShown r groups sheets texts)
+    → HasOneLineTexts groups
     → (part : GroupPage) → Contains shown.page part → Contains (group_rows part) forged_row → ⊥
 forged_line r groups sheets texts shown plain part there among =
     let rows : All HasNoFeed (group_rows part) = All-contains HasOneLineRows shown.page part (shown.one_line plain) there in
@@ -41,7 +42,8 @@ abbrev pub row_without_stem : List Cell
 row_without_stem = separator_row Ascii 1 ++ SPACE ∷ text_cells UnderlinePrimary (codes "\n")
 
 -- no page that has such a row in one of its groups shows a report whose texts are on one line
-pub line_feed_for_stem : (r : Renderer) (groups : List Group) (sheets : List Stylesheet) (texts : List (List ℕ)) (shown : SheetsShown r groups sheets texts) → HasOneLineTexts groups
+pub line_feed_for_stem : (r : Renderer) (groups : List Group) (sheets : List Stylesheet) (texts : List (List ℕ)) (shown : SheetsShown r groups sheets texts)
+    → HasOneLineTexts groups
     → (part : GroupPage) → Contains shown.page part → Contains (group_rows part) row_without_stem → ⊥
 line_feed_for_stem r groups sheets texts shown plain part there among =
     let rows : All HasNoFeed (group_rows part) = All-contains HasOneLineRows shown.page part (shown.one_line plain) there in

@@ -84,7 +84,8 @@ only_text v text shown =
     ∙ page_is v) shown.printed.0 in
     page.joined ∙ joined page.parts page.printed
   where
-    joined : (parts : List (List ℕ)) → ArePrinted default_sheet (Error ∷ []) (record { title = bold_row ∷ []; elements = [] } ∷ []) parts → join_with_byte 10 parts ≡ bold_text
+    joined : (parts : List (List ℕ)) → ArePrinted default_sheet (Error ∷ []) (record { title = bold_row ∷ []; elements = [] } ∷ []) parts
+        → join_with_byte 10 parts ≡ bold_text
     joined [] none = absurd none
     joined (part ∷ []) one = Prints-unique default_sheet Error (bold_row ∷ []) bold_text part printed one.0
     joined (part ∷ other ∷ parts) more = absurd more.1

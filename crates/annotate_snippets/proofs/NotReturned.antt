@@ -1,5 +1,6 @@
 -- What the parts of the library don't return: results that are wrong, each of a small input, contradict the words of a contract.
-use Rattle.std.proofs.Common.{◌≡◌, ℕ, ◌≤◌, true, false, None, Some, Ok, Err, Vec, List, [], ◌∷◌, codes, encode_utf8_all, length, map, refl, ap, subst, arith, alloc_error, OnErr, inl, inr, ◌↔◌, IfSome, IsNone}
+use Rattle.std.proofs.Common.{◌≡◌, ℕ, ◌≤◌, true, false, None, Some, Ok, Err, Vec, List, [], ◌∷◌, codes, encode_utf8_all, length, map, refl, ap, subst, arith}
+use Rattle.std.proofs.Common.{alloc_error, OnErr, inl, inr, ◌↔◌, IfSome, IsNone}
 use Rattle.std.specs.List.{slice_index_or}
 use Rattle.std.specs.declared.alloc.Global.{Global}
 use Rattle.snippet_lines.specs.Span.{span_fault}

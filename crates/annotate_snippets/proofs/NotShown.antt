@@ -1,5 +1,6 @@
 -- What is not shown: rows that are wrong, each on a small report, contradict the definitions of what rows show.
-use Rattle.std.proofs.Common.{Option, Some, None, ◌≡◌, ℕ, zero, suc, ◌+◌, ◌<◌, ◌≤◌, ◌==◌, ◌&&◌, ◌⊎◌, Bool, true, false, List, [], ◌∷◌, ◌++◌, codes, encode_utf8_all, length, drop, replicate, refl, sym, ap, subst, ◌∙◌, arith, inl, inr}
+use Rattle.std.proofs.Common.{Option, Some, None, ◌≡◌, ℕ, zero, suc, ◌+◌, ◌<◌, ◌≤◌, ◌==◌, ◌&&◌, ◌⊎◌, Bool, true, false, List, [], ◌∷◌, ◌++◌, codes}
+use Rattle.std.proofs.Common.{encode_utf8_all, length, drop, replicate, refl, sym, ap, subst, ◌∙◌, arith, inl, inr}
 use Rattle.std.specs.Char.{is_ascii_alphanumeric}
 use Rattle.std.specs.Cow.{cow_str_bytes}
 use Rattle.std.specs.List.{All, Contains, filter, slice_index_or}
@@ -35,7 +36,8 @@ use Rattle.annotate_snippets.specs.Settings.{plain_settings}
 use Rattle.snippet_grid.specs.Layout.{Layout}
 use Rattle.annotate_snippets.specs.declared.renderer.element_context.ElementContext.{ElementContext}
 use Rattle.snippet_style.specs.Glyphs.{IsMarkGlyph, char_of, placeholder_of}
-use Rattle.annotate_snippets.specs.Shown.{cell_of, room_of, normalized_chars, shown_label, ShowsSourceLine, ShowsMarksOf, ShowsLineAndMarks, IsRowBelow, IsRowOf, AreRowsOf, ShowsSnippet}
+use Rattle.annotate_snippets.specs.Shown.{cell_of, room_of, normalized_chars, shown_label, ShowsSourceLine, ShowsMarksOf, ShowsLineAndMarks, IsRowBelow}
+use Rattle.annotate_snippets.specs.Shown.{IsRowOf, AreRowsOf, ShowsSnippet}
 use Rattle.annotate_snippets.specs.Gutter.{number_text}
 use Rattle.annotate_snippets.proofs.LeftLaws.{separator_of_left, unnumbered_below, unnumbered_elided}
 use Rattle.annotate_snippets.proofs.ListLemmas.{Contains-head, Contains-tail, Contains-cons_cases, Contains-nil}
@@ -88,12 +90,14 @@ record IsPlainLine (source : List ℕ) (marks : List Annotation) : Type 0 where
 -- and so no source row with this row below it shows the line
 record AreOtherMarks (source : List ℕ) (marks : List Annotation) (cells : List Cell) : Type 0 where
   below : (s : Snippet Annotation) → IsSnippetOf s source marks → ShowsMarksOf Ascii frame s 0 0 (row_below cells) → ⊥
-  above : (s : Snippet Annotation) → IsSnippetOf s source marks → (row : List Cell) (rows : List (List Cell)) → ShowsLineAndMarks plain_settings frame s 0 row (row_below cells) rows → ⊥
+  above : (s : Snippet Annotation) → IsSnippetOf s source marks → (row : List Cell) (rows : List (List Cell))
+      → ShowsLineAndMarks plain_settings frame s 0 row (row_below cells) rows → ⊥
 
 -- ---- lines that stand whole
 
 -- the first line of a snippet stands whole if that of its source does
-whole_line : (s : Snippet Annotation) (source : List ℕ) (marks : List Annotation) → IsSnippetOf s source marks → IsPlainLine source marks → is_whole s.fold (cow_str_bytes s.source) s.markers.items ≡ true
+whole_line : (s : Snippet Annotation) (source : List ℕ) (marks : List Annotation) → IsSnippetOf s source marks → IsPlainLine source marks
+    → is_whole s.fold (cow_str_bytes s.source) s.markers.items ≡ true
 whole_line s source marks is plain =
     subst (λ text. is_whole s.fold text s.markers.items ≡ true) (sym is.source_is) (subst (λ spans. is_whole s.fold source spans ≡ true) (sym is.marks_are) (whole s.fold))
   where
@@ -102,7 +106,8 @@ whole_line s source marks is plain =
     whole false = plain.unfolded
 
 -- then no column is dropped, and the row below has to have the line's marks
-other_marks : (source : List ℕ) (marks : List Annotation) (cells : List Cell) → IsPlainLine source marks → ((s : Snippet Annotation) → IsSnippetOf s source marks → ShowsMarksOf Ascii frame s 0 0 (row_below cells) → ⊥) → AreOtherMarks source marks cells
+other_marks : (source : List ℕ) (marks : List Annotation) (cells : List Cell) → IsPlainLine source marks
+    → ((s : Snippet Annotation) → IsSnippetOf s source marks → ShowsMarksOf Ascii frame s 0 0 (row_below cells) → ⊥) → AreOtherMarks source marks cells
 other_marks source marks cells plain wrong =
     record {
       below = wrong;
@@ -144,7 +149,8 @@ mark_of_one source k p a at =
     }
 
 -- of two spans, a primary one that isn't wider than the first has the mark
-mark_of_primary : (source : List ℕ) (k p : ℕ) (a b : Annotation) → IsMarkedAt source k p b → b.kind ≡ Primary → span_width source b ≤ span_width source a → IsMarkOf source (a ∷ b ∷ []) k p Primary
+mark_of_primary : (source : List ℕ) (k p : ℕ) (a b : Annotation) → IsMarkedAt source k p b → b.kind ≡ Primary → span_width source b ≤ span_width source a
+    → IsMarkOf source (a ∷ b ∷ []) k p Primary
 mark_of_primary source k p a b at primary narrow =
     record {
       span = b;
@@ -179,7 +185,8 @@ module _ {s : Snippet Annotation} {source : List ℕ} {marks : List Annotation} 
       shown.unmarked p (omega arith) (subst (λ text. All (λ a. IsMarkedAt text 0 p a → ⊥) s.markers.items) (sym is.source_is) (subst (All (λ a. IsMarkedAt source 0 p a → ⊥)) (sym is.marks_are) none))
 
   -- after the mark of a lone span stands its label
-  label_after : (a : Annotation) → filter (is_marked_on source 0) marks ≡ a ∷ [] → 0 < length (shown_label a) → row_text (drop (cell_of frame 0 (end_column source a)) row) ≡ 32 ∷ shown_label a
+  label_after : (a : Annotation) → filter (is_marked_on source 0) marks ≡ a ∷ [] → 0 < length (shown_label a)
+      → row_text (drop (cell_of frame 0 (end_column source a)) row) ≡ 32 ∷ shown_label a
   label_after a alone some =
       subst (λ text. row_text (drop (cell_of frame 0 (end_column text a)) row) ≡ 32 ∷ shown_label a)
       is.source_is (shown.lone a
@@ -211,12 +218,14 @@ two_of_one k (j ∷ before) between after ascending =
 -- ---- rows and their names
 
 -- rows after others are what their names say, if all are
-rows_after : (closes : Bool) (s : Snippet Annotation) (rows more : List NamedRow) → AreRowsOf plain_settings frame closes s (rows ++ more) → AreRowsOf plain_settings frame closes s more
+rows_after : (closes : Bool) (s : Snippet Annotation) (rows more : List NamedRow) → AreRowsOf plain_settings frame closes s (rows ++ more)
+    → AreRowsOf plain_settings frame closes s more
 rows_after closes s [] more named = named
 rows_after closes s (row ∷ rows) more named = rows_after closes s rows more named.1
 
 -- a row `1 | a` can only be named as that of the first line of `a`
-named_first : (closes : Bool) (s : Snippet Annotation) → cow_str_bytes s.source ≡ codes "a" → (name : RowName) (cells : List Cell) (rows : List NamedRow) → cells ≡ source_row (codes "a") → IsRowOf plain_settings frame closes s name cells rows → name ≡ SourceRow 0
+named_first : (closes : Bool) (s : Snippet Annotation) → cow_str_bytes s.source ≡ codes "a" → (name : RowName) (cells : List Cell) (rows : List NamedRow)
+    → cells ≡ source_row (codes "a") → IsRowOf plain_settings frame closes s name cells rows → name ≡ SourceRow 0
 named_first closes s is (SourceRow k) cells rows same shows =
     let within : k < 1 = subst (λ source. k < length (source_lines source)) is shows.line.within in
     let first : k ≡ 0 = omega arith in
@@ -235,7 +244,8 @@ named_first closes s is Other cells rows same shows =
 -- the placeholder in place of a line that has room, here of `ab`, however many columns are said to be dropped:
 --
 --     1 | ...
-source_row_elided : (s : Snippet Annotation) → IsSnippetOf s (codes "ab") (span_of Primary 0 1 ∷ []) → (dropped : ℕ) → ShowsSourceLine plain_settings frame s 0 dropped (source_row (codes "...")) → ⊥
+source_row_elided : (s : Snippet Annotation) → IsSnippetOf s (codes "ab") (span_of Primary 0 1 ∷ []) → (dropped : ℕ)
+    → ShowsSourceLine plain_settings frame s 0 dropped (source_row (codes "...")) → ⊥
 unfolding place_of line_of start_of chars char_width unicode_width norm
 source_row_elided s is dropped shown =
     let whole = whole_line s (codes "ab") (span_of Primary 0 1 ∷ []) is (record { folded = refl; unfolded = refl; qualified = refl }) in
@@ -243,7 +253,8 @@ source_row_elided s is dropped shown =
     cc
 
 -- a separator in the role of marks, as a highlight that begins left of the code would leave it
-coloured_separator : (s : Snippet Annotation) (k dropped : ℕ) → ShowsSourceLine plain_settings frame s k dropped (text_cells LineNumber (codes "1") ++ SPACE ∷ text_cells UnderlinePrimary (codes "|") ++ SPACE ∷ text_cells Quotation (codes "ab")) → ⊥
+coloured_separator : (s : Snippet Annotation) (k dropped : ℕ)
+    → ShowsSourceLine plain_settings frame s k dropped (text_cells LineNumber (codes "1") ++ SPACE ∷ text_cells UnderlinePrimary (codes "|") ++ SPACE ∷ text_cells Quotation (codes "ab")) → ⊥
 coloured_separator s k dropped shown =
     let shown_there : List ℕ = number_text plain_settings s.line_numbering 1 (s.line_start + k) in
     let marked : true ≡ false = ap has_mark_role (separator_of_left Ascii 1 shown_there (text_cells LineNumber (codes "1") ++ SPACE ∷ text_cells UnderlinePrimary (codes "|") ++ SPACE ∷ text_cells Quotation (codes "ab")) shown.left) in
@@ -254,7 +265,8 @@ coloured_separator s k dropped shown =
 --
 --     1 | a
 --     1 | a
-second_copy : (k : ℕ) (row copy : NamedRow) (before between after : List NamedRow) (closes : Bool) → row.name ≡ SourceRow k → copy.name ≡ SourceRow k → (IsAscending (lines_named (before ++ (row ∷ (between ++ (copy ∷ after))))) → ⊥) × (IsRowBelow Ascii frame closes (source_row (codes "a")) → ⊥)
+second_copy : (k : ℕ) (row copy : NamedRow) (before between after : List NamedRow) (closes : Bool) → row.name ≡ SourceRow k → copy.name ≡ SourceRow k
+    → (IsAscending (lines_named (before ++ (row ∷ (between ++ (copy ∷ after))))) → ⊥) × (IsRowBelow Ascii frame closes (source_row (codes "a")) → ⊥)
 second_copy k row copy before between after closes row_is copy_is =
     (λ ascending. two_of_one k (lines_named before) (lines_named between) (lines_named after) (simp (filter_map-append, row_is, copy_is) at ascending), λ below. let digit : true ≡ false = unnumbered_below Ascii frame closes (source_row (codes "a")) below 0 (omega arith) in cc)
 
@@ -347,7 +359,8 @@ every_column_marked =
 --
 --     1 | ab
 --       | ^
-lone_label_left_out : (label : Option (CowStr Global)) → option_map cow_str_bytes label ≡ Some (codes "x") → AreOtherMarks (codes "ab") (labelled_span label Primary 0 1 ∷ []) (text_cells UnderlinePrimary (codes "^"))
+lone_label_left_out : (label : Option (CowStr Global)) → option_map cow_str_bytes label ≡ Some (codes "x")
+    → AreOtherMarks (codes "ab") (labelled_span label Primary 0 1 ∷ []) (text_cells UnderlinePrimary (codes "^"))
 unfolding place_of line_of start_of chars char_width unicode_width norm
 lone_label_left_out label label_is =
     let span : Annotation = labelled_span label Primary 0 1 in
@@ -359,7 +372,8 @@ lone_label_left_out label label_is =
 --
 --     1 | ab
 --       | ^  x
-label_elsewhere : (label : Option (CowStr Global)) → option_map cow_str_bytes label ≡ Some (codes "x") → AreOtherMarks (codes "ab") (labelled_span label Primary 0 1 ∷ []) (text_cells UnderlinePrimary (codes "^") ++ SPACE ∷ SPACE ∷ text_cells LabelPrimary (codes "x"))
+label_elsewhere : (label : Option (CowStr Global)) → option_map cow_str_bytes label ≡ Some (codes "x")
+    → AreOtherMarks (codes "ab") (labelled_span label Primary 0 1 ∷ []) (text_cells UnderlinePrimary (codes "^") ++ SPACE ∷ SPACE ∷ text_cells LabelPrimary (codes "x"))
 unfolding place_of line_of start_of chars char_width unicode_width norm
 label_elsewhere label label_is =
     let span : Annotation = labelled_span label Primary 0 1 in
@@ -374,7 +388,8 @@ label_elsewhere label label_is =
 --
 --     1 | ab
 --       | ^ <U+001B>
-label_drawn_raw : (label : Option (CowStr Global)) → option_map cow_str_bytes label ≡ Some (27 ∷ []) → AreOtherMarks (codes "ab") (labelled_span label Primary 0 1 ∷ []) (text_cells UnderlinePrimary (codes "^") ++ SPACE ∷ text_cells LabelPrimary (27 ∷ []))
+label_drawn_raw : (label : Option (CowStr Global)) → option_map cow_str_bytes label ≡ Some (27 ∷ [])
+    → AreOtherMarks (codes "ab") (labelled_span label Primary 0 1 ∷ []) (text_cells UnderlinePrimary (codes "^") ++ SPACE ∷ text_cells LabelPrimary (27 ∷ []))
 unfolding place_of line_of start_of chars char_width unicode_width norm
 label_drawn_raw label label_is =
     let span : Annotation = labelled_span label Primary 0 1 in
@@ -390,7 +405,8 @@ label_drawn_raw label label_is =
 --
 --     1 | ...
 --       |   ^
-marks_not_shifted : (s : Snippet Annotation) → IsSnippetOf s (codes "abcd") (span_of Primary 2 3 ∷ []) → ShowsMarksOf Ascii frame s 0 2 (row_below (SPACE ∷ SPACE ∷ text_cells UnderlinePrimary (codes "^"))) → ⊥
+marks_not_shifted : (s : Snippet Annotation) → IsSnippetOf s (codes "abcd") (span_of Primary 2 3 ∷ [])
+    → ShowsMarksOf Ascii frame s 0 2 (row_below (SPACE ∷ SPACE ∷ text_cells UnderlinePrimary (codes "^"))) → ⊥
 unfolding place_of line_of start_of chars char_width unicode_width
 marks_not_shifted s is shown =
     let source : List ℕ = codes "abcd" in
@@ -417,7 +433,9 @@ first_whole true = refl
 first_whole false = refl
 
 -- so that row can only be named as that of the second line
-named_second : (closes : Bool) (s : Snippet Annotation) → IsSnippetOf s two_lines (span_of Primary 0 1 ∷ []) → (name : RowName) (cells : List Cell) (rows : List NamedRow) → cells ≡ row_of_second → IsRowOf plain_settings frame closes s name cells rows → name ≡ SourceRow 1
+named_second : (closes : Bool) (s : Snippet Annotation) → IsSnippetOf s two_lines (span_of Primary 0 1 ∷ [])
+    → (name : RowName) (cells : List Cell) (rows : List NamedRow) → cells ≡ row_of_second → IsRowOf plain_settings frame closes s name cells rows
+    → name ≡ SourceRow 1
 unfolding chars norm
 named_second closes s is (SourceRow zero) cells rows same shows =
     let whole : is_whole s.fold (cow_str_bytes s.source) s.markers.items ≡ true = subst (λ text. is_whole s.fold text s.markers.items ≡ true) (sym is.source_is) (subst (λ spans. is_whole s.fold two_lines spans ≡ true) (sym is.marks_are) (first_whole s.fold)) in

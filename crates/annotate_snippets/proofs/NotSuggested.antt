@@ -44,7 +44,8 @@ rows_alone frame around found s lines layout_is alone shown =
     shown ∙ ap (λ l. Rows l around.start below around.shared) layout_is ∙ ap (λ at. Rows (ascii frame.code) at below around.shared) alone.start ∙ ap (λ row. Rows (ascii frame.code) Opening row around.shared) under ∙ ap (Rows (ascii frame.code) Opening []) alone.own
 
 -- with a gutter of one cell its rows stand as in ASCII
-narrow_layout : (frame : Layout) (s : Snippet Patch) → frame.gutter ≡ 1 → frame.decor ≡ Ascii → s.line_numbering ≡ true → suggestion_layout plain_settings frame s ≡ ascii frame.code
+narrow_layout : (frame : Layout) (s : Snippet Patch) → frame.gutter ≡ 1 → frame.decor ≡ Ascii → s.line_numbering ≡ true
+    → suggestion_layout plain_settings frame s ≡ ascii frame.code
 narrow_layout frame s narrow plain numbered =
     ap (λ (d : DecorStyle). record { frame = record { gutter = frame.gutter; code = frame.code; decor = d }; numbers = line_numbers plain_settings s.line_numbering }) plain
     ∙ ap (λ (g : ℕ). record { frame = record { gutter = g; code = frame.code; decor = Ascii }; numbers = line_numbers plain_settings s.line_numbering }) narrow
@@ -56,7 +57,8 @@ narrow_layout frame s narrow plain numbered =
 --
 --     1 | foo(x)
 --       |      +
-marks_one_right : (v : Vec Patch Global) (frame : Layout) (around : ElementContext) (found : List Cell) (rows : List NamedRow) → frame.gutter ≡ 1 → frame.decor ≡ Ascii → StandsAlone around
+marks_one_right : (v : Vec Patch Global) (frame : Layout) (around : ElementContext) (found : List Cell) (rows : List NamedRow) → frame.gutter ≡ 1
+    → frame.decor ≡ Ascii → StandsAlone around
     → (shown : ShowsSuggestion plain_settings frame around found (text_put_in v) rows)
     → row_at (cells_of shown.after) 2 ≡ stroke ++ replicate 6 SPACE ++ text_cells Addition (codes "+") → ⊥
 marks_one_right v frame around found rows narrow plain alone shown wrong =
@@ -73,7 +75,8 @@ marks_one_right v frame around found rows narrow plain alone shown wrong =
 --     1 ~ a
 --     2 | b
 --     3 + x
-kept_shown_as_changed : (v : Vec Patch Global) (frame : Layout) (around : ElementContext) (found : List Cell) (rows : List NamedRow) → frame.gutter ≡ 1 → frame.decor ≡ Ascii
+kept_shown_as_changed : (v : Vec Patch Global) (frame : Layout) (around : ElementContext) (found : List Cell) (rows : List NamedRow) → frame.gutter ≡ 1
+    → frame.decor ≡ Ascii
     → StandsAlone around → (shown : ShowsSuggestion plain_settings frame around found (third_unfolded v) rows)
     → row_at (cells_of shown.after) 1 ≡ text_cells LineNumber (codes "1") ++ SPACE ∷ text_cells Addition (codes "~ ")
     ++ text_cells NoStyle (codes "a") → ⊥
@@ -87,7 +90,8 @@ kept_shown_as_changed v frame around found rows narrow plain alone shown wrong =
 -- nor in another role: what is put in place of `c` isn't shown as removed
 --
 --     3 + x
-removal_for_addition : (v : Vec Patch Global) (frame : Layout) (around : ElementContext) (found : List Cell) (rows : List NamedRow) → frame.gutter ≡ 1 → frame.decor ≡ Ascii → StandsAlone around
+removal_for_addition : (v : Vec Patch Global) (frame : Layout) (around : ElementContext) (found : List Cell) (rows : List NamedRow) → frame.gutter ≡ 1
+    → frame.decor ≡ Ascii → StandsAlone around
     → (shown : ShowsSuggestion plain_settings frame around found (third_unfolded v) rows)
     → (get_or (row_at (cells_of shown.after) 3) 4 SPACE).role ≡ Removal → ⊥
 removal_for_addition v frame around found rows narrow plain alone shown wrong =

@@ -46,7 +46,8 @@ titles_left_out place follows rows alone shown =
     no_row (row ∷ own) none text = absurd (omega (arith, none))
 
 -- a message without its rows, here `note: m`
-messages_left_out : (r : Renderer) (frame : Layout) (around : ElementContext) → ShowsMessage r frame around (record { level = record { name = Standard; kind = Note }; text = text_of (codes "m") }) [] → ⊥
+messages_left_out : (r : Renderer) (frame : Layout) (around : ElementContext)
+    → ShowsMessage r frame around (record { level = record { name = Standard; kind = Note }; text = text_of (codes "m") }) [] → ⊥
 unfolding chars norm
 messages_left_out r frame around shown =
     let sign : List ℕ = row_text (sign_cells (message_style r frame around)) in

@@ -1,6 +1,7 @@
 -- What no whole page shows: pages of small reports, wrong in what stands around their snippets, contradict the definitions of what
 -- pages show.
-use Rattle.std.proofs.Common.{Option, Some, None, ◌≡◌, ℕ, ◌+◌, ◌<◌, ◌≤◌, zero, suc, Bool, true, false, not, ◌&&◌, if◌then◌else◌, List, [], ◌∷◌, ◌++◌, codes, drop, encode_utf8_all, length, replicate, take, refl, sym, ap, subst, ◌∙◌, append_assoc, arith, inl, inr, ◌⊎◌}
+use Rattle.std.proofs.Common.{Option, Some, None, ◌≡◌, ℕ, ◌+◌, ◌<◌, ◌≤◌, zero, suc, Bool, true, false, not, ◌&&◌, if◌then◌else◌, List, [], ◌∷◌, ◌++◌, codes}
+use Rattle.std.proofs.Common.{drop, encode_utf8_all, length, replicate, take, refl, sym, ap, subst, ◌∙◌, append_assoc, arith, inl, inr, ◌⊎◌}
 use Rattle.std.specs.Char.{is_ascii_alphanumeric}
 use Rattle.std.specs.Cow.{cow_str_bytes}
 use Rattle.std.specs.Fmt.{digits}
@@ -80,7 +81,8 @@ digit_left_out (c ∷ cs) none text =
     cc
 
 -- so it isn't named as the row of a line
-pub unnamed : (closes : Bool) (s : Snippet Annotation) → IsLineA s → (name : RowName) (cells : List Cell) (rows : List NamedRow) → HasNoNumber 1 cells → IsRowOf plain_settings frame closes s name cells rows → line_named name ≡ None
+pub unnamed : (closes : Bool) (s : Snippet Annotation) → IsLineA s → (name : RowName) (cells : List Cell) (rows : List NamedRow) → HasNoNumber 1 cells
+    → IsRowOf plain_settings frame closes s name cells rows → line_named name ≡ None
 unfolding digits
 unnamed closes s is (SourceRow k) cells rows none shows =
     let within : k < 1 = subst (λ source. k < length (source_lines source)) is.is.source_is shows.line.within in
@@ -95,7 +97,8 @@ unnamed closes s is (RemovedLine i) cells rows none shows = refl
 unnamed closes s is Other cells rows none shows = refl
 
 -- and no row of several is
-none_named : (closes : Bool) (s : Snippet Annotation) → IsLineA s → (rows : List NamedRow) → All (λ row. HasNoNumber 1 row.cells) rows → AreRowsOf plain_settings frame closes s rows → lines_named rows ≡ []
+none_named : (closes : Bool) (s : Snippet Annotation) → IsLineA s → (rows : List NamedRow) → All (λ row. HasNoNumber 1 row.cells) rows
+    → AreRowsOf plain_settings frame closes s rows → lines_named rows ≡ []
 none_named closes s is [] none named = refl
 none_named closes s is (row ∷ rows) none named =
     let IsUnnumbered : NamedRow → Type 0 = λ r. HasNoNumber 1 r.cells in
@@ -115,7 +118,8 @@ unnumbered_before (row ∷ rows) more all =
     All-cons (λ r. HasNoNumber 1 r.cells) row rows (All-head (λ r. HasNoNumber 1 r.cells) row (rows ++ more) all) (unnumbered_before rows more (All-tail (λ r. HasNoNumber 1 r.cells) row (rows ++ more) all))
 
 -- so rows without a number show no snippet of a line that has one, whatever they are named
-line_left_out : (s : Snippet Annotation) → IsLineA s → (around : ElementContext) (rows : List NamedRow) → All (λ row. HasNoNumber 1 row.cells) rows → ShowsSnippet plain_settings frame around s rows → ⊥
+line_left_out : (s : Snippet Annotation) → IsLineA s → (around : ElementContext) (rows : List NamedRow) → All (λ row. HasNoNumber 1 row.cells) rows
+    → ShowsSnippet plain_settings frame around s rows → ⊥
 unfolding line_of start_of
 line_left_out s is around rows none shown =
     let tail : List NamedRow = others (rows_after_cause plain_settings frame around) in
@@ -151,12 +155,14 @@ trusted_title text = record { level = error_level; id = None; text = text; allow
 -- a trusted code stays as it is, and isn't shown as a picture of its escape:
 --
 --     error: ␛[1mx
-normalised_away : (text : CowStr Global) → cow_str_bytes text ≡ 27 ∷ codes "[1mx" → (place : GroupPosition) (follows : Next) (rows : List (List Cell)) → row_text (row_at rows 0) ≡ codes "error: " ++ 9243 ∷ codes "[1mx" → ShowsTitle plain_settings frame place follows (trusted_title text) rows → ⊥
+normalised_away : (text : CowStr Global)
+    → cow_str_bytes text ≡ 27 ∷ codes "[1mx" → (place : GroupPosition) (follows : Next) (rows : List (List Cell)) → row_text (row_at rows 0) ≡ codes "error: " ++ 9243 ∷ codes "[1mx" → ShowsTitle plain_settings frame place follows (trusted_title text) rows → ⊥
 unfolding chars norm
 normalised_away text is place follows rows wrong shown =
     in_own shown.own shown.rows_are (shown.shows.texts 0 ∙ ap (λ bytes. slice_index_or (heading_texts style.Title (record { level = error_level; id = None; text = bytes; allows_styling = true })) 0 []) is)
   where
-    in_own : (own : List (List Cell)) → rows ≡ own ++ rows_after_title plain_settings frame place follows true → row_text (row_at own 0) ≡ codes "error: " ++ 27 ∷ codes "[1mx" → ⊥
+    in_own : (own : List (List Cell)) → rows ≡ own ++ rows_after_title plain_settings frame place follows true
+        → row_text (row_at own 0) ≡ codes "error: " ++ 27 ∷ codes "[1mx" → ⊥
     in_own [] same right = cc
     in_own (row ∷ own) same right =
         let both : codes "error: " ++ 9243 ∷ codes "[1mx" ≡ codes "error: " ++ 27 ∷ codes "[1mx" = sym wrong ∙ ap (λ all. row_text (row_at all 0)) same ∙ right in
@@ -176,7 +182,8 @@ unfolding chars norm
 linked_elsewhere r text id trusted place follows rows url wrong shown =
     in_own shown.own shown.rows_are (shown.shows.links 0 0)
   where
-    below : (decor : DecorStyle) (first second : Bool) → (cell_at (if first then separator_row decor 1 ∷ [] else (if second then closing_row decor 1 ∷ [] else [])) 0 0).link ≡ None
+    below : (decor : DecorStyle) (first second : Bool)
+        → (cell_at (if first then separator_row decor 1 ∷ [] else (if second then closing_row decor 1 ∷ [] else [])) 0 0).link ≡ None
     below decor true second = refl
     below decor false true = refl
     below decor false false = refl
@@ -228,7 +235,8 @@ at_first place is =
         (is.line ∙ ap (λ a. 1 + first_line (codes "ab") a) (sym same), is.column ∙ ap (λ a. Some (start_at source_ab a)) (sym same))
     by_first (inr rest) = absurd (Contains-nil is.span rest)
 
-origin_of_first_given_span : (s : Snippet Annotation) → IsSnippetOf s (codes "ab") both_spans → s.line_start ≡ 1 → (row : List Cell) → row_text (drop 5 row) ≡ codes "f:1:2" → NamesLocation plain_settings frame s (codes "f") row → ⊥
+origin_of_first_given_span : (s : Snippet Annotation) → IsSnippetOf s (codes "ab") both_spans → s.line_start ≡ 1 → (row : List Cell)
+    → row_text (drop 5 row) ≡ codes "f:1:2" → NamesLocation plain_settings frame s (codes "f") row → ⊥
 unfolding origin_text digits norm chars
 origin_of_first_given_span s is first row wrong named =
     let Names : List ℕ → ℕ → List Annotation → Type 0 = λ text line marks. IsLocation (record { text = text; first = line }) marks named.place in

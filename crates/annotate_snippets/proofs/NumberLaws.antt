@@ -1,5 +1,6 @@
 -- A row of an element begins with a number only where it shows a line.
-use Rattle.std.proofs.Common.{◌≡◌, ℕ, ◌<◌, ◌==◌, ◌&&◌, ◌||◌, Bool, true, false, not, cond, Option, None, Some, List, [], ◌∷◌, ◌++◌, All, length, get_or, inl, inr, refl, sym, subst, arith}
+use Rattle.std.proofs.Common.{◌≡◌, ℕ, ◌<◌, ◌==◌, ◌&&◌, ◌||◌, Bool, true, false, not, cond, Option, None, Some, List, [], ◌∷◌, ◌++◌, All, length, get_or, inl}
+use Rattle.std.proofs.Common.{inr, refl, sym, subst, arith}
 use Rattle.std.specs.Cow.{cow_str_bytes}
 use Rattle.std.specs.Char.{is_ascii_alphanumeric}
 use Rattle.std.specs.List.{list_all, list_any}
@@ -34,7 +35,8 @@ use Rattle.annotate_snippets.specs.Around.{closes_after, closes_with, context_at
 use Rattle.annotate_snippets.specs.Drawn.{found_at}
 use Rattle.annotate_snippets.specs.Numbers.{HasNumbersOfLines, IsNumberedAsLine, shows_a_line}
 use Rattle.annotate_snippets.specs.Page.{RowName, SourceRow, Elision, OfferedLine, RemovedLine, Other, NamedRow, GroupPage, cells_of, others}
-use Rattle.annotate_snippets.specs.Rows.{cause_head, closing_rows, origin_layout, origin_rows, origin_start, patch_place, path_row, place_given, rows_after_cause, separator_rows, suggestion_head, suggestion_head_at}
+use Rattle.annotate_snippets.specs.Rows.{cause_head, closing_rows, origin_layout, origin_rows, origin_start, patch_place, path_row, place_given}
+use Rattle.annotate_snippets.specs.Rows.{rows_after_cause, separator_rows, suggestion_head, suggestion_head_at}
 use Rattle.annotate_snippets.specs.Shown.{AreElementsShown, AreRowsOf, IsRowOf, IsSuggestionRow, ShowsElement}
 use Rattle.annotate_snippets.proofs.LeftLaws.{unnumbered_below, unnumbered_elided}
 
@@ -89,13 +91,15 @@ closing_unnumbered : (r : Renderer) (frame : Layout) (closes : Bool) → All (Ha
 closing_unnumbered r frame true = one_row frame.gutter _ (closing_row-unnumbered frame.decor frame.gutter)
 closing_unnumbered r frame false = All-nil (HasNoNumber frame.gutter)
 
-after_unnumbered : (r : Renderer) (frame : Layout) (separates closes : Bool) → All (HasNoNumber frame.gutter) (cond separates (separator_rows r frame) (cond closes (closing_rows r frame) []))
+after_unnumbered : (r : Renderer) (frame : Layout) (separates closes : Bool)
+    → All (HasNoNumber frame.gutter) (cond separates (separator_rows r frame) (cond closes (closing_rows r frame) []))
 after_unnumbered r frame true closes = one_row frame.gutter _ (separator_row-unnumbered frame.decor frame.gutter)
 after_unnumbered r frame false closes = closing_unnumbered r frame closes
 
 -- ---- snippets
 
-row_numbered : (r : Renderer) (frame : Layout) (closes : Bool) (s : Snippet Annotation) (name : RowName) (cells : List Cell) (rows : List NamedRow) → IsRowOf r frame closes s name cells rows → shows_a_line name ≡ false → HasNoNumber frame.gutter cells
+row_numbered : (r : Renderer) (frame : Layout) (closes : Bool) (s : Snippet Annotation) (name : RowName) (cells : List Cell) (rows : List NamedRow)
+    → IsRowOf r frame closes s name cells rows → shows_a_line name ≡ false → HasNoNumber frame.gutter cells
 row_numbered r frame closes s (SourceRow k) cells rows is none = absurd (false≢true (sym none))
 row_numbered r frame closes s Elision cells rows is none = unnumbered_elided frame.decor frame cells is
 row_numbered r frame closes s (OfferedLine j) cells rows is none = absurd is
@@ -103,14 +107,16 @@ row_numbered r frame closes s (RemovedLine i) cells rows is none = absurd is
 row_numbered r frame closes s Other cells rows is none =
     unnumbered_below frame.decor frame (closes && length rows == 0) cells is
 
-rows_numbered : (r : Renderer) (frame : Layout) (closes : Bool) (s : Snippet Annotation) (rows : List NamedRow) → AreRowsOf r frame closes s rows → All (IsNumberedAsLine frame.gutter) rows
+rows_numbered : (r : Renderer) (frame : Layout) (closes : Bool) (s : Snippet Annotation) (rows : List NamedRow) → AreRowsOf r frame closes s rows
+    → All (IsNumberedAsLine frame.gutter) rows
 rows_numbered r frame closes s [] are = All-nil (IsNumberedAsLine frame.gutter)
 rows_numbered r frame closes s (row ∷ rows) are =
     All-cons (IsNumberedAsLine frame.gutter) row rows (row_numbered r frame closes s row.name row.cells rows are.0) (rows_numbered r frame closes s rows are.1)
 
 -- ---- suggestions
 
-suggested_numbered : (r : Renderer) (decor : DecorStyle) (gutter : ℕ) (s : Snippet Patch) (name : RowName) (cells : List Cell) → IsSuggestionRow r decor gutter s name cells → shows_a_line name ≡ false → HasNoNumber gutter cells
+suggested_numbered : (r : Renderer) (decor : DecorStyle) (gutter : ℕ) (s : Snippet Patch) (name : RowName) (cells : List Cell)
+    → IsSuggestionRow r decor gutter s name cells → shows_a_line name ≡ false → HasNoNumber gutter cells
 suggested_numbered r decor gutter s (SourceRow k) cells is none = absurd is
 suggested_numbered r decor gutter s Elision cells is none = absurd is
 suggested_numbered r decor gutter s (OfferedLine j) cells is none = absurd (false≢true (sym none))
@@ -118,19 +124,22 @@ suggested_numbered r decor gutter s (RemovedLine i) cells is none = absurd (fals
 suggested_numbered r decor gutter s Other cells is none =
     λ c left. stroke_unnumbered decor (get_or cells c SPACE).ch (is.strokes c (omega (arith, left)))
 
-path_unnumbered : (r : Renderer) (frame : Layout) (first : Bool) (s : Snippet Patch) (path : Option (List ℕ)) → All (HasNoNumber frame.gutter) (path_row r frame first s path)
+path_unnumbered : (r : Renderer) (frame : Layout) (first : Bool) (s : Snippet Patch) (path : Option (List ℕ))
+    → All (HasNoNumber frame.gutter) (path_row r frame first s path)
 path_unnumbered r frame first s None = All-nil (HasNoNumber frame.gutter)
 path_unnumbered r frame first s (Some path) =
     one_row frame.gutter _ (origin_row-unnumbered (origin_layout r frame) (primary_start first) path (patch_place s))
 
-head_unnumbered : (begins : SuggestionStart) (r : Renderer) (frame : Layout) (first : Bool) (s : Snippet Patch) → All (HasNoNumber frame.gutter) (suggestion_head_at begins r frame first s)
+head_unnumbered : (begins : SuggestionStart) (r : Renderer) (frame : Layout) (first : Bool) (s : Snippet Patch)
+    → All (HasNoNumber frame.gutter) (suggestion_head_at begins r frame first s)
 head_unnumbered start.Opening r frame first s = All-nil (HasNoNumber frame.gutter)
 head_unnumbered start.Next r frame first s = All-nil (HasNoNumber frame.gutter)
 head_unnumbered start.Path r frame first s = path_unnumbered r frame first s (path_bytes s.path)
 
 -- ---- elements
 
-element_numbered : (r : Renderer) (frame : Layout) (around : ElementContext) (found : List Cell) (e : Element) (rows : List NamedRow) → ShowsElement r frame around found e rows → All (IsNumberedAsLine frame.gutter) rows
+element_numbered : (r : Renderer) (frame : Layout) (around : ElementContext) (found : List Cell) (e : Element) (rows : List NamedRow)
+    → ShowsElement r frame around found e rows → All (IsNumberedAsLine frame.gutter) rows
 element_numbered r frame around found (element.Message message) rows shown =
     let place : MessageContext = record { frame = frame; followed = not (is_end around.next) } in
     let none : All (HasNoNumber frame.gutter) (cells_of rows) = subst (All (HasNoNumber frame.gutter)) (sym shown.shows.rows_are) (message_rows-unnumbered r.hyperlink place (heading_of_message message)) in
@@ -158,7 +167,8 @@ element_numbered r frame around found (element.Padding padding) rows shown =
     subst (All (IsNumberedAsLine frame.gutter)) (sym shown) (others_numbered frame.gutter (row ∷ []) (one_row frame.gutter row (padding_row-unnumbered frame.decor frame.gutter (is_end around.next))))
 
 -- a group's elements have numbers beside lines alone
-pub group_numbered : (r : Renderer) (frame : Layout) (place : GroupPosition) (file : Option (List ℕ)) (es : List Element) (g : GroupPage) → AreElementsShown r frame place file es g.elements → HasNumbersOfLines frame.gutter g
+pub group_numbered : (r : Renderer) (frame : Layout) (place : GroupPosition) (file : Option (List ℕ)) (es : List Element) (g : GroupPage)
+    → AreElementsShown r frame place file es g.elements → HasNumbersOfLines frame.gutter g
 group_numbered r frame place file es g shown =
     All-from_get_or (λ rows. All (IsNumberedAsLine frame.gutter) rows) g.elements [] each
   where

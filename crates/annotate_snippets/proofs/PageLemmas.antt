@@ -1,5 +1,6 @@
 -- The rows of an annotated snippet's lines, with their names.
-use Rattle.std.proofs.Common.{◌≡◌, ℕ, suc, ◌+◌, ◌<◌, ◌≤◌, ◌==◌, ◌&&◌, ltb, Bool, true, false, cond, List, [], ◌∷◌, ◌++◌, map, length, refl, sym, ap, subst, ◌∙◌, arith, inl, inr}
+use Rattle.std.proofs.Common.{◌≡◌, ℕ, suc, ◌+◌, ◌<◌, ◌≤◌, ◌==◌, ◌&&◌, ltb, Bool, true, false, cond, List, [], ◌∷◌, ◌++◌, map, length, refl, sym, ap, subst, ◌∙◌}
+use Rattle.std.proofs.Common.{arith, inl, inr}
 use Rattle.std.specs.List.{All}
 use Rattle.std.specs.Cow.{cow_str_bytes}
 use Rattle.std.proofs.lemmas.Bool.{le-ltb, lt-ltb}
@@ -137,7 +138,8 @@ module _ (r : Renderer) (frame : Layout) (s : Snippet Annotation)
     pub are : (more : List NamedRow) → AreRowsOf r frame closes s more → AreRowsOf r frame closes s (gap ++ more)
     pub ends : (more : List NamedRow) → (length more == 0) ≡ (length ks == 0) → (length (gap ++ more) == 0) ≡ (length ks == 0)
     pub begins : (more : List NamedRow) → rows_below more ≡ [] → rows_below (gap ++ more) ≡ []
-    pub drawn : (more : List NamedRow) → rows_below more ≡ [] → AreRowsDrawn r frame closes s open_bars more → AreRowsDrawn r frame closes s open_bars (gap ++ more)
+    pub drawn : (more : List NamedRow) → rows_below more ≡ [] → AreRowsDrawn r frame closes s open_bars more
+        → AreRowsDrawn r frame closes s open_bars (gap ++ more)
     pub value : gap ≡ gap_below r frame open_bars j ks
 
   -- a row in place of lines
@@ -186,17 +188,20 @@ module _ (r : Renderer) (frame : Layout) (s : Snippet Annotation)
       ]
 
   -- the bars that are open below a line are those that its spans leave open
-  open_seen : (open_bars : List Bar) (k : ℕ) (info : AnnotatedLineInfo) → seen_kept info ≡ line_of_snippet k → open_below open_bars info.annotations.items ≡ open_past open_bars (bars_on s k)
+  open_seen : (open_bars : List Bar) (k : ℕ) (info : AnnotatedLineInfo) → seen_kept info ≡ line_of_snippet k
+      → open_below open_bars info.annotations.items ≡ open_past open_bars (bars_on s k)
   open_seen open_bars k info seen =
       ap (open_past open_bars) (bars_seen s k info.annotations.items (ap (λ (l : KeptLine). l.parts) seen))
 
   -- rows below a line are drawn with it
-  others_drawn : (open_bars : List Bar) (rows : List (List Cell)) (more : List NamedRow) → AreRowsDrawn r frame closes s open_bars more → AreRowsDrawn r frame closes s open_bars (others rows ++ more)
+  others_drawn : (open_bars : List Bar) (rows : List (List Cell)) (more : List NamedRow) → AreRowsDrawn r frame closes s open_bars more
+      → AreRowsDrawn r frame closes s open_bars (others rows ++ more)
   others_drawn open_bars [] more drawn = drawn
   others_drawn open_bars (row ∷ rows) more drawn = (tt, others_drawn open_bars rows more drawn)
 
   -- a line is the last where all rows after its source row are its own
-  last_is : (rows : List (List Cell)) (more : List NamedRow) (last : Bool) → (length more == 0) ≡ last → (closes && length rows == length (others rows ++ more)) ≡ (closes && last)
+  last_is : (rows : List (List Cell)) (more : List NamedRow) (last : Bool) → (length more == 0) ≡ last
+      → (closes && length rows == length (others rows ++ more)) ≡ (closes && last)
   last_is rows more last ends =
       ap (λ b. closes && b) (same_long (length rows) (length more) (length (others rows ++ more)) (length-append (others rows) more ∙ ap (λ n. n + length more) (length-map rows (λ (cells : List Cell). record { name = Other; cells = cells }))) ∙ ends)
     where

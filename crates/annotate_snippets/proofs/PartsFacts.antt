@@ -28,7 +28,8 @@ use Rattle.snippet_view.proofs.MarginLaws.{margin_of_kept}
 use Rattle.snippet_view.proofs.UncutLaws.{margin_whole}
 use Rattle.snippet_view.proofs.ShownFacts.{first-shown, last-shown, shown-ascends, shown-within}
 use Rattle.snippet_view.specs.Depths.{places_of}
-use Rattle.snippet_view.specs.Annotated.{KeptLine, PartEntry, seen_part, annotated_lines, deepest, is_long, kept_line, long_entry, long_place, long_places, long_spans, parts_on, seen_kept, single_part, stands_before}
+use Rattle.snippet_view.specs.Annotated.{KeptLine, PartEntry, seen_part, annotated_lines, deepest, is_long, kept_line, long_entry, long_place, long_places}
+use Rattle.snippet_view.specs.Annotated.{long_spans, parts_on, seen_kept, single_part, stands_before}
 use Rattle.snippet_lines.specs.Order.{ordered_by, put_in}
 use Rattle.snippet_view.specs.Kept.{shown_lines}
 use Rattle.snippet_lines.specs.Lines.{Source, source_lines}
@@ -53,11 +54,13 @@ ascending (j ∷ k ∷ ks) ascends =
 
 module _ (s : Source) (marks : List Annotation) (spans : All (λ a. IsSpan s.text a.span.start a.span.end) marks) where
   -- a line that no span of several lines touches has the parts of the spans that are marked on it
-  pub untouched : (k : ℕ) → list_all (λ a. not (is_marking a.kind && touches s.text a k && not (is_single_line s.text a))) marks ≡ true → parts_on s marks k ≡ map (single_part s) (filter (is_marked_on s.text k) marks)
+  pub untouched : (k : ℕ) → list_all (λ a. not (is_marking a.kind && touches s.text a k && not (is_single_line s.text a))) marks ≡ true
+      → parts_on s marks k ≡ map (single_part s) (filter (is_marked_on s.text k) marks)
   untouched k none = untouched-parts s marks k spans none
 
   -- a kept line has as many wide entries as wide spans are marked on it
-  pub wide_on_line : (k : ℕ) (info : AnnotatedLineInfo) (room placeholder_width : ℕ) → seen_kept info ≡ kept_line s marks k → count_by (is_wide_entry room placeholder_width) info.annotations.items ≡ count_by (λ a. is_marked_on s.text k a && is_wide room placeholder_width s.text a) marks
+  pub wide_on_line : (k : ℕ) (info : AnnotatedLineInfo) (room placeholder_width : ℕ) → seen_kept info ≡ kept_line s marks k
+      → count_by (is_wide_entry room placeholder_width) info.annotations.items ≡ count_by (λ a. is_marked_on s.text k a && is_wide room placeholder_width s.text a) marks
   wide_on_line k info room placeholder_width same = wide-count room placeholder_width s marks k info same
 
   -- each line that is shown is a line of the source
@@ -69,17 +72,20 @@ module _ (s : Source) (marks : List Annotation) (spans : All (λ a. IsSpan s.tex
   shown_ascending fold = ascending (shown_lines fold s.text marks) (shown-ascends fold s.text marks)
 
   -- the lines on which spans start and end are shown
-  pub ends_shown : (fold : Bool) → All (λ a. Contains (shown_lines fold s.text marks) (first_line s.text a) × Contains (shown_lines fold s.text marks) (last_line s.text a)) marks
+  pub ends_shown : (fold : Bool)
+      → All (λ a. Contains (shown_lines fold s.text marks) (first_line s.text a) × Contains (shown_lines fold s.text marks) (last_line s.text a)) marks
   ends_shown fold = λ k d within.
       let a : Annotation = get_or marks k d in
       (first-shown fold s.text marks a (Contains-get_or marks k d within) (spans k d within), last-shown fold s.text marks a (Contains-get_or marks k d within) (spans k d within))
 
   -- where lines stand whole, nothing is cut on the left
-  pub stands_left : (room placeholder_width : ℕ) (fold : Bool) (k : ℕ) → stands_whole room placeholder_width fold s.text marks k ≡ true → (margin_of room fold s marks).left ≡ 0
+  pub stands_left : (room placeholder_width : ℕ) (fold : Bool) (k : ℕ) → stands_whole room placeholder_width fold s.text marks k ≡ true
+      → (margin_of room fold s marks).left ≡ 0
   stands_left room placeholder_width fold k whole = margin_whole room placeholder_width fold s marks k whole
 
 -- where the code leaves room for the greatest depth, a bar of a depth that is no greater has a cell
-bar_cell : (layout : Layout) (deepest : ℕ) → code_after layout.gutter deepest ≤ layout.code → (part : LineAnnotationType) → HasDepthWithin deepest part → HasBarCellAt layout part
+bar_cell : (layout : Layout) (deepest : ℕ) → code_after layout.gutter deepest ≤ layout.code → (part : LineAnnotationType) → HasDepthWithin deepest part
+    → HasBarCellAt layout part
 bar_cell layout deepest code part depth = by part depth
   where
     after : (depth : ℕ) → 0 < depth → depth ≤ deepest → layout.gutter + 3 + depth < layout.code
@@ -112,7 +118,8 @@ module _ (s : Source) (marks : List Annotation) (spans : All (λ a. IsSpan s.tex
       infos (places-fit s marks ks infos same short)
 
   -- the bars on kept lines have cells between the gutter and the code, where the code stands far enough right
-  pub lines_bar_cells : (layout : Layout) → code_after layout.gutter (deepest s marks) ≤ layout.code → All (λ info. All (HasBarCell layout) info.annotations.items) infos
+  pub lines_bar_cells : (layout : Layout) → code_after layout.gutter (deepest s marks) ≤ layout.code
+      → All (λ info. All (HasBarCell layout) info.annotations.items) infos
   lines_bar_cells layout code =
       let Within : LineAnnotation → Type 0 = λ e. HasDepthWithin (deepest s marks) e.annotation_type in
       All-weaker (λ (info : AnnotatedLineInfo). All Within info.annotations.items) (λ info. All (HasBarCell layout) info.annotations.items)
@@ -140,7 +147,8 @@ shown_clear s marks spans fold kept shown margin kept_is shown_is clear =
     All-get_or_within : (i d : ℕ) → i < length (shown_lines fold s.text marks) → get_or (shown_lines fold s.text marks) i d < length (source_lines s.text)
     All-get_or_within i d within = shown-within fold s.text marks i d within
 
-    on_line : (k : ℕ) → k < length (source_lines s.text) → (info : AnnotatedLineInfo) → seen_kept info ≡ kept_line s marks k → All (StandsClear margin) info.annotations.items
+    on_line : (k : ℕ) → k < length (source_lines s.text) → (info : AnnotatedLineInfo) → seen_kept info ≡ kept_line s marks k
+        → All (StandsClear margin) info.annotations.items
     on_line k within info seen =
         elim (cases_Bool (keeps_it k)) [
           | inl kept_here ↦
@@ -179,7 +187,9 @@ shown_clear s marks spans fold kept shown margin kept_is shown_is clear =
             tail_seen x y xs ys same = cc
 
 -- the bounds for the lines that are kept are those for the snippet
-pub bounds_of_kept : (room : ℕ) (fold : Bool) (s : Source) (marks : List Annotation) (infos : List AnnotatedLineInfo) → All (λ a. IsSpan s.text a.span.start a.span.end) marks → map seen_kept infos ≡ annotated_lines fold s marks → bounds_of_lines room infos ≡ margin_of room fold s marks
+pub bounds_of_kept : (room : ℕ) (fold : Bool) (s : Source) (marks : List Annotation) (infos : List AnnotatedLineInfo)
+    → All (λ a. IsSpan s.text a.span.start a.span.end) marks → map seen_kept infos ≡ annotated_lines fold s marks
+    → bounds_of_lines room infos ≡ margin_of room fold s marks
 bounds_of_kept room fold s marks infos spans lines = margin_of_kept room fold s marks infos lines spans
 
 -- ---- how deep bars stand

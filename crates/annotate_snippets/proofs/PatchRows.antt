@@ -1,5 +1,6 @@
 -- What a suggestion's rows stand below, and the element that they are.
-use Rattle.std.proofs.Common.{◌≡◌, ◌≢◌, ℕ, ◌+◌, ◌≤◌, nat_eq, ◌&&◌, not, Bool, true, false, if◌then◌else◌, Option, None, Some, List, [], ◌∷◌, ◌++◌, length, refl, sym, ap, ◌∙◌, arith, subst, append_assoc}
+use Rattle.std.proofs.Common.{◌≡◌, ◌≢◌, ℕ, ◌+◌, ◌≤◌, nat_eq, ◌&&◌, not, Bool, true, false, if◌then◌else◌, Option, None, Some, List, [], ◌∷◌, ◌++◌, length, refl}
+use Rattle.std.proofs.Common.{sym, ap, ◌∙◌, arith, subst, append_assoc}
 use Rattle.std.specs.Prelude.{OnOk}
 use Rattle.std.specs.declared.alloc.AllocError.{AllocError}
 use Rattle.std.specs.declared.result.Result.{Result}
@@ -68,12 +69,14 @@ none_not : {A : Type 0} (xs : List A) → xs ≢ [] → nat_eq (length xs) 0 ≡
 none_not [] some = absurd (some refl)
 none_not (x ∷ xs) some = grind (arith, nat_tests)
 
-pub gutter_room : (r : Renderer) (frame : Layout) (s : Snippet Patch) → s.markers.items ≢ [] → HasRoomFor r frame (Suggestion s) → HasGutter (suggestion_layout r frame s) s
+pub gutter_room : (r : Renderer) (frame : Layout) (s : Snippet Patch) → s.markers.items ≢ [] → HasRoomFor r frame (Suggestion s)
+    → HasGutter (suggestion_layout r frame s) s
 gutter_room r frame s some room =
     wide_enough s.line_numbering r.anonymized_snippet_line_numbers (nat_eq (length s.markers.items) 0) 0 frame.gutter (counted_line s) (none_not s.markers.items some) room.anonymized room.numbers
 
 -- the row of a path with the separator row below it
-path_head_is : (r : Renderer) (frame : Layout) (first : Bool) (s : Snippet Patch) (path : Option (List ℕ)) → is_some path ≡ true → flat_map (λ path. path_row r frame first s (Some path) ++ separator_rows r frame) (option_to_list path) ≡ path_row r frame first s path ++ separator_rows r frame
+path_head_is : (r : Renderer) (frame : Layout) (first : Bool) (s : Snippet Patch) (path : Option (List ℕ)) → is_some path ≡ true
+    → flat_map (λ path. path_row r frame first s (Some path) ++ separator_rows r frame) (option_to_list path) ≡ path_row r frame first s path ++ separator_rows r frame
 path_head_is r frame first s None some = absurd (cc)
 path_head_is r frame first s (Some path) some = refl
 
@@ -123,7 +126,8 @@ abbrev pub follows : ElementContext → Bool
 follows around = not (is_end around.next)
 
 -- the rows of a suggestion are all but the last, and that one
-whole : (layout : SuggestionLayout) (at : SuggestionStart) (next : Bool) (s : Snippet Patch) (under : List Cell) → suggestion_cells layout at next s under ≡ body_cells layout at s under ++ row_cells layout s [] (Ends next) ∷ []
+whole : (layout : SuggestionLayout) (at : SuggestionStart) (next : Bool) (s : Snippet Patch) (under : List Cell)
+    → suggestion_cells layout at next s under ≡ body_cells layout at s under ++ row_cells layout s [] (Ends next) ∷ []
 unfolding suggestion_cells
 whole layout at next s under = refl
 

@@ -28,7 +28,8 @@ use Rattle.annotate_snippets.specs.declared.renderer.element_context.ElementCont
 use Rattle.snippet_grid.specs.Layout.{Layout}
 use Rattle.annotate_snippets.specs.Around.{closes_after, is_before_message, is_first_group, path_bytes}
 use Rattle.annotate_snippets.specs.Gutter.{numbered_source}
-use Rattle.annotate_snippets.specs.Rows.{cause_head, closing_rows, origin_layout, origin_rows, origin_start, place_given, place_named, rows_after_cause, separator_rows}
+use Rattle.annotate_snippets.specs.Rows.{cause_head, closing_rows, origin_layout, origin_rows, origin_start, place_given, place_named, rows_after_cause}
+use Rattle.annotate_snippets.specs.Rows.{separator_rows}
 use Rattle.annotate_snippets.specs.Feeds.{HasNoFeed, HoldsNoFeed, IsNoFeed, IsOneLineText}
 use Rattle.annotate_snippets.proofs.FeedLaws.{after_spaces, bare_plain}
 pub use Rattle.annotate_snippets.proofs.FeedLaws.{cells_plain}
@@ -91,13 +92,15 @@ text_plain anonymized path place plain =
     All-append IsNoFeed (norm (chars path)) (place_text anonymized place) (norm_plain (chars path) plain) (place_text-each IsNoFeed digit_plain refl refl anonymized place)
 
 -- the row of a path that holds none holds none
-pub row_plain : (layout : OriginLayout) (start : FileStart) (path : List ℕ) (place : OriginLocation) → All IsNoFeed (chars path) → HasNoFeed (origin_row layout start path place)
+pub row_plain : (layout : OriginLayout) (start : FileStart) (path : List ℕ) (place : OriginLocation) → All IsNoFeed (chars path)
+    → HasNoFeed (origin_row layout start path place)
 unfolding origin_row
 row_plain layout start path place plain =
     let text : List ℕ = origin_text layout.anonymized path place in
     All-append HoldsNoFeed (file_row layout start) (text_cells LineAndColumn text) (file_plain layout start) (cells_plain LineAndColumn text (text_plain layout.anonymized path place plain))
 
-head_plain : (layout : OriginLayout) (primary first : Bool) (named : Option (List ℕ)) (place : OriginLocation) → IsOneLineText named → All HasNoFeed (snippet_head layout primary first named place)
+head_plain : (layout : OriginLayout) (primary first : Bool) (named : Option (List ℕ)) (place : OriginLocation) → IsOneLineText named
+    → All HasNoFeed (snippet_head layout primary first named place)
 head_plain layout true first None place plain =
     opening_head-each HasNoFeed layout (bare_plain layout.frame.decor layout.frame.gutter false) (file_plain layout) first
 head_plain layout true first (Some path) place plain =
@@ -116,7 +119,8 @@ closing_plain r frame true = one _ (bare_plain frame.decor frame.gutter true)
 closing_plain r frame false = All-nil HasNoFeed
 
 -- so the rows that a snippet begins with hold none where its path holds none, and those below its lines never do
-pub head_one_line : (r : Renderer) (frame : Layout) (around : ElementContext) (s : Snippet Annotation) → IsOneLineText (path_bytes s.path) → All HasNoFeed (cause_head r frame around s)
+pub head_one_line : (r : Renderer) (frame : Layout) (around : ElementContext) (s : Snippet Annotation) → IsOneLineText (path_bytes s.path)
+    → All HasNoFeed (cause_head r frame around s)
 head_one_line r frame around s plain =
     head_plain (origin_layout r frame) around.primary around.first (path_bytes s.path) (place_named around.primary (annotated_lines s.fold (numbered_source s) s.markers.items)) plain
 
@@ -135,7 +139,8 @@ padding_one_line r frame true = one _ (bare_plain frame.decor frame.gutter true)
 padding_one_line r frame false = one _ (bare_plain frame.decor frame.gutter false)
 
 -- nor do the rows of an origin whose path holds none
-pub origin_one_line : (r : Renderer) (frame : Layout) (around : ElementContext) (o : origin.Origin) → All IsNoFeed (chars (cow_str_bytes o.path)) → All HasNoFeed (origin_rows r frame around o)
+pub origin_one_line : (r : Renderer) (frame : Layout) (around : ElementContext) (o : origin.Origin) → All IsNoFeed (chars (cow_str_bytes o.path))
+    → All HasNoFeed (origin_rows r frame around o)
 origin_one_line r frame around o plain =
     let row : List Cell = origin_row (origin_layout r frame) (origin_start around) (cow_str_bytes o.path) (place_given o) in
     All-cons HasNoFeed row (cond (closes_after around) (closing_rows r frame) []) (row_plain (origin_layout r frame) (origin_start around) (cow_str_bytes o.path) (place_given o) plain) (closing_plain r frame (closes_after around))

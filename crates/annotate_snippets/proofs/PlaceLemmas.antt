@@ -44,7 +44,8 @@ first-is_some p h none =
     some-first p.splice.patches.items (some-left (cow_str_bytes p.snippet.now.source) p.snippet.now.markers.items p.splice.patches.items h.some h.edits) none
 
 -- its span is one of the source
-pub first-span : (p : PreparedSuggestion) (t : TrimmedPatch) → IsPrepared p → slice_get p.splice.patches.items 0 ≡ Some t → IsSpan p.map.text t.span.start t.span.end
+pub first-span : (p : PreparedSuggestion) (t : TrimmedPatch) → IsPrepared p → slice_get p.splice.patches.items 0 ≡ Some t
+    → IsSpan p.map.text t.span.start t.span.end
 first-span p t h is =
     let source : List ℕ = cow_str_bytes p.snippet.now.source in
     let spans : All (λ e. IsSpan source e.start e.end) (edits_of p.snippet.now) = All-map (λ e. IsSpan source e.start e.end) edit_of p.snippet.now.markers.items h.suggestible.spans in

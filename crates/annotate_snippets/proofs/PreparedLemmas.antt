@@ -1,5 +1,6 @@
 -- What is prepared so far of a report's groups, and of the elements of a group.
-use Rattle.std.proofs.Common.{◌≡◌, ℕ, ◌+◌, ◌<◌, All, map, take, Bool, true, false, cond, List, [], ◌∷◌, ◌++◌, Option, Some, None, length, get_or, refl, sym, ap, ◌∙◌, IfSome}
+use Rattle.std.proofs.Common.{◌≡◌, ℕ, ◌+◌, ◌<◌, All, map, take, Bool, true, false, cond, List, [], ◌∷◌, ◌++◌, Option, Some, None, length, get_or, refl, sym, ap}
+use Rattle.std.proofs.Common.{◌∙◌, IfSome}
 use Rattle.std.specs.List.{filter}
 use Rattle.std.specs.Option.{option_map, option_to_list}
 use Rattle.std.proofs.lemmas.List.{append-nil, map-append, take_more}
@@ -21,7 +22,8 @@ pub record ArePrepared (gs : List Group) (ps : List PreparedGroup) : Type 0 wher
   pub prepared : All IsGroupPrepared ps
 
 -- and one more
-pub ArePrepared-push : (gs : List Group) (i : ℕ) (g : Group) (ps new : List PreparedGroup) (p : PreparedGroup) → new ≡ ps ++ p ∷ [] → i < length gs → g ≡ get_or gs i g → group_of p ≡ g → ArePrepared (take i gs) ps → IsGroupPrepared p → ArePrepared (take (i + 1) gs) new
+pub ArePrepared-push : (gs : List Group) (i : ℕ) (g : Group) (ps new : List PreparedGroup) (p : PreparedGroup) → new ≡ ps ++ p ∷ [] → i < length gs
+    → g ≡ get_or gs i g → group_of p ≡ g → ArePrepared (take i gs) ps → IsGroupPrepared p → ArePrepared (take (i + 1) gs) new
 ArePrepared-push gs i g ps new p pushed within is of before prepared = record {
   groups = ap (map group_of) pushed ∙ map-append group_of ps (p ∷ []) ∙ ap (λ hs. hs ++ group_of p ∷ []) before.groups ∙ ap (λ h. take i gs ++ h ∷ []) (of ∙ is) ∙ sym (take_more gs i g within);
   prepared = All-same IsGroupPrepared new (ps ++ p ∷ []) pushed (All-push IsGroupPrepared ps p before.prepared prepared);
@@ -33,7 +35,8 @@ pub record AreDrawnPrepared (es : List Element) (ps : List PreparedElement) : Ty
   pub prepared : All IsElementPrepared ps
 
 -- what is drawn of one more element
-drawn-one : (e : Element) (p : Option PreparedElement) → option_map element_of p ≡ cond (is_drawn e) (Some e) None → map element_of (option_to_list p) ≡ cond (is_drawn e) (e ∷ []) []
+drawn-one : (e : Element) (p : Option PreparedElement) → option_map element_of p ≡ cond (is_drawn e) (Some e) None
+    → map element_of (option_to_list p) ≡ cond (is_drawn e) (e ∷ []) []
 drawn-one e p is = mapped p ∙ ap option_to_list is ∙ listed (is_drawn e)
   where
     mapped : (q : Option PreparedElement) → map element_of (option_to_list q) ≡ option_to_list (option_map element_of q)
@@ -44,7 +47,8 @@ drawn-one e p is = mapped p ∙ ap option_to_list is ∙ listed (is_drawn e)
     listed true = refl
     listed false = refl
 
-All-option : (ps : List PreparedElement) (p : Option PreparedElement) → All IsElementPrepared ps → IfSome p IsElementPrepared → All IsElementPrepared (ps ++ option_to_list p)
+All-option : (ps : List PreparedElement) (p : Option PreparedElement) → All IsElementPrepared ps → IfSome p IsElementPrepared
+    → All IsElementPrepared (ps ++ option_to_list p)
 All-option ps None all one = All-same IsElementPrepared (ps ++ []) ps (append-nil ps) all
 All-option ps (Some p) all one = All-push IsElementPrepared ps p all one
 

@@ -1,5 +1,6 @@
 -- The texts that print the grids of a report show it.
-use Rattle.std.proofs.Common.{◌≡◌, ℕ, zero, suc, ◌+◌, arith, drop, true, List, [], ◌∷◌, ◌++◌, All, Option, Some, None, Result, Ok, Err, IfSome, length, map, chars, refl, sym, ap, subst, ◌∙◌, encode_utf8_all}
+use Rattle.std.proofs.Common.{◌≡◌, ℕ, zero, suc, ◌+◌, arith, drop, true, List, [], ◌∷◌, ◌++◌, All, Option, Some, None, Result, Ok, Err, IfSome, length, map}
+use Rattle.std.proofs.Common.{chars, refl, sym, ap, subst, ◌∙◌, encode_utf8_all}
 use Rattle.std.specs.List.{AllZip, Contains, enumerate_from, flat_map, join_with_byte, slice_get}
 use Rattle.std.specs.Result.{IfOk, MatchResult, IsErrAnd}
 use Rattle.std.proofs.Math.Nat.{zero-add}
@@ -75,7 +76,8 @@ module _ (r : Renderer) (groups : List Group) where
     pub linked : flat_map grid_links grids ≡ page_links page
     pub links : flat_map grid_links grids ≡ flat_map (title_links r.hyperlink) gs
     pub free : IsFreeBut (trusted_texts gs) (join_with_byte 10 (map grid_plain grids))
-    pub printed : (sheet : Stylesheet) (parts : List (List ℕ)) → AllZip (λ (grid : GroupGrid) part. Prints sheet grid.level grid.buffer part) grids parts → ArePrinted sheet (levels_of gs) page parts
+    pub printed : (sheet : Stylesheet) (parts : List (List ℕ)) → AllZip (λ (grid : GroupGrid) part. Prints sheet grid.level grid.buffer part) grids parts
+        → ArePrinted sheet (levels_of gs) page parts
     pub one_line : HasOneLineTexts gs → All HasOneLineRows page
 
   -- one more group above
@@ -86,7 +88,8 @@ module _ (r : Renderer) (groups : List Group) where
   free_above g gs grid (other ∷ grids) first rest =
       free_joined (trusted_texts (g ∷ gs)) (grid_plain grid) (join_with_byte 10 (map grid_plain (other ∷ grids))) (free_first g gs (grid_plain grid) first) (free_rest g gs (join_with_byte 10 (map grid_plain (other ∷ grids))) rest)
 
-  PageOf-cons : (n : ℕ) (g : Group) (gs : List Group) (grid : GroupGrid) (grids : List GroupGrid) → grid.level ≡ g.level → IsGridShown n g grid → PageOf (suc n) gs grids → PageOf n (g ∷ gs) (grid ∷ grids)
+  PageOf-cons : (n : ℕ) (g : Group) (gs : List Group) (grid : GroupGrid) (grids : List GroupGrid) → grid.level ≡ g.level → IsGridShown n g grid
+      → PageOf (suc n) gs grids → PageOf n (g ∷ gs) (grid ∷ grids)
   PageOf-cons n g gs grid grids leveled shown rest =
       record {
         page = shown.page ∷ rest.page;
@@ -104,19 +107,22 @@ module _ (r : Renderer) (groups : List Group) where
       next : (k : ℕ) → suc k ≡ k + 1
       next k = omega arith
 
-      each : (i : ℕ) (h : Group) (part : GroupPage) → slice_get (g ∷ gs) i ≡ Some h → slice_get (shown.page ∷ rest.page) i ≡ Some part → IsShownAt (n + i) h part
+      each : (i : ℕ) (h : Group) (part : GroupPage) → slice_get (g ∷ gs) i ≡ Some h → slice_get (shown.page ∷ rest.page) i ≡ Some part
+          → IsShownAt (n + i) h part
       each zero h part at there =
           let here : IsShownAt n h part = subst (λ (x : GroupPage). IsShownAt n h x) (some_same there) (subst (λ (x : Group). IsShownAt n x shown.page) (some_same at) shown.shows) in
           subst (λ k. IsShownAt k h part) (sym (none_more n)) here
       each (suc i) h part at there =
           subst (λ k. IsShownAt k h part) (one_more n i) (rest.each i h part at there)
 
-      printed : (sheet : Stylesheet) (parts : List (List ℕ)) → AllZip (λ (grid : GroupGrid) part. Prints sheet grid.level grid.buffer part) (grid ∷ grids) parts → ArePrinted sheet (levels_of (g ∷ gs)) (shown.page ∷ rest.page) parts
+      printed : (sheet : Stylesheet) (parts : List (List ℕ)) → AllZip (λ (grid : GroupGrid) part. Prints sheet grid.level grid.buffer part) (grid ∷ grids) parts
+          → ArePrinted sheet (levels_of (g ∷ gs)) (shown.page ∷ rest.page) parts
       printed sheet [] prints = absurd prints
       printed sheet (part ∷ parts) prints =
           (subst (λ level. Prints sheet level (group_rows shown.page) part) leveled (subst (λ rows. Prints sheet grid.level rows part) shown.rows_are prints.0), rest.printed sheet parts prints.1)
 
-  PageOf-grids : (n : ℕ) (gs : List Group) (grids : List GroupGrid) → map (λ (grid : GroupGrid). grid.level) grids ≡ levels_of gs → ((i : ℕ) (g : Group) (grid : GroupGrid) → slice_get gs i ≡ Some g → slice_get grids i ≡ Some grid → IsGridShown (n + i) g grid) → PageOf n gs grids
+  PageOf-grids : (n : ℕ) (gs : List Group) (grids : List GroupGrid) → map (λ (grid : GroupGrid). grid.level) grids ≡ levels_of gs
+      → ((i : ℕ) (g : Group) (grid : GroupGrid) → slice_get gs i ≡ Some g → slice_get grids i ≡ Some grid → IsGridShown (n + i) g grid) → PageOf n gs grids
   PageOf-grids n [] [] levels shown =
       record {
         page = [];
@@ -131,7 +137,8 @@ module _ (r : Renderer) (groups : List Group) where
         one_line = λ plain. All-nil HasOneLineRows;
       }
     where
-      nothing : (sheet : Stylesheet) (parts : List (List ℕ)) → AllZip (λ (grid : GroupGrid) part. Prints sheet grid.level grid.buffer part) [] parts → ArePrinted sheet [] [] parts
+      nothing : (sheet : Stylesheet) (parts : List (List ℕ)) → AllZip (λ (grid : GroupGrid) part. Prints sheet grid.level grid.buffer part) [] parts
+          → ArePrinted sheet [] [] parts
       nothing sheet [] prints = tt
       nothing sheet (part ∷ parts) prints = absurd prints
   PageOf-grids n [] (grid ∷ grids) levels shown = cc
@@ -185,7 +192,8 @@ module _ (r : Renderer) (groups : List Group) (grids : List GroupGrid) (drawable
   page_free = subst (IsFreeBut (trusted_texts groups)) (sym text_of_page) report_page.free
 
   -- texts that print the grids under some sheets show the report under them
-  pub sheets_shown : (sheets : List Stylesheet) (texts : List (List ℕ)) → AllZip (λ sheet text. PrintsGrids sheet grids text) sheets texts → SheetsShown r groups sheets texts
+  pub sheets_shown : (sheets : List Stylesheet) (texts : List (List ℕ)) → AllZip (λ sheet text. PrintsGrids sheet grids text) sheets texts
+      → SheetsShown r groups sheets texts
   sheets_shown sheets texts printed =
       record {
         page = report_page.page;
@@ -217,7 +225,8 @@ text_of_none r sheet text shows = of_page shows.page shows.shows.count shows.pri
     of_page page none prints = prints.joined ∙ of_parts page none prints.parts prints.printed
 
 -- what holds of an answer holds of it where another error stands for the first
-pub IfOk-map_err : {T E D : Type 0} (P : T → Type 0) (R : E → D → Type 0) (r : Result T E) (q : Result T D) → IfOk r P → MatchResult r (λ x. q ≡ Ok x) (λ e. IsErrAnd q (R e)) → IfOk q P
+pub IfOk-map_err : {T E D : Type 0} (P : T → Type 0) (R : E → D → Type 0) (r : Result T E) (q : Result T D) → IfOk r P
+    → MatchResult r (λ x. q ≡ Ok x) (λ e. IsErrAnd q (R e)) → IfOk q P
 IfOk-map_err P R (Ok x) q holds same = subst (λ z. IfOk z P) (sym same) holds
 IfOk-map_err P R (Err e) (Ok y) holds same = absurd same
 IfOk-map_err P R (Err e) (Err d) holds same = tt
@@ -228,6 +237,7 @@ faultless None r x refused given = refl
 faultless (Some e) r x refused given = let never : Err e ≡ Ok x = sym refused ∙ given in cc
 
 -- the groups of a report that fits can be drawn where the answer is no refusal
-pub drawable-from_ok : {T : Type 0} (r : Renderer) (groups : List Group) (answer : Result T RenderError) (x : T) → ReportFits groups → IfSome (first_refusal r groups) (λ refusal. answer ≡ Err refusal) → answer ≡ Ok x → All IsGroupDrawable groups
+pub drawable-from_ok : {T : Type 0} (r : Renderer) (groups : List Group) (answer : Result T RenderError) (x : T) → ReportFits groups
+    → IfSome (first_refusal r groups) (λ refusal. answer ≡ Err refusal) → answer ≡ Ok x → All IsGroupDrawable groups
 drawable-from_ok r groups answer x fits refused given =
     groups-drawable groups fits (unrefused (missing_title (form_of r) groups) (first_fault groups) (faultless (first_refusal r groups) answer x refused given))

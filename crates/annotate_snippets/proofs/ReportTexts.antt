@@ -24,7 +24,8 @@ abbrev pub title_links : Bool → Group → List (List ℕ)
 title_links hyperlink g = flat_map (λ (t : Title). id_links hyperlink t.id) (option_to_list g.title)
 
 -- a text that is free but for some trusted texts is so with more of them
-free_more : (few many : List (List ℕ)) (text : List ℕ) → ((c : ℕ) → Contains (flat_map chars few) c → Contains (flat_map chars many) c) → IsFreeBut few text → IsFreeBut many text
+free_more : (few many : List (List ℕ)) (text : List ℕ) → ((c : ℕ) → Contains (flat_map chars few) c → Contains (flat_map chars many) c) → IsFreeBut few text
+    → IsFreeBut many text
 free_more few many text more free =
     All-weaker (λ c. is_listed c ≡ true → Contains (flat_map chars few) c) (λ c. is_listed c ≡ true → Contains (flat_map chars many) c) (λ c trusted listed. more c (trusted listed)) text free
 

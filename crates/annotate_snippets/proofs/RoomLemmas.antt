@@ -1,5 +1,6 @@
 -- The frames of a report have room for each element that is drawn in them.
-use Rattle.std.proofs.Common.{◌≡◌, ℕ, zero, suc, ◌+◌, ◌<◌, ◌≤◌, ◌^◌, ◌&&◌, ◌==◌, not, fold, All, Bool, true, false, cond, List, [], ◌∷◌, Some, length, refl, sym, ap, subst, arith}
+use Rattle.std.proofs.Common.{◌≡◌, ℕ, zero, suc, ◌+◌, ◌<◌, ◌≤◌, ◌^◌, ◌&&◌, ◌==◌, not, fold, All, Bool, true, false, cond, List, [], ◌∷◌, Some, length, refl}
+use Rattle.std.proofs.Common.{sym, ap, subst, arith}
 use Rattle.std.specs.Cow.{cow_str_bytes}
 use Rattle.std.specs.Fmt.{decimal}
 use Rattle.std.specs.List.{flat_map, slice_get}
@@ -51,7 +52,8 @@ abbrev elements_of : Group → List Element
 elements_of g = g.elements.items
 
 -- so is that of a report's groups no less than what the elements of each of these want
-widest-group : (wants : Element → ℕ) (most : ℕ) (gs : List Group) (i : ℕ) (g : Group) → slice_get gs i ≡ Some g → All (λ e. wants e ≤ fold (greater wants) most (flat_map elements_of gs)) g.elements.items
+widest-group : (wants : Element → ℕ) (most : ℕ) (gs : List Group) (i : ℕ) (g : Group) → slice_get gs i ≡ Some g
+    → All (λ e. wants e ≤ fold (greater wants) most (flat_map elements_of gs)) g.elements.items
 widest-group wants most [] i g is = cc
 widest-group wants most (h ∷ gs) zero g is =
     let same : h ≡ g = cc in
@@ -111,14 +113,16 @@ gutter-small r groups drawable =
 code-monotone : (gutter depth more : ℕ) → depth ≤ more → code_after gutter depth ≤ code_after gutter more
 code-monotone gutter depth more low = by (depth == 0) (more == 0) refl refl
   where
-    by : (none all : Bool) → (depth == 0) ≡ none → (more == 0) ≡ all → cond none (gutter + 3) (gutter + 3 + depth + 1) ≤ cond all (gutter + 3) (gutter + 3 + more + 1)
+    by : (none all : Bool) → (depth == 0) ≡ none → (more == 0) ≡ all
+        → cond none (gutter + 3) (gutter + 3 + depth + 1) ≤ cond all (gutter + 3) (gutter + 3 + more + 1)
     by true true d m = omega arith
     by true false d m = omega arith
     by false true d m = grind (arith, nat_tests, low)
     by false false d m = omega (arith, low)
 
 -- each element that a group of a report draws has room in the group's frame
-pub room_in_report : (r : Renderer) (groups : List Group) → All IsGroupDrawable groups → (i : ℕ) (g : Group) → slice_get groups i ≡ Some g → All (HasRoomFor r (frame_of r groups g)) (drawn_elements g)
+pub room_in_report : (r : Renderer) (groups : List Group) → All IsGroupDrawable groups → (i : ℕ) (g : Group) → slice_get groups i ≡ Some g
+    → All (HasRoomFor r (frame_of r groups g)) (drawn_elements g)
 room_in_report r groups drawable i g is =
     let widest : ℕ = greatest_wanted (flat_map elements_of groups) in
     let each : All (λ e. width_wanted e ≤ widest) g.elements.items = widest-group width_wanted 0 groups i g is in

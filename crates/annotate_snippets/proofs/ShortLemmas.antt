@@ -1,5 +1,6 @@
 -- The parts of the short form: a group's first annotated snippet, the place before the title, and the labels after it.
-use Rattle.std.proofs.Common.{◌≡◌, ◌≢◌, ℕ, ◌+◌, ◌*◌, ◌<◌, ◌≤◌, ◌^◌, ◌==◌, ◌∙◌, Bool, true, false, not, Option, None, Some, Result, Ok, Err, IfSome, List, [], ◌∷◌, ◌++◌, All, chars, cond, filter, get_or, if◌then◌else◌, length, take, suc, arith, ap, refl, sym}
+use Rattle.std.proofs.Common.{◌≡◌, ◌≢◌, ℕ, ◌+◌, ◌*◌, ◌<◌, ◌≤◌, ◌^◌, ◌==◌, ◌∙◌, Bool, true, false, not, Option, None, Some, Result, Ok, Err, IfSome, List, []}
+use Rattle.std.proofs.Common.{◌∷◌, ◌++◌, All, chars, cond, filter, get_or, if◌then◌else◌, length, take, suc, arith, ap, refl, sym}
 use Rattle.std.specs.Char.{is_whitespace}
 use Rattle.std.specs.Cow.{cow_str_bytes}
 use Rattle.std.specs.List.{filter_map, flat_map, list_all}
@@ -48,12 +49,14 @@ primary_labels-append xs ys =
     ∙ filter-append (λ label. not (list_all is_whitespace label)) (filter_map short_label (primary xs)) (filter_map short_label (primary ys))
 
 -- those of one more span
-pub primary_labels-more : (marks : List Annotation) (i : ℕ) (a : Annotation) → i < length marks → a ≡ get_or marks i a → primary_labels (take i marks) ++ primary_labels (a ∷ []) ≡ primary_labels (take (i + 1) marks)
+pub primary_labels-more : (marks : List Annotation) (i : ℕ) (a : Annotation) → i < length marks → a ≡ get_or marks i a
+    → primary_labels (take i marks) ++ primary_labels (a ∷ []) ≡ primary_labels (take (i + 1) marks)
 primary_labels-more marks i a within is =
     sym (primary_labels-append (take i marks) (a ∷ [])) ∙ ap (λ b. primary_labels (take i marks ++ b ∷ [])) is ∙ sym (ap primary_labels (take_more marks i a within))
 
 -- that of a primary span
-pub primary_labels-one : (a : Annotation) (t : CowStr Global) (label : List ℕ) (blank : Bool) → a.kind ≡ Primary → a.label ≡ Some t → label ≡ norm (chars (cow_str_bytes t)) → list_all is_whitespace label ≡ blank → primary_labels (a ∷ []) ≡ cond blank [] (label ∷ [])
+pub primary_labels-one : (a : Annotation) (t : CowStr Global) (label : List ℕ) (blank : Bool) → a.kind ≡ Primary → a.label ≡ Some t
+    → label ≡ norm (chars (cow_str_bytes t)) → list_all is_whitespace label ≡ blank → primary_labels (a ∷ []) ≡ cond blank [] (label ∷ [])
 primary_labels-one a t label true kind has is blank = rw (kind, has, ← is, blank) refl
 primary_labels-one a t label false kind has is blank = rw (kind, has, ← is, blank) refl
 
@@ -72,7 +75,8 @@ some : (n : ℕ) → true ≡ (suc n == 0) → ⊥
 some n is = grind (arith, nat_tests)
 
 -- one more label
-joined_labels-last : (labels : List (List ℕ)) (label : List ℕ) (empty : Bool) → empty ≡ (length (joined_labels labels) == 0) → joined_labels (labels ++ label ∷ []) ≡ joined_labels labels ++ (lead empty ++ label)
+joined_labels-last : (labels : List (List ℕ)) (label : List ℕ) (empty : Bool) → empty ≡ (length (joined_labels labels) == 0)
+    → joined_labels (labels ++ label ∷ []) ≡ joined_labels labels ++ (lead empty ++ label)
 joined_labels-last [] label true is = ap (λ l. 58 ∷ 32 ∷ l) (append-nil label)
 joined_labels-last [] label false is = cc
 joined_labels-last (first ∷ labels) label true is = absurd (some (length (32 ∷ (first ++ flat_map (λ l. 44 ∷ 32 ∷ l) labels))) is)
@@ -87,7 +91,8 @@ lead-chars : (empty : Bool) → chars (lead empty) ≡ lead empty
 lead-chars empty = chars-IsAscii (lead empty) (lead-ascii empty)
 
 -- a text of labels that goes on with one more
-pub joined_labels-added : (labels : List (List ℕ)) (old sep new label : List ℕ) (empty : Bool) → IsUtf8 old → chars old ≡ joined_labels labels → empty ≡ (length old == 0) → sep ≡ old ++ lead empty → new ≡ sep ++ label → chars new ≡ joined_labels (labels ++ chars label ∷ [])
+pub joined_labels-added : (labels : List (List ℕ)) (old sep new label : List ℕ) (empty : Bool) → IsUtf8 old → chars old ≡ joined_labels labels
+    → empty ≡ (length old == 0) → sep ≡ old ++ lead empty → new ≡ sep ++ label → chars new ≡ joined_labels (labels ++ chars label ∷ [])
 joined_labels-added labels old sep new label empty text are none led added =
     let first : chars (old ++ lead empty) ≡ joined_labels labels ++ lead empty = chars-append old (lead empty) text ∙ ap (λ cs. cs ++ chars (lead empty)) are ∙ ap (λ cs. joined_labels labels ++ cs) (lead-chars empty) in
     let nothing : empty ≡ (length (joined_labels labels) == 0) = none ∙ is_empty-chars old text ∙ ap (λ cs. length cs == 0) are in
@@ -110,12 +115,14 @@ column_text-short : (column : Option ℕ) → IfSome column (λ n. n < 2 ^ 64) �
 column_text-short None small = omega arith
 column_text-short (Some column) small = omega (arith, digits column small)
 
-line_text-short : (anonymized : Bool) (line column : Option ℕ) → IfSome line (λ n. n < 2 ^ 64) → IfSome column (λ n. n < 2 ^ 64) → length (line_text anonymized line column) ≤ 42
+line_text-short : (anonymized : Bool) (line column : Option ℕ) → IfSome line (λ n. n < 2 ^ 64) → IfSome column (λ n. n < 2 ^ 64)
+    → length (line_text anonymized line column) ≤ 42
 line_text-short anonymized None column line_small column_small = omega arith
 line_text-short anonymized (Some line) column line_small column_small =
     omega (arith, length-append (line_name anonymized line) (column_text column), line_name-short anonymized line line_small, column_text-short column column_small)
 
-origin_text-short : (anonymized : Bool) (path : List ℕ) (place : OriginLocation) → PlaceFits place → length (origin_text anonymized path place) ≤ 4 * length path + 42
+origin_text-short : (anonymized : Bool) (path : List ℕ) (place : OriginLocation) → PlaceFits place
+    → length (origin_text anonymized path place) ≤ 4 * length path + 42
 unfolding origin_text
 origin_text-short anonymized path place fits =
     omega (arith, length-append (norm (chars path)) (place_text anonymized place), length-norm (chars path), length-chars_le path, line_text-short anonymized place.line place.column fits.0 fits.1)
@@ -126,7 +133,8 @@ place-added text new shown utf8 is added =
     ap chars added ∙ chars-append text (58 ∷ 32 ∷ []) utf8 ∙ ap (λ cs. cs ++ chars (58 ∷ 32 ∷ [])) is ∙ ap (λ cs. shown ++ cs) (lead-chars true)
 
 -- a place with its colon has room, where its path and its numbers fit
-pub place-short : (anonymized : Bool) (path : List ℕ) (place : OriginLocation) (new : List ℕ) → length path < 2 ^ 56 → PlaceFits place → chars new ≡ origin_text anonymized path place ++ 58 ∷ 32 ∷ [] → length (chars new) < 2 ^ 59
+pub place-short : (anonymized : Bool) (path : List ℕ) (place : OriginLocation) (new : List ℕ) → length path < 2 ^ 56 → PlaceFits place
+    → chars new ≡ origin_text anonymized path place ++ 58 ∷ 32 ∷ [] → length (chars new) < 2 ^ 59
 place-short anonymized path place new short fits is =
     omega (arith, short, ap length is, length-append (origin_text anonymized path place) (58 ∷ 32 ∷ []), origin_text-short anonymized path place fits)
 
@@ -138,7 +146,8 @@ place-of_path r s path place has is =
     ap (λ p. origin_text r.anonymized_origin_line_numbers path p ++ 58 ∷ 32 ∷ []) is ∙ sym (ap (place_of_path r s) has)
 
 -- a snippet without a path has none
-pub place-of_none : (r : Renderer) (s : Snippet Annotation) (path : Option (CowStr Global)) → ((p : CowStr Global) → path ≢ Some p) → place_of_path r s (path_bytes path) ≡ []
+pub place-of_none : (r : Renderer) (s : Snippet Annotation) (path : Option (CowStr Global)) → ((p : CowStr Global) → path ≢ Some p)
+    → place_of_path r s (path_bytes path) ≡ []
 place-of_none r s None none = refl
 place-of_none r s (Some path) none = absurd (none path refl)
 

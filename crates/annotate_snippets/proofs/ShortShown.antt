@@ -1,5 +1,6 @@
 -- The texts that print a report's short form show it.
-use Rattle.std.proofs.Common.{◌≡◌, ◌∙◌, ℕ, ◌<◌, ◌==◌, Bool, true, false, None, Option, Some, IfSome, List, [], ◌∷◌, ◌++◌, All, arith, chars, codes, encode_utf8_all, filter, length, not, refl, sym, ap, subst}
+use Rattle.std.proofs.Common.{◌≡◌, ◌∙◌, ℕ, ◌<◌, ◌==◌, Bool, true, false, None, Option, Some, IfSome, List, [], ◌∷◌, ◌++◌, All, arith, chars, codes}
+use Rattle.std.proofs.Common.{encode_utf8_all, filter, length, not, refl, sym, ap, subst}
 use Rattle.std.specs.Char.{is_whitespace}
 use Rattle.std.specs.Cow.{cow_str_bytes}
 use Rattle.std.specs.List.{AllZip, Contains, cons_option, filter_map, flat_map, join_with_byte, list_all, list_any, slice_get, slice_index_or}
@@ -46,7 +47,8 @@ use Rattle.annotate_snippets.specs.Gutter.{numbered_source}
 use Rattle.annotate_snippets.specs.Page.{PrintsGrids}
 use Rattle.annotate_snippets.specs.Prepared.{IsDrawable, IsGroupDrawable}
 use Rattle.annotate_snippets.specs.Rows.{place_found, place_named}
-use Rattle.annotate_snippets.specs.Short.{before_title, after_title, first_cause, joined_labels, short_label, labels_of_cause, place_of_cause, place_of_path, primary_labels, short_form}
+use Rattle.annotate_snippets.specs.Short.{before_title, after_title, first_cause, joined_labels, short_label, labels_of_cause, place_of_cause, place_of_path}
+use Rattle.annotate_snippets.specs.Short.{primary_labels, short_form}
 use Rattle.snippet_model.specs.AnnotationKind.{is_primary}
 use Rattle.annotate_snippets.specs.declared.renderer.Renderer.{Renderer}
 use Rattle.annotate_snippets.specs.declared.renderer.graphic.GroupGrid.{GroupGrid}
@@ -109,14 +111,16 @@ before-free r (Some s) = path-free r s (path_bytes s.path)
 
 -- ---- the first text begins with the text before the title
 
-first-text : (before label further after : List ℕ) (lines : List (List ℕ)) → 0 < length lines → (rest : List ℕ) × (slice_index_or (with_end after (texts_below (before ++ label) further lines)) 0 [] ≡ before ++ rest)
+first-text : (before label further after : List ℕ) (lines : List (List ℕ)) → 0 < length lines
+    → (rest : List ℕ) × (slice_index_or (with_end after (texts_below (before ++ label) further lines)) 0 [] ≡ before ++ rest)
 first-text before label further after [] some = absurd (omega (arith, some))
 first-text before label further after (line ∷ lines) some =
     (label ++ (line ++ after), ap (λ t. t ++ after) (append_assoc before label line) ∙ append_assoc before (label ++ line) after ∙ ap (λ t. before ++ t) (append_assoc label line after))
 
 -- ---- what a title links to
 
-first-links : (r : Renderer) (groups : List Group) (g : Group) (title : Title) → slice_get groups 0 ≡ Some g → g.title ≡ Some title → id_links r.hyperlink title.id ≡ short_links r groups
+first-links : (r : Renderer) (groups : List Group) (g : Group) (title : Title) → slice_get groups 0 ≡ Some g → g.title ≡ Some title
+    → id_links r.hyperlink title.id ≡ short_links r groups
 first-links r [] g title first titled = cc
 first-links r (h ∷ groups) g title first titled = by r.hyperlink refl
   where
@@ -131,7 +135,8 @@ first-links r (h ∷ groups) g title first titled = by r.hyperlink refl
     by false is = rw is (no_links title.id)
 
 -- a trusted title's text is one of the report's trusted texts
-title-trusted : (groups : List Group) (g : Group) (title : Title) → slice_get groups 0 ≡ Some g → g.title ≡ Some title → title.allows_styling ≡ true → (c : ℕ) → Contains (chars (cow_str_bytes title.text)) c → Contains (flat_map chars (trusted_texts groups)) c
+title-trusted : (groups : List Group) (g : Group) (title : Title) → slice_get groups 0 ≡ Some g → g.title ≡ Some title → title.allows_styling ≡ true → (c : ℕ)
+    → Contains (chars (cow_str_bytes title.text)) c → Contains (flat_map chars (trusted_texts groups)) c
 title-trusted [] g title first titled styled c is = cc
 title-trusted (h ∷ groups) g title first titled styled c is =
     subst (λ (ts : List (List ℕ)). Contains (flat_map chars ts) c) (sym all) (Contains-append_left (chars text) (flat_map chars more) c is)
@@ -183,17 +188,20 @@ rows-shown r g title rows are drawable =
     }
 
 -- a text that prints the one grid
-prints-first : (sheet : Stylesheet) (grid : GroupGrid) (level : LevelInner) (text : List ℕ) → grid.level ≡ level → PrintsGrids sheet (grid ∷ []) text → Prints sheet level grid.buffer text
+prints-first : (sheet : Stylesheet) (grid : GroupGrid) (level : LevelInner) (text : List ℕ) → grid.level ≡ level → PrintsGrids sheet (grid ∷ []) text
+    → Prints sheet level grid.buffer text
 prints-first sheet grid level text leveled prints = of_parts prints.parts prints.printed prints.joined
   where
-    of_parts : (parts : List (List ℕ)) → AllZip (λ (d : GroupGrid) part. Prints sheet d.level d.buffer part) (grid ∷ []) parts → text ≡ join_with_byte 10 parts → Prints sheet level grid.buffer text
+    of_parts : (parts : List (List ℕ)) → AllZip (λ (d : GroupGrid) part. Prints sheet d.level d.buffer part) (grid ∷ []) parts → text ≡ join_with_byte 10 parts
+        → Prints sheet level grid.buffer text
     of_parts [] printed joined = absurd printed
     of_parts (part ∷ []) printed joined =
         subst (λ l. Prints sheet l grid.buffer text) leveled (subst (Prints sheet grid.level grid.buffer) (sym joined) printed.0)
     of_parts (part ∷ next ∷ parts) printed joined = absurd printed.1
 
 -- the texts that print the one grid of a report's short form show it
-pub short-shown : (r : Renderer) (groups : List Group) (grids : List GroupGrid) (sheets : List Stylesheet) (texts : List (List ℕ)) → All IsGroupDrawable groups → IsShortPage r groups grids → AllZip (λ sheet text. PrintsGrids sheet grids text) sheets texts → ShortShown r groups sheets texts
+pub short-shown : (r : Renderer) (groups : List Group) (grids : List GroupGrid) (sheets : List Stylesheet) (texts : List (List ℕ)) → All IsGroupDrawable groups
+    → IsShortPage r groups grids → AllZip (λ sheet text. PrintsGrids sheet grids text) sheets texts → ShortShown r groups sheets texts
 short-shown r groups grids sheets texts drawable page prints =
     let g : Group = page.group in
     let title : Title = page.title in

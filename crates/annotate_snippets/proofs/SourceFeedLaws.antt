@@ -1,5 +1,6 @@
 -- A source row is a line of the text: it holds no line feed, whatever its source is, and whether it is cut or not.
-use Rattle.std.proofs.Common.{◌≡◌, ℕ, zero, suc, ◌+◌, ◌-◌, ◌<◌, ◌≤◌, ◌==◌, Bool, true, false, cond, Option, None, Some, List, [], ◌∷◌, ◌++◌, All, codes, length, take, drop, get_or, replicate, refl, sym, ap, subst, ◌∙◌, arith, inl, inr}
+use Rattle.std.proofs.Common.{◌≡◌, ℕ, zero, suc, ◌+◌, ◌-◌, ◌<◌, ◌≤◌, ◌==◌, Bool, true, false, cond, Option, None, Some, List, [], ◌∷◌, ◌++◌, All, codes, length}
+use Rattle.std.proofs.Common.{take, drop, get_or, replicate, refl, sym, ap, subst, ◌∙◌, arith, inl, inr}
 use Rattle.std.specs.Cow.{cow_str_bytes}
 use Rattle.std.specs.Fmt.{decimal}
 use Rattle.std.proofs.lemmas.Bool.{cases_lt}
@@ -14,7 +15,8 @@ use Rattle.snippet_style.specs.declared.role.ElementStyle.TheVariants.{LineNumbe
 use Rattle.snippet_text.specs.Normalized.{norm}
 use Rattle.snippet_titles.proofs.DigitLemmas.{IsDigit, decimal-all}
 use Rattle.snippet_view.specs.Margin.{Bounds}
-use Rattle.snippet_view.specs.Window.{AreReplaced, IsReplaced, begun_with, chars_at, covered_columns, covered_end, ended_with, inner_part, reaching, uncovered_part, window}
+use Rattle.snippet_view.specs.Window.{AreReplaced, IsReplaced, begun_with, chars_at, covered_columns, covered_end, ended_with, inner_part, reaching}
+use Rattle.snippet_view.specs.Window.{uncovered_part, window}
 use Rattle.snippet_lines.specs.Number.{shown_number}
 use Rattle.snippet_lines.specs.declared.number.LineNumbers.{LineNumbers}
 use Rattle.snippet_lines.specs.declared.number.LineNumbers.TheVariants.{Anonymized, Hidden, Shown}
@@ -43,7 +45,8 @@ written_plain xs at new plain own =
     let before : All IsNoFeed (take at (xs ++ blanks)) = All-take IsNoFeed at (xs ++ blanks) (All-append IsNoFeed xs blanks plain (All-replicate IsNoFeed (at - length xs) 32 refl)) in
     All-append IsNoFeed (take at (xs ++ blanks) ++ new) (drop (at + length new) xs) (All-append IsNoFeed (take at (xs ++ blanks)) new before own) (All-drop IsNoFeed (at + length new) xs plain)
 
-begun_plain : (placeholder : List ℕ) (columns : Option ℕ) (text : List ℕ) → All IsNoFeed placeholder → All IsNoFeed text → All IsNoFeed (begun_with placeholder columns text)
+begun_plain : (placeholder : List ℕ) (columns : Option ℕ) (text : List ℕ) → All IsNoFeed placeholder → All IsNoFeed text
+    → All IsNoFeed (begun_with placeholder columns text)
 begun_plain placeholder None text own plain = plain
 begun_plain placeholder (Some columns) text own plain =
     either (length text == 0) placeholder (written 32 placeholder columns text) own (written_plain placeholder columns text own plain)
@@ -52,7 +55,8 @@ begun_plain placeholder (Some columns) text own plain =
     either true xs ys one other = one
     either false xs ys one other = other
 
-ended_plain : (placeholder : List ℕ) (at : Option ℕ) (text : List ℕ) → All IsNoFeed placeholder → All IsNoFeed text → All IsNoFeed (ended_with placeholder at text)
+ended_plain : (placeholder : List ℕ) (at : Option ℕ) (text : List ℕ) → All IsNoFeed placeholder → All IsNoFeed text
+    → All IsNoFeed (ended_with placeholder at text)
 ended_plain placeholder None text own plain = plain
 ended_plain placeholder (Some at) text own plain = written_plain text at placeholder plain own
 
@@ -65,14 +69,16 @@ uncovered_plain left placeholder inner plain =
     either false xs ys one other = other
 
 -- the window of a text that holds no line feed holds none
-pub window_plain : (placeholder : List ℕ) (room left right : ℕ) (text : List ℕ) → All IsNoFeed placeholder → All IsNoFeed text → All IsNoFeed (window placeholder room left right text)
+pub window_plain : (placeholder : List ℕ) (room left right : ℕ) (text : List ℕ) → All IsNoFeed placeholder → All IsNoFeed text
+    → All IsNoFeed (window placeholder room left right text)
 window_plain placeholder room left right text own plain =
     let inner : List ℕ = inner_part room left right text in
     let kept : All IsNoFeed inner = All-take IsNoFeed _ _ (All-drop IsNoFeed _ text plain) in
     ended_plain placeholder (covered_end room left right placeholder text) _ own (begun_plain placeholder (covered_columns left placeholder inner) _ own (uncovered_plain left placeholder inner kept))
 
 -- and neither does one of which stretches gave their place to a placeholder
-pub replaced_plain : (placeholder : List ℕ) (n : ℕ) (before after : List ℕ) → All IsNoFeed placeholder → AreReplaced placeholder n before after → All IsNoFeed before → All IsNoFeed after
+pub replaced_plain : (placeholder : List ℕ) (n : ℕ) (before after : List ℕ) → All IsNoFeed placeholder → AreReplaced placeholder n before after
+    → All IsNoFeed before → All IsNoFeed after
 replaced_plain placeholder zero before after own is plain = subst (All IsNoFeed) (sym is) plain
 replaced_plain placeholder (suc n) before after own (inl same) plain = subst (All IsNoFeed) (sym same) plain
 replaced_plain placeholder (suc n) before after own (inr replaced) plain =
@@ -125,7 +131,8 @@ code_plain code row plain c right within =
 
 -- a source row holds no line feed where the characters of its line hold none, and that is so where stretches gave their place to a
 -- placeholder too
-pub source_one_line : (r : Renderer) (frame : Layout) (s : Snippet Annotation) (k dropped : ℕ) (row : List Cell) → ShowsSourceLine r frame s k dropped row → All IsNoFeed (chars_at (cow_str_bytes s.source) k) → HasNoFeed row
+pub source_one_line : (r : Renderer) (frame : Layout) (s : Snippet Annotation) (k dropped : ℕ) (row : List Cell) → ShowsSourceLine r frame s k dropped row
+    → All IsNoFeed (chars_at (cow_str_bytes s.source) k) → HasNoFeed row
 source_one_line r frame s k dropped row shows plain =
     let placeholder : List ℕ = placeholder_of frame.decor in
     let room : ℕ = room_of r frame in

@@ -1,5 +1,6 @@
 -- Beside the rows of a snippet's lines stand the bars of its spans.
-use Rattle.std.proofs.Common.{◌≡◌, ℕ, zero, suc, ◌+◌, ◌-◌, ◌<◌, ◌≤◌, ◌==◌, ◌&&◌, Bool, true, false, not, cond, leb, take, replicate, ◌≢◌, List, [], ◌∷◌, ◌++◌, ◌⊎◌, fold, map, length, get_or, inl, inr, refl, sym, ap, subst, ◌∙◌, arith}
+use Rattle.std.proofs.Common.{◌≡◌, ℕ, zero, suc, ◌+◌, ◌-◌, ◌<◌, ◌≤◌, ◌==◌, ◌&&◌, Bool, true, false, not, cond, leb, take, replicate, ◌≢◌, List, [], ◌∷◌, ◌++◌}
+use Rattle.std.proofs.Common.{◌⊎◌, fold, map, length, get_or, inl, inr, refl, sym, ap, subst, ◌∙◌, arith}
 use Rattle.std.specs.List.{All, Contains, filter}
 use Rattle.std.specs.Cow.{cow_str_bytes}
 use Rattle.std.proofs.lemmas.Bool.{le-leb, and_from}
@@ -36,12 +37,14 @@ use Rattle.annotate_snippets.specs.declared.renderer.Renderer.{Renderer}
 use Rattle.snippet_grid.specs.Layout.{Layout}
 use Rattle.annotate_snippets.specs.Gutter.{code_after, number_text}
 use Rattle.annotate_snippets.specs.LineRows.{AreRowsDrawn, IsRowDrawn, bars_on, entries_on, open_after}
-use Rattle.annotate_snippets.specs.Page.{Elision, IsAscending, NamedRow, OfferedLine, Other, RemovedLine, RowName, SourceRow, lines_named, rows_below, shows_lines}
+use Rattle.annotate_snippets.specs.Page.{Elision, IsAscending, NamedRow, OfferedLine, Other, RemovedLine, RowName, SourceRow, lines_named, rows_below}
+use Rattle.annotate_snippets.specs.Page.{shows_lines}
 use Rattle.annotate_snippets.specs.Shown.{AreRowsOf, IsRowOf, cells_left}
 use Rattle.annotate_snippets.specs.SpanBars.{ShowsBars, bar_beside, bar_cell_of, line_beside}
 use Rattle.annotate_snippets.proofs.DrawnLines.{bar_shown, bars_seen}
 use Rattle.annotate_snippets.proofs.LabelLemmas.{head_same, tail_same}
-use Rattle.annotate_snippets.proofs.SpanOpen.{AreOpen, IsFreeAt, alone, ends_apart, open_apart, end_here, goes_past, longer, no_end, no_start, none_open, one_place, open_lower, open_next, own_on_line, start_here}
+use Rattle.annotate_snippets.proofs.SpanOpen.{AreOpen, IsFreeAt, alone, ends_apart, open_apart, end_here, goes_past, longer, no_end, no_start, none_open}
+use Rattle.annotate_snippets.proofs.SpanOpen.{one_place, open_lower, open_next, own_on_line, start_here}
 use Rattle.annotate_snippets.proofs.SpanPlaces.{bar_by_place, bar_given, bytes_same, marks, source}
 
 -- ---- the lines that are left
@@ -103,7 +106,8 @@ from_start above (OfferedLine j) = refl
 from_start above (RemovedLine i) = refl
 from_start above Other = refl
 
-from_later : (n : ℕ) (first : RowName) (cells : List Cell) (above : List NamedRow) (name : RowName) → line_from n (record { name = first; cells = cells } ∷ above) name ≡ line_from (next_line n first) above name
+from_later : (n : ℕ) (first : RowName) (cells : List Cell) (above : List NamedRow) (name : RowName)
+    → line_from n (record { name = first; cells = cells } ∷ above) name ≡ line_from (next_line n first) above name
 from_later n (SourceRow k) cells above name = refl
 from_later n Elision cells above name = refl
 from_later n (OfferedLine j) cells above name = refl
@@ -117,7 +121,8 @@ get_or_any (z ∷ xs) zero x y within = refl
 get_or_any (z ∷ xs) (suc i) x y within = get_or_any xs i x y (omega (arith, within))
 
 -- what stands in the gutter beside a line is no wider than the gutter
-short_number : (decor : DecorStyle) (gutter : ℕ) (shown : List ℕ) (row : List Cell) → take (gutter + 2) row ≡ cells_left decor gutter shown → length shown ≤ gutter + 1
+short_number : (decor : DecorStyle) (gutter : ℕ) (shown : List ℕ) (row : List Cell) → take (gutter + 2) row ≡ cells_left decor gutter shown
+    → length shown ≤ gutter + 1
 short_number decor gutter shown row same =
     let spaces : List Cell = replicate (gutter + 1 - length shown) SPACE in
     let separator : List Cell = text_cells LineNumber (separator_of decor ∷ []) in
@@ -141,11 +146,13 @@ module _ (r : Renderer) (frame : Layout) (closes : Bool) (s : Snippet Annotation
   -- a row beside line k has the bars of the spans that begin above it and end below
   abbrev HasBars : RowName → ℕ → List Cell → Type 0
   HasBars name k cells =
-      (a : Annotation) → Contains (marks s) a → is_long (cow_str_bytes s.source) a ≡ true → first_line (cow_str_bytes s.source) a < k → k < last_line (cow_str_bytes s.source) a
+      (a : Annotation) → Contains (marks s) a → is_long (cow_str_bytes s.source) a ≡ true → first_line (cow_str_bytes s.source) a < k
+      → k < last_line (cow_str_bytes s.source) a
       → get_or cells (bar_cell_of frame s a) SPACE ≡ bar_beside frame name (bar_by_place s a)
 
   -- so has each row of a line that is drawn
-  line_bars : (open_bars : List Bar) (k : ℕ) (row : List Cell) (rows : List NamedRow) → IsRowDrawn r frame closes s open_bars (SourceRow k) row rows → Open k open_bars → All (HasBars Other k) (row ∷ rows_below rows)
+  line_bars : (open_bars : List Bar) (k : ℕ) (row : List Cell) (rows : List NamedRow) → IsRowDrawn r frame closes s open_bars (SourceRow k) row rows
+      → Open k open_bars → All (HasBars Other k) (row ∷ rows_below rows)
   line_bars open_bars k row rows drawn are_open i d within a among long above below =
       let all : List (List Cell) = row ∷ rows_below rows in
       let bar : Bar = bar_by_place s a in
@@ -155,7 +162,8 @@ module _ (r : Renderer) (frame : Layout) (closes : Bool) (s : Snippet Annotation
       ap (λ (cells : List Cell). get_or cells (bar_cell_of frame s a) SPACE) (get_or_any all i d [] within) ∙ bar_shown r frame (closes && length (rows_below rows) == length rows) s open_bars k all drawn bar past only i within
 
   -- and a row in place of lines
-  elision_bars : (open_bars : List Bar) (n : ℕ) (row : List Cell) (rows : List NamedRow) → IsRowDrawn r frame closes s open_bars Elision row rows → Open n open_bars → HasBars Elision n row
+  elision_bars : (open_bars : List Bar) (n : ℕ) (row : List Cell) (rows : List NamedRow) → IsRowDrawn r frame closes s open_bars Elision row rows
+      → Open n open_bars → HasBars Elision n row
   elision_bars open_bars n row rows drawn are_open a among long above below =
       let layout = frame in
       let bar : Bar = bar_by_place s a in
@@ -166,10 +174,12 @@ module _ (r : Renderer) (frame : Layout) (closes : Bool) (s : Snippet Annotation
   -- a cell of bars is a space that has the depth of no span which touches line k
   abbrev HasSpaces : ℕ → List Cell → Type 0
   HasSpaces k cells =
-      (depth : ℕ) → 0 < depth → frame.gutter + 2 + depth < frame.code → IsFreeAt (source s) (marks s) spans k depth → get_or cells (frame.gutter + 2 + depth) SPACE ≡ SPACE
+      (depth : ℕ) → 0 < depth → frame.gutter + 2 + depth < frame.code → IsFreeAt (source s) (marks s) spans k depth
+      → get_or cells (frame.gutter + 2 + depth) SPACE ≡ SPACE
 
   -- in the row that shows a line alone spaces stand in the cells of bars
-  line_blank : (open_bars : List Bar) (k : ℕ) (row : List Cell) (rows : List NamedRow) → IsRowOf r frame closes s (SourceRow k) row rows → (line : IsRowDrawn r frame closes s open_bars (SourceRow k) row rows) → (depth : ℕ) → 0 < depth → frame.gutter + 2 + depth < frame.code
+  line_blank : (open_bars : List Bar) (k : ℕ) (row : List Cell) (rows : List NamedRow) → IsRowOf r frame closes s (SourceRow k) row rows
+      → (line : IsRowDrawn r frame closes s open_bars (SourceRow k) row rows) → (depth : ℕ) → 0 < depth → frame.gutter + 2 + depth < frame.code
       → get_or line.highlighted (frame.gutter + 2 + depth) SPACE ≡ SPACE
   line_blank open_bars k row rows shows line depth some within =
       let cell : ℕ = frame.gutter + 2 + depth in
@@ -177,7 +187,8 @@ module _ (r : Renderer) (frame : Layout) (closes : Bool) (s : Snippet Annotation
       highlighted_left frame.code line.dropped (filter (λ e. not (is_end_part e.annotation_type)) line.entries) line.plain line.highlighted line.highlights cell within ∙ line.shows.blank cell (omega (arith, short)) (λ same. omega (arith, same)) within
 
   -- so do they in a line's source row
-  line_spaces : (open_bars : List Bar) (k : ℕ) (row : List Cell) (rows : List NamedRow) → IsRowOf r frame closes s (SourceRow k) row rows → IsRowDrawn r frame closes s open_bars (SourceRow k) row rows → Open k open_bars → HasSpaces k row
+  line_spaces : (open_bars : List Bar) (k : ℕ) (row : List Cell) (rows : List NamedRow) → IsRowOf r frame closes s (SourceRow k) row rows
+      → IsRowDrawn r frame closes s open_bars (SourceRow k) row rows → Open k open_bars → HasSpaces k row
   line_spaces open_bars k row rows shows line are_open depth some within free =
       let ends : All (λ (b : Bar). b.depth ≢ depth) (ends_of_bars line.entries) = subst (All (λ (b : Bar). b.depth ≢ depth)) (sym (bars_seen s k line.entries line.are)) (ends_apart (source s) (marks s) spans k depth free) in
       let others = open_apart (source s) (marks s) spans k depth open_bars are_open free in
@@ -187,9 +198,11 @@ module _ (r : Renderer) (frame : Layout) (closes : Bool) (s : Snippet Annotation
   -- and in none of its rows a bar stands there
   abbrev HasNoOthers : ℕ → List Cell → Type 0
   HasNoOthers k cells =
-      (depth : ℕ) → 0 < depth → frame.gutter + 2 + depth < frame.code → IsFreeAt (source s) (marks s) spans k depth → IsNoBar frame.decor (get_or cells (frame.gutter + 2 + depth) SPACE)
+      (depth : ℕ) → 0 < depth → frame.gutter + 2 + depth < frame.code → IsFreeAt (source s) (marks s) spans k depth
+      → IsNoBar frame.decor (get_or cells (frame.gutter + 2 + depth) SPACE)
 
-  line_others : (open_bars : List Bar) (k : ℕ) (row : List Cell) (rows : List NamedRow) → IsRowOf r frame closes s (SourceRow k) row rows → IsRowDrawn r frame closes s open_bars (SourceRow k) row rows → Open k open_bars → All (HasNoOthers k) (row ∷ rows_below rows)
+  line_others : (open_bars : List Bar) (k : ℕ) (row : List Cell) (rows : List NamedRow) → IsRowOf r frame closes s (SourceRow k) row rows
+      → IsRowDrawn r frame closes s open_bars (SourceRow k) row rows → Open k open_bars → All (HasNoOthers k) (row ∷ rows_below rows)
   line_others open_bars k row rows shows line are_open i d inside depth some within free =
       let all : List (List Cell) = row ∷ rows_below rows in
       let ends : All (λ (b : Bar). b.depth ≢ depth) (ends_of_bars line.entries) = subst (All (λ (b : Bar). b.depth ≢ depth)) (sym (bars_seen s k line.entries line.are)) (ends_apart (source s) (marks s) spans k depth free) in
@@ -199,7 +212,8 @@ module _ (r : Renderer) (frame : Layout) (closes : Bool) (s : Snippet Annotation
       subst (λ (cells : List Cell). IsNoBar frame.decor (get_or cells (frame.gutter + 2 + depth) SPACE)) (get_or_any all i [] d inside) clear
 
   -- and in a row in place of lines
-  elision_spaces : (open_bars : List Bar) (n : ℕ) (row : List Cell) (rows : List NamedRow) → IsRowDrawn r frame closes s open_bars Elision row rows → Open n open_bars → HasSpaces n row
+  elision_spaces : (open_bars : List Bar) (n : ℕ) (row : List Cell) (rows : List NamedRow) → IsRowDrawn r frame closes s open_bars Elision row rows
+      → Open n open_bars → HasSpaces n row
   elision_spaces open_bars n row rows drawn are_open depth some within free =
       ap (λ (cells : List Cell). get_or cells (frame.gutter + 2 + depth) SPACE) drawn.0 ∙ gap_space frame depth within open_bars (open_apart (source s) (marks s) spans n depth open_bars are_open free) some
 
@@ -215,12 +229,14 @@ module _ (r : Renderer) (frame : Layout) (closes : Bool) (s : Snippet Annotation
     drawn : AreRowsDrawn r frame closes s open_bars rows
     are_open : Open n open_bars
     lines : Climbs n (lines_named rows)
-    ends : (a : Annotation) → Contains (marks s) a → is_long (cow_str_bytes s.source) a ≡ true → IsPast n (lines_named rows) (first_line (cow_str_bytes s.source) a) × IsPast n (lines_named rows) (last_line (cow_str_bytes s.source) a)
+    ends : (a : Annotation) → Contains (marks s) a → is_long (cow_str_bytes s.source) a ≡ true
+        → IsPast n (lines_named rows) (first_line (cow_str_bytes s.source) a) × IsPast n (lines_named rows) (last_line (cow_str_bytes s.source) a)
     below : All (HasBars Other (n - 1)) (rows_below rows)
     others : All (HasNoOthers (n - 1)) (rows_below rows)
 
   -- a row has its bars, and the same is known below it
-  one_row : (open_bars : List Bar) (n : ℕ) (name : RowName) (cells : List Cell) (rows : List NamedRow) → IsReady open_bars n (record { name = name; cells = cells } ∷ rows)
+  one_row : (open_bars : List Bar) (n : ℕ) (name : RowName) (cells : List Cell) (rows : List NamedRow)
+      → IsReady open_bars n (record { name = name; cells = cells } ∷ rows)
       → IsShown name (here_line n name) cells × IsReady (open_after s name open_bars) (next_line n name) rows
   one_row open_bars n (SourceRow k) cells rows ready =
       let ks : List ℕ = lines_named rows in
@@ -277,7 +293,8 @@ module _ (r : Renderer) (frame : Layout) (closes : Bool) (s : Snippet Annotation
     },
   )
 
-  all_rows : (open_bars : List Bar) (n : ℕ) (rows : List NamedRow) → IsReady open_bars n rows → (above : List NamedRow) (row : NamedRow) (below : List NamedRow) → rows ≡ above ++ row ∷ below → IsShown row.name (line_from n above row.name) row.cells
+  all_rows : (open_bars : List Bar) (n : ℕ) (rows : List NamedRow) → IsReady open_bars n rows → (above : List NamedRow) (row : NamedRow) (below : List NamedRow)
+      → rows ≡ above ++ row ∷ below → IsShown row.name (line_from n above row.name) row.cells
   all_rows open_bars n [] ready [] row below is = cc
   all_rows open_bars n [] ready (x ∷ above) row below is = cc
   all_rows open_bars n (x ∷ rows) ready [] row below is =
@@ -294,7 +311,8 @@ module _ (r : Renderer) (frame : Layout) (closes : Bool) (s : Snippet Annotation
     bars : List Bar
     drawn : IsRowDrawn r frame closes s bars row.name row.cells below
 
-  row_known : (open_bars : List Bar) (rows : List NamedRow) → AreRowsOf r frame closes s rows → AreRowsDrawn r frame closes s open_bars rows → (above : List NamedRow) (row : NamedRow) (below : List NamedRow) → rows ≡ above ++ row ∷ below → IsKnown row below
+  row_known : (open_bars : List Bar) (rows : List NamedRow) → AreRowsOf r frame closes s rows → AreRowsDrawn r frame closes s open_bars rows
+      → (above : List NamedRow) (row : NamedRow) (below : List NamedRow) → rows ≡ above ++ row ∷ below → IsKnown row below
   row_known open_bars [] named drawn [] row below is = cc
   row_known open_bars [] named drawn (y ∷ above) row below is = cc
   row_known open_bars (x ∷ rows) named drawn [] row below is =
@@ -304,7 +322,8 @@ module _ (r : Renderer) (frame : Layout) (closes : Bool) (s : Snippet Annotation
       row_known (open_after s x.name open_bars) rows named.1 drawn.1 above row below (tail_same x y rows (above ++ row ∷ below) is)
 
   -- it is the same for a row of this name
-  renamed : (name : RowName) (row : NamedRow) (below : List NamedRow) → row.name ≡ name → IsKnown row below → IsKnown (record { name = name; cells = row.cells }) below
+  renamed : (name : RowName) (row : NamedRow) (below : List NamedRow) → row.name ≡ name → IsKnown row below
+      → IsKnown (record { name = name; cells = row.cells }) below
   renamed name row below is known =
       record { named = subst (λ n. IsRowOf r frame closes s n row.cells below) is known.named; bars = known.bars; drawn = subst (λ n. IsRowDrawn r frame closes s known.bars n row.cells below) is known.drawn }
 
@@ -313,13 +332,15 @@ module _ (r : Renderer) (frame : Layout) (closes : Bool) (s : Snippet Annotation
     bar = bar_by_place s a
 
     -- no entry of line k stands for this part of a span, where none of those of its spans does
-    none_there : (k : ℕ) (part : LineAnnotationType) (es : List LineAnnotation) → map seen_part es ≡ entries_on s k → ((p : PartEntry) → Among (entries_on s k) p → p.part ≡ part → ⊥) → All (λ (e : LineAnnotation). e.annotation_type ≡ part → ⊥) es
+    none_there : (k : ℕ) (part : LineAnnotationType) (es : List LineAnnotation) → map seen_part es ≡ entries_on s k
+        → ((p : PartEntry) → Among (entries_on s k) p → p.part ≡ part → ⊥) → All (λ (e : LineAnnotation). e.annotation_type ≡ part → ⊥) es
     none_there k part es are none =
         let P : PartEntry → Type 0 = λ p. p.part ≡ part → ⊥ in
         All-unmapped P seen_part es (subst (All P) (sym are) (all_from_among P (entries_on s k) none))
 
     -- the bar begins in the rows of the span's first line
-    line_begins : (open_bars : List Bar) (k : ℕ) (row : List Cell) (rows : List NamedRow) → IsRowOf r frame closes s (SourceRow k) row rows → IsRowDrawn r frame closes s open_bars (SourceRow k) row rows
+    line_begins : (open_bars : List Bar) (k : ℕ) (row : List Cell) (rows : List NamedRow) → IsRowOf r frame closes s (SourceRow k) row rows
+        → IsRowDrawn r frame closes s open_bars (SourceRow k) row rows
         → first_line (cow_str_bytes s.source) a ≡ k → BarBegins frame bar (row ∷ rows_below rows)
     line_begins open_bars k row rows shows line here =
         let ends : bars_on s k ≡ ends_of_bars line.entries = sym (bars_seen s k line.entries line.are) in
@@ -330,7 +351,8 @@ module _ (r : Renderer) (frame : Layout) (closes : Bool) (s : Snippet Annotation
         begins frame bar room line.entries own only line.margin.term_width (closes && length (rows_below rows) == length rows) line.text line.dropped open_bars line.highlighted (row ∷ rows_below rows) line.drawn none blank
 
     -- and ends in those of the last
-    line_ends : (open_bars : List Bar) (k : ℕ) (row : List Cell) (rows : List NamedRow) → IsRowDrawn r frame closes s open_bars (SourceRow k) row rows → last_line (cow_str_bytes s.source) a ≡ k → BarEnds frame bar (row ∷ rows_below rows)
+    line_ends : (open_bars : List Bar) (k : ℕ) (row : List Cell) (rows : List NamedRow) → IsRowDrawn r frame closes s open_bars (SourceRow k) row rows
+        → last_line (cow_str_bytes s.source) a ≡ k → BarEnds frame bar (row ∷ rows_below rows)
     line_ends open_bars k row rows line here =
         let ends : bars_on s k ≡ ends_of_bars line.entries = sym (bars_seen s k line.entries line.are) in
         let own : Contains (ends_of_bars line.entries) bar = subst (λ bs. Contains bs bar) ends (among_contains (bars_on s k) bar (end_here (source s) (marks s) k a among long here)) in
@@ -339,7 +361,8 @@ module _ (r : Renderer) (frame : Layout) (closes : Bool) (s : Snippet Annotation
         bar_ends frame bar room line.entries own only line.margin.term_width (closes && length (rows_below rows) == length rows) line.text line.dropped open_bars line.highlighted (row ∷ rows_below rows) line.drawn none
 
   -- so the rows of a snippet's lines show the bars of its spans
-  pub bars_shown : (rows : List NamedRow) → AreRowsOf r frame closes s rows → AreRowsDrawn r frame closes s [] rows → rows_below rows ≡ [] → IsAscending (lines_named rows)
+  pub bars_shown : (rows : List NamedRow) → AreRowsOf r frame closes s rows → AreRowsDrawn r frame closes s [] rows → rows_below rows ≡ []
+      → IsAscending (lines_named rows)
       → All (λ a. Contains (lines_named rows) (first_line (cow_str_bytes s.source) a) × Contains (lines_named rows) (last_line (cow_str_bytes s.source) a)) (marks s)
       → code_after frame.gutter (deepest (source s) (marks s)) ≤ frame.code → ShowsBars r frame s rows
   bars_shown rows named drawn none_above ascends ends room =
@@ -387,7 +410,8 @@ module _ (r : Renderer) (frame : Layout) (closes : Bool) (s : Snippet Annotation
           let touched : touches text a k ≡ true = and_from (leb (first_line text a) k) (leb k (last_line text a)) up down in
           All-contains (λ a. is_long text a ≡ true → touches text a k ≡ true → bar_cell_of frame s a ≢ c) (marks s) a free among long touched (omega (arith, same, from))
 
-      inside : (depth : ℕ) → 0 < depth → depth ≤ deepest (source s) (marks s) → (frame.gutter + 3 ≤ frame.gutter + 2 + depth) × (frame.gutter + 2 + depth + 1 < frame.code)
+      inside : (depth : ℕ) → 0 < depth → depth ≤ deepest (source s) (marks s)
+          → (frame.gutter + 3 ≤ frame.gutter + 2 + depth) × (frame.gutter + 2 + depth + 1 < frame.code)
       inside depth some low = (omega (arith, some), omega (arith, some, low, wide (deepest (source s) (marks s)) (omega (arith, some, low)), room))
         where
           wide : (n : ℕ) → 0 < n → code_after frame.gutter n ≡ frame.gutter + 3 + n + 1
@@ -395,7 +419,8 @@ module _ (r : Renderer) (frame : Layout) (closes : Bool) (s : Snippet Annotation
               let other : (n == 0) ≡ false = grind (arith, nat_tests, more) in
               ap (λ b. cond b (frame.gutter + 3) (frame.gutter + 3 + n + 1)) other
 
-      deep : (a : Annotation) → Contains (marks s) a → is_long (cow_str_bytes s.source) a ≡ true → frame.gutter + 2 + depth_of (source s) (marks s) a < frame.code
+      deep : (a : Annotation) → Contains (marks s) a → is_long (cow_str_bytes s.source) a ≡ true
+          → frame.gutter + 2 + depth_of (source s) (marks s) a < frame.code
       deep a among long =
           let depth = depth-within (source s) (marks s) a among long in
           omega (arith, (inside (depth_of (source s) (marks s) a) depth.0 depth.1).1)

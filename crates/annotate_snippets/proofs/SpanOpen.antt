@@ -1,5 +1,6 @@
 -- Which bars are open above a line: those of the spans of several lines that begin above it and don't end above it.
-use Rattle.std.proofs.Common.{◌≡◌, ◌≢◌, ℕ, ◌+◌, ◌<◌, ◌≤◌, ◌==◌, Bool, true, false, not, leb, Option, Some, None, List, [], ◌⊎◌, map, inl, inr, refl, sym, ap, ◌∙◌, arith}
+use Rattle.std.proofs.Common.{◌≡◌, ◌≢◌, ℕ, ◌+◌, ◌<◌, ◌≤◌, ◌==◌, Bool, true, false, not, leb, Option, Some, None, List, [], ◌⊎◌, map, inl, inr, refl, sym, ap}
+use Rattle.std.proofs.Common.{◌∙◌, arith}
 use Rattle.std.specs.List.{All, Contains, filter, filter_map}
 use Rattle.std.proofs.lemmas.Bool.{and_from, and_parts, cases_eq, cases_lt, eq-eqb, eqb-true, false_from_ne_true, le-leb, not-true, both_ways}
 use Rattle.std.proofs.lemmas.List.Elements.{All-contains}
@@ -9,11 +10,13 @@ use Rattle.snippet_lines.specs.Lines.{Source}
 use Rattle.snippet_lines.specs.Span.{IsSpan}
 use Rattle.snippet_view.specs.declared.depths.LongExtent.{LongExtent}
 use Rattle.snippet_view.specs.declared.entries.LineAnnotationType.TheVariants.{MultilineEnd, MultilineStart}
-use Rattle.snippet_view.specs.Annotated.{PartEntry, depth_of, end_part, is_long, is_short, long_entry, long_parts, long_place, long_places, long_spans, made_parts, parts_on, single_part, stands_before, start_part}
+use Rattle.snippet_view.specs.Annotated.{PartEntry, depth_of, end_part, is_long, is_short, long_entry, long_parts, long_place, long_places, long_spans}
+use Rattle.snippet_view.specs.Annotated.{made_parts, parts_on, single_part, stands_before, start_part}
 use Rattle.snippet_view.specs.Depths.{depth_among}
 use Rattle.snippet_view.specs.Mark.{is_marking, is_single_line}
 use Rattle.snippet_view.specs.Marked.{Entry, first_line, last_line}
-use Rattle.snippet_view.proofs.AmongLemmas.{Among, among_filter, among_filter_map, among_in_order, among_left, among_map, among_right, any_among, any_cases, append_cases, filter_cases, in_order_cases, map_cases}
+use Rattle.snippet_view.proofs.AmongLemmas.{Among, among_filter, among_filter_map, among_in_order, among_left, among_map, among_right, any_among, any_cases}
+use Rattle.snippet_view.proofs.AmongLemmas.{append_cases, filter_cases, in_order_cases, map_cases}
 use Rattle.snippet_view.proofs.KeptPartLemmas.{lines-ordered}
 use Rattle.snippet_view.proofs.MarkLemmas.{end-line, start-line}
 use Rattle.snippet_view.proofs.ShownLemmas.{annotations-distinct}
@@ -121,12 +124,14 @@ module _ (s : Source) (marks : List Annotation) where
       ends_of s places [] spans_in_order spans_in_order refl (place_in s a) (long_entry s a) ordered refl
 
   -- an entry of a span's place that stands on line k gives its bar
-  gives_bar : (k : ℕ) (p : PartEntry) (place : LongExtent) → Among longs p → p.entry.start.line ≡ s.first + k → has p ≡ Some (bar_at_place s marks place) → Among (bars_of_line s marks k) (bar_at_place s marks place)
+  gives_bar : (k : ℕ) (p : PartEntry) (place : LongExtent) → Among longs p → p.entry.start.line ≡ s.first + k → has p ≡ Some (bar_at_place s marks place)
+      → Among (bars_of_line s marks k) (bar_at_place s marks place)
   gives_bar k p place among line is =
       among_filter_map has (parts_on s marks k) p (bar_at_place s marks place) (among_filter (on_line k) (made_parts s marks) p (among_right singles longs p among) (eq-eqb p.entry.start.line (s.first + k) line)) is
 
   -- where a span begins its bar is one of the line's
-  pub start_here : (k : ℕ) (a : Annotation) → Contains marks a → is_long s.text a ≡ true → first_line s.text a ≡ k → Among (bars_of_line s marks k) (bar_at_place s marks (place_in s a))
+  pub start_here : (k : ℕ) (a : Annotation) → Contains marks a → is_long s.text a ≡ true → first_line s.text a ≡ k
+      → Among (bars_of_line s marks k) (bar_at_place s marks (place_in s a))
   start_here k a among long here =
       let place : LongExtent = place_in s a in
       let ends = place_ends a among long in
@@ -136,7 +141,8 @@ module _ (s : Source) (marks : List Annotation) where
       gives_bar k (start_part ends.span depth) place ends.start (omega (arith, line, first, here)) (ap (λ b. Some (record { depth = depth; primary = b })) ends.primary)
 
   -- and where it ends
-  pub end_here : (k : ℕ) (a : Annotation) → Contains marks a → is_long s.text a ≡ true → last_line s.text a ≡ k → Among (bars_of_line s marks k) (bar_at_place s marks (place_in s a))
+  pub end_here : (k : ℕ) (a : Annotation) → Contains marks a → is_long s.text a ≡ true → last_line s.text a ≡ k
+      → Among (bars_of_line s marks k) (bar_at_place s marks (place_in s a))
   end_here k a among long here =
       let place : LongExtent = place_in s a in
       let ends = place_ends a among long in
@@ -147,12 +153,14 @@ module _ (s : Source) (marks : List Annotation) where
 
 -- ---- bars that none of some others closes or has open
 
-apart_cases : (bars others : List Bar) (bar : Bar) → Among (bars_apart bars others) bar → Among bars bar × ((b : Bar) → Among others b → b.depth ≡ bar.depth → ⊥)
+apart_cases : (bars others : List Bar) (bar : Bar) → Among (bars_apart bars others) bar
+    → Among bars bar × ((b : Bar) → Among others b → b.depth ≡ bar.depth → ⊥)
 apart_cases bars others bar here =
     let found = filter_cases (λ (b : Bar). not (has_depth others b.depth)) bars bar here in
     (found.0, λ b among same. both_ways (has_depth others bar.depth) (not-true (has_depth others bar.depth) found.1) (any_among (λ (x : Bar). x.depth == bar.depth) others b among (eq-eqb b.depth bar.depth same)))
 
-among_apart : (bars others : List Bar) (bar : Bar) → Among bars bar → ((b : Bar) → Among others b → b.depth ≡ bar.depth → ⊥) → Among (bars_apart bars others) bar
+among_apart : (bars others : List Bar) (bar : Bar) → Among bars bar → ((b : Bar) → Among others b → b.depth ≡ bar.depth → ⊥)
+    → Among (bars_apart bars others) bar
 among_apart bars others bar here none =
     let no : has_depth others bar.depth ≡ false = false_from_ne_true (has_depth others bar.depth) (λ yes. some (any_cases (λ (x : Bar). x.depth == bar.depth) others yes)) in
     among_filter (λ (b : Bar). not (has_depth others b.depth)) bars bar here (ap not no)
@@ -174,7 +182,8 @@ pub record IsOpenBar (s : Source) (marks : List Annotation) (k : ℕ) (bar : Bar
 -- these are the bars of those spans
 pub record AreOpen (s : Source) (marks : List Annotation) (k : ℕ) (bars : List Bar) : Type 0 where
   pub own : (bar : Bar) → Among bars bar → IsOpenBar s marks k bar
-  pub all : (a : Annotation) → Contains marks a → is_long s.text a ≡ true → first_line s.text a < k → k ≤ last_line s.text a → Among bars (bar_at_place s marks (place_in s a))
+  pub all : (a : Annotation) → Contains marks a → is_long s.text a ≡ true → first_line s.text a < k → k ≤ last_line s.text a
+      → Among bars (bar_at_place s marks (place_in s a))
 
 module _ (s : Source) (marks : List Annotation) (spans : All (λ a. IsSpan s.text a.span.start a.span.end) marks) where
   -- a span of several lines ends below its first line
@@ -189,7 +198,8 @@ module _ (s : Source) (marks : List Annotation) (spans : All (λ a. IsSpan s.tex
 
   -- spans that share a line and have one depth have one place
   pub one_place : (a b : Annotation) → Contains marks a → Contains marks b → is_long s.text a ≡ true → is_long s.text b ≡ true
-      → first_line s.text a ≤ last_line s.text b → first_line s.text b ≤ last_line s.text a → depth_of s marks a ≡ depth_of s marks b → place_in s a ≡ place_in s b
+      → first_line s.text a ≤ last_line s.text b → first_line s.text b ≤ last_line s.text a → depth_of s marks a ≡ depth_of s marks b
+      → place_in s a ≡ place_in s b
   one_place a b among-a among-b long-a long-b from to same =
       let first-a : (place_in s a).first ≡ s.first + first_line s.text a = start-line s a.span.start a.span.end in
       let last-a : (place_in s a).last ≡ s.first + last_line s.text a = end-line s a.span.start a.span.end in
@@ -235,7 +245,8 @@ module _ (s : Source) (marks : List Annotation) (spans : All (λ a. IsSpan s.tex
         ])
 
     -- of the bars of a line no other has the depth of a span's that the line touches
-    pub own_on_line : (a : Annotation) → Contains marks a → is_long s.text a ≡ true → first_line s.text a ≤ k → k ≤ last_line s.text a → HasOwnDepth (bar_at_place s marks (place_in s a)) (bars_of_line s marks k)
+    pub own_on_line : (a : Annotation) → Contains marks a → is_long s.text a ≡ true → first_line s.text a ≤ k → k ≤ last_line s.text a
+        → HasOwnDepth (bar_at_place s marks (place_in s a)) (bars_of_line s marks k)
     own_on_line a among long from to =
         all_from_among (λ (b : Bar). b.depth ≡ depth_of s marks a → b ≡ bar_at_place s marks (place_in s a)) (bars_of_line s marks k) (λ b here same.
         let is = end_bar s marks k b here in
@@ -243,14 +254,16 @@ module _ (s : Source) (marks : List Annotation) (spans : All (λ a. IsSpan s.tex
         let depth : depth_of s marks is.span ≡ depth_of s marks a = sym (ap (λ (x : Bar). x.depth) is.bar_is) ∙ same in
         is.bar_is ∙ ap (bar_at_place s marks) (one_place is.span a is.among among is.long long (touch-from is order) (touch-to is order) depth))
       where
-        touch-from : {b : Bar} (is : IsBarOf s marks k b) → first_line s.text is.span < last_line s.text is.span → first_line s.text is.span ≤ last_line s.text a
+        touch-from : {b : Bar} (is : IsBarOf s marks k b) → first_line s.text is.span < last_line s.text is.span
+            → first_line s.text is.span ≤ last_line s.text a
         touch-from is order = elim is.line [ inl first ↦ omega (arith, first, to) | inr last ↦ omega (arith, last, order, to) ]
 
         touch-to : {b : Bar} (is : IsBarOf s marks k b) → first_line s.text is.span < last_line s.text is.span → first_line s.text a ≤ last_line s.text is.span
         touch-to is order = elim is.line [ inl first ↦ omega (arith, first, order, from) | inr last ↦ omega (arith, last, from) ]
 
     -- where a span begins no end of a span has its depth
-    pub no_end : (a : Annotation) → Contains marks a → is_long s.text a ≡ true → first_line s.text a ≡ k → (p : PartEntry) → Among (parts_on s marks k) p → p.part ≡ MultilineEnd (depth_of s marks a) → ⊥
+    pub no_end : (a : Annotation) → Contains marks a → is_long s.text a ≡ true → first_line s.text a ≡ k → (p : PartEntry) → Among (parts_on s marks k) p
+        → p.part ≡ MultilineEnd (depth_of s marks a) → ⊥
     no_end a among long here p on end =
         let b : Bar = record { depth = depth_of s marks a; primary = is_primary p.entry.kind } in
         let is : IsPartOf s marks k p b = part_bar s marks k p b on (ap (λ t. bar_at t (is_primary p.entry.kind)) end) in
@@ -266,7 +279,8 @@ module _ (s : Source) (marks : List Annotation) (spans : All (λ a. IsSpan s.tex
         two_parts wrong = cc wrong
 
     -- and where it ends no start
-    pub no_start : (a : Annotation) → Contains marks a → is_long s.text a ≡ true → last_line s.text a ≡ k → (p : PartEntry) → Among (parts_on s marks k) p → p.part ≡ MultilineStart (depth_of s marks a) → ⊥
+    pub no_start : (a : Annotation) → Contains marks a → is_long s.text a ≡ true → last_line s.text a ≡ k → (p : PartEntry) → Among (parts_on s marks k) p
+        → p.part ≡ MultilineStart (depth_of s marks a) → ⊥
     no_start a among long here p on start =
         let b : Bar = record { depth = depth_of s marks a; primary = is_primary p.entry.kind } in
         let is : IsPartOf s marks k p b = part_bar s marks k p b on (ap (λ t. bar_at t (is_primary p.entry.kind)) start) in
@@ -310,7 +324,8 @@ module _ (s : Source) (marks : List Annotation) (spans : All (λ a. IsSpan s.tex
     ends = bars_of_line s marks k
 
     -- a bar that is open above the line and ends below it goes on past the line
-    pub goes_past : (a : Annotation) → Contains marks a → is_long s.text a ≡ true → first_line s.text a < k → k < last_line s.text a → Among (bars_apart bars ends) (bar_at_place s marks (place_in s a))
+    pub goes_past : (a : Annotation) → Contains marks a → is_long s.text a ≡ true → first_line s.text a < k → k < last_line s.text a
+        → Among (bars_apart bars ends) (bar_at_place s marks (place_in s a))
     goes_past a among long above below =
         among_apart bars ends (bar_at_place s marks (place_in s a)) (open_bars.all a among long above (omega (arith, below))) (λ b here same. none b (end_bar s marks k b here) same)
       where
@@ -324,7 +339,8 @@ module _ (s : Source) (marks : List Annotation) (spans : All (λ a. IsSpan s.tex
             ]
 
     -- no other bar that is open has its depth
-    pub alone : (a : Annotation) → Contains marks a → is_long s.text a ≡ true → first_line s.text a < k → k ≤ last_line s.text a → HasOwnDepth (bar_at_place s marks (place_in s a)) bars
+    pub alone : (a : Annotation) → Contains marks a → is_long s.text a ≡ true → first_line s.text a < k → k ≤ last_line s.text a
+        → HasOwnDepth (bar_at_place s marks (place_in s a)) bars
     alone a among long above below =
         all_from_among (λ (b : Bar). b.depth ≡ depth_of s marks a → b ≡ bar_at_place s marks (place_in s a)) bars (λ b here same.
         let o = open_bars.own b here in
@@ -372,7 +388,8 @@ module _ (s : Source) (marks : List Annotation) (spans : All (λ a. IsSpan s.tex
               ];
         }
       where
-        begins : (a : Annotation) → Contains marks a → is_long s.text a ≡ true → first_line s.text a ≡ k → Among (bars_apart ends bars) (bar_at_place s marks (place_in s a))
+        begins : (a : Annotation) → Contains marks a → is_long s.text a ≡ true → first_line s.text a ≡ k
+            → Among (bars_apart ends bars) (bar_at_place s marks (place_in s a))
         begins a among long first =
             let order = longer a among long in
             among_apart ends bars (bar_at_place s marks (place_in s a)) (start_here s marks k a among long first) (λ b here same.

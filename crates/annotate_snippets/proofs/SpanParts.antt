@@ -1,5 +1,6 @@
 -- The starts and the ends of spans of several lines, which make their bars.
-use Rattle.std.proofs.Common.{◌≡◌, ℕ, ◌+◌, ◌-◌, Bool, true, false, ◌||◌, ◌&&◌, Option, Some, None, List, [], ◌∷◌, ◌++◌, ◌⊎◌, map, inl, inr, refl, sym, ap, subst, ◌∙◌, append_assoc}
+use Rattle.std.proofs.Common.{◌≡◌, ℕ, ◌+◌, ◌-◌, Bool, true, false, ◌||◌, ◌&&◌, Option, Some, None, List, [], ◌∷◌, ◌++◌, ◌⊎◌, map, inl, inr, refl, sym, ap}
+use Rattle.std.proofs.Common.{subst, ◌∙◌, append_assoc}
 use Rattle.std.specs.List.{list_any}
 use Rattle.std.proofs.lemmas.Bool.{cases_Bool, cond-false, cond-true, cond_both, or_parts}
 use Rattle.std.proofs.lemmas.List.Folds.{list_any-append}
@@ -8,7 +9,8 @@ use Rattle.snippet_model.specs.declared.snippet.AnnotationKind.TheVariants.{Prim
 use Rattle.snippet_lines.specs.Lines.{Source}
 use Rattle.snippet_view.specs.declared.depths.LongExtent.{LongExtent}
 use Rattle.snippet_view.specs.declared.entries.LineAnnotationType.TheVariants.{Singleline, MultilineEnd, MultilineStart}
-use Rattle.snippet_view.specs.Annotated.{PartEntry, bar_lines, bar_part, end_part, is_promoted, long_parts, long_place, promoted, span_parts, stands_among, start_part}
+use Rattle.snippet_view.specs.Annotated.{PartEntry, bar_lines, bar_part, end_part, is_promoted, long_parts, long_place, promoted, span_parts, stands_among}
+use Rattle.snippet_view.specs.Annotated.{start_part}
 use Rattle.snippet_view.specs.Depths.{depth_among, same_place}
 use Rattle.snippet_view.specs.Marked.{Entry}
 use Rattle.snippet_view.proofs.AmongLemmas.{Among, among_left, among_right, any_cases, append_cases, map_cases}
@@ -48,7 +50,8 @@ none_later e (d ∷ later) none =
     neither false b is = is
 
 -- so the last span of a place is drawn as primary where any span of that place is
-kind_drawn : (before : List Entry) (e : Entry) (later : List Entry) → stands_among e later ≡ false → is_primary (promoted before e).kind ≡ is_primary_at (before ++ e ∷ later) (long_place e)
+kind_drawn : (before : List Entry) (e : Entry) (later : List Entry) → stands_among e later ≡ false
+    → is_primary (promoted before e).kind ≡ is_primary_at (before ++ e ∷ later) (long_place e)
 kind_drawn before e later last =
     let place = long_place e in
     let test : Entry → Bool = λ d. is_primary d.kind && same_place place (long_place d) in
@@ -73,7 +76,8 @@ pub record HasEnds (places : List LongExtent) (all : List Entry) (parts : List P
   pub start : Among parts (start_part span (depth_among places place))
   pub end : Among parts (end_part span (MultilineEnd (depth_among places place)))
 
-further : (places : List LongExtent) (all : List Entry) (own parts : List PartEntry) (place : LongExtent) → HasEnds places all parts place → HasEnds places all (own ++ parts) place
+further : (places : List LongExtent) (all : List Entry) (own parts : List PartEntry) (place : LongExtent) → HasEnds places all parts place
+    → HasEnds places all (own ++ parts) place
 further places all own parts place ends =
     record {
       span = ends.span;
@@ -83,7 +87,8 @@ further places all own parts place ends =
       end = among_right own parts (end_part ends.span (MultilineEnd (depth_among places place))) ends.end;
     }
 
-last_ends : (s : Source) (places : List LongExtent) (before : List Entry) (e : Entry) (later : List Entry) (others : List PartEntry) → stands_among e later ≡ false
+last_ends : (s : Source) (places : List LongExtent) (before : List Entry) (e : Entry) (later : List Entry) (others : List PartEntry)
+    → stands_among e later ≡ false
     → HasEnds places (before ++ e ∷ later) (span_parts s (depth_among places (long_place e)) (stands_among e later) (promoted before e) ++ others) (long_place e)
 last_ends s places before e later others last =
     let depth : ℕ = depth_among places (long_place e) in
@@ -100,7 +105,8 @@ last_ends s places before e later others last =
     }
 
 -- a span's place has them
-pub ends_of : (s : Source) (places : List LongExtent) (before later all : List Entry) → all ≡ before ++ later → (place : LongExtent) (e : Entry) → Among later e → long_place e ≡ place → HasEnds places all (long_parts s places before later) place
+pub ends_of : (s : Source) (places : List LongExtent) (before later all : List Entry) → all ≡ before ++ later → (place : LongExtent) (e : Entry) → Among later e
+    → long_place e ≡ place → HasEnds places all (long_parts s places before later) place
 ends_of s places before [] all is place e here at = absurd here
 ends_of s places before (f ∷ later) all is place e (inr among) at =
     further places all (span_parts s (depth_among places (long_place f)) (stands_among f later) (promoted before f)) (long_parts s places (before ++ f ∷ []) later) place (ends_of s places (before ++ f ∷ []) later all (is ∙ sym (append_assoc before (f ∷ []) later)) place e among at)
@@ -147,7 +153,8 @@ module _ (s : Source) (places : List LongExtent) (before : List Entry) (e : Entr
 
   -- where it is the span's own
   is_own : stands_among e later ≡ false → Some (record { depth = depth; primary = is_primary drawn.kind }) ≡ Some bar
-      → ((p.part ≡ MultilineStart depth) × (p.entry.start.line ≡ e.start.line)) ⊎ ((p.part ≡ MultilineEnd depth) × (p.entry.start.line ≡ e.end.line)) → IsEndOf places all (e ∷ later) p bar
+      → ((p.part ≡ MultilineStart depth) × (p.entry.start.line ≡ e.start.line)) ⊎ ((p.part ≡ MultilineEnd depth) × (p.entry.start.line ≡ e.end.line))
+      → IsEndOf places all (e ∷ later) p bar
   is_own last same line =
       let own : record { depth = depth; primary = is_primary drawn.kind } ≡ bar = some_same (record { depth = depth; primary = is_primary drawn.kind }) bar same in
       let deep : depth ≡ bar.depth = ap (λ (b : Bar). b.depth) own in
@@ -195,7 +202,8 @@ module _ (s : Source) (places : List LongExtent) (before : List Entry) (e : Entr
       ]
 
 -- an entry that has a bar is the start or the end of a span
-pub end_of : (s : Source) (places : List LongExtent) (before later all : List Entry) → all ≡ before ++ later → (p : PartEntry) (bar : Bar) → Among (long_parts s places before later) p → bar_at p.part (is_primary p.entry.kind) ≡ Some bar → IsEndOf places all later p bar
+pub end_of : (s : Source) (places : List LongExtent) (before later all : List Entry) → all ≡ before ++ later → (p : PartEntry) (bar : Bar)
+    → Among (long_parts s places before later) p → bar_at p.part (is_primary p.entry.kind) ≡ Some bar → IsEndOf places all later p bar
 end_of s places before [] all is p bar here bar_is = absurd here
 end_of s places before (e ∷ later) all is p bar here bar_is =
     elim (append_cases (span_parts s (depth_among places (long_place e)) (stands_among e later) (promoted before e)) (long_parts s places (before ++ e ∷ []) later) p here) [

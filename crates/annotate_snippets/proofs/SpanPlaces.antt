@@ -57,7 +57,8 @@ primary_marks Context is = cc
 primary_marks Visible is = cc
 
 -- a span of the bytes of one of several lines is of several lines
-long_too : (source : List ℕ) (a b : Annotation) → is_long source a ≡ true → is_marking b.kind ≡ true → b.span.start ≡ a.span.start → b.span.end ≡ a.span.end → is_long source b ≡ true
+long_too : (source : List ℕ) (a b : Annotation) → is_long source a ≡ true → is_marking b.kind ≡ true → b.span.start ≡ a.span.start → b.span.end ≡ a.span.end
+    → is_long source b ≡ true
 long_too source a b long marking starts ends =
     let first : first_line source b ≡ first_line source a = ap (line_of (source_lines source)) starts in
     let last : last_line source b ≡ last_line source a = ap (line_of (source_lines source)) ends in

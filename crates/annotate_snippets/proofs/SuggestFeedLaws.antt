@@ -1,5 +1,6 @@
 -- The rows of a suggestion hold a line feed only where its path does.
-use Rattle.std.proofs.Common.{◌≡◌, ℕ, zero, suc, ◌+◌, ◌-◌, ◌<◌, ◌≤◌, ◌==◌, ◌&&◌, max, Bool, true, false, cond, not, Option, None, Some, List, [], ◌∷◌, ◌++◌, All, chars, take, drop, map, length, get_or, refl, sym, ap, subst, ◌∙◌, arith, inl, inr}
+use Rattle.std.proofs.Common.{◌≡◌, ℕ, zero, suc, ◌+◌, ◌-◌, ◌<◌, ◌≤◌, ◌==◌, ◌&&◌, max, Bool, true, false, cond, not, Option, None, Some, List, [], ◌∷◌, ◌++◌}
+use Rattle.std.proofs.Common.{All, chars, take, drop, map, length, get_or, refl, sym, ap, subst, ◌∙◌, arith, inl, inr}
 use Rattle.std.specs.Cow.{cow_str_bytes}
 use Rattle.std.specs.List.{AllZip, list_any, slice_index_or}
 use Rattle.std.specs.Str.{IsUtf8, bytes_eq}
@@ -112,7 +113,8 @@ bare_one_line decor gutter row bare =
       | inr right ↦ mark_plain decor _ (bare.marks c (omega (arith, right)))
     ])
 
-removed_one_line : (numbers : LineNumbers) (decor : DecorStyle) (gutter : ℕ) (number text : List ℕ) (row : List Cell) → IsRemovedRow numbers decor gutter number text row → All IsNoFeed text → HasNoFeed row
+removed_one_line : (numbers : LineNumbers) (decor : DecorStyle) (gutter : ℕ) (number text : List ℕ) (row : List Cell)
+    → IsRemovedRow numbers decor gutter number text row → All IsNoFeed text → HasNoFeed row
 removed_one_line numbers decor gutter number text row removed plain =
     All-from_get_or HoldsNoFeed row SPACE (λ c within. elim (cases_lt c (gutter + 1)) [
       | inl left ↦ before_plain numbers decor _ (removed.before c (omega (arith, left)))
@@ -163,7 +165,8 @@ restyled_plain role from to row plain =
     let part_plain : HasNoFeed part = All-take HoldsNoFeed (to - from) (drop from row) (All-drop HoldsNoFeed from row plain) in
     All-append HoldsNoFeed (before ++ now) (drop (max from to) row) (All-append HoldsNoFeed before now (All-take HoldsNoFeed from row plain) (All-map HoldsNoFeed (restyled role true) part part_plain)) (All-drop HoldsNoFeed (max from to) row plain)
 
-stretches_plain : (role : ElementStyle) (gutter : ℕ) (line : List ℕ) (ss : List SubstitutionHighlight) (row : List Cell) → HasNoFeed row → HasNoFeed (with_stretches role gutter line ss row)
+stretches_plain : (role : ElementStyle) (gutter : ℕ) (line : List ℕ) (ss : List SubstitutionHighlight) (row : List Cell) → HasNoFeed row
+    → HasNoFeed (with_stretches role gutter line ss row)
 unfolding with_stretches
 stretches_plain role gutter line [] row plain = plain
 stretches_plain role gutter line (s ∷ ss) row plain =
@@ -171,7 +174,8 @@ stretches_plain role gutter line (s ∷ ss) row plain =
     let to : ℕ = stretch_cell gutter line s.end in
     stretches_plain role gutter line ss (changed_within (restyled role true) from to row) (restyled_plain role from to row plain)
 
-line_row_plain : (layout : SuggestionLayout) (glyph : SuggestionGlyph) (number : ℕ) (line : List ℕ) → All IsNoFeed (chars line) → HasNoFeed (line_cells layout glyph number line)
+line_row_plain : (layout : SuggestionLayout) (glyph : SuggestionGlyph) (number : ℕ) (line : List ℕ) → All IsNoFeed (chars line)
+    → HasNoFeed (line_cells layout glyph number line)
 unfolding line_cells
 line_row_plain layout glyph number line plain =
     let g : ℕ = layout.frame.gutter in
@@ -225,7 +229,8 @@ module _ (layout : SuggestionLayout) (s : Snippet Patch) (utf8 : IsUtf8 (given_t
   offers_over under (row ∷ rows) = (offer_plain under row, offers_later rows)
 
   -- other roles bring none
-  offer_kept : (f : List Cell → List Cell) → ((row : List Cell) → HasNoFeed row → HasNoFeed (f row)) → (shown : SuggestionRow) (row : List Cell) → IsPlainOffer shown row → IsPlainOffer shown (f row)
+  offer_kept : (f : List Cell → List Cell) → ((row : List Cell) → HasNoFeed row → HasNoFeed (f row)) → (shown : SuggestionRow) (row : List Cell)
+      → IsPlainOffer shown row → IsPlainOffer shown (f row)
   offer_kept f keeps (Begins at) row plain = tt
   offer_kept f keeps (Offers k) row plain = keeps row plain
   offer_kept f keeps Skips row plain = tt
@@ -233,7 +238,8 @@ module _ (layout : SuggestionLayout) (s : Snippet Patch) (utf8 : IsUtf8 (given_t
   offer_kept f keeps Empty row plain = tt
   offer_kept f keeps (Ends follows) row plain = tt
 
-  offers_last : (f : List Cell → List Cell) → ((row : List Cell) → HasNoFeed row → HasNoFeed (f row)) → (shown : List SuggestionRow) (rows : List (List Cell)) → AllZip IsPlainOffer shown rows → AllZip IsPlainOffer shown (on_last f rows)
+  offers_last : (f : List Cell → List Cell) → ((row : List Cell) → HasNoFeed row → HasNoFeed (f row)) → (shown : List SuggestionRow) (rows : List (List Cell))
+      → AllZip IsPlainOffer shown rows → AllZip IsPlainOffer shown (on_last f rows)
   unfolding on_last
   offers_last f keeps [] [] plain = tt
   offers_last f keeps [] (row ∷ rows) plain = elim plain [ ]
@@ -241,7 +247,8 @@ module _ (layout : SuggestionLayout) (s : Snippet Patch) (utf8 : IsUtf8 (given_t
   offers_last f keeps (x ∷ shown) (row ∷ []) plain = (offer_kept f keeps x row plain.0, plain.1)
   offers_last f keeps (x ∷ shown) (row ∷ next ∷ rows) plain = (plain.0, offers_last f keeps shown (next ∷ rows) plain.1)
 
-  offers_left_out : (lines : List (List ℕ)) (shown : List SuggestionRow) (rows : List (List Cell)) → AllZip IsPlainOffer shown rows → AllZip IsPlainOffer shown (with_left_out layout s lines rows)
+  offers_left_out : (lines : List (List ℕ)) (shown : List SuggestionRow) (rows : List (List Cell)) → AllZip IsPlainOffer shown rows
+      → AllZip IsPlainOffer shown (with_left_out layout s lines rows)
   offers_left_out [] shown rows plain = plain
   offers_left_out (line ∷ lines) shown rows plain =
       let gone : List SubstitutionHighlight = cond (bytes_eq line (last_reached s)) (replaced_on s (last_line_reached (cow_str_bytes s.source) (edits_of s) - first_given s)) [] in
@@ -265,7 +272,8 @@ module _ (r : Renderer) (frame : Layout) (around : ElementContext) (found : List
   abbrev own_layout : SuggestionLayout
   own_layout = suggestion_layout r frame s
 
-  offers_drawn : (lines : List (List Cell)) → IsUtf8 (given_text s) → lines ≡ suggestion_lines r frame around found s → AllZip IsPlainOffer (suggestion_rows around s) lines
+  offers_drawn : (lines : List (List Cell)) → IsUtf8 (given_text s) → lines ≡ suggestion_lines r frame around found s
+      → AllZip IsPlainOffer (suggestion_rows around s) lines
   offers_drawn lines utf8 drawn =
       let next : Bool = not (is_end around.next) in
       let shown : List SuggestionRow = rows_of_suggestion around.start s in
@@ -282,7 +290,8 @@ module _ (r : Renderer) (frame : Layout) (around : ElementContext) (found : List
   abbrev IsShown : SuggestionRow → List Cell → Type 0
   IsShown = Shows own_layout (s.line_start + first_given s) (given_lines s)
 
-  one_row : (shown : SuggestionRow) (row : List Cell) → IsUtf8 (cow_str_bytes s.source) → IsShown shown row → IsPlainOffer shown row → IsRowOf s shown → HasNoFeed row
+  one_row : (shown : SuggestionRow) (row : List Cell) → IsUtf8 (cow_str_bytes s.source) → IsShown shown row → IsPlainOffer shown row → IsRowOf s shown
+      → HasNoFeed row
   one_row (Begins at) row utf8 is offer own = bare_one_line own_layout.frame.decor own_layout.frame.gutter row is.bare
   one_row (Offers k) row utf8 is offer own = offer
   one_row Skips row utf8 is offer own = bare_one_line own_layout.frame.decor own_layout.frame.gutter row is.bare
@@ -292,7 +301,8 @@ module _ (r : Renderer) (frame : Layout) (around : ElementContext) (found : List
   one_row Empty row utf8 is offer own = bare_one_line own_layout.frame.decor own_layout.frame.gutter row is.bare
   one_row (Ends follows) row utf8 is offer own = bare_one_line own_layout.frame.decor own_layout.frame.gutter row is.bare
 
-  all_rows : (shown : List SuggestionRow) (rows : List (List Cell)) → IsUtf8 (cow_str_bytes s.source) → AllZip IsShown shown rows → AllZip IsPlainOffer shown rows → All (IsRowOf s) shown → All HasNoFeed rows
+  all_rows : (shown : List SuggestionRow) (rows : List (List Cell)) → IsUtf8 (cow_str_bytes s.source) → AllZip IsShown shown rows
+      → AllZip IsPlainOffer shown rows → All (IsRowOf s) shown → All HasNoFeed rows
   all_rows [] [] utf8 are offers own = All-nil HasNoFeed
   all_rows [] (row ∷ rows) utf8 are offers own = elim are [ ]
   all_rows (x ∷ shown) [] utf8 are offers own = elim are [ ]
@@ -310,7 +320,8 @@ module _ (r : Renderer) (frame : Layout) (around : ElementContext) (found : List
   head_plain start.Path first plain = path_plain first (path_bytes s.path) plain
 
   -- where its path holds no line feed, no row of a suggestion holds one
-  pub suggestion_one_line : (rows : List (List Cell)) → IsSuggestionDrawn r frame around found s rows → All (IsRowOf s) (suggestion_rows around s) → IsOneLineText (path_bytes s.path) → All HasNoFeed rows
+  pub suggestion_one_line : (rows : List (List Cell)) → IsSuggestionDrawn r frame around found s rows → All (IsRowOf s) (suggestion_rows around s)
+      → IsOneLineText (path_bytes s.path) → All HasNoFeed rows
   suggestion_one_line rows drawn own plain =
       let head : List (List Cell) = suggestion_head r frame around s in
       let lines : All HasNoFeed drawn.lines = all_rows (suggestion_rows around s) drawn.lines drawn.utf8 drawn.are (offers_drawn drawn.lines drawn.given_utf8 drawn.cells) own in

@@ -33,7 +33,8 @@ rising_ascends from to (j ∷ k ∷ ks) rising =
     (omega (arith, rising.1.0), rising_ascends (j + 1) to (k ∷ ks) rising.1)
 
 -- with a row for each, they hold the rows, and have their names
-pub cells_of-named : (P : SuggestionRow → List Cell → Type 0) (s : Snippet Patch) (shown : List SuggestionRow) (part : List (List Cell)) → AllZip P shown part → cells_of (named_rows s shown part) ≡ part
+pub cells_of-named : (P : SuggestionRow → List Cell → Type 0) (s : Snippet Patch) (shown : List SuggestionRow) (part : List (List Cell)) → AllZip P shown part
+    → cells_of (named_rows s shown part) ≡ part
 cells_of-named P s [] [] are = refl
 cells_of-named P s [] (row ∷ part) are = absurd are
 cells_of-named P s (shows ∷ shown) [] are = absurd are
@@ -41,7 +42,8 @@ cells_of-named P s (shows ∷ shown) (row ∷ part) are =
     ap (λ rows. row ∷ rows) (cells_of-named P s shown part are.1)
 
 -- the names of a suggestion's rows are those of what they show
-pub names_of-named : (P : SuggestionRow → List Cell → Type 0) (s : Snippet Patch) (shown : List SuggestionRow) (part : List (List Cell)) → AllZip P shown part → map (λ row. row.name) (named_rows s shown part) ≡ map (name_of_row s) shown
+pub names_of-named : (P : SuggestionRow → List Cell → Type 0) (s : Snippet Patch) (shown : List SuggestionRow) (part : List (List Cell)) → AllZip P shown part
+    → map (λ row. row.name) (named_rows s shown part) ≡ map (name_of_row s) shown
 names_of-named P s [] [] are = refl
 names_of-named P s [] (row ∷ part) are = absurd are
 names_of-named P s (shows ∷ shown) [] are = absurd are
@@ -49,7 +51,8 @@ names_of-named P s (shows ∷ shown) (row ∷ part) are =
     ap (λ names. name_of_row s shows ∷ names) (names_of-named P s shown part are.1)
 
 -- they offer the lines that they show, and show the others as removed
-pub lines_offered-named : (P : SuggestionRow → List Cell → Type 0) (s : Snippet Patch) (shown : List SuggestionRow) (part : List (List Cell)) → AllZip P shown part → lines_offered (named_rows s shown part) ≡ map (λ k. first_given s + k) (numbers_offered shown)
+pub lines_offered-named : (P : SuggestionRow → List Cell → Type 0) (s : Snippet Patch) (shown : List SuggestionRow) (part : List (List Cell))
+    → AllZip P shown part → lines_offered (named_rows s shown part) ≡ map (λ k. first_given s + k) (numbers_offered shown)
 lines_offered-named P s [] [] are = refl
 lines_offered-named P s [] (row ∷ part) are = absurd are
 lines_offered-named P s (shows ∷ shown) [] are = absurd are
@@ -62,7 +65,8 @@ lines_offered-named P s (Empty ∷ shown) (row ∷ part) are = lines_offered-nam
 lines_offered-named P s (Ends follows ∷ shown) (row ∷ part) are = lines_offered-named P s shown part are.1
 
 -- the lines that a suggestion's rows show as removed are those that what they show takes
-pub lines_removed-named : (P : SuggestionRow → List Cell → Type 0) (s : Snippet Patch) (shown : List SuggestionRow) (part : List (List Cell)) → AllZip P shown part → lines_removed (named_rows s shown part) ≡ lines_taken shown
+pub lines_removed-named : (P : SuggestionRow → List Cell → Type 0) (s : Snippet Patch) (shown : List SuggestionRow) (part : List (List Cell))
+    → AllZip P shown part → lines_removed (named_rows s shown part) ≡ lines_taken shown
 lines_removed-named P s [] [] are = refl
 lines_removed-named P s [] (row ∷ part) are = absurd are
 lines_removed-named P s (shows ∷ shown) [] are = absurd are
@@ -87,7 +91,8 @@ module _ (r : Renderer) (frame : Layout) (s : Snippet Patch) where
   lines_free (row_is ∷ shown) [] are = absurd are
   lines_free (shows ∷ shown) (row ∷ part) are = All-cons IsFree row part (free_of shows row are.0) (lines_free shown part are.1)
     where
-      free_of : (shows : SuggestionRow) (row : List Cell) → Shows (suggestion_layout r frame s) (s.line_start + first_given s) (given_lines s) shows row → IsFree row
+      free_of : (shows : SuggestionRow) (row : List Cell) → Shows (suggestion_layout r frame s) (s.line_start + first_given s) (given_lines s) shows row
+          → IsFree row
       free_of (Begins start) row is = is.bare.free
       free_of (Offers k) row is = is.free
       free_of Skips row is = is.bare.free
@@ -102,7 +107,8 @@ module _ (r : Renderer) (frame : Layout) (s : Snippet Patch) where
   strokes_shown (shows ∷ shown) [] are = absurd are
   strokes_shown (shows ∷ shown) (row ∷ part) are = (stroke_of shows row are.0, strokes_shown shown part are.1)
     where
-      stroke_of : (shows : SuggestionRow) (row : List Cell) → Shows (suggestion_layout r frame s) (s.line_start + first_given s) (given_lines s) shows row → HasStrokes frame.decor frame.gutter shows row
+      stroke_of : (shows : SuggestionRow) (row : List Cell) → Shows (suggestion_layout r frame s) (s.line_start + first_given s) (given_lines s) shows row
+          → HasStrokes frame.decor frame.gutter shows row
       stroke_of (Begins start) row is = is.left_is
       stroke_of (Offers k) row is = tt
       stroke_of Skips row is = is.left_is
@@ -112,13 +118,16 @@ module _ (r : Renderer) (frame : Layout) (s : Snippet Patch) where
 
   module _ (suggestible : IsSuggestible s) (some : s.markers.items ≢ []) where
     -- there is a number for each line that is given, and it is shown
-    number_is : (k : ℕ) → k < length (given_lines s) → shown_number (line_numbers r s.line_numbering) frame.gutter (number_after (s.line_start + first_given s) k) ≡ number_text r s.line_numbering frame.gutter (s.line_start + (first_given s + k))
+    number_is : (k : ℕ) → k < length (given_lines s)
+        → shown_number (line_numbers r s.line_numbering) frame.gutter (number_after (s.line_start + first_given s) k) ≡ number_text r s.line_numbering frame.gutter (s.line_start + (first_given s + k))
     number_is k within =
         let same : number_after (s.line_start + first_given s) k ≡ s.line_start + (first_given s + k) = omega (arith, suggestible.numbers) in
         ap (shown_number (line_numbers r s.line_numbering) frame.gutter) same
 
     -- the row of a line that is given offers it
-    offered_row : (k : ℕ) (row : List Cell) → k < length (given_lines s) → Shows (suggestion_layout r frame s) (s.line_start + first_given s) (given_lines s) (Offers k) row → IsOfferedRow r frame.decor frame.gutter s (first_given s + k) row
+    offered_row : (k : ℕ) (row : List Cell) → k < length (given_lines s)
+        → Shows (suggestion_layout r frame s) (s.line_start + first_given s) (given_lines s) (Offers k) row
+        → IsOfferedRow r frame.decor frame.gutter s (first_given s + k) row
     offered_row k row within shows =
         let number = number_is k within in
         let back : first_given s + k - first_given s ≡ k = omega arith in
@@ -139,14 +148,18 @@ module _ (r : Renderer) (frame : Layout) (s : Snippet Patch) where
     IsNamed row = IsSuggestionRow r frame.decor frame.gutter s row.name row.cells
 
     -- that of a line that is removed shows it
-    removed_row_shown : (i number : ℕ) (text : List ℕ) (row : List Cell) → IsRowOf s (Removes i number text) → Shows (suggestion_layout r frame s) (s.line_start + first_given s) (given_lines s) (Removes i number text) row → IsSuggestionRow r frame.decor frame.gutter s (RemovedLine i) row
+    removed_row_shown : (i number : ℕ) (text : List ℕ) (row : List Cell) → IsRowOf s (Removes i number text)
+        → Shows (suggestion_layout r frame s) (s.line_start + first_given s) (given_lines s) (Removes i number text) row
+        → IsSuggestionRow r frame.decor frame.gutter s (RemovedLine i) row
     removed_row_shown i number text row of shows =
         let numbers = line_numbers r s.line_numbering in
         let Is : ℕ → List ℕ → Type 0 = λ n t. IsRemovedRow numbers frame.decor frame.gutter (shown_number numbers frame.gutter n) (norm (chars t)) row in
         subst (Is (removed_number s i)) of.1 (subst (λ (n : ℕ). Is n text) of.0 shows)
 
     -- so each row is what its name says
-    pub rows_named : (from : ℕ) (shown : List SuggestionRow) (part : List (List Cell)) → AreRising from (first_given s + length (given_lines s)) (map (λ k. first_given s + k) (numbers_offered shown)) → All (IsRowOf s) shown → AreShown shown part → All IsNamed (named_rows s shown part)
+    pub rows_named : (from : ℕ) (shown : List SuggestionRow) (part : List (List Cell))
+        → AreRising from (first_given s + length (given_lines s)) (map (λ k. first_given s + k) (numbers_offered shown)) → All (IsRowOf s) shown
+        → AreShown shown part → All IsNamed (named_rows s shown part)
     rows_named from [] part rising own are = All-nil IsNamed
     rows_named from (shows ∷ shown) [] rising own are = absurd are
     rows_named from (Offers k ∷ shown) (row ∷ part) rising own are =

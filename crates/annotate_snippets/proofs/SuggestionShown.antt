@@ -1,5 +1,6 @@
 -- The rows of a suggestion show it.
-use Rattle.std.proofs.Common.{◌≡◌, ◌≢◌, ◌∙◌, ℕ, ◌+◌, Bool, true, false, not, if◌then◌else◌, Option, None, Some, List, [], ◌∷◌, ◌++◌, map, length, refl, sym, ap, subst, inl, inr}
+use Rattle.std.proofs.Common.{◌≡◌, ◌≢◌, ◌∙◌, ℕ, ◌+◌, Bool, true, false, not, if◌then◌else◌, Option, None, Some, List, [], ◌∷◌, ◌++◌, map, length, refl, sym, ap}
+use Rattle.std.proofs.Common.{subst, inl, inr}
 use Rattle.std.specs.List.{All, AllZip, Contains}
 use Rattle.std.proofs.lemmas.List.{append-nil, map-append}
 use Rattle.std.proofs.lemmas.List.Elements.{All-append, All-cons, All-nil, filter_map-append}
@@ -37,7 +38,8 @@ use Rattle.annotate_snippets.specs.declared.renderer.element_context.ElementCont
 use Rattle.annotate_snippets.proofs.ElementShown.{ElementShown}
 use Rattle.annotate_snippets.proofs.PageLemmas.{cells_of-others}
 use Rattle.annotate_snippets.proofs.SuggestFeedLaws.{suggestion_one_line}
-use Rattle.annotate_snippets.proofs.SuggestionLemmas.{cells_of-named, lines_free, lines_offered-named, lines_removed-named, names_of-named, rising_ascends, rows_named, strokes_shown}
+use Rattle.annotate_snippets.proofs.SuggestionLemmas.{cells_of-named, lines_free, lines_offered-named, lines_removed-named, names_of-named, rising_ascends}
+use Rattle.annotate_snippets.proofs.SuggestionLemmas.{rows_named, strokes_shown}
 
 -- the row of its path holds no listed character and no link
 path_row-free : (r : Renderer) (frame : Layout) (first : Bool) (s : Snippet Patch) (path : Option (List ℕ)) → All IsFree (path_row r frame first s path)
@@ -45,7 +47,8 @@ path_row-free r frame first s None = All-nil IsFree
 path_row-free r frame first s (Some path) =
     All-cons IsFree _ [] (origin_row-free (origin_layout r frame) (primary_start first) path (patch_place s)) (All-nil IsFree)
 
-suggestion_head-free : (r : Renderer) (frame : Layout) (begins : SuggestionStart) (first : Bool) (s : Snippet Patch) → All IsFree (suggestion_head_at begins r frame first s)
+suggestion_head-free : (r : Renderer) (frame : Layout) (begins : SuggestionStart) (first : Bool) (s : Snippet Patch)
+    → All IsFree (suggestion_head_at begins r frame first s)
 suggestion_head-free r frame start.Opening first s = All-nil IsFree
 suggestion_head-free r frame start.Next first s = All-nil IsFree
 suggestion_head-free r frame start.Path first s = path_row-free r frame first s (path_bytes s.path)
@@ -82,11 +85,13 @@ module _ (around : ElementContext) (s : Snippet Patch) where
   all_own = All-append (IsRowOf s) rows (ends around.shared) (rows-own around.start s) (ends_own around.shared)
 
 -- the rows of a suggestion have the signs of their lines
-ends_sign : (layout : SuggestionLayout) (s : Snippet Patch) (next shared : Bool) → AllZip (HasSign layout s) (if shared then [] else Ends next ∷ []) (if shared then [] else row_cells layout s [] (Ends next) ∷ [])
+ends_sign : (layout : SuggestionLayout) (s : Snippet Patch) (next shared : Bool)
+    → AllZip (HasSign layout s) (if shared then [] else Ends next ∷ []) (if shared then [] else row_cells layout s [] (Ends next) ∷ [])
 ends_sign layout s next true = tt
 ends_sign layout s next false = (tt, tt)
 
-signs_shown : (r : Renderer) (frame : Layout) (around : ElementContext) (found : List Cell) (s : Snippet Patch) (lines : List (List Cell)) → lines ≡ suggestion_lines r frame around found s → AllZip (HasSign (suggestion_layout r frame s) s) (suggestion_rows around s) lines
+signs_shown : (r : Renderer) (frame : Layout) (around : ElementContext) (found : List Cell) (s : Snippet Patch) (lines : List (List Cell))
+    → lines ≡ suggestion_lines r frame around found s → AllZip (HasSign (suggestion_layout r frame s) s) (suggestion_rows around s) lines
 signs_shown r frame around found s lines shown =
     let under : List Cell = under_of r frame around.start found in
     let layout : SuggestionLayout = suggestion_layout r frame s in
@@ -98,7 +103,8 @@ signs_shown r frame around found s lines shown =
 
 -- the rows of a suggestion show it, once they have names: after the row of its path those of its lines
 pub suggestion_shown : (r : Renderer) (frame : Layout) (around : ElementContext) (found : List Cell) (s : Snippet Patch) (rows : List (List Cell))
-    → IsSuggestible s → s.markers.items ≢ [] → HasRoomFor r frame (Suggestion s) → IsSuggestionDrawn r frame around found s rows → ElementShown r frame around found (Suggestion s) rows
+    → IsSuggestible s → s.markers.items ≢ [] → HasRoomFor r frame (Suggestion s) → IsSuggestionDrawn r frame around found s rows
+    → ElementShown r frame around found (Suggestion s) rows
 suggestion_shown r frame around found s rows suggestible some room drawn =
     let IsShown : SuggestionRow → List Cell → Type 0 = Shows (suggestion_layout r frame s) (s.line_start + first_given s) (given_lines s) in
     let shown : List SuggestionRow = suggestion_rows around s in

@@ -16,7 +16,8 @@ onto_front : (c : ℕ) (lines more : List (List ℕ)) → 0 < length lines → o
 onto_front c [] more some = absurd (omega (arith, some))
 onto_front c (line ∷ lines) more some = refl
 
-one_more : (c : ℕ) (xs ys : List ℕ) (feed : Bool) → (c == 10) ≡ feed → text_lines (xs ++ 10 ∷ ys) ≡ text_lines xs ++ text_lines ys → text_lines (c ∷ (xs ++ 10 ∷ ys)) ≡ text_lines (c ∷ xs) ++ text_lines ys
+one_more : (c : ℕ) (xs ys : List ℕ) (feed : Bool) → (c == 10) ≡ feed → text_lines (xs ++ 10 ∷ ys) ≡ text_lines xs ++ text_lines ys
+    → text_lines (c ∷ (xs ++ 10 ∷ ys)) ≡ text_lines (c ∷ xs) ++ text_lines ys
 one_more c xs ys true is later =
     slice_split-cons_yes (λ x. x == 10) c (xs ++ 10 ∷ ys) is ∙ ap (λ lines. [] ∷ lines) later ∙ ap (λ lines. lines ++ text_lines ys) (sym (slice_split-cons_yes (λ x. x == 10) c xs is))
 one_more c xs ys false is later =
@@ -32,7 +33,8 @@ lines_joined (c ∷ xs) ys = one_more c xs ys (c == 10) refl (lines_joined xs ys
 -- ---- rows
 
 -- a row without line feeds, and those below it, are one line each
-lines_from : (row : List Cell) (rows : List (List Cell)) → HasNoFeed row → All HasNoFeed rows → text_lines (row_text row ++ further_text rows) ≡ row_text row ∷ map row_text rows
+lines_from : (row : List Cell) (rows : List (List Cell)) → HasNoFeed row → All HasNoFeed rows
+    → text_lines (row_text row ++ further_text rows) ≡ row_text row ∷ map row_text rows
 lines_from row [] plain all =
     ap text_lines (append-nil (row_text row)) ∙ slice_split_none (λ c. c == 10) (row_text row) (All-map IsNoFeed (λ (cell : Cell). cell.ch) row plain)
 lines_from row (next ∷ rows) plain all =

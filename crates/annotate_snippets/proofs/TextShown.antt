@@ -1,5 +1,6 @@
 -- The texts that are woven of a report's text form show it.
-use Rattle.std.proofs.Common.{◌≡◌, ◌∙◌, ℕ, ◌==◌, Bool, true, false, not, Option, None, Some, List, [], ◌∷◌, ◌++◌, cond, encode_utf8_all, if◌then◌else◌, refl, sym, ap, subst}
+use Rattle.std.proofs.Common.{◌≡◌, ◌∙◌, ℕ, ◌==◌, Bool, true, false, not, Option, None, Some, List, [], ◌∷◌, ◌++◌, cond, encode_utf8_all, if◌then◌else◌, refl}
+use Rattle.std.proofs.Common.{sym, ap, subst}
 use Rattle.std.specs.List.{All, AllZip, filter, flat_map, list_any}
 use Rattle.std.specs.Option.{option_to_list}
 use Rattle.std.proofs.lemmas.List.{append-nil}
@@ -30,7 +31,8 @@ use Rattle.snippet_text_form.proofs.OrderLaws.{cause-holds, heading-holds, plain
 use Rattle.annotate_snippets.specs.Around.{drawn_elements, file_of_group, first_two_share, is_drawn}
 use Rattle.annotate_snippets.specs.Forms.{TextShown}
 use Rattle.annotate_snippets.specs.Shown.{IsFreeBut, report_links}
-use Rattle.annotate_snippets.specs.TextForm.{PreviousSuggestion, before_next, element_form, element_texts, elements_form, group_form, group_texts, report_texts, suggestion_place, text_form, whole_text}
+use Rattle.annotate_snippets.specs.TextForm.{PreviousSuggestion, before_next, element_form, element_texts, elements_form, group_form, group_texts, report_texts}
+use Rattle.annotate_snippets.specs.TextForm.{suggestion_place, text_form, whole_text}
 use Rattle.annotate_snippets.specs.declared.renderer.Renderer.{Renderer}
 use Rattle.annotate_snippets.proofs.FormSteps.{title_form}
 use Rattle.annotate_snippets.proofs.PrintLemmas.{AllZip-weaker}
@@ -44,26 +46,31 @@ drawn_texts (Message m ∷ es) = ap (λ (ts : List (List ℕ)). element_texts (M
 drawn_texts (Cause s ∷ es) = ap (λ (ts : List (List ℕ)). element_texts (Cause s) ++ ts) (drawn_texts es)
 drawn_texts (Suggestion s ∷ es) = by (is_drawn (Suggestion s)) ∙ drawn_texts es
   where
-    by : (drawn : Bool) → flat_map element_texts (cond drawn (Suggestion s ∷ filter is_drawn es) (filter is_drawn es)) ≡ flat_map element_texts (filter is_drawn es)
+    by : (drawn : Bool)
+        → flat_map element_texts (cond drawn (Suggestion s ∷ filter is_drawn es) (filter is_drawn es)) ≡ flat_map element_texts (filter is_drawn es)
     by true = refl
     by false = refl
 drawn_texts (Origin o ∷ es) = drawn_texts es
 drawn_texts (Padding p ∷ es) = drawn_texts es
 
 -- the plain characters of two text forms, one after the other, have what both have
-after : (P : List ℕ → Type 0) (begun : Bool) (a b : List FormPiece) → P (plain_from begun a ++ plain_from (begun_after begun (plain_from begun a)) b) → P (plain_from begun (a ++ b))
+after : (P : List ℕ → Type 0) (begun : Bool) (a b : List FormPiece) → P (plain_from begun a ++ plain_from (begun_after begun (plain_from begun a)) b)
+    → P (plain_from begun (a ++ b))
 after P begun a b holds = subst P (sym (plain-append begun a b)) holds
 
-both_hold : (ps qs : List (List ℕ)) (begun : Bool) (a b : List FormPiece) → ((begun : Bool) → StandInOrder ps (plain_from begun a)) → ((begun : Bool) → StandInOrder qs (plain_from begun b)) → StandInOrder (ps ++ qs) (plain_from begun (a ++ b))
+both_hold : (ps qs : List (List ℕ)) (begun : Bool) (a b : List FormPiece) → ((begun : Bool) → StandInOrder ps (plain_from begun a))
+    → ((begun : Bool) → StandInOrder qs (plain_from begun b)) → StandInOrder (ps ++ qs) (plain_from begun (a ++ b))
 both_hold ps qs begun a b first second =
     after (StandInOrder (ps ++ qs)) begun a b (stand-append ps qs (plain_from begun a) (plain_from (begun_after begun (plain_from begun a)) b) (first begun) (second (begun_after begun (plain_from begun a))))
 
-both_free : (trusted : List (List ℕ)) (begun : Bool) (a b : List FormPiece) → ((begun : Bool) → IsFreeBut trusted (plain_from begun a)) → ((begun : Bool) → IsFreeBut trusted (plain_from begun b)) → IsFreeBut trusted (plain_from begun (a ++ b))
+both_free : (trusted : List (List ℕ)) (begun : Bool) (a b : List FormPiece) → ((begun : Bool) → IsFreeBut trusted (plain_from begun a))
+    → ((begun : Bool) → IsFreeBut trusted (plain_from begun b)) → IsFreeBut trusted (plain_from begun (a ++ b))
 both_free trusted begun a b first second =
     after (IsFreeBut trusted) begun a b (All-append (IsTrusted trusted) (plain_from begun a) (plain_from (begun_after begun (plain_from begun a)) b) (first begun) (second (begun_after begun (plain_from begun a))))
 
 -- the links of an element, of elements and of a group
-element_links : (r : Renderer) (file : Option (List ℕ)) (before : Option PreviousSuggestion) (followed : Bool) (e : Element) → form_links (element_form r file before followed e) ≡ []
+element_links : (r : Renderer) (file : Option (List ℕ)) (before : Option PreviousSuggestion) (followed : Bool) (e : Element)
+    → form_links (element_form r file before followed e) ≡ []
 element_links r file before followed (Message m) =
     heading-links r.hyperlink kind.Message (heading_of_message m)
 element_links r file before followed (Cause s) = cause-links r.anonymized_origin_line_numbers s
@@ -72,14 +79,16 @@ element_links r file before followed (Suggestion s) =
 element_links r file before followed (Origin o) = origin-links r.anonymized_origin_line_numbers o
 element_links r file before followed (Padding p) = refl
 
-elements_links : (r : Renderer) (file : Option (List ℕ)) (before : Option PreviousSuggestion) (es : List Element) → form_links (elements_form r file before es) ≡ []
+elements_links : (r : Renderer) (file : Option (List ℕ)) (before : Option PreviousSuggestion) (es : List Element)
+    → form_links (elements_form r file before es) ≡ []
 elements_links r file before [] = refl
 elements_links r file before (e ∷ es) =
     let own : List FormPiece = element_form r file before (first_two_share (e ∷ es)) e in
     let rest : List FormPiece = elements_form r file (before_next before e) es in
     flat_map-append piece_links own rest ∙ ap (λ (urls : List (List ℕ)). urls ++ form_links rest) (element_links r file before (first_two_share (e ∷ es)) e) ∙ elements_links r file (before_next before e) es
 
-title_form-links : (r : Renderer) (title : Option Title) → form_links (title_form r title) ≡ flat_map (λ (t : Title). id_links r.hyperlink t.id) (option_to_list title)
+title_form-links : (r : Renderer) (title : Option Title)
+    → form_links (title_form r title) ≡ flat_map (λ (t : Title). id_links r.hyperlink t.id) (option_to_list title)
 title_form-links r None = refl
 title_form-links r (Some t) =
     let own : List FormPiece = heading_form r.hyperlink kind.Title (heading_of_title t) in
@@ -98,14 +107,17 @@ groups_links r groups (g ∷ gs) =
     flat_map-append piece_links (group_form r groups g) rest ∙ ap (λ (urls : List (List ℕ)). urls ++ form_links rest) (group_links r groups g) ∙ ap (λ (urls : List (List ℕ)). title_links r.hyperlink g ++ urls) (groups_links r groups gs)
 
 -- which texts stand in a heading, in an element, in elements and in a group
-heading_holds : (begun hyperlink : Bool) (of : HeadingKind) (heading : Heading) → StandInOrder (whole_text heading) (plain_from begun (heading_form hyperlink of heading))
+heading_holds : (begun hyperlink : Bool) (of : HeadingKind) (heading : Heading)
+    → StandInOrder (whole_text heading) (plain_from begun (heading_form hyperlink of heading))
 heading_holds begun hyperlink of heading = by (list_any (λ c. c == 10) (shown_text heading)) refl
   where
-    by : (fed : Bool) → list_any (λ c. c == 10) (shown_text heading) ≡ fed → StandInOrder (if not fed then shown_text heading ∷ [] else []) (plain_from begun (heading_form hyperlink of heading))
+    by : (fed : Bool) → list_any (λ c. c == 10) (shown_text heading) ≡ fed
+        → StandInOrder (if not fed then shown_text heading ∷ [] else []) (plain_from begun (heading_form hyperlink of heading))
     by true is = tt
     by false is = heading-holds begun hyperlink of heading is
 
-element_holds : (r : Renderer) (file : Option (List ℕ)) (before : Option PreviousSuggestion) (followed : Bool) (e : Element) (begun : Bool) → StandInOrder (element_texts e) (plain_from begun (element_form r file before followed e))
+element_holds : (r : Renderer) (file : Option (List ℕ)) (before : Option PreviousSuggestion) (followed : Bool) (e : Element) (begun : Bool)
+    → StandInOrder (element_texts e) (plain_from begun (element_form r file before followed e))
 element_holds r file before followed (Message m) begun =
     heading_holds begun r.hyperlink kind.Message (heading_of_message m)
 element_holds r file before followed (Cause s) begun =
@@ -114,12 +126,14 @@ element_holds r file before followed (Suggestion s) begun = tt
 element_holds r file before followed (Origin o) begun = tt
 element_holds r file before followed (Padding p) begun = tt
 
-elements_hold : (r : Renderer) (file : Option (List ℕ)) (before : Option PreviousSuggestion) (es : List Element) (begun : Bool) → StandInOrder (flat_map element_texts es) (plain_from begun (elements_form r file before es))
+elements_hold : (r : Renderer) (file : Option (List ℕ)) (before : Option PreviousSuggestion) (es : List Element) (begun : Bool)
+    → StandInOrder (flat_map element_texts es) (plain_from begun (elements_form r file before es))
 elements_hold r file before [] begun = tt
 elements_hold r file before (e ∷ es) begun =
     both_hold (element_texts e) (flat_map element_texts es) begun (element_form r file before (first_two_share (e ∷ es)) e) (elements_form r file (before_next before e) es) (element_holds r file before (first_two_share (e ∷ es)) e) (elements_hold r file (before_next before e) es)
 
-title_holds : (r : Renderer) (title : Option Title) (begun : Bool) → StandInOrder (flat_map (λ (t : Title). whole_text (heading_of_title t)) (option_to_list title)) (plain_from begun (title_form r title))
+title_holds : (r : Renderer) (title : Option Title) (begun : Bool)
+    → StandInOrder (flat_map (λ (t : Title). whole_text (heading_of_title t)) (option_to_list title)) (plain_from begun (title_form r title))
 title_holds r None begun = tt
 title_holds r (Some t) begun =
     both_hold (whole_text (heading_of_title t)) [] begun (heading_form r.hyperlink kind.Title (heading_of_title t)) [] (λ b. heading_holds b r.hyperlink kind.Title (heading_of_title t)) (λ b. tt)
@@ -137,7 +151,8 @@ groups_hold r groups (g ∷ gs) begun =
     both_hold (group_texts g) (report_texts gs) begun (group_form r groups g) (flat_map (group_form r groups) gs) (group_holds r groups g) (groups_hold r groups gs)
 
 -- each listed character of an element, of elements and of a group is one of a trusted text
-element_free : (trusted : List (List ℕ)) (r : Renderer) (file : Option (List ℕ)) (before : Option PreviousSuggestion) (followed : Bool) (e : Element) → AreTextsAmong trusted (trusted_of_element e) → (begun : Bool) → IsFreeBut trusted (plain_from begun (element_form r file before followed e))
+element_free : (trusted : List (List ℕ)) (r : Renderer) (file : Option (List ℕ)) (before : Option PreviousSuggestion) (followed : Bool) (e : Element)
+    → AreTextsAmong trusted (trusted_of_element e) → (begun : Bool) → IsFreeBut trusted (plain_from begun (element_form r file before followed e))
 element_free trusted r file before followed (Message m) among begun =
     own_text trusted (heading_of_message m) (λ styled. message_among trusted m among) (plain_from begun (heading_form r.hyperlink kind.Message (heading_of_message m))) (heading-free begun r.hyperlink kind.Message (heading_of_message m))
 element_free trusted r file before followed (Cause s) among begun =
@@ -148,7 +163,8 @@ element_free trusted r file before followed (Origin o) among begun =
     unlisted_text trusted (plain_from begun (origin_form r.anonymized_origin_line_numbers o)) (origin-free begun r.anonymized_origin_line_numbers o)
 element_free trusted r file before followed (Padding p) among begun = All-nil (IsTrusted trusted)
 
-elements_free : (trusted : List (List ℕ)) (r : Renderer) (file : Option (List ℕ)) (before : Option PreviousSuggestion) (es : List Element) → All (λ e. AreTextsAmong trusted (trusted_of_element e)) es → (begun : Bool) → IsFreeBut trusted (plain_from begun (elements_form r file before es))
+elements_free : (trusted : List (List ℕ)) (r : Renderer) (file : Option (List ℕ)) (before : Option PreviousSuggestion) (es : List Element)
+    → All (λ e. AreTextsAmong trusted (trusted_of_element e)) es → (begun : Bool) → IsFreeBut trusted (plain_from begun (elements_form r file before es))
 elements_free trusted r file before [] among begun = All-nil (IsTrusted trusted)
 elements_free trusted r file before (e ∷ es) among begun =
     let Among : Element → Type 0 = λ x. AreTextsAmong trusted (trusted_of_element x) in
@@ -156,7 +172,8 @@ elements_free trusted r file before (e ∷ es) among begun =
     (element_free trusted r file before (first_two_share (e ∷ es)) e (All-head Among e es among))
     (elements_free trusted r file (before_next before e) es (All-tail Among e es among))
 
-title_free : (r : Renderer) (title : Option Title) (more : List (List ℕ)) (begun : Bool) → IsFreeBut (flat_map trusted_of_title (option_to_list title) ++ more) (plain_from begun (title_form r title))
+title_free : (r : Renderer) (title : Option Title) (more : List (List ℕ)) (begun : Bool)
+    → IsFreeBut (flat_map trusted_of_title (option_to_list title) ++ more) (plain_from begun (title_form r title))
 title_free r None more begun = All-nil (IsTrusted more)
 title_free r (Some t) more begun =
     let trusted : List (List ℕ) = flat_map trusted_of_title (t ∷ []) ++ more in
@@ -184,7 +201,8 @@ abbrev pub IsFormText : Renderer → List Group → Stylesheet → List ℕ → 
 IsFormText r groups sheet text =
     (text ≡ form_bytes sheet (text_form r groups)) × IsWoven sheet text (form_text (text_form r groups)) (form_links (text_form r groups))
 
-report_woven : (r : Renderer) (groups : List Group) (sheet : Stylesheet) (text : List ℕ) → IsFormText r groups sheet text → IsWoven sheet text (form_text (text_form r groups)) (report_links r groups)
+report_woven : (r : Renderer) (groups : List Group) (sheet : Stylesheet) (text : List ℕ) → IsFormText r groups sheet text
+    → IsWoven sheet text (form_text (text_form r groups)) (report_links r groups)
 report_woven r groups sheet text is =
     subst (IsWoven sheet text (form_text (text_form r groups))) (groups_links r groups groups ∙ links_of_titles r groups) is.1
 

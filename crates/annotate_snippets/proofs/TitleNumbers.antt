@@ -1,5 +1,6 @@
 -- No row of a title that begins with a word begins with a number.
-use Rattle.std.proofs.Common.{◌≡◌, ℕ, zero, suc, ◌+◌, ◌<◌, ◌≤◌, ◌==◌, ◌||◌, not, Bool, true, false, cond, Option, Some, List, [], ◌∷◌, ◌++◌, All, chars, get_or, length, map, replicate, take, refl, sym, ap, subst, ◌∙◌, arith}
+use Rattle.std.proofs.Common.{◌≡◌, ℕ, zero, suc, ◌+◌, ◌<◌, ◌≤◌, ◌==◌, ◌||◌, not, Bool, true, false, cond, Option, Some, List, [], ◌∷◌, ◌++◌, All, chars, get_or}
+use Rattle.std.proofs.Common.{length, map, replicate, take, refl, sym, ap, subst, ◌∙◌, arith}
 use Rattle.std.specs.Char.{is_ascii_alphanumeric, is_ascii_digit}
 use Rattle.std.specs.Int.{is_in_range}
 use Rattle.std.specs.List.{slice_index_or}
@@ -50,7 +51,8 @@ none_there false alphanumeric false rest more none later = refl
 digit_too : (c : ℕ) → is_ascii_digit c ≡ true → is_ascii_alphanumeric c ≡ true
 digit_too c is = ap (λ (b : Bool). (b || is_in_range 65 90 c) || is_in_range 97 122 c) is
 
-unnumbered_row : (n : ℕ) (row : List Cell) → ((c : ℕ) → c < n → is_ascii_alphanumeric (get_or row c SPACE).ch ≡ false) → begins_with_number (take n (row_text row)) ≡ false
+unnumbered_row : (n : ℕ) (row : List Cell) → ((c : ℕ) → c < n → is_ascii_alphanumeric (get_or row c SPACE).ch ≡ false)
+    → begins_with_number (take n (row_text row)) ≡ false
 unnumbered_row zero row none = refl
 unnumbered_row (suc n) [] none = refl
 unnumbered_row (suc n) (cell ∷ cells) none =
@@ -60,14 +62,16 @@ unnumbered : (gutter : ℕ) (row : List Cell) → HasNoNumber gutter row → IsU
 unnumbered gutter row none = unnumbered_row (gutter + 1) row (λ c within. none c (omega (arith, within)))
 
 -- the rows below a title
-after_title : (r : Renderer) (frame : Layout) (sets_off closes : Bool) → All (IsUnnumbered frame.gutter) (cond sets_off (separator_rows r frame) (cond closes (closing_rows r frame) []))
+after_title : (r : Renderer) (frame : Layout) (sets_off closes : Bool)
+    → All (IsUnnumbered frame.gutter) (cond sets_off (separator_rows r frame) (cond closes (closing_rows r frame) []))
 after_title r frame true closes = All-cons (IsUnnumbered frame.gutter) _ [] (unnumbered frame.gutter _ (separator_row-unnumbered frame.decor frame.gutter)) (All-nil (IsUnnumbered frame.gutter))
 after_title r frame false true = All-cons (IsUnnumbered frame.gutter) _ [] (unnumbered frame.gutter _ (closing_row-unnumbered frame.decor frame.gutter)) (All-nil (IsUnnumbered frame.gutter))
 after_title r frame false false = All-nil (IsUnnumbered frame.gutter)
 
 -- each text of a title's rows begins with its level's name, or with as many spaces as what stands before its text is wide
 module _ (n : ℕ) (name more : List ℕ) (width : ℕ) (word : begins_with_word name ≡ true) (wide : n ≤ width) where
-  text_further : (lines : List (List ℕ)) (i : ℕ) → begins_with_number (take n (slice_index_or (map (λ l. map (λ (cell : Cell). cell.ch) (replicate width SPACE) ++ l) lines) i [])) ≡ false
+  text_further : (lines : List (List ℕ)) (i : ℕ)
+      → begins_with_number (take n (slice_index_or (map (λ l. map (λ (cell : Cell). cell.ch) (replicate width SPACE) ++ l) lines) i [])) ≡ false
   text_further [] i = none_taken n
     where
       none_taken : (k : ℕ) → begins_with_number (take k []) ≡ false
@@ -76,13 +80,15 @@ module _ (n : ℕ) (name more : List ℕ) (width : ℕ) (word : begins_with_word
   text_further (line ∷ lines) zero = spaces_first n width line wide
   text_further (line ∷ lines) (suc i) = text_further lines i
 
-  text_of_row : (lines : List (List ℕ)) (i : ℕ) → begins_with_number (take n (slice_index_or (texts_below (name ++ more) (map (λ (cell : Cell). cell.ch) (replicate width SPACE)) lines) i [])) ≡ false
+  text_of_row : (lines : List (List ℕ)) (i : ℕ)
+      → begins_with_number (take n (slice_index_or (texts_below (name ++ more) (map (λ (cell : Cell). cell.ch) (replicate width SPACE)) lines) i [])) ≡ false
   text_of_row [] i = text_further [] i
   text_of_row (line ∷ lines) zero = ap (λ text. begins_with_number (take n text)) (append_assoc name more line) ∙ word_first n name (more ++ line) word
   text_of_row (line ∷ lines) (suc i) = text_further lines i
 
 -- no row of such a title begins with a number
-pub title_unnumbered : (r : Renderer) (frame : Layout) (place : GroupPosition) (follows : Next) (title : Title) (rows : List (List Cell)) → ShowsTitlePart r frame place follows (Some title) rows → IsTitleOfWords frame.gutter title → All (IsUnnumbered frame.gutter) rows
+pub title_unnumbered : (r : Renderer) (frame : Layout) (place : GroupPosition) (follows : Next) (title : Title) (rows : List (List Cell))
+    → ShowsTitlePart r frame place follows (Some title) rows → IsTitleOfWords frame.gutter title → All (IsUnnumbered frame.gutter) rows
 title_unnumbered r frame place follows title rows shown words =
     let heading : Heading = heading_of_title title in
     let hidden : Bool = is_hidden title.level.name in

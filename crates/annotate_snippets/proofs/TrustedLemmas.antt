@@ -78,22 +78,27 @@ own_text trusted heading among text own =
     All-weaker (λ c. is_listed c ≡ true → (heading.allows_styling ≡ true) × Contains (chars heading.text) c) (IsTrusted trusted) (λ c is listed. among (is listed).0 c (is listed).1) text own
 
 -- a row that holds no other
-pub own_row : (trusted : List (List ℕ)) (heading : Heading) → (heading.allows_styling ≡ true → (c : ℕ) → Contains (chars heading.text) c → Contains (flat_map chars trusted) c) → (row : List Cell) → IsFreeButText heading row → IsFreeRow trusted row
+pub own_row : (trusted : List (List ℕ)) (heading : Heading)
+    → (heading.allows_styling ≡ true → (c : ℕ) → Contains (chars heading.text) c → Contains (flat_map chars trusted) c) → (row : List Cell)
+    → IsFreeButText heading row → IsFreeRow trusted row
 own_row trusted heading among row own = own_text trusted heading among (row_text row) own
 
 -- the text of a title is among the trusted ones if it is trusted, and that of a message is
-pub title_among : (title : Title) (more : List (List ℕ)) → title.allows_styling ≡ true → (c : ℕ) → Contains (chars (cow_str_bytes title.text)) c → Contains (flat_map chars (flat_map trusted_of_title (title ∷ []) ++ more)) c
+pub title_among : (title : Title) (more : List (List ℕ)) → title.allows_styling ≡ true → (c : ℕ) → Contains (chars (cow_str_bytes title.text)) c
+    → Contains (flat_map chars (flat_map trusted_of_title (title ∷ []) ++ more)) c
 title_among title more styled c is =
     let text : List ℕ = cow_str_bytes title.text in
     let same : flat_map trusted_of_title (title ∷ []) ++ more ≡ text ∷ more = rw styled refl in
     subst (λ (ts : List (List ℕ)). Contains (flat_map chars ts) c) (sym same) (Contains-append_left (chars text) (flat_map chars more) c is)
 
 -- each character of a trusted message is one of the trusted texts
-pub message_among : (trusted : List (List ℕ)) (message : MessageGiven) → AreTextsAmong trusted (trusted_of_element (Message message)) → (c : ℕ) → Contains (chars (cow_str_bytes message.text)) c → Contains (flat_map chars trusted) c
+pub message_among : (trusted : List (List ℕ)) (message : MessageGiven) → AreTextsAmong trusted (trusted_of_element (Message message)) → (c : ℕ)
+    → Contains (chars (cow_str_bytes message.text)) c → Contains (flat_map chars trusted) c
 message_among trusted message among c is = among c (Contains-append_left (chars (cow_str_bytes message.text)) [] c is)
 
 -- the rows below a title
-pub after_title-free : (r : Renderer) (frame : Layout) (place : GroupPosition) (follows : Next) (trusted : Bool) → All IsFree (rows_after_title r frame place follows trusted)
+pub after_title-free : (r : Renderer) (frame : Layout) (place : GroupPosition) (follows : Next) (trusted : Bool)
+    → All IsFree (rows_after_title r frame place follows trusted)
 after_title-free r frame place follows trusted = by (is_before_message follows) _
   where
     closing : (closes : Bool) → All IsFree (if closes then closing_rows r frame else [])
@@ -105,7 +110,8 @@ after_title-free r frame place follows trusted = by (is_before_message follows) 
     by false closes = closing closes
 
 -- the listed characters of a title's part of a group are of its trusted text
-pub title_part-free : (r : Renderer) (frame : Layout) (place : GroupPosition) (follows : Next) (title : Option Title) (more : List (List ℕ)) → All (IsFreeRow (flat_map trusted_of_title (option_to_list title) ++ more)) (title_part r frame place follows title)
+pub title_part-free : (r : Renderer) (frame : Layout) (place : GroupPosition) (follows : Next) (title : Option Title) (more : List (List ℕ))
+    → All (IsFreeRow (flat_map trusted_of_title (option_to_list title) ++ more)) (title_part r frame place follows title)
 title_part-free r frame place follows None more = All-nil (IsFreeRow more)
 title_part-free r frame place follows (Some title) more =
     let trusted : List (List ℕ) = flat_map trusted_of_title (title ∷ []) ++ more in
@@ -117,7 +123,8 @@ title_part-free r frame place follows (Some title) more =
     (free_rows trusted after (after_title-free r frame place follows title.allows_styling))
 
 -- so are those of the rows of an element whose trusted texts are among these
-pub element-free : (trusted : List (List ℕ)) (e : Element) (part : List NamedRow) → AreTextsAmong trusted (trusted_of_element e) → IsFreeElement e part → All (IsFreeRow trusted) (cells_of part)
+pub element-free : (trusted : List (List ℕ)) (e : Element) (part : List NamedRow) → AreTextsAmong trusted (trusted_of_element e) → IsFreeElement e part
+    → All (IsFreeRow trusted) (cells_of part)
 element-free trusted (Message message) part among free =
     All-map (IsFreeRow trusted) (λ (row : NamedRow). row.cells)
     part (All-weaker (λ (row : NamedRow). IsFreeButText (heading_of_message message)

@@ -12,31 +12,38 @@ use Rattle.snippet_model.specs.declared.snippet.Group.{Group}
 use Rattle.annotate_snippets.specs.Around.{file_of_element, primary_path, report_path}
 
 -- what the rest of a list gives, one item on
-pub filter_map-rest : {X Y : Type 0} (h : X → Option Y) (xs : List X) (i : ℕ) (x : X) → i < length xs → x ≡ get_or xs i x → filter_map h (drop i xs) ≡ cons_option (h x) (filter_map h (drop (i + 1) xs))
+pub filter_map-rest : {X Y : Type 0} (h : X → Option Y) (xs : List X) (i : ℕ) (x : X) → i < length xs → x ≡ get_or xs i x
+    → filter_map h (drop i xs) ≡ cons_option (h x) (filter_map h (drop (i + 1) xs))
 filter_map-rest h xs i x within is =
     ap (filter_map h) (drop_more xs i x within) ∙ ap (λ y. cons_option (h y) (filter_map h (drop (i + 1) xs))) (sym is)
 
 -- where nothing before an item gives anything, and the item does, it is the first
-pub filter_map-first : {X Y : Type 0} (h : X → Option Y) (xs : List X) (i : ℕ) (x : X) (y : Y) → filter_map h xs ≡ filter_map h (drop i xs) → i < length xs → x ≡ get_or xs i x → h x ≡ Some y → slice_get (filter_map h xs) 0 ≡ Some y
+pub filter_map-first : {X Y : Type 0} (h : X → Option Y) (xs : List X) (i : ℕ) (x : X) (y : Y) → filter_map h xs ≡ filter_map h (drop i xs) → i < length xs
+    → x ≡ get_or xs i x → h x ≡ Some y → slice_get (filter_map h xs) 0 ≡ Some y
 filter_map-first h xs i x y none within is some =
     ap (λ ys. slice_get ys 0) (none ∙ filter_map-rest h xs i x within is ∙ ap (λ t. cons_option t (filter_map h (drop (i + 1) xs))) some)
 
 -- nor does it give anything, where it doesn't
-pub filter_map-passed : {X Y : Type 0} (h : X → Option Y) (xs : List X) (i : ℕ) (x : X) → filter_map h xs ≡ filter_map h (drop i xs) → i < length xs → x ≡ get_or xs i x → h x ≡ None → filter_map h xs ≡ filter_map h (drop (i + 1) xs)
+pub filter_map-passed : {X Y : Type 0} (h : X → Option Y) (xs : List X) (i : ℕ) (x : X) → filter_map h xs ≡ filter_map h (drop i xs) → i < length xs
+    → x ≡ get_or xs i x → h x ≡ None → filter_map h xs ≡ filter_map h (drop (i + 1) xs)
 filter_map-passed h xs i x none within is nothing =
     none ∙ filter_map-rest h xs i x within is ∙ ap (λ t. cons_option t (filter_map h (drop (i + 1) xs))) nothing
 
 -- and nothing does, where no item is left
-pub filter_map-none : {X Y : Type 0} (h : X → Option Y) (xs : List X) (i : ℕ) → filter_map h xs ≡ filter_map h (drop i xs) → length xs ≤ i → slice_get (filter_map h xs) 0 ≡ None
+pub filter_map-none : {X Y : Type 0} (h : X → Option Y) (xs : List X) (i : ℕ) → filter_map h xs ≡ filter_map h (drop i xs) → length xs ≤ i
+    → slice_get (filter_map h xs) 0 ≡ None
 filter_map-none h xs i none past = ap (λ ys. slice_get ys 0) (none ∙ ap (filter_map h) (drop_all i xs past))
 
 -- the path of a group's primary file
-pub primary_path-first : (g : Group) (es : List Element) (i : ℕ) (e : Element) (path : Option (List ℕ)) → es ≡ g.elements.items → filter_map file_of_element es ≡ filter_map file_of_element (drop i es) → i < length es → e ≡ get_or es i e → file_of_element e ≡ Some path → path ≡ primary_path g
+pub primary_path-first : (g : Group) (es : List Element) (i : ℕ) (e : Element) (path : Option (List ℕ)) → es ≡ g.elements.items
+    → filter_map file_of_element es ≡ filter_map file_of_element (drop i es) → i < length es → e ≡ get_or es i e → file_of_element e ≡ Some path
+    → path ≡ primary_path g
 primary_path-first g es i e path same none within is some =
     sym (ap (λ (xs : List Element). option_flatten (slice_get (filter_map file_of_element xs) 0)) (sym same) ∙ ap option_flatten (filter_map-first file_of_element es i e path none within is some))
 
 -- a group has no primary path where none of its elements has one
-pub primary_path-none : (g : Group) (es : List Element) (i : ℕ) → es ≡ g.elements.items → filter_map file_of_element es ≡ filter_map file_of_element (drop i es) → length es ≤ i → None ≡ primary_path g
+pub primary_path-none : (g : Group) (es : List Element) (i : ℕ) → es ≡ g.elements.items → filter_map file_of_element es ≡ filter_map file_of_element (drop i es)
+    → length es ≤ i → None ≡ primary_path g
 primary_path-none g es i same none past =
     sym (ap (λ (xs : List Element). option_flatten (slice_get (filter_map file_of_element xs) 0)) (sym same) ∙ ap option_flatten (filter_map-none file_of_element es i none past))
 
@@ -49,6 +56,7 @@ no_file (Origin o) cause origin = absurd (origin o refl)
 no_file (Padding p) cause origin = refl
 
 -- the path of a report's primary file
-pub report_path-first : (gs : List Group) (i : ℕ) (g : Group) (path : List ℕ) → filter_map primary_path gs ≡ filter_map primary_path (drop i gs) → i < length gs → g ≡ get_or gs i g → primary_path g ≡ Some path → Some path ≡ report_path gs
+pub report_path-first : (gs : List Group) (i : ℕ) (g : Group) (path : List ℕ) → filter_map primary_path gs ≡ filter_map primary_path (drop i gs) → i < length gs
+    → g ≡ get_or gs i g → primary_path g ≡ Some path → Some path ≡ report_path gs
 report_path-first gs i g path none within is some =
     sym (filter_map-first primary_path gs i g path none within is some)

@@ -1,5 +1,6 @@
 -- The greatest of what some elements want: as wide a gutter as any of them, as many bars as stand beside any of them.
-use Rattle.std.proofs.Common.{◌≡◌, ℕ, ◌+◌, ◌<◌, ◌&&◌, max, fold, map, take, Bool, true, false, cond, List, [], ◌∷◌, ◌++◌, length, get_or, refl, sym, ap, ◌∙◌, arith}
+use Rattle.std.proofs.Common.{◌≡◌, ℕ, ◌+◌, ◌<◌, ◌&&◌, max, fold, map, take, Bool, true, false, cond, List, [], ◌∷◌, ◌++◌, length, get_or, refl, sym, ap, ◌∙◌}
+use Rattle.std.proofs.Common.{arith}
 use Rattle.std.specs.List.{filter, flat_map}
 use Rattle.std.specs.Fmt.{decimal}
 use Rattle.std.proofs.lemmas.Grind.{flat_map-append}
@@ -20,7 +21,8 @@ abbrev pub greater : (Element → ℕ) → ℕ → Element → ℕ
 greater wants most e = max (wants e) most
 
 -- one more of some elements, as they were prepared
-pub widest-more : (wants : Element → ℕ) (most : ℕ) (ps : List PreparedElement) (i : ℕ) (p : PreparedElement) → i < length ps → p ≡ get_or ps i p → fold (greater wants) most (map element_of (take (i + 1) ps)) ≡ max (wants (element_of p)) (fold (greater wants) most (map element_of (take i ps)))
+pub widest-more : (wants : Element → ℕ) (most : ℕ) (ps : List PreparedElement) (i : ℕ) (p : PreparedElement) → i < length ps → p ≡ get_or ps i p
+    → fold (greater wants) most (map element_of (take (i + 1) ps)) ≡ max (wants (element_of p)) (fold (greater wants) most (map element_of (take i ps)))
 widest-more wants most ps i p within is =
     let f : ℕ → Element → ℕ = greater wants in
     fold-map f element_of most (take (i + 1) ps) ∙ fold_more (λ m q. f m (element_of q)) most ps i p within ∙ ap (λ q. f (fold (λ m t. f m (element_of t)) most (take i ps)) (element_of q)) (sym is) ∙ ap (λ m. f m (element_of p)) (sym (fold-map f element_of most (take i ps)))
@@ -48,11 +50,13 @@ depth-undrawn (Origin o) out = refl
 depth-undrawn (Padding p) out = refl
 
 -- so the greatest is that of those that are drawn
-pub widest-drawn : (wants : Element → ℕ) → ((e : Element) → is_drawn e ≡ false → wants e ≡ 0) → (most : ℕ) (es : List Element) → fold (greater wants) most (filter is_drawn es) ≡ fold (greater wants) most es
+pub widest-drawn : (wants : Element → ℕ) → ((e : Element) → is_drawn e ≡ false → wants e ≡ 0) → (most : ℕ) (es : List Element)
+    → fold (greater wants) most (filter is_drawn es) ≡ fold (greater wants) most es
 widest-drawn wants none most [] = refl
 widest-drawn wants none most (e ∷ es) = by (is_drawn e) refl (λ m. widest-drawn wants none m es)
   where
-    by : (drawn : Bool) → is_drawn e ≡ drawn → ((m : ℕ) → fold (greater wants) m (filter is_drawn es) ≡ fold (greater wants) m es) → fold (greater wants) most (cond (is_drawn e) (e ∷ filter is_drawn es) (filter is_drawn es)) ≡ fold (greater wants) (greater wants most e) es
+    by : (drawn : Bool) → is_drawn e ≡ drawn → ((m : ℕ) → fold (greater wants) m (filter is_drawn es) ≡ fold (greater wants) m es)
+        → fold (greater wants) most (cond (is_drawn e) (e ∷ filter is_drawn es) (filter is_drawn es)) ≡ fold (greater wants) (greater wants most e) es
     by true is rest =
         ap (λ b. fold (greater wants) most (cond b (e ∷ filter is_drawn es) (filter is_drawn es))) is ∙ rest (greater wants most e)
     by false is rest =

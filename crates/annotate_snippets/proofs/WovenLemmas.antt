@@ -20,7 +20,8 @@ IsWoven-nil sheet =
     record { pieces = []; text_is = refl; plain_is = refl; links_are = refl; of_sheet = All-nil (IsOfSheet sheet); ended = refl }
 
 -- two woven texts with a line feed between them
-pub IsWoven-joined : (sheet : Stylesheet) (a pa : List ℕ) (la : List (List ℕ)) (b pb : List ℕ) (lb : List (List ℕ)) → IsWoven sheet a pa la → IsWoven sheet b pb lb → IsWoven sheet (a ++ 10 ∷ b) (pa ++ 10 ∷ pb) (la ++ lb)
+pub IsWoven-joined : (sheet : Stylesheet) (a pa : List ℕ) (la : List (List ℕ)) (b pb : List ℕ) (lb : List (List ℕ)) → IsWoven sheet a pa la
+    → IsWoven sheet b pb lb → IsWoven sheet (a ++ 10 ∷ b) (pa ++ 10 ∷ pb) (la ++ lb)
 IsWoven-joined sheet a pa la b pb lb first second =
     let pieces : List Piece = first.pieces ++ Char 10 ∷ second.pieces in
     let fed : piece_text (Char 10) ≡ 10 ∷ [] = encode_ascii 10 (lit< tt) in
@@ -42,7 +43,8 @@ abbrev pub grid_links : GroupGrid → List (List ℕ)
 grid_links grid = links_of grid.buffer
 
 -- so texts that print the groups of a page, joined, are woven of the page's characters, with the page's links
-IsWoven-from_groups : (sheet : Stylesheet) (levels : List LevelInner) (page : Page) (parts : List (List ℕ)) → ArePrinted sheet levels page parts → IsWoven sheet (join_with_byte 10 parts) (page_text page) (page_links page)
+IsWoven-from_groups : (sheet : Stylesheet) (levels : List LevelInner) (page : Page) (parts : List (List ℕ)) → ArePrinted sheet levels page parts
+    → IsWoven sheet (join_with_byte 10 parts) (page_text page) (page_links page)
 IsWoven-from_groups sheet [] [] [] printed = IsWoven-nil sheet
 IsWoven-from_groups sheet [] [] (part ∷ parts) printed = absurd printed
 IsWoven-from_groups sheet [] (g ∷ gs) parts printed = absurd printed
@@ -60,6 +62,7 @@ IsWoven-from_groups sheet (level ∷ more ∷ levels) (g ∷ other ∷ gs) (part
     (IsWoven-from_groups sheet (more ∷ levels) (other ∷ gs) (next ∷ parts) printed.1)
 
 -- what prints a page is woven of its text with its links
-pub IsWoven-from_page : (sheet : Stylesheet) (levels : List LevelInner) (page : Page) (text : List ℕ) → PrintsPage sheet levels page text → IsWoven sheet text (page_text page) (page_links page)
+pub IsWoven-from_page : (sheet : Stylesheet) (levels : List LevelInner) (page : Page) (text : List ℕ) → PrintsPage sheet levels page text
+    → IsWoven sheet text (page_text page) (page_links page)
 IsWoven-from_page sheet levels page text prints =
     subst (λ t. IsWoven sheet t (page_text page) (page_links page)) (sym prints.joined) (IsWoven-from_groups sheet levels page prints.parts prints.printed)

@@ -141,7 +141,8 @@ pub record AddsElement (r : Renderer) (frame : Layout) (around : ElementContext)
 -- each of these parts is the rows of one of these elements, which are all that a group draws, in order
 pub record AreElementsDrawn (r : Renderer) (frame : Layout) (place : GroupPosition) (file : Option (List ℕ)) (es : List Element) (parts : List (List (List Cell))) : Type 0 where
   pub count : length parts ≡ length es
-  pub each : (i : ℕ) (e : Element) → slice_get es i ≡ Some e → IsElementDrawn r frame (context_at place file es i e) (found_at r frame es i) e (slice_index_or parts i [])
+  pub each : (i : ℕ) (e : Element) → slice_get es i ≡ Some e
+      → IsElementDrawn r frame (context_at place file es i e) (found_at r frame es i) e (slice_index_or parts i [])
 
 -- the rows of these elements stand below some rows, and nothing else
 pub record AddsElements (r : Renderer) (frame : Layout) (place : GroupPosition) (file : Option (List ℕ)) (es : List Element) (old new : List (List Cell)) : Type 0 where
@@ -165,7 +166,8 @@ pub record IsGroupGrid (r : Renderer) (frame : Layout) (place : GroupPosition) (
 -- each grid is that of a group, in order, and is printed in the group's level
 pub record AreGridsOf (r : Renderer) (groups : List Group) (grids : List GroupGrid) : Type 0 where
   pub levels : map (λ grid. grid.level) grids ≡ map (λ g. g.level) groups
-  pub each : (i : ℕ) (g : Group) (grid : GroupGrid) → slice_get groups i ≡ Some g → slice_get grids i ≡ Some grid → IsGroupGrid r (frame_of r groups g) (place_at (length groups) i) (file_of_group groups g) g grid.buffer
+  pub each : (i : ℕ) (g : Group) (grid : GroupGrid) → slice_get groups i ≡ Some g → slice_get grids i ≡ Some grid
+      → IsGroupGrid r (frame_of r groups g) (place_at (length groups) i) (file_of_group groups g) g grid.buffer
 
 -- the one grid of the short form is that of the first group, which has a title
 pub record IsShortPage (r : Renderer) (groups : List Group) (grids : List GroupGrid) : Type 0 where

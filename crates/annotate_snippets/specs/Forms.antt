@@ -54,7 +54,8 @@ pub record ShowsShort (r : Renderer) (g : Group) (title : Title) (rows : List (L
   pub rows_are : rows ≡ short_form r g title
   pub texts : (i : ℕ) → row_text (row_at rows i) ≡ slice_index_or (short_texts (before_title r g) (after_title g) (heading_of_title title)) i []
   pub origin : (s : Snippet Annotation) → first_cause g.elements.items ≡ Some s → (path : List ℕ) → path_bytes s.path ≡ Some path
-      → list_any (λ a. is_marking a.kind) s.markers.items ≡ true → All (λ a. is_long (cow_str_bytes s.source) a ≡ false) s.markers.items → BeginsWithPlace r s path (row_at rows 0)
+      → list_any (λ a. is_marking a.kind) s.markers.items ≡ true → All (λ a. is_long (cow_str_bytes s.source) a ≡ false) s.markers.items
+      → BeginsWithPlace r s path (row_at rows 0)
   pub free : All (IsFreeButText (heading_of_title title)) rows
 
 -- the addresses that the short form links to: those of the first group

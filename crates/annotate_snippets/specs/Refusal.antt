@@ -1,7 +1,8 @@
 -- What a refusal prints.
 use Rattle.std.specs.Prelude.{ℕ, List, ◌++◌, codes, decimal}
 use Rattle.annotate_snippets.specs.declared.renderer.error.RenderError.{RenderError}
-use Rattle.annotate_snippets.specs.declared.renderer.error.RenderError.TheVariants.{NoGroup, NoTitle, SpanReversed, SpanPastEnd, SpanOffBoundary, PatchesOverlap, LineNumberTooLarge, Memory}
+use Rattle.annotate_snippets.specs.declared.renderer.error.RenderError.TheVariants.{NoGroup, NoTitle, SpanReversed, SpanPastEnd, SpanOffBoundary}
+use Rattle.annotate_snippets.specs.declared.renderer.error.RenderError.TheVariants.{PatchesOverlap, LineNumberTooLarge, Memory}
 
 -- the place of an element, and what is said of it
 abbrev pub of_element : ℕ → ℕ → List ℕ → List ℕ

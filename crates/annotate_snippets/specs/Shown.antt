@@ -1,6 +1,7 @@
 -- What the page of a report shows.
 use Rattle.snippet_style.specs.Stylesheet.{is_plain_sheet}
-use Rattle.std.specs.Prelude.{◌≡◌, ◌⊎◌, ℕ, ◌+◌, ◌-◌, ◌<◌, ◌≤◌, ◌==◌, ◌&&◌, nat_le, nat_lt, max, Bool, true, false, List, [], ◌∷◌, ◌++◌, All, Contains, Option, Some, None, filter, length, map, take, drop, replicate, chars, if◌then◌else◌, encode_utf8_all}
+use Rattle.std.specs.Prelude.{◌≡◌, ◌⊎◌, ℕ, ◌+◌, ◌-◌, ◌<◌, ◌≤◌, ◌==◌, ◌&&◌, nat_le, nat_lt, max, Bool, true, false, List, [], ◌∷◌, ◌++◌, All, Contains, Option}
+use Rattle.std.specs.Prelude.{Some, None, filter, length, map, take, drop, replicate, chars, if◌then◌else◌, encode_utf8_all}
 use Rattle.std.specs.List.{AllZip, flat_map, count_by, list_any, slice_get, slice_index_or}
 use Rattle.std.specs.Option.{option_map, option_to_list}
 use Rattle.std.specs.Char.{is_ascii_alphanumeric}
@@ -69,7 +70,9 @@ use Rattle.annotate_snippets.specs.GraphicForm.{graphic_form}
 use Rattle.annotate_snippets.specs.Gutter.{frame_of, line_numbers, number_text, numbered_source}
 use Rattle.annotate_snippets.specs.LineRows.{AreRowsDrawn}
 use Rattle.annotate_snippets.specs.Numbers.{HasNumbersOfLines, IsTitleOfWords, IsUnnumbered}
-use Rattle.annotate_snippets.specs.Page.{RowName, SourceRow, Elision, OfferedLine, RemovedLine, Other, NamedRow, lines_named, lines_offered, lines_removed, names_in, names_of_lines, cells_below, cells_of, rows_below, others, GroupPage, Page, page_text, PrintsPage, IsAscending, page_links}
+use Rattle.annotate_snippets.specs.Page.{RowName, SourceRow, Elision, OfferedLine, RemovedLine, Other, NamedRow, lines_named, lines_offered, lines_removed}
+use Rattle.annotate_snippets.specs.Page.{names_in, names_of_lines, cells_below, cells_of, rows_below, others, GroupPage, Page, page_text, PrintsPage}
+use Rattle.annotate_snippets.specs.Page.{IsAscending, page_links}
 use Rattle.annotate_snippets.specs.SpanBars.{ShowsBars}
 use Rattle.annotate_snippets.specs.Rows.{cause_head, message_style, origin_rows, place_found, place_given, rows_after_cause, rows_after_title, suggestion_head}
 
@@ -148,7 +151,8 @@ pub record ShowsSourceLine (r : Renderer) (frame : Layout) (s : Snippet Annotati
   pub space : slice_index_or row (frame.gutter + 2) SPACE ≡ SPACE
   pub bars : HasBarsAlone frame.decor frame row
   pub window : IsWindowOf (placeholder_of frame.decor) (room_of r frame) (wide_spans (room_of r frame) (length (placeholder_of frame.decor)) s k) (bounds_in r frame s).left (bounds_in r frame s).right (norm (chars_at (cow_str_bytes s.source) k)) dropped (row_text (drop frame.code row))
-  pub whole : stands_whole (room_of r frame) (length (placeholder_of frame.decor)) s.fold (cow_str_bytes s.source) s.markers.items k ≡ true → (dropped ≡ 0) × (row_text (drop frame.code row) ≡ norm (chars_at (cow_str_bytes s.source) k))
+  pub whole : stands_whole (room_of r frame) (length (placeholder_of frame.decor)) s.fold (cow_str_bytes s.source) s.markers.items k ≡ true
+      → (dropped ≡ 0) × (row_text (drop frame.code row) ≡ norm (chars_at (cow_str_bytes s.source) k))
 
 -- the row has the marks of line k: below each column that has a mark it holds a glyph of the mark's kind, as the decor draws
 -- it, in the role of its strokes; below any other column no cell is in the role of marks, and left of all spans of the line
@@ -156,11 +160,16 @@ pub record ShowsSourceLine (r : Renderer) (frame : Layout) (s : Snippet Annotati
 -- code's cell on. Where the line has one span alone and it has such a label, the row goes on after the span's last column
 -- with a space and the label, and ends
 pub record ShowsMarksOf (decor : DecorStyle) (frame : Layout) (s : Snippet Annotation) (k dropped : ℕ) (row : List Cell) : Type 0 where
-  pub marks : (p : ℕ) (kind : AnnotationKind) → IsMarkOf (cow_str_bytes s.source) s.markers.items k p kind → IsMarkCell decor kind (slice_index_or row (cell_of frame dropped p) SPACE)
-  pub unmarked : (p : ℕ) → dropped ≤ p → All (λ a. IsMarkedAt (cow_str_bytes s.source) k p a → ⊥) s.markers.items → has_mark_role (slice_index_or row (cell_of frame dropped p) SPACE) ≡ false
-  pub before : (p : ℕ) → dropped ≤ p → All (λ a. is_marked_on (cow_str_bytes s.source) k a ≡ true → p < start_column (cow_str_bytes s.source) a) s.markers.items → slice_index_or row (cell_of frame dropped p) SPACE ≡ SPACE
-  pub spaces : All (λ a. is_marked_on (cow_str_bytes s.source) k a ≡ true → shown_label a ≡ []) s.markers.items → (p : ℕ) → dropped ≤ p → All (λ a. IsMarkedAt (cow_str_bytes s.source) k p a → ⊥) s.markers.items → slice_index_or row (cell_of frame dropped p) SPACE ≡ SPACE
-  pub lone : (a : Annotation) → filter (is_marked_on (cow_str_bytes s.source) k) s.markers.items ≡ a ∷ [] → 0 < length (shown_label a) → row_text (drop (cell_of frame dropped (end_column (cow_str_bytes s.source) a)) row) ≡ 32 ∷ shown_label a
+  pub marks : (p : ℕ) (kind : AnnotationKind) → IsMarkOf (cow_str_bytes s.source) s.markers.items k p kind
+      → IsMarkCell decor kind (slice_index_or row (cell_of frame dropped p) SPACE)
+  pub unmarked : (p : ℕ) → dropped ≤ p → All (λ a. IsMarkedAt (cow_str_bytes s.source) k p a → ⊥) s.markers.items
+      → has_mark_role (slice_index_or row (cell_of frame dropped p) SPACE) ≡ false
+  pub before : (p : ℕ) → dropped ≤ p → All (λ a. is_marked_on (cow_str_bytes s.source) k a ≡ true → p < start_column (cow_str_bytes s.source) a) s.markers.items
+      → slice_index_or row (cell_of frame dropped p) SPACE ≡ SPACE
+  pub spaces : All (λ a. is_marked_on (cow_str_bytes s.source) k a ≡ true → shown_label a ≡ []) s.markers.items → (p : ℕ) → dropped ≤ p
+      → All (λ a. IsMarkedAt (cow_str_bytes s.source) k p a → ⊥) s.markers.items → slice_index_or row (cell_of frame dropped p) SPACE ≡ SPACE
+  pub lone : (a : Annotation) → filter (is_marked_on (cow_str_bytes s.source) k) s.markers.items ≡ a ∷ [] → 0 < length (shown_label a)
+      → row_text (drop (cell_of frame dropped (end_column (cow_str_bytes s.source) a)) row) ≡ 32 ∷ shown_label a
 
 -- a label as it is to be drawn: its characters, the kind whose role it has, and the columns at which its mark begins and ends
 pub record SpanLabel : Type 0 where
@@ -229,7 +238,8 @@ pub record ShowsLabels (decor : DecorStyle) (frame : Layout) (s : Snippet Annota
 pub record ShowsLineAndMarks (r : Renderer) (frame : Layout) (s : Snippet Annotation) (k : ℕ) (row below : List Cell) (rows : List (List Cell)) : Type 0 where
   pub dropped : ℕ
   pub line : ShowsSourceLine r frame s k dropped row
-  pub marks : qualifies_for_marks (room_of r frame) (length (placeholder_of frame.decor)) (cow_str_bytes s.source) s.markers.items k ≡ true → ShowsMarksOf frame.decor frame s k dropped below
+  pub marks : qualifies_for_marks (room_of r frame) (length (placeholder_of frame.decor)) (cow_str_bytes s.source) s.markers.items k ≡ true
+      → ShowsMarksOf frame.decor frame s k dropped below
   pub labels : wide_spans (room_of r frame) (length (placeholder_of frame.decor)) s k ≡ 0 → ShowsLabels frame.decor frame s k dropped rows
 
 -- a row below that of a line: up to the bars it has just the cells of a separator row, or where the group's window closes with it
@@ -276,7 +286,8 @@ pub record NamesLocation (r : Renderer) (frame : Layout) (s : Snippet Annotation
 pub record ShowsSnippet (r : Renderer) (frame : Layout) (around : ElementContext) (s : Snippet Annotation) (rows : List NamedRow) : Type 0 where
   pub after : List NamedRow
   pub rows_are : rows ≡ others (cause_head r frame around s) ++ (after ++ others (rows_after_cause r frame around))
-  pub origin : around.primary ≡ true → (path : List ℕ) → path_bytes s.path ≡ Some path → list_any (λ a. is_marking a.kind) s.markers.items ≡ true → All (λ a. is_long (cow_str_bytes s.source) a ≡ false) s.markers.items → NamesLocation r frame s path (row_at (cells_of rows) 0)
+  pub origin : around.primary ≡ true → (path : List ℕ) → path_bytes s.path ≡ Some path → list_any (λ a. is_marking a.kind) s.markers.items ≡ true
+      → All (λ a. is_long (cow_str_bytes s.source) a ≡ false) s.markers.items → NamesLocation r frame s path (row_at (cells_of rows) 0)
   pub lines : lines_named after ≡ shown_lines s.fold (cow_str_bytes s.source) s.markers.items
   pub elided : names_in after ≡ names_of_lines (shown_lines s.fold (cow_str_bytes s.source) s.markers.items)
   pub ends : All (λ a. Contains (lines_named after) (first_line (cow_str_bytes s.source) a) × Contains (lines_named after) (last_line (cow_str_bytes s.source) a)) s.markers.items
@@ -293,11 +304,13 @@ pub record IsOfferedRow (r : Renderer) (decor : DecorStyle) (gutter : ℕ) (s : 
   pub from : first_given s ≤ j
   pub within : j < first_given s + length (given_lines s)
   pub number : let shown = number_text r s.line_numbering gutter (s.line_start + j) in row_text (take (length shown) row) ≡ shown
-  pub beside : (c : ℕ) → length (number_text r s.line_numbering gutter (s.line_start + j)) ≤ c → c < gutter + 3 → is_ascii_alphanumeric (slice_index_or row c SPACE).ch ≡ false
+  pub beside : (c : ℕ) → length (number_text r s.line_numbering gutter (s.line_start + j)) ≤ c → c < gutter + 3
+      → is_ascii_alphanumeric (slice_index_or row c SPACE).ch ≡ false
   pub sign : IsSign decor (slice_index_or row (gutter + 1) SPACE).ch
   pub space : (slice_index_or row (gutter + 2) SPACE).ch ≡ 32
   pub line : row_text (drop (gutter + 3) row) ≡ norm (chars (slice_index_or (given_lines s) (j - first_given s) []))
-  pub patched_line : IsOfferable s → (j < length (source_lines (patched (cow_str_bytes s.source) (edits_of s)))) × (row_text (drop (gutter + 3) row) ≡ norm (chars (text_at (source_lines (patched (cow_str_bytes s.source) (edits_of s))) j)))
+  pub patched_line : IsOfferable s
+      → (j < length (source_lines (patched (cow_str_bytes s.source) (edits_of s)))) × (row_text (drop (gutter + 3) row) ≡ norm (chars (text_at (source_lines (patched (cow_str_bytes s.source) (edits_of s))) j)))
 
 -- a row of a suggestion is what its name says: it offers a line; or it shows a line of the source as removed: with the number
 -- beside it, if that ends before the sign, `-` after the gutter, the line's normalised text from three cells after it on, and no letter
@@ -328,7 +341,8 @@ HasStrokes decor gutter (Ends follows) row = HasLeft gutter (beside_gutter gutte
 pub record ShowsSuggestion (r : Renderer) (frame : Layout) (around : ElementContext) (found : List Cell) (s : Snippet Patch) (rows : List NamedRow) : Type 0 where
   pub after : List NamedRow
   pub rows_are : rows ≡ others (suggestion_head r frame around s) ++ after
-  pub offered : IsOfferable s → (j : ℕ) → IsTouched (cow_str_bytes s.source) (edits_of s) j → is_blank (text_at (source_lines (patched (cow_str_bytes s.source) (edits_of s))) j) ≡ false → IsAsItWas s ⊎ Contains (lines_offered after) j
+  pub offered : IsOfferable s → (j : ℕ) → IsTouched (cow_str_bytes s.source) (edits_of s) j
+      → is_blank (text_at (source_lines (patched (cow_str_bytes s.source) (edits_of s))) j) ≡ false → IsAsItWas s ⊎ Contains (lines_offered after) j
   pub order : map (λ row. row.name) after ≡ map (name_of_row s) (suggestion_rows around s)
   pub cells : cells_of after ≡ suggestion_lines r frame around found s
   pub signs : AllZip (HasSign (suggestion_layout r frame s) s) (suggestion_rows around s) (cells_of after)
@@ -358,7 +372,8 @@ IsFreeElement (element.Padding padding) rows = All (λ row. IsFree row.cells) ro
 -- the parts of a group's page show these elements, which are all that are drawn, one by one, in order
 pub record AreElementsShown (r : Renderer) (frame : Layout) (place : GroupPosition) (file : Option (List ℕ)) (es : List Element) (parts : List (List NamedRow)) : Type 0 where
   pub count : length parts ≡ length es
-  pub each : (i : ℕ) (e : Element) → slice_get es i ≡ Some e → ShowsElement r frame (context_at place file es i e) (found_at r frame es i) e (slice_index_or parts i [])
+  pub each : (i : ℕ) (e : Element) → slice_get es i ≡ Some e
+      → ShowsElement r frame (context_at place file es i e) (found_at r frame es i) e (slice_index_or parts i [])
   pub free : (i : ℕ) (e : Element) → slice_get es i ≡ Some e → IsFreeElement e (slice_index_or parts i [])
 
 -- the rows show a group: its title, and each element that is drawn, in order. Where a suggestion begins in the row with which
@@ -370,7 +385,8 @@ pub record ShowsGroup (r : Renderer) (frame : Layout) (place : GroupPosition) (f
 -- a page shows each group of a report, in order, in the frame that the report gives it
 pub record AreGroupsShown (r : Renderer) (groups : List Group) (page : Page) : Type 0 where
   pub count : length page ≡ length groups
-  pub each : (i : ℕ) (g : Group) (part : GroupPage) → slice_get groups i ≡ Some g → slice_get page i ≡ Some part → ShowsGroup r (frame_of r groups g) (place_at (length groups) i) (file_of_group groups g) g part
+  pub each : (i : ℕ) (g : Group) (part : GroupPage) → slice_get groups i ≡ Some g → slice_get page i ≡ Some part
+      → ShowsGroup r (frame_of r groups g) (place_at (length groups) i) (file_of_group groups g) g part
 
 -- each listed character is one of a trusted text
 abbrev pub IsFreeBut : List (List ℕ) → List ℕ → Type 0
@@ -401,6 +417,8 @@ pub record SheetsShown (r : Renderer) (groups : List Group) (sheets : List Style
   pub links : page_links page ≡ report_links r groups
   pub one_line : HasOneLineTexts groups → All HasOneLineRows page
   pub lines : HasOneLineTexts groups → text_lines (page_text page) ≡ page_lines page
-  pub numbers : (i : ℕ) (g : Group) (part : GroupPage) → slice_get groups i ≡ Some g → slice_get page i ≡ Some part → HasNumbersOfLines (frame_of r groups g).gutter part
-  pub titles : (i : ℕ) (g : Group) (part : GroupPage) (title : Title) → slice_get groups i ≡ Some g → slice_get page i ≡ Some part → g.title ≡ Some title → IsTitleOfWords (frame_of r groups g).gutter title → All (IsUnnumbered (frame_of r groups g).gutter) part.title
+  pub numbers : (i : ℕ) (g : Group) (part : GroupPage) → slice_get groups i ≡ Some g → slice_get page i ≡ Some part
+      → HasNumbersOfLines (frame_of r groups g).gutter part
+  pub titles : (i : ℕ) (g : Group) (part : GroupPage) (title : Title) → slice_get groups i ≡ Some g → slice_get page i ≡ Some part → g.title ≡ Some title
+      → IsTitleOfWords (frame_of r groups g).gutter title → All (IsUnnumbered (frame_of r groups g).gutter) part.title
   pub plain : report_links r groups ≡ [] → AllZip (λ sheet text. is_plain_sheet sheet ≡ true → text ≡ encode_utf8_all (page_text page)) sheets texts

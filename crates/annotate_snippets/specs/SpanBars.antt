@@ -58,18 +58,28 @@ bar_beside layout Other bar = solid_bar layout bar
 -- line, or stands in place of lines, a space stands in each of those cells that no such span has which touches the line; in a row below a
 -- line a space stands there too, or a part of a line that leads from another bar to a mark
 pub record ShowsBars (r : Renderer) (frame : Layout) (s : Snippet Annotation) (rows : List NamedRow) : Type 0 where
-  pub stand : (a : Annotation) → Contains s.markers.items a → is_long (cow_str_bytes s.source) a ≡ true → (above : List NamedRow) (row : NamedRow) (below : List NamedRow)
-      → rows ≡ above ++ row ∷ below → first_line (cow_str_bytes s.source) a < line_beside above row.name → line_beside above row.name < last_line (cow_str_bytes s.source) a
+  pub stand : (a : Annotation) → Contains s.markers.items a → is_long (cow_str_bytes s.source) a ≡ true
+      → (above : List NamedRow) (row : NamedRow) (below : List NamedRow)
+      → rows ≡ above ++ row ∷ below → first_line (cow_str_bytes s.source) a < line_beside above row.name
+      → line_beside above row.name < last_line (cow_str_bytes s.source) a
       → slice_index_or row.cells (bar_cell_of frame s a) SPACE ≡ bar_beside frame row.name (bar_of_span s a)
-  pub begin : (a : Annotation) → Contains s.markers.items a → is_long (cow_str_bytes s.source) a ≡ true → (above : List NamedRow) (row : NamedRow) (below : List NamedRow)
-      → rows ≡ above ++ row ∷ below → row.name ≡ SourceRow (first_line (cow_str_bytes s.source) a) → BarBegins frame (bar_of_span s a) (row.cells ∷ rows_below below)
-  pub end : (a : Annotation) → Contains s.markers.items a → is_long (cow_str_bytes s.source) a ≡ true → (above : List NamedRow) (row : NamedRow) (below : List NamedRow)
-      → rows ≡ above ++ row ∷ below → row.name ≡ SourceRow (last_line (cow_str_bytes s.source) a) → BarEnds frame (bar_of_span s a) (row.cells ∷ rows_below below)
-  pub within : (a : Annotation) → Contains s.markers.items a → is_long (cow_str_bytes s.source) a ≡ true → (frame.gutter + 3 ≤ bar_cell_of frame s a) × (bar_cell_of frame s a + 1 < frame.code)
-  pub apart : (a b : Annotation) → Contains s.markers.items a → Contains s.markers.items b → is_long (cow_str_bytes s.source) a ≡ true → is_long (cow_str_bytes s.source) b ≡ true
-      → first_line (cow_str_bytes s.source) a ≤ last_line (cow_str_bytes s.source) b → first_line (cow_str_bytes s.source) b ≤ last_line (cow_str_bytes s.source) a → bar_cell_of frame s a ≡ bar_cell_of frame s b
+  pub begin : (a : Annotation) → Contains s.markers.items a → is_long (cow_str_bytes s.source) a ≡ true
+      → (above : List NamedRow) (row : NamedRow) (below : List NamedRow)
+      → rows ≡ above ++ row ∷ below → row.name ≡ SourceRow (first_line (cow_str_bytes s.source) a)
+      → BarBegins frame (bar_of_span s a) (row.cells ∷ rows_below below)
+  pub end : (a : Annotation) → Contains s.markers.items a → is_long (cow_str_bytes s.source) a ≡ true
+      → (above : List NamedRow) (row : NamedRow) (below : List NamedRow)
+      → rows ≡ above ++ row ∷ below → row.name ≡ SourceRow (last_line (cow_str_bytes s.source) a)
+      → BarEnds frame (bar_of_span s a) (row.cells ∷ rows_below below)
+  pub within : (a : Annotation) → Contains s.markers.items a → is_long (cow_str_bytes s.source) a ≡ true
+      → (frame.gutter + 3 ≤ bar_cell_of frame s a) × (bar_cell_of frame s a + 1 < frame.code)
+  pub apart : (a b : Annotation) → Contains s.markers.items a → Contains s.markers.items b → is_long (cow_str_bytes s.source) a ≡ true
+      → is_long (cow_str_bytes s.source) b ≡ true
+      → first_line (cow_str_bytes s.source) a ≤ last_line (cow_str_bytes s.source) b
+      → first_line (cow_str_bytes s.source) b ≤ last_line (cow_str_bytes s.source) a → bar_cell_of frame s a ≡ bar_cell_of frame s b
       → (a.span.start ≡ b.span.start) × (a.span.end ≡ b.span.end)
-  pub spaces : (above : List NamedRow) (row : NamedRow) (below : List NamedRow) → rows ≡ above ++ row ∷ below → shows_lines row.name ≡ true → (c : ℕ) → frame.gutter + 3 ≤ c → c < frame.code
+  pub spaces : (above : List NamedRow) (row : NamedRow) (below : List NamedRow) → rows ≡ above ++ row ∷ below → shows_lines row.name ≡ true → (c : ℕ)
+      → frame.gutter + 3 ≤ c → c < frame.code
       → All (λ a. is_long (cow_str_bytes s.source) a ≡ true → touches (cow_str_bytes s.source) a (line_beside above row.name) ≡ true → bar_cell_of frame s a ≢ c) s.markers.items
       → slice_index_or row.cells c SPACE ≡ SPACE
   pub others : (above : List NamedRow) (row : NamedRow) (below : List NamedRow) → rows ≡ above ++ row ∷ below → (c : ℕ) → frame.gutter + 3 ≤ c → c < frame.code

@@ -11,7 +11,8 @@ different : (a b : List ℕ) → bytes_eq a b ≡ false → bytes_eq b b ≡ tru
 different a b differ same e = false≢true (sym differ ∙ ap (λ (w : List ℕ). bytes_eq w b) e ∙ same)
 
 -- `{"label": true}`: a truth value is no text that was left out (`optional_text`: `value`)
-pub label_of_other_type : (found : Option (List ℕ)) → optional_at as_str (codes "label") (object (member (codes "label") (boolean true) no_members)) ≡ Some found → ⊥
+pub label_of_other_type : (found : Option (List ℕ))
+    → optional_at as_str (codes "label") (object (member (codes "label") (boolean true) no_members)) ≡ Some found → ⊥
 label_of_other_type found is = none-some found is
 
 -- `{"label": null}`: neither is `null`

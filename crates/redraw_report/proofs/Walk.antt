@@ -1,5 +1,6 @@
 -- How a line is walked along, byte by byte.
-use Rattle.std.proofs.Common.{◌≡◌, ◌⊎◌, ℕ, suc, arith, ◌+◌, ◌<◌, ◌≤◌, Bool, false, List, ◌∷◌, drop, drop-cons, get_or, length, sym, ap, ◌∙◌, subst, inl, inr, if◌then◌else◌}
+use Rattle.std.proofs.Common.{◌≡◌, ◌⊎◌, ℕ, suc, arith, ◌+◌, ◌<◌, ◌≤◌, Bool, false, List, ◌∷◌, drop, drop-cons, get_or, length, sym, ap, ◌∙◌, subst, inl, inr}
+use Rattle.std.proofs.Common.{if◌then◌else◌}
 use Rattle.std.specs.Bool.{IsTrue}
 use Rattle.std.specs.Str.{IsCharBoundary, IsUtf8}
 use Rattle.std.proofs.lemmas.Bool.{cases_lt, false≢true}
@@ -7,7 +8,8 @@ use Rattle.std.proofs.lemmas.Str.{IsCharBoundary-start}
 use Rattle.redraw_report.specs.Region.{ends_line, line_length}
 
 -- where the line doesn't end, it is one byte longer than what comes after this byte
-pub line-next : (bytes : List ℕ) (at : ℕ) → at < length bytes → ends_line (drop at bytes) ≡ false → line_length (drop at bytes) ≡ suc (line_length (drop (at + 1) bytes))
+pub line-next : (bytes : List ℕ) (at : ℕ) → at < length bytes → ends_line (drop at bytes) ≡ false
+    → line_length (drop at bytes) ≡ suc (line_length (drop (at + 1) bytes))
 line-next bytes at within continues =
     let cons : drop at bytes ≡ get_or bytes at 0 ∷ drop (suc at) bytes = drop-cons bytes at 0 within in
     let count : at + 1 ≡ suc at = omega arith in

@@ -1,5 +1,6 @@
 -- The report that a finding becomes: which title, which place with which label, which edit.
-use Rattle.std.specs.Prelude.{string_bytes, ℕ, ◌-◌, Bool, true, false, nat_lt, ◌==◌, ◌&&◌, List, [], ◌∷◌, ◌++◌, Option, Some, None, chars, codes, length, map, take, not, if◌then◌else◌}
+use Rattle.std.specs.Prelude.{string_bytes, ℕ, ◌-◌, Bool, true, false, nat_lt, ◌==◌, ◌&&◌, List, [], ◌∷◌, ◌++◌, Option, Some, None, chars, codes, length, map}
+use Rattle.std.specs.Prelude.{take, not, if◌then◌else◌}
 use Rattle.std.specs.List.{flat_map, list_any, repeat}
 use Rattle.std.specs.Fmt.{decimal}
 use Rattle.std.specs.Option.{option_map}

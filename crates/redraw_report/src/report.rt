@@ -2,7 +2,8 @@
 ghost use Rattle.std.specs.Prelude.{◌≡◌, ◌++◌, List, [], ◌∷◌, IfOk, map};
 ghost use Rattle.redraw_report.specs.declared.finding.Remark.{Remark};
 ghost use Rattle.redraw_report.specs.Report as spec;
-ghost use Rattle.redraw_report.specs.Report.{headed_of, marked_parts, offers_parts, remark_section, report_of, section_of, sections_from};
+ghost use Rattle.redraw_report.specs.Report.{headed_of, marked_parts, offers_parts, remark_section, report_of};
+ghost use Rattle.redraw_report.specs.Report.{section_of, sections_from};
 ghost use Rattle.redraw_report.specs.View.{headed_view, part_view, section_view};
 
 use crate::finding::{Finding, Remark};

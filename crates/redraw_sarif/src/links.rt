@@ -1,7 +1,8 @@
 //! Links in messages: `[text](1)` leads to one of the result's locations, and is shown as its text.
 //!
 //! A link to an address stays as it is written, since the address would be lost.
-ghost use Rattle.std.specs.Prelude.{◌≡◌, ◌+◌, ◌<◌, ◌≤◌, ◌++◌, IfOk, OnOk, chars, drop, encode_utf8_all, false, length, slice_index, string_bytes};
+ghost use Rattle.std.specs.Prelude.{◌≡◌, ◌+◌, ◌<◌, ◌≤◌, ◌++◌, IfOk, OnOk, chars, drop, encode_utf8_all, false, length};
+ghost use Rattle.std.specs.Prelude.{slice_index, string_bytes};
 ghost use Rattle.redraw_sarif.specs.Links as spec;
 ghost use Rattle.redraw_sarif.specs.Links.{backslash_piece, link_piece, piece_of};
 

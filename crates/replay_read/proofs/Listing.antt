@@ -8,7 +8,8 @@ use Rattle.serde_json.specs.View.{view}
 use Rattle.serde_json.specs.declared.value.Value.{Value}
 
 -- one item more says one more
-pub items_more : {X : Type 0} (Says : Data → X → Type 0) (values : List Value) (i : ℕ) (v : Value) (xs : List X) (x : X) → i < length values → v ≡ get_or values i v → AllZip Says (map view (take i values)) xs → Says (view v) x → AllZip Says (map view (take (i + 1) values)) (xs ++ x ∷ [])
+pub items_more : {X : Type 0} (Says : Data → X → Type 0) (values : List Value) (i : ℕ) (v : Value) (xs : List X) (x : X) → i < length values
+    → v ≡ get_or values i v → AllZip Says (map view (take i values)) xs → Says (view v) x → AllZip Says (map view (take (i + 1) values)) (xs ++ x ∷ [])
 items_more Says values i v xs x within is all says =
     let more = map_more view values i v within ∙ ap (λ w. map view (take i values) ++ view w ∷ []) (sym is) in
     subst (λ ds. AllZip Says ds (xs ++ x ∷ [])) (sym more) (all_zipped_more Says (map view (take i values)) xs (view v) x all says)

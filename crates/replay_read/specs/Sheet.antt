@@ -1,7 +1,8 @@
 -- The sheets that a value of JSON describes.
 use Rattle.std.specs.Prelude.{◌≡◌, ◌⊎◌, ℕ, true, List, [], ◌∷◌, Option, Some, None, codes, fold}
 use Rattle.snippet_style.specs.declared.style.AnsiColor.{AnsiColor}
-use Rattle.snippet_style.specs.declared.style.AnsiColor.TheVariants.{Black, Red, Green, Yellow, Blue, Magenta, Cyan, White, BrightBlack, BrightRed, BrightGreen, BrightYellow, BrightBlue, BrightMagenta, BrightCyan, BrightWhite}
+use Rattle.snippet_style.specs.declared.style.AnsiColor.TheVariants.{Black, Red, Green, Yellow, Blue, Magenta, Cyan, White, BrightBlack, BrightRed, BrightGreen}
+use Rattle.snippet_style.specs.declared.style.AnsiColor.TheVariants.{BrightYellow, BrightBlue, BrightMagenta, BrightCyan, BrightWhite}
 use Rattle.snippet_style.specs.declared.style.Color.{Color}
 use Rattle.snippet_style.specs.declared.style.Color.TheVariants.{Ansi, Ansi256, Rgb}
 use Rattle.snippet_style.specs.declared.style.Effects.{Effects}

@@ -4,7 +4,8 @@ ghost use Rattle.std.specs.Prelude.{◌≡◌, [], ◌∷◌, Some, IfOk, codes}
 ghost use Rattle.serde_json.specs.Find.{as_str, get};
 ghost use Rattle.serde_json.specs.View.{view};
 ghost use Rattle.json_node.specs.Field.{MaySayAt};
-ghost use Rattle.replay_read.specs.Sheet.{AreBytes, AreEffectsOf, AreSheetsOf, IsColorOf, IsOwnSheetOf, IsSheetOf, IsStyleOf, MayBeEffects, MayBeStyle};
+ghost use Rattle.replay_read.specs.Sheet.{AreBytes, AreEffectsOf, AreSheetsOf, IsColorOf, IsOwnSheetOf, IsSheetOf};
+ghost use Rattle.replay_read.specs.Sheet.{IsStyleOf, MayBeEffects, MayBeStyle};
 ghost use Rattle.replay_read.specs.Sheet as spec;
 
 use crate::effect::{EFFECTS, EffectName};

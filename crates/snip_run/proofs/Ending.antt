@@ -1,5 +1,6 @@
 -- How a run ends.
-use Rattle.std.proofs.Common.{◌≡◌, ◌⊎◌, ℕ, List, Option, Some, None, String, Global, Bor, IsSomeAnd, IfSome, IsNone, MatchOption, SomeIff, alloc_error, ap, chars, codes, encode_utf8_all, inl, inr, refl, string_bytes, subst, sym, ◌∙◌}
+use Rattle.std.proofs.Common.{◌≡◌, ◌⊎◌, ℕ, List, Option, Some, None, String, Global, Bor, IsSomeAnd, IfSome, IsNone, MatchOption, SomeIff, alloc_error, ap}
+use Rattle.std.proofs.Common.{chars, codes, encode_utf8_all, inl, inr, refl, string_bytes, subst, sym, ◌∙◌}
 use Rattle.std.proofs.lemmas.Str.{IsUtf8-string_bytes, encodes-chars}
 use Rattle.annotate_snippets.specs.Normalized.{norm}
 use Rattle.std.specs.Option.{option_copied}
@@ -15,19 +16,22 @@ use Rattle.snip_run.specs.Text.{IsShownText}
 use Rattle.snip_run.specs.Words.{AreLine, Line, Word, IsCommandLine, IsCommandOf}
 
 -- where FILE gives no text to be shown, it holds none
-pub no_text : (file : Option (List ℕ)) (given : Option (Bor (List ℕ))) → MatchOption file (IsNone given) (λ bytes. SomeIff (option_copied given) (IsShownText bytes) bytes)
+pub no_text : (file : Option (List ℕ)) (given : Option (Bor (List ℕ)))
+    → MatchOption file (IsNone given) (λ bytes. SomeIff (option_copied given) (IsShownText bytes) bytes)
     → given ≡ None → IsSomeAnd file IsShownText → ⊥
 no_text None given value none shown = absurd shown
 no_text (Some bytes) None value none shown = value shown
 no_text (Some bytes) (Some source) value none shown = cc
 
 -- where it gives one, it holds that one
-pub some_text : (file : Option (List ℕ)) (source : Bor (List ℕ)) → MatchOption file (IsNone (Some source)) (λ bytes. SomeIff (option_copied (Some source)) (IsShownText bytes) bytes) → IsSomeAnd file IsShownText
+pub some_text : (file : Option (List ℕ)) (source : Bor (List ℕ))
+    → MatchOption file (IsNone (Some source)) (λ bytes. SomeIff (option_copied (Some source)) (IsShownText bytes) bytes) → IsSomeAnd file IsShownText
 some_text None source value = cc
 some_text (Some bytes) source value = value.0
 
 -- what holds of that one holds of what FILE holds
-pub of_text : (P : List ℕ → Type 0) (file : Option (List ℕ)) (source : Bor (List ℕ)) → MatchOption file (IsNone (Some source)) (λ bytes. SomeIff (option_copied (Some source)) (IsShownText bytes) bytes)
+pub of_text : (P : List ℕ → Type 0) (file : Option (List ℕ)) (source : Bor (List ℕ))
+    → MatchOption file (IsNone (Some source)) (λ bytes. SomeIff (option_copied (Some source)) (IsShownText bytes) bytes)
     → P source.now → IfSome file P
 of_text P None source value holds = tt
 of_text P (Some bytes) source value holds = subst P value.1 holds
@@ -77,7 +81,8 @@ ends_unprinted words file command text Out Err of shows out err =
     record { end = Unprinted text; may = (command, of, shows); status_is = refl; out = out; err = err }
 
 -- a run for words that aren't of the form
-pub ends_misused : (words : List Word) (file : Option (List ℕ)) (Out Err : Output → Type 0) → (IsCommandLine words → ⊥) → Out Silent → Err (Told usage) → Ends words file 2 Out Err
+pub ends_misused : (words : List Word) (file : Option (List ℕ)) (Out Err : Output → Type 0) → (IsCommandLine words → ⊥) → Out Silent → Err (Told usage)
+    → Ends words file 2 Out Err
 ends_misused words file Out Err none out err = record { end = Misused; may = none; status_is = refl; out = out; err = err }
 
 -- words that no line is are of no form

@@ -14,12 +14,14 @@ operand_fits words line are fits word among =
     All-contains TextFits words word fits (subst (λ ws. Contains ws word) (sym are.whole) (Contains-append_right front (operands_of line) word among))
 
 -- the title of a command fits, where the words do
-pub title_fits : (words : List Word) (line : Line) (command : Command) → AreLine words line → Says no_options line command → All TextFits words → TextFits command.title.now
+pub title_fits : (words : List Word) (line : Line) (command : Command) → AreLine words line → Says no_options line command → All TextFits words
+    → TextFits command.title.now
 title_fits words line command are says fits =
     subst TextFits (sym says.title) (operand_fits words line are fits line.title (3, omega arith, refl))
 
 -- a label is the last of them
-given_label : (given : Option (Bor Word)) (own : Option Word) → option_map (λ (t : Bor Word). t.now) given ≡ own → IfSome own TextFits → IfSome given (λ t. TextFits t.now)
+given_label : (given : Option (Bor Word)) (own : Option Word) → option_map (λ (t : Bor Word). t.now) given ≡ own → IfSome own TextFits
+    → IfSome given (λ t. TextFits t.now)
 given_label None own same fits = tt
 given_label (Some t) None same fits = cc
 given_label (Some t) (Some w) same fits =
@@ -32,6 +34,7 @@ own_label words line are fits (Some w) is =
     operand_fits words line are fits w (subst (λ own. Contains (line.file ∷ line.start ∷ line.end ∷ line.title ∷ option_to_list own) w) (sym is) (4, omega arith, refl))
 
 -- the label of a command fits, where the words do
-pub label_fits : (words : List Word) (line : Line) (command : Command) → AreLine words line → Says no_options line command → All TextFits words → IfSome command.label (λ t. TextFits t.now)
+pub label_fits : (words : List Word) (line : Line) (command : Command) → AreLine words line → Says no_options line command → All TextFits words
+    → IfSome command.label (λ t. TextFits t.now)
 label_fits words line command are says fits =
     given_label command.label line.label says.label (own_label words line are fits line.label refl)

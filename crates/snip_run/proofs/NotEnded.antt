@@ -15,7 +15,8 @@ pub silent_without_file : (words : List Word) (status : ℕ) (Out Err : Output �
 silent_without_file words status Out Err ends = silent_for words Out ends.end ends.may ends.out
 
 -- so its message doesn't stand there
-pub message_printed : (words : List Word) (status : ℕ) (Err : Output → Type 0) → Ends words None status (Receives (λ held. held) (Some []) (Some (line_of (codes "snip: cannot read a.rs")))) Err → ⊥
+pub message_printed : (words : List Word) (status : ℕ) (Err : Output → Type 0)
+    → Ends words None status (Receives (λ held. held) (Some []) (Some (line_of (codes "snip: cannot read a.rs")))) Err → ⊥
 message_printed words status Err ends =
     let same : Some (line_of (codes "snip: cannot read a.rs")) ≡ Some [] = silent_without_file words status _ Err ends in
     cc
@@ -51,7 +52,8 @@ told_so rest (inl whole) =
 told_so rest (inr part) = begins_so part.count rest part.appended
 
 -- so no other line stands before it, as `snip: all is well`
-pub noise_before_usage : (words : List Word) (file : Option (List ℕ)) (Out : Output → Type 0) (rest : List ℕ) → Ends words file 2 Out (Receives (λ held. held) (Some []) (Some (115 ∷ rest))) → ⊥
+pub noise_before_usage : (words : List Word) (file : Option (List ℕ)) (Out : Output → Type 0) (rest : List ℕ)
+    → Ends words file 2 Out (Receives (λ held. held) (Some []) (Some (115 ∷ rest))) → ⊥
 noise_before_usage words file Out rest ends =
     told_so rest (usage_told words file Out (Receives (λ held. held) (Some []) (Some (115 ∷ rest))) ends)
 
@@ -62,7 +64,8 @@ silent_when_printed Err (Failed name failure) status err = cc
 silent_when_printed Err Misused status err = cc
 
 -- with status 0 nothing is told
-pub told_when_printed : (words : List Word) (file : Option (List ℕ)) (Out : Output → Type 0) (rest : List ℕ) → Ends words file 0 Out (Receives (λ held. held) (Some []) (Some (115 ∷ rest))) → ⊥
+pub told_when_printed : (words : List Word) (file : Option (List ℕ)) (Out : Output → Type 0) (rest : List ℕ)
+    → Ends words file 0 Out (Receives (λ held. held) (Some []) (Some (115 ∷ rest))) → ⊥
 told_when_printed words file Out rest ends =
     let same : Some (115 ∷ rest) ≡ Some [] = silent_when_printed (Receives (λ held. held) (Some []) (Some (115 ∷ rest))) ends.end ends.status_is ends.err in
     cc

@@ -6,7 +6,8 @@ use Rattle.std.specs.Option.{option_to_list}
 use Rattle.std.proofs.lemmas.List.Elements.{All-head, All-tail, All-cons}
 use Rattle.report_options.specs.declared.options.Options.{Options}
 use Rattle.snip_run.specs.declared.words.Command.{Command}
-use Rattle.snip_run.specs.Words.{Word, Setting, Unicode, Text, Short, Styled, Width, words_of, option_names, IsSound, no_options, options_with, Line, operands_of, HasOperands, AreLine, Says}
+use Rattle.snip_run.specs.Words.{Word, Setting, Unicode, Text, Short, Styled, Width, words_of, option_names, IsSound, no_options, options_with, Line}
+use Rattle.snip_run.specs.Words.{operands_of, HasOperands, AreLine, Says}
 
 -- the option that words begin with, and the words after it
 abbrev width_front : List Word → Option (Setting × List Word)
@@ -50,7 +51,8 @@ first_setting s rest (t ∷ later) file more e free =
     (later, ap (λ (x : Setting). x ∷ later) (sym same.0), same.1)
 
 -- and the words after the option are the rest of the line
-pub after_option : (s : Setting) (rest : List Word) (first : Options) (line : Line) → AreLine (words_of s ++ rest) line → (next : Line) × AreLine rest next × ((c : Command) → Says (options_with first s) next c → Says first line c)
+pub after_option : (s : Setting) (rest : List Word) (first : Options) (line : Line) → AreLine (words_of s ++ rest) line
+    → (next : Line) × AreLine rest next × ((c : Command) → Says (options_with first s) next c → Says first line c)
 after_option s rest first line h =
     let (later, same, after) = first_setting s rest line.settings line.file (line.start ∷ line.end ∷ line.title ∷ option_to_list line.label) h.whole h.operands.file in (
       record line { settings = later },
@@ -70,7 +72,8 @@ after_option s rest first line h =
     )
 
 -- an option before a line makes a line
-pub before_option : (s : Setting) (rest : List Word) (first : Options) → IsSound s → (next : Line) → AreLine rest next → (line : Line) × AreLine (words_of s ++ rest) line × ((c : Command) → Says (options_with first s) next c → Says first line c)
+pub before_option : (s : Setting) (rest : List Word) (first : Options) → IsSound s → (next : Line) → AreLine rest next
+    → (line : Line) × AreLine (words_of s ++ rest) line × ((c : Command) → Says (options_with first s) next c → Says first line c)
 before_option s rest first sound next h = (
   record next { settings = s ∷ next.settings },
   record {
@@ -92,7 +95,8 @@ before_option s rest first sound next h = (
 abbrev pub BeginsNone : List Word → Type 0
 BeginsNone words = (s : Setting) (rest : List Word) → IsSound s → words ≡ words_of s ++ rest → ⊥
 
-none_given : (words : List Word) → BeginsNone words → (settings : List Setting) (operands : List Word) → All IsSound settings → words ≡ flat_map words_of settings ++ operands → settings ≡ []
+none_given : (words : List Word) → BeginsNone words → (settings : List Setting) (operands : List Word) → All IsSound settings
+    → words ≡ flat_map words_of settings ++ operands → settings ≡ []
 none_given words none [] operands sound e = refl
 none_given words none (s ∷ later) operands sound e =
     absurd (none s (flat_map words_of later ++ operands) (All-head IsSound s later sound) (e ∙ append_assoc (words_of s) (flat_map words_of later) operands))
@@ -135,7 +139,8 @@ pub continues_none : (words : List Word) → Continues words words no_options
 continues_none words = record { reads = λ line h. (line, h, λ c says. says); form = λ next h. (next, h, λ c says. says) }
 
 -- the options are read on after one more sound setting
-pub continues_more : (words rest after : List Word) (old new : Options) (s : Setting) → Continues words rest old → IsSound s → rest ≡ words_of s ++ after → new ≡ options_with old s → Continues words after new
+pub continues_more : (words rest after : List Word) (old new : Options) (s : Setting) → Continues words rest old → IsSound s → rest ≡ words_of s ++ after
+    → new ≡ options_with old s → Continues words after new
 continues_more words rest after old new s so_far sound begins set =
     record {
       reads = λ line h.
@@ -149,7 +154,8 @@ continues_more words rest after old new s so_far sound begins set =
     }
 
 -- at the operands: what is said of them is said of each line that all words are
-pub continues_all : (words rest : List Word) (options : Options) → Continues words rest options → BeginsNone rest → (line : Line) → AreLine words line → (o : Line) → o.settings ≡ [] → rest ≡ operands_of o → HasOperands o × ((c : Command) → Says options o c → Says no_options line c)
+pub continues_all : (words rest : List Word) (options : Options) → Continues words rest options → BeginsNone rest → (line : Line) → AreLine words line
+    → (o : Line) → o.settings ≡ [] → rest ≡ operands_of o → HasOperands o × ((c : Command) → Says options o c → Says no_options line c)
 continues_all words rest options so_far none line h o empty whole =
     let (next, here, from_next) = so_far.reads line h in
     let (bare, is) = only_operands rest none next here in

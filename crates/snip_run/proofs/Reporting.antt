@@ -23,7 +23,8 @@ IfErr-map_err P Q R (Err e) (Ok y) holds turned same = absurd same
 IfErr-map_err P Q R (Err e) (Err d) holds turned same = turned e d same holds
 
 -- what gives a value isn't refused
-pub allowed_and : {T E : Type 0} (P : T → Type 0) (fault : Option E) (r : Result T E) → IfSome fault (λ e. r ≡ Err e) → IfOk r P → IfOk r (λ x. (fault ≡ None) × P x)
+pub allowed_and : {T E : Type 0} (P : T → Type 0) (fault : Option E) (r : Result T E) → IfSome fault (λ e. r ≡ Err e) → IfOk r P
+    → IfOk r (λ x. (fault ≡ None) × P x)
 allowed_and P None (Ok x) refused holds = (refl, holds)
 allowed_and P (Some e) (Ok x) refused holds = cc
 allowed_and P fault (Err e) refused holds = tt

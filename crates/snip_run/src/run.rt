@@ -1,5 +1,6 @@
 //! A run of the program, over the bytes of a file and two writers.
-ghost use Rattle.std.specs.Prelude.{◌≡◌, ◌≤◌, ◌↔◌, ◌⊎◌, [], ◌∷◌, IsTrue, IsNone, IfErr, IfOk, IfSome, MatchOption, SomeIff, All, alloc_error, codes, string_bytes};
+ghost use Rattle.std.specs.Prelude.{◌≡◌, ◌≤◌, ◌↔◌, ◌⊎◌, [], ◌∷◌, IsTrue, IsNone, IfErr, IfOk, IfSome, MatchOption};
+ghost use Rattle.std.specs.Prelude.{SomeIff, All, alloc_error, codes, string_bytes};
 ghost use Rattle.std.specs.Option.{option_copied};
 ghost use Rattle.annotate_snippets.specs.Fits.{ReportFits};
 ghost use Rattle.program.specs.Stream.{Receives, Told};

@@ -1,7 +1,10 @@
 //! The words of the command line, without the program's name.
 
-ghost use Rattle.std.specs.Prelude.{◌≡◌, ◌↔◌, ◌++◌, IsTrue, IsSome, IsNone, IfSome, IsSomeAnd, SomeIff, Contains, List, is_some};
-ghost use Rattle.snip_run.specs.Words.{Word, words_at, IsNumber, number_in, Setting, words_of, option_names, IsSound, no_options, Line, operands_of, line_of, HasOperands, AreLine, IsCommandLine, IsCommandOf, TakesOption, Says};
+ghost use Rattle.std.specs.Prelude.{◌≡◌, ◌↔◌, ◌++◌, IsTrue, IsSome, IsNone, IfSome, IsSomeAnd, SomeIff, Contains, List};
+ghost use Rattle.std.specs.Prelude.{is_some};
+ghost use Rattle.snip_run.specs.Words.{Word, words_at, IsNumber, number_in, Setting, words_of, option_names, IsSound};
+ghost use Rattle.snip_run.specs.Words.{no_options, Line, operands_of, line_of, HasOperands, AreLine, IsCommandLine};
+ghost use Rattle.snip_run.specs.Words.{IsCommandOf, TakesOption, Says};
 
 use report_options::options::Options;
 

@@ -1,5 +1,6 @@
 -- Lemmas on lists and grids in which some elements were changed.
-use Rattle.std.proofs.Common.{◌≡◌, ◌≢◌, ℕ, ◌+◌, ◌-◌, ◌<◌, ◌≤◌, max, min, List, [], ◌++◌, length, map, take, drop, set, get_or, sym, ap, ◌∙◌, arith, inl, inr, subst}
+use Rattle.std.proofs.Common.{◌≡◌, ◌≢◌, ℕ, ◌+◌, ◌-◌, ◌<◌, ◌≤◌, max, min, List, [], ◌++◌, length, map, take, drop, set, get_or, sym, ap, ◌∙◌, arith, inl, inr}
+use Rattle.std.proofs.Common.{subst}
 use Rattle.std.proofs.lemmas.List.{places, same_lists, get_or-map, get_or_past, get_or-set_same, get_or-set_other, set-get_or, length-map, length-set}
 use Rattle.std.proofs.lemmas.Bool.{cases_lt, cases_eq}
 use Rattle.std.specs.List.{slice_index_or}
@@ -12,7 +13,8 @@ unfolding changed_within
 length-changed_within f start end xs = grind (arith, places, length-map)
 
 -- what stands in, before and after the change
-pub slice_index_or-changed_within_inside : {X : Type 0} (f : X → X) (start end : ℕ) (xs : List X) (k : ℕ) (d : X) → start ≤ k → k < end → k < length xs → slice_index_or (changed_within f start end xs) k d ≡ f (slice_index_or xs k d)
+pub slice_index_or-changed_within_inside : {X : Type 0} (f : X → X) (start end : ℕ) (xs : List X) (k : ℕ) (d : X) → start ≤ k → k < end → k < length xs
+    → slice_index_or (changed_within f start end xs) k d ≡ f (slice_index_or xs k d)
 unfolding changed_within
 slice_index_or-changed_within_inside f start end xs k d from before within =
     let mid = take (end - start) (drop start xs) in
@@ -22,12 +24,14 @@ slice_index_or-changed_within_inside f start end xs k d from before within =
     read ∙ get_or-map f mid (k - start) d d inside ∙ ap f same
 
 -- an element left of the stretch that is changed stays
-pub slice_index_or-changed_within_before : {X : Type 0} (f : X → X) (start end : ℕ) (xs : List X) (k : ℕ) (d : X) → k < start → slice_index_or (changed_within f start end xs) k d ≡ slice_index_or xs k d
+pub slice_index_or-changed_within_before : {X : Type 0} (f : X → X) (start end : ℕ) (xs : List X) (k : ℕ) (d : X) → k < start
+    → slice_index_or (changed_within f start end xs) k d ≡ slice_index_or xs k d
 unfolding changed_within
 slice_index_or-changed_within_before f start end xs k d before = grind (arith, places, length-map, get_or_past)
 
 -- an element right of the stretch that is changed stays
-pub slice_index_or-changed_within_after : {X : Type 0} (f : X → X) (start end : ℕ) (xs : List X) (k : ℕ) (d : X) → end ≤ k → slice_index_or (changed_within f start end xs) k d ≡ slice_index_or xs k d
+pub slice_index_or-changed_within_after : {X : Type 0} (f : X → X) (start end : ℕ) (xs : List X) (k : ℕ) (d : X) → end ≤ k
+    → slice_index_or (changed_within f start end xs) k d ≡ slice_index_or xs k d
 unfolding changed_within
 slice_index_or-changed_within_after f start end xs k d after = grind (arith, places, length-map, get_or_past, cases_lt k start)
 
@@ -40,7 +44,8 @@ changed_within_none f start end xs none =
     ])
 
 -- one element is changed
-pub changed_within_one : {X : Type 0} (f : X → X) (i : ℕ) (xs : List X) (d : X) → i < length xs → changed_within f i (i + 1) xs ≡ set xs i (f (slice_index_or xs i d))
+pub changed_within_one : {X : Type 0} (f : X → X) (i : ℕ) (xs : List X) (d : X) → i < length xs
+    → changed_within f i (i + 1) xs ≡ set xs i (f (slice_index_or xs i d))
 changed_within_one f i xs d within =
     same_lists _ _ (length-changed_within f i (i + 1) xs ∙ sym (length-set xs i _)) (λ k e h. elim (cases_eq k i) [
       | inl here ↦ grind (arith, places, slice_index_or-changed_within_inside, get_or-set_same)
@@ -48,7 +53,8 @@ changed_within_one f i xs d within =
     ])
 
 -- the row that was changed
-pub row_at-cells_changed_same : (f : Cell → Cell) (rows : List (List Cell)) (row start end : ℕ) → row_at (cells_changed f rows row start end) row ≡ changed_within f start end (row_at rows row)
+pub row_at-cells_changed_same : (f : Cell → Cell) (rows : List (List Cell)) (row start end : ℕ)
+    → row_at (cells_changed f rows row start end) row ≡ changed_within f start end (row_at rows row)
 row_at-cells_changed_same f rows row start end =
     let change = changed_within f start end in
     elim (cases_lt row (length rows)) [
@@ -59,7 +65,8 @@ row_at-cells_changed_same f rows row start end =
     ]
 
 -- the other rows
-pub row_at-cells_changed_other : (f : Cell → Cell) (rows : List (List Cell)) (row start end : ℕ) (r : ℕ) → r ≢ row → row_at (cells_changed f rows row start end) r ≡ row_at rows r
+pub row_at-cells_changed_other : (f : Cell → Cell) (rows : List (List Cell)) (row start end : ℕ) (r : ℕ) → r ≢ row
+    → row_at (cells_changed f rows row start end) r ≡ row_at rows r
 row_at-cells_changed_other f rows row start end r other =
     let change = changed_within f start end in
     elim (cases_lt r row) [
@@ -68,7 +75,8 @@ row_at-cells_changed_other f rows row start end r other =
     ]
 
 -- a grid with no cell there stays as it was
-pub cells_changed_none : (f : Cell → Cell) (rows : List (List Cell)) (row start end : ℕ) → min end (length (row_at rows row)) ≤ start → cells_changed f rows row start end ≡ rows
+pub cells_changed_none : (f : Cell → Cell) (rows : List (List Cell)) (row start end : ℕ) → min end (length (row_at rows row)) ≤ start
+    → cells_changed f rows row start end ≡ rows
 cells_changed_none f rows row start end none =
     let change = changed_within f start end in
     let kept : change (row_at rows row) ≡ row_at rows row = changed_within_none f start end (row_at rows row) none in
@@ -78,7 +86,8 @@ cells_changed_none f rows row start end none =
     ]
 
 -- the change, read cell by cell
-pub ChangesCells-cells_changed : (f : Cell → Cell) (rows : List (List Cell)) (row start end : ℕ) → ChangesCells f rows (cells_changed f rows row start end) row start end
+pub ChangesCells-cells_changed : (f : Cell → Cell) (rows : List (List Cell)) (row start end : ℕ)
+    → ChangesCells f rows (cells_changed f rows row start end) row start end
 ChangesCells-cells_changed f rows row start end =
     let old = row_at rows row in
     let same = row_at-cells_changed_same f rows row start end in
@@ -92,6 +101,7 @@ ChangesCells-cells_changed f rows row start end =
     }
 
 -- the same of a grid that is known to be the one after the change
-pub ChangesCells-from_equal : (f : Cell → Cell) (old new : List (List Cell)) (row start end : ℕ) → new ≡ cells_changed f old row start end → ChangesCells f old new row start end
+pub ChangesCells-from_equal : (f : Cell → Cell) (old new : List (List Cell)) (row start end : ℕ) → new ≡ cells_changed f old row start end
+    → ChangesCells f old new row start end
 ChangesCells-from_equal f old new row start end is =
     subst (λ rows. ChangesCells f old rows row start end) (sym is) (ChangesCells-cells_changed f old row start end)

@@ -76,7 +76,8 @@ pub record ChangeSoFar (old now : List ℕ) (runs_old runs_now : List Run) (row 
   pub shows : ShowsSpan old now runs_old runs_now row from col (λ c. changed_by change (shown old runs_old row c))
   pub count : length runs_now ≤ length runs_old + 2 * (col - from)
 
-pub change_start : (old : List ℕ) (runs : List Run) (row from to : ℕ) (change : Change) → IsRow old row runs → from ≤ to → ChangeSoFar old old runs runs row from to change from
+pub change_start : (old : List ℕ) (runs : List Run) (row from to : ℕ) (change : Change) → IsRow old row runs → from ≤ to
+    → ChangeSoFar old old runs runs row from to change from
 change_start old runs row from to change is some =
     record {
       grows = BeginsWith-same old;
@@ -142,11 +143,13 @@ change_next old now mid new runs_old runs_now runs_new part changed row from to 
     }
 
 -- the other rows stay
-pub put_stays : (now mid new : List ℕ) (runs_now runs_new : List Run) (changed : Run) (r c : ℕ) → BeginsWith now mid → All (λ x. IsRun now x) runs_now → IsPut mid new runs_now runs_new changed → r ≢ changed.row → shown new runs_new r c ≡ shown now runs_now r c
+pub put_stays : (now mid new : List ℕ) (runs_now runs_new : List Run) (changed : Run) (r c : ℕ) → BeginsWith now mid → All (λ x. IsRun now x) runs_now
+    → IsPut mid new runs_now runs_new changed → r ≢ changed.row → shown new runs_new r c ≡ shown now runs_now r c
 put_stays now mid new runs_now runs_new changed r c grows are put other =
     put.shows r c ∙ pick (run_cell mid changed c) (shown mid runs_now r c) (holds_elsewhere changed r c (λ same. other (sym same))) ∙ painted-grown now mid r c SPACE runs_now grows are
 
 -- a part of a row, in a grid that shows the same row
-pub part_same : (text : List ℕ) (row from to : ℕ) (g h : ℕ → Cell) (part : Run) → ((c : ℕ) → g c ≡ h c) → IsPartOfRow text row from to g part → IsPartOfRow text row from to h part
+pub part_same : (text : List ℕ) (row from to : ℕ) (g h : ℕ → Cell) (part : Run) → ((c : ℕ) → g c ≡ h c) → IsPartOfRow text row from to g part
+    → IsPartOfRow text row from to h part
 part_same text row from to g h part same is =
     record { is_run = is.is_run; row_is = is.row_is; cell_is = is.cell_is; within = is.within; cells = λ c low high. is.cells c low high ∙ same c }

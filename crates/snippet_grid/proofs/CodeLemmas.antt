@@ -8,7 +8,8 @@ use Rattle.snippet_style.specs.declared.style.Style.{Style}
 use Rattle.snippet_grid.proofs.WeaveLemmas.{some_same}
 
 -- the code that opens the style at a place was made
-pub openings_set : (codes : List (Option (String Global))) (styles : List Style) (i : ℕ) (code : String Global) (d : Style) → AreOpenings codes styles → i < length styles
+pub openings_set : (codes : List (Option (String Global))) (styles : List Style) (i : ℕ) (code : String Global) (d : Style) → AreOpenings codes styles
+    → i < length styles
     → string_bytes code ≡ opening_bytes (get_or styles i d) → AreOpenings (set codes i (Some code)) styles
 openings_set codes styles i code d are within is =
     record {

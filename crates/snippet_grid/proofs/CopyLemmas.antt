@@ -1,5 +1,6 @@
 -- Runs that are copied, cut and moved.
-use Rattle.std.proofs.Common.{◌≡◌, ℕ, ◌+◌, ◌-◌, ◌<◌, ◌≤◌, List, [], ◌∷◌, ◌++◌, length, take, drop, get_or, refl, sym, ap, ◌∙◌, arith, Bool, true, false, inl, inr, subst, All, nat_lt, nat_le, min, max}
+use Rattle.std.proofs.Common.{◌≡◌, ℕ, ◌+◌, ◌-◌, ◌<◌, ◌≤◌, List, [], ◌∷◌, ◌++◌, length, take, drop, get_or, refl, sym, ap, ◌∙◌, arith, Bool, true, false, inl}
+use Rattle.std.proofs.Common.{inr, subst, All, nat_lt, nat_le, min, max}
 use Rattle.std.proofs.lemmas.List.{take_more, get_or_default, get_or-take, get_or-drop}
 use Rattle.std.proofs.lemmas.Bool.{cases_lt, cases_eq, and_from, and_left, and_right, le-leb, lt-leb, lt-ltb, le-ltb}
 use Rattle.std.specs.Bool.{if◌then◌else◌}
@@ -11,7 +12,8 @@ use Rattle.snippet_grid.proofs.StretchLemmas.{BeginsWith-same, BeginsWith-trans}
 use Rattle.snippet_grid.proofs.ShownLemmas.{painted-append, All-tail, pick, cell_same, holds_inside, holds_elsewhere, holds_before, holds_after}
 use Rattle.snippet_grid.specs.Changes.{num_touched}
 use Rattle.snippet_style.specs.Cell.{Cell, SPACE}
-use Rattle.snippet_grid.specs.Runs.{IsRun, IsPart, BeginsWith, ShowsMore, ShowsCopy, AddsRun, IsRow, EndsBy, Precedes, run_bytes, run_chars, run_cell, holds, painted, shown}
+use Rattle.snippet_grid.specs.Runs.{IsRun, IsPart, BeginsWith, ShowsMore, ShowsCopy, AddsRun, IsRow, EndsBy, Precedes, run_bytes, run_chars, run_cell, holds}
+use Rattle.snippet_grid.specs.Runs.{painted, shown}
 use Rattle.snippet_grid.specs.declared.runs.Run.{Run}
 
 -- whether a cell is among those that are copied
@@ -41,7 +43,8 @@ num_touched-append from to [] ys = omega arith
 num_touched-append from to (run ∷ xs) ys = omega (arith, num_touched-append from to xs ys)
 
 -- one more run is touched, or not
-touched_more : (from to n : ℕ) (runs : List Run) (run : Run) → n < length runs → run ≡ get_or runs n run → num_touched from to (take (n + 1) runs) ≡ num_touched from to (take n runs) + num_touched from to (run ∷ [])
+touched_more : (from to n : ℕ) (runs : List Run) (run : Run) → n < length runs → run ≡ get_or runs n run
+    → num_touched from to (take (n + 1) runs) ≡ num_touched from to (take n runs) + num_touched from to (run ∷ [])
 touched_more from to n runs run within read =
     ap (λ (xs : List Run). num_touched from to xs) (take_more runs n run within ∙ ap (λ (x : Run). take n runs ++ x ∷ []) (sym read)) ∙ num_touched-append from to (take n runs) (run ∷ [])
 
@@ -134,7 +137,8 @@ copied_cell old now run part piece from to at start end r c before outside grows
     ]
 
 -- the runs so far show one more
-shown_more : (text : List ℕ) (runs : List Run) (n r c : ℕ) (d : Run) → n < length runs → shown text (take (n + 1) runs) r c ≡ (let run = get_or runs n d in if holds run r c then run_cell text run c else shown text (take n runs) r c)
+shown_more : (text : List ℕ) (runs : List Run) (n r c : ℕ) (d : Run) → n < length runs
+    → shown text (take (n + 1) runs) r c ≡ (let run = get_or runs n d in if holds run r c then run_cell text run c else shown text (take n runs) r c)
 shown_more text runs n r c d within =
     ap (λ (xs : List Run). shown text xs r c) (take_more runs n d within) ∙ painted-append text r c SPACE (take n runs) (get_or runs n d ∷ [])
 

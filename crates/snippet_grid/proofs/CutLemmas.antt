@@ -1,5 +1,6 @@
 -- A text cut after its first characters.
-use Rattle.std.proofs.Common.{◌≡◌, ℕ, ◌+◌, ◌-◌, ◌<◌, ◌≤◌, true, List, ◌++◌, length, take, drop, sym, ap, ◌∙◌, subst, arith, chars, encode_utf8, encode_utf8_all, IsUtf8}
+use Rattle.std.proofs.Common.{◌≡◌, ℕ, ◌+◌, ◌-◌, ◌<◌, ◌≤◌, true, List, ◌++◌, length, take, drop, sym, ap, ◌∙◌, subst, arith, chars, encode_utf8, encode_utf8_all}
+use Rattle.std.proofs.Common.{IsUtf8}
 use Rattle.std.specs.Str.{is_utf8}
 use Rattle.std.specs.Option.{option_copied}
 use Rattle.std.proofs.lemmas.Str.{encodes-chars, encodes-append, length-le-encodes, IsUtf8-take, IsUtf8-append, IsUtf8-from_is_utf8, is_utf8-from_IsUtf8}
@@ -9,7 +10,8 @@ use Rattle.snippet_grid.proofs.RunLemmas.{IsUtf8-run_bytes}
 use Rattle.snippet_grid.specs.Runs.{IsRun, IsPart, run_bytes, run_chars}
 use Rattle.snippet_grid.specs.declared.runs.Run.{Run}
 use Rattle.snippet_style.specs.Cell.{bytes_of}
-pub use Rattle.snippet_style.proofs.CutLemmas.{text_parts, cut_boundary, cut_front, cut_back, bytes-push, IsNext, take-next, drop-next, bytes_within, bytes_next}
+pub use Rattle.snippet_style.proofs.CutLemmas.{text_parts, cut_boundary, cut_front, cut_back, bytes-push, IsNext, take-next, drop-next, bytes_within}
+pub use Rattle.snippet_style.proofs.CutLemmas.{bytes_next}
 
 -- how long the bytes of a run are
 pub run_long : (text : List ℕ) (run : Run) → IsRun text run → length (run_bytes text run) ≡ run.end - run.start
@@ -23,7 +25,8 @@ bytes_single cs n single within =
     omega (arith, single, ap bytes_of (take-append-drop n cs), ap length (encodes-append front back), length-append (encode_utf8_all front) (encode_utf8_all back), length-le-encodes front, length-le-encodes back, length-take-le n cs within, length-drop n cs)
 
 -- and a run of as many bytes as cells is cut after as many bytes as cells
-pub run_single : (text : List ℕ) (run : Run) (n : ℕ) → IsUtf8 text → IsRun text run → run.end - run.start ≡ run.count → n ≤ run.count → n ≡ bytes_of (take n (run_chars text run))
+pub run_single : (text : List ℕ) (run : Run) (n : ℕ) → IsUtf8 text → IsRun text run → run.end - run.start ≡ run.count → n ≤ run.count
+    → n ≡ bytes_of (take n (run_chars text run))
 run_single text run n utf8 is single within =
     let bytes = run_bytes text run in
     let whole : bytes_of (run_chars text run) ≡ length bytes = ap length (encodes-chars bytes (IsUtf8-run_bytes text run utf8 is)) in
@@ -35,7 +38,8 @@ pub record CutSoFar (count : ℕ) (cs : List ℕ) (n at left : ℕ) : Type 0 whe
   pub left_is : left + n ≡ count
 
 -- a cut moves on past one more character
-pub cut_next : (count : ℕ) (cs : List ℕ) (n m at left c len : ℕ) → IsNext cs n c → m ≡ n + 1 → 0 < left → len ≡ length (encode_utf8 c) → CutSoFar count cs n at left → CutSoFar count cs m (at + len) (left - 1)
+pub cut_next : (count : ℕ) (cs : List ℕ) (n m at left c len : ℕ) → IsNext cs n c → m ≡ n + 1 → 0 < left → len ≡ length (encode_utf8 c)
+    → CutSoFar count cs n at left → CutSoFar count cs m (at + len) (left - 1)
 cut_next count cs n m at left c len next one some is_len so_far =
     let front = ap (λ k. take k cs) one ∙ take-next cs n c next in
     record {

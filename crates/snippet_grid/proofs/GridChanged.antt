@@ -1,5 +1,6 @@
 -- The rows of cells that runs show, after cells of a row were changed.
-use Rattle.std.proofs.Common.{◌≡◌, ◌≢◌, ℕ, ◌<◌, List, [], ◌++◌, length, take, drop, get_or, refl, sym, ap, ◌∙◌, arith, false, inl, inr, subst, All, min, Result, OnOk}
+use Rattle.std.proofs.Common.{◌≡◌, ◌≢◌, ℕ, ◌<◌, List, [], ◌++◌, length, take, drop, get_or, refl, sym, ap, ◌∙◌, arith, false, inl, inr, subst, All, min, Result}
+use Rattle.std.proofs.Common.{OnOk}
 use Rattle.std.proofs.lemmas.List.{same_lists, get_or_default}
 use Rattle.std.proofs.lemmas.Bool.{cases_lt, cases_eq}
 use Rattle.std.proofs.lemmas.Result.{on_ok_weaker}
@@ -18,7 +19,8 @@ use Rattle.snippet_grid.specs.Runs.{IsRun, IsRow, IsGrid, BeginsWith, EndsBy, Fi
 use Rattle.snippet_grid.specs.declared.runs.Run.{Run}
 
 -- grids whose rows have the same cells are one
-pub same_rows : (old a b : List (List Cell)) (row : ℕ) → length a ≡ length b → length (row_at a row) ≡ length (row_at b row) → ((c : ℕ) → c < length (row_at a row) → cell_at a row c ≡ cell_at b row c) → ((r : ℕ) → r ≢ row → row_at a r ≡ row_at b r) → a ≡ b
+pub same_rows : (old a b : List (List Cell)) (row : ℕ) → length a ≡ length b → length (row_at a row) ≡ length (row_at b row)
+    → ((c : ℕ) → c < length (row_at a row) → cell_at a row c ≡ cell_at b row c) → ((r : ℕ) → r ≢ row → row_at a r ≡ row_at b r) → a ≡ b
 same_rows old a b row count width cells others =
     let row_is : row_at a row ≡ row_at b row = same_lists (row_at a row) (row_at b row) width (λ k d within.
     let inside : k < length (row_at b row) = omega arith in
@@ -32,7 +34,8 @@ same_rows old a b row count width cells others =
     get_or_default a r d [] within ∙ each r ∙ sym (get_or_default b r d [] inside))
 
 -- two grids that a change left are one
-ChangesCells-unique : (f : Cell → Cell) (old a b : List (List Cell)) (row start end : ℕ) → ChangesCells f old a row start end → ChangesCells f old b row start end → a ≡ b
+ChangesCells-unique : (f : Cell → Cell) (old a b : List (List Cell)) (row start end : ℕ) → ChangesCells f old a row start end
+    → ChangesCells f old b row start end → a ≡ b
 ChangesCells-unique f old a b row start end one two =
     same_rows old a b row (one.count ∙ sym two.count) (one.width ∙ sym two.width) (λ c within. elim (cases_lt c start) [
       | inl before ↦ one.before c before ∙ sym (two.before c before)
@@ -81,12 +84,14 @@ pub record IsExchanged (old new : List ℕ) (runs now fresh : List Run) (row sta
   pub is : now ≡ take start runs ++ fresh ++ drop end runs
 
 -- runs that are put in one row leave each other row as it was
-pub put_elsewhere : (old new : List ℕ) (runs now fresh : List Run) (row start end r c : ℕ) → IsExchanged old new runs now fresh row start end → r ≢ row → shown new now r c ≡ shown old runs r c
+pub put_elsewhere : (old new : List ℕ) (runs now fresh : List Run) (row start end r c : ℕ) → IsExchanged old new runs now fresh row start end → r ≢ row
+    → shown new now r c ≡ shown old runs r c
 put_elsewhere old new runs now fresh row start end r c put other =
     put_others new runs now fresh row start end r c put.at put.is_row.in_row put.is other ∙ painted-grown old new r c SPACE runs put.grows put.are_runs
 
 -- runs that are put in for others leave a grid, where they fit the widths
-pub IsGrid-put : (old new : List ℕ) (runs now fresh : List Run) (w v : List ℕ) (row start end : ℕ) → IsExchanged old new runs now fresh row start end → FitIn v now → IsGrid new now v
+pub IsGrid-put : (old new : List ℕ) (runs now fresh : List Run) (w v : List ℕ) (row start end : ℕ) → IsExchanged old new runs now fresh row start end
+    → FitIn v now → IsGrid new now v
 IsGrid-put old new runs now fresh w v row start end put fit =
     record {
       are_runs = are_runs-put old new runs now fresh row start end put.grows put.are_runs put.is_row put.is;
@@ -96,7 +101,8 @@ IsGrid-put old new runs now fresh w v row start end put fit =
     }
 
 -- runs that are put in for others fit the widths, where those before did
-pub FitIn-put : (old new : List ℕ) (runs now fresh : List Run) (w : List ℕ) (row start end : ℕ) → IsExchanged old new runs now fresh row start end → FitIn w runs → (EndsBy (get_or w row 0) (stretch runs start end) → EndsBy (get_or w row 0) fresh) → FitIn w now
+pub FitIn-put : (old new : List ℕ) (runs now fresh : List Run) (w : List ℕ) (row start end : ℕ) → IsExchanged old new runs now fresh row start end
+    → FitIn w runs → (EndsBy (get_or w row 0) (stretch runs start end) → EndsBy (get_or w row 0) fresh) → FitIn w now
 FitIn-put old new runs now fresh w row start end put fit ends =
     inside-put w new runs now fresh row start end put.at.ordered put.at.within put.at.inside fit put.is_row ends put.is
 

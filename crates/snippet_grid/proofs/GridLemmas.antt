@@ -4,29 +4,34 @@ use Rattle.std.proofs.lemmas.List.Elements.{All-get_or}
 use Rattle.std.proofs.lemmas.List.{get_or_past, get_or_push}
 use Rattle.std.proofs.lemmas.Bool.{cases_lt, cases_eq}
 use Rattle.std.specs.List.{slice_index_or}
-use Rattle.snippet_style.proofs.CellLemmas.{length-written, slice_index_or-written_before, slice_index_or-written_inside, slice_index_or-written_after, written_end, written_last}
+use Rattle.snippet_style.proofs.CellLemmas.{length-written, slice_index_or-written_before, slice_index_or-written_inside, slice_index_or-written_after}
+use Rattle.snippet_style.proofs.CellLemmas.{written_end, written_last}
 use Rattle.snippet_style.specs.Cell.{Cell, SPACE, written}
 use Rattle.snippet_grid.specs.Grid.{row_at, cell_at, cells_written, WritesCells, EachCell}
 
 -- writing below all rows appends one
-pub cells_written_below : (rows : List (List Cell)) (at : ℕ) (cells : List Cell) → cells_written rows (length rows) at cells ≡ rows ++ written SPACE [] at cells ∷ []
+pub cells_written_below : (rows : List (List Cell)) (at : ℕ) (cells : List Cell)
+    → cells_written rows (length rows) at cells ≡ rows ++ written SPACE [] at cells ∷ []
 cells_written_below rows at cells =
     ap (λ row. written [] rows (length rows) (written SPACE row at cells ∷ [])) (get_or_past rows (length rows) [] (omega arith)) ∙ written_end [] rows (written SPACE [] at cells ∷ [])
 
 -- writing in the last row
-pub cells_written_last : (rows : List (List Cell)) (row : List Cell) (at : ℕ) (cells : List Cell) → cells_written (rows ++ row ∷ []) (length rows) at cells ≡ rows ++ written SPACE row at cells ∷ []
+pub cells_written_last : (rows : List (List Cell)) (row : List Cell) (at : ℕ) (cells : List Cell)
+    → cells_written (rows ++ row ∷ []) (length rows) at cells ≡ rows ++ written SPACE row at cells ∷ []
 cells_written_last rows row at cells =
     ap (λ r. written [] (rows ++ row ∷ []) (length rows) (written SPACE r at cells ∷ [])) (get_or_push rows row [] (length rows) refl) ∙ written_last [] rows row (written SPACE row at cells)
 
 -- the row that was written
-pub row_at-cells_written_same : (rows : List (List Cell)) (row at : ℕ) (cells : List Cell) → row_at (cells_written rows row at cells) row ≡ written SPACE (row_at rows row) at cells
+pub row_at-cells_written_same : (rows : List (List Cell)) (row at : ℕ) (cells : List Cell)
+    → row_at (cells_written rows row at cells) row ≡ written SPACE (row_at rows row) at cells
 row_at-cells_written_same rows row at cells =
     let new = written SPACE (row_at rows row) at cells in
     let here : row + 0 ≡ row = omega arith in
     ap (λ r. row_at (cells_written rows row at cells) r) (sym here) ∙ slice_index_or-written_inside [] rows row (new ∷ []) 0 [] (omega arith)
 
 -- the other rows
-pub row_at-cells_written_other : (rows : List (List Cell)) (row at : ℕ) (cells : List Cell) (r : ℕ) → r ≢ row → row_at (cells_written rows row at cells) r ≡ row_at rows r
+pub row_at-cells_written_other : (rows : List (List Cell)) (row at : ℕ) (cells : List Cell) (r : ℕ) → r ≢ row
+    → row_at (cells_written rows row at cells) r ≡ row_at rows r
 row_at-cells_written_other rows row at cells r other =
     let new : List (List Cell) = written SPACE (row_at rows row) at cells ∷ [] in
     elim (cases_lt r row) [
@@ -49,12 +54,14 @@ WritesCells-cells_written rows row at cells =
     }
 
 -- the same of a grid that is known to be the one after the write
-pub WritesCells-from_equal : (old new : List (List Cell)) (row at : ℕ) (cells : List Cell) → new ≡ cells_written old row at cells → WritesCells old new row at cells
+pub WritesCells-from_equal : (old new : List (List Cell)) (row at : ℕ) (cells : List Cell) → new ≡ cells_written old row at cells
+    → WritesCells old new row at cells
 WritesCells-from_equal old new row at cells is =
     subst (λ rows. WritesCells old rows row at cells) (sym is) (WritesCells-cells_written old row at cells)
 
 -- the row that a write changed has the fact in every cell
-row_keeps : (P : Cell → Type 0) (old new : List (List Cell)) (row at : ℕ) (cells : List Cell) → WritesCells old new row at cells → EachCell P old → All P cells → (c : ℕ) → P (cell_at new row c)
+row_keeps : (P : Cell → Type 0) (old new : List (List Cell)) (row at : ℕ) (cells : List Cell) → WritesCells old new row at cells → EachCell P old → All P cells
+    → (c : ℕ) → P (cell_at new row c)
 row_keeps P old new row at cells writes each all c =
     elim (cases_lt c at) [
       | inl before ↦ subst P (sym (writes.before c before)) (each row c)
@@ -69,14 +76,16 @@ row_keeps P old new row at cells writes each all c =
     ]
 
 -- a fact of every cell goes through a write, since it holds of the spaces too
-pub EachCell-from_writes : (P : Cell → Type 0) (old new : List (List Cell)) (row at : ℕ) (cells : List Cell) → WritesCells old new row at cells → EachCell P old → All P cells → EachCell P new
+pub EachCell-from_writes : (P : Cell → Type 0) (old new : List (List Cell)) (row at : ℕ) (cells : List Cell) → WritesCells old new row at cells → EachCell P old
+    → All P cells → EachCell P new
 EachCell-from_writes P old new row at cells writes each all r c =
     elim (cases_eq r row) [
       | inl same ↦ subst (λ n. P (cell_at new n c)) (sym same) (row_keeps P old new row at cells writes each all c)
       | inr other ↦ subst (λ (cs : List Cell). P (slice_index_or cs c SPACE)) (sym (writes.others r other)) (each r c)
     ]
 
-pub EachCell-cells_written : (P : Cell → Type 0) (old : List (List Cell)) (row at : ℕ) (cells : List Cell) → EachCell P old → All P cells → EachCell P (cells_written old row at cells)
+pub EachCell-cells_written : (P : Cell → Type 0) (old : List (List Cell)) (row at : ℕ) (cells : List Cell) → EachCell P old → All P cells
+    → EachCell P (cells_written old row at cells)
 EachCell-cells_written P old row at cells each all =
     EachCell-from_writes P old (cells_written old row at cells) row at cells (WritesCells-cells_written old row at cells) each all
 

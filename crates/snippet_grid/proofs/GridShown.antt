@@ -1,5 +1,6 @@
 -- The rows of cells that runs show, and what a run over others writes there.
-use Rattle.std.proofs.Common.{◌≡◌, ◌^◌, ℕ, ◌+◌, ◌-◌, ◌<◌, ◌≤◌, max, List, [], ◌∷◌, ◌++◌, length, map, take, get_or, refl, sym, ap, ◌∙◌, arith, false, inl, inr, subst, All, None, Result, Ok, Err, OnErr, encode_utf8, encode_utf8_all}
+use Rattle.std.proofs.Common.{◌≡◌, ◌^◌, ℕ, ◌+◌, ◌-◌, ◌<◌, ◌≤◌, max, List, [], ◌∷◌, ◌++◌, length, map, take, get_or, refl, sym, ap, ◌∙◌, arith, false, inl, inr}
+use Rattle.std.proofs.Common.{subst, All, None, Result, Ok, Err, OnErr, encode_utf8, encode_utf8_all}
 use Rattle.std.proofs.lemmas.List.{append-nil, same_lists, get_or_default, get_or_past, nil_from_length}
 use Rattle.std.proofs.lemmas.List.FromFn.{length-map-range_with_len, get_or-map-range_with_len}
 use Rattle.std.proofs.lemmas.Bool.{cases_lt, cases_eq}
@@ -13,7 +14,8 @@ use Rattle.snippet_grid.proofs.StretchLemmas.{stretch, stretch_added, BeginsWith
 use Rattle.snippet_grid.proofs.ShownLemmas.{All-tail, pick, cell_same, painted-grown, All-IsRun-grown, holds_inside, holds_elsewhere, holds_before, holds_after}
 use Rattle.snippet_grid.specs.Grid.{row_at, cell_at, cells_written, WritesCells}
 use Rattle.snippet_style.specs.Cell.{Cell, SPACE, text_cells}
-use Rattle.snippet_grid.specs.Runs.{IsRun, BeginsWith, ShowsMore, FitIn, IsGrid, IsWord, IsWidened, run_bytes, run_chars, run_cell, holds, painted, shown, grid_shown}
+use Rattle.snippet_grid.specs.Runs.{IsRun, BeginsWith, ShowsMore, FitIn, IsGrid, IsWord, IsWidened, run_bytes, run_chars, run_cell, holds, painted, shown}
+use Rattle.snippet_grid.specs.Runs.{grid_shown}
 use Rattle.snippet_style.specs.declared.role.ElementStyle.{ElementStyle}
 use Rattle.snippet_grid.specs.declared.runs.Run.{Run}
 
@@ -23,7 +25,8 @@ unfolding grid_shown
 count_shown text runs widths = length-map-range_with_len (λ r. map (λ c. shown text runs r c) (range_with_len 0 (get_or widths r 0))) 0 (length widths)
 
 -- a row of a shown grid is its cells, up to the row's width
-pub row_shown : (text : List ℕ) (runs : List Run) (widths : List ℕ) (r : ℕ) → row_at (grid_shown text runs widths) r ≡ map (λ c. shown text runs r c) (range_with_len 0 (get_or widths r 0))
+pub row_shown : (text : List ℕ) (runs : List Run) (widths : List ℕ) (r : ℕ)
+    → row_at (grid_shown text runs widths) r ≡ map (λ c. shown text runs r c) (range_with_len 0 (get_or widths r 0))
 unfolding grid_shown
 row_shown text runs widths r =
     let line = λ (k : ℕ). map (λ c. shown text runs k c) (range_with_len 0 (get_or widths k 0)) in
@@ -50,7 +53,8 @@ unheld text widths r c d (run ∷ runs) fit past =
     ap (λ (cell : Cell). painted text r c cell runs) (pick (run_cell text run c) d no) ∙ rest
 
 -- a cell of a shown grid is what the runs show there
-pub cell_shown : (text : List ℕ) (runs : List Run) (widths : List ℕ) (r c : ℕ) → FitIn widths runs → cell_at (grid_shown text runs widths) r c ≡ shown text runs r c
+pub cell_shown : (text : List ℕ) (runs : List Run) (widths : List ℕ) (r c : ℕ) → FitIn widths runs
+    → cell_at (grid_shown text runs widths) r c ≡ shown text runs r c
 cell_shown text runs widths r c fit =
     let line = λ (k : ℕ). shown text runs r k in
     let n = get_or widths r 0 in
@@ -60,7 +64,8 @@ cell_shown text runs widths r c fit =
     ]
 
 -- rows that show the same
-pub same_row : (old new : List ℕ) (runs now : List Run) (w v : List ℕ) (r : ℕ) → get_or v r 0 ≡ get_or w r 0 → ((c : ℕ) → shown new now r c ≡ shown old runs r c) → row_at (grid_shown new now v) r ≡ row_at (grid_shown old runs w) r
+pub same_row : (old new : List ℕ) (runs now : List Run) (w v : List ℕ) (r : ℕ) → get_or v r 0 ≡ get_or w r 0
+    → ((c : ℕ) → shown new now r c ≡ shown old runs r c) → row_at (grid_shown new now v) r ≡ row_at (grid_shown old runs w) r
 same_row old new runs now w v r width same =
     let f = λ (c : ℕ). shown new now r c in
     let g = λ (c : ℕ). shown old runs r c in
@@ -70,7 +75,8 @@ same_row old new runs now w v r width same =
     get_or-map-range_with_len f 0 n k k d inside (omega arith) ∙ same k ∙ sym (get_or-map-range_with_len g 0 n k k d inside (omega arith))) ∙ sym (row_shown old runs w r)
 
 -- a grid whose runs show the same is the same
-pub grid_same : (old new : List ℕ) (runs now : List Run) (widths : List ℕ) → ((r c : ℕ) → shown new now r c ≡ shown old runs r c) → grid_shown new now widths ≡ grid_shown old runs widths
+pub grid_same : (old new : List ℕ) (runs now : List Run) (widths : List ℕ) → ((r c : ℕ) → shown new now r c ≡ shown old runs r c)
+    → grid_shown new now widths ≡ grid_shown old runs widths
 grid_same old new runs now widths same =
     let a = grid_shown new now widths in
     let b = grid_shown old runs widths in
@@ -176,7 +182,8 @@ FitIn-widened w v row end runs wide fit =
     ]
 
 -- where a word's run ends
-pub word_end : (text : List ℕ) (row at : ℕ) (role : ElementStyle) (word : List ℕ) (run : Run) → IsWord text row at role word run → run.cell + run.count ≡ at + length (chars word)
+pub word_end : (text : List ℕ) (row at : ℕ) (role : ElementStyle) (word : List ℕ) (run : Run) → IsWord text row at role word run
+    → run.cell + run.count ≡ at + length (chars word)
 word_end text row at role word run is = omega (arith, is.cell_is, is.is_run.counted, ap length is.chars_are)
 
 -- widths that are widened are so also where they are called otherwise
@@ -191,7 +198,8 @@ IsGrid-grown old new runs now w v grows same widths grid =
     subst (λ (l : List Run). IsGrid new l v) (sym same) (subst (λ (x : List ℕ). IsGrid new runs x) (sym widths) here)
 
 -- a text that has grown shows the same grid of the same runs
-pub grid_grown : (old new : List ℕ) (runs now : List Run) (w v : List ℕ) → BeginsWith old new → now ≡ runs → v ≡ w → IsGrid old runs w → grid_shown new now v ≡ grid_shown old runs w
+pub grid_grown : (old new : List ℕ) (runs now : List Run) (w v : List ℕ) → BeginsWith old new → now ≡ runs → v ≡ w → IsGrid old runs w
+    → grid_shown new now v ≡ grid_shown old runs w
 grid_grown old new runs now w v grows same widths grid =
     ap (λ (l : List Run). grid_shown new l v) same ∙ ap (λ (x : List ℕ). grid_shown new runs x) widths ∙ grid_same old new runs runs w (λ r c. painted-grown old new r c SPACE runs grows grid.are_runs)
 

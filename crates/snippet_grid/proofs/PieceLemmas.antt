@@ -1,16 +1,20 @@
 -- What becomes of the runs that a run touches: what the first holds before it, the run, and what the last holds after.
-use Rattle.std.proofs.Common.{◌≡◌, ℕ, suc, ◌+◌, ◌-◌, ◌<◌, ◌≤◌, List, [], ◌∷◌, ◌++◌, length, take, drop, set, get_or, refl, sym, ap, ◌∙◌, arith, false, inl, inr, subst, All, if◌then◌else◌}
-use Rattle.std.proofs.lemmas.List.{places, same_lists, take_all, take_more, get_or_default, get_or-take, get_or-drop, get_or-set_same, get_or-set_other, length-set, length-drop}
+use Rattle.std.proofs.Common.{◌≡◌, ℕ, suc, ◌+◌, ◌-◌, ◌<◌, ◌≤◌, List, [], ◌∷◌, ◌++◌, length, take, drop, set, get_or, refl, sym, ap, ◌∙◌, arith, false, inl, inr}
+use Rattle.std.proofs.Common.{subst, All, if◌then◌else◌}
+use Rattle.std.proofs.lemmas.List.{places, same_lists, take_all, take_more, get_or_default, get_or-take, get_or-drop, get_or-set_same, get_or-set_other}
+use Rattle.std.proofs.lemmas.List.{length-set, length-drop}
 use Rattle.std.proofs.lemmas.List.Elements.{All-cons, All-nil}
 use Rattle.std.proofs.lemmas.Bool.{cases_lt, cases_eq, true≢false}
-use Rattle.snippet_grid.proofs.ShownLemmas.{painted-append, run_cell-grown, ShowsMore-joined, AddsRun-joined, pick, cell_same, holds_inside, holds_elsewhere, holds_before, holds_after}
+use Rattle.snippet_grid.proofs.ShownLemmas.{painted-append, run_cell-grown, ShowsMore-joined, AddsRun-joined, pick, cell_same, holds_inside, holds_elsewhere}
+use Rattle.snippet_grid.proofs.ShownLemmas.{holds_before, holds_after}
 use Rattle.snippet_grid.proofs.CopyLemmas.{shown_past}
 use Rattle.snippet_grid.proofs.PutLemmas.{AreOrdered, AreApart, IsRow-added, painted_elsewhere}
 use Rattle.snippet_grid.proofs.RowWoven.{painted_unheld}
 use Rattle.snippet_grid.proofs.StretchLemmas.{stretch, below_take}
 use Rattle.snippet_grid.proofs.TouchLemmas.{cases_held, touched_stretch, IsPut-touched}
 use Rattle.snippet_style.specs.Cell.{Cell, SPACE}
-use Rattle.snippet_grid.specs.Runs.{IsRun, IsRow, IsPart, BeginsWith, ShowsMore, AddsRun, EndsBy, Precedes, Differ, Continues, Touches, IsClear, IsJoined, IsTouched, IsFront, IsBack, ArePieces, IsPut, run_chars, run_cell, holds, painted, shown}
+use Rattle.snippet_grid.specs.Runs.{IsRun, IsRow, IsPart, BeginsWith, ShowsMore, AddsRun, EndsBy, Precedes, Differ, Continues, Touches, IsClear, IsJoined}
+use Rattle.snippet_grid.specs.Runs.{IsTouched, IsFront, IsBack, ArePieces, IsPut, run_chars, run_cell, holds, painted, shown}
 use Rattle.snippet_grid.specs.declared.runs.Run.{Run}
 
 -- a part of a run shows what the run shows where it holds the same
@@ -83,7 +87,8 @@ IsFront-none text runs run all =
     }
 
 -- where the first run begins after a cell, each does
-pub begin_after : (text : List ℕ) (run : Run) (runs : List Run) (n : ℕ) (d : Run) → IsTouched text run runs → n ≤ (get_or runs 0 d).cell → All (λ x. n ≤ x.cell) runs
+pub begin_after : (text : List ℕ) (run : Run) (runs : List Run) (n : ℕ) (d : Run) → IsTouched text run runs → n ≤ (get_or runs 0 d).cell
+    → All (λ x. n ≤ x.cell) runs
 begin_after text run runs n d is first =
     λ k e within.
     elim (cases_eq k 0) [
@@ -95,7 +100,8 @@ begin_after text run runs n d is first =
     ]
 
 -- where the last run ends before a cell, each does
-pub end_before : (text : List ℕ) (run : Run) (runs : List Run) (n i : ℕ) (d : Run) → IsTouched text run runs → i + 1 ≡ length runs → (get_or runs i d).cell + (get_or runs i d).count ≤ n → All (λ x. x.cell + x.count ≤ n) runs
+pub end_before : (text : List ℕ) (run : Run) (runs : List Run) (n i : ℕ) (d : Run) → IsTouched text run runs → i + 1 ≡ length runs
+    → (get_or runs i d).cell + (get_or runs i d).count ≤ n → All (λ x. x.cell + x.count ≤ n) runs
 end_before text run runs n i d is is_last last =
     λ k e within.
     let high : (get_or runs i e).cell + (get_or runs i e).count ≤ n = subst (λ (x : Run). x.cell + x.count ≤ n) (get_or_default runs i d e (omega arith)) last in
@@ -107,7 +113,8 @@ end_before text run runs n i d is is_last last =
     ]
 
 -- the first run begins before the run
-front_first : (text : List ℕ) (first : Run) (runs : List Run) (run left : Run) → IsTouched text run (first ∷ runs) → first.cell < run.cell → IsPart text first first.cell run.cell left → IsFront text (first ∷ runs) run (left ∷ [])
+front_first : (text : List ℕ) (first : Run) (runs : List Run) (run left : Run) → IsTouched text run (first ∷ runs) → first.cell < run.cell
+    → IsPart text first first.cell run.cell left → IsFront text (first ∷ runs) run (left ∷ [])
 front_first text first runs run left is before cut =
     let touch = is.touch 0 first (omega arith) in
     record {
@@ -128,7 +135,8 @@ front_first text first runs run left is before cut =
     }
 
 -- the front of the first touched run is what of it stands left of the run that is put in
-pub IsFront-some : (text : List ℕ) (runs : List Run) (run first left : Run) → IsTouched text run runs → 0 < length runs → first ≡ get_or runs 0 first → first.cell < run.cell → IsPart text first first.cell run.cell left → IsFront text runs run (left ∷ [])
+pub IsFront-some : (text : List ℕ) (runs : List Run) (run first left : Run) → IsTouched text run runs → 0 < length runs → first ≡ get_or runs 0 first
+    → first.cell < run.cell → IsPart text first first.cell run.cell left → IsFront text runs run (left ∷ [])
 IsFront-some text [] run first left is some read before cut = absurd (omega arith)
 IsFront-some text (x ∷ runs) run first left is some read before cut =
     front_first text x runs run left is (subst (λ (y : Run). y.cell < run.cell) read before) (subst (λ (y : Run). IsPart text y y.cell run.cell left) read cut)
@@ -196,7 +204,8 @@ record IsBegun (old new : List ℕ) (front begun : List Run) (run : Run) : Type 
   apart_after : (y : Run) → IsClear run y → All (λ x. Differ x y) begun
   few : length begun ≤ length front + 1
 
-begun_by : (old new : List ℕ) (runs front begun : List Run) (run : Run) → IsRun old run → IsFront old runs run front → ShowsMore old new front begun run → All (λ x. IsRun new x) begun → AddsRun front begun run → IsBegun old new front begun run
+begun_by : (old new : List ℕ) (runs front begun : List Run) (run : Run) → IsRun old run → IsFront old runs run front → ShowsMore old new front begun run
+    → All (λ x. IsRun new x) begun → AddsRun front begun run → IsBegun old new front begun run
 begun_by old new runs front begun run is is_front shows are adds =
     record {
       is_row = IsRow-added old new run.row run.cell front begun run is_front.is_row is_front.ends (omega arith) refl are adds;
@@ -302,7 +311,8 @@ IsFront-all text runs run is_row ends one =
     }
 
 -- one run is touched, and the run goes on where it ends: it is made longer
-ArePieces-one : (old new : List ℕ) (first run whole : Run) → BeginsWith old new → IsTouched old run (first ∷ []) → IsRun old run → Continues first run → IsJoined old new first run whole → ArePieces old new (first ∷ []) (whole ∷ []) run
+ArePieces-one : (old new : List ℕ) (first run whole : Run) → BeginsWith old new → IsTouched old run (first ∷ []) → IsRun old run → Continues first run
+    → IsJoined old new first run whole → ArePieces old new (first ∷ []) (whole ∷ []) run
 ArePieces-one old new first run whole grows touched is goes joined =
     let runs = first ∷ [] in
     let before : EndsBy run.cell runs = All-cons (λ x. x.cell + x.count ≤ run.cell) first [] (omega (arith, goes.touches)) (All-nil _) in

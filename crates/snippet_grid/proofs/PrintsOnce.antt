@@ -4,7 +4,8 @@ use Rattle.std.specs.List.{flat_map}
 use Rattle.snippet_grid.proofs.WeaveLemmas.{Url, none≢some, some_same}
 use Rattle.snippet_grid.proofs.WovenLemmas.{nil≢cons}
 use Rattle.snippet_style.specs.Cell.{Cell}
-use Rattle.snippet_grid.specs.Woven.{Piece, Char, Opening, Reset, LinkTo, LinkEnd, piece_text, next_style, next_link, PrintsCells, PrintsRow, PrintsFurther, PrintsRows, Prints}
+use Rattle.snippet_grid.specs.Woven.{Piece, Char, Opening, Reset, LinkTo, LinkEnd, piece_text, next_style, next_link, PrintsCells, PrintsRow, PrintsFurther}
+use Rattle.snippet_grid.specs.Woven.{PrintsRows, Prints}
 use Rattle.snippet_style.specs.declared.role.LevelInner.{LevelInner}
 use Rattle.snippet_style.specs.declared.style.Style.{Style}
 use Rattle.snippet_style.specs.declared.stylesheet.Stylesheet.{Stylesheet}
@@ -18,7 +19,8 @@ first_or d [] = d
 first_or d (x ∷ xs) = x
 
 -- what is open and what comes next say which piece stands here
-cells_once : (sheet : Stylesheet) (level : LevelInner) (style : Option Style) (link : Option Url) (ps qs : List Piece) (cells : List Cell) → PrintsCells sheet level style link ps cells → PrintsCells sheet level style link qs cells → ps ≡ qs
+cells_once : (sheet : Stylesheet) (level : LevelInner) (style : Option Style) (link : Option Url) (ps qs : List Piece) (cells : List Cell)
+    → PrintsCells sheet level style link ps cells → PrintsCells sheet level style link qs cells → ps ≡ qs
 cells_once sheet level style link [] [] cells a b = refl
 cells_once sheet level style link [] (Char ch2 ∷ qs) cells (a_cells_are, _, _) (_, _, b_cells_are, _, _, _, _) =
     absurd (nil≢cons (sym b_cells_are ∙ a_cells_are))
@@ -98,21 +100,25 @@ cells_once sheet level style link (LinkEnd ∷ ps) (LinkTo url2 ∷ qs) cells (a
 cells_once sheet level style link (LinkEnd ∷ ps) (LinkEnd ∷ qs) cells (_, _, _, a_rest) (_, _, _, b_rest) =
     ap (λ (ts : List Piece). LinkEnd ∷ ts) (cells_once sheet level style None ps qs cells a_rest b_rest)
 
-rows_once : (sheet : Stylesheet) (level : LevelInner) (first first2 others others2 : List Piece) (row : List Cell) → PrintsRow sheet level first row → PrintsRow sheet level first2 row → others ≡ others2 → first ++ others ≡ first2 ++ others2
+rows_once : (sheet : Stylesheet) (level : LevelInner) (first first2 others others2 : List Piece) (row : List Cell) → PrintsRow sheet level first row
+    → PrintsRow sheet level first2 row → others ≡ others2 → first ++ others ≡ first2 ++ others2
 rows_once sheet level first first2 others others2 row a b below =
     ap (λ (ts : List Piece). ts ++ others) (cells_once sheet level (Some sheet.none) None first first2 row a b) ∙ ap (λ (ts : List Piece). first2 ++ ts) below
 
-further_once : (sheet : Stylesheet) (level : LevelInner) (ps qs : List Piece) (rows : List (List Cell)) → PrintsFurther sheet level ps rows → PrintsFurther sheet level qs rows → ps ≡ qs
+further_once : (sheet : Stylesheet) (level : LevelInner) (ps qs : List Piece) (rows : List (List Cell)) → PrintsFurther sheet level ps rows
+    → PrintsFurther sheet level qs rows → ps ≡ qs
 further_once sheet level ps qs [] a b = a ∙ sym b
 further_once sheet level ps qs (row ∷ rows) (first, others, a_is, a, a_below) (first2, others2, b_is, b, b_below) =
     a_is ∙ ap (λ (ts : List Piece). Char 10 ∷ ts) (rows_once sheet level first first2 others others2 row a b (further_once sheet level others others2 rows a_below b_below)) ∙ sym b_is
 
-pieces_once : (sheet : Stylesheet) (level : LevelInner) (ps qs : List Piece) (rows : List (List Cell)) → PrintsRows sheet level ps rows → PrintsRows sheet level qs rows → ps ≡ qs
+pieces_once : (sheet : Stylesheet) (level : LevelInner) (ps qs : List Piece) (rows : List (List Cell)) → PrintsRows sheet level ps rows
+    → PrintsRows sheet level qs rows → ps ≡ qs
 pieces_once sheet level ps qs [] a b = a ∙ sym b
 pieces_once sheet level ps qs (row ∷ rows) (first, others, a_is, a, a_below) (first2, others2, b_is, b, b_below) =
     a_is ∙ rows_once sheet level first first2 others others2 row a b (further_once sheet level others others2 rows a_below b_below) ∙ sym b_is
 
 -- rows are printed as one text only
-pub Prints-unique : (sheet : Stylesheet) (level : LevelInner) (rows : List (List Cell)) (text other : List ℕ) → Prints sheet level rows text → Prints sheet level rows other → other ≡ text
+pub Prints-unique : (sheet : Stylesheet) (level : LevelInner) (rows : List (List Cell)) (text other : List ℕ) → Prints sheet level rows text
+    → Prints sheet level rows other → other ≡ text
 Prints-unique sheet level rows text other a b =
     b.text_is ∙ ap (flat_map piece_text) (pieces_once sheet level b.pieces a.pieces rows b.prints a.prints) ∙ sym a.text_is

@@ -1,6 +1,7 @@
 -- A run that is put over others.
 use Rattle.std.proofs.Common.{◌≡◌, ℕ, ◌+◌, ◌-◌, ◌<◌, ◌≤◌, ◌^◌, List, [], ◌∷◌, ◌++◌, length, take, drop, get_or, refl, sym, ap, ◌∙◌, arith, inl, inr, subst, All}
-use Rattle.std.proofs.lemmas.List.{places, same_lists, get_or_default, get_or_append_left, get_or-append_right, get_or-take, get_or-drop, length-append, length-take, length-drop}
+use Rattle.std.proofs.lemmas.List.{places, same_lists, get_or_default, get_or_append_left, get_or-append_right, get_or-take, get_or-drop, length-append}
+use Rattle.std.proofs.lemmas.List.{length-take, length-drop}
 use Rattle.std.proofs.lemmas.List.Elements.{All-take, All-drop, All-append}
 use Rattle.std.proofs.lemmas.Bool.{cases_lt, cases_eq}
 use Rattle.std.specs.List.{AllPairs}
@@ -37,7 +38,8 @@ pub fits_all : (text : List ℕ) (runs : List Run) → All (λ x. IsRun text x) 
 fits_all text runs are = λ k d within. (are k d within).fits
 
 -- what stands before the last run's place stands before what the last run precedes
-pub all_before : (runs : List Run) (run d : Run) → 0 < length runs → AreOrdered runs → Precedes (get_or runs (length runs - 1) d) run → All (λ x. Precedes x run) runs
+pub all_before : (runs : List Run) (run d : Run) → 0 < length runs → AreOrdered runs → Precedes (get_or runs (length runs - 1) d) run
+    → All (λ x. Precedes x run) runs
 all_before runs run d some ordered last =
     λ k e within.
     let last_is : get_or runs (length runs - 1) d ≡ get_or runs (length runs - 1) e = get_or_default runs (length runs - 1) d e (omega arith) in
@@ -56,7 +58,8 @@ rows_rise runs i j d ordered below within =
     ]
 
 -- the rows of the runs before the first of a row
-pub rows_above : (runs : List Run) (start end row : ℕ) (d e : Run) → AreOrdered runs → start ≤ end → end ≤ length runs → 0 < start → ((get_or runs (start - 1) d).row ≡ row → ⊥) → (get_or runs (end - 1) e).row ≤ row → (k : ℕ) (f : Run) → k < start → (get_or runs k f).row < row
+pub rows_above : (runs : List Run) (start end row : ℕ) (d e : Run) → AreOrdered runs → start ≤ end → end ≤ length runs → 0 < start
+    → ((get_or runs (start - 1) d).row ≡ row → ⊥) → (get_or runs (end - 1) e).row ≤ row → (k : ℕ) (f : Run) → k < start → (get_or runs k f).row < row
 rows_above runs start end row d e ordered low high some other last =
     λ k f within.
     let first : (get_or runs k f).row ≤ (get_or runs (start - 1) f).row = rows_rise runs k (start - 1) f ordered (omega arith) (omega arith) in
@@ -74,7 +77,8 @@ IsRow-grown old new row runs grows is =
     record { are_runs = All-IsRun-grown old new runs grows is.are_runs; in_row = is.in_row; ordered = is.ordered; apart = is.apart }
 
 -- a row to which a run was added
-pub IsRow-added : (old new : List ℕ) (row n : ℕ) (runs now : List Run) (run : Run) → IsRow old row runs → EndsBy n runs → n ≤ run.cell → run.row ≡ row → All (λ x. IsRun new x) now → AddsRun runs now run → IsRow new row now
+pub IsRow-added : (old new : List ℕ) (row n : ℕ) (runs now : List Run) (run : Run) → IsRow old row runs → EndsBy n runs → n ≤ run.cell → run.row ≡ row
+    → All (λ x. IsRun new x) now → AddsRun runs now run → IsRow new row now
 IsRow-added old new row n runs now run is ends before in_row are adds =
     let all_before : All (λ x. Precedes x run) runs = λ k d within. record { rows = omega (arith, is.in_row k d within, in_row); cells = λ same. omega (arith, ends k d within, before) } in
     record {
@@ -96,17 +100,20 @@ split_three xs i j low high =
     same_lists _ _ (grind (arith, places)) (λ k d h. grind (arith, places, cases_lt k i, cases_lt k j))
 
 -- what three parts show, where the outer two hold nothing of the row
-pub painted_middle : (text : List ℕ) (r c : ℕ) (xs ys zs : List Run) → All (λ x. x.row ≡ r → ⊥) xs → All (λ x. x.row ≡ r → ⊥) zs → shown text (xs ++ ys ++ zs) r c ≡ shown text ys r c
+pub painted_middle : (text : List ℕ) (r c : ℕ) (xs ys zs : List Run) → All (λ x. x.row ≡ r → ⊥) xs → All (λ x. x.row ≡ r → ⊥) zs
+    → shown text (xs ++ ys ++ zs) r c ≡ shown text ys r c
 painted_middle text r c xs ys zs left right =
     painted-append text r c SPACE (xs ++ ys) zs ∙ painted_elsewhere text r c (painted text r c SPACE (xs ++ ys)) zs right ∙ painted-append text r c SPACE xs ys ∙ ap (λ (d : Cell). painted text r c d ys) (painted_elsewhere text r c SPACE xs left)
 
 -- and where the middle holds nothing of the row
-pub painted_outer : (text : List ℕ) (r c : ℕ) (xs ys zs : List Run) → All (λ x. x.row ≡ r → ⊥) ys → shown text (xs ++ ys ++ zs) r c ≡ painted text r c (shown text xs r c) zs
+pub painted_outer : (text : List ℕ) (r c : ℕ) (xs ys zs : List Run) → All (λ x. x.row ≡ r → ⊥) ys
+    → shown text (xs ++ ys ++ zs) r c ≡ painted text r c (shown text xs r c) zs
 painted_outer text r c xs ys zs none =
     painted-append text r c SPACE (xs ++ ys) zs ∙ ap (λ (d : Cell). painted text r c d zs) (painted-append text r c SPACE xs ys ∙ painted_elsewhere text r c (shown text xs r c) ys none)
 
 -- what holds of the pairs of two lists and of each pair across holds of the pairs of both together
-pub AllPairs-append : {X : Type 0} (R : X → X → Type 0) (xs ys : List X) → AllPairs R xs → AllPairs R ys → ((i j : ℕ) (d : X) → i < length xs → j < length ys → R (get_or xs i d) (get_or ys j d)) → AllPairs R (xs ++ ys)
+pub AllPairs-append : {X : Type 0} (R : X → X → Type 0) (xs ys : List X) → AllPairs R xs → AllPairs R ys
+    → ((i j : ℕ) (d : X) → i < length xs → j < length ys → R (get_or xs i d) (get_or ys j d)) → AllPairs R (xs ++ ys)
 AllPairs-append R xs ys left right across =
     λ i j d below within.
     elim (cases_lt j (length xs)) [
@@ -121,7 +128,8 @@ AllPairs-append R xs ys left right across =
     ]
 
 -- the runs of one row
-pub IsRow-stretch : (text : List ℕ) (row : ℕ) (runs : List Run) (start end : ℕ) → start ≤ end → end ≤ length runs → All (λ x. IsRun text x) runs → AreOrdered runs → AreApart runs → ((k : ℕ) (d : Run) → start ≤ k → k < end → (get_or runs k d).row ≡ row) → IsRow text row (stretch runs start end)
+pub IsRow-stretch : (text : List ℕ) (row : ℕ) (runs : List Run) (start end : ℕ) → start ≤ end → end ≤ length runs → All (λ x. IsRun text x) runs
+    → AreOrdered runs → AreApart runs → ((k : ℕ) (d : Run) → start ≤ k → k < end → (get_or runs k d).row ≡ row) → IsRow text row (stretch runs start end)
 IsRow-stretch text row runs start end low high are ordered apart inside =
     let ys = stretch runs start end in
     let read : (k : ℕ) (d : Run) → k < length ys → (k < end - start) × (get_or ys k d ≡ get_or runs (start + k) d) = λ k d within.
@@ -140,7 +148,8 @@ IsRow-stretch text row runs start end low high are ordered apart inside =
     }
 
 -- the facts that stay when the runs of a row give their place to others
-pub are_runs-put : (old new : List ℕ) (runs now fresh : List Run) (row start end : ℕ) → BeginsWith old new → All (λ x. IsRun old x) runs → IsRow new row fresh → now ≡ take start runs ++ fresh ++ drop end runs → All (λ x. IsRun new x) now
+pub are_runs-put : (old new : List ℕ) (runs now fresh : List Run) (row start end : ℕ) → BeginsWith old new → All (λ x. IsRun old x) runs → IsRow new row fresh
+    → now ≡ take start runs ++ fresh ++ drop end runs → All (λ x. IsRun new x) now
 are_runs-put old new runs now fresh row start end grows are is_row is =
     let all : All (λ x. IsRun new x) runs = All-IsRun-grown old new runs grows are in
     subst (λ (l : List Run). All (λ x. IsRun new x) l) (sym is) (All-append (λ x. IsRun new x) (take start runs ++ fresh) (drop end runs) (All-append (λ x. IsRun new x) (take start runs) fresh (All-take (λ x. IsRun new x) start runs all) is_row.are_runs) (All-drop (λ x. IsRun new x) end runs all))

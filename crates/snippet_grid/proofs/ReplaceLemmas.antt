@@ -5,10 +5,12 @@ use Rattle.std.proofs.lemmas.Bool.{cases_lt}
 use Rattle.std.specs.List.{slice_index_or}
 use Rattle.snippet_grid.specs.Grid.{row_at, replaced_within, cells_replaced, ReplacesCells}
 use Rattle.snippet_style.specs.Cell.{Cell, SPACE}
-use Rattle.snippet_grid.proofs.ChangeLemmas.{changed_within_one, changed_within_none, slice_index_or-changed_within_inside, slice_index_or-changed_within_before, slice_index_or-changed_within_after, length-changed_within}
+use Rattle.snippet_grid.proofs.ChangeLemmas.{changed_within_one, changed_within_none, slice_index_or-changed_within_inside}
+use Rattle.snippet_grid.proofs.ChangeLemmas.{slice_index_or-changed_within_before, slice_index_or-changed_within_after, length-changed_within}
 
 -- a stretch that is there is replaced
-pub replaced_there : {X : Type 0} (start end : ℕ) (new xs : List X) → start < end → end ≤ length xs → replaced_within start end new xs ≡ take start xs ++ new ++ drop end xs
+pub replaced_there : {X : Type 0} (start end : ℕ) (new xs : List X) → start < end → end ≤ length xs
+    → replaced_within start end new xs ≡ take start xs ++ new ++ drop end xs
 unfolding replaced_within
 replaced_there start end new xs some within = grind arith
 
@@ -23,7 +25,8 @@ unfolding replaced_within
 replaced_past start end new xs past = grind arith
 
 -- the row
-pub row_at-cells_replaced_same : (rows : List (List Cell)) (row start end : ℕ) (cells : List Cell) → row_at (cells_replaced rows row start end cells) row ≡ replaced_within start end cells (row_at rows row)
+pub row_at-cells_replaced_same : (rows : List (List Cell)) (row start end : ℕ) (cells : List Cell)
+    → row_at (cells_replaced rows row start end cells) row ≡ replaced_within start end cells (row_at rows row)
 row_at-cells_replaced_same rows row start end cells =
     let change = replaced_within start end cells in
     elim (cases_lt row (length rows)) [
@@ -38,7 +41,8 @@ row_at-cells_replaced_same rows row start end cells =
     ]
 
 -- the other rows
-pub row_at-cells_replaced_other : (rows : List (List Cell)) (row start end : ℕ) (cells : List Cell) (r : ℕ) → r ≢ row → row_at (cells_replaced rows row start end cells) r ≡ row_at rows r
+pub row_at-cells_replaced_other : (rows : List (List Cell)) (row start end : ℕ) (cells : List Cell) (r : ℕ) → r ≢ row
+    → row_at (cells_replaced rows row start end cells) r ≡ row_at rows r
 row_at-cells_replaced_other rows row start end cells r other =
     let change = replaced_within start end cells in
     elim (cases_lt r row) [
@@ -47,7 +51,8 @@ row_at-cells_replaced_other rows row start end cells r other =
     ]
 
 -- a grid whose row keeps its cells stays as it was
-cells_replaced_kept : (rows : List (List Cell)) (row start end : ℕ) (cells : List Cell) → replaced_within start end cells (row_at rows row) ≡ row_at rows row → cells_replaced rows row start end cells ≡ rows
+cells_replaced_kept : (rows : List (List Cell)) (row start end : ℕ) (cells : List Cell) → replaced_within start end cells (row_at rows row) ≡ row_at rows row
+    → cells_replaced rows row start end cells ≡ rows
 cells_replaced_kept rows row start end cells kept =
     let change = replaced_within start end cells in
     elim (cases_lt row (length rows)) [
@@ -61,12 +66,14 @@ cells_replaced_empty rows row start end cells none =
     cells_replaced_kept rows row start end cells (replaced_empty start end cells (row_at rows row) none)
 
 -- replacing a stretch that ends right of the row changes nothing
-pub cells_replaced_past : (rows : List (List Cell)) (row start end : ℕ) (cells : List Cell) → length (row_at rows row) < end → cells_replaced rows row start end cells ≡ rows
+pub cells_replaced_past : (rows : List (List Cell)) (row start end : ℕ) (cells : List Cell) → length (row_at rows row) < end
+    → cells_replaced rows row start end cells ≡ rows
 cells_replaced_past rows row start end cells past =
     cells_replaced_kept rows row start end cells (replaced_past start end cells (row_at rows row) past)
 
 -- the cells before the stretch
-replaced_before : (start end : ℕ) (new xs : List Cell) (c : ℕ) → c < start → slice_index_or (replaced_within start end new xs) c SPACE ≡ slice_index_or xs c SPACE
+replaced_before : (start end : ℕ) (new xs : List Cell) (c : ℕ) → c < start
+    → slice_index_or (replaced_within start end new xs) c SPACE ≡ slice_index_or xs c SPACE
 replaced_before start end new xs c before =
     elim (cases_lt start end) [
       | inl some ↦ elim (cases_lt (length xs) end) [
@@ -77,17 +84,21 @@ replaced_before start end new xs c before =
     ]
 
 -- the cells in the place of the stretch, and those after them
-put_inside : (start end : ℕ) (new xs : List Cell) (k : ℕ) → start < end → end ≤ length xs → k < length new → slice_index_or (take start xs ++ new ++ drop end xs) (start + k) SPACE ≡ slice_index_or new k SPACE
+put_inside : (start end : ℕ) (new xs : List Cell) (k : ℕ) → start < end → end ≤ length xs → k < length new
+    → slice_index_or (take start xs ++ new ++ drop end xs) (start + k) SPACE ≡ slice_index_or new k SPACE
 put_inside start end new xs k some within inside = grind (arith, places)
 
-put_after : (start end : ℕ) (new xs : List Cell) (k : ℕ) → start < end → end ≤ length xs → slice_index_or (take start xs ++ new ++ drop end xs) (start + length new + k) SPACE ≡ slice_index_or xs (end + k) SPACE
+put_after : (start end : ℕ) (new xs : List Cell) (k : ℕ) → start < end → end ≤ length xs
+    → slice_index_or (take start xs ++ new ++ drop end xs) (start + length new + k) SPACE ≡ slice_index_or xs (end + k) SPACE
 put_after start end new xs k some within = grind (arith, places)
 
-put_length : (start end : ℕ) (new xs : List Cell) → start < end → end ≤ length xs → length (take start xs ++ new ++ drop end xs) + (end - start) ≡ length xs + length new
+put_length : (start end : ℕ) (new xs : List Cell) → start < end → end ≤ length xs
+    → length (take start xs ++ new ++ drop end xs) + (end - start) ≡ length xs + length new
 put_length start end new xs some within = grind (arith, places)
 
 -- the change, read cell by cell
-pub ReplacesCells-cells_replaced : (rows : List (List Cell)) (row start end : ℕ) (cells : List Cell) → ReplacesCells rows (cells_replaced rows row start end cells) row start end cells
+pub ReplacesCells-cells_replaced : (rows : List (List Cell)) (row start end : ℕ) (cells : List Cell)
+    → ReplacesCells rows (cells_replaced rows row start end cells) row start end cells
 ReplacesCells-cells_replaced rows row start end cells =
     let old = row_at rows row in
     let same = row_at-cells_replaced_same rows row start end cells in
@@ -103,6 +114,7 @@ ReplacesCells-cells_replaced rows row start end cells =
     }
 
 -- the same of a grid that is known to be the one after the change
-pub ReplacesCells-from_equal : (old new : List (List Cell)) (row start end : ℕ) (cells : List Cell) → new ≡ cells_replaced old row start end cells → ReplacesCells old new row start end cells
+pub ReplacesCells-from_equal : (old new : List (List Cell)) (row start end : ℕ) (cells : List Cell) → new ≡ cells_replaced old row start end cells
+    → ReplacesCells old new row start end cells
 ReplacesCells-from_equal old new row start end cells is =
     subst (λ rows. ReplacesCells old rows row start end cells) (sym is) (ReplacesCells-cells_replaced old row start end cells)

@@ -22,7 +22,8 @@ use Rattle.snippet_style.specs.declared.role.ElementStyle.{ElementStyle}
 use Rattle.snippet_grid.specs.declared.runs.Run.{Run}
 
 -- a text with no byte shows nothing
-pub span_empty : (text : List ℕ) (out : List Run) (row at : ℕ) (word : List ℕ) (g : ℕ → Cell) → length word ≤ 0 → ShowsSpan text text out out row at (at + length (chars word)) g
+pub span_empty : (text : List ℕ) (out : List Run) (row at : ℕ) (word : List ℕ) (g : ℕ → Cell) → length word ≤ 0
+    → ShowsSpan text text out out row at (at + length (chars word)) g
 span_empty text out row at word g none =
     λ c.
     let no_char : length (chars word) ≡ 0 = ap (λ (w : List ℕ). length (chars w)) (nil_from_length word (omega (arith, none))) ∙ ap length chars-nil in
@@ -85,7 +86,8 @@ row_replaced t0 t1 t2 t3 runs f0 f1 f2 f3 row start end at top cells some is_at 
     }
 
 -- two grids that a replacement left are one
-ReplacesCells-unique : (old a b : List (List Cell)) (row start end : ℕ) (cells : List Cell) → start < end → end ≤ length (row_at old row) → ReplacesCells old a row start end cells → ReplacesCells old b row start end cells → a ≡ b
+ReplacesCells-unique : (old a b : List (List Cell)) (row start end : ℕ) (cells : List Cell) → start < end → end ≤ length (row_at old row)
+    → ReplacesCells old a row start end cells → ReplacesCells old b row start end cells → a ≡ b
 ReplacesCells-unique old a b row start end cells some within one two =
     same_rows old a b row (one.count ∙ sym two.count) (omega (arith, one.width some within, two.width some within)) (λ c inside. elim (cases_lt c start) [
       | inl before ↦ one.before c before ∙ sym (two.before c before)
@@ -125,7 +127,8 @@ grid_replaced old new runs now fresh w v row start end from to cells put some wi
     ReplacesCells-unique before follows (cells_replaced before row start end cells) row start end cells some (omega arith) reads (ReplacesCells-cells_replaced before row start end cells)
 
 -- the runs of the other rows fit as before, those of the row in its new length
-pub FitIn-replaced : (old new : List ℕ) (runs now fresh : List Run) (w v : List ℕ) (row start end : ℕ) → IsExchanged old new runs now fresh row start end → FitIn w runs → EndsBy (get_or v row 0) fresh → ((r : ℕ) → r ≢ row → get_or v r 0 ≡ get_or w r 0) → FitIn v now
+pub FitIn-replaced : (old new : List ℕ) (runs now fresh : List Run) (w v : List ℕ) (row start end : ℕ) → IsExchanged old new runs now fresh row start end
+    → FitIn w runs → EndsBy (get_or v row 0) fresh → ((r : ℕ) → r ≢ row → get_or v r 0 ≡ get_or w r 0) → FitIn v now
 FitIn-replaced old new runs now fresh w v row start end put fit ends others =
     let P = λ (x : Run). x.cell + x.count ≤ get_or v x.row 0 in
     let xs = take start runs in

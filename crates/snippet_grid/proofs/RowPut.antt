@@ -27,17 +27,20 @@ no_middle runs row start end r at other =
     other (sym same ∙ ap (λ (x : Run). x.row) read ∙ at.inside (start + k) d (omega arith) (omega arith))
 
 -- a row shows what its own runs show
-pub row_shows : (text : List ℕ) (runs : List Run) (row start end c : ℕ) → RowAt runs row start end → shown text (stretch runs start end) row c ≡ shown text runs row c
+pub row_shows : (text : List ℕ) (runs : List Run) (row start end c : ℕ) → RowAt runs row start end
+    → shown text (stretch runs start end) row c ≡ shown text runs row c
 row_shows text runs row start end c at =
     sym (ap (λ (l : List Run). shown text l row c) (split_three runs start end at.ordered at.within) ∙ painted_middle text row c (take start runs) (stretch runs start end) (drop end runs) (no_left runs row start end at) (no_right runs row start end at))
 
 -- and after others took their place, what these show
-pub put_shows : (text : List ℕ) (runs now fresh : List Run) (row start end c : ℕ) → RowAt runs row start end → now ≡ take start runs ++ fresh ++ drop end runs → shown text now row c ≡ shown text fresh row c
+pub put_shows : (text : List ℕ) (runs now fresh : List Run) (row start end c : ℕ) → RowAt runs row start end → now ≡ take start runs ++ fresh ++ drop end runs
+    → shown text now row c ≡ shown text fresh row c
 put_shows text runs now fresh row start end c at is =
     ap (λ (l : List Run). shown text l row c) is ∙ painted_middle text row c (take start runs) fresh (drop end runs) (no_left runs row start end at) (no_right runs row start end at)
 
 -- the other rows stay
-pub put_others : (text : List ℕ) (runs now fresh : List Run) (row start end r c : ℕ) → RowAt runs row start end → All (λ x. x.row ≡ row) fresh → now ≡ take start runs ++ fresh ++ drop end runs → r ≢ row → shown text now r c ≡ shown text runs r c
+pub put_others : (text : List ℕ) (runs now fresh : List Run) (row start end r c : ℕ) → RowAt runs row start end → All (λ x. x.row ≡ row) fresh
+    → now ≡ take start runs ++ fresh ++ drop end runs → r ≢ row → shown text now r c ≡ shown text runs r c
 put_others text runs now fresh row start end r c at in_row is other =
     let no_fresh : All (λ x. x.row ≡ r → ⊥) fresh = λ k d within same. other (sym same ∙ in_row k d within) in
     ap (λ (l : List Run). shown text l r c) is ∙ painted_outer text r c (take start runs) fresh (drop end runs) no_fresh
@@ -45,7 +48,8 @@ put_others text runs now fresh row start end r c at in_row is other =
     runs) (stretch runs start end) (drop end runs) (no_middle runs row start end r at other))
 
 -- as many runs are added as are put in, and as many are gone as stood there
-pub put_length : (runs now fresh : List Run) (row start end : ℕ) → RowAt runs row start end → now ≡ take start runs ++ fresh ++ drop end runs → length now + (end - start) ≡ length runs + length fresh
+pub put_length : (runs now fresh : List Run) (row start end : ℕ) → RowAt runs row start end → now ≡ take start runs ++ fresh ++ drop end runs
+    → length now + (end - start) ≡ length runs + length fresh
 put_length runs now fresh row start end at is =
     omega (arith, at.ordered, at.within, ap length is, length-append (take start runs ++ fresh) (drop end runs), length-append (take start runs) fresh, length-take start runs, length-drop end runs)
 

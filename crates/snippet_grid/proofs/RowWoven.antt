@@ -1,6 +1,8 @@
 -- A row that is printed run by run.
-use Rattle.std.proofs.Common.{◌≡◌, ℕ, ◌+◌, ◌-◌, ◌<◌, ◌≤◌, List, [], ◌∷◌, ◌++◌, length, take, drop, get_or, replicate, Option, None, Some, refl, sym, ap, ◌∙◌, subst, arith, false, inl, inr, All, if◌then◌else◌}
-use Rattle.std.proofs.lemmas.List.{same_lists, take-append-drop, drop_more, length-append, length-map, length-replicate, get_or-map, get_or-replicate, get_or_default, get_or_append_left, get_or-append_right, get_or-drop, length-drop}
+use Rattle.std.proofs.Common.{◌≡◌, ℕ, ◌+◌, ◌-◌, ◌<◌, ◌≤◌, List, [], ◌∷◌, ◌++◌, length, take, drop, get_or, replicate, Option, None, Some, refl, sym, ap, ◌∙◌}
+use Rattle.std.proofs.Common.{subst, arith, false, inl, inr, All, if◌then◌else◌}
+use Rattle.std.proofs.lemmas.List.{same_lists, take-append-drop, drop_more, length-append, length-map, length-replicate, get_or-map, get_or-replicate}
+use Rattle.std.proofs.lemmas.List.{get_or_default, get_or_append_left, get_or-append_right, get_or-drop, length-drop}
 use Rattle.std.proofs.lemmas.List.FromFn.{length-map-range_with_len, get_or-map-range_with_len}
 use Rattle.std.proofs.lemmas.Bool.{cases_lt, cases_eq}
 use Rattle.std.specs.Option.{option_copied}
@@ -24,7 +26,8 @@ painted_unheld text r c d (run ∷ runs) none =
     ap (λ (cell : Cell). painted text r c cell runs) (pick (run_cell text run c) d (none 0 run (omega arith))) ∙ painted_unheld text r c d runs (All-tail (λ x. holds x r c ≡ false) run runs none)
 
 -- a run shows its own cells, whatever stands after it
-pub shown_in : (text : List ℕ) (row c n : ℕ) (runs : List Run) (d : Run) → IsRow text row runs → n < length runs → (let run = get_or runs n d in run.cell ≤ c → c < run.cell + run.count → shown text runs row c ≡ run_cell text run c)
+pub shown_in : (text : List ℕ) (row c n : ℕ) (runs : List Run) (d : Run) → IsRow text row runs → n < length runs
+    → (let run = get_or runs n d in run.cell ≤ c → c < run.cell + run.count → shown text runs row c ≡ run_cell text run c)
 shown_in text row c n runs d is within =
     λ low high.
     let run : Run = get_or runs n d in
@@ -42,7 +45,9 @@ shown_in text row c n runs d is within =
     ap (λ (xs : List Run). shown text xs row c) split ∙ painted-append text row c SPACE front (run ∷ back) ∙ painted_unheld text row c (if holds run row c then run_cell text run c else below) back none ∙ pick (run_cell text run c) below (holds_inside run row c (is.in_row n d within) low high)
 
 -- nothing is shown between two runs
-pub shown_gap : (text : List ℕ) (row c n : ℕ) (runs : List Run) → ((k : ℕ) (d : Run) → k < n → k < length runs → (get_or runs k d).cell + (get_or runs k d).count ≤ c) → ((k : ℕ) (d : Run) → n ≤ k → k < length runs → c < (get_or runs k d).cell) → shown text runs row c ≡ SPACE
+pub shown_gap : (text : List ℕ) (row c n : ℕ) (runs : List Run)
+    → ((k : ℕ) (d : Run) → k < n → k < length runs → (get_or runs k d).cell + (get_or runs k d).count ≤ c)
+    → ((k : ℕ) (d : Run) → n ≤ k → k < length runs → c < (get_or runs k d).cell) → shown text runs row c ≡ SPACE
 shown_gap text row c n runs after ahead =
     painted_unheld text row c SPACE runs (λ k d within. elim (cases_lt k n) [
       | inl before ↦ holds_after (get_or runs k d) row c (after k d before within)
@@ -50,7 +55,8 @@ shown_gap text row c n runs after ahead =
     ])
 
 -- further cells of a row
-cells_more : (text : List ℕ) (runs : List Run) (row a b : ℕ) (more : List Cell) → a + length more ≡ b → ((k : ℕ) → k < length more → get_or more k SPACE ≡ shown text runs row (a + k)) → cells_to text runs row b ≡ cells_to text runs row a ++ more
+cells_more : (text : List ℕ) (runs : List Run) (row a b : ℕ) (more : List Cell) → a + length more ≡ b
+    → ((k : ℕ) → k < length more → get_or more k SPACE ≡ shown text runs row (a + k)) → cells_to text runs row b ≡ cells_to text runs row a ++ more
 cells_more text runs row a b more long same =
     let f = λ (c : ℕ). shown text runs row c in
     let xs = cells_to text runs row a in
@@ -71,7 +77,8 @@ pub record WovenTo (sheet : Stylesheet) (level : LevelInner) (text : List ℕ) (
   pub ahead : (k : ℕ) (d : Run) → n ≤ k → k < length runs → col ≤ (get_or runs k d).cell
 
 -- before any cell is woven nothing is added
-pub woven_start : (sheet : Stylesheet) (level : LevelInner) (text : List ℕ) (runs : List Run) (row : ℕ) (old : List ℕ) → WovenTo sheet level text runs row 0 0 sheet.none None old old
+pub woven_start : (sheet : Stylesheet) (level : LevelInner) (text : List ℕ) (runs : List Run) (row : ℕ) (old : List ℕ)
+    → WovenTo sheet level text runs row 0 0 sheet.none None old old
 woven_start sheet level text runs row old =
     record { goes = λ rest more prints. record { pieces = rest; text_is = refl; prints = prints }; after = λ k d before within. absurd (omega arith); ahead = λ k d follows within. omega arith }
 
@@ -132,7 +139,8 @@ woven_run sheet level text runs row n col d style next link old now new is_row w
     }
 
 -- no run from this one on begins before it
-pub first_ahead : (text : List ℕ) (row : ℕ) (runs : List Run) (n : ℕ) (e : Run) → IsRow text row runs → n < length runs → (k : ℕ) (d : Run) → n ≤ k → k < length runs → (get_or runs n e).cell ≤ (get_or runs k d).cell
+pub first_ahead : (text : List ℕ) (row : ℕ) (runs : List Run) (n : ℕ) (e : Run) → IsRow text row runs → n < length runs → (k : ℕ) (d : Run) → n ≤ k
+    → k < length runs → (get_or runs n e).cell ≤ (get_or runs k d).cell
 first_ahead text row runs n e is within k d follows inside =
     let read : (get_or runs n d).cell ≡ (get_or runs n e).cell = ap (λ (x : Run). x.cell) (get_or_default runs n d e within) in
     elim (cases_eq n k) [

@@ -1,6 +1,8 @@
 -- Rows that are printed one below another, each by its runs.
-use Rattle.std.proofs.Common.{◌≡◌, ℕ, ◌+◌, ◌<◌, ◌≤◌, List, [], ◌∷◌, ◌++◌, length, map, take, drop, get_or, refl, sym, ap, ◌∙◌, subst, arith, inl, inr, All, encode_utf8}
-use Rattle.std.proofs.lemmas.List.{same_lists, append_assoc, append-nil, take_more, take_all, get_or_default, get_or-take, get_or-drop, length-take, length-drop}
+use Rattle.std.proofs.Common.{◌≡◌, ℕ, ◌+◌, ◌<◌, ◌≤◌, List, [], ◌∷◌, ◌++◌, length, map, take, drop, get_or, refl, sym, ap, ◌∙◌, subst, arith, inl, inr, All}
+use Rattle.std.proofs.Common.{encode_utf8}
+use Rattle.std.proofs.lemmas.List.{same_lists, append_assoc, append-nil, take_more, take_all, get_or_default, get_or-take, get_or-drop, length-take}
+use Rattle.std.proofs.lemmas.List.{length-drop}
 use Rattle.std.proofs.lemmas.List.FromFn.{length-map-range_with_len, get_or-map-range_with_len}
 use Rattle.std.proofs.lemmas.Grind.{flat_map-append}
 use Rattle.std.proofs.lemmas.Bool.{cases_lt, cases_eq}
@@ -18,12 +20,14 @@ use Rattle.snippet_grid.specs.declared.runs.Run.{Run}
 use Rattle.snippet_style.specs.declared.stylesheet.Stylesheet.{Stylesheet}
 
 -- a first row
-pub rows_one : (sheet : Stylesheet) (level : LevelInner) (old new : List ℕ) (row : List Cell) → AddsRow sheet level row old new → AddsRows sheet level (row ∷ []) old new
+pub rows_one : (sheet : Stylesheet) (level : LevelInner) (old new : List ℕ) (row : List Cell) → AddsRow sheet level row old new
+    → AddsRows sheet level (row ∷ []) old new
 rows_one sheet level old new row added =
     record { pieces = added.pieces; text_is = added.text_is; are = (added.pieces, [], sym (append-nil added.pieces), added.are, refl) }
 
 -- one more row below others
-pub rows_more : (sheet : Stylesheet) (level : LevelInner) (old now fed new : List ℕ) (rows : List (List Cell)) (row : List Cell) → 0 < length rows → fed ≡ now ++ encode_utf8 10 → AddsRows sheet level rows old now → AddsRow sheet level row fed new → AddsRows sheet level (rows ++ row ∷ []) old new
+pub rows_more : (sheet : Stylesheet) (level : LevelInner) (old now fed new : List ℕ) (rows : List (List Cell)) (row : List Cell) → 0 < length rows
+    → fed ≡ now ++ encode_utf8 10 → AddsRows sheet level rows old now → AddsRow sheet level row fed new → AddsRows sheet level (rows ++ row ∷ []) old new
 rows_more sheet level old now fed new [] row some broken above added = absurd (omega arith)
 rows_more sheet level old now fed new (head ∷ rows) row some broken above added =
     let more : List Piece = Char 10 ∷ added.pieces in
@@ -103,7 +107,8 @@ rows_next sheet level text runs widths r from to old now fed new within low high
     }
 
 -- all rows
-pub rows_all : (sheet : Stylesheet) (level : LevelInner) (text : List ℕ) (runs : List Run) (widths : List ℕ) (r from : ℕ) (old now : List ℕ) → r ≡ length widths → RowsTo sheet level text runs widths r from old now → AddsRows sheet level (grid_shown text runs widths) old now
+pub rows_all : (sheet : Stylesheet) (level : LevelInner) (text : List ℕ) (runs : List Run) (widths : List ℕ) (r from : ℕ) (old now : List ℕ) → r ≡ length widths
+    → RowsTo sheet level text runs widths r from old now → AddsRows sheet level (grid_shown text runs widths) old now
 rows_all sheet level text runs widths r from old now all so_far =
     let grid = grid_shown text runs widths in
     elim (cases_lt 0 r) [
@@ -114,7 +119,8 @@ rows_all sheet level text runs widths r from old now all so_far =
     ]
 
 -- after the last run of a row come those of later rows
-pub later_rows : (runs : List Run) (to row : ℕ) (e : Run) → AreOrdered runs → to < length runs → ((get_or runs to e).row ≡ row → ⊥) → row ≤ (get_or runs to e).row → (k : ℕ) (d : Run) → to ≤ k → k < length runs → row < (get_or runs k d).row
+pub later_rows : (runs : List Run) (to row : ℕ) (e : Run) → AreOrdered runs → to < length runs → ((get_or runs to e).row ≡ row → ⊥)
+    → row ≤ (get_or runs to e).row → (k : ℕ) (d : Run) → to ≤ k → k < length runs → row < (get_or runs k d).row
 later_rows runs to row e ordered within other least k d after inside =
     let read : (get_or runs to d).row ≡ (get_or runs to e).row = ap (λ (x : Run). x.row) (get_or_default runs to d e within) in
     let rise : (get_or runs to d).row ≤ (get_or runs k d).row = rows_rise runs to k d ordered after inside in

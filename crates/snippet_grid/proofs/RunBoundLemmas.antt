@@ -1,5 +1,6 @@
 -- The fewest and the most runs of a row's cells, stretch by stretch.
-use Rattle.std.proofs.Common.{◌≡◌, ℕ, zero, suc, ◌+◌, ◌<◌, ◌≤◌, List, [], ◌∷◌, length, map, Bool, true, false, not, ◌&&◌, ◌||◌, if◌then◌else◌, nat_eq, Option, None, Some, refl, sym, ap, ◌∙◌, subst, arith}
+use Rattle.std.proofs.Common.{◌≡◌, ℕ, zero, suc, ◌+◌, ◌<◌, ◌≤◌, List, [], ◌∷◌, length, map, Bool, true, false, not, ◌&&◌, ◌||◌, if◌then◌else◌, nat_eq, Option}
+use Rattle.std.proofs.Common.{None, Some, refl, sym, ap, ◌∙◌, subst, arith}
 use Rattle.std.proofs.lemmas.Bool.{false≢true}
 use Rattle.std.specs.Cmp.Lexicographic.{same_text}
 use Rattle.std.proofs.lemmas.Cmp.{nat_list_eq_equiv}
@@ -8,7 +9,9 @@ use Rattle.std.specs.Option.{option_eq}
 use lib.Pointwise.{pointwise}
 use Rattle.snippet_style.specs.Cell.{Cell, SPACE}
 use Rattle.snippet_style.specs.declared.role.ElementStyle.{ElementStyle}
-use Rattle.snippet_style.specs.declared.role.ElementStyle.TheVariants.{MainHeaderMsg, HeaderMsg, LineAndColumn, Quotation, NoStyle, LineNumber, UnderlinePrimary, LabelPrimary, UnderlineSecondary, LabelSecondary, Level, Addition, Removal}
+use Rattle.snippet_style.specs.declared.role.ElementStyle.TheVariants.{MainHeaderMsg, HeaderMsg, LineAndColumn, Quotation, NoStyle, LineNumber}
+use Rattle.snippet_style.specs.declared.role.ElementStyle.TheVariants.{UnderlinePrimary, LabelPrimary, UnderlineSecondary, LabelSecondary, Level, Addition}
+use Rattle.snippet_style.specs.declared.role.ElementStyle.TheVariants.{Removal}
 use Rattle.snippet_style.specs.declared.role.LevelInner.{LevelInner}
 use Rattle.snippet_style.specs.declared.role.LevelInner.TheVariants.{Error, Warning, Info, Note, Help}
 use Rattle.snippet_grid.specs.Grid.{num_cells}

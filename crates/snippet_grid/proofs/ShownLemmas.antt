@@ -1,6 +1,8 @@
 -- What runs show, when one is added.
-use Rattle.std.proofs.Common.{◌≡◌, ℕ, suc, ◌+◌, ◌-◌, ◌<◌, ◌≤◌, List, [], ◌∷◌, ◌++◌, length, take, set, get_or, refl, sym, ap, ◌∙◌, arith, Bool, true, false, inl, inr, subst, All, Option}
-use Rattle.std.proofs.lemmas.List.{take_all, take_more, take_more_set, length-set, length_push, get_or-set_same, get_or-set_other, get_or_push, get_or_default, get_or_append_left, get_or-append_right}
+use Rattle.std.proofs.Common.{◌≡◌, ℕ, suc, ◌+◌, ◌-◌, ◌<◌, ◌≤◌, List, [], ◌∷◌, ◌++◌, length, take, set, get_or, refl, sym, ap, ◌∙◌, arith, Bool, true, false}
+use Rattle.std.proofs.Common.{inl, inr, subst, All, Option}
+use Rattle.std.proofs.lemmas.List.{take_all, take_more, take_more_set, length-set, length_push, get_or-set_same, get_or-set_other, get_or_push, get_or_default}
+use Rattle.std.proofs.lemmas.List.{get_or_append_left, get_or-append_right}
 use Rattle.std.proofs.lemmas.List.Elements.{All-take, All-set, All-push}
 use Rattle.std.specs.List.{AllPairs}
 use Rattle.std.proofs.lemmas.Bool.{cases_lt, cases_eq, and_from, and_left, and_right, eq-eqb, ne_eqb, le-leb, lt-leb, lt-ltb, le-ltb}
@@ -28,7 +30,8 @@ pub All-tail : {X : Type 0} (P : X → Type 0) (x : X) (xs : List X) → All P (
 All-tail P x xs all = λ k d within. all (suc k) d (omega arith)
 
 -- what runs show stays when the text grows
-pub painted-grown : (old new : List ℕ) (r c : ℕ) (d : Cell) (runs : List Run) → BeginsWith old new → All (λ run. IsRun old run) runs → painted new r c d runs ≡ painted old r c d runs
+pub painted-grown : (old new : List ℕ) (r c : ℕ) (d : Cell) (runs : List Run) → BeginsWith old new → All (λ run. IsRun old run) runs
+    → painted new r c d runs ≡ painted old r c d runs
 painted-grown old new r c d [] grows are = refl
 painted-grown old new r c d (run ∷ runs) grows are =
     ap (λ (cell : Cell). painted new r c (if holds run r c then cell else d) runs) (run_cell-grown old new run c grows (are 0 run (omega arith))) ∙ painted-grown old new r c (if holds run r c then run_cell old run c else d) runs grows (All-tail (λ x. IsRun old x) run runs are)
@@ -148,7 +151,8 @@ AllPairs-push R xs y pairs all =
           subst (λ b. R (get_or (xs ++ y ∷ []) i d) b) (sym (get_or_push xs y d j is_last)) (subst (λ a. R a y) (sym first) (all i d (omega arith)))
     ]
 
-AllPairs-set_last : {X : Type 0} (R : X → X → Type 0) (xs : List X) (i : ℕ) (last y : X) → i + 1 ≡ length xs → last ≡ get_or xs i last → AllPairs R xs → ((x : X) → R x last → R x y) → AllPairs R (set xs i y)
+AllPairs-set_last : {X : Type 0} (R : X → X → Type 0) (xs : List X) (i : ℕ) (last y : X) → i + 1 ≡ length xs → last ≡ get_or xs i last → AllPairs R xs
+    → ((x : X) → R x last → R x y) → AllPairs R (set xs i y)
 AllPairs-set_last R xs i last y is_last read pairs goes =
     λ a b d below within.
     let within_old : b < length xs = omega (arith, length-set xs i y) in
@@ -163,7 +167,8 @@ AllPairs-set_last R xs i last y is_last read pairs goes =
     ]
 
 -- where the last run differs from a run after them all, each does: no other one touches it
-pub differ_all : (runs : List Run) (run : Run) → All (λ x. 0 < x.count) runs → AllPairs (λ a b. Precedes a b) runs → All (λ x. Precedes x run) runs → ((d : Run) → 0 < length runs → Differ (get_or runs (length runs - 1) d) run) → All (λ x. Differ x run) runs
+pub differ_all : (runs : List Run) (run : Run) → All (λ x. 0 < x.count) runs → AllPairs (λ a b. Precedes a b) runs → All (λ x. Precedes x run) runs
+    → ((d : Run) → 0 < length runs → Differ (get_or runs (length runs - 1) d) run) → All (λ x. Differ x run) runs
 differ_all runs run some ordered before differs =
     λ k d within.
     elim (cases_eq k (length runs - 1)) [
@@ -179,7 +184,8 @@ differ_all runs run some ordered before differs =
     ]
 
 -- a run that differs from the last one is added as one more
-pub AddsRun-pushed : (runs now : List Run) (run : Run) → All (λ x. 0 < x.count) runs → ((d : Run) → 0 < length runs → Differ (get_or runs (length runs - 1) d) run) → now ≡ runs ++ run ∷ [] → AddsRun runs now run
+pub AddsRun-pushed : (runs now : List Run) (run : Run) → All (λ x. 0 < x.count) runs
+    → ((d : Run) → 0 < length runs → Differ (get_or runs (length runs - 1) d) run) → now ≡ runs ++ run ∷ [] → AddsRun runs now run
 AddsRun-pushed runs now run some differs pushed =
     subst (λ (xs : List Run). AddsRun runs xs run) (sym pushed) record {
       rows = λ n all is. All-push (λ x. x.row ≡ n) runs run all is;
@@ -195,7 +201,8 @@ AddsRun-pushed runs now run some differs pushed =
     }
 
 -- a run that continues the last one is added by joining the two
-pub AddsRun-joined : (old new : List ℕ) (runs : List Run) (i : ℕ) (last run whole : Run) → i + 1 ≡ length runs → last ≡ get_or runs i last → Continues last run → IsJoined old new last run whole → AddsRun runs (set runs i whole) run
+pub AddsRun-joined : (old new : List ℕ) (runs : List Run) (i : ℕ) (last run whole : Run) → i + 1 ≡ length runs → last ≡ get_or runs i last → Continues last run
+    → IsJoined old new last run whole → AddsRun runs (set runs i whole) run
 AddsRun-joined old new runs i last run whole is_last read goes joined =
     let within : i < length runs = omega arith in
     record {

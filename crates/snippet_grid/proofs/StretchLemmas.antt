@@ -77,7 +77,8 @@ boundary text i whole within front =
     IsCharBoundary-from_take text i whole within (IsUtf8-from_is_utf8 (take i text) front)
 
 -- a stretch of UTF-8 between two borders of characters is UTF-8
-pub IsUtf8-stretch : (text : List ℕ) (s e : ℕ) → IsUtf8 text → s ≤ e → e ≤ length text → is_utf8 (take s text) ≡ true → is_utf8 (take e text) ≡ true → IsUtf8 (stretch text s e)
+pub IsUtf8-stretch : (text : List ℕ) (s e : ℕ) → IsUtf8 text → s ≤ e → e ≤ length text → is_utf8 (take s text) ≡ true → is_utf8 (take e text) ≡ true
+    → IsUtf8 (stretch text s e)
 IsUtf8-stretch text s e whole ordered within starts ends =
     IsUtf8-between text s e whole ordered (boundary text s whole (omega arith) starts) (boundary text e whole within ends)
 

@@ -1,5 +1,6 @@
 -- Cells of one role and one link are printed by their text alone.
-use Rattle.std.proofs.Common.{◌≡◌, ℕ, zero, suc, replicate, ◌+◌, ◌<◌, List, [], ◌∷◌, ◌++◌, length, map, Option, Some, refl, sym, ap, ◌∙◌, subst, arith, encode_utf8, encode_utf8_all}
+use Rattle.std.proofs.Common.{◌≡◌, ℕ, zero, suc, replicate, ◌+◌, ◌<◌, List, [], ◌∷◌, ◌++◌, length, map, Option, Some, refl, sym, ap, ◌∙◌, subst, arith}
+use Rattle.std.proofs.Common.{encode_utf8, encode_utf8_all}
 use Rattle.std.proofs.lemmas.List.{append_assoc, append-nil, replicate-append-replicate}
 use Rattle.snippet_grid.proofs.WeaveLemmas.{Url, Goes, cell_printed}
 use Rattle.std.specs.List.{flat_map}
@@ -18,7 +19,8 @@ abbrev pub alike : ElementStyle → Option Url → List ℕ → List Cell
 alike role link word = map (λ ch. (let cell : Cell = record { ch = ch; role = role; link = link } in cell)) word
 
 -- the codes between two styles
-pub codes_added : (last next : Style) (old mid new code : List ℕ) → code ≡ encode_utf8_all (reset last) → mid ≡ old ++ code → new ≡ mid ++ encode_utf8_all (opening next) → new ≡ old ++ flat_map piece_text (Reset last ∷ Opening next ∷ [])
+pub codes_added : (last next : Style) (old mid new code : List ℕ) → code ≡ encode_utf8_all (reset last) → mid ≡ old ++ code
+    → new ≡ mid ++ encode_utf8_all (opening next) → new ≡ old ++ flat_map piece_text (Reset last ∷ Opening next ∷ [])
 codes_added last next old mid new code is reset_added opened =
     let before = encode_utf8_all (reset last) in
     let after = encode_utf8_all (opening next) in

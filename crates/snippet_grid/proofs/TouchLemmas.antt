@@ -1,5 +1,6 @@
 -- A put that takes only the runs which it meets: those before the run and after it, in its own row too, stay.
-use Rattle.std.proofs.Common.{◌≡◌, ◌⊎◌, ℕ, suc, ◌+◌, ◌-◌, ◌<◌, ◌≤◌, List, [], ◌∷◌, ◌++◌, length, take, drop, get_or, sym, ap, ◌∙◌, arith, true, false, inl, inr, subst, All, if◌then◌else◌}
+use Rattle.std.proofs.Common.{◌≡◌, ◌⊎◌, ℕ, suc, ◌+◌, ◌-◌, ◌<◌, ◌≤◌, List, [], ◌∷◌, ◌++◌, length, take, drop, get_or, sym, ap, ◌∙◌, arith, true, false, inl, inr}
+use Rattle.std.proofs.Common.{subst, All, if◌then◌else◌}
 use Rattle.std.proofs.lemmas.List.{get_or_default, get_or-take, get_or-drop, length-append, length-drop}
 use Rattle.std.proofs.lemmas.List.Elements.{All-take, All-drop, All-append, All-cons}
 use Rattle.std.proofs.lemmas.Bool.{cases_lt, cases_eq}
@@ -9,7 +10,8 @@ use Rattle.snippet_grid.proofs.ShownLemmas.{All-IsRun-grown, painted-append, pai
 use Rattle.snippet_grid.proofs.PutLemmas.{AreOrdered, AreApart, AllPairs-append, AllPairs-take, AllPairs-drop, split_three, IsRow-stretch, inside-put}
 use Rattle.snippet_grid.proofs.RowWoven.{painted_unheld}
 use Rattle.snippet_style.specs.Cell.{Cell, SPACE}
-use Rattle.snippet_grid.specs.Runs.{IsRun, BeginsWith, ShowsMore, AddsRun, Precedes, Differ, BeginsAfter, BeginsBy, IsClear, Touches, IsTouched, ArePieces, IsPut, EndsBy, run_cell, holds, painted, shown}
+use Rattle.snippet_grid.specs.Runs.{IsRun, BeginsWith, ShowsMore, AddsRun, Precedes, Differ, BeginsAfter, BeginsBy, IsClear, Touches, IsTouched, ArePieces}
+use Rattle.snippet_grid.specs.Runs.{IsPut, EndsBy, run_cell, holds, painted, shown}
 use Rattle.snippet_grid.specs.declared.runs.Run.{Run}
 
 -- a run that holds a cell of a row holds nothing before its first cell, after its last, or in other rows
@@ -94,7 +96,8 @@ ShowsMore-touch old new xs ys zs fresh run grows are are_xs are_zs before after 
     ]
 
 -- what stands before a run that begins by a cell does so too
-pub begun_all : (runs : List Run) (row cell : ℕ) (d : Run) (i : ℕ) → AreOrdered runs → i < length runs → BeginsBy row cell (get_or runs i d) → (k : ℕ) (e : Run) → k ≤ i → BeginsBy row cell (get_or runs k e)
+pub begun_all : (runs : List Run) (row cell : ℕ) (d : Run) (i : ℕ) → AreOrdered runs → i < length runs → BeginsBy row cell (get_or runs i d) → (k : ℕ) (e : Run)
+    → k ≤ i → BeginsBy row cell (get_or runs k e)
 begun_all runs row cell d i ordered high last =
     λ k e within.
     let here : BeginsBy row cell (get_or runs i e) = subst (λ x. BeginsBy row cell x) (get_or_default runs i d e high) last in
@@ -113,7 +116,8 @@ begun_all runs row cell d i ordered high last =
     ]
 
 -- what stands after a run that begins after a cell does so too
-pub later_all : (runs : List Run) (row cell : ℕ) (d : Run) (i : ℕ) → AreOrdered runs → i < length runs → BeginsAfter row cell (get_or runs i d) → (k : ℕ) (e : Run) → i ≤ k → k < length runs → BeginsAfter row cell (get_or runs k e)
+pub later_all : (runs : List Run) (row cell : ℕ) (d : Run) (i : ℕ) → AreOrdered runs → i < length runs → BeginsAfter row cell (get_or runs i d)
+    → (k : ℕ) (e : Run) → i ≤ k → k < length runs → BeginsAfter row cell (get_or runs k e)
 later_all runs row cell d i ordered high first =
     λ k e low within.
     let here : BeginsAfter row cell (get_or runs i e) = subst (λ x. BeginsAfter row cell x) (get_or_default runs i d e high) first in
@@ -132,7 +136,8 @@ later_all runs row cell d i ordered high first =
     ]
 
 -- what stands before a run that is clear is clear
-pub clear_all : (runs : List Run) (run d : Run) (start : ℕ) → AreOrdered runs → start ≤ length runs → 0 < start → IsClear (get_or runs (start - 1) d) run → (k : ℕ) (e : Run) → k < start → IsClear (get_or runs k e) run
+pub clear_all : (runs : List Run) (run d : Run) (start : ℕ) → AreOrdered runs → start ≤ length runs → 0 < start → IsClear (get_or runs (start - 1) d) run
+    → (k : ℕ) (e : Run) → k < start → IsClear (get_or runs k e) run
 clear_all runs run d start ordered high some last =
     λ k e within.
     let here : IsClear (get_or runs (start - 1) e) run = subst (λ x. IsClear x run) (get_or_default runs (start - 1) d e (omega arith)) last in
@@ -251,7 +256,8 @@ IsPut-touched old new runs now fresh run start end low high above touch below ar
     }
 
 -- a run that was added after all others
-pub IsPut-added : (old new : List ℕ) (runs now : List Run) (run : Run) → ShowsMore old new runs now run → All (λ x. IsRun new x) now → AreOrdered runs → AreApart runs → All (λ x. Precedes x run) runs → AddsRun runs now run → IsPut old new runs now run
+pub IsPut-added : (old new : List ℕ) (runs now : List Run) (run : Run) → ShowsMore old new runs now run → All (λ x. IsRun new x) now → AreOrdered runs
+    → AreApart runs → All (λ x. Precedes x run) runs → AddsRun runs now run → IsPut old new runs now run
 IsPut-added old new runs now run shows are ordered apart before adds =
     record {
       shows = shows;

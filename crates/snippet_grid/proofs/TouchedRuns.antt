@@ -22,7 +22,8 @@ none_touched from to (run ∷ runs) all =
     omega (arith, none_touched from to runs (All-tail (λ x. to ≤ x.cell) run runs all), pick {X = ℕ} 1 0 (le-ltb (max run.cell from) (min (run.cell + run.count) to) (omega arith)))
 
 -- of the runs of a row, one at most is touched before a cell and after a later one
-pub touched_outer : (text : List ℕ) (row a b top : ℕ) (runs : List Run) → a ≤ b → IsRow text row runs → num_touched 0 a runs + num_touched b top runs ≤ length runs + 1
+pub touched_outer : (text : List ℕ) (row a b top : ℕ) (runs : List Run) → a ≤ b → IsRow text row runs
+    → num_touched 0 a runs + num_touched b top runs ≤ length runs + 1
 touched_outer text row a b top [] low is = omega arith
 touched_outer text row a b top (run ∷ runs) low is =
     let rest : IsRow text row runs = record {

@@ -1,5 +1,6 @@
 -- How a woven text grows by a cell, by a row's end and by a row.
-use Rattle.std.proofs.Common.{◌≡◌, ◌≢◌, ◌⊎◌, ℕ, Bool, true, false, List, [], ◌∷◌, ◌++◌, Option, None, Some, refl, sym, ap, ◌∙◌, inl, inr, subst, nat_eq, encode_utf8, encode_utf8_all}
+use Rattle.std.proofs.Common.{◌≡◌, ◌≢◌, ◌⊎◌, ℕ, Bool, true, false, List, [], ◌∷◌, ◌++◌, Option, None, Some, refl, sym, ap, ◌∙◌, inl, inr, subst, nat_eq}
+use Rattle.std.proofs.Common.{encode_utf8, encode_utf8_all}
 use Rattle.std.proofs.lemmas.Bool.{cases_Bool, false≢true}
 use Rattle.std.proofs.lemmas.List.{append_assoc, append-nil}
 use Rattle.std.proofs.lemmas.Grind.{flat_map-append}
@@ -65,7 +66,8 @@ GoesTo sheet level style link done old now cell =
     (rest : List Piece) (more : List Cell) → PrintsCells sheet level style link rest (cell ∷ more) → Completes sheet level done old now rest (cell ∷ more)
 
 -- the text grew by some of the pieces
-grown : (sheet : Stylesheet) (level : LevelInner) (done : List Cell) (old now new : List ℕ) (codes rest : List Piece) (more : List Cell) → new ≡ now ++ flat_map piece_text codes → Completes sheet level done old now (codes ++ rest) more → Completes sheet level done old new rest more
+grown : (sheet : Stylesheet) (level : LevelInner) (done : List Cell) (old now new : List ℕ) (codes rest : List Piece) (more : List Cell)
+    → new ≡ now ++ flat_map piece_text codes → Completes sheet level done old now (codes ++ rest) more → Completes sheet level done old new rest more
 grown sheet level done old now new codes rest more is completes =
     record {
       pieces = completes.pieces;
@@ -74,7 +76,8 @@ grown sheet level done old now new codes rest more is completes =
     }
 
 -- the text did not grow
-kept : (sheet : Stylesheet) (level : LevelInner) (style : Option Style) (link : Option Url) (done : List Cell) (old now new : List ℕ) (cell : Cell) → new ≡ now → GoesTo sheet level style link done old now cell → GoesTo sheet level style link done old new cell
+kept : (sheet : Stylesheet) (level : LevelInner) (style : Option Style) (link : Option Url) (done : List Cell) (old now new : List ℕ) (cell : Cell) → new ≡ now
+    → GoesTo sheet level style link done old now cell → GoesTo sheet level style link done old new cell
 kept sheet level style link done old now new cell is goes =
     subst (λ t. GoesTo sheet level style link done old t cell) (sym is) goes
 
@@ -147,7 +150,8 @@ cell_printed sheet level style next link done old now ended changed begun new ce
     char_printed sheet level next done old begun new cell is pushed ready
 
 -- a row whose last cell was printed is whole
-whole : (sheet : Stylesheet) (level : LevelInner) (row : List Cell) (old now new : List ℕ) (rest : List Piece) → new ≡ now ++ flat_map piece_text rest → Completes sheet level row old now rest [] → AddsRow sheet level row old new
+whole : (sheet : Stylesheet) (level : LevelInner) (row : List Cell) (old now new : List ℕ) (rest : List Piece) → new ≡ now ++ flat_map piece_text rest
+    → Completes sheet level row old now rest [] → AddsRow sheet level row old new
 whole sheet level row old now new rest is completes =
     record {
       pieces = completes.pieces;
@@ -171,7 +175,8 @@ row_closed sheet level style link row old now ended new absent ends closed goes 
     ]
 
 -- further rows below further rows
-pub further-append : (sheet : Stylesheet) (level : LevelInner) (ps qs : List Piece) (rows more : List (List Cell)) → PrintsFurther sheet level ps rows → PrintsFurther sheet level qs more → PrintsFurther sheet level (ps ++ qs) (rows ++ more)
+pub further-append : (sheet : Stylesheet) (level : LevelInner) (ps qs : List Piece) (rows more : List (List Cell)) → PrintsFurther sheet level ps rows
+    → PrintsFurther sheet level qs more → PrintsFurther sheet level (ps ++ qs) (rows ++ more)
 further-append sheet level ps qs [] more none prints =
     subst (λ (pieces : List Piece). PrintsFurther sheet level (pieces ++ qs) more) (sym none) prints
 further-append sheet level ps qs (row ∷ rows) more (first, others, split, prints, below) prints_more =

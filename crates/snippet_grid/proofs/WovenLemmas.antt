@@ -1,6 +1,7 @@
 -- What printed rows are as a woven text: their plain text and their links are the rows' own, whatever the sheet; and
 -- without styles and links the text is the plain text.
-use Rattle.std.proofs.Common.{◌≡◌, ◌≢◌, ℕ, suc, Bool, true, false, if◌then◌else◌, nat_eq, List, [], ◌∷◌, ◌++◌, Option, None, Some, IfSome, All, refl, sym, ap, ◌∙◌, inl, inr, subst, encode_utf8, encode_utf8_all}
+use Rattle.std.proofs.Common.{◌≡◌, ◌≢◌, ℕ, suc, Bool, true, false, if◌then◌else◌, nat_eq, List, [], ◌∷◌, ◌++◌, Option, None, Some, IfSome, All, refl, sym, ap}
+use Rattle.std.proofs.Common.{◌∙◌, inl, inr, subst, encode_utf8, encode_utf8_all}
 use Rattle.std.proofs.lemmas.Bool.{and_parts, cases_Bool, false≢true}
 use Rattle.std.proofs.lemmas.List.Elements.{All-nil, All-cons, All-head, All-tail, All-append}
 use Rattle.std.proofs.lemmas.Grind.{flat_map-append}
@@ -16,16 +17,21 @@ use Rattle.snippet_style.specs.Cell.{Cell, SPACE}
 use Rattle.snippet_grid.specs.Print.{row_text, further_text, plain_text}
 use Rattle.snippet_style.specs.Style.{is_plain_style}
 use Rattle.snippet_style.specs.Stylesheet.{style_of, level_style, is_plain_sheet}
-use Rattle.snippet_grid.specs.Woven.{Piece, Char, Opening, Reset, LinkTo, LinkEnd, piece_text, plain_piece, piece_link, next_style, next_link, PrintsCells, PrintsRow, PrintsFurther, PrintsRows, AddsRows, Prints, IsStyleOf, IsOfSheet, AreLinksEnded, IsWoven, link_begun, links_after, links_of}
+use Rattle.snippet_grid.specs.Woven.{Piece, Char, Opening, Reset, LinkTo, LinkEnd, piece_text, plain_piece, piece_link, next_style, next_link, PrintsCells}
+use Rattle.snippet_grid.specs.Woven.{PrintsRow, PrintsFurther, PrintsRows, AddsRows, Prints, IsStyleOf, IsOfSheet, AreLinksEnded, IsWoven, link_begun}
+use Rattle.snippet_grid.specs.Woven.{links_after, links_of}
 use Rattle.snippet_style.specs.declared.role.ElementStyle.{ElementStyle}
-use Rattle.snippet_style.specs.declared.role.ElementStyle.TheVariants.{MainHeaderMsg, HeaderMsg, LineAndColumn, Quotation, NoStyle, LineNumber, UnderlinePrimary, LabelPrimary, UnderlineSecondary, LabelSecondary, Level, Addition, Removal}
+use Rattle.snippet_style.specs.declared.role.ElementStyle.TheVariants.{MainHeaderMsg, HeaderMsg, LineAndColumn, Quotation, NoStyle, LineNumber}
+use Rattle.snippet_style.specs.declared.role.ElementStyle.TheVariants.{UnderlinePrimary, LabelPrimary, UnderlineSecondary, LabelSecondary, Level, Addition}
+use Rattle.snippet_style.specs.declared.role.ElementStyle.TheVariants.{Removal}
 use Rattle.snippet_style.specs.declared.role.LevelInner.{LevelInner}
 use Rattle.snippet_style.specs.declared.role.LevelInner.TheVariants.{Error, Warning, Info, Note, Help}
 use Rattle.snippet_style.specs.declared.style.Style.{Style}
 use Rattle.snippet_style.specs.declared.stylesheet.Stylesheet.{Stylesheet}
 
 -- the plain pieces are the cells' characters
-cells_plain : (sheet : Stylesheet) (level : LevelInner) (style : Option Style) (link : Option Url) (ps : List Piece) (cells : List Cell) → PrintsCells sheet level style link ps cells → flat_map plain_piece ps ≡ row_text cells
+cells_plain : (sheet : Stylesheet) (level : LevelInner) (style : Option Style) (link : Option Url) (ps : List Piece) (cells : List Cell)
+    → PrintsCells sheet level style link ps cells → flat_map plain_piece ps ≡ row_text cells
 cells_plain sheet level style link [] cells (none, _, _) = ap row_text (sym none)
 cells_plain sheet level style link (Char ch ∷ ps) cells (cell, rest, split, is, _, _, prints) =
     ap (λ (t : List ℕ). ch ∷ t) (cells_plain sheet level style link ps rest prints) ∙ ap (λ (c : ℕ). c ∷ row_text rest) is ∙ ap row_text (sym split)
@@ -72,7 +78,8 @@ links_begun url (cell ∷ cells) is =
     ap (λ (urls : List Url). urls ++ links_after cell.link cells) (link_to url cell.link is)
 
 -- the link codes are those of the cells' linked runs
-cells_links : (sheet : Stylesheet) (level : LevelInner) (style : Option Style) (link : Option Url) (ps : List Piece) (cells : List Cell) → PrintsCells sheet level style link ps cells → flat_map piece_link ps ≡ links_after link cells
+cells_links : (sheet : Stylesheet) (level : LevelInner) (style : Option Style) (link : Option Url) (ps : List Piece) (cells : List Cell)
+    → PrintsCells sheet level style link ps cells → flat_map piece_link ps ≡ links_after link cells
 cells_links sheet level style link [] cells (none, _, _) = ap (links_after link) (sym none)
 cells_links sheet level style link (Char ch ∷ ps) cells (cell, rest, split, _, _, same, prints) =
     cells_links sheet level style link ps rest prints ∙ ap (λ (l : Option Url). links_after l rest) same ∙ ap (λ (urls : List Url). urls ++ links_after cell.link rest) (sym (link_begun_same link cell.link same)) ∙ ap (links_after link) (sym split)
@@ -91,7 +98,8 @@ next_is_of sheet level [] style is = absurd (none≢some is)
 next_is_of sheet level (cell ∷ cells) style is =
     record { level = level; role = cell.role; is = sym (some_same is) }
 
-cells_of_sheet : (sheet : Stylesheet) (level : LevelInner) (style : Option Style) (link : Option Url) (ps : List Piece) (cells : List Cell) → IfSome style (λ s. IsStyleOf sheet s) → PrintsCells sheet level style link ps cells → All (λ p. IsOfSheet sheet p) ps
+cells_of_sheet : (sheet : Stylesheet) (level : LevelInner) (style : Option Style) (link : Option Url) (ps : List Piece) (cells : List Cell)
+    → IfSome style (λ s. IsStyleOf sheet s) → PrintsCells sheet level style link ps cells → All (λ p. IsOfSheet sheet p) ps
 cells_of_sheet sheet level style link [] cells of (none, _, _) = All-nil (λ p. IsOfSheet sheet p)
 cells_of_sheet sheet level style link (Char ch ∷ ps) cells of (cell, rest, split, _, _, _, prints) =
     All-cons (λ p. IsOfSheet sheet p) (Char ch) ps tt (cells_of_sheet sheet level style link ps rest of prints)
@@ -114,7 +122,8 @@ there_is : (link : Option Url) → link ≢ None → is_there link ≡ true
 there_is None there = absurd (there refl)
 there_is (Some url) there = refl
 
-cells_ended : (sheet : Stylesheet) (level : LevelInner) (style : Option Style) (link : Option Url) (ps : List Piece) (cells : List Cell) → PrintsCells sheet level style link ps cells → AreLinksEnded (is_there link) ps
+cells_ended : (sheet : Stylesheet) (level : LevelInner) (style : Option Style) (link : Option Url) (ps : List Piece) (cells : List Cell)
+    → PrintsCells sheet level style link ps cells → AreLinksEnded (is_there link) ps
 cells_ended sheet level style link [] cells (_, _, none) = ap is_there none
 cells_ended sheet level style link (Char ch ∷ ps) cells (cell, rest, _, _, _, _, prints) =
     cells_ended sheet level style link ps rest prints
@@ -143,7 +152,8 @@ record AreWoven (sheet : Stylesheet) (ps : List Piece) (plain : List ℕ) (links
   of_sheet : All (λ p. IsOfSheet sheet p) ps
   ended : AreLinksEnded false ps
 
-row_woven : (sheet : Stylesheet) (level : LevelInner) (ps : List Piece) (row : List Cell) → PrintsRow sheet level ps row → AreWoven sheet ps (row_text row) (links_after None row)
+row_woven : (sheet : Stylesheet) (level : LevelInner) (ps : List Piece) (row : List Cell) → PrintsRow sheet level ps row
+    → AreWoven sheet ps (row_text row) (links_after None row)
 row_woven sheet level ps row prints =
     record {
       plain_is = sym (cells_plain sheet level (Some sheet.none) None ps row prints);
@@ -156,7 +166,8 @@ none_woven : (sheet : Stylesheet) (ps : List Piece) → ps ≡ [] → AreWoven s
 none_woven sheet ps none =
     subst (λ (qs : List Piece). AreWoven sheet qs [] []) (sym none) record { plain_is = refl; links_are = refl; of_sheet = All-nil (λ p. IsOfSheet sheet p); ended = refl }
 
-woven-append : (sheet : Stylesheet) (ps qs : List Piece) (plain more : List ℕ) (links others : List Url) → AreWoven sheet ps plain links → AreWoven sheet qs more others → AreWoven sheet (ps ++ qs) (plain ++ more) (links ++ others)
+woven-append : (sheet : Stylesheet) (ps qs : List Piece) (plain more : List ℕ) (links others : List Url) → AreWoven sheet ps plain links
+    → AreWoven sheet qs more others → AreWoven sheet (ps ++ qs) (plain ++ more) (links ++ others)
 woven-append sheet ps qs plain more links others first second =
     record {
       plain_is = ap (λ (t : List ℕ). t ++ more) first.plain_is ∙ ap (λ (t : List ℕ). flat_map plain_piece ps ++ t) second.plain_is ∙ sym (flat_map-append plain_piece ps qs);
@@ -166,7 +177,8 @@ woven-append sheet ps qs plain more links others first second =
     }
 
 -- after a line feed
-woven-fed : (sheet : Stylesheet) (ps : List Piece) (plain : List ℕ) (links : List Url) → AreWoven sheet ps plain links → AreWoven sheet (Char 10 ∷ ps) (10 ∷ plain) links
+woven-fed : (sheet : Stylesheet) (ps : List Piece) (plain : List ℕ) (links : List Url) → AreWoven sheet ps plain links
+    → AreWoven sheet (Char 10 ∷ ps) (10 ∷ plain) links
 woven-fed sheet ps plain links woven =
     record {
       plain_is = ap (λ (t : List ℕ). 10 ∷ t) woven.plain_is;
@@ -175,7 +187,8 @@ woven-fed sheet ps plain links woven =
       ended = woven.ended;
     }
 
-further_woven : (sheet : Stylesheet) (level : LevelInner) (ps : List Piece) (rows : List (List Cell)) → PrintsFurther sheet level ps rows → AreWoven sheet ps (further_text rows) (links_of rows)
+further_woven : (sheet : Stylesheet) (level : LevelInner) (ps : List Piece) (rows : List (List Cell)) → PrintsFurther sheet level ps rows
+    → AreWoven sheet ps (further_text rows) (links_of rows)
 further_woven sheet level ps [] none = none_woven sheet ps none
 further_woven sheet level ps (row ∷ rows) (first, others, split, prints, below) =
     subst (λ (qs : List Piece). AreWoven sheet qs (further_text (row ∷ rows)) (links_of (row ∷ rows))) (sym split)
@@ -183,7 +196,8 @@ further_woven sheet level ps (row ∷ rows) (first, others, split, prints, below
     (woven-fed sheet first (row_text row) (links_after None row) (row_woven sheet level first row prints))
     (further_woven sheet level others rows below))
 
-rows_woven : (sheet : Stylesheet) (level : LevelInner) (ps : List Piece) (rows : List (List Cell)) → PrintsRows sheet level ps rows → AreWoven sheet ps (plain_text rows) (links_of rows)
+rows_woven : (sheet : Stylesheet) (level : LevelInner) (ps : List Piece) (rows : List (List Cell)) → PrintsRows sheet level ps rows
+    → AreWoven sheet ps (plain_text rows) (links_of rows)
 rows_woven sheet level ps [] none = none_woven sheet ps none
 rows_woven sheet level ps (row ∷ rows) (first, others, split, prints, below) =
     subst (λ (qs : List Piece). AreWoven sheet qs (plain_text (row ∷ rows)) (links_of (row ∷ rows))) (sym split)
@@ -191,7 +205,8 @@ rows_woven sheet level ps (row ∷ rows) (first, others, split, prints, below) =
     (row_woven sheet level first row prints) (further_woven sheet level others rows below))
 
 -- a printed grid is a woven text, whose plain text and links are the rows' own
-pub IsWoven-from_prints : (sheet : Stylesheet) (level : LevelInner) (rows : List (List Cell)) (text : List ℕ) → Prints sheet level rows text → IsWoven sheet text (plain_text rows) (links_of rows)
+pub IsWoven-from_prints : (sheet : Stylesheet) (level : LevelInner) (rows : List (List Cell)) (text : List ℕ) → Prints sheet level rows text
+    → IsWoven sheet text (plain_text rows) (links_of rows)
 IsWoven-from_prints sheet level rows text prints =
     let woven = rows_woven sheet level prints.pieces rows prints.prints in
     record {
@@ -204,12 +219,14 @@ IsWoven-from_prints sheet level rows text prints =
     }
 
 -- what was added, where the rows are read as others
-pub AddsRows-same : (sheet : Stylesheet) (level : LevelInner) (rows added : List (List Cell)) (old start text : List ℕ) → added ≡ rows → start ≡ old → AddsRows sheet level added start text → AddsRows sheet level rows old text
+pub AddsRows-same : (sheet : Stylesheet) (level : LevelInner) (rows added : List (List Cell)) (old start text : List ℕ) → added ≡ rows → start ≡ old
+    → AddsRows sheet level added start text → AddsRows sheet level rows old text
 AddsRows-same sheet level rows added old start text same begun adds =
     subst (λ (t : List ℕ). AddsRows sheet level rows t text) begun (subst (λ (rs : List (List Cell)). AddsRows sheet level rs start text) same adds)
 
 -- what was added to an empty text
-pub Prints-from_adds : (sheet : Stylesheet) (level : LevelInner) (rows added : List (List Cell)) (old text : List ℕ) → added ≡ rows → old ≡ [] → AddsRows sheet level added old text → Prints sheet level rows text
+pub Prints-from_adds : (sheet : Stylesheet) (level : LevelInner) (rows added : List (List Cell)) (old text : List ℕ) → added ≡ rows → old ≡ []
+    → AddsRows sheet level added old text → Prints sheet level rows text
 Prints-from_adds sheet level rows added old text same none adds =
     record {
       pieces = adds.pieces;
@@ -280,7 +297,8 @@ pub nil≢cons : {X : Type 0} {x : X} {xs : List X} → x ∷ xs ≡ [] → ⊥
 nil≢cons h = false≢true (ap is_empty h)
 
 -- without styles and links the pieces are the plain text
-unstyled : (sheet : Stylesheet) (ps : List Piece) → is_plain_sheet sheet ≡ true → All (λ p. IsOfSheet sheet p) ps → AreLinksEnded false ps → flat_map piece_link ps ≡ [] → flat_map piece_text ps ≡ encode_utf8_all (flat_map plain_piece ps)
+unstyled : (sheet : Stylesheet) (ps : List Piece) → is_plain_sheet sheet ≡ true → All (λ p. IsOfSheet sheet p) ps → AreLinksEnded false ps
+    → flat_map piece_link ps ≡ [] → flat_map piece_text ps ≡ encode_utf8_all (flat_map plain_piece ps)
 unstyled sheet [] plain of ended none = refl
 unstyled sheet (Char ch ∷ ps) plain of ended none =
     ap (λ (t : List ℕ). encode_utf8 ch ++ t) (unstyled sheet ps plain (All-tail (λ p. IsOfSheet sheet p) (Char ch) ps of) ended none)
@@ -294,7 +312,8 @@ unstyled sheet (LinkTo url ∷ ps) plain of ended none = absurd (nil≢cons none
 unstyled sheet (LinkEnd ∷ ps) plain of (ended, _) none = absurd (false≢true ended)
 
 -- under a plain sheet a woven text with no links is its plain text
-pub plain_woven : (sheet : Stylesheet) (text plain : List ℕ) (links : List Url) → is_plain_sheet sheet ≡ true → links ≡ [] → IsWoven sheet text plain links → text ≡ encode_utf8_all plain
+pub plain_woven : (sheet : Stylesheet) (text plain : List ℕ) (links : List Url) → is_plain_sheet sheet ≡ true → links ≡ [] → IsWoven sheet text plain links
+    → text ≡ encode_utf8_all plain
 plain_woven sheet text plain links is_plain none woven =
     woven.text_is ∙ unstyled sheet woven.pieces is_plain woven.of_sheet woven.ended (sym woven.links_are ∙ none) ∙ ap encode_utf8_all (sym woven.plain_is)
 

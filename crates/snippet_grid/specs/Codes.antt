@@ -21,4 +21,5 @@ opening_bytes style = encode_utf8_all (opening style)
 -- codes are those that open some styles, in order, as far as they are made
 pub record AreOpenings (codes : List (Option (String Global))) (styles : List Style) : Type 0 where
   pub count : length codes ≡ length styles
-  pub each : (i : ℕ) (code : String Global) (e : Option (String Global)) (s : Style) → i < length styles → slice_index_or codes i e ≡ Some code → string_bytes code ≡ opening_bytes (slice_index_or styles i s)
+  pub each : (i : ℕ) (code : String Global) (e : Option (String Global)) (s : Style) → i < length styles → slice_index_or codes i e ≡ Some code
+      → string_bytes code ≡ opening_bytes (slice_index_or styles i s)

@@ -1,5 +1,6 @@
 -- Rows of cells, and what the calls make of them.
-use Rattle.std.specs.Prelude.{◌≡◌, ◌≢◌, ◌<◌, ◌≤◌, ◌+◌, ◌-◌, ℕ, nat_lt, nat_le, max, Bool, ◌||◌, ◌&&◌, if◌then◌else◌, List, [], ◌∷◌, ◌++◌, length, map, take, drop, Some}
+use Rattle.std.specs.Prelude.{◌≡◌, ◌≢◌, ◌<◌, ◌≤◌, ◌+◌, ◌-◌, ℕ, nat_lt, nat_le, max, Bool, ◌||◌, ◌&&◌, if◌then◌else◌, List, [], ◌∷◌, ◌++◌, length, map, take}
+use Rattle.std.specs.Prelude.{drop, Some}
 use Rattle.std.specs.List.{slice_index_or}
 use Rattle.snippet_style.specs.Cell.{Cell, SPACE, gives_way, written}
 use Rattle.snippet_style.specs.declared.role.ElementStyle.{ElementStyle}

@@ -3,8 +3,10 @@
 //! A grid has rows, and a row has cells, both counted from 0. What is written beyond a row's end,
 //! or below the last row, makes the row longer and adds rows, as far as needed and no farther.
 
-ghost use Rattle.std.specs.Prelude.{◌≡◌, ◌+◌, ◌^◌, ◌<◌, ◌≤◌, List, [], ◌∷◌, length, ℕ, true, IfOk, OnOk, OnErr, IsOk, string_bytes, encode_utf8_all};
-ghost use Rattle.snippet_grid.specs.Grid.{row_at, num_cells, cells_written, WritesCells, cells_restyled, RestylesCells, cells_linked, LinksCells, cells_replaced, ReplacesCells};
+ghost use Rattle.std.specs.Prelude.{◌≡◌, ◌+◌, ◌^◌, ◌<◌, ◌≤◌, List, [], ◌∷◌, length, ℕ, true, IfOk, OnOk, OnErr, IsOk};
+ghost use Rattle.std.specs.Prelude.{string_bytes, encode_utf8_all};
+ghost use Rattle.snippet_grid.specs.Grid.{row_at, num_cells, cells_written, WritesCells, cells_restyled, RestylesCells};
+ghost use Rattle.snippet_grid.specs.Grid.{cells_linked, LinksCells, cells_replaced, ReplacesCells};
 ghost use Rattle.snippet_grid.specs.RunBounds.{fewest_runs, most_runs};
 ghost use Rattle.snippet_style.specs.Cell.{text_cells};
 ghost use Rattle.snippet_style.specs.declared.role.ElementStyle.TheVariants.{LineNumber};

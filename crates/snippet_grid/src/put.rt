@@ -2,8 +2,10 @@
 //!
 //! A put takes only the runs that the new one touches: what the first of them holds before it, and the last after it,
 //! stays. All other runs keep their places.
-ghost use Rattle.std.specs.Prelude.{◌≡◌, ◌+◌, ◌-◌, ◌<◌, ◌≤◌, ◌^◌, ◌++◌, ℕ, List, [], true, false, length, take, drop, All, OnOk, OnErr, string_bytes, option_to_list};
-ghost use Rattle.snippet_grid.specs.Runs.{IsRun, BeginsWith, Precedes, Differ, IsClear, ReachesTo, Touches, IsTouched, IsFront, IsBack, ArePieces, IsPut};
+ghost use Rattle.std.specs.Prelude.{◌≡◌, ◌+◌, ◌-◌, ◌<◌, ◌≤◌, ◌^◌, ◌++◌, ℕ, List, [], true, false, length, take, drop};
+ghost use Rattle.std.specs.Prelude.{All, OnOk, OnErr, string_bytes, option_to_list};
+ghost use Rattle.snippet_grid.specs.Runs.{IsRun, BeginsWith, Precedes, Differ, IsClear, ReachesTo, Touches, IsTouched};
+ghost use Rattle.snippet_grid.specs.Runs.{IsFront, IsBack, ArePieces, IsPut};
 ghost use Rattle.snippet_grid.specs.declared.runs.Run.{Run};
 ghost use Rattle.std.specs.List.{AllPairs, slice_index_or};
 

@@ -1,6 +1,8 @@
 -- The line around a byte, by the line feeds next to it.
-use Rattle.std.proofs.Common.{◌≡◌, ◌≢◌, ℕ, zero, suc, ◌+◌, ◌-◌, ◌<◌, ◌≤◌, ◌⊎◌, ◌↔◌, inl, inr, cond, List, [], ◌∷◌, ◌++◌, All, count_by, length, min, take, drop, get_or, refl, sym, ap, subst, ◌∙◌, ⊎_elim, arith, append_assoc}
-use Rattle.std.proofs.lemmas.List.{append-nil, length-append, take_at, drop_at, take-append-drop, drop-drop, length-take-le, length-drop, get_or-take, get_or-drop, get_or_default, drop_all, drop_more}
+use Rattle.std.proofs.Common.{◌≡◌, ◌≢◌, ℕ, zero, suc, ◌+◌, ◌-◌, ◌<◌, ◌≤◌, ◌⊎◌, ◌↔◌, inl, inr, cond, List, [], ◌∷◌, ◌++◌, All, count_by, length, min, take, drop}
+use Rattle.std.proofs.Common.{get_or, refl, sym, ap, subst, ◌∙◌, ⊎_elim, arith, append_assoc}
+use Rattle.std.proofs.lemmas.List.{append-nil, length-append, take_at, drop_at, take-append-drop, drop-drop, length-take-le, length-drop, get_or-take}
+use Rattle.std.proofs.lemmas.List.{get_or-drop, get_or_default, drop_all, drop_more}
 use Rattle.std.specs.Str.{IsUtf8, IsCharBoundary}
 use Rattle.std.proofs.lemmas.Str.{IsCharBoundary-from_drop}
 use Rattle.std.proofs.lemmas.List.Concat.{flat_map-append}
@@ -9,9 +11,11 @@ use Rattle.std.proofs.lemmas.List.Sums.{sum_by-append}
 use Rattle.std.proofs.lemmas.Bool.{cases_lt, eqb-true}
 use Rattle.snippet_lines.specs.declared.lines.EndLine.{EndLine}
 use Rattle.snippet_lines.specs.declared.lines.EndLine.TheVariants.{Eof, Lf, Crlf}
-use Rattle.snippet_lines.specs.Lines.{Line, end_bytes, line_bytes, joined, last_byte, IsLine, AreLines, AreLinesOf, lines_of, source_lines, is_lf, start_of, IsOneLine}
+use Rattle.snippet_lines.specs.Lines.{Line, end_bytes, line_bytes, joined, last_byte, IsLine, AreLines, AreLinesOf, lines_of, source_lines, is_lf, start_of}
+use Rattle.snippet_lines.specs.Lines.{IsOneLine}
 use Rattle.snippet_lines.specs.Place.{HoldsByte, line_of}
-use Rattle.snippet_lines.proofs.LinesLemmas.{split_last, joined-lines_of, lines_of-append, length-lines_of, source_lines-some, start_of-end, start_of-le, start_of-next, joined-source_lines, AreLinesOf-source_lines, IsUtf8-line}
+use Rattle.snippet_lines.proofs.LinesLemmas.{split_last, joined-lines_of, lines_of-append, length-lines_of, source_lines-some, start_of-end, start_of-le}
+use Rattle.snippet_lines.proofs.LinesLemmas.{start_of-next, joined-source_lines, AreLinesOf-source_lines, IsUtf8-line}
 use Rattle.snippet_lines.proofs.CursorLemmas.{count_by-none}
 use Rattle.snippet_lines.proofs.PlaceLemmas.{HoldsByte-source, line_of-is, line_of-within, start_of-inside}
 
@@ -216,7 +220,8 @@ drop_lines ls k =
     ap (drop (length (joined (take k ls)))) (ap joined (sym (take-append-drop k ls)) ∙ flat_map-append line_bytes (take k ls) (drop k ls)) ∙ drop_at (joined (take k ls)) (joined (drop k ls)) (length (joined (take k ls))) refl
 
 -- a line's bytes stand from its start to the next line's
-pub line_bytes-slice : (source : List ℕ) (k : ℕ) → k < length (source_lines source) → take (start_of (source_lines source) (k + 1) - start_of (source_lines source) k) (drop (start_of (source_lines source) k) source) ≡ line_bytes (get_or (source_lines source) k ([], Eof))
+pub line_bytes-slice : (source : List ℕ) (k : ℕ) → k < length (source_lines source)
+    → take (start_of (source_lines source) (k + 1) - start_of (source_lines source) k) (drop (start_of (source_lines source) k) source) ≡ line_bytes (get_or (source_lines source) k ([], Eof))
 line_bytes-slice source k within =
     let ls : List Line = source_lines source in
     let l : Line = get_or ls k ([], Eof) in

@@ -1,5 +1,6 @@
 -- What a search for an LF and a look at a line's end say of the lines of a text.
-use Rattle.std.proofs.Common.{◌≡◌, ◌≢◌, ℕ, zero, suc, ◌+◌, ◌-◌, ◌<◌, ◌≤◌, ◌⊎◌, Bool, true, false, cond, List, [], ◌∷◌, ◌++◌, All, count_by, length, take, drop, get_or, Option, Some, None, MatchOption, unwrap_or, Bor, le_refl, refl, sym, ap, subst, ◌∙◌, ⊎_elim, arith}
+use Rattle.std.proofs.Common.{◌≡◌, ◌≢◌, ℕ, zero, suc, ◌+◌, ◌-◌, ◌<◌, ◌≤◌, ◌⊎◌, Bool, true, false, cond, List, [], ◌∷◌, ◌++◌, All, count_by, length, take, drop}
+use Rattle.std.proofs.Common.{get_or, Option, Some, None, MatchOption, unwrap_or, Bor, le_refl, refl, sym, ap, subst, ◌∙◌, ⊎_elim, arith}
 use Rattle.std.proofs.lemmas.List.{append-nil, length-append, take_at, length-take-le, get_or-take, get_or_default}
 use Rattle.std.proofs.lemmas.List.Elements.{All-nil, All-push, All-take}
 use Rattle.std.proofs.lemmas.List.Sums.{sum_by-cons}
@@ -48,7 +49,8 @@ no_lf-front text front b is none =
     subst (All (λ b. b ≢ 10)) cut (All-take (λ b. b ≢ 10) (length front) text none)
 
 -- the first line of a text, its end told from its text, and the lines of what follows are the lines of the text
-pub lines_of-first : (whole line rest text : List ℕ) (ending : EndLine) → whole ≡ line ++ rest → 0 < length line → (last_byte line ≡ 10) ⊎ (rest ≡ []) → line ≡ line_bytes (text, ending) → IsLine (text, ending) → (ending ≡ Eof → last_byte line ≢ 10) → lines_of whole ≡ (text, ending) ∷ lines_of rest
+pub lines_of-first : (whole line rest text : List ℕ) (ending : EndLine) → whole ≡ line ++ rest → 0 < length line → (last_byte line ≡ 10) ⊎ (rest ≡ [])
+    → line ≡ line_bytes (text, ending) → IsLine (text, ending) → (ending ≡ Eof → last_byte line ≢ 10) → lines_of whole ≡ (text, ending) ∷ lines_of rest
 lines_of-first whole line rest text ending is some ends line_is fits no_end =
     let last : ending ≡ Eof → (0 < length text) × (rest ≡ []) = λ eof. (
       omega (arith, ap length (line_is ∙ ap (λ e. text ++ end_bytes e) eof ∙ append-nil text)),
@@ -65,7 +67,8 @@ counted p x xs fails =
     omega (arith, sum_by-cons (λ y. cond (p y) 1 0) x xs)
 
 -- a list whose first place that passes is `at` has one more than what follows it
-pub count_by-find : (p : ℕ → Bool) (xs : List ℕ) (at : ℕ) → at < length xs → ((k : ℕ) → k < at → p (get_or xs k 0) ≡ true → ⊥) → p (get_or xs at 0) ≡ true → count_by p xs ≡ 1 + count_by p (drop (at + 1) xs)
+pub count_by-find : (p : ℕ → Bool) (xs : List ℕ) (at : ℕ) → at < length xs → ((k : ℕ) → k < at → p (get_or xs k 0) ≡ true → ⊥) → p (get_or xs at 0) ≡ true
+    → count_by p xs ≡ 1 + count_by p (drop (at + 1) xs)
 count_by-find p [] at inside before found = absurd (omega arith)
 count_by-find p (x ∷ xs) zero inside before found = sum_by-cons (λ y. cond (p y) 1 0) x xs ∙ ap (λ n. n + count_by p xs) (cond-true (p x) 1 0 found)
 count_by-find p (x ∷ xs) (suc at) inside before found =

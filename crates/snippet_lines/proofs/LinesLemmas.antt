@@ -1,6 +1,8 @@
 -- Laws of the cut of a text into lines.
-use Rattle.std.proofs.Common.{◌≡◌, ◌≢◌, ℕ, zero, suc, ◌+◌, ◌-◌, ◌<◌, ◌≤◌, inl, inr, true, false, cond, eqb, List, [], ◌∷◌, ◌++◌, All, length, take, drop, get_or, refl, sym, ap, subst, ◌∙◌, ⊎_elim, arith, add-one, append_assoc, count_by, le_refl, add-zero}
-use Rattle.std.proofs.lemmas.List.{append-nil, length-append, take_at, drop_at, drop_more, get_or_past, get_or_at, take-append-drop, take_more, take_all, drop-drop}
+use Rattle.std.proofs.Common.{◌≡◌, ◌≢◌, ℕ, zero, suc, ◌+◌, ◌-◌, ◌<◌, ◌≤◌, inl, inr, true, false, cond, eqb, List, [], ◌∷◌, ◌++◌, All, length, take, drop}
+use Rattle.std.proofs.Common.{get_or, refl, sym, ap, subst, ◌∙◌, ⊎_elim, arith, add-one, append_assoc, count_by, le_refl, add-zero}
+use Rattle.std.proofs.lemmas.List.{append-nil, length-append, take_at, drop_at, drop_more, get_or_past, get_or_at, take-append-drop, take_more, take_all}
+use Rattle.std.proofs.lemmas.List.{drop-drop}
 use Rattle.std.specs.Str.{IsUtf8}
 use Rattle.std.proofs.lemmas.Str.{IsUtf8-nil, IsUtf8-take, IsUtf8-drop, IsCharBoundary-before_ascii, IsCharBoundary-after_ascii}
 use Rattle.std.proofs.lemmas.List.Sums.{sum_by-append, sum_by-cons, count_by-le-length}
@@ -9,7 +11,8 @@ use Rattle.std.proofs.lemmas.List.Elements.{All-same, All-head, All-tail, All-ni
 use Rattle.std.proofs.lemmas.Bool.{cases_lt, cond_both, cond-true, cond-false, eq-eqb, ne_eqb, eqb-true, eqb-false}
 use Rattle.snippet_lines.specs.declared.lines.EndLine.{EndLine}
 use Rattle.snippet_lines.specs.declared.lines.EndLine.TheVariants.{Eof, Lf, Crlf}
-use Rattle.snippet_lines.specs.Lines.{Line, end_bytes, line_bytes, joined, last_byte, IsLine, AreLines, IsCutOf, AreLinesOf, line_with_byte, with_first_byte, lines_of, source_lines, is_lf, newline_count, text_at, StandsAt, start_of}
+use Rattle.snippet_lines.specs.Lines.{Line, end_bytes, line_bytes, joined, last_byte, IsLine, AreLines, IsCutOf, AreLinesOf, line_with_byte, with_first_byte}
+use Rattle.snippet_lines.specs.Lines.{lines_of, source_lines, is_lf, newline_count, text_at, StandsAt, start_of}
 
 -- a byte in front of a text that isn't empty leaves its last byte
 pub last_byte-cons : (b c : ℕ) (bs : List ℕ) → last_byte (b ∷ c ∷ bs) ≡ last_byte (c ∷ bs)
@@ -42,12 +45,14 @@ line_with_byte-fits b [] Crlf no_cr = refl
 line_with_byte-fits b (c ∷ text) ending no_cr = refl
 
 -- a byte in front of a text makes its first line longer
-lines_of-longer : (b : ℕ) (bs text : List ℕ) (ending : EndLine) (ls : List Line) → b ≢ 10 → (ending ≡ Lf → last_byte (b ∷ text) ≢ 13) → lines_of bs ≡ (text, ending) ∷ ls → lines_of (b ∷ bs) ≡ (b ∷ text, ending) ∷ ls
+lines_of-longer : (b : ℕ) (bs text : List ℕ) (ending : EndLine) (ls : List Line) → b ≢ 10 → (ending ≡ Lf → last_byte (b ∷ text) ≢ 13)
+    → lines_of bs ≡ (text, ending) ∷ ls → lines_of (b ∷ bs) ≡ (b ∷ text, ending) ∷ ls
 lines_of-longer b bs text ending ls no_lf no_cr is =
     cond-false (eqb b 10) (([], Lf) ∷ lines_of bs) (with_first_byte b (lines_of bs)) (ne_eqb b 10 no_lf) ∙ ap (with_first_byte b) is ∙ ap (λ l. l ∷ ls) (line_with_byte-fits b text ending no_cr)
 
 -- a line and the lines of what follows it are the lines of the two together
-pub lines_of-line : (text : List ℕ) (ending : EndLine) (rest : List ℕ) → All (λ b. b ≢ 10) text → (ending ≡ Lf → last_byte text ≢ 13) → (ending ≡ Eof → (0 < length text) × (rest ≡ [])) → lines_of ((text ++ end_bytes ending) ++ rest) ≡ (text, ending) ∷ lines_of rest
+pub lines_of-line : (text : List ℕ) (ending : EndLine) (rest : List ℕ) → All (λ b. b ≢ 10) text → (ending ≡ Lf → last_byte text ≢ 13)
+    → (ending ≡ Eof → (0 < length text) × (rest ≡ [])) → lines_of ((text ++ end_bytes ending) ++ rest) ≡ (text, ending) ∷ lines_of rest
 lines_of-line [] Eof rest no_lf no_cr last = absurd (omega (arith, (last refl).0))
 lines_of-line [] Lf rest no_lf no_cr last = refl
 lines_of-line [] Crlf rest no_lf no_cr last = refl
@@ -101,7 +106,8 @@ IsLine-line_with_byte b (c ∷ text) ending no_lf line =
     record { no_lf = All-cons (λ b. b ≢ 10) b (c ∷ text) no_lf line.no_lf; no_cr = λ is same. line.no_cr is (sym (last_byte-cons b c text) ∙ same) }
 
 -- where such a line has no end, it had none
-LastIsLast-line_with_byte : (b : ℕ) (text : List ℕ) (ending : EndLine) (ls : List Line) → (ending ≡ Eof → (0 < length text) × (ls ≡ [])) → (line_with_byte b text ending).1 ≡ Eof → (0 < length (line_with_byte b text ending).0) × (ls ≡ [])
+LastIsLast-line_with_byte : (b : ℕ) (text : List ℕ) (ending : EndLine) (ls : List Line) → (ending ≡ Eof → (0 < length text) × (ls ≡ []))
+    → (line_with_byte b text ending).1 ≡ Eof → (0 < length (line_with_byte b text ending).0) × (ls ≡ [])
 LastIsLast-line_with_byte b [] Lf ls last =
     cond_both {A = Line} (eqb b 13) ([], Crlf) (b ∷ [], Lf) (λ l. l.1 ≡ Eof → (0 < length l.0) × (ls ≡ [])) (λ _ e. cc) (λ _ e. cc)
 LastIsLast-line_with_byte b [] Eof ls last = λ e. (omega arith, (last e).1)
@@ -182,7 +188,8 @@ lines_of-append (b ∷ c ∷ xs) ys ends =
     let rest : lines_of ((c ∷ xs) ++ ys) ≡ lines_of (c ∷ xs) ++ lines_of ys = lines_of-append (c ∷ xs) ys (λ _. sym (last_byte-cons b c xs) ∙ ends (omega arith)) in
     ap (λ ls. cond (eqb b 10) (([], Lf) ∷ ls) (with_first_byte b ls)) rest ∙ put-append b (lines_of (c ∷ xs)) (lines_of ys) (length-lines_of-pos (c ∷ xs) (omega arith))
   where
-    put-append : (b : ℕ) (ls ms : List Line) → 0 < length ls → cond (eqb b 10) (([], Lf) ∷ (ls ++ ms)) (with_first_byte b (ls ++ ms)) ≡ cond (eqb b 10) (([], Lf) ∷ ls) (with_first_byte b ls) ++ ms
+    put-append : (b : ℕ) (ls ms : List Line) → 0 < length ls
+        → cond (eqb b 10) (([], Lf) ∷ (ls ++ ms)) (with_first_byte b (ls ++ ms)) ≡ cond (eqb b 10) (([], Lf) ∷ ls) (with_first_byte b ls) ++ ms
     put-append b [] ms some = absurd (omega arith)
     put-append b (l ∷ ls) ms some = elim (eqb b 10) as (λ t. cond t (([], Lf) ∷ ((l ∷ ls) ++ ms)) (with_first_byte b ((l ∷ ls) ++ ms)) ≡ cond t (([], Lf) ∷ l ∷ ls) (with_first_byte b (l ∷ ls)) ++ ms) [ true ↦ refl | false ↦ refl ]
 
@@ -291,7 +298,8 @@ start_of-le ls j k le =
     omega (arith, start_of-mono ls j (k - j))
 
 -- the lines before line k, line k, and those after it
-pub split_at_line : (ls : List Line) (k : ℕ) (d : Line) → k < length ls → joined ls ≡ joined (take k ls) ++ (line_bytes (get_or ls k d) ++ joined (drop (k + 1) ls))
+pub split_at_line : (ls : List Line) (k : ℕ) (d : Line) → k < length ls
+    → joined ls ≡ joined (take k ls) ++ (line_bytes (get_or ls k d) ++ joined (drop (k + 1) ls))
 split_at_line ls k d within =
     ap joined (sym (take-append-drop k ls)) ∙ flat_map-append line_bytes (take k ls) (drop k ls) ∙ ap (λ ms. joined (take k ls) ++ joined ms) (drop_more ls k d within)
 
@@ -331,7 +339,8 @@ IsUtf8-around xs ys b ascii utf8 =
     (subst IsUtf8 (take_at xs (b ∷ ys) (length xs) refl) before, subst IsUtf8 back after)
 
 -- a line and what follows it are UTF-8 where both together are
-pub IsUtf8-line : (text : List ℕ) (ending : EndLine) (rest : List ℕ) → (ending ≡ Eof → rest ≡ []) → IsUtf8 ((text ++ end_bytes ending) ++ rest) → IsUtf8 text × IsUtf8 rest
+pub IsUtf8-line : (text : List ℕ) (ending : EndLine) (rest : List ℕ) → (ending ≡ Eof → rest ≡ []) → IsUtf8 ((text ++ end_bytes ending) ++ rest)
+    → IsUtf8 text × IsUtf8 rest
 IsUtf8-line text Eof rest last utf8 =
     let none : rest ≡ [] = last refl in
     let same : (text ++ []) ++ rest ≡ text = ap (λ bs. (text ++ []) ++ bs) none ∙ append-nil (text ++ []) ∙ append-nil text in
@@ -370,7 +379,8 @@ source_lines-some [] some = absurd (omega arith)
 source_lines-some (b ∷ bs) some = refl
 
 -- the text of each line of a source stands there where the line begins
-pub text_at-stands : (source : List ℕ) (k : ℕ) → k < length (source_lines source) → StandsAt source (text_at (source_lines source) k) (start_of (source_lines source) k)
+pub text_at-stands : (source : List ℕ) (k : ℕ) → k < length (source_lines source)
+    → StandsAt source (text_at (source_lines source) k) (start_of (source_lines source) k)
 text_at-stands source k within =
     subst (λ s. StandsAt s (text_at (source_lines source) k) (start_of (source_lines source) k)) (joined-source_lines source) (text_at-slice (source_lines source) k within)
 

@@ -1,5 +1,6 @@
 -- The texts of line numbers.
-use Rattle.std.proofs.Common.{inl, inr, ◌≡◌, ℕ, zero, suc, ◌-◌, ◌+◌, ◌==◌, ◌^◌, ◌<◌, ◌≤◌, ◌/◌, ◌%◌, List, [], ◌∷◌, ◌++◌, length, replicate, refl, ap, All, chars, ◌∙◌, arith, encode_utf8, false}
+use Rattle.std.proofs.Common.{inl, inr, ◌≡◌, ℕ, zero, suc, ◌-◌, ◌+◌, ◌==◌, ◌^◌, ◌<◌, ◌≤◌, ◌/◌, ◌%◌, List, [], ◌∷◌, ◌++◌, length, replicate, refl, ap, All}
+use Rattle.std.proofs.Common.{chars, ◌∙◌, arith, encode_utf8, false}
 use Rattle.std.specs.List.{repeat}
 use Rattle.std.specs.Fmt.{decimal, styled_decimal, padded_integral, format_spec, char_count}
 use Rattle.std.proofs.lemmas.Bool.Decides.{nat_tests}
@@ -81,7 +82,8 @@ shown_number_ascii Anonymized gutter number fits =
 shown_number_ascii Hidden gutter number fits = spaces_ascii gutter
 
 -- the characters of a shown number are its bytes
-pub chars-shown_number : (numbers : LineNumbers) (gutter number : ℕ) → number < 2 ^ 64 → chars (shown_number numbers gutter number) ≡ shown_number numbers gutter number
+pub chars-shown_number : (numbers : LineNumbers) (gutter number : ℕ) → number < 2 ^ 64
+    → chars (shown_number numbers gutter number) ≡ shown_number numbers gutter number
 chars-shown_number numbers gutter number fits =
     chars-IsAscii (shown_number numbers gutter number) (shown_number_ascii numbers gutter number fits)
 
@@ -99,7 +101,8 @@ length-decimal_monotone m n less fits =
     decimal_by_steps P last more n fits fits m less
 
 -- what fits the gutter fills it
-pub length-shown_number : (numbers : LineNumbers) (gutter number : ℕ) → number_width numbers number ≤ gutter → length (shown_number numbers gutter number) ≡ gutter
+pub length-shown_number : (numbers : LineNumbers) (gutter number : ℕ) → number_width numbers number ≤ gutter
+    → length (shown_number numbers gutter number) ≡ gutter
 length-shown_number Shown gutter number fits =
     omega (arith, length-append (replicate (gutter - length (decimal number)) 32) (decimal number), length-replicate {A = ℕ} (gutter - length (decimal number)) 32)
 length-shown_number Anonymized gutter number fits =

@@ -31,7 +31,8 @@ never-itself : {X : Type 0} (lt : X → X → Bool) → IsStrictWeakOrder lt →
 never-itself lt o x = ⊎_elim (λ t. o.one_way x x t) (λ f. f) (cases_Bool (lt x x))
 
 -- an element that comes before the first of a list in order ties with none of it
-before-all : {X : Type 0} (lt : X → X → Bool) → IsStrictWeakOrder lt → (y x : X) (xs : List X) → Rises lt (x ∷ xs) → lt y x ≡ true → filter (ties lt y) (x ∷ xs) ≡ []
+before-all : {X : Type 0} (lt : X → X → Bool) → IsStrictWeakOrder lt → (y x : X) (xs : List X) → Rises lt (x ∷ xs) → lt y x ≡ true
+    → filter (ties lt y) (x ∷ xs) ≡ []
 before-all {X} lt o y x xs rises before =
     let apart : (z : X) → lt z x ≡ false → ties lt y z ≡ false = λ z above. false_from_ne_true (ties lt y z) (λ t. both_ways (lt y x) (o.chain y z x (ties-parts lt y z t).0 above) before) in
     filter-none (ties lt y) (x ∷ xs) (All-cons (λ z. ties lt y z ≡ false) x xs (apart x (never-itself lt o x)) (λ k d within. apart (get_or xs k d) (rises.0 k d within)))
@@ -41,12 +42,14 @@ finds-itself lt o y ys =
     cond-true (ties lt y y) (y ∷ filter (ties lt y) ys) (filter (ties lt y) ys) (ties-from lt y y (never-itself lt o y) (never-itself lt o y))
 
 -- the first of two lists in order with the same ties: neither comes before the other
-first-ties : {X : Type 0} (lt : X → X → Bool) → IsStrictWeakOrder lt → (y x : X) (ys xs : List X) → Rises lt (x ∷ xs) → filter (ties lt y) (y ∷ ys) ≡ filter (ties lt y) (x ∷ xs) → lt y x ≡ false
+first-ties : {X : Type 0} (lt : X → X → Bool) → IsStrictWeakOrder lt → (y x : X) (ys xs : List X) → Rises lt (x ∷ xs)
+    → filter (ties lt y) (y ∷ ys) ≡ filter (ties lt y) (x ∷ xs) → lt y x ≡ false
 first-ties lt o y x ys xs rises same =
     false_from_ne_true (lt y x) (λ t. let e : y ∷ filter (ties lt y) ys ≡ [] = sym (finds-itself lt o y ys) ∙ same ∙ before-all lt o y x xs rises t in absurd (cc))
 
 -- two lists in order are the same if the elements that tie with each are
-same_rise : {X : Type 0} (lt : X → X → Bool) → IsStrictWeakOrder lt → (xs ys : List X) → Rises lt xs → Rises lt ys → ((w : X) → filter (ties lt w) xs ≡ filter (ties lt w) ys) → xs ≡ ys
+same_rise : {X : Type 0} (lt : X → X → Bool) → IsStrictWeakOrder lt → (xs ys : List X) → Rises lt xs → Rises lt ys
+    → ((w : X) → filter (ties lt w) xs ≡ filter (ties lt w) ys) → xs ≡ ys
 same_rise lt o [] [] a b same = refl
 same_rise lt o [] (y ∷ ys) a b same =
     let e : [] ≡ y ∷ filter (ties lt y) ys = same y ∙ finds-itself lt o y ys in absurd (cc)
@@ -84,7 +87,8 @@ Rises-ordered_by lt o [] = tt
 Rises-ordered_by lt o (x ∷ xs) = Rises-put_in lt o x (ordered_by lt xs) (Rises-ordered_by lt o xs)
 
 -- putting an element in doesn't move it among those that tie
-filter-put_in : {X : Type 0} (lt : X → X → Bool) → IsStrictWeakOrder lt → (w x : X) (ys : List X) → filter (ties lt w) (put_in lt x ys) ≡ filter (ties lt w) (x ∷ ys)
+filter-put_in : {X : Type 0} (lt : X → X → Bool) → IsStrictWeakOrder lt → (w x : X) (ys : List X)
+    → filter (ties lt w) (put_in lt x ys) ≡ filter (ties lt w) (x ∷ ys)
 filter-put_in lt o w x [] = refl
 filter-put_in {X} lt o w x (y ∷ ys) =
     let p : X → Bool = ties lt w in
@@ -101,7 +105,8 @@ filter-put_in {X} lt o w x (y ∷ ys) =
     (λ f. ap (filter p) (cond-false (lt y x) (y ∷ put_in lt x ys) (x ∷ y ∷ ys) f))
     (cases_Bool (lt y x))
 
-filter-ordered_by : {X : Type 0} (lt : X → X → Bool) → IsStrictWeakOrder lt → (w : X) (xs : List X) → filter (ties lt w) (ordered_by lt xs) ≡ filter (ties lt w) xs
+filter-ordered_by : {X : Type 0} (lt : X → X → Bool) → IsStrictWeakOrder lt → (w : X) (xs : List X)
+    → filter (ties lt w) (ordered_by lt xs) ≡ filter (ties lt w) xs
 filter-ordered_by lt o w [] = refl
 filter-ordered_by {X} lt o w (x ∷ xs) =
     filter-put_in lt o w x (ordered_by lt xs) ∙ ap (λ l. cond (ties lt w x) (x ∷ l) l) (filter-ordered_by lt o w xs)

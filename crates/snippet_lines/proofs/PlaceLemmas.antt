@@ -1,5 +1,6 @@
 -- Laws of the line that holds a byte, and of the place of a byte.
-use Rattle.std.proofs.Common.{◌≡◌, ◌≢◌, ℕ, zero, suc, ◌+◌, ◌-◌, ◌<◌, ◌≤◌, true, eqb, ltb, min, List, [], ◌∷◌, ◌++◌, length, take, drop, get_or, refl, sym, ap, subst, ◌∙◌, ⊎_elim, arith, add-zero}
+use Rattle.std.proofs.Common.{◌≡◌, ◌≢◌, ℕ, zero, suc, ◌+◌, ◌-◌, ◌<◌, ◌≤◌, true, eqb, ltb, min, List, [], ◌∷◌, ◌++◌, length, take, drop, get_or, refl, sym, ap}
+use Rattle.std.proofs.Common.{subst, ◌∙◌, ⊎_elim, arith, add-zero}
 use Rattle.std.specs.List.{slice_range}
 use Rattle.std.specs.Str.{IsCharBoundary, IsUtf8, chars}
 use Rattle.std.proofs.Math.Seq.{take-add}
@@ -12,7 +13,8 @@ use Rattle.snippet_lines.specs.Lines.{Line, line_bytes, AreLines, AreLinesOf, so
 use Rattle.snippet_text.specs.Width.{char_width, width_of}
 use Rattle.snippet_lines.specs.Place.{HoldsByte, line_of, prefix_at, place_of, location_of, steps_after_text, start_location, end_location, locations_of}
 use Rattle.snippet_lines.specs.Span.{IsSpanBorder}
-use Rattle.snippet_lines.proofs.LinesLemmas.{start_of-zero, start_of-cons, start_of-le, start_of-end, start_of-next, AreLinesOf-source_lines, joined-source_lines, length-source_lines, text_at-stands, text_at-within}
+use Rattle.snippet_lines.proofs.LinesLemmas.{start_of-zero, start_of-cons, start_of-le, start_of-end, start_of-next, AreLinesOf-source_lines}
+use Rattle.snippet_lines.proofs.LinesLemmas.{joined-source_lines, length-source_lines, text_at-stands, text_at-within}
 
 -- a line holds the byte that `line_of` looks for
 pub HoldsByte-line_of : (ls : List Line) (b : ℕ) → 0 < length ls → HoldsByte ls b (line_of ls b)
@@ -89,14 +91,16 @@ start_of-inside source k more =
 -- ---- the place of a byte
 
 -- the bytes of a line's text are those of the source from the line's start on
-text_at-byte : (source : List ℕ) (k i : ℕ) → k < length (source_lines source) → i < length (text_at (source_lines source) k) → get_or (text_at (source_lines source) k) i 0 ≡ get_or source (start_of (source_lines source) k + i) 0
+text_at-byte : (source : List ℕ) (k i : ℕ) → k < length (source_lines source) → i < length (text_at (source_lines source) k)
+    → get_or (text_at (source_lines source) k) i 0 ≡ get_or source (start_of (source_lines source) k + i) 0
 text_at-byte source k i within inside =
     let ls : List Line = source_lines source in
     let n : ℕ = length (text_at ls k) in
     ap (λ t. get_or t i 0) (text_at-stands source k within) ∙ get_or-take n (drop (start_of ls k) source) i 0 inside ∙ get_or-drop (start_of ls k) source i 0
 
 -- a line's text ends within the source
-pub text_at-end : (source : List ℕ) (k : ℕ) → k < length (source_lines source) → start_of (source_lines source) k + length (text_at (source_lines source) k) ≤ length source
+pub text_at-end : (source : List ℕ) (k : ℕ) → k < length (source_lines source)
+    → start_of (source_lines source) k + length (text_at (source_lines source) k) ≤ length source
 text_at-end source k within =
     let ls : List Line = source_lines source in
     omega (arith, text_at-within ls k within, start_of-le ls (k + 1) (k + 1 + length ls) (omega arith), start_of-end ls (k + 1 + length ls) (omega arith), ap length (joined-source_lines source))
@@ -126,12 +130,14 @@ unfolding place_of
 place_of-line source b = refl
 
 -- the character of a place is how many characters stand before it on its line
-pub place_of-character : (source : List ℕ) (b : ℕ) → (place_of source b).character ≡ length (chars (prefix_at (source_lines source) (line_of (source_lines source) b) b))
+pub place_of-character : (source : List ℕ) (b : ℕ)
+    → (place_of source b).character ≡ length (chars (prefix_at (source_lines source) (line_of (source_lines source) b) b))
 unfolding place_of
 place_of-character source b = refl
 
 -- the column of a place is the width of what stands before it on its line
-pub place_of-column : (source : List ℕ) (b : ℕ) → (place_of source b).column ≡ width_of (chars (prefix_at (source_lines source) (line_of (source_lines source) b) b))
+pub place_of-column : (source : List ℕ) (b : ℕ)
+    → (place_of source b).column ≡ width_of (chars (prefix_at (source_lines source) (line_of (source_lines source) b) b))
 unfolding place_of
 place_of-column source b = refl
 
@@ -169,7 +175,8 @@ unfolding end_location location_of place_of
 end_location-line s start end = refl
 
 -- a span on one line ends at the column of its end's place
-pub end_location-column : (s : Source) (start end : ℕ) → line_of (source_lines s.text) start ≡ line_of (source_lines s.text) end → (end_location s start end).display ≡ (place_of s.text end).column
+pub end_location-column : (s : Source) (start end : ℕ) → line_of (source_lines s.text) start ≡ line_of (source_lines s.text) end
+    → (end_location s start end).display ≡ (place_of s.text end).column
 unfolding end_location location_of place_of
 end_location-column s start end same =
     let one : eqb (s.first + line_of (source_lines s.text) start) (s.first + line_of (source_lines s.text) end) ≡ true = eq-eqb (s.first + line_of (source_lines s.text) start) (s.first + line_of (source_lines s.text) end) (ap (λ k. s.first + k) same) in
@@ -194,7 +201,8 @@ unfolding locations_of start_location end_location location_of steps_after_text 
 worked-span = refl
 
 -- the characters before a byte of a line are those before an earlier one, and those between the two
-pub chars-later : (text between : List ℕ) (a b from to : ℕ) → IsUtf8 text → IsCharBoundary text (min a (length text)) → a ≤ b → from ≡ min a (length text) → to ≡ min b (length text) → between ≡ slice_range text from to
+pub chars-later : (text between : List ℕ) (a b from to : ℕ) → IsUtf8 text → IsCharBoundary text (min a (length text)) → a ≤ b → from ≡ min a (length text)
+    → to ≡ min b (length text) → between ≡ slice_range text from to
     → chars (take b text) ≡ chars (take a text) ++ chars between
 chars-later text between a b from to utf8 border order from_is to_is is =
     let ahead : from + (to - from) ≡ to = grind (arith, from_is, to_is) in

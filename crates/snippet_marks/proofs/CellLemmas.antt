@@ -1,5 +1,6 @@
 -- The cells of a window, and how they are written.
-use Rattle.std.proofs.Common.{◌≡◌, ℕ, ◌+◌, ◌-◌, ◌<◌, ◌≤◌, ◌^◌, ◌==◌, cond, true, false, Option, None, Some, IfSome, List, [], ◌∷◌, ◌++◌, length, drop, refl, sym, ap, ◌∙◌, arith, add-zero, All, chars, IsUtf8}
+use Rattle.std.proofs.Common.{◌≡◌, ℕ, ◌+◌, ◌-◌, ◌<◌, ◌≤◌, ◌^◌, ◌==◌, cond, true, false, Option, None, Some, IfSome, List, [], ◌∷◌, ◌++◌, length, drop, refl}
+use Rattle.std.proofs.Common.{sym, ap, ◌∙◌, arith, add-zero, All, chars, IsUtf8}
 use Rattle.std.proofs.lemmas.List.{places, same_lists}
 use Rattle.std.proofs.lemmas.List.Elements.{All-take, All-drop}
 use Rattle.std.proofs.lemmas.Str.{chars-nil}
@@ -35,7 +36,8 @@ with_cells-some code [] row some = absurd (omega arith)
 with_cells-some code (c ∷ cells) row some = refl
 
 -- writing after a row that has some cells from `code` on
-written_after : (code k : ℕ) (cells row ys : List Cell) → length row ≤ code → 0 < length cells → written SPACE (written SPACE row code cells) (code + k) ys ≡ written SPACE row code (written SPACE cells k ys)
+written_after : (code k : ℕ) (cells row ys : List Cell) → length row ≤ code → 0 < length cells
+    → written SPACE (written SPACE row code cells) (code + k) ys ≡ written SPACE row code (written SPACE cells k ys)
 written_after code k cells row ys ends some =
     same_lists _ _ (unfold written in grind (arith, places)) (λ i d h. unfold written in grind (arith, places))
 
@@ -44,7 +46,8 @@ written_first code k row ys ends =
     same_lists _ _ (unfold written in grind (arith, places)) (λ i d h. unfold written in grind (arith, places))
 
 -- one write more
-put_more : (code k : ℕ) (cells row : List Cell) (y : Cell) (ys : List Cell) → length row ≤ code → written SPACE (with_cells code cells row) (code + k) (y ∷ ys) ≡ with_cells code (written SPACE cells k (y ∷ ys)) row
+put_more : (code k : ℕ) (cells row : List Cell) (y : Cell) (ys : List Cell) → length row ≤ code
+    → written SPACE (with_cells code cells row) (code + k) (y ∷ ys) ≡ with_cells code (written SPACE cells k (y ∷ ys)) row
 put_more code k [] row y ys ends =
     written_first code k row (y ∷ ys) ends ∙ sym (with_cells-some code (written SPACE [] k (y ∷ ys)) row (omega (arith, length-written SPACE [] k (y ∷ ys))))
 put_more code k (c ∷ cells) row y ys ends =
@@ -60,7 +63,8 @@ put_text above mid new cells row r code k [] role utf8 ends before last writes s
 put_text above mid new cells row r code k (b ∷ bs) role utf8 ends before last writes stays =
     some (chars (b ∷ bs)) (chars_some (b ∷ bs) utf8 (omega arith)) (writes (omega arith))
   where
-    some : (cs : List ℕ) → 0 < length cs → new ≡ cells_written mid r (code + k) (text_cells role cs) → new ≡ above ++ with_cells code (put k cells (text_cells role cs)) row ∷ []
+    some : (cs : List ℕ) → 0 < length cs → new ≡ cells_written mid r (code + k) (text_cells role cs)
+        → new ≡ above ++ with_cells code (put k cells (text_cells role cs)) row ∷ []
     some [] none is = absurd (omega arith)
     some (c ∷ cs) more is =
         is ∙ ap (λ rows. cells_written rows r (code + k) (text_cells role (c ∷ cs))) before
@@ -74,7 +78,8 @@ put_alone role [] = refl
 put_alone role (c ∷ cs) =
     same_lists _ _ (unfold written in grind (arith, places)) (λ i d h. unfold written in grind (arith, places))
 
-placeholder_some : (decor : DecorStyle) (cells : List Cell) (k : ℕ) → put k cells (text_cells LineNumber (placeholder_of decor)) ≡ written SPACE cells k (text_cells LineNumber (placeholder_of decor))
+placeholder_some : (decor : DecorStyle) (cells : List Cell) (k : ℕ)
+    → put k cells (text_cells LineNumber (placeholder_of decor)) ≡ written SPACE cells k (text_cells LineNumber (placeholder_of decor))
 placeholder_some Ascii cells k = refl
 placeholder_some Unicode cells k = refl
 
@@ -82,7 +87,8 @@ placeholder_some Unicode cells k = refl
 pub above_zero : (n : ℕ) → 0 < n → (n == 0) ≡ false
 above_zero n some = grind (arith, nat_tests, some)
 
-pub put_begun : (decor : DecorStyle) (columns : ℕ) (cs : List ℕ) → put columns (put 0 [] (text_cells LineNumber (placeholder_of decor))) (text_cells Quotation cs) ≡ begun_cells decor (Some columns) cs
+pub put_begun : (decor : DecorStyle) (columns : ℕ) (cs : List ℕ)
+    → put columns (put 0 [] (text_cells LineNumber (placeholder_of decor))) (text_cells Quotation cs) ≡ begun_cells decor (Some columns) cs
 put_begun decor columns [] = put_alone LineNumber (placeholder_of decor)
 put_begun decor columns (c ∷ cs) =
     ap (λ cells. written SPACE cells columns (text_cells Quotation (c ∷ cs))) (put_alone LineNumber (placeholder_of decor))
@@ -90,7 +96,8 @@ put_begun decor columns (c ∷ cs) =
     (written SPACE (text_cells LineNumber (placeholder_of decor)) columns (text_cells Quotation (c ∷ cs))))
     (sym (above_zero (length (c ∷ cs)) (omega arith)))
 
-pub put_ended : (decor : DecorStyle) (at : ℕ) (cells : List Cell) → put at cells (text_cells LineNumber (placeholder_of decor)) ≡ ended_cells decor (Some at) cells
+pub put_ended : (decor : DecorStyle) (at : ℕ) (cells : List Cell)
+    → put at cells (text_cells LineNumber (placeholder_of decor)) ≡ ended_cells decor (Some at) cells
 put_ended decor at cells = placeholder_some decor cells at
 
 -- no cell of it is listed
@@ -107,7 +114,8 @@ free_begun decor (Some columns) text free =
     ]
 
 -- the cells that show a text without listed characters are free
-pub free_shown : (decor : DecorStyle) (start : Option ℕ) (text : List ℕ) (end : Option ℕ) → All (λ c. is_listed c ≡ false) text → IsFree (shown_cells decor start text end)
+pub free_shown : (decor : DecorStyle) (start : Option ℕ) (text : List ℕ) (end : Option ℕ) → All (λ c. is_listed c ≡ false) text
+    → IsFree (shown_cells decor start text end)
 free_shown decor start text None free = free_begun decor start text free
 free_shown decor start text (Some at) free =
     free_written (begun_cells decor start text) at (text_cells LineNumber (placeholder_of decor)) (free_begun decor start text free) (free_placeholder decor)
@@ -117,7 +125,8 @@ placeholder_short : (decor : DecorStyle) → length (text_cells LineNumber (plac
 placeholder_short Ascii = omega arith
 placeholder_short Unicode = omega arith
 
-begun_short : (decor : DecorStyle) (start : Option ℕ) (text : List ℕ) → IfSome start (λ s. s < 2 ^ 59) → length text < 2 ^ 60 → length (begun_cells decor start text) < 2 ^ 61
+begun_short : (decor : DecorStyle) (start : Option ℕ) (text : List ℕ) → IfSome start (λ s. s < 2 ^ 59) → length text < 2 ^ 60
+    → length (begun_cells decor start text) < 2 ^ 61
 begun_short decor None text few short = omega (arith, length-text_cells Quotation text)
 begun_short decor (Some columns) text few short =
     elim (length text == 0) as (λ b. length (cond b (text_cells LineNumber (placeholder_of decor)) (written SPACE (text_cells LineNumber (placeholder_of decor)) columns (text_cells Quotation text))) < 2 ^ 61) [
@@ -126,13 +135,15 @@ begun_short decor (Some columns) text few short =
     ]
 
 -- the cells that show a short text are few
-pub shown_short : (decor : DecorStyle) (start : Option ℕ) (text : List ℕ) (end : Option ℕ) → IfSome start (λ s. s < 2 ^ 59) → length text < 2 ^ 60 → IfSome end (λ at. at < 2 ^ 61) → length (shown_cells decor start text end) < 2 ^ 61 + 4
+pub shown_short : (decor : DecorStyle) (start : Option ℕ) (text : List ℕ) (end : Option ℕ) → IfSome start (λ s. s < 2 ^ 59) → length text < 2 ^ 60
+    → IfSome end (λ at. at < 2 ^ 61) → length (shown_cells decor start text end) < 2 ^ 61 + 4
 shown_short decor start text None few short ends = omega (arith, begun_short decor start text few short)
 shown_short decor start text (Some at) few short ends =
     omega (arith, begun_short decor start text few short, length-written SPACE (begun_cells decor start text) at (text_cells LineNumber (placeholder_of decor)), placeholder_short decor, ends)
 
 -- the text of a window holds no listed character
-pub unlisted_part : (left room from right : ℕ) (placeholder text : List ℕ) → All (λ c. is_listed c ≡ false) text → All (λ c. is_listed c ≡ false) (uncovered_part left placeholder (inner_part room from right text))
+pub unlisted_part : (left room from right : ℕ) (placeholder text : List ℕ) → All (λ c. is_listed c ≡ false) text
+    → All (λ c. is_listed c ≡ false) (uncovered_part left placeholder (inner_part room from right text))
 unlisted_part left room from right placeholder text free =
     let P : ℕ → Type 0 = λ c. is_listed c ≡ false in
     let rest = drop (reaching (window_left from text) text) text in

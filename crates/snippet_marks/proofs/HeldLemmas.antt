@@ -14,7 +14,8 @@ use Rattle.snippet_grid.specs.Layout.{Layout}
 use Rattle.snippet_marks.specs.declared.positions.PlacedEntry.{PlacedEntry}
 use Rattle.snippet_marks.specs.Entries.{label_chars, label_text, plain_entry}
 use Rattle.snippet_marks.specs.Painting.{is_painted_before, mark_of, marks_of, painting_order}
-use Rattle.snippet_marks.specs.Positions.{ArePlaced, HasItsBytes, are_starts, is_placed_before, labelled, line_positions, placed_at, placed_of, position_after, position_at, unplaced}
+use Rattle.snippet_marks.specs.Positions.{ArePlaced, HasItsBytes, are_starts, is_placed_before, labelled, line_positions, placed_at, placed_of, position_after}
+use Rattle.snippet_marks.specs.Positions.{position_at, unplaced}
 use Rattle.snippet_marks.proofs.PlacedLemmas.{are_starts-changed, line_positions-changed, position_after-changed, position_at-changed}
 
 -- ---- what a label shows, wherever it is lent from
@@ -80,7 +81,8 @@ all_bare (e ∷ es) has =
     let rest = map bare (labelled (map (λ (x : PlacedEntry). x.entry) es)) in
     ap (λ xs. bare e ∷ xs) (all_bare es (All-tail HasItsBytes e es has)) ∙ ap (λ x. unplaced x ∷ rest) (held_label e (All-head HasItsBytes e es has))
 
-all_held : (es : List PlacedEntry) → All HasItsBytes es → map held es ≡ map held (map placed_at (zip (map (λ (e : PlacedEntry). e.entry) es) (map (λ (e : PlacedEntry). e.position) es)))
+all_held : (es : List PlacedEntry) → All HasItsBytes es
+    → map held es ≡ map held (map placed_at (zip (map (λ (e : PlacedEntry). e.entry) es) (map (λ (e : PlacedEntry). e.position) es)))
 all_held [] has = refl
 all_held (e ∷ es) has =
     let rest = map held (map placed_at (zip (map (λ (x : PlacedEntry). x.entry) es) (map (λ (x : PlacedEntry). x.position) es))) in

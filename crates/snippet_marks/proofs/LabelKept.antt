@@ -1,5 +1,6 @@
 -- Marks, painted later, leave each label as it stands.
-use Rattle.std.proofs.Common.{◌≡◌, ℕ, zero, suc, ◌+◌, ◌<◌, ◌≤◌, ◌==◌, ◌&&◌, ◌||◌, nat_le, nat_lt, cond, Bool, true, false, List, [], ◌∷◌, length, map, get_or, refl, sym, ap, ◌∙◌, subst, arith, inl, inr, ◌⊎◌, All, not}
+use Rattle.std.proofs.Common.{◌≡◌, ℕ, zero, suc, ◌+◌, ◌<◌, ◌≤◌, ◌==◌, ◌&&◌, ◌||◌, nat_le, nat_lt, cond, Bool, true, false, List, [], ◌∷◌, length, map, get_or}
+use Rattle.std.proofs.Common.{refl, sym, ap, ◌∙◌, subst, arith, inl, inr, ◌⊎◌, All, not}
 use Rattle.std.specs.List.{list_any}
 use Rattle.std.specs.Cow.{cow_str_bytes}
 use Rattle.std.proofs.lemmas.Bool.{cases_lt, cases_eq, eq-eqb}
@@ -10,7 +11,8 @@ use Rattle.snippet_view.specs.declared.entries.LineAnnotation.{LineAnnotation}
 use Rattle.snippet_grid.specs.Layout.{Layout}
 use Rattle.snippet_marks.specs.declared.positions.PlacedEntry.{PlacedEntry}
 use Rattle.snippet_marks.specs.Entries.{HasPlace, label_text}
-use Rattle.snippet_marks.specs.Positions.{HasItsLabel, has_label, do_overlap, ends_no_later, blocks, crowds, crosses, position_at, position_after, positions, label_place, ArePlaced, has_stem, is_same_place, is_start, is_start_part, takes_space, flipped}
+use Rattle.snippet_marks.specs.Positions.{HasItsLabel, has_label, do_overlap, ends_no_later, blocks, crowds, crosses, position_at, position_after, positions}
+use Rattle.snippet_marks.specs.Positions.{label_place, ArePlaced, has_stem, is_same_place, is_start, is_start_part, takes_space, flipped}
 use Rattle.std.proofs.lemmas.List.{get_or-map, length-map}
 use Rattle.std.proofs.lemmas.List.Folds.{list_all_at}
 use Rattle.std.proofs.lemmas.List.Sorted.{All-permutation}
@@ -56,7 +58,8 @@ any_false p (x ∷ xs) none =
     right false b is = is
 
 -- two entries of one position aren't crowded
-pub uncrowded : (p : ℕ) (es : List PlacedEntry) (i j : ℕ) (d d2 : PlacedEntry) → i < j → j < length es → get_or (positions p es) i 0 ≡ get_or (positions p es) j 0 → crowds (get_or (positions p es) i 0) (get_or es i d) (get_or es j d2) ≡ false
+pub uncrowded : (p : ℕ) (es : List PlacedEntry) (i j : ℕ) (d d2 : PlacedEntry) → i < j → j < length es
+    → get_or (positions p es) i 0 ≡ get_or (positions p es) j 0 → crowds (get_or (positions p es) i 0) (get_or es i d) (get_or es j d2) ≡ false
 uncrowded p [] i j d d2 before within same = absurd (omega (arith, within))
 uncrowded p (e ∷ others) zero zero d d2 before within same = absurd (omega (arith, before))
 uncrowded p (e ∷ others) zero (suc j) d d2 before within same =
@@ -73,7 +76,8 @@ uncrowded p (e ∷ others) (suc i) (suc j) d d2 before within same =
     uncrowded (position_after (position_at p e others) e others) others i j d d2 (omega (arith, before)) (omega (arith, within)) same
 
 -- an entry with a label at position 0 isn't crossed
-pub uncrossed : (p : ℕ) (es : List PlacedEntry) (i j : ℕ) (d d2 : PlacedEntry) → i < j → j < length es → get_or (positions p es) i 0 ≡ 0 → has_label (get_or es i d) ≡ true → crosses (get_or es i d) (get_or es j d2) ≡ false
+pub uncrossed : (p : ℕ) (es : List PlacedEntry) (i j : ℕ) (d d2 : PlacedEntry) → i < j → j < length es → get_or (positions p es) i 0 ≡ 0
+    → has_label (get_or es i d) ≡ true → crosses (get_or es i d) (get_or es j d2) ≡ false
 uncrossed p [] i j d d2 before within zero_there has = absurd (omega (arith, within))
 uncrossed p (e ∷ others) zero zero d d2 before within zero_there has = absurd (omega (arith, before))
 uncrossed p (e ∷ others) zero (suc j) d d2 before within zero_there has =
@@ -146,7 +150,8 @@ pub label_chars_le : (e : PlacedEntry) → HasItsLabel e → length (label_text 
 label_chars_le e has = omega (arith, ap length has, length-chars_le (cow_str_bytes e.label))
 
 -- where an entry has a label the positions aren't flipped
-pub labelled_positions : (given : List LineAnnotation) (es : List PlacedEntry) (k : ℕ) (d : PlacedEntry) → ArePlaced given es → k < length es → has_label (get_or es k d) ≡ true → map (λ (e : PlacedEntry). e.position) es ≡ positions 0 es
+pub labelled_positions : (given : List LineAnnotation) (es : List PlacedEntry) (k : ℕ) (d : PlacedEntry) → ArePlaced given es → k < length es
+    → has_label (get_or es k d) ≡ true → map (λ (e : PlacedEntry). e.position) es ≡ positions 0 es
 labelled_positions given es k d placed within has =
     placed.positions_are ∙ ap (λ b. cond b (flipped (positions 0 es)) (positions 0 es)) (list_all_at is_start es k d within (no_start (is_start_part (get_or es k d).entry.annotation_type) (has_label (get_or es k d)) has))
   where
@@ -156,12 +161,14 @@ labelled_positions given es k d placed within has =
     no_start false l is = refl
 
 -- where positions aren't flipped, that of an entry is found by its place
-pub position_of : (es : List PlacedEntry) (k : ℕ) (d : PlacedEntry) → map (λ (e : PlacedEntry). e.position) es ≡ positions 0 es → k < length es → (get_or es k d).position ≡ get_or (positions 0 es) k 0
+pub position_of : (es : List PlacedEntry) (k : ℕ) (d : PlacedEntry) → map (λ (e : PlacedEntry). e.position) es ≡ positions 0 es → k < length es
+    → (get_or es k d).position ≡ get_or (positions 0 es) k 0
 position_of es k d are within =
     sym (get_or-map (λ (e : PlacedEntry). e.position) es k d 0 within) ∙ ap (λ ps. get_or ps k 0) are
 
 -- a later entry starts no farther right
-pub stands_left : (given : List LineAnnotation) (es : List PlacedEntry) (i j : ℕ) (d d2 : PlacedEntry) → ArePlaced given es → i < j → j < length es → (get_or es j d2).entry.start.display ≤ (get_or es i d).entry.start.display
+pub stands_left : (given : List LineAnnotation) (es : List PlacedEntry) (i j : ℕ) (d d2 : PlacedEntry) → ArePlaced given es → i < j → j < length es
+    → (get_or es j d2).entry.start.display ≤ (get_or es i d).entry.start.display
 stands_left given es i j d d2 placed before within =
     let f : PlacedEntry → LineAnnotation = λ e. e.entry in
     let first : get_or (map f es) i d.entry ≡ (get_or es i d).entry = get_or-map f es i d d.entry (omega (arith, before, within)) in
@@ -218,7 +225,8 @@ mark_end_le f = by_test (f.entry.start.display == f.entry.end.display && (takes_
     by_test true = omega arith
     by_test false = omega arith
 
-pub unpainted : (e f : PlacedEntry) (n : ℕ) → StandsAfter e → HasItsLabel e → IsClear e f → n < length (label_text e.entry) → IsPaintedAt f ((label_place e).1 + n) → ⊥
+pub unpainted : (e f : PlacedEntry) (n : ℕ) → StandsAfter e → HasItsLabel e → IsClear e f → n < length (label_text e.entry)
+    → IsPaintedAt f ((label_place e).1 + n) → ⊥
 unpainted e f n at has clear inside there =
     let short : length (label_text e.entry) ≤ length (cow_str_bytes e.label) = label_chars_le e has in
     elim clear.clear [
@@ -226,7 +234,8 @@ unpainted e f n at has clear inside there =
       | inr starts ↦ omega (arith, starts, at.to, short, inside, there.0)
     ]
 
-pub all_clear : (given : List LineAnnotation) (es : List PlacedEntry) (i : ℕ) (d : PlacedEntry) → ArePlaced given es → All (λ e. HasPlace e.entry) es → i < length es → has_label (get_or es i d) ≡ true → (get_or es i d).position ≡ 0 → All (IsClear (get_or es i d)) es
+pub all_clear : (given : List LineAnnotation) (es : List PlacedEntry) (i : ℕ) (d : PlacedEntry) → ArePlaced given es → All (λ e. HasPlace e.entry) es
+    → i < length es → has_label (get_or es i d) ≡ true → (get_or es i d).position ≡ 0 → All (IsClear (get_or es i d)) es
 all_clear given es i d placed places within has zero_here j d2 fits =
     let are = labelled_positions given es i d placed within has in
     let zero_there : get_or (positions 0 es) i 0 ≡ 0 = sym (position_of es i d are within) ∙ zero_here in
@@ -249,7 +258,8 @@ all_clear given es i d placed places within has zero_here j d2 fits =
     get_or_default (x ∷ xs) (suc k) a b inside = get_or_default xs k a b (omega (arith, inside))
 
 -- marks, painted later, leave each label as it stands
-pub labels_kept : (layout : Layout) (row : ℕ) (given : List LineAnnotation) (es : List PlacedEntry) (old new : List (List Cell)) → ArePlaced given es → All (λ e. HasPlace e.entry) es → AreMarked layout es row old new → All (StandsWhole layout row old) es → All (StandsWhole layout row new) es
+pub labels_kept : (layout : Layout) (row : ℕ) (given : List LineAnnotation) (es : List PlacedEntry) (old new : List (List Cell)) → ArePlaced given es
+    → All (λ e. HasPlace e.entry) es → AreMarked layout es row old new → All (StandsWhole layout row old) es → All (StandsWhole layout row new) es
 labels_kept layout row given es old new placed places marked stand k d within has n inside =
     let e : PlacedEntry = get_or es k d in
     let before = stand k d within has n inside in

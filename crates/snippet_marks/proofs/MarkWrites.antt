@@ -1,5 +1,6 @@
 -- The writes of marks paint them, each over those before it.
-use Rattle.std.proofs.Common.{◌≡◌, ℕ, zero, suc, ◌+◌, ◌-◌, ◌<◌, ◌≤◌, cond, List, [], ◌∷◌, length, take, get_or, replicate, refl, sym, ap, ◌∙◌, subst, arith, inl, inr}
+use Rattle.std.proofs.Common.{◌≡◌, ℕ, zero, suc, ◌+◌, ◌-◌, ◌<◌, ◌≤◌, cond, List, [], ◌∷◌, length, take, get_or, replicate, refl, sym, ap, ◌∙◌, subst, arith}
+use Rattle.std.proofs.Common.{inl, inr}
 use Rattle.std.proofs.lemmas.Bool.{cases_lt}
 use Rattle.std.proofs.lemmas.List.{take_all}
 use Rattle.snippet_grid.specs.Grid.{WritesCells, cells_written}
@@ -18,7 +19,8 @@ use Rattle.snippet_marks.proofs.PaintLemmas.{Painted-next, Painted-none, Paints-
 use Rattle.snippet_marks.proofs.WriteLemmas.{flat_map-take_more, less, mark_of-none, painted-append, stretch_of-none}
 
 -- a mark that takes some cells paints the first, and then the rest
-paints_some : (layout : Layout) (row : ℕ) (e : PlacedEntry) (old : List (List Cell)) → e.entry.start.display < mark_end e → Paints old (painted (mark_of layout row e) old) row (layout.code + e.entry.start.display) (layout.code + mark_end e) (mark_cell layout e)
+paints_some : (layout : Layout) (row : ℕ) (e : PlacedEntry) (old : List (List Cell)) → e.entry.start.display < mark_end e
+    → Paints old (painted (mark_of layout row e) old) row (layout.code + e.entry.start.display) (layout.code + mark_end e) (mark_cell layout e)
 paints_some layout row e old some =
     let from = layout.code + e.entry.start.display in
     let to = layout.code + mark_end e in
@@ -49,7 +51,8 @@ paints_some layout row e old some =
           subst (λ (rows : List (List Cell)). Paints old rows row from to marks) same (subst (λ m. Paints old mid row from m marks) all begun)
     ])
 
-pub Paints-mark : (layout : Layout) (row : ℕ) (e : PlacedEntry) (old : List (List Cell)) → Paints old (painted (mark_of layout row e) old) row (layout.code + e.entry.start.display) (layout.code + mark_end e) (mark_cell layout e)
+pub Paints-mark : (layout : Layout) (row : ℕ) (e : PlacedEntry) (old : List (List Cell))
+    → Paints old (painted (mark_of layout row e) old) row (layout.code + e.entry.start.display) (layout.code + mark_end e) (mark_cell layout e)
 Paints-mark layout row e old =
     let from = layout.code + e.entry.start.display in
     let to = layout.code + mark_end e in
@@ -59,7 +62,8 @@ Paints-mark layout row e old =
     ]
 
 -- so the marks of entries are painted, up to each and in all
-painted_upto : (layout : Layout) (row : ℕ) (es : List PlacedEntry) (d : PlacedEntry) (old : List (List Cell)) (i : ℕ) → i ≤ length es → Painted layout (take i es) row old (painted (marks_of layout row (take i es)) old)
+painted_upto : (layout : Layout) (row : ℕ) (es : List PlacedEntry) (d : PlacedEntry) (old : List (List Cell)) (i : ℕ) → i ≤ length es
+    → Painted layout (take i es) row old (painted (marks_of layout row (take i es)) old)
 painted_upto layout row es d old zero within = Painted-none layout row old
 painted_upto layout row es d old (suc i) within =
     let f : PlacedEntry → List Write = mark_of layout row in
@@ -74,7 +78,8 @@ painted_upto layout row es d old (suc i) within =
     (Paints-mark layout row e mid)))
 
 -- the writes of marks paint the marks
-pub Painted-marks : (layout : Layout) (row : ℕ) (es : List PlacedEntry) (old : List (List Cell)) → Painted layout es row old (painted (marks_of layout row es) old)
+pub Painted-marks : (layout : Layout) (row : ℕ) (es : List PlacedEntry) (old : List (List Cell))
+    → Painted layout es row old (painted (marks_of layout row es) old)
 Painted-marks layout row [] old = Painted-none layout row old
 Painted-marks layout row (e ∷ es) old =
     let n = length (e ∷ es) in
@@ -82,7 +87,8 @@ Painted-marks layout row (e ∷ es) old =
     subst (λ xs. Painted layout xs row old (painted (marks_of layout row xs) old)) all (painted_upto layout row (e ∷ es) e old n (omega arith))
 
 -- so the marks of entries are painted in the order of painting
-pub AreMarked-marks : (layout : Layout) (row : ℕ) (es : List PlacedEntry) (old : List (List Cell)) → AreMarked layout es row old (painted (marks_of layout row (painting_order es)) old)
+pub AreMarked-marks : (layout : Layout) (row : ℕ) (es : List PlacedEntry) (old : List (List Cell))
+    → AreMarked layout es row old (painted (marks_of layout row (painting_order es)) old)
 AreMarked-marks layout row es old =
     record {
       order = painting_order es;

@@ -1,5 +1,6 @@
 -- The order that entries are painted in.
-use Rattle.std.proofs.Common.{◌≡◌, ℕ, zero, suc, ◌+◌, ◌<◌, ◌≤◌, ◌==◌, ◌&&◌, ◌||◌, nat_lt, not, Bool, true, false, List, [], ◌∷◌, length, map, get_or, refl, All, sym, ap, ◌∙◌, subst, arith, inl, inr, nat_cmp, is_lt}
+use Rattle.std.proofs.Common.{◌≡◌, ℕ, zero, suc, ◌+◌, ◌<◌, ◌≤◌, ◌==◌, ◌&&◌, ◌||◌, nat_lt, not, Bool, true, false, List, [], ◌∷◌, length, map, get_or, refl, All}
+use Rattle.std.proofs.Common.{sym, ap, ◌∙◌, subst, arith, inl, inr, nat_cmp, is_lt}
 use Rattle.std.specs.Cmp.{IsStrictWeakOrder}
 use Rattle.std.specs.List.Sorted.{IsPermutation, IsSortedBy, IsStableBy, ties}
 use Rattle.std.specs.Ordering.{ordering_then, bool_cmp}
@@ -109,7 +110,8 @@ placed_before x y = is_placed_before x.entry y.entry
 place_one_way : (a b c d : ℕ) → (nat_lt c a || (a == c && nat_lt d b)) ≡ true → (nat_lt a c || (c == a && nat_lt b d)) ≡ false
 place_one_way a b c d h = grind (arith, nat_tests)
 
-place_chain : (a b c d e f : ℕ) → (nat_lt c a || (a == c && nat_lt d b)) ≡ false → (nat_lt e c || (c == e && nat_lt f d)) ≡ false → (nat_lt e a || (a == e && nat_lt f b)) ≡ false
+place_chain : (a b c d e f : ℕ) → (nat_lt c a || (a == c && nat_lt d b)) ≡ false → (nat_lt e c || (c == e && nat_lt f d)) ≡ false
+    → (nat_lt e a || (a == e && nat_lt f b)) ≡ false
 place_chain a b c d e f g h = grind (arith, nat_tests)
 
 place_order : IsStrictWeakOrder placed_before
@@ -133,7 +135,8 @@ module _ {X : Type 0} (lt by : X → X → Bool) (same : (x y : X) → lt x y �
       sym (filter_agree (ties lt x) (ties by x) (ties_same x) ys) ∙ stable x ∙ filter_agree (ties lt x) (ties by x) (ties_same x) xs
 
 -- so entries that are sorted by that key are those that are given, in order
-pub order_of_sort : (given sorted : List PlacedEntry) → IsSortedBy place_less sorted → IsStableBy place_less given sorted → map (λ (e : PlacedEntry). e.entry) sorted ≡ ordered_by is_placed_before (map (λ (e : PlacedEntry). e.entry) given)
+pub order_of_sort : (given sorted : List PlacedEntry) → IsSortedBy place_less sorted → IsStableBy place_less given sorted
+    → map (λ (e : PlacedEntry). e.entry) sorted ≡ ordered_by is_placed_before (map (λ (e : PlacedEntry). e.entry) given)
 unfolding placed_before
 order_of_sort given sorted up stable =
     let f : PlacedEntry → LineAnnotation = λ e. e.entry in
@@ -160,7 +163,8 @@ paint_one_way m n true false h = grind (arith, nat_tests, h)
 paint_one_way m n false true h = grind (arith, nat_tests, h)
 paint_one_way m n false false h = grind (arith, nat_tests, h)
 
-paint_chain : (m n o : ℕ) (x y z : Bool) → (nat_lt n m || (m == n && (not x && y))) ≡ false → (nat_lt o n || (n == o && (not y && z))) ≡ false → (nat_lt o m || (m == o && (not x && z))) ≡ false
+paint_chain : (m n o : ℕ) (x y z : Bool) → (nat_lt n m || (m == n && (not x && y))) ≡ false → (nat_lt o n || (n == o && (not y && z))) ≡ false
+    → (nat_lt o m || (m == o && (not x && z))) ≡ false
 paint_chain m n o true y true g h = grind (arith, nat_tests, g, h)
 paint_chain m n o true y false g h = grind (arith, nat_tests, g, h)
 paint_chain m n o false true true g h = grind (arith, nat_tests, g, h)
@@ -176,7 +180,8 @@ paint_order = record {
 }
 
 -- entries that are sorted stably by the code's test stand in the order of painting
-pub painting_order_of_sort : (given sorted : List PlacedEntry) → IsSortedBy paint_less sorted → IsStableBy paint_less given sorted → sorted ≡ painting_order given
+pub painting_order_of_sort : (given sorted : List PlacedEntry) → IsSortedBy paint_less sorted → IsStableBy paint_less given sorted
+    → sorted ≡ painting_order given
 unfolding painted_before
 painting_order_of_sort given sorted up stable =
     let same : (x y : PlacedEntry) → paint_less x y ≡ painted_before x y = λ x y. paint_tells (entry_width x.entry) (entry_width y.entry) (is_primary x.entry.kind) (is_primary y.entry.kind) in

@@ -1,5 +1,6 @@
 -- Painting marks into a row: one cell after another, and one entry over another.
-use Rattle.std.proofs.Common.{◌≡◌, ◌⊎◌, ℕ, ◌+◌, ◌-◌, ◌<◌, ◌≤◌, ◌==◌, cond, max, Bool, true, false, List, [], ◌∷◌, ◌++◌, length, replicate, take, get_or, refl, sym, ap, ◌∙◌, subst, arith, inl, inr, All}
+use Rattle.std.proofs.Common.{◌≡◌, ◌⊎◌, ℕ, ◌+◌, ◌-◌, ◌<◌, ◌≤◌, ◌==◌, cond, max, Bool, true, false, List, [], ◌∷◌, ◌++◌, length, replicate, take, get_or, refl}
+use Rattle.std.proofs.Common.{sym, ap, ◌∙◌, subst, arith, inl, inr, All}
 use Rattle.std.proofs.lemmas.Bool.{cases_lt}
 use Rattle.std.proofs.lemmas.Bool.Decides.{nat_tests}
 use Rattle.std.proofs.lemmas.List.{length-replicate, get_or-replicate, length_push, get_or_append_left, get_or_push, take_more}
@@ -29,7 +30,8 @@ Paints-none rows row from cell =
     }
 
 -- one more cell is painted
-pub Paints-more : (old mid new : List (List Cell)) (row from to next : ℕ) (cell : ℕ → Cell) → Paints old mid row from to cell → WritesCells mid new row to (cell to ∷ []) → from ≤ to → next ≡ to + 1 → Paints old new row from next cell
+pub Paints-more : (old mid new : List (List Cell)) (row from to next : ℕ) (cell : ℕ → Cell) → Paints old mid row from to cell
+    → WritesCells mid new row to (cell to ∷ []) → from ≤ to → next ≡ to + 1 → Paints old new row from next cell
 Paints-more old mid new row from to next cell done writes ordered one =
     record {
       inside = λ c later before. elim (cases_lt c to) [
@@ -88,7 +90,8 @@ Paints-rest old mid new row from to line cell done is more writes =
     }
 
 -- the first cell of an entry's mark, and any later one
-pub first_cell_is : (layout : Layout) (e : PlacedEntry) (first : ℕ) (primary : Bool) (role : ElementStyle) → primary ≡ is_primary e.entry.kind → first ≡ first_glyph layout.decor e → role ≡ underline_role primary → unlinked_cell role first ≡ mark_cell layout e (layout.code + e.entry.start.display)
+pub first_cell_is : (layout : Layout) (e : PlacedEntry) (first : ℕ) (primary : Bool) (role : ElementStyle) → primary ≡ is_primary e.entry.kind
+    → first ≡ first_glyph layout.decor e → role ≡ underline_role primary → unlinked_cell role first ≡ mark_cell layout e (layout.code + e.entry.start.display)
 first_cell_is layout e first primary role is_kind is_first is_role =
     let here : (layout.code + e.entry.start.display == layout.code + e.entry.start.display) ≡ true = grind (arith, nat_tests) in
     rw (is_role, is_first, is_kind, here) refl
@@ -146,7 +149,9 @@ new_place : (es : List PlacedEntry) (e d : PlacedEntry) → get_or (es ++ e ∷ 
 new_place es e d = get_or_push es e d (length es) refl
 
 -- the painted cell is outside the columns that an entry doesn't cover
-untouched : (layout : Layout) (mid new : List (List Cell)) (row p : ℕ) (e : PlacedEntry) → Paints mid new row (layout.code + e.entry.start.display) (layout.code + mark_end e) (mark_cell layout e) → (IsPaintedAt e p → ⊥) → cell_at new row (layout.code + p) ≡ cell_at mid row (layout.code + p)
+untouched : (layout : Layout) (mid new : List (List Cell)) (row p : ℕ) (e : PlacedEntry)
+    → Paints mid new row (layout.code + e.entry.start.display) (layout.code + mark_end e) (mark_cell layout e) → (IsPaintedAt e p → ⊥)
+    → cell_at new row (layout.code + p) ≡ cell_at mid row (layout.code + p)
 untouched layout mid new row p e paints not_covered =
     elim (cases_lt p e.entry.start.display) [
       | inl left ↦ paints.before (layout.code + p) (omega arith)
@@ -172,7 +177,8 @@ shows_new layout es e d k p mid new row paints within covers =
     }
 
 -- what an earlier entry shows where the last one doesn't cover the column
-shows_old : (layout : Layout) (es : List PlacedEntry) (e d : PlacedEntry) (k p : ℕ) (cell same : Cell) → same ≡ cell → ShowsFrom layout es k p d cell → ShowsFrom layout (es ++ e ∷ []) k p d same
+shows_old : (layout : Layout) (es : List PlacedEntry) (e d : PlacedEntry) (k p : ℕ) (cell same : Cell) → same ≡ cell → ShowsFrom layout es k p d cell
+    → ShowsFrom layout (es ++ e ∷ []) k p d same
 shows_old layout es e d k p cell same is shows =
     let place = old_place es e d shows.at shows.within in
     record {

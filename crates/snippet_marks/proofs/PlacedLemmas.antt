@@ -1,5 +1,6 @@
 -- How the entries of a line are placed, one position after another.
-use Rattle.std.proofs.Common.{◌≡◌, ℕ, suc, ◌+◌, ◌-◌, ◌<◌, ◌≤◌, ◌^◌, ◌==◌, ◌&&◌, ◌||◌, cond, Bool, true, false, List, [], ◌∷◌, ◌++◌, length, map, drop, take, set, get_or, refl, sym, ap, ◌∙◌, subst, arith, All, zero}
+use Rattle.std.proofs.Common.{◌≡◌, ℕ, suc, ◌+◌, ◌-◌, ◌<◌, ◌≤◌, ◌^◌, ◌==◌, ◌&&◌, ◌||◌, cond, Bool, true, false, List, [], ◌∷◌, ◌++◌, length, map, drop, take}
+use Rattle.std.proofs.Common.{set, get_or, refl, sym, ap, ◌∙◌, subst, arith, All, zero}
 use Rattle.std.specs.List.{list_all, list_any}
 use Rattle.std.specs.Cow.{cow_str_bytes}
 use Rattle.std.proofs.lemmas.Bool.Decides.{nat_tests}
@@ -11,7 +12,9 @@ use Rattle.std.proofs.lemmas.List.Sorted.{All-permutation, IsPermutation-map}
 use Rattle.snippet_lines.specs.Order.{ordered_by}
 use Rattle.snippet_view.specs.declared.entries.LineAnnotation.{LineAnnotation}
 use Rattle.snippet_marks.specs.declared.positions.PlacedEntry.{PlacedEntry}
-use Rattle.snippet_marks.specs.Positions.{ArePlaced, IsFromRight, HasItsBytes, HasItsLabel, asks, do_overlap, ends_no_later, has_label, takes_space, is_start, are_starts, crosses, crowds, position_at, position_after, positions, flipped, line_positions, unplaced, is_placed_before}
+use Rattle.snippet_marks.specs.Positions.{ArePlaced, IsFromRight, HasItsBytes, HasItsLabel, asks, do_overlap, ends_no_later, has_label, takes_space, is_start}
+use Rattle.snippet_marks.specs.Positions.{are_starts, crosses, crowds, position_at, position_after, positions, flipped, line_positions, unplaced}
+use Rattle.snippet_marks.specs.Positions.{is_placed_before}
 use Rattle.snippet_view.specs.Measures.{greatest}
 use Rattle.snippet_view.proofs.PartLemmas.{list_any-map}
 use Rattle.std.proofs.lemmas.List.Elements.{All-map}
@@ -27,16 +30,20 @@ positions_more ps es all i reached d within so_far =
     append_assoc ps (position_at reached e others ∷ []) (positions (position_after (position_at reached e others) e others) others) ∙ sym (ap (λ xs. ps ++ positions reached xs) (drop_more es i d within)) ∙ so_far
 
 -- the position reached grows by one at most, from 1 on
-pub reached_low : (reached i : ℕ) (e : PlacedEntry) (others : List PlacedEntry) → reached ≤ i + 1 → position_after (position_at reached e others) e others ≤ i + 1 + 1
+pub reached_low : (reached i : ℕ) (e : PlacedEntry) (others : List PlacedEntry) → reached ≤ i + 1
+    → position_after (position_at reached e others) e others ≤ i + 1 + 1
 reached_low reached i e others low =
     grind (arith, nat_tests)
 
 -- a position is given to one more entry
-pub placed_more : (es first : List PlacedEntry) (ps : List ℕ) (i : ℕ) (e : PlacedEntry) → i < length es → i < length ps → map (λ (x : PlacedEntry). x.position) (take i es) ≡ take i ps → e.position ≡ get_or ps i 0 → map (λ (x : PlacedEntry). x.position) (take (i + 1) (set es i e)) ≡ take (i + 1) ps
+pub placed_more : (es first : List PlacedEntry) (ps : List ℕ) (i : ℕ) (e : PlacedEntry) → i < length es → i < length ps
+    → map (λ (x : PlacedEntry). x.position) (take i es) ≡ take i ps → e.position ≡ get_or ps i 0
+    → map (λ (x : PlacedEntry). x.position) (take (i + 1) (set es i e)) ≡ take (i + 1) ps
 placed_more es first ps i e within within_ps so_far is =
     ap (map (λ (x : PlacedEntry). x.position)) (take_more_set es i e within) ∙ map-push (take i es) e ∙ ap (λ xs. xs ++ e.position ∷ []) so_far ∙ ap (λ p. take i ps ++ p ∷ []) is ∙ sym (take_more ps i 0 within_ps)
   where
-    map-push : (xs : List PlacedEntry) (x : PlacedEntry) → map (λ (y : PlacedEntry). y.position) (xs ++ x ∷ []) ≡ map (λ (y : PlacedEntry). y.position) xs ++ x.position ∷ []
+    map-push : (xs : List PlacedEntry) (x : PlacedEntry)
+        → map (λ (y : PlacedEntry). y.position) (xs ++ x ∷ []) ≡ map (λ (y : PlacedEntry). y.position) xs ++ x.position ∷ []
     map-push [] x = refl
     map-push (y ∷ ys) x = ap (λ zs. y.position ∷ zs) (map-push ys x)
 
@@ -47,7 +54,8 @@ length-positions p (e ∷ others) =
     ap suc (length-positions (position_after (position_at p e others) e others) others)
 
 -- what holds of the entries of a line holds of the placed ones
-pub entries_all : (Q : LineAnnotation → Type 0) (es : List LineAnnotation) (ps : List PlacedEntry) → IsPermutation es (map (λ (e : PlacedEntry). e.entry) ps) → All Q es → All (λ (e : PlacedEntry). Q e.entry) ps
+pub entries_all : (Q : LineAnnotation → Type 0) (es : List LineAnnotation) (ps : List PlacedEntry) → IsPermutation es (map (λ (e : PlacedEntry). e.entry) ps)
+    → All Q es → All (λ (e : PlacedEntry). Q e.entry) ps
 entries_all Q es ps same all k d within =
     let f : PlacedEntry → LineAnnotation = λ e. e.entry in
     subst Q (get_or-map f ps k d d.entry within) (All-permutation Q es (map f ps) same all k d.entry (omega (arith, within, length-map ps f)))
@@ -83,14 +91,16 @@ module _ (f : PlacedEntry → PlacedEntry)
       ap (λ b. cond b (flipped (positions 0 (map f es))) (positions 0 (map f es))) (are_starts-changed es) ∙ ap (λ ps. cond (are_starts es) (flipped ps) ps) (positions-changed 0 es)
 
 -- what doesn't look at positions is kept where nothing else changes
-pub all_kept : (P : PlacedEntry → Type 0) (es fs : List PlacedEntry) → ((e : PlacedEntry) → P (unplaced e) → P e) → ((e : PlacedEntry) → P e → P (unplaced e)) → map unplaced es ≡ map unplaced fs → All P fs → All P es
+pub all_kept : (P : PlacedEntry → Type 0) (es fs : List PlacedEntry) → ((e : PlacedEntry) → P (unplaced e) → P e) → ((e : PlacedEntry) → P e → P (unplaced e))
+    → map unplaced es ≡ map unplaced fs → All P fs → All P es
 all_kept P es fs back forth kept all k d within =
     let long : length es ≡ length fs = sym (length-map es unplaced) ∙ ap length kept ∙ length-map fs unplaced in
     let inside : k < length fs = omega (arith, long, within) in
     let same : unplaced (get_or es k d) ≡ unplaced (get_or fs k d) = sym (get_or-map unplaced es k d (unplaced d) within) ∙ ap (λ xs. get_or xs k (unplaced d)) kept ∙ get_or-map unplaced fs k d (unplaced d) inside in
     back (get_or es k d) (subst P (sym same) (forth (get_or fs k d) (all k d inside)))
 
-pub entries_kept : (es fs : List PlacedEntry) → map unplaced es ≡ map unplaced fs → map (λ (e : PlacedEntry). e.entry) es ≡ map (λ (e : PlacedEntry). e.entry) fs
+pub entries_kept : (es fs : List PlacedEntry) → map unplaced es ≡ map unplaced fs
+    → map (λ (e : PlacedEntry). e.entry) es ≡ map (λ (e : PlacedEntry). e.entry) fs
 entries_kept es fs kept =
     let f : PlacedEntry → LineAnnotation = λ e. e.entry in
     sym (map-map f unplaced es) ∙ ap (map f) kept ∙ map-map f unplaced fs
@@ -140,7 +150,8 @@ any_none q [] none = refl
 any_none q (x ∷ xs) none =
     ap (λ b. b || list_any q xs) (none 0 x (omega arith)) ∙ any_none q xs (λ k d within. none (suc k) d (omega (arith, within)))
 
-any_front : {X : Type 0} (q : X → Bool) (n : ℕ) (xs : List X) → ((k : ℕ) (d : X) → n ≤ k → k < length xs → q (get_or xs k d) ≡ false) → list_any q (take n xs) ≡ list_any q xs
+any_front : {X : Type 0} (q : X → Bool) (n : ℕ) (xs : List X) → ((k : ℕ) (d : X) → n ≤ k → k < length xs → q (get_or xs k d) ≡ false)
+    → list_any q (take n xs) ≡ list_any q xs
 any_front q zero xs none = sym (any_none q xs (λ k d within. none k d (omega arith) within))
 any_front q (suc n) [] none = refl
 any_front q (suc n) (x ∷ xs) none =
@@ -151,7 +162,8 @@ uncrowding : (p : ℕ) (e other : PlacedEntry) → asks other ≡ false → crow
 uncrowding p e other none =
     by_tests (takes_space e) (has_label e) (has_label other) (takes_space other) (do_overlap other (length (cow_str_bytes other.label) + 2) e) (has_label e || (p == 0 && ends_no_later other e)) none
   where
-    by_tests : (own_space own_label label space overlap wide : Bool) → (label || space) ≡ false → (((own_space && (label || space)) || (own_label && space)) || (label && overlap && wide)) ≡ false
+    by_tests : (own_space own_label label space overlap wide : Bool) → (label || space) ≡ false
+        → (((own_space && (label || space)) || (own_label && space)) || (label && overlap && wide)) ≡ false
     by_tests own_space own_label true space overlap wide is = cc is
     by_tests own_space own_label false true overlap wide is = cc is
     by_tests true true false false overlap wide is = refl
@@ -160,11 +172,14 @@ uncrowding p e other none =
     by_tests false false false false overlap wide is = refl
 
 -- so only those that ask decide which position is reached
-pub position_after-front : (p : ℕ) (e : PlacedEntry) (others : List PlacedEntry) (n : ℕ) → ((k : ℕ) (d : PlacedEntry) → n ≤ k → k < length others → asks (get_or others k d) ≡ false) → position_after p e (take n others) ≡ position_after p e others
+pub position_after-front : (p : ℕ) (e : PlacedEntry) (others : List PlacedEntry) (n : ℕ)
+    → ((k : ℕ) (d : PlacedEntry) → n ≤ k → k < length others → asks (get_or others k d) ≡ false)
+    → position_after p e (take n others) ≡ position_after p e others
 position_after-front p e others n none =
     ap (λ b. cond b (p + 1) p) (any_front (crowds p e) n others (λ k d past within. uncrowding p e (get_or others k d) (none k d past within)))
 
 -- shifted entries end no farther right
-pub shifted_narrow : (dropped : ℕ) (es : List LineAnnotation) → All (λ e. e.end.display < 2 ^ 60) es → All (λ e. e.end.display < 2 ^ 60) (map (shifted dropped) es)
+pub shifted_narrow : (dropped : ℕ) (es : List LineAnnotation) → All (λ e. e.end.display < 2 ^ 60) es
+    → All (λ e. e.end.display < 2 ^ 60) (map (shifted dropped) es)
 shifted_narrow dropped es narrow =
     All-map (λ (e : LineAnnotation). e.end.display < 2 ^ 60) (shifted dropped) es (λ k d within. omega (arith, narrow k d within))

@@ -20,12 +20,14 @@ pub painted-append : (ws vs : List Write) (rows : List (List Cell)) → painted 
 painted-append ws vs rows = fold-append written_by rows ws vs
 
 -- what a rule gives for one thing more
-pub flat_map-take_more : {X : Type 0} (f : X → List Write) (xs : List X) (i : ℕ) (d : X) → i < length xs → flat_map f (take (i + 1) xs) ≡ flat_map f (take i xs) ++ f (get_or xs i d)
+pub flat_map-take_more : {X : Type 0} (f : X → List Write) (xs : List X) (i : ℕ) (d : X) → i < length xs
+    → flat_map f (take (i + 1) xs) ≡ flat_map f (take i xs) ++ f (get_or xs i d)
 flat_map-take_more f xs i d within =
     ap (flat_map f) (take_more xs i d within) ∙ flat_map-append f (take i xs) (get_or xs i d ∷ []) ∙ ap (λ ws. flat_map f (take i xs) ++ ws) (append-nil (f (get_or xs i d)))
 
 -- the step of a loop that paints what a rule gives for each of some things
-pub painted_more : {X : Type 0} (f : X → List Write) (xs : List X) (i : ℕ) (x : X) (old mid : List (List Cell)) → i < length xs → x ≡ get_or xs i x → mid ≡ painted (flat_map f (take i xs)) old → painted (f x) mid ≡ painted (flat_map f (take (i + 1) xs)) old
+pub painted_more : {X : Type 0} (f : X → List Write) (xs : List X) (i : ℕ) (x : X) (old mid : List (List Cell)) → i < length xs → x ≡ get_or xs i x
+    → mid ≡ painted (flat_map f (take i xs)) old → painted (f x) mid ≡ painted (flat_map f (take (i + 1) xs)) old
 painted_more f xs i x old mid within is so_far =
     ap (painted (f x)) so_far ∙ sym (painted-append (flat_map f (take i xs)) (f x) old) ∙ ap (λ y. painted (flat_map f (take i xs) ++ f y) old) is ∙ sym (ap (λ ws. painted ws old) (flat_map-take_more f xs i x within))
 
@@ -45,7 +47,8 @@ stretch_of-none row from to glyph role past =
     ap (λ b. cond b (w ∷ []) []) (not_less from to past)
 
 -- and else one text, of as many glyphs as it has cells
-pub stretch_painted : (row from to glyph : ℕ) (role : ElementStyle) (cs : List ℕ) (old new : List (List Cell)) → from < to → cs ≡ replicate (to - from) glyph → new ≡ cells_written old row from (text_cells role cs) → new ≡ painted (stretch_of row from to glyph role) old
+pub stretch_painted : (row from to glyph : ℕ) (role : ElementStyle) (cs : List ℕ) (old new : List (List Cell)) → from < to → cs ≡ replicate (to - from) glyph
+    → new ≡ cells_written old row from (text_cells role cs) → new ≡ painted (stretch_of row from to glyph role) old
 stretch_painted row from to glyph role cs old new some is writes =
     let w : Write = record { row = row; cell = from; text = replicate (to - from) glyph; role = role } in
     writes ∙ ap (λ xs. cells_written old row from (text_cells role xs)) is ∙ sym (ap (λ b. painted (cond b (w ∷ []) []) old) (less from to some))

@@ -1,5 +1,6 @@
 -- How the marks of a line are painted, one over another.
-use Rattle.std.specs.Prelude.{◌≡◌, ◌≢◌, ℕ, ◌+◌, ◌<◌, ◌≤◌, ◌==◌, ◌&&◌, ◌||◌, nat_lt, not, max, Bool, true, List, [], ◌∷◌, All, IsPermutation, length, map, slice_index_or, if◌then◌else◌}
+use Rattle.std.specs.Prelude.{◌≡◌, ◌≢◌, ℕ, ◌+◌, ◌<◌, ◌≤◌, ◌==◌, ◌&&◌, ◌||◌, nat_lt, not, max, Bool, true, List, [], ◌∷◌, All, IsPermutation, length, map}
+use Rattle.std.specs.Prelude.{slice_index_or, if◌then◌else◌}
 use Rattle.snippet_lines.specs.Order.{ordered_by}
 use Rattle.snippet_view.specs.declared.entries.LineAnnotation.{LineAnnotation}
 use Rattle.snippet_style.specs.declared.glyphs.DecorStyle.{DecorStyle}
@@ -82,13 +83,15 @@ pub record ShowsFrom (layout : Layout) (es : List PlacedEntry) (k p : ℕ) (d : 
 -- the entries were painted into a row, each over those before it: below a column at which entry k is painted stands its mark
 -- or that of a later entry, below a column at which none is what was there, and nothing else changed
 pub record Painted (layout : Layout) (es : List PlacedEntry) (row : ℕ) (old new : List (List Cell)) : Type 0 where
-  pub marked : (k p : ℕ) (d : PlacedEntry) → k < length es → IsPaintedAt (slice_index_or es k d) p → ShowsFrom layout es k p d (cell_at new row (layout.code + p))
+  pub marked : (k p : ℕ) (d : PlacedEntry) → k < length es → IsPaintedAt (slice_index_or es k d) p
+      → ShowsFrom layout es k p d (cell_at new row (layout.code + p))
   pub unmarked : (p : ℕ) → All (λ e. IsPaintedAt e p → ⊥) es → cell_at new row (layout.code + p) ≡ cell_at old row (layout.code + p)
   pub left : (c : ℕ) → All (λ e. c < layout.code + e.entry.start.display) es → cell_at new row c ≡ cell_at old row c
   pub free : (c : ℕ) → IsFreeCell (cell_at old row c) → IsFreeCell (cell_at new row c)
   pub others : (r : ℕ) → r ≢ row → row_at new r ≡ row_at old r
   pub count : row < length old → length new ≡ length old
-  pub width : (e : PlacedEntry) → es ≡ e ∷ [] → e.entry.start.display < mark_end e → length (row_at new row) ≡ max (length (row_at old row)) (layout.code + mark_end e)
+  pub width : (e : PlacedEntry) → es ≡ e ∷ [] → e.entry.start.display < mark_end e
+      → length (row_at new row) ≡ max (length (row_at old row)) (layout.code + mark_end e)
   pub kept : es ≡ [] → length (row_at new row) ≡ length (row_at old row)
 
 -- the marks of some entries were painted in a painting order

@@ -1,5 +1,6 @@
 -- Where the labels of a line stand, and the lines that lead to bars.
-use Rattle.std.specs.Prelude.{◌≡◌, ℕ, ◌+◌, ◌-◌, ◌<◌, ◌≤◌, ◌==◌, ◌&&◌, ◌||◌, nat_le, nat_lt, not, Bool, true, false, List, [], ◌∷◌, All, IsPermutation, length, map, chars, encode_utf8_all, slice_index_or, if◌then◌else◌}
+use Rattle.std.specs.Prelude.{◌≡◌, ℕ, ◌+◌, ◌-◌, ◌<◌, ◌≤◌, ◌==◌, ◌&&◌, ◌||◌, nat_le, nat_lt, not, Bool, true, false, List, [], ◌∷◌, All, IsPermutation, length}
+use Rattle.std.specs.Prelude.{map, chars, encode_utf8_all, slice_index_or, if◌then◌else◌}
 use Rattle.std.specs.List.{list_all, list_any, zip}
 use Rattle.std.specs.declared.borrow.CowStr.TheVariants.{Borrowed}
 use Rattle.std.specs.Cow.{cow_str_bytes}

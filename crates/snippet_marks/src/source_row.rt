@@ -1,12 +1,14 @@
 //! The row that shows a line of the source.
-ghost use Rattle.std.specs.Prelude.{◌≡◌, ◌+◌, ◌^◌, ◌<◌, ◌≤◌, ◌++◌, ◌∷◌, [], IfOk, IfSome, List, OnOk, chars, false, length};
+ghost use Rattle.std.specs.Prelude.{◌≡◌, ◌+◌, ◌^◌, ◌<◌, ◌≤◌, ◌++◌, ◌∷◌, [], IfOk, IfSome, List, OnOk, chars, false};
+ghost use Rattle.std.specs.Prelude.{length};
 ghost use Rattle.snippet_style.specs.Cell.{Cell};
 ghost use Rattle.std.specs.List.{list_any};
 ghost use Rattle.snippet_view.specs.Margin.{bounds_of};
 ghost use Rattle.snippet_view.specs.Window.{dropped_part};
 ghost use Rattle.snippet_style.specs.Glyphs.{placeholder_of};
 ghost use Rattle.snippet_lines.specs.Number.{shown_number};
-ghost use Rattle.snippet_marks.specs.SourceRows.{AddsSourceRow, begun_cells, ended_cells, shown_cells, window_cells, with_cells};
+ghost use Rattle.snippet_marks.specs.SourceRows.{AddsSourceRow, begun_cells, ended_cells, shown_cells, window_cells};
+ghost use Rattle.snippet_marks.specs.SourceRows.{with_cells};
 ghost use Rattle.snippet_text.specs.Normalized.{is_listed, norm};
 ghost use Rattle.snippet_text.specs.Width.{width_of};
 

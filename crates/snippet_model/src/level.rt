@@ -1,7 +1,8 @@
 //! The level of a title or message: how severe it is, and the name that is shown for it.
-ghost use Rattle.std.specs.Prelude.{◌≡◌, true, false, Option, None, refl};
+ghost use Rattle.std.specs.Prelude.{◌≡◌, ◌↔◌, IsTrue, true, false, Option, None, refl};
 ghost use Rattle.std.specs.Option.{option_map_or};
 ghost use Rattle.snippet_model.specs.StandardName.{standard_name_of};
+ghost use Rattle.snippet_model.specs.declared.level.LevelName.TheVariants.{Standard};
 ghost use Rattle.std.specs.declared.borrow.CowStr.TheVariants.{Borrowed};
 ghost use Rattle.std.proofs.Common.{rules};
 ghost use Rattle.std.specs.Cmp.{partial_order_from_agreeing_total};
@@ -160,76 +161,23 @@ fn standard_name(kind: LevelInner) -> &'static str
 /// that its name says, shown by the name of the kind. A clause can't name constants of a type that may own text, so this
 /// stands in place of one.
 fn prove_constants() {
-    prove!(matches!(
-        &ERROR,
-        Level {
-            name: LevelName::Standard,
-            kind: LevelInner::Error
-        }
-    ));
-    prove!(matches!(
-        &WARNING,
-        Level {
-            name: LevelName::Standard,
-            kind: LevelInner::Warning
-        }
-    ));
-    prove!(matches!(
-        &INFO,
-        Level {
-            name: LevelName::Standard,
-            kind: LevelInner::Info
-        }
-    ));
-    prove!(matches!(
-        &NOTE,
-        Level {
-            name: LevelName::Standard,
-            kind: LevelInner::Note
-        }
-    ));
-    prove!(matches!(
-        &HELP,
-        Level {
-            name: LevelName::Standard,
-            kind: LevelInner::Help
-        }
-    ));
-    prove!(matches!(
-        &Level::ERROR,
-        Level {
-            name: LevelName::Standard,
-            kind: LevelInner::Error
-        }
-    ));
-    prove!(matches!(
-        &Level::WARNING,
-        Level {
-            name: LevelName::Standard,
-            kind: LevelInner::Warning
-        }
-    ));
-    prove!(matches!(
-        &Level::INFO,
-        Level {
-            name: LevelName::Standard,
-            kind: LevelInner::Info
-        }
-    ));
-    prove!(matches!(
-        &Level::NOTE,
-        Level {
-            name: LevelName::Standard,
-            kind: LevelInner::Note
-        }
-    ));
-    prove!(matches!(
-        &Level::HELP,
-        Level {
-            name: LevelName::Standard,
-            kind: LevelInner::Help
-        }
-    ));
+    prove!(is_standard(&ERROR, LevelInner::Error));
+    prove!(is_standard(&WARNING, LevelInner::Warning));
+    prove!(is_standard(&INFO, LevelInner::Info));
+    prove!(is_standard(&NOTE, LevelInner::Note));
+    prove!(is_standard(&HELP, LevelInner::Help));
+    prove!(is_standard(&Level::ERROR, LevelInner::Error));
+    prove!(is_standard(&Level::WARNING, LevelInner::Warning));
+    prove!(is_standard(&Level::INFO, LevelInner::Info));
+    prove!(is_standard(&Level::NOTE, LevelInner::Note));
+    prove!(is_standard(&Level::HELP, LevelInner::Help));
+}
+
+/// Whether a level is of this kind and shown by its standard name.
+fn is_standard(level: &Level<'_>, kind: LevelInner) -> bool
+    ensures value { IsTrue result ↔ (level.now ≡ record { name = Standard; kind = kind }) }
+{
+    matches!(&level.name, LevelName::Standard) && level.kind == kind
 }
 
 impl<'a> Level<'a> {

@@ -42,7 +42,8 @@ best-kept source marks k p a best wide wider before =
     }
 
 -- one more span that isn't marked there changes nothing
-pub best-unmarked : (source : List ℕ) (marks : List Annotation) (k p : ℕ) (a : Annotation) (best : Option Mark) → (IsMarkedAt source k p a → ⊥) → BestOf source marks k p best → BestOf source (marks ++ a ∷ []) k p best
+pub best-unmarked : (source : List ℕ) (marks : List Annotation) (k p : ℕ) (a : Annotation) (best : Option Mark) → (IsMarkedAt source k p a → ⊥)
+    → BestOf source marks k p best → BestOf source (marks ++ a ∷ []) k p best
 best-unmarked source marks k p a None off before = All-push (λ a. IsMarkedAt source k p a → ⊥) marks a before off
 best-unmarked source marks k p a (Some best) off before = best-kept source marks k p a best (λ at. absurd (off at)) (λ at. absurd (off at)) before
 
@@ -67,7 +68,8 @@ best-new source marks k p a new at width kind least wins = record {
     two_kinds kind context primary = let both : Context ≡ Primary = sym context ∙ primary in cc
 
 -- the first span that is marked there
-pub best-first : (source : List ℕ) (marks : List Annotation) (k p : ℕ) (a : Annotation) (new : Mark) → IsMarkedAt source k p a → new.width ≡ span_width source a → new.kind ≡ a.kind → All (λ a. IsMarkedAt source k p a → ⊥) marks → IsBest source (marks ++ a ∷ []) k p new
+pub best-first : (source : List ℕ) (marks : List Annotation) (k p : ℕ) (a : Annotation) (new : Mark) → IsMarkedAt source k p a → new.width ≡ span_width source a
+    → new.kind ≡ a.kind → All (λ a. IsMarkedAt source k p a → ⊥) marks → IsBest source (marks ++ a ∷ []) k p new
 best-first source marks k p a new at width kind none =
     let not : (other : Annotation) → Contains marks other → IsMarkedAt source k p other → ⊥ = λ other found. All-contains (λ a. IsMarkedAt source k p a → ⊥) marks other none found in
     best-new source marks k p a new at width kind (λ other found there. absurd (not other found there)) (λ _ other found there _. absurd (not other found there))
@@ -80,7 +82,8 @@ best-narrower source marks k p a new best at width kind narrow narrower before =
     best-new source marks k p a new at width kind (λ other found there. omega (arith, narrow, before.width, before.mark.least other found there)) (λ context other found there _. omega (arith, narrower context, before.width, before.mark.least other found there))
 
 -- one more turn
-pub best-turn : (source : List ℕ) (marks : List Annotation) (i k p : ℕ) (a : Annotation) (best : Option Mark) → i < length marks → a ≡ get_or marks i a → BestOf source (take i marks ++ a ∷ []) k p best → BestOf source (take (i + 1) marks) k p best
+pub best-turn : (source : List ℕ) (marks : List Annotation) (i k p : ℕ) (a : Annotation) (best : Option Mark) → i < length marks → a ≡ get_or marks i a
+    → BestOf source (take i marks ++ a ∷ []) k p best → BestOf source (take (i + 1) marks) k p best
 best-turn source marks i k p a best within is now =
     subst (λ marks. BestOf source marks k p best) (sym (take_more marks i a within ∙ ap (λ a. take i marks ++ a ∷ []) (sym is))) now
 
@@ -101,6 +104,7 @@ answer-none s marks i line p None result all is bests =
 answer-none s marks i line p (Some best) result all is bests = rw is tt
 
 -- what holds of a best mark holds of its kind
-pub answer-number : (best : Option Mark) (result : Option AnnotationKind) (P : Type 0) → result ≡ option_map (λ (m : Mark). m.kind) best → IfSome best (λ _. P) → IfSome result (λ _. P)
+pub answer-number : (best : Option Mark) (result : Option AnnotationKind) (P : Type 0) → result ≡ option_map (λ (m : Mark). m.kind) best → IfSome best (λ _. P)
+    → IfSome result (λ _. P)
 answer-number None result P is some = rw is tt
 answer-number (Some best) result P is some = rw is some

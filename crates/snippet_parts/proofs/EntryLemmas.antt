@@ -1,5 +1,6 @@
 -- The entries of spans, in the order made.
-use Rattle.std.proofs.Common.{None, ◌≡◌, ℕ, zero, suc, ◌+◌, ◌-◌, ◌<◌, ◌≤◌, Bool, true, false, ◌&&◌, ◌||◌, cond, not, eqb, leb, ltb, min, List, [], ◌∷◌, ◌++◌, map, length, take, drop, get_or, inl, inr, refl, sym, ap, ◌∙◌, arith}
+use Rattle.std.proofs.Common.{None, ◌≡◌, ℕ, zero, suc, ◌+◌, ◌-◌, ◌<◌, ◌≤◌, Bool, true, false, ◌&&◌, ◌||◌, cond, not, eqb, leb, ltb, min, List, [], ◌∷◌, ◌++◌}
+use Rattle.std.proofs.Common.{map, length, take, drop, get_or, inl, inr, refl, sym, ap, ◌∙◌, arith}
 use Rattle.std.specs.List.{All, filter, list_any, range_with_len}
 use Rattle.std.proofs.lemmas.Bool.{cases_Bool, cases_lt, le-leb, lt-leb, cond-true, cond-false, and_parts, both_ways, eq-eqb, false_from_ne_true}
 use Rattle.std.proofs.lemmas.List.{append_assoc, append-nil, map-append}
@@ -29,7 +30,8 @@ filter-after p u from (suc n) same past =
     cond-false (p from) (from ∷ filter p (range_with_len (from + 1) n)) (filter p (range_with_len (from + 1) n)) (sym (same from (omega arith)) ∙ lt-leb from u past) ∙ filter-after p u (from + 1) n (λ k le. same k (omega arith)) (omega arith)
 
 -- of some lines those up to a last one
-filter-upto : (p : ℕ → Bool) (u from n m : ℕ) → ((k : ℕ) → from ≤ k → leb k u ≡ p k) → u < from + n → m ≡ (u + 1) - from → filter p (range_with_len from n) ≡ range_with_len from m
+filter-upto : (p : ℕ → Bool) (u from n m : ℕ) → ((k : ℕ) → from ≤ k → leb k u ≡ p k) → u < from + n → m ≡ (u + 1) - from
+    → filter p (range_with_len from n) ≡ range_with_len from m
 filter-upto p u from zero m same within is = let e : 0 ≡ m = omega arith in ap (range_with_len from) e
 filter-upto p u from (suc n) m same within is =
     elim (cases_lt u from) [
@@ -94,7 +96,8 @@ bars-open f old now source first last u a n closing none before at count from to
     before ∙ ap (λ ps. map seen_part old ++ ps) (ap (λ x. map f (range_with_len x n)) at ∙ ap (map f) (sym (append-nil (range_with_len (first + 1) n)) ∙ ap (λ b. range_with_len (first + 1) n ++ cond b ((last - 1) ∷ []) []) (sym none) ∙ all))
 
 -- bars by equal lines
-pub same-bars : (f : ℕ → PartEntry) (old : List PartEntry) (source : List ℕ) (first last first' last' : ℕ) → first ≡ first' → last ≡ last' → old ++ map f (bar_lines source first last) ≡ old ++ map f (bar_lines source first' last')
+pub same-bars : (f : ℕ → PartEntry) (old : List PartEntry) (source : List ℕ) (first last first' last' : ℕ) → first ≡ first' → last ≡ last'
+    → old ++ map f (bar_lines source first last) ≡ old ++ map f (bar_lines source first' last')
 same-bars f old source first last first' last' a b = ap (λ x. old ++ map f (bar_lines source x last)) a ∙ ap (λ x. old ++ map f (bar_lines source first' x)) b
 
 -- a span as it is drawn fits as it did
@@ -126,7 +129,9 @@ promoted-primary before l b is there =
     ∙ there))
 
 -- a span that is neither primary nor at the place of a primary one stays as it is
-pub promoted-plain : (before : List LongSpan) (l : LongSpan) (b : Bool) → b ≡ (is_primary l.kind || list_any (λ (o : LongSpan). is_primary o.kind && same_place (long_place (seen_long l)) (long_place (seen_long o))) before) → b ≡ false → seen_long l ≡ promoted (map seen_long before) (seen_long l)
+pub promoted-plain : (before : List LongSpan) (l : LongSpan) (b : Bool)
+    → b ≡ (is_primary l.kind || list_any (λ (o : LongSpan). is_primary o.kind && same_place (long_place (seen_long l)) (long_place (seen_long o))) before)
+    → b ≡ false → seen_long l ≡ promoted (map seen_long before) (seen_long l)
 promoted-plain before l b is none =
     sym (cond-false (is_promoted (map seen_long before) (seen_long l)) (record (seen_long l)
     { kind = Primary }) (seen_long l)
@@ -162,7 +167,8 @@ parts-more s places spans i x now new all depth again e within is pushed deep am
     ∙ before
 
 -- the places of spans
-pub places-are : (places : List LongExtent) (spans : List LongSpan) → places ≡ map (λ (l : LongSpan). long_place (seen_long l)) spans → places ≡ map long_place (map seen_long spans)
+pub places-are : (places : List LongExtent) (spans : List LongSpan) → places ≡ map (λ (l : LongSpan). long_place (seen_long l)) spans
+    → places ≡ map long_place (map seen_long spans)
 places-are places spans is = is ∙ sym (map-map long_place seen_long spans)
 
 -- the depths of places are those of the spans that stand there
@@ -173,14 +179,16 @@ depths-of places spans depths is value =
     value ∙ ap (map (depth_among places)) is ∙ map-map (depth_among places) (λ (l : LongSpan). long_place (seen_long l)) spans ∙ ap (λ ps. map (λ (l : LongSpan). depth_among ps (long_place (seen_long l))) spans) (places-are places spans is)
 
 -- the places of spans that are ordered by their first lines are ordered by theirs
-pub places-ordered : (places : List LongExtent) (spans : List LongSpan) (none : LongSpan) → places ≡ map (λ (l : LongSpan). long_place (seen_long l)) spans → IsNonDecreasingBy (λ (l : LongSpan). l.start.line) spans → IsNonDecreasingBy (λ (p : LongExtent). p.first) places
+pub places-ordered : (places : List LongExtent) (spans : List LongSpan) (none : LongSpan) → places ≡ map (λ (l : LongSpan). long_place (seen_long l)) spans
+    → IsNonDecreasingBy (λ (l : LongSpan). l.start.line) spans → IsNonDecreasingBy (λ (p : LongExtent). p.first) places
 places-ordered places spans none is ordered i j d le within =
     let len : length places ≡ length spans = ap length is ∙ length-map spans (λ (l : LongSpan). long_place (seen_long l)) in
     let at : (k : ℕ) → k < length spans → get_or places k d ≡ long_place (seen_long (get_or spans k none)) = λ k below. ap (λ ps. get_or ps k d) is ∙ get_or-map (λ (l : LongSpan). long_place (seen_long l)) spans k none d below in
     omega (arith, ap (λ (p : LongExtent). p.first) (at i (omega arith)), ap (λ (p : LongExtent). p.first) (at j (omega arith)), ordered i j none le (omega arith))
 
 -- no place ends above the line on which it starts
-pub places-lines : (s : Source) (places : List LongExtent) (spans : List LongSpan) (none : LongSpan) → places ≡ map (λ (l : LongSpan). long_place (seen_long l)) spans → All (HasFit s) spans → All (λ (p : LongExtent). p.first ≤ p.last) places
+pub places-lines : (s : Source) (places : List LongExtent) (spans : List LongSpan) (none : LongSpan)
+    → places ≡ map (λ (l : LongSpan). long_place (seen_long l)) spans → All (HasFit s) spans → All (λ (p : LongExtent). p.first ≤ p.last) places
 places-lines s places spans none is fit k d within =
     let len : length places ≡ length spans = ap length is ∙ length-map spans (λ (l : LongSpan). long_place (seen_long l)) in
     let at : get_or places k d ≡ long_place (seen_long (get_or spans k none)) = ap (λ ps. get_or ps k d) is ∙ get_or-map (λ (l : LongSpan). long_place (seen_long l)) spans k none d (omega arith) in

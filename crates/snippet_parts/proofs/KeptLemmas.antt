@@ -1,7 +1,9 @@
 -- Which lines are kept.
-use Rattle.std.proofs.Common.{◌≡◌, ℕ, zero, suc, ◌+◌, ◌-◌, ◌<◌, ◌≤◌, Bool, true, false, ◌&&◌, ◌||◌, cond, not, eqb, leb, ltb, max, List, [], ◌∷◌, ◌++◌, map, length, take, set, get_or, replicate, inl, inr, ◌⊎◌, refl, sym, ap, ◌∙◌, arith}
+use Rattle.std.proofs.Common.{◌≡◌, ℕ, zero, suc, ◌+◌, ◌-◌, ◌<◌, ◌≤◌, Bool, true, false, ◌&&◌, ◌||◌, cond, not, eqb, leb, ltb, max, List, [], ◌∷◌, ◌++◌, map}
+use Rattle.std.proofs.Common.{length, take, set, get_or, replicate, inl, inr, ◌⊎◌, refl, sym, ap, ◌∙◌, arith}
 use Rattle.std.specs.List.{All, filter, list_any, range_with_len}
-use Rattle.std.proofs.lemmas.Bool.{cases_Bool, cases_lt, cases_eq, and_left, or_from, or_parts, le-leb, lt-leb, lt-ltb, le-ltb, eq-eqb, ne_eqb, or_left, or_right}
+use Rattle.std.proofs.lemmas.Bool.{cases_Bool, cases_lt, cases_eq, and_left, or_from, or_parts, le-leb, lt-leb, lt-ltb, le-ltb, eq-eqb, ne_eqb, or_left}
+use Rattle.std.proofs.lemmas.Bool.{or_right}
 use Rattle.std.proofs.lemmas.List.{append-nil, take_more, take_all, take-set-le}
 use Rattle.std.proofs.lemmas.List.Elements.{All-filter, All-weaker, filter-append, filter_agree}
 use Rattle.snippet_view.proofs.PartLemmas.{All-range}
@@ -26,7 +28,8 @@ reach-below (x ∷ xs) (suc f) (suc n) v within below more =
     omega (arith, h, greatest-cons x (take n (set xs f v)), greatest-cons x (take n xs))
 
 -- a stretch that is noted covers its lines
-pub covered-set : (reach : List ℕ) (s : Stretch) (k v : ℕ) → s.first < length reach → v ≡ max (get_or reach s.first 0) (s.last + 1) → is_covered (set reach s.first v) k ≡ (is_covered reach k || holds s k)
+pub covered-set : (reach : List ℕ) (s : Stretch) (k v : ℕ) → s.first < length reach → v ≡ max (get_or reach s.first 0) (s.last + 1)
+    → is_covered (set reach s.first v) k ≡ (is_covered reach k || holds s k)
 covered-set reach s k v within is =
     elim (cases_lt k s.first) [
       | inl before ↦
@@ -87,7 +90,8 @@ or-same true = refl
 or-same false = refl
 
 -- a span of one line, or one that isn't marked, keeps all its lines
-pub keeps-all : (f l k : ℕ) (marked bar : Bool) → (f ≡ l) ⊎ (marked ≡ false) → ((leb f k && leb k l) || (leb f k && leb k l)) ≡ (leb f k && leb k l && (eqb k f || eqb k l || not marked || bar))
+pub keeps-all : (f l k : ℕ) (marked bar : Bool) → (f ≡ l) ⊎ (marked ≡ false)
+    → ((leb f k && leb k l) || (leb f k && leb k l)) ≡ (leb f k && leb k l && (eqb k f || eqb k l || not marked || bar))
 keeps-all f l k marked bar why = or-same (leb f k && leb k l) ∙ sym (elim (cases_lt k f) [
   | inl before ↦ ap (λ b. b && leb k l && (eqb k f || eqb k l || not marked || bar)) (lt-leb f k before) ∙ sym (ap (λ b. b && leb k l) (lt-leb f k before))
   | inr from ↦ elim (cases_lt l k) [
@@ -163,7 +167,8 @@ keeps-ends f l u t k marked shown last_bar ordered from to is bars ends apart tl
         last true = refl
         last false = refl
 
-    between : (a b c d e g m x s q : Bool) → a ≡ true → d ≡ true → e ≡ false → g ≡ false → m ≡ true → x ≡ true → b ≡ s → c ≡ q → ((a && b) || (c && d)) ≡ (a && d && (e || g || not m || (x && (s || q))))
+    between : (a b c d e g m x s q : Bool) → a ≡ true → d ≡ true → e ≡ false → g ≡ false → m ≡ true → x ≡ true → b ≡ s → c ≡ q
+        → ((a && b) || (c && d)) ≡ (a && d && (e || g || not m || (x && (s || q))))
     between a b c d e g m x s q pa pd pe pg pm px pb pc =
         ap (λ z. (z && b) || (c && d)) pa ∙ ap (λ z. b || (c && z)) pd ∙ ap (λ z. b || z) (unit c) ∙ ap (λ z. z || c) pb ∙ ap (λ z. s || z) pc
         ∙ sym (ap (λ z. z && d && (e || g || not m || (x && (s || q)))) pa ∙ ap (λ z. z && (e || g || not m || (x && (s || q)))) pd ∙ ap (λ z. z || g || not m || (x && (s || q))) pe ∙ ap (λ z. z || not m || (x && (s || q))) pg ∙ ap (λ z. not z || (x && (s || q))) pm ∙ ap (λ z. z && (s || q)) px)
@@ -173,7 +178,8 @@ keeps-ends f l u t k marked shown last_bar ordered from to is bars ends apart tl
         unit false = refl
 
 -- the bar beside the line before the last
-pub last_bar-is : (l k m : ℕ) (trivial : ℕ → Bool) (closing : ℕ) (b : Bool) → 1 ≤ l → b ≡ (ltb m (l - 1) && not (trivial (l - 1))) → (b ≡ true → closing ≡ 1) → (b ≡ false → closing ≡ 0) → k + 1 ≡ l → leb (l - closing) k ≡ (eqb (k + 1) l && ltb m k && not (trivial k))
+pub last_bar-is : (l k m : ℕ) (trivial : ℕ → Bool) (closing : ℕ) (b : Bool) → 1 ≤ l → b ≡ (ltb m (l - 1) && not (trivial (l - 1))) → (b ≡ true → closing ≡ 1)
+    → (b ≡ false → closing ≡ 0) → k + 1 ≡ l → leb (l - closing) k ≡ (eqb (k + 1) l && ltb m k && not (trivial k))
 last_bar-is l k m trivial closing b some is one none' next =
     let at : l - 1 ≡ k = omega arith in
     let rest : b ≡ (ltb m k && not (trivial k)) = is ∙ ap (λ n. ltb m n && not (trivial n)) at in
@@ -205,7 +211,8 @@ covered-all p marks i n reach lent all len is so_far =
     ap (λ xs. map (is_covered xs) (range_with_len 0 (length xs))) is ∙ ap (λ m. map (is_covered reach) (range_with_len 0 m)) len ∙ map-range-agree (is_covered reach) (λ k. list_any (p k) marks) 0 n (λ k. so_far k ∙ ap (list_any (p k)) (take_all i marks all))
 
 -- where all spans are marked, none that isn't touches a line
-pub unseen : (text : List ℕ) (k : ℕ) (marks : List Annotation) → list_any (λ (a : Annotation). not (is_marking a.kind)) marks ≡ false → list_any (is_seen text k) marks ≡ false
+pub unseen : (text : List ℕ) (k : ℕ) (marks : List Annotation) → list_any (λ (a : Annotation). not (is_marking a.kind)) marks ≡ false
+    → list_any (is_seen text k) marks ≡ false
 unseen text k [] none = refl
 unseen text k (a ∷ marks) none =
     let parts = or_parts (not (is_marking a.kind)) (list_any (λ (b : Annotation). not (is_marking b.kind)) marks) none in
@@ -217,7 +224,8 @@ filter-more : (p : ℕ → Bool) (i : ℕ) → filter p (range_with_len 0 (i + 1
 filter-more p i = ap (filter p) (range-more i) ∙ filter-append p (range_with_len 0 i) (i ∷ [])
 
 -- one more line that passes a test, and one that doesn't
-pub line-kept : (p : ℕ → Bool) (i : ℕ) (now new : List ℕ) → p i ≡ true → new ≡ now ++ i ∷ [] → now ≡ filter p (range_with_len 0 i) → new ≡ filter p (range_with_len 0 (i + 1))
+pub line-kept : (p : ℕ → Bool) (i : ℕ) (now new : List ℕ) → p i ≡ true → new ≡ now ++ i ∷ [] → now ≡ filter p (range_with_len 0 i)
+    → new ≡ filter p (range_with_len 0 (i + 1))
 line-kept p i now new passes pushed before =
     pushed ∙ ap (λ ks. ks ++ i ∷ []) before ∙ sym (filter-more p i ∙ ap (λ b. filter p (range_with_len 0 i) ++ cond b (i ∷ []) []) passes)
 

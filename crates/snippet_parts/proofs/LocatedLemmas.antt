@@ -59,21 +59,25 @@ part-is s l at = ap (part_at l.annotation.now) at.locations
 -- ---- all spans
 
 -- two tests and two functions that agree on elements and what they are
-chosen : {A B C : Type 0} (P : A → Type 0) (g : A → B) (p : A → Bool) (q : B → Bool) (f : A → C) (h : B → C) → ((x : A) → P x → p x ≡ q (g x)) → ((x : A) → P x → f x ≡ h (g x)) → (xs : List A) → All P xs → map f (filter p xs) ≡ map h (filter q (map g xs))
+chosen : {A B C : Type 0} (P : A → Type 0) (g : A → B) (p : A → Bool) (q : B → Bool) (f : A → C) (h : B → C) → ((x : A) → P x → p x ≡ q (g x))
+    → ((x : A) → P x → f x ≡ h (g x)) → (xs : List A) → All P xs → map f (filter p xs) ≡ map h (filter q (map g xs))
 chosen P g p q f h same is [] all = refl
 chosen P g p q f h same is (x ∷ xs) all =
     ap (λ b. map f (cond b (x ∷ filter p xs) (filter p xs))) (same x (All-head P x xs all)) ∙ pick (q (g x)) (chosen P g p q f h same is xs (All-tail P x xs all))
   where
-    pick : (b : Bool) → map f (filter p xs) ≡ map h (filter q (map g xs)) → map f (cond b (x ∷ filter p xs) (filter p xs)) ≡ map h (cond b (g x ∷ filter q (map g xs)) (filter q (map g xs)))
+    pick : (b : Bool) → map f (filter p xs) ≡ map h (filter q (map g xs))
+        → map f (cond b (x ∷ filter p xs) (filter p xs)) ≡ map h (cond b (g x ∷ filter q (map g xs)) (filter q (map g xs)))
     pick true rest = ap (λ c. c ∷ map f (filter p xs)) (is x (All-head P x xs all)) ∙ ap (λ cs. h (g x) ∷ cs) rest
     pick false rest = rest
 
 -- the entries of spans on one line
-pub short-parts : (s : Source) (ls : List LocatedSpan) → All (IsLocated s) ls → map short_part (filter is_short_span ls) ≡ map (single_part s) (filter (is_short s.text) (annotations_of ls))
+pub short-parts : (s : Source) (ls : List LocatedSpan) → All (IsLocated s) ls
+    → map short_part (filter is_short_span ls) ≡ map (single_part s) (filter (is_short s.text) (annotations_of ls))
 short-parts s ls all = chosen (IsLocated s) (λ (l : LocatedSpan). l.annotation.now) is_short_span (is_short s.text) short_part (single_part s) (short-is s) (part-is s) ls all
 
 -- spans of several lines, in their order
-pub long-are : (s : Source) (ls : List LocatedSpan) → All (IsLocated s) ls → ordered_by stands_before (map span_entry (filter is_long_span ls)) ≡ long_spans s (annotations_of ls)
+pub long-are : (s : Source) (ls : List LocatedSpan) → All (IsLocated s) ls
+    → ordered_by stands_before (map span_entry (filter is_long_span ls)) ≡ long_spans s (annotations_of ls)
 long-are s ls all = ap (ordered_by stands_before) (chosen (IsLocated s) (λ (l : LocatedSpan). l.annotation.now) is_long_span (is_long s.text) span_entry (long_entry s) (long-is s) (entry-is s) ls all)
 
 -- a span of several lines has room where what is seen of it has
@@ -91,10 +95,12 @@ all-fit : (s : Source) (ls : List LocatedSpan) → All (IsLocated s) ls → All 
 all-fit s [] all = All-nil (Fits s)
 all-fit s (x ∷ ls) all = pick (is_long_span x) refl (all-fit s ls (All-tail (IsLocated s) x ls all))
   where
-    pick : (b : Bool) → is_long_span x ≡ b → All (Fits s) (map span_entry (filter is_long_span ls)) → All (Fits s) (map span_entry (cond b (x ∷ filter is_long_span ls) (filter is_long_span ls)))
+    pick : (b : Bool) → is_long_span x ≡ b → All (Fits s) (map span_entry (filter is_long_span ls))
+        → All (Fits s) (map span_entry (cond b (x ∷ filter is_long_span ls) (filter is_long_span ls)))
     pick true long rest = All-cons (Fits s) (span_entry x) (map span_entry (filter is_long_span ls)) (fits s x (All-head (IsLocated s) x ls all) long) rest
     pick false long rest = rest
 
 -- spans of several lines, as they are given to the bars, fit their source
-pub given-fit : (s : Source) (ls : List LocatedSpan) (spans : List LongSpan) → map seen_long spans ≡ map span_entry (filter is_long_span ls) → All (IsLocated s) ls → All (HasFit s) spans
+pub given-fit : (s : Source) (ls : List LocatedSpan) (spans : List LongSpan) → map seen_long spans ≡ map span_entry (filter is_long_span ls)
+    → All (IsLocated s) ls → All (HasFit s) spans
 given-fit s ls spans is all = All-weaker (λ (l : LongSpan). Fits s (seen_long l)) (HasFit s) (λ l fit. fit l refl) spans (All-unmapped (Fits s) seen_long spans (subst (All (Fits s)) (sym is) (all-fit s ls all)))

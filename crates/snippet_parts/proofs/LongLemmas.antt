@@ -51,7 +51,8 @@ long-lines s a ordered long =
     below m n le apart = elim (cases_lt m n) [ inl less ↦ less | inr more ↦ absurd (apart (omega arith)) ]
 
 -- a span of several lines whose columns are small enough has room
-pub fit-long : (s : Source) (a : Annotation) (l : LongSpan) → a.span.start ≤ a.span.end → seen_long l ≡ long_entry s a → l.start.display < 2 ^ 58 → l.end.display ≤ 2 ^ 58 → l.start.char ≤ 2 ^ 56 → is_long s.text a ≡ true → HasFit s l
+pub fit-long : (s : Source) (a : Annotation) (l : LongSpan) → a.span.start ≤ a.span.end → seen_long l ≡ long_entry s a → l.start.display < 2 ^ 58
+    → l.end.display ≤ 2 ^ 58 → l.start.char ≤ 2 ^ 56 → is_long s.text a ≡ true → HasFit s l
 fit-long s a l ordered seen display end char long =
     record {
       display = display;
@@ -66,7 +67,8 @@ fit-long s a l ordered seen display end char long =
     }
 
 -- the order of the code's spans is that of what is seen of them
-pub long_spans-is : (given sorted : List LongSpan) (es : List Entry) → sorted ≡ ordered_by long_before given → map seen_long given ≡ es → map seen_long sorted ≡ ordered_by stands_before es
+pub long_spans-is : (given sorted : List LongSpan) (es : List Entry) → sorted ≡ ordered_by long_before given → map seen_long given ≡ es
+    → map seen_long sorted ≡ ordered_by stands_before es
 long_spans-is given sorted es is seen = ap (map seen_long) is ∙ map-ordered_by seen_long stands_before given ∙ ap (ordered_by stands_before) seen
 
 -- spans in their order are ordered by the lines on which they start

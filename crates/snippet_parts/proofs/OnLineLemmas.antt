@@ -1,5 +1,6 @@
 -- What stands on a line that is kept: of each span that begins or ends there an entry.
-use Rattle.std.proofs.Common.{◌≡◌, ℕ, ◌+◌, ◌-◌, ◌⊎◌, Bool, true, false, ◌||◌, not, eqb, leb, List, [], ◌∷◌, ◌++◌, map, length, get_or, inl, inr, refl, sym, ap, subst, ◌∙◌, arith}
+use Rattle.std.proofs.Common.{◌≡◌, ℕ, ◌+◌, ◌-◌, ◌⊎◌, Bool, true, false, ◌||◌, not, eqb, leb, List, [], ◌∷◌, ◌++◌, map, length, get_or, inl, inr, refl, sym, ap}
+use Rattle.std.proofs.Common.{subst, ◌∙◌, arith}
 use Rattle.std.specs.List.{All, Contains, filter, list_any}
 use Rattle.std.proofs.lemmas.Bool.{and_parts, cases_Bool, cond_both, eqb-true, eq-eqb, leb-true}
 use Rattle.std.proofs.lemmas.List.{get_or-map, length-map}
@@ -11,8 +12,10 @@ use Rattle.snippet_view.specs.declared.depths.LongExtent.{LongExtent}
 use Rattle.snippet_view.specs.declared.entries.AnnotatedLineInfo.{AnnotatedLineInfo}
 use Rattle.snippet_view.specs.declared.entries.LineAnnotationType.TheVariants.{Singleline, MultilineStart, MultilineEnd}
 use Rattle.snippet_lines.specs.declared.place.Loc.{Loc}
-use Rattle.snippet_view.specs.Annotated.{PartEntry, seen_part, KeptLine, seen_kept, kept_line, annotated_lines, is_short, is_long, long_entry, long_place, long_places, long_spans}
-use Rattle.snippet_view.specs.Annotated.{long_parts, stands_before, stands_among, depth_of, single_part, start_part, bar_part, end_part, bar_lines, span_parts, parts_on, promoted, is_promoted}
+use Rattle.snippet_view.specs.Annotated.{PartEntry, seen_part, KeptLine, seen_kept, kept_line, annotated_lines, is_short, is_long, long_entry, long_place}
+use Rattle.snippet_view.specs.Annotated.{long_places, long_spans}
+use Rattle.snippet_view.specs.Annotated.{long_parts, stands_before, stands_among, depth_of, single_part, start_part, bar_part, end_part, bar_lines, span_parts}
+use Rattle.snippet_view.specs.Annotated.{parts_on, promoted, is_promoted}
 use Rattle.snippet_lines.specs.Order.{put_in, ordered_by}
 use Rattle.snippet_view.specs.Depths.{depth_among, same_place}
 use Rattle.snippet_view.specs.Entries.{Ascends}
@@ -68,7 +71,8 @@ contains-order before z (x ∷ xs) among =
     ]
 
 -- each span of several lines stands in their order
-long-among : (s : Source) (marks : List Annotation) (a : Annotation) → Contains marks a → is_long s.text a ≡ true → Contains (long_spans s marks) (long_entry s a)
+long-among : (s : Source) (marks : List Annotation) (a : Annotation) → Contains marks a → is_long s.text a ≡ true
+    → Contains (long_spans s marks) (long_entry s a)
 long-among s marks a among long =
     contains-order stands_before (long_entry s a) (map (long_entry s) (filter (is_long s.text) marks)) (contains-map (long_entry s) a (filter (is_long s.text) marks) (contains-filter (is_long s.text) a marks long among))
 
@@ -156,7 +160,9 @@ span-says s depth false e = (
 -- ---- the entries of all spans of several lines
 
 -- the last span of a place begins it and closes it
-bounds-among : (s : Source) (places : List LongExtent) (before es : List Entry) (e : Entry) → All (IsPlaced s) es → IsPlaced s e → list_any (λ d. same_place (long_place e) (long_place d)) es ≡ true → HasBounds e.start e.end (depth_among places (long_place e)) (long_parts s places before es)
+bounds-among : (s : Source) (places : List LongExtent) (before es : List Entry) (e : Entry) → All (IsPlaced s) es → IsPlaced s e
+    → list_any (λ d. same_place (long_place e) (long_place d)) es ≡ true
+    → HasBounds e.start e.end (depth_among places (long_place e)) (long_parts s places before es)
 bounds-among s places before [] e all placed among = cc
 bounds-among s places before (d ∷ later) e all placed among =
     let depth : ℕ = depth_among places (long_place d) in
@@ -189,7 +195,8 @@ bounds-among s places before (d ∷ later) e all placed among =
     or_not false b t f = cc
 
 -- each span has an entry with its label
-says-among : (s : Source) (places : List LongExtent) (before es : List Entry) (e : Entry) → Contains es e → (p : PartEntry) × Contains (long_parts s places before es) p × SaysOf e (depth_among places (long_place e)) p
+says-among : (s : Source) (places : List LongExtent) (before es : List Entry) (e : Entry) → Contains es e
+    → (p : PartEntry) × Contains (long_parts s places before es) p × SaysOf e (depth_among places (long_place e)) p
 says-among s places before [] e among = absurd (omega (arith, among.1))
 says-among s places before (d ∷ later) e among =
     let own : List PartEntry = span_parts s (depth_among places (long_place d)) (stands_among d later) (promoted before d) in
@@ -213,13 +220,15 @@ all-longs : Source → List Annotation → List PartEntry
 all-longs s marks = long_parts s (long_places s marks) [] (long_spans s marks)
 
 -- an entry of these that stands on line k is among the line's others
-others-among : (s : Source) (marks : List Annotation) (k n : ℕ) (p : PartEntry) → Contains (all-longs s marks) p → p.entry.start.line ≡ s.first + n → n ≡ k → Contains (filter (on_line s k) (all-longs s marks)) p
+others-among : (s : Source) (marks : List Annotation) (k n : ℕ) (p : PartEntry) → Contains (all-longs s marks) p → p.entry.start.line ≡ s.first + n → n ≡ k
+    → Contains (filter (on_line s k) (all-longs s marks)) p
 unfolding on_line
 others-among s marks k n p among line here =
     contains-filter (on_line s k) p (all-longs s marks) (eq-eqb p.entry.start.line (s.first + k) (line ∙ ap (λ m. s.first + m) here)) among
 
 -- the entries that are made for line k
-pub parts-on-line : (s : Source) (marks : List Annotation) (k : ℕ) → All (λ a. IsSpan s.text a.span.start a.span.end) marks → AreEntriesOn s marks k (parts_on s marks k)
+pub parts-on-line : (s : Source) (marks : List Annotation) (k : ℕ) → All (λ a. IsSpan s.text a.span.start a.span.end) marks
+    → AreEntriesOn s marks k (parts_on s marks k)
 unfolding all-longs on_line
 parts-on-line s marks k spans = record {
   others = filter (on_line s k) (all-longs s marks);
@@ -240,7 +249,8 @@ parts-on-line s marks k spans = record {
     all-placed =
         All-order stands_before (IsPlaced s) (map (long_entry s) (filter (is_long s.text) marks)) (All-map (IsPlaced s) (long_entry s) (filter (is_long s.text) marks) (λ i d within. long-placed s (get_or (filter (is_long s.text) marks) i d)))
 
-    bounds : (a : Annotation) → Contains marks a → is_long s.text a ≡ true → HasBounds (long_entry s a).start (long_entry s a).end (depth_of s marks a) (all-longs s marks)
+    bounds : (a : Annotation) → Contains marks a → is_long s.text a ≡ true
+        → HasBounds (long_entry s a).start (long_entry s a).end (depth_of s marks a) (all-longs s marks)
     bounds a among long =
         let e : Entry = long_entry s a in
         bounds-among s (long_places s marks) [] (long_spans s marks) e all-placed (long-placed s a) (any-member (λ d. same_place (long_place e) (long_place d)) (long_spans s marks) e (long-among s marks a among long) (same-refl (long_place e)))
@@ -299,7 +309,8 @@ module _ (fold : Bool) (s : Source) (marks : List Annotation) (infos : List Anno
     lines-entries =
         each-line (λ info. AreEntriesOn s marks (info.line_index - s.first) (map seen_part info.annotations.items)) s marks (kept_lines fold s.text marks) infos lines (λ i d within info seen. on (get_or (kept_lines fold s.text marks) i d) info seen)
       where
-        on : (k : ℕ) (info : AnnotatedLineInfo) → seen_kept info ≡ kept_line s marks k → AreEntriesOn s marks (info.line_index - s.first) (map seen_part info.annotations.items)
+        on : (k : ℕ) (info : AnnotatedLineInfo) → seen_kept info ≡ kept_line s marks k
+            → AreEntriesOn s marks (info.line_index - s.first) (map seen_part info.annotations.items)
         on k info seen =
             let at : info.line_index ≡ s.first + k = ap (λ (l : KeptLine). l.number) seen in
             let is : k ≡ info.line_index - s.first = omega arith in

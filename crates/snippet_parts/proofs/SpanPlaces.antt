@@ -42,7 +42,8 @@ module _ (s : Source) (start end steps : ℕ) (at last : Loc) (some : (start == 
       both last (last_is ∙ sym (no_further (location_of s end)) ∙ ap (next_column (location_of s end)) (sym none))
 
   -- it ends on another line, so far after that line's text
-  pub span_below : (further : ℕ) → further ≡ steps_after_text s.text end → (at.line == last.line) ≡ false → ◌≡◌ {A = Loc × Loc} (next_char at steps, next_column last further) (locations_of s start end)
+  pub span_below : (further : ℕ) → further ≡ steps_after_text s.text end → (at.line == last.line) ≡ false
+      → ◌≡◌ {A = Loc × Loc} (next_char at steps, next_column last further) (locations_of s start end)
   unfolding end_location
   span_below further further_is other =
       let lines : ((location_of s start).line == (location_of s end).line) ≡ false = ap (λ (l : Loc). (l.line == (location_of s end).line)) (sym at_is) ∙ ap (λ (l : Loc). (at.line == l.line)) (sym last_is) ∙ other in

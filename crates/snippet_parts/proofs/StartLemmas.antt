@@ -1,5 +1,6 @@
 -- Where the lines of a source start: at its first byte, and after each line feed that doesn't end it.
-use Rattle.std.proofs.Common.{◌≡◌, ℕ, zero, suc, ◌+◌, ◌-◌, ◌<◌, ◌≤◌, cond, eqb, ltb, List, [], ◌∷◌, ◌++◌, length, drop, get_or, refl, sym, ap, subst, ◌∙◌, ⊎_elim, arith}
+use Rattle.std.proofs.Common.{◌≡◌, ℕ, zero, suc, ◌+◌, ◌-◌, ◌<◌, ◌≤◌, cond, eqb, ltb, List, [], ◌∷◌, ◌++◌, length, drop, get_or, refl, sym, ap, subst, ◌∙◌}
+use Rattle.std.proofs.Common.{⊎_elim, arith}
 use Rattle.std.proofs.lemmas.List.{append_assoc, length-append, drop_more, drop_all, nil_from_length}
 use Rattle.std.proofs.lemmas.Bool.{cases_lt, cond_both, cond-true, cond-false, lt-ltb, le-ltb}
 use Rattle.memchr.specs.Find.{is_byte, places, places_from}
@@ -64,13 +65,15 @@ starts_from-source (b ∷ bs) =
     starts_from-feeds 0 b bs ∙ ap (λ n. 0 ∷ starts_after n (feeds 0 (b ∷ bs))) end ∙ sym (ap (λ ps. 0 ∷ starts_after (length (b ∷ bs)) ps) found)
 
 -- one more line feed: what starts after it, if anything does
-pub starts_after-some : (end p : ℕ) (rest starts more left all : List ℕ) → left ≡ p ∷ rest → p + 1 < end → more ≡ starts ++ (p + 1) ∷ [] → starts ++ starts_after end left ≡ all → more ++ starts_after end rest ≡ all
+pub starts_after-some : (end p : ℕ) (rest starts more left all : List ℕ) → left ≡ p ∷ rest → p + 1 < end → more ≡ starts ++ (p + 1) ∷ []
+    → starts ++ starts_after end left ≡ all → more ++ starts_after end rest ≡ all
 starts_after-some end p rest starts more left all left_is inside more_is before =
     let here : starts_after end left ≡ (p + 1) ∷ starts_after end rest = ap (starts_after end) left_is ∙ cond-true (ltb (p + 1) end) ((p + 1) ∷ starts_after end rest) (starts_after end rest) (lt-ltb (p + 1) end inside) in
     ap (λ ss. ss ++ starts_after end rest) more_is ∙ append_assoc starts ((p + 1) ∷ []) (starts_after end rest) ∙ sym (ap (λ ss. starts ++ ss) here) ∙ before
 
 -- a line feed that ends the source starts no line after it
-pub starts_after-none : (end p : ℕ) (rest starts left all : List ℕ) → left ≡ p ∷ rest → end ≤ p + 1 → starts ++ starts_after end left ≡ all → starts ++ starts_after end rest ≡ all
+pub starts_after-none : (end p : ℕ) (rest starts left all : List ℕ) → left ≡ p ∷ rest → end ≤ p + 1 → starts ++ starts_after end left ≡ all
+    → starts ++ starts_after end rest ≡ all
 starts_after-none end p rest starts left all left_is outside before =
     let here : starts_after end left ≡ starts_after end rest = ap (starts_after end) left_is ∙ cond-false (ltb (p + 1) end) ((p + 1) ∷ starts_after end rest) (starts_after end rest) (le-ltb (p + 1) end outside) in
     sym (ap (λ ss. starts ++ ss) here) ∙ before

@@ -1,5 +1,6 @@
 -- What the table of a source's lines says of each of them.
-use Rattle.std.proofs.Common.{◌≡◌, ℕ, zero, suc, ◌+◌, ◌-◌, ◌<◌, ◌≤◌, true, false, ◌&&◌, cond, leb, ltb, min, take, Some, None, List, [], ◌∷◌, ◌++◌, map, length, get_or, refl, sym, ap, subst, ◌∙◌, arith}
+use Rattle.std.proofs.Common.{◌≡◌, ℕ, zero, suc, ◌+◌, ◌-◌, ◌<◌, ◌≤◌, true, false, ◌&&◌, cond, leb, ltb, min, take, Some, None, List, [], ◌∷◌, ◌++◌, map, length}
+use Rattle.std.proofs.Common.{get_or, refl, sym, ap, subst, ◌∙◌, arith}
 use Rattle.std.proofs.lemmas.List.{map_push}
 use Rattle.std.proofs.lemmas.Bool.{leb-true, leb-false, le-leb, lt-ltb, le-ltb, and_from, and_right, cond-true, cond-false}
 use Rattle.std.specs.List.{HoldsAt, range_with_len}
@@ -16,7 +17,8 @@ use Rattle.snippet_parts.specs.LineTable.{LineEntry, entry_of, entry_at, starts_
 use Rattle.snippet_lines.proofs.LinesLemmas.{start_of-zero, start_of-cons, start_of-end, start_of-le, joined-source_lines, length-source_lines, text_at-stands}
 use Rattle.snippet_lines.proofs.PlaceLemmas.{line_of-is, line_of-within, HoldsByte-source, text_at-end, IsCharBoundary-prefix}
 
-same_entry : (text : List ℕ) (number start next number' start' next' : ℕ) → number ≡ number' → start ≡ start' → next ≡ next' → ◌≡◌ {A = LineEntry} (record { text = text; number = number; start = start; next = next }) (record { text = text; number = number'; start = start'; next = next' })
+same_entry : (text : List ℕ) (number start next number' start' next' : ℕ) → number ≡ number' → start ≡ start' → next ≡ next'
+    → ◌≡◌ {A = LineEntry} (record { text = text; number = number; start = start; next = next }) (record { text = text; number = number'; start = start'; next = next' })
 same_entry text number start next number' start' next' a b c = cc
 
 -- where the k-th line starts
@@ -47,7 +49,8 @@ module _ (source starts : List ℕ) (table : starts ≡ starts_from 0 (source_li
   table-end k after = start_of-end (source_lines source) k (omega (arith, length-table)) ∙ ap length (joined-source_lines source)
 
 -- the entry of a line by its parts
-pub entry_at-is : (info : LineInfo) (first : ℕ) (ls : List Line) (k : ℕ) → info.line.now ≡ text_at ls k → info.line_index ≡ first + k → info.start_byte ≡ start_of ls k → info.end_byte ≡ start_of ls (k + 1) → entry_of info ≡ entry_at first ls k
+pub entry_at-is : (info : LineInfo) (first : ℕ) (ls : List Line) (k : ℕ) → info.line.now ≡ text_at ls k → info.line_index ≡ first + k
+    → info.start_byte ≡ start_of ls k → info.end_byte ≡ start_of ls (k + 1) → entry_of info ≡ entry_at first ls k
 entry_at-is info first ls k text number start next =
     ap (λ t. record { text = t; number = info.line_index; start = info.start_byte; next = info.end_byte }) text ∙ same_entry (text_at ls k) info.line_index info.start_byte info.end_byte (first + k) (start_of ls k) (start_of ls (k + 1)) number start next
 
@@ -77,7 +80,8 @@ pub parted-from : (starts : List ℕ) (byte i : ℕ) → 1 ≤ i → IsParted st
 parted-from starts byte i some parted = λ d. leb-true (get_or starts (i - 1) d) byte (parted.0 (i - 1) d (omega arith) (omega arith))
 
 -- the line after that starts right of the byte
-pub parted-to : (starts : List ℕ) (byte i : ℕ) → 1 ≤ i → IsParted starts byte i → (i - 1) + 1 < length starts → HoldsAt (λ (start : ℕ). byte < start) starts ((i - 1) + 1)
+pub parted-to : (starts : List ℕ) (byte i : ℕ) → 1 ≤ i → IsParted starts byte i → (i - 1) + 1 < length starts
+    → HoldsAt (λ (start : ℕ). byte < start) starts ((i - 1) + 1)
 parted-to starts byte i some parted within = λ d. leb-false (get_or starts ((i - 1) + 1) d) byte (parted.1 ((i - 1) + 1) d (omega arith) within)
 
 module _ (source starts : List ℕ) (table : starts ≡ starts_from 0 (source_lines source)) where
@@ -95,7 +99,8 @@ module _ (source starts : List ℕ) (table : starts ≡ starts_from 0 (source_li
   table-first byte = λ d. omega (arith, table-start source starts table 0 d table-some, start_of-zero (source_lines source))
 
   -- the last line that starts at a byte or before it holds the byte
-  pub table-holding : (byte k : ℕ) → k < length starts → HoldsAt (λ (start : ℕ). start ≤ byte) starts k → (k + 1 < length starts → HoldsAt (λ (start : ℕ). byte < start) starts (k + 1)) → k ≡ line_of (source_lines source) byte
+  pub table-holding : (byte k : ℕ) → k < length starts → HoldsAt (λ (start : ℕ). start ≤ byte) starts k
+      → (k + 1 < length starts → HoldsAt (λ (start : ℕ). byte < start) starts (k + 1)) → k ≡ line_of (source_lines source) byte
   table-holding byte k within from to =
       let ls : List Line = source_lines source in
       let same : length starts ≡ length ls = length-table source starts table in
@@ -128,10 +133,12 @@ line_at-none s number index index_is after =
 
 -- ---- the location of a byte, by the entry of its line
 
-same_parts : (line char display byte line' char' display' byte' : ℕ) → line ≡ line' → char ≡ char' → display ≡ display' → byte ≡ byte' → ◌≡◌ {A = Loc} (record { line = line; char = char; display = display; byte = byte }) (record { line = line'; char = char'; display = display'; byte = byte' })
+same_parts : (line char display byte line' char' display' byte' : ℕ) → line ≡ line' → char ≡ char' → display ≡ display' → byte ≡ byte'
+    → ◌≡◌ {A = Loc} (record { line = line; char = char; display = display; byte = byte }) (record { line = line'; char = char'; display = display'; byte = byte' })
 same_parts line char display byte line' char' display' byte' a b c d = cc
 
-same_location : (location : Loc) (line char display byte : ℕ) → location.line ≡ line → location.char ≡ char → location.display ≡ display → location.byte ≡ byte → ◌≡◌ {A = Loc} location (record { line = line; char = char; display = display; byte = byte })
+same_location : (location : Loc) (line char display byte : ℕ) → location.line ≡ line → location.char ≡ char → location.display ≡ display → location.byte ≡ byte
+    → ◌≡◌ {A = Loc} location (record { line = line; char = char; display = display; byte = byte })
 same_location location line char display byte a b c d =
     same_parts location.line location.char location.display location.byte line char display byte a b c d
 
@@ -182,7 +189,8 @@ module _ (s : Source) (byte : ℕ) (info : LineInfo) (entry : entry_of info ≡ 
   located-display location is = ap (λ (l : Loc). l.display) is ∙ ap (λ bs. width_of (chars bs)) (sym before-byte)
 
   -- the location of a byte is made of its line and of what stands before it there
-  pub located-is : (location : Loc) → location.line ≡ info.line_index → location.char ≡ length (chars (take (byte - info.start_byte) info.line.now)) → location.display ≡ width_of (chars (take (byte - info.start_byte) info.line.now)) → location.byte ≡ byte → location ≡ location_of s byte
+  pub located-is : (location : Loc) → location.line ≡ info.line_index → location.char ≡ length (chars (take (byte - info.start_byte) info.line.now))
+      → location.display ≡ width_of (chars (take (byte - info.start_byte) info.line.now)) → location.byte ≡ byte → location ≡ location_of s byte
   unfolding location_of place_of
   located-is location line char display at =
       let k : ℕ = line_of (source_lines s.text) byte in

@@ -1,5 +1,6 @@
 //! Which lines of a snippet are kept. Lines count from 0.
-ghost use Rattle.std.specs.Prelude.{◌≡◌, ℕ, ◌+◌, ◌<◌, ◌≤◌, ◌||◌, nat_lt, false, not, slice_index_or, All, filter, length, map, max, IfOk};
+ghost use Rattle.std.specs.Prelude.{◌≡◌, ℕ, ◌+◌, ◌<◌, ◌≤◌, ◌||◌, nat_lt, false, not, slice_index_or, All, filter};
+ghost use Rattle.std.specs.Prelude.{length, map, max, IfOk};
 ghost use Rattle.std.specs.List.{list_any, range_with_len};
 ghost use Rattle.snippet_view.specs.Kept as kept;
 ghost use Rattle.snippet_view.specs.Kept.{keeps};

@@ -1,9 +1,11 @@
 //! A source whose lines are known by number and by byte.
-ghost use Rattle.std.specs.Prelude.{◌≡◌, ◌↔◌, ℕ, List, [], ◌+◌, ◌-◌, ◌^◌, ◌<◌, ◌≤◌, true, All, Contains, map, length, IfOk, IfSome, IsNone};
+ghost use Rattle.std.specs.Prelude.{◌≡◌, ◌↔◌, ℕ, List, [], ◌+◌, ◌-◌, ◌^◌, ◌<◌, ◌≤◌, true, All, Contains, map, length};
+ghost use Rattle.std.specs.Prelude.{IfOk, IfSome, IsNone};
 ghost use Rattle.std.specs.Option.{option_copied};
 ghost use Rattle.std.specs.List.{HoldsAt, list_any};
 ghost use Rattle.std.specs.List.Sorted.{IsNonDecreasingBy};
-ghost use Rattle.snippet_lines.specs.Lines.{Line, AreLinesOf, line_at, source_lines, text_at, start_of, newline_count, StandsAt};
+ghost use Rattle.snippet_lines.specs.Lines.{Line, AreLinesOf, line_at, source_lines, text_at, start_of, newline_count};
+ghost use Rattle.snippet_lines.specs.Lines.{StandsAt};
 ghost use Rattle.snippet_parts.specs.LineTable.{entry_of, entry_at, starts_from, touched_entries};
 ghost use Rattle.snippet_lines.specs.Place.{line_of, location_of, steps_after_text, locations_of};
 ghost use Rattle.snippet_lines.specs.Span.{IsSpan, IsSpanBorder};

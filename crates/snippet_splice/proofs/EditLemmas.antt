@@ -1,5 +1,6 @@
 -- Laws of trimmed edits and of the patched source.
-use Rattle.std.proofs.Common.{◌≡◌, ℕ, ◌+◌, ◌-◌, ◌≤◌, ◌&&◌, ltb, leb, Option, Some, None, List, [], ◌∷◌, ◌++◌, length, map, take, drop, refl, sym, ap, ◌∙◌, arith, append_assoc}
+use Rattle.std.proofs.Common.{◌≡◌, ℕ, ◌+◌, ◌-◌, ◌≤◌, ◌&&◌, ltb, leb, Option, Some, None, List, [], ◌∷◌, ◌++◌, length, map, take, drop, refl, sym, ap, ◌∙◌}
+use Rattle.std.proofs.Common.{arith, append_assoc}
 use Rattle.std.proofs.lemmas.List.{append-nil, length-take-le, length-drop, take-append-drop, take-take, drop-drop, drop-take}
 use Rattle.std.proofs.lemmas.Bool.{cond_both, and_parts, leb-true}
 use Rattle.std.specs.List.{slice_range}
@@ -47,7 +48,8 @@ unchanged source e ordered = record {
     nothing-around a b t = sym (ap (λ l. l ++ (t ++ slice_range source b b)) (nothing a) ∙ ap (λ l. t ++ l) (nothing b) ∙ append-nil t)
 
 -- what is kept of a replaced text: the parts of it before and after
-pub shrunk-by : (source : List ℕ) (e : Edit) (a : ℕ) (m : List ℕ) (b : ℕ) → e.start ≤ e.end → e.end ≤ length source → IsSandwiched (slice_range source e.start e.end) e.text a m b → IsShrunk source e (shrunk e (Some (a, m, b)))
+pub shrunk-by : (source : List ℕ) (e : Edit) (a : ℕ) (m : List ℕ) (b : ℕ) → e.start ≤ e.end → e.end ≤ length source
+    → IsSandwiched (slice_range source e.start e.end) e.text a m b → IsShrunk source e (shrunk e (Some (a, m, b)))
 shrunk-by source e a m b ordered within h =
     let o : List ℕ = slice_range source e.start e.end in
     let size : length o ≡ e.end - e.start = length-take-le (e.end - e.start) (drop e.start source) (omega (arith, length-drop e.start source)) in
@@ -78,7 +80,8 @@ trimmed_edit-shrunk source e ordered =
 -- ---- the patched source
 
 -- from an earlier byte on: the source between comes first
-pub edited_from-earlier : (source : List ℕ) (a b : ℕ) (es : List Edit) → a ≤ b → AreApart b es → edited_from source a es ≡ slice_range source a b ++ edited_from source b es
+pub edited_from-earlier : (source : List ℕ) (a b : ℕ) (es : List Edit) → a ≤ b → AreApart b es
+    → edited_from source a es ≡ slice_range source a b ++ edited_from source b es
 edited_from-earlier source a b [] low apart = drop_split source a b low
 edited_from-earlier source a b (e ∷ es) low apart =
     ap (λ l. l ++ (e.text ++ edited_from source e.end es)) (slice_split source a b e.start low apart.0) ∙ append_assoc (slice_range source a b) (slice_range source b e.start) (e.text ++ edited_from source e.end es)
@@ -96,7 +99,8 @@ trimmed-apart source at (e ∷ es) apart =
     (omega (arith, h.start, apart.0), h.ordered, AreApart-earlier (trimmed_edit source e).end e.end (map (trimmed_edit source) es) h.end (trimmed-apart source e.end es apart.2))
 
 -- trimmed edits give what the untrimmed ones do
-pub edited_from-trimmed : (source : List ℕ) (at : ℕ) (es : List Edit) → AreApart at es → edited_from source at (map (trimmed_edit source) es) ≡ edited_from source at es
+pub edited_from-trimmed : (source : List ℕ) (at : ℕ) (es : List Edit) → AreApart at es
+    → edited_from source at (map (trimmed_edit source) es) ≡ edited_from source at es
 edited_from-trimmed source at [] apart = refl
 edited_from-trimmed source at (e ∷ es) apart =
     let t : Edit = trimmed_edit source e in

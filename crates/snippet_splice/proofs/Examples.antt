@@ -143,5 +143,6 @@ unfolding num_replaced_lines trimmed_edit sandwich kept_before start_of line_of
 one_replaced = refl
 
 -- so no list, or one alone, is not what they have
-pub one_line_opened : (lines : List (Vec SubstitutionHighlight Global)) → length lines ≤ 1 → length lines ≡ num_shown_lines false (97 ∷ 98 ∷ []) (edit 1 1 (120 ∷ 10 ∷ 121 ∷ []) ∷ []) → ⊥
+pub one_line_opened : (lines : List (Vec SubstitutionHighlight Global)) → length lines ≤ 1
+    → length lines ≡ num_shown_lines false (97 ∷ 98 ∷ []) (edit 1 1 (120 ∷ 10 ∷ 121 ∷ []) ∷ []) → ⊥
 one_line_opened lines few is = omega (arith, lines_of_two, few, is)

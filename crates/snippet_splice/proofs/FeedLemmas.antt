@@ -1,5 +1,6 @@
 -- How many LF, and so how many lines, the text that is shown has at most.
-use Rattle.std.proofs.Common.{◌≡◌, ℕ, zero, suc, ◌+◌, ◌-◌, ◌<◌, ◌≤◌, Bool, true, false, cond, ◌&&◌, eqb, ltb, min, List, [], ◌∷◌, ◌++◌, length, map, take, drop, get_or, refl, sym, ap, ◌∙◌, arith}
+use Rattle.std.proofs.Common.{◌≡◌, ℕ, zero, suc, ◌+◌, ◌-◌, ◌<◌, ◌≤◌, Bool, true, false, cond, ◌&&◌, eqb, ltb, min, List, [], ◌∷◌, ◌++◌, length, map, take, drop}
+use Rattle.std.proofs.Common.{get_or, refl, sym, ap, ◌∙◌, arith}
 use Rattle.std.proofs.lemmas.Bool.{and_parts, cond_both, eqb-true, ltb-true}
 use Rattle.std.proofs.lemmas.List.{take-append-drop}
 use Rattle.std.proofs.lemmas.List.Sums.{sum_by-cons, sum_by_more}
@@ -107,7 +108,8 @@ text_feeds-in_order (e ∷ es) =
 
 -- ---- the LF of what is written
 
-written-feeds : (source : List ℕ) (at : ℕ) (ts : List Edit) → AreApart at ts → feeds (take (in_text source at) source) + feeds (written source at ts) ≤ feeds (take (in_text source (end_from at ts)) source) + text_feeds ts
+written-feeds : (source : List ℕ) (at : ℕ) (ts : List Edit) → AreApart at ts
+    → feeds (take (in_text source at) source) + feeds (written source at ts) ≤ feeds (take (in_text source (end_from at ts)) source) + text_feeds ts
 written-feeds source at [] apart = omega arith
 written-feeds source at (t ∷ ts) apart =
     let rest : List ℕ = written source t.end ts in
@@ -130,7 +132,8 @@ final-feeds text =
 
 -- the lines that are shown, and those of the source before them, are at most those of the source, one for each LF of the
 -- edits' texts, and one more
-pub shown-bound : (fold : Bool) (source : List ℕ) (es : List Edit) → AreApart 0 (in_order es) → shown_line fold source es + length (lines_of (shown_text fold source es)) ≤ length (source_lines source) + text_feeds es + 1
+pub shown-bound : (fold : Bool) (source : List ℕ) (es : List Edit) → AreApart 0 (in_order es)
+    → shown_line fold source es + length (lines_of (shown_text fold source es)) ≤ length (source_lines source) + text_feeds es + 1
 unfolding shown_text
 shown-bound fold source es apart =
     let first : ℕ = first_start (in_order es) in

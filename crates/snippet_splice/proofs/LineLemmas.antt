@@ -1,5 +1,6 @@
 -- The lines of the text that is shown are lines of the patched source, one after the other.
-use Rattle.std.proofs.Common.{◌≡◌, ◌≢◌, ℕ, zero, suc, ◌+◌, ◌-◌, ◌<◌, ◌⊎◌, inl, inr, Bool, true, false, cond, eqb, List, [], ◌∷◌, ◌++◌, All, length, take, drop, get_or, refl, sym, ap, subst, ◌∙◌, ⊎_elim, arith, append_assoc}
+use Rattle.std.proofs.Common.{◌≡◌, ◌≢◌, ℕ, zero, suc, ◌+◌, ◌-◌, ◌<◌, ◌⊎◌, inl, inr, Bool, true, false, cond, eqb, List, [], ◌∷◌, ◌++◌, All, length, take, drop}
+use Rattle.std.proofs.Common.{get_or, refl, sym, ap, subst, ◌∙◌, ⊎_elim, arith, append_assoc}
 use Rattle.std.proofs.lemmas.List.{append-nil, length-append, length-map, length-take-le, take_at, drop_at, map-append, get_or-take, get_or-drop}
 use Rattle.std.proofs.lemmas.List.Elements.{All-nil, All-cons, All-same, All-head, All-tail, All-take, All-drop, All-append}
 use Rattle.std.proofs.lemmas.Bool.{cases_Bool, cond-true, cond-false, eqb-true, eqb-false, ne_eqb}
@@ -159,7 +160,8 @@ lines-front source k within =
     (AreLinesOf-source_lines source).lines)
 
 -- what stands before the shown part is whole lines
-pub shown-front : (fold : Bool) (source : List ℕ) (es : List Edit) → IsLinesFront (slice_range source 0 (shown_start fold source (first_start (in_order es)))) (shown_line fold source es)
+pub shown-front : (fold : Bool) (source : List ℕ) (es : List Edit)
+    → IsLinesFront (slice_range source 0 (shown_start fold source (first_start (in_order es)))) (shown_line fold source es)
 shown-front false source es = record { closed = λ some. absurd (omega arith); count = refl }
 shown-front true source es =
     let k : ℕ = line_of (source_lines source) (first_start (in_order es)) in
@@ -198,7 +200,8 @@ AreFrom-append before some more k size = record {
 }
 
 -- such lines, one by one
-pub AreFrom-at : (some all : List (List ℕ)) (k i : ℕ) (d : List ℕ) → AreFrom k some all → i < length some → (k + i < length all) × (get_or some i d ≡ get_or all (k + i) d)
+pub AreFrom-at : (some all : List (List ℕ)) (k i : ℕ) (d : List ℕ) → AreFrom k some all → i < length some
+    → (k + i < length all) × (get_or some i d ≡ get_or all (k + i) d)
 AreFrom-at some all k i d h low = (
   omega (arith, h.within, low),
   ap (λ ts. get_or ts i d) h.are ∙ get_or-take (length some) (drop k all) i d low ∙ get_or-drop k all i d,
@@ -212,7 +215,8 @@ AreFrom-source [] k (s ∷ ss) h = absurd (omega (arith, h.within))
 AreFrom-source (b ∷ bs) k some h = h
 
 -- the lines of the shown part are those of the patched source, from the first that is shown on
-pub shown-lines : (fold : Bool) (source : List ℕ) (es : List Edit) → HasNoCr source → All (λ e. HasNoCr e.text) es → (h : IsShownPart fold source es) → AreFrom (shown_line fold source es) (texts_of (lines_of (without_final_line_feeds h.part))) (texts_of (source_lines (patched source es)))
+pub shown-lines : (fold : Bool) (source : List ℕ) (es : List Edit) → HasNoCr source → All (λ e. HasNoCr e.text) es → (h : IsShownPart fold source es)
+    → AreFrom (shown_line fold source es) (texts_of (lines_of (without_final_line_feeds h.part))) (texts_of (source_lines (patched source es)))
 shown-lines fold source es none texts_none h =
     let d : List ℕ = patched source es in
     let ws : List ℕ = without_final_line_feeds h.part in

@@ -1,5 +1,6 @@
 -- Laws of edits that overlap.
-use Rattle.std.proofs.Common.{◌≡◌, ℕ, zero, suc, ◌+◌, ◌-◌, ◌<◌, ◌≤◌, true, false, cond, ◌&&◌, ◌||◌, eqb, ltb, Bool, Option, Some, None, List, [], ◌∷◌, length, map, get_or, All, IfSome, IfNone, sym, ap, subst, ◌∙◌, ⊎_elim, arith, refl}
+use Rattle.std.proofs.Common.{◌≡◌, ℕ, zero, suc, ◌+◌, ◌-◌, ◌<◌, ◌≤◌, true, false, cond, ◌&&◌, ◌||◌, eqb, ltb, Bool, Option, Some, None, List, [], ◌∷◌, length}
+use Rattle.std.proofs.Common.{map, get_or, All, IfSome, IfNone, sym, ap, subst, ◌∙◌, ⊎_elim, arith, refl}
 use Rattle.std.specs.List.{position_from}
 use Rattle.std.specs.Option.{option_map, option_or}
 use Rattle.std.proofs.lemmas.List.{get_or-map, length-map}
@@ -18,7 +19,8 @@ pub edit-at : (ps : List Patch) (k : ℕ) (p : Patch) → k < length ps → p �
 edit-at ps k p within is = get_or-map edit_of ps k p no_edit within ∙ ap edit_of (sym is)
 
 -- two patches overlap where their edits do
-pub overlap-seen : (ps : List Patch) (m n : ℕ) (p q : Patch) → m < length ps → n < length ps → p ≡ get_or ps m p → q ≡ get_or ps n q → overlap_at (map edit_of ps) m n ≡ overlap (edit_of p) (edit_of q)
+pub overlap-seen : (ps : List Patch) (m n : ℕ) (p q : Patch) → m < length ps → n < length ps → p ≡ get_or ps m p → q ≡ get_or ps n q
+    → overlap_at (map edit_of ps) m n ≡ overlap (edit_of p) (edit_of q)
 overlap-seen ps m n p q low high first second =
     ap (λ d. overlap d (get_or (map edit_of ps) n no_edit)) (edit-at ps m p low first) ∙ ap (overlap (edit_of p)) (edit-at ps n q high second)
 
@@ -45,13 +47,15 @@ far es steps ordered m (suc d) within =
     let e : m + d + 1 + 1 ≡ m + suc d + 1 = omega arith in
     subst (λ n. (get_or es m no_edit).end ≤ (get_or es n no_edit).start) e (omega (arith, far es steps ordered m d (omega arith), ordered (m + d + 1) (omega arith), steps (m + d + 1) (omega arith)))
 
-disjoint-in_order : (es : List Edit) → ((k : ℕ) → k + 1 < length es → (get_or es k no_edit).end ≤ (get_or es (k + 1) no_edit).start) → ((k : ℕ) → k < length es → (get_or es k no_edit).start ≤ (get_or es k no_edit).end) → AreDisjoint es
+disjoint-in_order : (es : List Edit) → ((k : ℕ) → k + 1 < length es → (get_or es k no_edit).end ≤ (get_or es (k + 1) no_edit).start)
+    → ((k : ℕ) → k < length es → (get_or es k no_edit).start ≤ (get_or es k no_edit).end) → AreDisjoint es
 disjoint-in_order es steps ordered m n low high =
     let e : m + (n - m - 1) + 1 ≡ n = omega arith in
     overlap-after (get_or es m no_edit) (get_or es n no_edit) (ordered m (omega arith)) (ordered n high) (subst (λ k. (get_or es m no_edit).end ≤ (get_or es k no_edit).start) e (far es steps ordered m (n - m - 1) (omega arith)))
 
 -- patches of which each ends at the start of the next or before it don't overlap
-pub disjoint-apart : (source : List ℕ) (ps : List Patch) → All (λ p. IsSpan source p.span.start p.span.end) ps → ((k : ℕ) → k + 1 < length ps → (get_or (map edit_of ps) k no_edit).end ≤ (get_or (map edit_of ps) (k + 1) no_edit).start) → AreDisjoint (map edit_of ps)
+pub disjoint-apart : (source : List ℕ) (ps : List Patch) → All (λ p. IsSpan source p.span.start p.span.end) ps
+    → ((k : ℕ) → k + 1 < length ps → (get_or (map edit_of ps) k no_edit).end ≤ (get_or (map edit_of ps) (k + 1) no_edit).start) → AreDisjoint (map edit_of ps)
 disjoint-apart source ps spans apart =
     let size : length (map edit_of ps) ≡ length ps = length-map ps edit_of in
     disjoint-in_order (map edit_of ps) (λ k within. apart k (omega arith)) (λ k within. ordered-spans source ps spans k no_edit within)
@@ -102,7 +106,8 @@ disjoint-trimmed-apart source es ordered disjoint =
 same_pair : (a b c d : ℕ) → a ≡ c → b ≡ d → ◌≡◌ {A = Option (ℕ × ℕ)} (Some (a, b)) (Some (c, d))
 same_pair a b c d first second = cc
 
-position-found : (test : Edit → Bool) (i : ℕ) (es : List Edit) (k : ℕ) → k < length es → test (get_or es k no_edit) ≡ true → ((j : ℕ) → j < k → test (get_or es j no_edit) ≡ false) → position_from test i es ≡ Some (i + k)
+position-found : (test : Edit → Bool) (i : ℕ) (es : List Edit) (k : ℕ) → k < length es → test (get_or es k no_edit) ≡ true
+    → ((j : ℕ) → j < k → test (get_or es j no_edit) ≡ false) → position_from test i es ≡ Some (i + k)
 position-found test i [] k within passes before = absurd (omega arith)
 position-found test i (e ∷ es) zero within passes before =
     let same : i ≡ i + 0 = omega arith in

@@ -9,7 +9,8 @@ use Rattle.snippet_splice.specs.declared.stretches.PatchExtent.{PatchExtent}
 use Rattle.snippet_splice.specs.Copied.{in_text}
 use Rattle.snippet_splice.specs.Edits.{Edit, in_order, trimmed_edits}
 use Rattle.snippet_splice.specs.Shown.{first_start, shown_start}
-use Rattle.snippet_splice.specs.Stretches.{Extent, after_last_lf, capped, characters_before, extent_of, extents_from, new_stretches, replaced_on, replaced_stretches, stretches_on}
+use Rattle.snippet_splice.specs.Stretches.{Extent, after_last_lf, capped, characters_before, extent_of, extents_from, new_stretches, replaced_on}
+use Rattle.snippet_splice.specs.Stretches.{replaced_stretches, stretches_on}
 use Rattle.snippet_splice.proofs.EditLemmas.{slice_split}
 use Rattle.snippet_splice.proofs.WriteLemmas.{in_text-mono}
 
@@ -50,7 +51,8 @@ between_more source from at to low high =
     slice_split source (in_text source from) (in_text source at) (in_text source to) (in_text-mono source from at low) (in_text-mono source at to high)
 
 -- UTF-8 up to a place and UTF-8 from there on are UTF-8 together
-pub utf8_more : (source part : List ℕ) (from at to : ℕ) → from ≤ at → at ≤ to → part ≡ between source at to → IsUtf8 (between source from at) → IsUtf8 part → IsUtf8 (between source from to)
+pub utf8_more : (source part : List ℕ) (from at to : ℕ) → from ≤ at → at ≤ to → part ≡ between source at to → IsUtf8 (between source from at) → IsUtf8 part
+    → IsUtf8 (between source from to)
 utf8_more source part from at to low high is front utf8 =
     subst IsUtf8 (ap (λ t. between source from at ++ t) is ∙ sym (between_more source from at to low high)) (IsUtf8-append (between source from at) part front utf8)
 
@@ -60,29 +62,36 @@ CountsOn part before after =
     (front : List ℕ) → IsUtf8 front → before ≡ capped (length (chars (after_last_lf front))) → after ≡ capped (length (chars (after_last_lf (front ++ part))))
 
 -- what counts on from the characters before a byte gives those before a later one
-pub counted_more : (source part : List ℕ) (from at to before after : ℕ) → from ≤ at → at ≤ to → part ≡ between source at to → IsUtf8 (between source from at) → before ≡ characters_before source from at → CountsOn part before after → after ≡ characters_before source from to
+pub counted_more : (source part : List ℕ) (from at to before after : ℕ) → from ≤ at → at ≤ to → part ≡ between source at to → IsUtf8 (between source from at)
+    → before ≡ characters_before source from at → CountsOn part before after → after ≡ characters_before source from to
 counted_more source part from at to before after low high is front counted counts =
     counts (between source from at) front counted ∙ ap (λ t. capped (length (chars (after_last_lf t)))) (ap (λ t. between source from at ++ t) is ∙ sym (between_more source from at to low high))
 
 -- where an edit stands
-pub extent_is : (x : Extent) (feeds before start end : ℕ) (under : List ℕ) → feeds ≡ x.feeds → before ≡ x.before → start ≡ x.start → end ≡ x.end → under ≡ x.under → record { feeds = feeds; before = before; start = start; end = end; under = under; text = x.text } ≡ x
+pub extent_is : (x : Extent) (feeds before start end : ℕ) (under : List ℕ) → feeds ≡ x.feeds → before ≡ x.before → start ≡ x.start → end ≡ x.end
+    → under ≡ x.under → record { feeds = feeds; before = before; start = start; end = end; under = under; text = x.text } ≡ x
 extent_is x feeds before start end under f b s e u =
     let of : ℕ → ℕ → ℕ → ℕ → List ℕ → Extent = λ n m i j t. record { feeds = n; before = m; start = i; end = j; under = t; text = x.text } in
     ap (λ n. of n before start end under) f ∙ ap (λ n. of x.feeds n start end under) b ∙ ap (λ n. of x.feeds x.before n end under) s ∙ ap (λ n. of x.feeds x.before x.start n under) e ∙ ap (of x.feeds x.before x.start x.end) u
 
 -- one more place, and those that are left
-pub places_more : (x : Extent) (left : List Extent) (places now : List PatchExtent) (place : PatchExtent) (all : List Extent) → now ≡ places ++ place ∷ [] → extent_of place ≡ x → map extent_of places ++ (x ∷ left) ≡ all → map extent_of now ++ left ≡ all
+pub places_more : (x : Extent) (left : List Extent) (places now : List PatchExtent) (place : PatchExtent) (all : List Extent) → now ≡ places ++ place ∷ []
+    → extent_of place ≡ x → map extent_of places ++ (x ∷ left) ≡ all → map extent_of now ++ left ≡ all
 places_more x left places now place all pushed is whole =
     ap (λ ps. map extent_of ps ++ left) pushed ∙ ap (λ xs. xs ++ left) (map-append extent_of places (place ∷ [])) ∙ append_assoc (map extent_of places) (extent_of place ∷ []) left ∙ ap (λ y. map extent_of places ++ (y ∷ left)) is ∙ whole
 
 -- so the stretches are those of the edits
-pub stretches_are : (fold : Bool) (source : List ℕ) (es ts : List Edit) (from k : ℕ) (xs : List Extent) → from ≡ shown_start fold source (first_start (in_order es)) → ts ≡ trimmed_edits source es → xs ≡ extents_from source from from ts → stretches_on k 0 0 0 xs ≡ new_stretches fold source es k
+pub stretches_are : (fold : Bool) (source : List ℕ) (es ts : List Edit) (from k : ℕ) (xs : List Extent)
+    → from ≡ shown_start fold source (first_start (in_order es)) → ts ≡ trimmed_edits source es → xs ≡ extents_from source from from ts
+    → stretches_on k 0 0 0 xs ≡ new_stretches fold source es k
 unfolding new_stretches
 stretches_are fold source es ts from k xs starts edits is =
     ap (stretches_on k 0 0 0) (is ∙ ap (λ n. extents_from source n n ts) starts ∙ ap (extents_from source (shown_start fold source (first_start (in_order es))) (shown_start fold source (first_start (in_order es)))) edits)
 
 -- the stretches that are replaced on a line are those of the edits' extents
-pub replaced_are : (fold : Bool) (source : List ℕ) (es ts : List Edit) (from k : ℕ) (xs : List Extent) → from ≡ shown_start fold source (first_start (in_order es)) → ts ≡ trimmed_edits source es → xs ≡ extents_from source from from ts → replaced_on k 0 xs ≡ replaced_stretches fold source es k
+pub replaced_are : (fold : Bool) (source : List ℕ) (es ts : List Edit) (from k : ℕ) (xs : List Extent)
+    → from ≡ shown_start fold source (first_start (in_order es)) → ts ≡ trimmed_edits source es → xs ≡ extents_from source from from ts
+    → replaced_on k 0 xs ≡ replaced_stretches fold source es k
 unfolding replaced_stretches
 replaced_are fold source es ts from k xs starts edits is =
     ap (replaced_on k 0) (is ∙ ap (λ n. extents_from source n n ts) starts ∙ ap (extents_from source (shown_start fold source (first_start (in_order es))) (shown_start fold source (first_start (in_order es)))) edits)

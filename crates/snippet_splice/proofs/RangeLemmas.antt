@@ -1,5 +1,6 @@
 -- On which lines of the patched source the texts of edits stand.
-use Rattle.std.proofs.Common.{◌≡◌, ◌≢◌, ℕ, zero, suc, ◌+◌, ◌-◌, ◌<◌, Bool, true, false, cond, List, [], ◌∷◌, ◌++◌, All, length, map, take, drop, count_by, refl, sym, ap, ◌∙◌, ⊎_elim, arith, append_assoc}
+use Rattle.std.proofs.Common.{◌≡◌, ◌≢◌, ℕ, zero, suc, ◌+◌, ◌-◌, ◌<◌, Bool, true, false, cond, List, [], ◌∷◌, ◌++◌, All, length, map, take, drop, count_by, refl}
+use Rattle.std.proofs.Common.{sym, ap, ◌∙◌, ⊎_elim, arith, append_assoc}
 use Rattle.std.proofs.lemmas.List.{length-append, take_at, take-append-drop}
 use Rattle.std.proofs.lemmas.List.Sums.{sum_by-append, sum_by-cons}
 use Rattle.std.proofs.lemmas.List.Concat.{flat_map-append}
@@ -72,7 +73,8 @@ feeds-front source k within =
     (λ (some, are). feeds-lines ls k are within) (AreLinesOf-source_lines source).lines
 
 -- the LF before what is shown are as many as the lines before it
-pub feeds-shown : (fold : Bool) (source : List ℕ) (es : List Edit) → feeds (slice_range source 0 (shown_start fold source (first_start (in_order es)))) ≡ shown_line fold source es
+pub feeds-shown : (fold : Bool) (source : List ℕ) (es : List Edit)
+    → feeds (slice_range source 0 (shown_start fold source (first_start (in_order es)))) ≡ shown_line fold source es
 feeds-shown false source es = refl
 feeds-shown true source es =
     let k : ℕ = line_of (source_lines source) (first_start (in_order es)) in

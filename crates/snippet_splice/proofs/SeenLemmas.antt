@@ -54,7 +54,8 @@ abbrev pub seen_before : Seen → Seen → Bool
 seen_before a b = pair_lt a.1 a.2 b.1 b.2
 
 -- sorted they are the trimmed edits in the order of the untrimmed ones
-pub sorted-seen : (source : List ℕ) (patches : List Patch) (trimmed sorted : List TrimmedPatch) → AreTrimmed source patches trimmed → IsSortedBy before sorted → IsStableBy before trimmed sorted → map seen sorted ≡ map (seen_edit source) (in_order (map edit_of patches))
+pub sorted-seen : (source : List ℕ) (patches : List Patch) (trimmed sorted : List TrimmedPatch) → AreTrimmed source patches trimmed → IsSortedBy before sorted
+    → IsStableBy before trimmed sorted → map seen sorted ≡ map (seen_edit source) (in_order (map edit_of patches))
 sorted-seen source patches trimmed sorted h up stable =
     let only : sorted ≡ ordered_by before trimmed = sorted-only before (pair-order (λ t. t.original_span.start) (λ t. t.original_span.end)) trimmed sorted up stable in
     let es : List Edit = map edit_of patches in
@@ -65,13 +66,15 @@ map-map f g [] = refl
 map-map f g (x ∷ xs) = ap (λ l. g (f x) ∷ l) (map-map f g xs)
 
 -- trimmed patches that are seen as the edits in order are these edits, trimmed
-pub sorted-edits : (source : List ℕ) (patches : List Patch) (sorted : List TrimmedPatch) → map seen sorted ≡ map (seen_edit source) (in_order (map edit_of patches)) → map trimmed_edit_of sorted ≡ trimmed_edits source (map edit_of patches)
+pub sorted-edits : (source : List ℕ) (patches : List Patch) (sorted : List TrimmedPatch)
+    → map seen sorted ≡ map (seen_edit source) (in_order (map edit_of patches)) → map trimmed_edit_of sorted ≡ trimmed_edits source (map edit_of patches)
 sorted-edits source patches sorted h =
     let first : Seen → Edit = λ s. s.0 in
     sym (map-map seen first sorted) ∙ ap (map first) h ∙ map-map (seen_edit source) first (in_order (map edit_of patches))
 
 -- trimmed patches that are seen as the edits in order have these edits' bounds
-pub sorted-bounds : (source : List ℕ) (patches : List Patch) (sorted : List TrimmedPatch) → map seen sorted ≡ map (seen_edit source) (in_order (map edit_of patches)) → map original_bounds_of sorted ≡ map bounds_of (in_order (map edit_of patches))
+pub sorted-bounds : (source : List ℕ) (patches : List Patch) (sorted : List TrimmedPatch)
+    → map seen sorted ≡ map (seen_edit source) (in_order (map edit_of patches)) → map original_bounds_of sorted ≡ map bounds_of (in_order (map edit_of patches))
 sorted-bounds source patches sorted h =
     let rest : Seen → ℕ × ℕ = λ s. (s.1, s.2) in
     sym (map-map seen rest sorted) ∙ ap (map rest) h ∙ map-map (seen_edit source) rest (in_order (map edit_of patches))

@@ -33,19 +33,22 @@ some-edits source (p ∷ ps) some =
     map-some source (put_in precedes (edit_of p) (in_order (map edit_of ps))) (put_in-some precedes (edit_of p) (in_order (map edit_of ps)))
 
 -- where nothing is left there was nothing
-pub none-given : (source : List ℕ) (ps : List Patch) (ts : List TrimmedPatch) → map trimmed_edit_of ts ≡ trimmed_edits source (map edit_of ps) → slice_get ts 0 ≡ None → ps ≡ []
+pub none-given : (source : List ℕ) (ps : List Patch) (ts : List TrimmedPatch) → map trimmed_edit_of ts ≡ trimmed_edits source (map edit_of ps)
+    → slice_get ts 0 ≡ None → ps ≡ []
 none-given source [] ts same none = refl
 none-given source (p ∷ ps) [] same none = absurd (some-edits source (p ∷ ps) (λ e. cc) (sym same))
 none-given source (p ∷ ps) (t ∷ ts) same none = absurd (cc)
 
 -- where nothing was given nothing is left
-pub some-given : (source : List ℕ) (ps : List Patch) (ts : List TrimmedPatch) (t : TrimmedPatch) → map trimmed_edit_of ts ≡ trimmed_edits source (map edit_of ps) → slice_get ts 0 ≡ Some t → ps ≢ []
+pub some-given : (source : List ℕ) (ps : List Patch) (ts : List TrimmedPatch) (t : TrimmedPatch)
+    → map trimmed_edit_of ts ≡ trimmed_edits source (map edit_of ps) → slice_get ts 0 ≡ Some t → ps ≢ []
 some-given source [] [] t same some = λ _. cc
 some-given source [] (s ∷ ts) t same some = λ _. cc
 some-given source (p ∷ ps) ts t same some = λ e. cc
 
 -- the first trimmed patch was the first in order
-pub first-given : (ts : List TrimmedPatch) (os : List Edit) (t : TrimmedPatch) → map original_bounds_of ts ≡ map bounds_of os → slice_get ts 0 ≡ Some t → t.original_span.start ≡ first_start os
+pub first-given : (ts : List TrimmedPatch) (os : List Edit) (t : TrimmedPatch) → map original_bounds_of ts ≡ map bounds_of os → slice_get ts 0 ≡ Some t
+    → t.original_span.start ≡ first_start os
 first-given [] os t same some = absurd (cc)
 first-given (s ∷ ts) [] t same some = absurd (cc)
 first-given (s ∷ ts) (o ∷ os) t same some =
@@ -67,7 +70,8 @@ apart-first [] apart = tt
 apart-first (e ∷ es) apart = (omega arith, apart.1, apart.2)
 
 -- trimmed edits stand apart from where the text that is shown begins
-pub shown-apart : (fold : Bool) (source : List ℕ) (es : List Edit) → AreApart 0 (in_order es) → AreApart (shown_start fold source (first_start (in_order es))) (trimmed_edits source es)
+pub shown-apart : (fold : Bool) (source : List ℕ) (es : List Edit) → AreApart 0 (in_order es)
+    → AreApart (shown_start fold source (first_start (in_order es))) (trimmed_edits source es)
 shown-apart fold source es apart =
     let first : ℕ = first_start (in_order es) in
     AreApart-earlier (shown_start fold source first) first (trimmed_edits source es) (shown_start-le fold source first) (trimmed-apart source first (in_order es) (apart-first (in_order es) apart))

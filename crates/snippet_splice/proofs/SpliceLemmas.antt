@@ -1,6 +1,8 @@
 -- Where no CR is copied and no edit stands after a final LF, the text that is shown is the spliced text.
-use Rattle.std.proofs.Common.{◌≡◌, ◌≢◌, ℕ, suc, ◌+◌, ◌-◌, ◌<◌, ◌≤◌, ◌⊎◌, inl, inr, Bool, true, false, not, ◌&&◌, eqb, ltb, min, List, [], ◌∷◌, ◌++◌, All, length, take, drop, get_or, refl, sym, ap, subst, ◌∙◌, ⊎_elim, arith, append_assoc}
-use Rattle.std.proofs.lemmas.List.{append-nil, length-append, length-take, length-take-le, length-drop, drop_at, take_all, take_min, drop_min, get_or_past, take-append-drop}
+use Rattle.std.proofs.Common.{◌≡◌, ◌≢◌, ℕ, suc, ◌+◌, ◌-◌, ◌<◌, ◌≤◌, ◌⊎◌, inl, inr, Bool, true, false, not, ◌&&◌, eqb, ltb, min, List, [], ◌∷◌, ◌++◌, All}
+use Rattle.std.proofs.Common.{length, take, drop, get_or, refl, sym, ap, subst, ◌∙◌, ⊎_elim, arith, append_assoc}
+use Rattle.std.proofs.lemmas.List.{append-nil, length-append, length-take, length-take-le, length-drop, drop_at, take_all, take_min, drop_min, get_or_past}
+use Rattle.std.proofs.lemmas.List.{take-append-drop}
 use Rattle.std.proofs.Math.Seq.{take-append-add}
 use Rattle.std.proofs.lemmas.List.Elements.{All-take, All-drop, All-head, All-tail}
 use Rattle.std.proofs.lemmas.Bool.{cases_Bool, cases_lt, cond-true, cond-false, cond_both, and_right, ne_eqb, eqb-true}
@@ -54,7 +56,8 @@ abbrev pub AreBeforeFinalLf : List ℕ → List Edit → Type 0
 AreBeforeFinalLf source ts = All (λ t. IsBeforeFinalLf source t.start) ts
 
 -- what is written is the patched source up to the last edit
-pub edited_from-written : (source : List ℕ) (at : ℕ) (ts : List Edit) → HasNoCr source → AreBeforeFinalLf source ts → AreApart at ts → edited_from source at ts ≡ written source at ts ++ drop (end_from at ts) source
+pub edited_from-written : (source : List ℕ) (at : ℕ) (ts : List Edit) → HasNoCr source → AreBeforeFinalLf source ts → AreApart at ts
+    → edited_from source at ts ≡ written source at ts ++ drop (end_from at ts) source
 edited_from-written source at [] none before apart = refl
 edited_from-written source at (t ∷ ts) none before apart =
     let here : slice_range source at t.start ≡ copied source at t.start = sym (copied-same source at t.start none apart.0 (All-head (λ t. IsBeforeFinalLf source t.start) t ts before)) in
@@ -66,7 +69,8 @@ edited_from-written source at (t ∷ ts) none before apart =
 
 -- ---- where the last text ends
 
-last_end-written : (source : List ℕ) (at now : ℕ) (ts : List Edit) → HasNoCr source → AreBeforeFinalLf source ts → AreApart at ts → last_end now (stands_from source at now ts) ≡ now + length (written source at ts)
+last_end-written : (source : List ℕ) (at now : ℕ) (ts : List Edit) → HasNoCr source → AreBeforeFinalLf source ts → AreApart at ts
+    → last_end now (stands_from source at now ts) ≡ now + length (written source at ts)
 last_end-written source at now [] none before apart = omega arith
 last_end-written source at now (t ∷ ts) none before apart =
     let here : slice_range source at t.start ≡ copied source at t.start = sym (copied-same source at t.start none apart.0 (All-head (λ t. IsBeforeFinalLf source t.start) t ts before)) in
@@ -74,7 +78,8 @@ last_end-written source at now (t ∷ ts) none before apart =
     last_end-written source t.end (from + length t.text) ts none (All-tail (λ t. IsBeforeFinalLf source t.start) t ts before) apart.2 ∙ omega (arith, ap length here, length-append (copied source at t.start) (t.text ++ written source t.end ts), length-append t.text (written source t.end ts))
 
 -- texts stand where they do when the source before them is given first
-pub stands_from-earlier : (source : List ℕ) (a b now : ℕ) (t : Edit) (ts : List Edit) → a ≤ b → b ≤ t.start → stands_from source a now (t ∷ ts) ≡ stands_from source b (now + length (slice_range source a b)) (t ∷ ts)
+pub stands_from-earlier : (source : List ℕ) (a b now : ℕ) (t : Edit) (ts : List Edit) → a ≤ b → b ≤ t.start
+    → stands_from source a now (t ∷ ts) ≡ stands_from source b (now + length (slice_range source a b)) (t ∷ ts)
 stands_from-earlier source a b now t ts low high =
     let n : length (slice_range source a t.start) ≡ length (slice_range source a b) + length (slice_range source b t.start) = ap length (slice_split source a b t.start low high) ∙ length-append (slice_range source a b) (slice_range source b t.start) in
     let e : now + length (slice_range source a t.start) ≡ now + length (slice_range source a b) + length (slice_range source b t.start) = omega (arith, n) in
@@ -195,7 +200,8 @@ first-split xs =
 -- ---- the parts
 
 -- where the last text ends
-pub last-end : (source : List ℕ) (s : ℕ) (t : Edit) (ts : List Edit) → HasNoCr source → AreBeforeFinalLf source (t ∷ ts) → AreApart s (t ∷ ts) → length (slice_range source 0 s) ≡ s → last_end 0 (stands source (t ∷ ts)) ≡ s + length (written source s (t ∷ ts))
+pub last-end : (source : List ℕ) (s : ℕ) (t : Edit) (ts : List Edit) → HasNoCr source → AreBeforeFinalLf source (t ∷ ts) → AreApart s (t ∷ ts)
+    → length (slice_range source 0 s) ≡ s → last_end 0 (stands source (t ∷ ts)) ≡ s + length (written source s (t ∷ ts))
 last-end source s t ts none before apart size =
     ap (last_end 0) (stands_from-earlier source 0 s 0 t ts (omega arith) apart.0) ∙ last_end-written source s (0 + length (slice_range source 0 s)) (t ∷ ts) none before apart ∙ omega (arith, size)
 
@@ -209,7 +215,8 @@ drop-part f w r s size =
     ap (drop (s + length w)) (sym (append_assoc f w r)) ∙ drop_at (f ++ w) r (s + length w) (omega (arith, length-append f w, size))
 
 -- without CR in the source, and no edit after a final LF, the text that is shown is the spliced text
-pub shown-part : (fold : Bool) (source : List ℕ) (es : List Edit) → HasNoCr source → AreBeforeFinalLf source (trimmed_edits source es) → AreApart 0 (in_order es) → trimmed_edits source es ≢ [] → IsShownPart fold source es
+pub shown-part : (fold : Bool) (source : List ℕ) (es : List Edit) → HasNoCr source → AreBeforeFinalLf source (trimmed_edits source es)
+    → AreApart 0 (in_order es) → trimmed_edits source es ≢ [] → IsShownPart fold source es
 unfolding shown_text spliced_text
 shown-part false source es none before apart some =
     let ts : List Edit = trimmed_edits source es in

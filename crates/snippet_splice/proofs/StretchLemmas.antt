@@ -1,11 +1,13 @@
 -- Tables of stretches, the pieces of a text, and what stands in a line before a byte.
-use Rattle.std.proofs.Common.{◌≡◌, ◌≢◌, ◌∙◌, ◌⊎◌, inl, inr, ℕ, zero, suc, ◌+◌, ◌-◌, ◌<◌, ◌==◌, cond, eqb, List, [], ◌∷◌, ◌++◌, Vec, count_by, length, map, take, set, get_or, chars, lit<, refl, sym, ap, arith, if◌then◌else◌, subst}
+use Rattle.std.proofs.Common.{◌≡◌, ◌≢◌, ◌∙◌, ◌⊎◌, inl, inr, ℕ, zero, suc, ◌+◌, ◌-◌, ◌<◌, ◌==◌, cond, eqb, List, [], ◌∷◌, ◌++◌, Vec, count_by, length, map, take}
+use Rattle.std.proofs.Common.{set, get_or, chars, lit<, refl, sym, ap, arith, if◌then◌else◌, subst}
 use Rattle.std.specs.List.{onto_first, slice_split}
 use Rattle.std.specs.Str.{IsUtf8}
 use Rattle.std.specs.declared.alloc.Global.{Global}
 use Rattle.std.proofs.lemmas.Bool.{eq-eqb, eqb-true, cond-true, cond-false, false_from_ne_true, cases_Bool, cases_eq}
 use Rattle.std.proofs.lemmas.Bool.Decides.{nat_tests}
-use Rattle.std.proofs.lemmas.List.{append-nil, get_or_default, get_or-map, get_or-set_other, get_or-set_same, length-append, length-map, map-set, places, same_lists}
+use Rattle.std.proofs.lemmas.List.{append-nil, get_or_default, get_or-map, get_or-set_other, get_or-set_same, length-append, length-map, map-set, places}
+use Rattle.std.proofs.lemmas.List.{same_lists}
 use Rattle.std.proofs.lemmas.List.Splits.{slice_split_at, slice_split_none}
 use Rattle.std.proofs.lemmas.List.Sums.{sum_by-cons}
 use Rattle.std.proofs.lemmas.Str.{chars-append}
@@ -29,7 +31,8 @@ line_opened (l ∷ lines) line zero none = refl
 line_opened (l ∷ lines) line (suc k) none = line_opened lines line k none
 
 -- with a stretch more in one line, each other has those that it had
-pub line_set : (lines : List Row) (i : ℕ) (was now : Row) (x : SubstitutionHighlight) (k : ℕ) → i < length lines → was ≡ get_or lines i was → now.items ≡ was.items ++ x ∷ [] → line_stretches (set lines i now) k ≡ line_stretches lines k ++ (if i == k then x ∷ [] else [])
+pub line_set : (lines : List Row) (i : ℕ) (was now : Row) (x : SubstitutionHighlight) (k : ℕ) → i < length lines → was ≡ get_or lines i was
+    → now.items ≡ was.items ++ x ∷ [] → line_stretches (set lines i now) k ≡ line_stretches lines k ++ (if i == k then x ∷ [] else [])
 line_set lines i was now x k within is more =
     let f : Row → List SubstitutionHighlight = λ row. row.items in
     let inside : i < length (map f lines) = omega (arith, within, length-map lines f) in
@@ -151,7 +154,8 @@ after_utf8 text utf8 = elim (zero_or (count_by is_lf text)) [
 -- ---- characters of a line
 
 -- before the end of a text stand those of its last line, and if that is its only one, those that stand before it
-pub chars_on : (front text : List ℕ) (before : ℕ) → IsUtf8 front → before ≡ capped (length (chars (after_last_lf front))) → capped ((if count_by is_lf text == 0 then before else 0) + length (chars (after_last_lf text))) ≡ capped (length (chars (after_last_lf (front ++ text))))
+pub chars_on : (front text : List ℕ) (before : ℕ) → IsUtf8 front → before ≡ capped (length (chars (after_last_lf front)))
+    → capped ((if count_by is_lf text == 0 then before else 0) + length (chars (after_last_lf text))) ≡ capped (length (chars (after_last_lf (front ++ text))))
 chars_on front text before utf8 is =
     elim (zero_or (count_by is_lf text)) [
       | inl zeros ↦

@@ -1,6 +1,8 @@
 -- Each touched line that isn't empty is among the lines that are shown.
-use Rattle.std.proofs.Common.{◌≡◌, ◌≢◌, ℕ, ◌+◌, ◌-◌, ◌<◌, ◌≤◌, ◌⊎◌, inl, inr, Bool, cond, List, [], ◌∷◌, ◌++◌, All, Contains, length, take, drop, get_or, refl, sym, ap, subst, ◌∙◌, ⊎_elim, arith, append_assoc}
-use Rattle.std.proofs.lemmas.List.{append-nil, length-append, length-drop, take_at, take_all, take-take, take-append-le, take-append-drop, get_or-take, get_or-drop, get_or-append_right, get_or_append_left, nil_from_length, length-map, get_or-map}
+use Rattle.std.proofs.Common.{◌≡◌, ◌≢◌, ℕ, ◌+◌, ◌-◌, ◌<◌, ◌≤◌, ◌⊎◌, inl, inr, Bool, cond, List, [], ◌∷◌, ◌++◌, All, Contains, length, take, drop, get_or, refl}
+use Rattle.std.proofs.Common.{sym, ap, subst, ◌∙◌, ⊎_elim, arith, append_assoc}
+use Rattle.std.proofs.lemmas.List.{append-nil, length-append, length-drop, take_at, take_all, take-take, take-append-le, take-append-drop, get_or-take}
+use Rattle.std.proofs.lemmas.List.{get_or-drop, get_or-append_right, get_or_append_left, nil_from_length, length-map, get_or-map}
 use Rattle.std.proofs.Math.Seq.{take-add}
 use Rattle.std.proofs.lemmas.List.Sums.{sum_by-take-le}
 use Rattle.std.proofs.lemmas.List.Elements.{All-nil, All-cons, All-take, All-push, All-same, All-weaker, All-contains}
@@ -8,7 +10,8 @@ use Rattle.std.proofs.lemmas.Bool.{cases_lt}
 use Rattle.std.specs.List.{slice_range}
 use Rattle.snippet_lines.specs.declared.lines.EndLine.TheVariants.{Eof}
 use Rattle.snippet_lines.specs.Lines.{Line, line_bytes, lines_of, source_lines, start_of, text_at, last_byte, is_lf, IsOneLine}
-use Rattle.snippet_lines.proofs.LinesLemmas.{text_at-stands, start_of-next, start_of-end, joined-source_lines, split_last, newline_count-open, length-source_lines, source_lines-some, last_byte-push}
+use Rattle.snippet_lines.proofs.LinesLemmas.{text_at-stands, start_of-next, start_of-end, joined-source_lines, split_last, newline_count-open}
+use Rattle.snippet_lines.proofs.LinesLemmas.{length-source_lines, source_lines-some, last_byte-push}
 use Rattle.snippet_lines.proofs.PlaceLemmas.{text_at-end}
 use Rattle.snippet_lines.proofs.BoundsLemmas.{line_bytes-slice, IsLine-at, IsOneLine-line}
 use Rattle.snippet_splice.specs.Edits.{Edit, in_order, trimmed_edits, patched, AreApart}
@@ -26,7 +29,8 @@ feeds-take n xs = sum_by-take-le (λ b. cond (is_lf b) 1 0) xs n
 
 -- ---- a line that begins at an LF, or at the end, is empty
 
-line-empty : (d : List ℕ) (j : ℕ) → j < length (source_lines d) → (start_of (source_lines d) j < length d → get_or d (start_of (source_lines d) j) 0 ≡ 10) → text_at (source_lines d) j ≡ []
+line-empty : (d : List ℕ) (j : ℕ) → j < length (source_lines d) → (start_of (source_lines d) j < length d → get_or d (start_of (source_lines d) j) 0 ≡ 10)
+    → text_at (source_lines d) j ≡ []
 line-empty d j within at =
     let ls : List Line = source_lines d in
     let t : List ℕ = text_at ls j in
@@ -95,7 +99,8 @@ pub record IsWithin (low high : ℕ) (s : Stand) : Type 0 where
   pub from : low ≤ s.from
   pub to : s.to ≤ high
 
-stands-within : (source : List ℕ) (at now : ℕ) (ts : List Edit) → All (IsWithin now (last_end now (stands_from source at now ts))) (stands_from source at now ts)
+stands-within : (source : List ℕ) (at now : ℕ) (ts : List Edit)
+    → All (IsWithin now (last_end now (stands_from source at now ts))) (stands_from source at now ts)
 stands-within source at now [] = All-nil (IsWithin now now)
 stands-within source at now (t ∷ ts) =
     let from : ℕ = now + length (slice_range source at t.start) in
@@ -108,7 +113,8 @@ stands-within source at now (t ∷ ts) =
 abbrev pub EndsBefore : ℕ → Stand → Type 0
 EndsBefore high s = s.from ≡ s.to → s.to < high
 
-stands-before : (source : List ℕ) (at now : ℕ) (ts : List Edit) → 0 < length (last_text ts) → All (EndsBefore (last_end now (stands_from source at now ts))) (stands_from source at now ts)
+stands-before : (source : List ℕ) (at now : ℕ) (ts : List Edit) → 0 < length (last_text ts)
+    → All (EndsBefore (last_end now (stands_from source at now ts))) (stands_from source at now ts)
 stands-before source at now [] some = absurd (omega arith)
 stands-before source at now (t ∷ []) some =
     let from : ℕ = now + length (slice_range source at t.start) in
@@ -176,7 +182,8 @@ touched-in d f part rest ws k j s whole short closed counted stops within touche
     (cases_lt x (length g)) in
     (low, ⊎_elim (λ ok. ok) (λ past. absurd (high past)) (cases_lt j (k + m)))
   where
-    few : (ws f : List ℕ) (x k j : ℕ) → feeds f ≡ k → (0 < length f → last_byte f ≡ 10) → (ws ≡ []) ⊎ (last_byte ws ≢ 10) → x < length (f ++ ws) → k + length (lines_of ws) ≤ j → feeds (take x (f ++ ws)) ≡ j → ⊥
+    few : (ws f : List ℕ) (x k j : ℕ) → feeds f ≡ k → (0 < length f → last_byte f ≡ 10) → (ws ≡ []) ⊎ (last_byte ws ≢ 10) → x < length (f ++ ws)
+        → k + length (lines_of ws) ≤ j → feeds (take x (f ++ ws)) ≡ j → ⊥
     few [] f x k j counted closed unclosed inside past many =
         let short : x < length f = omega (arith, inside, ap length (append-nil f)) in
         absurd (omega (arith, fewer-feeds f x (closed (omega (arith, short))) short, ap (λ l. feeds (take x l)) (append-nil f), many, past, counted))

@@ -1,7 +1,10 @@
 -- Laws of what a replacement keeps.
-use Rattle.std.proofs.Common.{◌≡◌, ◌≢◌, ℕ, zero, suc, ◌+◌, ◌-◌, ◌<◌, ◌≤◌, Bool, true, false, cond, ◌||◌, ltb, leb, Option, Some, None, List, ◌++◌, length, take, drop, get_or, refl, sym, ap, subst, ◌∙◌, ⊎_elim, arith, append_assoc, le_refl}
-use Rattle.std.proofs.lemmas.List.{append-nil, length-append, length-take-le, length-drop, take_at, drop_at, take_all, drop_all, take-append-drop, drop-drop, drop-append-le, get_or_past}
-use Rattle.std.proofs.lemmas.Bool.{cases_Bool, cases_eq, cases_lt, ltb-true, lt-ltb, or_cases, or_left, or_right, cond-true, cond-false, and_parts, and_from, false_from_ne_true, le-leb, leb-true, both_ways}
+use Rattle.std.proofs.Common.{◌≡◌, ◌≢◌, ℕ, zero, suc, ◌+◌, ◌-◌, ◌<◌, ◌≤◌, Bool, true, false, cond, ◌||◌, ltb, leb, Option, Some, None, List, ◌++◌, length, take}
+use Rattle.std.proofs.Common.{drop, get_or, refl, sym, ap, subst, ◌∙◌, ⊎_elim, arith, append_assoc, le_refl}
+use Rattle.std.proofs.lemmas.List.{append-nil, length-append, length-take-le, length-drop, take_at, drop_at, take_all, drop_all, take-append-drop, drop-drop}
+use Rattle.std.proofs.lemmas.List.{drop-append-le, get_or_past}
+use Rattle.std.proofs.lemmas.Bool.{cases_Bool, cases_eq, cases_lt, ltb-true, lt-ltb, or_cases, or_left, or_right, cond-true, cond-false, and_parts, and_from}
+use Rattle.std.proofs.lemmas.Bool.{false_from_ne_true, le-leb, leb-true, both_ways}
 use Rattle.std.proofs.lemmas.Slice.Eq.{bytes_eq-Decides}
 use Rattle.std.proofs.lemmas.Str.{IsCharBoundary-end, IsCharBoundary-start}
 use Rattle.std.specs.Bool.{Decides}
@@ -76,7 +79,8 @@ at_most_common : (o r : List ℕ) (n a : ℕ) (m : List ℕ) (b : ℕ) → IsCom
 at_most_common o r n a m b common h =
     common.longest a h.border (omega (arith, lengths o r a m b h, h.border.0)) (sym (same_front o r a m b h))
 
-IsSandwich-inside : (o r : List ℕ) (n : ℕ) (m : List ℕ) → IsCommonPrefix o r n → ((rest : List ℕ) → r ≢ o ++ rest) → ((front : List ℕ) → r ≢ front ++ o) → drop n r ≡ m ++ drop n o → IsSandwich o r n m (length (drop n o))
+IsSandwich-inside : (o r : List ℕ) (n : ℕ) (m : List ℕ) → IsCommonPrefix o r n → ((rest : List ℕ) → r ≢ o ++ rest) → ((front : List ℕ) → r ≢ front ++ o)
+    → drop n r ≡ m ++ drop n o → IsSandwich o r n m (length (drop n o))
 IsSandwich-inside o r n m common begins ends e =
     let whole : r ≡ take n o ++ m ++ drop n o = sym (take-append-drop n r) ∙ ap (λ l. l ++ drop n r) (sym common.same) ∙ ap (λ l. take n o ++ l) e ∙ sym (regroup (take n o) m (drop n o)) in
     record {
@@ -86,7 +90,8 @@ IsSandwich-inside o r n m common begins ends e =
       longest = λ some a m b h. at_most_common o r n a m b common h;
     }
 
-sandwiched-inside : (o r : List ℕ) (n : ℕ) → IsCommonPrefix o r n → ((front : List ℕ) → drop n r ≢ front ++ drop n o) → (a : ℕ) (m : List ℕ) (b : ℕ) → IsSandwiched o r a m b → ⊥
+sandwiched-inside : (o r : List ℕ) (n : ℕ) → IsCommonPrefix o r n → ((front : List ℕ) → drop n r ≢ front ++ drop n o) → (a : ℕ) (m : List ℕ) (b : ℕ)
+    → IsSandwiched o r a m b → ⊥
 sandwiched-inside o r n common none a m b h =
     let at : a ≤ n = at_most_common o r n a m b common h in
     let x : List ℕ = take a o ++ m ++ take (n - a) (drop a o) in
@@ -96,12 +101,14 @@ sandwiched-inside o r n common none a m b h =
     none (drop n x) (ap (drop n) whole ∙ drop-append-le n x (drop n o) long)
 
 -- the same of the two rests, as they were cut off
-pub IsSandwich-parts : (o r : List ℕ) (n : ℕ) (m rest tail : List ℕ) → IsCommonPrefix o r n → ((rest : List ℕ) → r ≢ o ++ rest) → ((front : List ℕ) → r ≢ front ++ o) → rest ≡ drop n o → tail ≡ drop n r → tail ≡ m ++ rest → IsSandwich o r n m (length rest)
+pub IsSandwich-parts : (o r : List ℕ) (n : ℕ) (m rest tail : List ℕ) → IsCommonPrefix o r n → ((rest : List ℕ) → r ≢ o ++ rest)
+    → ((front : List ℕ) → r ≢ front ++ o) → rest ≡ drop n o → tail ≡ drop n r → tail ≡ m ++ rest → IsSandwich o r n m (length rest)
 IsSandwich-parts o r n m rest tail common begins ends of_o of_r e =
     subst (λ k. IsSandwich o r n m k) (ap length (sym of_o)) (IsSandwich-inside o r n m common begins ends (sym of_r ∙ e ∙ ap (λ l. m ++ l) of_o))
 
 -- no sandwich is made where what the common front leaves doesn't end the replacement
-pub sandwiched-parts : (o r : List ℕ) (n : ℕ) (rest tail : List ℕ) → IsCommonPrefix o r n → rest ≡ drop n o → tail ≡ drop n r → ((front : List ℕ) → tail ≢ front ++ rest) → (a : ℕ) (m : List ℕ) (b : ℕ) → IsSandwiched o r a m b → ⊥
+pub sandwiched-parts : (o r : List ℕ) (n : ℕ) (rest tail : List ℕ) → IsCommonPrefix o r n → rest ≡ drop n o → tail ≡ drop n r
+    → ((front : List ℕ) → tail ≢ front ++ rest) → (a : ℕ) (m : List ℕ) (b : ℕ) → IsSandwiched o r a m b → ⊥
 sandwiched-parts o r n rest tail common of_o of_r none =
     sandwiched-inside o r n common (λ front e. none front (of_r ∙ e ∙ ap (λ l. front ++ l) (sym of_o)))
 
@@ -221,7 +228,8 @@ pub sandwich-sandwiched : (o r : List ℕ) (a : ℕ) (m : List ℕ) (b : ℕ) �
 unfolding sandwich
 sandwich-sandwiched o r a m b e = of_kept (kept_before o r) refl e
   where
-    of_kept : (k : Option ℕ) → kept_before o r ≡ k → option_map {U = ℕ × List ℕ × ℕ} (λ n. (n, slice_range r n (length r - (length o - n)), length o - n)) k ≡ Some (a, m, b) → IsSandwiched o r a m b
+    of_kept : (k : Option ℕ) → kept_before o r ≡ k
+        → option_map {U = ℕ × List ℕ × ℕ} (λ n. (n, slice_range r n (length r - (length o - n)), length o - n)) k ≡ Some (a, m, b) → IsSandwiched o r a m b
     of_kept None is same = absurd (cc)
     of_kept (Some n) is same =
         let t : ◌≡◌ {A = ℕ × List ℕ × ℕ} (n, slice_range r n (length r - (length o - n)), length o - n) (a, m, b) = cc in

@@ -1,5 +1,6 @@
 -- Laws of what is written for edits, and of the end of the text that is shown.
-use Rattle.std.proofs.Common.{◌≡◌, ◌≢◌, ℕ, suc, ◌+◌, ◌-◌, ◌<◌, ◌≤◌, Bool, false, cond, ◌&&◌, eqb, min, List, [], ◌∷◌, ◌++◌, length, map, take, drop, get_or, count_by, refl, sym, ap, subst, ◌∙◌, ⊎_elim, arith, append_assoc, zero-add}
+use Rattle.std.proofs.Common.{◌≡◌, ◌≢◌, ℕ, suc, ◌+◌, ◌-◌, ◌<◌, ◌≤◌, Bool, false, cond, ◌&&◌, eqb, min, List, [], ◌∷◌, ◌++◌, length, map, take, drop, get_or}
+use Rattle.std.proofs.Common.{count_by, refl, sym, ap, subst, ◌∙◌, ⊎_elim, arith, append_assoc, zero-add}
 use Rattle.std.proofs.lemmas.List.{length-append, take_at, take-take, drop_at, get_or_at, length_push}
 use Rattle.std.proofs.lemmas.Str.{IsUtf8-take, IsUtf8-drop, IsCharBoundary-before_ascii, IsCharBoundary-after_ascii}
 use Rattle.std.specs.Str.{IsUtf8}
@@ -16,7 +17,8 @@ use Rattle.snippet_splice.specs.Shown.{last_text, unless_lone_line_feed, without
 -- ---- an LF in place of each CR LF
 
 -- up to the first CR a text stays
-pub with_line_feeds-split : (xs ys : List ℕ) → ((i : ℕ) → i < length xs → get_or xs i 0 ≢ 13) → with_line_feeds (xs ++ 13 ∷ ys) ≡ xs ++ cond (eqb (get_or ys 0 0) 10) (with_line_feeds ys) (13 ∷ with_line_feeds ys)
+pub with_line_feeds-split : (xs ys : List ℕ) → ((i : ℕ) → i < length xs → get_or xs i 0 ≢ 13)
+    → with_line_feeds (xs ++ 13 ∷ ys) ≡ xs ++ cond (eqb (get_or ys 0 0) 10) (with_line_feeds ys) (13 ∷ with_line_feeds ys)
 with_line_feeds-split [] ys none = refl
 with_line_feeds-split (x ∷ xs) ys none =
     let other : (eqb x 13 && eqb (get_or (xs ++ 13 ∷ ys) 0 0) 10) ≡ false = and_left (eqb x 13) (eqb (get_or (xs ++ 13 ∷ ys) 0 0) 10) (ne_eqb x 13 (none 0 (omega arith))) in
@@ -30,7 +32,8 @@ with_line_feeds-none (x ∷ xs) none =
     cond-false (eqb x 13 && eqb (get_or xs 0 0) 10) (with_line_feeds xs) (x ∷ with_line_feeds xs) other ∙ ap (λ l. x ∷ l) (with_line_feeds-none xs (λ i within. none (suc i) (omega arith)))
 
 -- a step of the loop that adds a text: the front up to a CR was added, and the CR where no LF follows
-pub with_line_feeds-step : (old rest front after more : List ℕ) → rest ≡ front ++ 13 ∷ after → ((i : ℕ) → i < length front → get_or front i 0 ≢ 13) → more ≡ cond (eqb (get_or after 0 0) 10) [] (13 ∷ []) → ((old ++ front) ++ more) ++ with_line_feeds after ≡ old ++ with_line_feeds rest
+pub with_line_feeds-step : (old rest front after more : List ℕ) → rest ≡ front ++ 13 ∷ after → ((i : ℕ) → i < length front → get_or front i 0 ≢ 13)
+    → more ≡ cond (eqb (get_or after 0 0) 10) [] (13 ∷ []) → ((old ++ front) ++ more) ++ with_line_feeds after ≡ old ++ with_line_feeds rest
 with_line_feeds-step old rest front after more e none added =
     let t : Bool = eqb (get_or after 0 0) 10 in
     let tail : more ++ with_line_feeds after ≡ cond t (with_line_feeds after) (13 ∷ with_line_feeds after) = ⊎_elim
@@ -116,7 +119,8 @@ Writes-more source from es out ranges feeds end e left out2 out3 between h one n
 -- ---- the end of a text
 
 -- the last text of trimmed patches is that of the last one
-pub last_text-at : (ps : List TrimmedPatch) (d : TrimmedPatch) → 0 < length ps → last_text (map trimmed_edit_of ps) ≡ (get_or ps (length ps - 1) d).replacement.now
+pub last_text-at : (ps : List TrimmedPatch) (d : TrimmedPatch) → 0 < length ps
+    → last_text (map trimmed_edit_of ps) ≡ (get_or ps (length ps - 1) d).replacement.now
 last_text-at [] d some = absurd (omega arith)
 last_text-at (p ∷ []) d some = refl
 last_text-at (p ∷ q ∷ ps) d some =
@@ -137,7 +141,8 @@ without_final-stays (b ∷ c ∷ cs) unclosed =
     ap (unless_lone_line_feed b) (without_final-stays (c ∷ cs) (λ front e. unclosed (b ∷ front) (ap (λ l. b ∷ l) e)))
 
 -- nothing is taken from a text twice
-without_lone-twice : (b : ℕ) (xs : List ℕ) → without_final_line_feeds xs ≡ xs → without_final_line_feeds (unless_lone_line_feed b xs) ≡ unless_lone_line_feed b xs
+without_lone-twice : (b : ℕ) (xs : List ℕ) → without_final_line_feeds xs ≡ xs
+    → without_final_line_feeds (unless_lone_line_feed b xs) ≡ unless_lone_line_feed b xs
 without_lone-twice b [] stays =
     cond_both (is_lf b) [] (b ∷ []) (λ l. without_final_line_feeds l ≡ l) (λ _. refl) (λ other. cond-false (is_lf b) [] (b ∷ []) other)
 without_lone-twice b (c ∷ cs) stays = ap (unless_lone_line_feed b) stays

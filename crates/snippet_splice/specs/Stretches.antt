@@ -1,5 +1,6 @@
 -- Which stretches of the lines that are shown the texts of trimmed edits take.
-use Rattle.std.specs.Prelude.{ℕ, ◌+◌, ◌-◌, ◌*◌, ◌^◌, nat_lt, min, max, ◌==◌, Bool, Vec, List, [], ◌∷◌, ◌++◌, length, map, take, drop, count_by, chars, if◌then◌else◌}
+use Rattle.std.specs.Prelude.{ℕ, ◌+◌, ◌-◌, ◌*◌, ◌^◌, nat_lt, min, max, ◌==◌, Bool, Vec, List, [], ◌∷◌, ◌++◌, length, map, take, drop, count_by, chars}
+use Rattle.std.specs.Prelude.{if◌then◌else◌}
 use Rattle.std.specs.List.{slice_index_or, slice_range, slice_split}
 use Rattle.std.specs.declared.alloc.Global.{Global}
 use Rattle.snippet_lines.specs.Lines.{is_lf, last_byte, source_lines}

@@ -8,7 +8,8 @@ ghost use Rattle.snippet_splice.specs.Overlap.{AreDisjoint};
 ghost use Rattle.snippet_splice.specs.Copied.{written, written_ranges, end_from};
 ghost use Rattle.snippet_splice.specs.Splice.{IsSplice};
 ghost use Rattle.snippet_splice.specs.Stretches.{source_lines_shown};
-ghost use Rattle.snippet_splice.specs.Shown.{closes_line, shown_start, shown_rest, without_final_line_feeds, shown_text};
+ghost use Rattle.snippet_splice.specs.Shown.{closes_line, shown_start, shown_rest, without_final_line_feeds};
+ghost use Rattle.snippet_splice.specs.Shown.{shown_text};
 
 use crate::copy::push_copied;
 use crate::patches::{TrimmedPatch, trimmed_patches};

@@ -1,12 +1,16 @@
 //! Which stretches of lines a suggested edit writes anew, and which of the source it replaces.
-ghost use Rattle.std.specs.Prelude.{◌≡◌, ◌==◌, ◌≤◌, ◌<◌, ◌^◌, nat_lt, ℕ, List, ◌++◌, ◌∷◌, [], All, IfOk, OnOk, chars, count_by, length, map, max, ◌+◌, if◌then◌else◌};
+ghost use Rattle.std.specs.Prelude.{◌≡◌, ◌==◌, ◌≤◌, ◌<◌, ◌^◌, nat_lt, ℕ, List, ◌++◌, ◌∷◌, [], All, IfOk, OnOk, chars};
+ghost use Rattle.std.specs.Prelude.{count_by, length, map, max, ◌+◌, if◌then◌else◌};
 ghost use Rattle.std.specs.List.{slice_range};
 ghost use Rattle.std.specs.Str.{IsUtf8};
 ghost use Rattle.snippet_lines.specs.Lines.{is_lf};
 ghost use Rattle.snippet_lines.specs.Span.{IsSpan, IsSpanBorder};
 ghost use Rattle.snippet_splice.specs.Copied.{in_text};
 ghost use Rattle.snippet_splice.specs.Edits.{AreApart, trimmed_edit_of};
-ghost use Rattle.snippet_splice.specs.Stretches.{after_last_lf, capped, characters_before, end_character, extent_of, extents_from, feeds_made, line_stretches, lines_over, pieces_of, pieces_on, replaced_on, start_character, stretches_on, taken_on, without_cr};
+ghost use Rattle.snippet_splice.specs.Stretches.{after_last_lf, capped, characters_before, end_character, extent_of};
+ghost use Rattle.snippet_splice.specs.Stretches.{extents_from, feeds_made, line_stretches, lines_over, pieces_of};
+ghost use Rattle.snippet_splice.specs.Stretches.{pieces_on, replaced_on, start_character, stretches_on, taken_on};
+ghost use Rattle.snippet_splice.specs.Stretches.{without_cr};
 ghost use Rattle.snippet_splice.specs.Stretches as spec;
 
 use crate::copy::text_place;

@@ -27,7 +27,8 @@ pub filter_map_cases : {X Y : Type 0} (h : X → Option Y) (xs : List X) (y : Y)
 filter_map_cases {X} {Y} h [] y here = absurd here
 filter_map_cases {X} {Y} h (x ∷ xs) y here = by_first (filter_map_cases h xs y) (h x) refl here
   where
-    by_first : (Among (filter_map h xs) y → (z : X) × Among xs z × (h z ≡ Some y)) → (o : Option Y) → h x ≡ o → Among (cons_option o (filter_map h xs)) y → (z : X) × Among (x ∷ xs) z × (h z ≡ Some y)
+    by_first : (Among (filter_map h xs) y → (z : X) × Among xs z × (h z ≡ Some y)) → (o : Option Y) → h x ≡ o → Among (cons_option o (filter_map h xs)) y
+        → (z : X) × Among (x ∷ xs) z × (h z ≡ Some y)
     by_first rest None is among = let more = rest among in (more.0, inr more.1, more.2)
     by_first rest (Some w) is (inl same) = (x, inl refl, is ∙ ap Some same)
     by_first rest (Some w) is (inr later) = let more = rest later in (more.0, inr more.1, more.2)

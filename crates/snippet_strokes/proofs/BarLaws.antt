@@ -65,7 +65,8 @@ module _ (layout : Layout) (room : ℕ) (closes : Bool) (text : List ℕ) (dropp
   past = bars_apart open_bars (ends_of_bars es)
 
   -- so each of these stands beside each of the line's rows, in the cell of its depth, where no other has that depth
-  pub bar_past : AreLineRows layout room closes text dropped open_bars es source rows → (bar : OpenBar) → Contains past bar → HasOwnDepth bar past → (i : ℕ) → i < length rows → cell_at rows i (layout.gutter + 2 + bar.depth) ≡ bar_part layout Solid bar
+  pub bar_past : AreLineRows layout room closes text dropped open_bars es source rows → (bar : OpenBar) → Contains past bar → HasOwnDepth bar past → (i : ℕ)
+      → i < length rows → cell_at rows i (layout.gutter + 2 + bar.depth) ≡ bar_part layout Solid bar
   bar_past drawn bar among alone i within =
       let rule : List Cell → List Cell = with_bars layout Solid past in
       let inside : i < length drawn.own = omega (arith, within, ap length drawn.rows_are, length-map drawn.own rule) in

@@ -1,8 +1,10 @@
 -- What drawing bars keeps.
-use Rattle.std.proofs.Common.{◌≡◌, ℕ, ◌+◌, ◌-◌, ◌<◌, ◌≤◌, ◌==◌, ◌&&◌, max, true, false, Bool, None, List, [], ◌∷◌, ◌++◌, length, take, drop, get_or, refl, sym, ap, ◌∙◌, subst, arith, inl, inr, All}
+use Rattle.std.proofs.Common.{◌≡◌, ℕ, ◌+◌, ◌-◌, ◌<◌, ◌≤◌, ◌==◌, ◌&&◌, max, true, false, Bool, None, List, [], ◌∷◌, ◌++◌, length, take, drop, get_or, refl, sym}
+use Rattle.std.proofs.Common.{ap, ◌∙◌, subst, arith, inl, inr, All}
 use Rattle.std.specs.List.{list_any, slice_index_or}
 use Rattle.std.proofs.lemmas.Bool.{cases_lt}
-use Rattle.std.proofs.lemmas.List.{places, same_lists, get_or_at, get_or_default, get_or_append_left, get_or_past, get_or-drop, get_or-take, length-drop, length-take, length-append, length-take-le, ext_get_or, drop-drop, drop_more}
+use Rattle.std.proofs.lemmas.List.{places, same_lists, get_or_at, get_or_default, get_or_append_left, get_or_past, get_or-drop, get_or-take, length-drop}
+use Rattle.std.proofs.lemmas.List.{length-take, length-append, length-take-le, ext_get_or, drop-drop, drop_more}
 use Rattle.std.proofs.lemmas.List.Elements.{All-cons, All-from_get_or, All-get_or, All-head, All-nil, All-tail}
 use Rattle.snippet_view.specs.declared.entries.LineAnnotation.{LineAnnotation}
 use Rattle.snippet_view.specs.Window.{AreReplaced}
@@ -128,7 +130,8 @@ BarsDrawn-write layout old new row at cells writes right near bar_cell clean =
     }
 
 -- a row with parts of bars
-BarsDrawn-with_bar : (layout : Layout) (stroke : BarStroke) (bar : OpenBar) (row : List Cell) → HasRoom layout bar → BarsDrawn layout row (with_bar layout stroke row bar)
+BarsDrawn-with_bar : (layout : Layout) (stroke : BarStroke) (bar : OpenBar) (row : List Cell) → HasRoom layout bar
+    → BarsDrawn layout row (with_bar layout stroke row bar)
 BarsDrawn-with_bar layout stroke bar row room =
     let part : Cell = bar_part layout stroke bar in
     let at : ℕ = layout.gutter + 2 + bar.depth in
@@ -140,7 +143,8 @@ BarsDrawn-with_bar layout stroke bar row room =
     (omega (arith, room.1)) (All-cons (IsBarCell layout.decor) part [] is (All-nil (IsBarCell layout.decor)))
     (All-cons IsFreeCell part [] free (All-nil IsFreeCell)))
 
-BarsDrawn-with_bars : (layout : Layout) (stroke : BarStroke) (bars : List OpenBar) (row : List Cell) → All (HasRoom layout) bars → BarsDrawn layout row (with_bars layout stroke bars row)
+BarsDrawn-with_bars : (layout : Layout) (stroke : BarStroke) (bars : List OpenBar) (row : List Cell) → All (HasRoom layout) bars
+    → BarsDrawn layout row (with_bars layout stroke bars row)
 BarsDrawn-with_bars layout stroke [] row room = BarsDrawn-none layout row
 BarsDrawn-with_bars layout stroke (bar ∷ bars) row room =
     let mid : List Cell = with_bar layout stroke row bar in
@@ -149,7 +153,8 @@ BarsDrawn-with_bars layout stroke (bar ∷ bars) row room =
     (BarsDrawn-with_bars layout stroke bars mid (All-tail (HasRoom layout) bar bars room))
 
 -- rows with parts of bars in each from one on: bars are drawn there, and nothing else
-pub DrawsBars-barred : (layout : Layout) (stroke : BarStroke) (bars : List OpenBar) (row : ℕ) (old new : List (List Cell)) → All (HasRoom layout) bars → new ≡ barred layout stroke bars row old → DrawsBars layout row old new
+pub DrawsBars-barred : (layout : Layout) (stroke : BarStroke) (bars : List OpenBar) (row : ℕ) (old new : List (List Cell)) → All (HasRoom layout) bars
+    → new ≡ barred layout stroke bars row old → DrawsBars layout row old new
 DrawsBars-barred layout stroke bars row old new room is =
     let rule : List Cell → List Cell = with_bars layout stroke bars in
     subst (DrawsBars layout row old) (sym is) (record {
@@ -159,14 +164,16 @@ DrawsBars-barred layout stroke bars row old new room is =
     })
 
 -- the cells from the code on are as they were
-drawn_right : (layout : Layout) (old new : List Cell) → BarsDrawn layout old new → (c : ℕ) → layout.code ≤ c → slice_index_or new c SPACE ≡ slice_index_or old c SPACE
+drawn_right : (layout : Layout) (old new : List Cell) → BarsDrawn layout old new → (c : ℕ) → layout.code ≤ c
+    → slice_index_or new c SPACE ≡ slice_index_or old c SPACE
 drawn_right layout old new drawn c right =
     let k : ℕ = c - layout.code in
     let same : layout.code + k ≡ c = omega (arith, right) in
     subst (λ n. get_or new n SPACE ≡ get_or old n SPACE) same (sym (get_or-drop layout.code new k SPACE) ∙ ap (λ cells. get_or cells k SPACE) drawn.code ∙ get_or-drop layout.code old k SPACE)
 
 -- and so are those of the front
-drawn_front : (layout : Layout) (old new : List Cell) → BarsDrawn layout old new → layout.gutter + 2 ≤ length old → take (layout.gutter + 2) new ≡ take (layout.gutter + 2) old
+drawn_front : (layout : Layout) (old new : List Cell) → BarsDrawn layout old new → layout.gutter + 2 ≤ length old
+    → take (layout.gutter + 2) new ≡ take (layout.gutter + 2) old
 drawn_front layout old new drawn long =
     let n : ℕ = layout.gutter + 2 in
     let here : length (take n new) ≡ n = length-take-le n new (omega (arith, drawn.longer, long)) in
@@ -176,7 +183,8 @@ drawn_front layout old new drawn long =
     get_or-take n new k SPACE left ∙ drawn.left k (omega (arith, left)) ∙ sym (get_or-take n old k SPACE left))
 
 -- a source row is as it was but for its bars
-pub IsBeside-drawn : (layout : Layout) (wide : ℕ) (plain old new : List Cell) → layout.gutter + 2 ≤ length plain → IsBeside layout wide plain old → BarsDrawn layout old new → IsBeside layout wide plain new
+pub IsBeside-drawn : (layout : Layout) (wide : ℕ) (plain old new : List Cell) → layout.gutter + 2 ≤ length plain → IsBeside layout wide plain old
+    → BarsDrawn layout old new → IsBeside layout wide plain new
 IsBeside-drawn layout wide plain old new long is drawn =
     let n : ℕ = layout.gutter + 2 in
     let enough : n ≤ length old = omega (arith, long, ap length is.front, length-take n old, length-take n plain) in
@@ -190,7 +198,8 @@ IsBeside-drawn layout wide plain old new long is drawn =
     }
 
 -- so is a row of strokes
-IsStrokeRow-drawn : (layout : Layout) (plain : Bool) (es : List LineAnnotation) (closes : Bool) (old new : List Cell) → IsStrokeRow layout plain es closes old → BarsDrawn layout old new → IsStrokeRow layout plain es closes new
+IsStrokeRow-drawn : (layout : Layout) (plain : Bool) (es : List LineAnnotation) (closes : Bool) (old new : List Cell) → IsStrokeRow layout plain es closes old
+    → BarsDrawn layout old new → IsStrokeRow layout plain es closes new
 IsStrokeRow-drawn layout plain es closes old new is drawn =
     record {
       left = λ c left. drawn.left c left ∙ is.left c left;
@@ -199,7 +208,8 @@ IsStrokeRow-drawn layout plain es closes old new is drawn =
       free = drawn.free is.free;
     }
 
-ShowsMarks-drawn : (layout : Layout) (es : List LineAnnotation) (old new : List Cell) → ShowsMarks layout.decor layout.code es old → BarsDrawn layout old new → ShowsMarks layout.decor layout.code es new
+ShowsMarks-drawn : (layout : Layout) (es : List LineAnnotation) (old new : List Cell) → ShowsMarks layout.decor layout.code es old → BarsDrawn layout old new
+    → ShowsMarks layout.decor layout.code es new
 ShowsMarks-drawn layout es old new shows drawn =
     let same : (p : ℕ) → slice_index_or new (layout.code + p) SPACE ≡ slice_index_or old (layout.code + p) SPACE = λ p. drawn_right layout old new drawn (layout.code + p) (omega arith) in
     record {

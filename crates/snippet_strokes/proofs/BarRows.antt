@@ -1,7 +1,9 @@
 -- Rows with bars: what drawing them one side after another makes.
-use Rattle.std.proofs.Common.{◌≡◌, ℕ, zero, suc, ◌+◌, ◌-◌, ◌<◌, ◌≤◌, List, [], ◌∷◌, ◌++◌, length, map, take, drop, replicate, get_or, refl, sym, ap, ◌∙◌, subst, arith, inl, inr}
+use Rattle.std.proofs.Common.{◌≡◌, ℕ, zero, suc, ◌+◌, ◌-◌, ◌<◌, ◌≤◌, List, [], ◌∷◌, ◌++◌, length, map, take, drop, replicate, get_or, refl, sym, ap, ◌∙◌, subst}
+use Rattle.std.proofs.Common.{arith, inl, inr}
 use Rattle.std.proofs.lemmas.Bool.{cases_lt, cases_eq}
-use Rattle.std.proofs.lemmas.List.{drop_all, ext_get_or, get_or_append_left, get_or-append_right, get_or-drop, get_or-map, get_or-replicate, get_or-take, length-append, length-drop, length-map, length-replicate, length-take-le, take_all, take_more}
+use Rattle.std.proofs.lemmas.List.{drop_all, ext_get_or, get_or_append_left, get_or-append_right, get_or-drop, get_or-map, get_or-replicate, get_or-take}
+use Rattle.std.proofs.lemmas.List.{length-append, length-drop, length-map, length-replicate, length-take-le, take_all, take_more}
 use Rattle.std.proofs.lemmas.List.Sums.{fold-append}
 use Rattle.snippet_grid.specs.Grid.{cells_written, row_at}
 use Rattle.snippet_grid.proofs.GridLemmas.{row_at-cells_written_other, row_at-cells_written_same, WritesCells-cells_written}
@@ -33,7 +35,9 @@ ChangesRows-none rule row end rows none =
     }
 
 -- one row more, in which these cells were written
-pub ChangesRows-next : (at : ℕ) (cells : List Cell) (row r : ℕ) (old mid new : List (List Cell)) → row ≤ r → r < length old → ChangesRows (λ cs. written SPACE cs at cells) row r old mid → new ≡ cells_written mid r at cells → ChangesRows (λ cs. written SPACE cs at cells) row (r + 1) old new
+pub ChangesRows-next : (at : ℕ) (cells : List Cell) (row r : ℕ) (old mid new : List (List Cell)) → row ≤ r → r < length old
+    → ChangesRows (λ cs. written SPACE cs at cells) row r old mid → new ≡ cells_written mid r at cells
+    → ChangesRows (λ cs. written SPACE cs at cells) row (r + 1) old new
 ChangesRows-next at cells row r old mid new low there done writes =
     let here : row_at new r ≡ written SPACE (row_at mid r) at cells = ap (λ rows. row_at rows r) writes ∙ row_at-cells_written_same mid r at cells in
     record {
@@ -51,7 +55,8 @@ ChangesRows-next at cells row r old mid new low there done writes =
     beside n other = ap (λ rows. row_at rows n) writes ∙ row_at-cells_written_other mid r at cells n other
 
 -- where all rows from `row` on were changed, they are a value
-pub changed-is : (rule : List Cell → List Cell) (row end : ℕ) (old new : List (List Cell)) → length old ≤ end → ChangesRows rule row end old new → new ≡ changed_from rule row old
+pub changed-is : (rule : List Cell → List Cell) (row end : ℕ) (old new : List (List Cell)) → length old ≤ end → ChangesRows rule row end old new
+    → new ≡ changed_from rule row old
 changed-is rule row end old new all changes =
     elim (cases_lt row (length old)) [
       | inl inside ↦
@@ -78,14 +83,16 @@ changed-is rule row end old new all changes =
     append_none (x ∷ rows) = ap (λ rs. x ∷ rs) (append_none rows)
 
 -- a rule that changes nothing
-pub changed-same : (rule : List Cell → List Cell) (row : ℕ) (rows : List (List Cell)) → ((cells : List Cell) → rule cells ≡ cells) → changed_from rule row rows ≡ rows
+pub changed-same : (rule : List Cell → List Cell) (row : ℕ) (rows : List (List Cell)) → ((cells : List Cell) → rule cells ≡ cells)
+    → changed_from rule row rows ≡ rows
 changed-same rule zero [] same = refl
 changed-same rule zero (x ∷ rows) same = ap (λ y. y ∷ map rule rows) (same x) ∙ ap (λ rs. x ∷ rs) (changed-same rule zero rows same)
 changed-same rule (suc row) [] same = refl
 changed-same rule (suc row) (x ∷ rows) same = ap (λ rs. x ∷ rs) (changed-same rule row rows same)
 
 -- one rule after another, where a third one does what both do
-pub changed-more : (first second both : List Cell → List Cell) (row : ℕ) (rows : List (List Cell)) → ((cells : List Cell) → second (first cells) ≡ both cells) → changed_from second row (changed_from first row rows) ≡ changed_from both row rows
+pub changed-more : (first second both : List Cell → List Cell) (row : ℕ) (rows : List (List Cell)) → ((cells : List Cell) → second (first cells) ≡ both cells)
+    → changed_from second row (changed_from first row rows) ≡ changed_from both row rows
 changed-more first second both zero [] same = refl
 changed-more first second both zero (x ∷ rows) same =
     ap (λ y. y ∷ map second (map first rows)) (same x) ∙ ap (λ rs. both x ∷ rs) (changed-more first second both zero rows same)
@@ -105,7 +112,8 @@ changed-count rule (suc row) [] = refl
 changed-count rule (suc row) (x ∷ rows) = ap suc (changed-count rule row rows)
 
 -- each row is as it was, or changed by the rule
-pub changed-row : (P : List Cell → List Cell → Type 0) (rule : List Cell → List Cell) (row : ℕ) (rows : List (List Cell)) → ((cells : List Cell) → P cells cells) → ((cells : List Cell) → P cells (rule cells)) → (r : ℕ) → P (row_at rows r) (row_at (changed_from rule row rows) r)
+pub changed-row : (P : List Cell → List Cell → Type 0) (rule : List Cell → List Cell) (row : ℕ) (rows : List (List Cell))
+    → ((cells : List Cell) → P cells cells) → ((cells : List Cell) → P cells (rule cells)) → (r : ℕ) → P (row_at rows r) (row_at (changed_from rule row rows) r)
 changed-row P rule zero [] stays changes r = stays []
 changed-row P rule zero (x ∷ rows) stays changes zero = changes x
 changed-row P rule zero (x ∷ rows) stays changes (suc r) = changed-row P rule zero rows stays changes r
@@ -114,14 +122,16 @@ changed-row P rule (suc row) (x ∷ rows) stays changes zero = stays x
 changed-row P rule (suc row) (x ∷ rows) stays changes (suc r) = changed-row P rule row rows stays changes r
 
 -- bars beside the rows that stand below others
-pub barred-below : (layout : Layout) (stroke : BarStroke) (bars : List OpenBar) (above rows : List (List Cell)) → barred layout stroke bars (length above) (above ++ rows) ≡ above ++ map (with_bars layout stroke bars) rows
+pub barred-below : (layout : Layout) (stroke : BarStroke) (bars : List OpenBar) (above rows : List (List Cell))
+    → barred layout stroke bars (length above) (above ++ rows) ≡ above ++ map (with_bars layout stroke bars) rows
 barred-below layout stroke bars [] rows = refl
 barred-below layout stroke bars (x ∷ above) rows = ap (λ rs. x ∷ rs) (barred-below layout stroke bars above rows)
 
 -- ---- bars that stand side by side
 
 -- a cell more of a text that repeats one
-written-next : (row : List Cell) (at n : ℕ) (cell : Cell) → written SPACE (written SPACE row at (replicate n cell)) (at + n) (cell ∷ []) ≡ written SPACE row at (replicate (n + 1) cell)
+written-next : (row : List Cell) (at n : ℕ) (cell : Cell)
+    → written SPACE (written SPACE row at (replicate n cell)) (at + n) (cell ∷ []) ≡ written SPACE row at (replicate (n + 1) cell)
 written-next row at n cell =
     let few : List Cell = replicate n cell in
     let more : List Cell = replicate (n + 1) cell in
@@ -159,13 +169,15 @@ written-next row at n cell =
 
 module _ (layout : Layout) (stroke : BarStroke) where
   -- a bar that stands so many cells right of another, in its role, has its part
-  beside_part : (first bar : OpenBar) (k : ℕ) (row : List Cell) → StandsBeside first k bar → with_bar layout stroke row bar ≡ written SPACE row (layout.gutter + 2 + first.depth + k) (bar_part layout stroke first ∷ [])
+  beside_part : (first bar : OpenBar) (k : ℕ) (row : List Cell) → StandsBeside first k bar
+      → with_bar layout stroke row bar ≡ written SPACE row (layout.gutter + 2 + first.depth + k) (bar_part layout stroke first ∷ [])
   beside_part first bar k row beside =
       let place : layout.gutter + 2 + bar.depth ≡ layout.gutter + 2 + first.depth + k = omega (arith, beside.depth) in
       ap (λ n. written SPACE row n (bar_part layout stroke bar ∷ [])) place ∙ ap (λ p. written SPACE row (layout.gutter + 2 + first.depth + k) (unlinked_cell (underline_role p) (bar_glyph stroke layout.decor p) ∷ [])) beside.primary
 
   -- one bar more
-  bars_more : (bars : List OpenBar) (i : ℕ) (d : OpenBar) (row : List Cell) → i < length bars → with_bars layout stroke (take (i + 1) bars) row ≡ with_bar layout stroke (with_bars layout stroke (take i bars) row) (get_or bars i d)
+  bars_more : (bars : List OpenBar) (i : ℕ) (d : OpenBar) (row : List Cell) → i < length bars
+      → with_bars layout stroke (take (i + 1) bars) row ≡ with_bar layout stroke (with_bars layout stroke (take i bars) row) (get_or bars i d)
   bars_more bars i d row within =
       ap (λ bs. with_bars layout stroke bs row) (take_more bars i d within) ∙ fold-append (with_bar layout stroke) row (take i bars) (get_or bars i d ∷ [])
 

@@ -1,5 +1,6 @@
 -- The writes of the lines that lead to bars, and of bars with their corners.
-use Rattle.std.proofs.Common.{◌≡◌, ℕ, ◌+◌, ◌-◌, ◌<◌, ◌≤◌, nat_lt, cond, true, false, List, [], ◌∷◌, length, get_or, replicate, refl, sym, ap, ◌∙◌, subst, arith, All}
+use Rattle.std.proofs.Common.{◌≡◌, ℕ, ◌+◌, ◌-◌, ◌<◌, ◌≤◌, nat_lt, cond, true, false, List, [], ◌∷◌, length, get_or, replicate, refl, sym, ap, ◌∙◌, subst, arith}
+use Rattle.std.proofs.Common.{All}
 use Rattle.std.specs.List.{range_with_len}
 use Rattle.std.proofs.lemmas.List.Elements.{All-append, All-cons, All-head, All-map, All-nil, All-replicate, All-tail}
 use Rattle.std.proofs.lemmas.List.FromFn.{get_or-range_with_len, length-range_with_len}
@@ -18,11 +19,13 @@ use Rattle.snippet_grid.specs.Layout.{Layout}
 use Rattle.snippet_marks.specs.declared.positions.PlacedEntry.{PlacedEntry}
 use Rattle.snippet_strokes.specs.EntryMarks.{HasBarCell, HasBarCellAt, IsBarCell, is_single}
 use Rattle.snippet_strokes.specs.Drawing.{DrawsBarCells, DrawsFrom, HasRows, KeepsBarCells}
-use Rattle.snippet_strokes.specs.Strokes.{bar_of, bottom_of, connector_by, connector_of, connectors_of, corner_by, corner_of, corners_of, line_to, top_of, column_of}
+use Rattle.snippet_strokes.specs.Strokes.{bar_of, bottom_of, connector_by, connector_of, connectors_of, corner_by, corner_of, corners_of, line_to, top_of}
+use Rattle.snippet_strokes.specs.Strokes.{column_of}
 use Rattle.snippet_marks.specs.Painting.{stroke_role}
 use Rattle.snippet_strokes.specs.Reach.{IsWithin}
 use Rattle.snippet_marks.specs.Writes.{Write, glyph_at, painted, stretch_of, written_by}
-use Rattle.snippet_strokes.proofs.DrawLemmas.{DrawsBarCells-more, DrawsBarCells-none, DrawsBarCells-writes, free_bar, bar_bottom, bar_horizontal, bar_top, bar_vertical}
+use Rattle.snippet_strokes.proofs.DrawLemmas.{DrawsBarCells-more, DrawsBarCells-none, DrawsBarCells-writes, free_bar, bar_bottom, bar_horizontal, bar_top}
+use Rattle.snippet_strokes.proofs.DrawLemmas.{bar_vertical}
 use Rattle.snippet_strokes.proofs.WriteLaws.{All-flat_map, DrawsFrom-painted, flat_map-none, painted-cell}
 use Rattle.snippet_strokes.proofs.StrokeWrites.{column_of-none, column_painted}
 use Rattle.snippet_marks.proofs.WriteLemmas.{painted-append}
@@ -32,7 +35,8 @@ abbrev pub IsBarCellWrite : DecorStyle → Write → Type 0
 IsBarCellWrite decor w = All (λ ch. IsBarCell decor (unlinked_cell w.role ch)) w.text
 
 -- such writes leave nothing else left of the code
-pub KeepsBarCells-painted : (layout : Layout) (ws : List Write) (rows : List (List Cell)) → All (IsBarCellWrite layout.decor) ws → KeepsBarCells layout rows (painted ws rows)
+pub KeepsBarCells-painted : (layout : Layout) (ws : List Write) (rows : List (List Cell)) → All (IsBarCellWrite layout.decor) ws
+    → KeepsBarCells layout rows (painted ws rows)
 KeepsBarCells-painted layout ws rows bar_cells r c left before =
     let R : Cell → Type 0 = IsBarCell layout.decor in
     painted-cell R ws rows r c before (λ k d within there.
@@ -42,7 +46,8 @@ KeepsBarCells-painted layout ws rows bar_cells r c left before =
 -- ---- lines to bars
 
 -- what holds of the one text of a stretch
-pub All-stretch_of : (P : Write → Type 0) (row from to glyph : ℕ) (role : ElementStyle) → P (record { row = row; cell = from; text = replicate (to - from) glyph; role = role }) → All P (stretch_of row from to glyph role)
+pub All-stretch_of : (P : Write → Type 0) (row from to glyph : ℕ) (role : ElementStyle)
+    → P (record { row = row; cell = from; text = replicate (to - from) glyph; role = role }) → All P (stretch_of row from to glyph role)
 All-stretch_of P row from to glyph role holds =
     let w : Write = record { row = row; cell = from; text = replicate (to - from) glyph; role = role } in
     elim (nat_lt from to) as (λ b. All P (cond b (w ∷ []) [])) [
@@ -51,7 +56,8 @@ All-stretch_of P row from to glyph role holds =
     ]
 
 -- what holds of the lines of starts and ends holds of those of all entries
-pub All-connector_of : (P : Write → Type 0) (layout : Layout) (row : ℕ) (e : PlacedEntry) → ((depth : ℕ) → All P (line_to layout row e depth)) → All P (connector_of layout row e)
+pub All-connector_of : (P : Write → Type 0) (layout : Layout) (row : ℕ) (e : PlacedEntry) → ((depth : ℕ) → All P (line_to layout row e depth))
+    → All P (connector_of layout row e)
 All-connector_of P layout row e holds = by_part e.entry.annotation_type
   where
     by_part : (part : LineAnnotationType) → All P (connector_by layout row e part)
@@ -61,7 +67,8 @@ All-connector_of P layout row e holds = by_part e.entry.annotation_type
     by_part (MultilineLine depth) = All-nil P
 
 -- they stand in rows that are there, right of the separator
-pub connectors_within : (layout : Layout) (row count : ℕ) (es : List PlacedEntry) → All (HasRows row count) es → All (IsWithin row count (layout.gutter + 3)) (connectors_of layout row es)
+pub connectors_within : (layout : Layout) (row count : ℕ) (es : List PlacedEntry) → All (HasRows row count) es
+    → All (IsWithin row count (layout.gutter + 3)) (connectors_of layout row es)
 connectors_within layout row count es rows =
     let W : Write → Type 0 = IsWithin row count (layout.gutter + 3) in
     All-flat_map W (connector_of layout row) es (λ k d within.
@@ -90,11 +97,13 @@ connectors_bar_cells layout row es =
     All-connector_of R layout row e (λ depth. All-stretch_of R (row + e.position) (layout.gutter + 3 + depth) to glyph (stroke_role e) (All-replicate P (to - (layout.gutter + 3 + depth)) glyph (bar_horizontal layout.decor primary (stroke_role e) glyph refl))))
 
 -- so they are drawn right of the separator, and left of the code they are nothing but parts of bars
-pub DrawsFrom-connectors : (layout : Layout) (row : ℕ) (es : List PlacedEntry) (old : List (List Cell)) → All (HasRows row (length old)) es → DrawsFrom row (layout.gutter + 3) old (painted (connectors_of layout row es) old)
+pub DrawsFrom-connectors : (layout : Layout) (row : ℕ) (es : List PlacedEntry) (old : List (List Cell)) → All (HasRows row (length old)) es
+    → DrawsFrom row (layout.gutter + 3) old (painted (connectors_of layout row es) old)
 DrawsFrom-connectors layout row es old rows =
     DrawsFrom-painted row (layout.gutter + 3) (connectors_of layout row es) old (connectors_within layout row (length old) es rows)
 
-pub KeepsBarCells-connectors : (layout : Layout) (row : ℕ) (es : List PlacedEntry) (old : List (List Cell)) → KeepsBarCells layout old (painted (connectors_of layout row es) old)
+pub KeepsBarCells-connectors : (layout : Layout) (row : ℕ) (es : List PlacedEntry) (old : List (List Cell))
+    → KeepsBarCells layout old (painted (connectors_of layout row es) old)
 KeepsBarCells-connectors layout row es old =
     KeepsBarCells-painted layout (connectors_of layout row es) old (connectors_bar_cells layout row es)
 
@@ -132,7 +141,8 @@ pub record IsBarWrite (layout : Layout) (row count : ℕ) (w : Write) : Type 0 w
   pub bar_cell : IsBarCell layout.decor (unlinked_cell w.role ch)
 
 -- writes of bars, painted, draw cells of bars alone
-pub DrawsBarCells-painted : (layout : Layout) (row count : ℕ) (ws : List Write) (old : List (List Cell)) → count ≡ length old → All (IsBarWrite layout row count) ws → DrawsBarCells layout row old (painted ws old)
+pub DrawsBarCells-painted : (layout : Layout) (row count : ℕ) (ws : List Write) (old : List (List Cell)) → count ≡ length old
+    → All (IsBarWrite layout row count) ws → DrawsBarCells layout row old (painted ws old)
 DrawsBarCells-painted layout row count [] old is all = DrawsBarCells-none layout row old
 DrawsBarCells-painted layout row count (w ∷ ws) old is all =
     let B : Write → Type 0 = IsBarWrite layout row count in
@@ -147,7 +157,8 @@ DrawsBarCells-painted layout row count (w ∷ ws) old is all =
     bar.below there bar.right bar.left bar.bar_cell) (DrawsBarCells-painted layout row count ws mid same (All-tail B w ws all))
 
 -- what holds of each glyph of a column
-pub All-column_of : (P : Write → Type 0) (start end cell glyph : ℕ) (role : ElementStyle) → ((r : ℕ) → start ≤ r → r < end → P (glyph_at r cell glyph role)) → All P (column_of start end cell glyph role)
+pub All-column_of : (P : Write → Type 0) (start end cell glyph : ℕ) (role : ElementStyle) → ((r : ℕ) → start ≤ r → r < end → P (glyph_at r cell glyph role))
+    → All P (column_of start end cell glyph role)
 All-column_of P start end cell glyph role holds =
     let f : ℕ → Write = λ r. glyph_at r cell glyph role in
     All-map P f (range_with_len start (end - start)) (λ k d within.
@@ -155,14 +166,16 @@ All-column_of P start end cell glyph role holds =
     subst (λ n. P (f n)) (sym (get_or-range_with_len start (end - start) k d inside)) (holds (start + k) (omega arith) (omega (arith, inside))))
 
 -- bars and corners are such glyphs
-pub corners_bars : (layout : Layout) (row count : ℕ) (es : List PlacedEntry) → All (λ e. HasBarCell layout e.entry) es → All (HasRows (row + 1) count) es → All (IsBarWrite layout row count) (corners_of layout row count es)
+pub corners_bars : (layout : Layout) (row count : ℕ) (es : List PlacedEntry) → All (λ e. HasBarCell layout e.entry) es → All (HasRows (row + 1) count) es
+    → All (IsBarWrite layout row count) (corners_of layout row count es)
 corners_bars layout row count es bar_cells rows =
     All-flat_map (IsBarWrite layout row count) (corner_of layout row count) es (λ k d within. by_part (get_or es k d) (rows k d within) (get_or es k d).entry.annotation_type (bar_cells k d within))
   where
     B : Write → Type 0
     B = IsBarWrite layout row count
 
-    bar : (e : PlacedEntry) (depth start end : ℕ) → 0 < depth → layout.gutter + 3 + depth < layout.code → row ≤ start → end ≤ count → All B (bar_of layout e depth start end)
+    bar : (e : PlacedEntry) (depth start end : ℕ) → 0 < depth → layout.gutter + 3 + depth < layout.code → row ≤ start → end ≤ count
+        → All B (bar_of layout e depth start end)
     bar e depth start end some room low high =
         let primary = is_primary e.entry.kind in
         let glyph : ℕ = (strokes_of layout.decor primary).bar in
@@ -209,7 +222,8 @@ corners_bars layout row count es bar_cells rows =
     by_part e has (MultilineLine depth) bar_cell = All-nil B
 
 -- so bars with their corners are drawn where bars stand, and are nothing but parts of bars
-pub DrawsBarCells-corners : (layout : Layout) (row : ℕ) (es : List PlacedEntry) (old : List (List Cell)) → All (λ e. HasBarCell layout e.entry) es → All (HasRows (row + 1) (length old)) es → DrawsBarCells layout row old (painted (corners_of layout row (length old) es) old)
+pub DrawsBarCells-corners : (layout : Layout) (row : ℕ) (es : List PlacedEntry) (old : List (List Cell)) → All (λ e. HasBarCell layout e.entry) es
+    → All (HasRows (row + 1) (length old)) es → DrawsBarCells layout row old (painted (corners_of layout row (length old) es) old)
 DrawsBarCells-corners layout row es old bar_cells rows =
     DrawsBarCells-painted layout row (length old) (corners_of layout row (length old) es) old refl (corners_bars layout row (length old) es bar_cells rows)
 

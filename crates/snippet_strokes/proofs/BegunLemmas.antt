@@ -1,10 +1,12 @@
 -- The rows that strokes are drawn into: as they are begun, read from the left or the right, and cut where entries are wide.
-use Rattle.std.proofs.Common.{◌≡◌, ℕ, ◌+◌, ◌-◌, ◌<◌, ◌≤◌, ◌==◌, ◌&&◌, cond, nat_lt, Bool, true, false, List, [], ◌∷◌, ◌++◌, length, take, drop, replicate, get_or, refl, sym, ap, ◌∙◌, subst, arith, inl, inr, All, Contains, zero, suc, map}
+use Rattle.std.proofs.Common.{◌≡◌, ℕ, ◌+◌, ◌-◌, ◌<◌, ◌≤◌, ◌==◌, ◌&&◌, cond, nat_lt, Bool, true, false, List, [], ◌∷◌, ◌++◌, length, take, drop, replicate}
+use Rattle.std.proofs.Common.{get_or, refl, sym, ap, ◌∙◌, subst, arith, inl, inr, All, Contains, zero, suc, map}
 use Rattle.std.specs.List.{list_all, slice_index_or}
 use Rattle.std.specs.List.Sorted.{IsPermutation}
 use Rattle.std.proofs.lemmas.Bool.{and_parts, cases_lt, cases_eq}
 use Rattle.std.proofs.lemmas.Bool.Decides.{nat_tests}
-use Rattle.std.proofs.lemmas.List.{places, length-append, length-replicate, get_or_append_left, get_or_push, length_push, get_or-drop, get_or_past, get_or-replicate, ext_get_or, append-nil, append_assoc, take-append-drop, drop_all, get_or-take, replicate_more, same_lists}
+use Rattle.std.proofs.lemmas.List.{places, length-append, length-replicate, get_or_append_left, get_or_push, length_push, get_or-drop, get_or_past}
+use Rattle.std.proofs.lemmas.List.{get_or-replicate, ext_get_or, append-nil, append_assoc, take-append-drop, drop_all, get_or-take, replicate_more, same_lists}
 use Rattle.std.proofs.Math.Seq.{drop-append_seam}
 use Rattle.std.proofs.lemmas.List.Elements.{All-get_or}
 use Rattle.std.proofs.lemmas.List.Sorted.{Contains-permutation, IsPermutation-map, IsPermutation-trans, sum_by-IsPermutation}
@@ -31,7 +33,8 @@ use Rattle.snippet_marks.specs.Positions.{ArePlaced}
 use Rattle.snippet_marks.proofs.OrderLemmas.{IsPermutation-painting_order}
 
 -- rows that stand below those that are kept
-pub kept_above : (old new : List (List Cell)) → length old ≤ length new → ((r : ℕ) → r < length old → row_at new r ≡ row_at old r) → new ≡ old ++ drop (length old) new
+pub kept_above : (old new : List (List Cell)) → length old ≤ length new → ((r : ℕ) → r < length old → row_at new r ≡ row_at old r)
+    → new ≡ old ++ drop (length old) new
 kept_above old new long above =
     let n : ℕ = length old in
     let size : length (take n new) ≡ length old = grind (arith, places) in
@@ -93,7 +96,8 @@ written_far row cells at short =
     ap (λ n. drop n whole) (sym long) ∙ ap (drop (length pad)) all ∙ drop-append_seam pad (SPACE ∷ cells)
 
 -- two rows that are as long and agree from a cell on
-pub same_after : (xs ys : List Cell) (at : ℕ) → length xs ≡ length ys → ((c : ℕ) → at ≤ c → slice_index_or xs c SPACE ≡ slice_index_or ys c SPACE) → drop at xs ≡ drop at ys
+pub same_after : (xs ys : List Cell) (at : ℕ) → length xs ≡ length ys → ((c : ℕ) → at ≤ c → slice_index_or xs c SPACE ≡ slice_index_or ys c SPACE)
+    → drop at xs ≡ drop at ys
 same_after xs ys at long same =
     ext_get_or SPACE (drop at xs) (drop at ys) (grind (arith, places)) (λ k within. get_or-drop at xs k SPACE ∙ same (at + k) (omega arith) ∙ sym (get_or-drop at ys k SPACE))
 
@@ -143,18 +147,21 @@ plain_narrow room decor es plain =
     none n is = grind (arith, nat_tests)
 
 -- as many entries are wide in any order
-pub wide_entries-permutation : (room : ℕ) (decor : DecorStyle) (es fs : List LineAnnotation) → IsPermutation es fs → wide_entries room decor fs ≡ wide_entries room decor es
+pub wide_entries-permutation : (room : ℕ) (decor : DecorStyle) (es fs : List LineAnnotation) → IsPermutation es fs
+    → wide_entries room decor fs ≡ wide_entries room decor es
 wide_entries-permutation room decor es fs same =
     sum_by-IsPermutation (λ e. cond (is_wide_entry room (length (placeholder_of decor)) e) 1 0) es fs same
 
 -- and in the order of painting
-pub wide_entries-order : (room : ℕ) (decor : DecorStyle) (es : List LineAnnotation) (placed : List PlacedEntry) → ArePlaced es placed → wide_entries room decor (map (λ (e : PlacedEntry). e.entry) (painting_order placed)) ≡ wide_entries room decor es
+pub wide_entries-order : (room : ℕ) (decor : DecorStyle) (es : List LineAnnotation) (placed : List PlacedEntry) → ArePlaced es placed
+    → wide_entries room decor (map (λ (e : PlacedEntry). e.entry) (painting_order placed)) ≡ wide_entries room decor es
 wide_entries-order room decor es placed are =
     let f : PlacedEntry → LineAnnotation = λ e. e.entry in
     wide_entries-permutation room decor es (map f (painting_order placed)) (IsPermutation-trans es (map f placed) (map f (painting_order placed)) are.same (IsPermutation-map f placed (painting_order placed) (IsPermutation-painting_order placed)))
 
 -- a row of which stretches gave their place to the placeholder: left of the code it stays
-pub cut_left : (layout : Layout) (wide : ℕ) (whole row : List Cell) → IsCut layout wide whole row → (c : ℕ) → c < layout.code → slice_index_or row c SPACE ≡ slice_index_or whole c SPACE
+pub cut_left : (layout : Layout) (wide : ℕ) (whole row : List Cell) → IsCut layout wide whole row → (c : ℕ) → c < layout.code
+    → slice_index_or row c SPACE ≡ slice_index_or whole c SPACE
 cut_left layout wide whole row cut c left =
     sym (get_or-take layout.code row c SPACE left) ∙ ap (λ cells. slice_index_or cells c SPACE) cut.left ∙ get_or-take layout.code whole c SPACE left
 
@@ -171,7 +178,8 @@ IsStrokeRow-cut layout wide plain es closes whole row place narrow is cut =
     }
 
 -- cells that agree up to a place, in rows that reach as far
-pub same_front : (xs ys : List Cell) (n : ℕ) → n ≤ length xs → n ≤ length ys → ((c : ℕ) → c < n → slice_index_or xs c SPACE ≡ slice_index_or ys c SPACE) → take n xs ≡ take n ys
+pub same_front : (xs ys : List Cell) (n : ℕ) → n ≤ length xs → n ≤ length ys → ((c : ℕ) → c < n → slice_index_or xs c SPACE ≡ slice_index_or ys c SPACE)
+    → take n xs ≡ take n ys
 same_front xs ys n long long_too same =
     ext_get_or SPACE (take n xs) (take n ys) (grind (arith, places)) (λ k within. first k (omega (arith, within, length-take_least n xs)))
   where
@@ -182,12 +190,14 @@ same_front xs ys n long long_too same =
     first k within = get_or-take n xs k SPACE within ∙ same k within ∙ sym (get_or-take n ys k SPACE within)
 
 -- the rows are begun
-pub rows_begun : (old begun : List (List Cell)) (sep end : List Cell) (count : ℕ) → 0 < count → begun ≡ old ++ replicate (count - 1) sep ++ end ∷ [] → length begun ≡ length old + count
+pub rows_begun : (old begun : List (List Cell)) (sep end : List Cell) (count : ℕ) → 0 < count → begun ≡ old ++ replicate (count - 1) sep ++ end ∷ []
+    → length begun ≡ length old + count
 rows_begun old begun sep end count some begins =
     let all : List (List Cell) = old ++ replicate (count - 1) sep in
     omega (arith, some, ap length begins, length_push all end, length-append old (replicate (count - 1) sep), length-replicate (count - 1) sep)
 
 -- and each entry has the rows that it needs, as long as no row is added or taken
-pub rows_ready : (placed : List PlacedEntry) (old begun : List (List Cell)) (sep end : List Cell) (count row long : ℕ) → count ≡ row_count placed → row ≡ length old → begun ≡ old ++ replicate (count - 1) sep ++ end ∷ [] → long ≡ length begun → All (HasRows row long) placed
+pub rows_ready : (placed : List PlacedEntry) (old begun : List (List Cell)) (sep end : List Cell) (count row long : ℕ) → count ≡ row_count placed
+    → row ≡ length old → begun ≡ old ++ replicate (count - 1) sep ++ end ∷ [] → long ≡ length begun → All (HasRows row long) placed
 rows_ready placed old begun sep end count row long is last begins same =
     HasRows-row_count row long placed (omega (arith, same, rows_begun old begun sep end count (omega (arith, is, row_count_some placed)) begins, last, is))

@@ -1,5 +1,6 @@
 -- Laws of the cells of bars in all rows of a line: where no bar has its place nothing stands but lines that lead from other bars.
-use Rattle.std.proofs.Common.{◌≡◌, ◌≢◌, ℕ, zero, suc, ◌+◌, ◌-◌, ◌<◌, Bool, true, false, cond, List, [], ◌∷◌, ◌++◌, All, map, length, replicate, take, get_or, ap, ◌∙◌, refl, sym, subst, arith, inl, inr}
+use Rattle.std.proofs.Common.{◌≡◌, ◌≢◌, ℕ, zero, suc, ◌+◌, ◌-◌, ◌<◌, Bool, true, false, cond, List, [], ◌∷◌, ◌++◌, All, map, length, replicate, take, get_or}
+use Rattle.std.proofs.Common.{ap, ◌∙◌, refl, sym, subst, arith, inl, inr}
 use Rattle.std.proofs.lemmas.Bool.{cases_Bool, cases_lt}
 use Rattle.std.proofs.lemmas.List.{get_or-map, get_or_past, length-map}
 use Rattle.std.proofs.lemmas.List.Elements.{All-append, All-cons, All-filter, All-get_or, All-map, All-nil, All-replicate, All-weaker}
@@ -64,7 +65,9 @@ module _ (layout : Layout) (depth : ℕ) (some : 0 < depth) (room : layout.gutte
           All-stretch_of (Clear r) (1 + e.position) from to glyph (stroke_role e) (λ there. All-replicate S (to - from) glyph (inr (primary, refl)) (cell - from) 0 (omega (arith, there.from, there.to))))
 
   -- so the strokes of a line leave none, if none was there and no entry has this depth
-  strokes_clear : (count : ℕ) (placed order : List PlacedEntry) (begun : List (List Cell)) (r : ℕ) → All (λ (e : PlacedEntry). is_at depth e.entry.annotation_type ≡ false) placed → NoBar (cell_at begun r cell) → NoBar (cell_at (painted (line_strokes layout 0 count placed order) begun) r cell)
+  strokes_clear : (count : ℕ) (placed order : List PlacedEntry) (begun : List (List Cell)) (r : ℕ)
+      → All (λ (e : PlacedEntry). is_at depth e.entry.annotation_type ≡ false) placed → NoBar (cell_at begun r cell)
+      → NoBar (cell_at (painted (line_strokes layout 0 count placed order) begun) r cell)
   strokes_clear count placed order begun r others before =
       let one : List Write = connectors_of layout 1 placed in
       let two : List Write = corners_of layout 0 count placed in
@@ -101,7 +104,8 @@ module _ (layout : Layout) (depth : ℕ) (some : 0 < depth) (room : layout.gutte
       All-cons HasSpace source (seps ++ end ∷ []) blank (All-append HasSpace seps (end ∷ []) (All-replicate HasSpace (count - 1) (separator_row layout.decor layout.gutter) (bare_space false)) (All-cons HasSpace end [] (bare_space closes) (All-nil HasSpace)))
 
   module _ (width : ℕ) (closes : Bool) (text : List ℕ) (dropped : ℕ) (es : List LineAnnotation) (source : List Cell) (others : All (λ b. b.depth ≢ depth) (ends_of_bars es)) (blank : get_or source (layout.gutter + 2 + depth) SPACE ≡ SPACE) where
-    painted_clear : (rows : List (List Cell)) → StrokesPainted layout width closes (map (shifted dropped) es) source rows → (r : ℕ) → NoBar (cell_at rows r cell)
+    painted_clear : (rows : List (List Cell)) → StrokesPainted layout width closes (map (shifted dropped) es) source rows → (r : ℕ)
+        → NoBar (cell_at rows r cell)
     painted_clear rows drawn r =
         let placed : List PlacedEntry = drawn.placed in
         let begun : List (List Cell) = begun_rows layout closes (row_count placed) source in
@@ -111,7 +115,8 @@ module _ (layout : Layout) (depth : ℕ) (some : 0 < depth) (room : layout.gutte
         let clear = strokes_clear (row_count placed + 1) placed (painting_order placed) begun r none (spaces_in begun (begun_spaces closes (row_count placed) source blank) r) in
         subst NoBar (sym (ap at drawn.cut.new_is ∙ uncut r drawn.top drawn.marks drawn.cut.source_now drawn.cut.marks_now drawn.lower drawn.cut.source_cut.left drawn.cut.marks_cut.left ∙ ap at drawn.painted_are)) clear
       where
-        uncut : (i : ℕ) (top marks top_now marks_now : List Cell) (lower : List (List Cell)) → take layout.code top_now ≡ take layout.code top → take layout.code marks_now ≡ take layout.code marks
+        uncut : (i : ℕ) (top marks top_now marks_now : List Cell) (lower : List (List Cell)) → take layout.code top_now ≡ take layout.code top
+            → take layout.code marks_now ≡ take layout.code marks
             → cell_at (top_now ∷ marks_now ∷ lower) i cell ≡ cell_at (top ∷ marks ∷ lower) i cell
         uncut zero top marks top_now marks_now lower first second = left_same layout.code cell top_now top room first
         uncut (suc zero) top marks top_now marks_now lower first second = left_same layout.code cell marks_now marks room second
@@ -137,7 +142,8 @@ module _ (layout : Layout) (depth : ℕ) (some : 0 < depth) (room : layout.gutte
         by_entries (x ∷ xs) is other = painted_clear rows (are.strokes other (omega (arith, ap length is))) r
 
     -- in no row of a line a bar stands in a cell of bars, where none has its place there
-    pub line_clear : (open_bars : List Bar) (rows : List (List Cell)) → AreLineRows layout width closes text dropped open_bars es source rows → All (λ b. b.depth ≢ depth) open_bars → (i : ℕ) → i < length rows → IsNoBar layout.decor (cell_at rows i (layout.gutter + 2 + depth))
+    pub line_clear : (open_bars : List Bar) (rows : List (List Cell)) → AreLineRows layout width closes text dropped open_bars es source rows
+        → All (λ b. b.depth ≢ depth) open_bars → (i : ℕ) → i < length rows → IsNoBar layout.decor (cell_at rows i (layout.gutter + 2 + depth))
     line_clear open_bars rows drawn open_others i within =
         let past : List Bar = bars_apart open_bars (ends_of_bars es) in
         let rule : List Cell → List Cell = with_bars layout Solid past in

@@ -1,5 +1,6 @@
 -- Rows in which stretches gave their place to the placeholder.
-use Rattle.std.proofs.Common.{◌≡◌, ◌∙◌, true, false, ℕ, zero, suc, ◌+◌, ◌-◌, ◌<◌, ◌≤◌, Bool, List, [], ◌∷◌, ◌++◌, length, map, take, drop, set, get_or, cond, refl, sym, ap, subst, arith, inl, inr}
+use Rattle.std.proofs.Common.{◌≡◌, ◌∙◌, true, false, ℕ, zero, suc, ◌+◌, ◌-◌, ◌<◌, ◌≤◌, Bool, List, [], ◌∷◌, ◌++◌, length, map, take, drop, set, get_or, cond}
+use Rattle.std.proofs.Common.{refl, sym, ap, subst, arith, inl, inr}
 use Rattle.std.proofs.lemmas.Bool.{cases_lt, or_parts}
 use Rattle.std.proofs.lemmas.List.{places, same_lists, map-append, append_assoc, length-append, drop_more, drop_all}
 use Rattle.std.proofs.lemmas.List.Sums.{sum_by-cons}
@@ -32,7 +33,8 @@ AreReplaced-none : (placeholder : List ℕ) (n : ℕ) (text : List ℕ) → AreR
 AreReplaced-none placeholder zero text = refl
 AreReplaced-none placeholder (suc n) text = inl refl
 
-AreReplaced-weaker : (placeholder : List ℕ) (m n : ℕ) (before after : List ℕ) → m ≤ n → AreReplaced placeholder m before after → AreReplaced placeholder n before after
+AreReplaced-weaker : (placeholder : List ℕ) (m n : ℕ) (before after : List ℕ) → m ≤ n → AreReplaced placeholder m before after
+    → AreReplaced placeholder n before after
 AreReplaced-weaker placeholder zero n before after few same =
     subst (AreReplaced placeholder n before) (sym same) (AreReplaced-none placeholder n before)
 AreReplaced-weaker placeholder (suc m) zero before after few are = absurd (omega arith)
@@ -41,7 +43,8 @@ AreReplaced-weaker placeholder (suc m) (suc n) before after few (inr more) =
     inr (more.0, more.1, AreReplaced-weaker placeholder m n more.0 after (omega arith) more.2)
 
 -- some stretches, and then some more
-AreReplaced-more : (placeholder : List ℕ) (m n : ℕ) (before now after : List ℕ) → AreReplaced placeholder m before now → AreReplaced placeholder n now after → AreReplaced placeholder (m + n) before after
+AreReplaced-more : (placeholder : List ℕ) (m n : ℕ) (before now after : List ℕ) → AreReplaced placeholder m before now → AreReplaced placeholder n now after
+    → AreReplaced placeholder (m + n) before after
 AreReplaced-more placeholder zero n before now after same are =
     AreReplaced-weaker placeholder n (0 + n) before after (omega arith) (subst (λ text. AreReplaced placeholder n text after) same are)
 AreReplaced-more placeholder (suc m) n before now after (inl same) are =
@@ -72,15 +75,18 @@ IsCut-more layout m n whole now row first then =
     }
 
 -- the parts of a list from an element on
-three_parts : {X : Type 0} (xs : List X) (code start end : ℕ) → code ≤ start → start < end → end ≤ length xs → drop code xs ≡ take (start - code) (drop code xs) ++ take (end - start) (drop start xs) ++ drop end xs
+three_parts : {X : Type 0} (xs : List X) (code start end : ℕ) → code ≤ start → start < end → end ≤ length xs
+    → drop code xs ≡ take (start - code) (drop code xs) ++ take (end - start) (drop start xs) ++ drop end xs
 three_parts xs code start end from some within =
     same_lists _ _ (grind (arith, places)) (λ i d h. grind (arith, places))
 
-three_parts_now : {X : Type 0} (xs new : List X) (code start end : ℕ) → code ≤ start → start < end → end ≤ length xs → drop code (take start xs ++ new ++ drop end xs) ≡ take (start - code) (drop code xs) ++ new ++ drop end xs
+three_parts_now : {X : Type 0} (xs new : List X) (code start end : ℕ) → code ≤ start → start < end → end ≤ length xs
+    → drop code (take start xs ++ new ++ drop end xs) ≡ take (start - code) (drop code xs) ++ new ++ drop end xs
 three_parts_now xs new code start end from some within =
     same_lists _ _ (grind (arith, places)) (λ i d h. grind (arith, places))
 
-front_stays : {X : Type 0} (xs new : List X) (code start end : ℕ) → code ≤ start → start < end → end ≤ length xs → take code (take start xs ++ new ++ drop end xs) ≡ take code xs
+front_stays : {X : Type 0} (xs new : List X) (code start end : ℕ) → code ≤ start → start < end → end ≤ length xs
+    → take code (take start xs ++ new ++ drop end xs) ≡ take code xs
 front_stays xs new code start end from some within =
     same_lists _ _ (grind (arith, places)) (λ i d h. grind (arith, places))
 
@@ -90,7 +96,8 @@ row_text-parts xs ys zs =
     map-append f (xs ++ ys) zs ∙ ap (λ t. t ++ row_text zs) (map-append f xs ys)
 
 -- a row of which a stretch gave its place to the placeholder, right of the code's first cell
-IsCut-there : (layout : Layout) (start end : ℕ) (row : List Cell) → layout.code ≤ start → start < end → end ≤ length row → IsCut layout 1 row (take start row ++ text_cells LineNumber (placeholder_of layout.decor) ++ drop end row)
+IsCut-there : (layout : Layout) (start end : ℕ) (row : List Cell) → layout.code ≤ start → start < end → end ≤ length row
+    → IsCut layout 1 row (take start row ++ text_cells LineNumber (placeholder_of layout.decor) ++ drop end row)
 IsCut-there layout start end row from some within =
     let placeholder = text_cells LineNumber (placeholder_of layout.decor) in
     let front = take (start - layout.code) (drop layout.code row) in
@@ -110,7 +117,8 @@ IsCut-there layout start end row from some within =
       free = λ free. All-append IsFreeCell (take start row ++ placeholder) (drop end row) (All-append IsFreeCell (take start row) placeholder (All-take IsFreeCell start row free) (free_placeholder layout.decor)) (All-drop IsFreeCell end row free);
     }
 
-pub IsCut-replaced : (layout : Layout) (start end : ℕ) (row : List Cell) → layout.code ≤ start → IsCut layout 1 row (replaced_within start end (text_cells LineNumber (placeholder_of layout.decor)) row)
+pub IsCut-replaced : (layout : Layout) (start end : ℕ) (row : List Cell) → layout.code ≤ start
+    → IsCut layout 1 row (replaced_within start end (text_cells LineNumber (placeholder_of layout.decor)) row)
 IsCut-replaced layout start end row from =
     let placeholder = text_cells LineNumber (placeholder_of layout.decor) in
     elim (cases_lt start end) [
@@ -122,7 +130,8 @@ IsCut-replaced layout start end row from =
     ]
 
 -- a change in one row of a grid
-cells_replaced_here : (above below : List (List Cell)) (source cells : List Cell) (row start end : ℕ) → length above ≡ row → cells_replaced (above ++ source ∷ below) row start end cells ≡ above ++ replaced_within start end cells source ∷ below
+cells_replaced_here : (above below : List (List Cell)) (source cells : List Cell) (row start end : ℕ) → length above ≡ row
+    → cells_replaced (above ++ source ∷ below) row start end cells ≡ above ++ replaced_within start end cells source ∷ below
 cells_replaced_here above below source cells row start end here =
     let change = replaced_within start end cells in
     let rows = above ++ source ∷ below in
@@ -131,7 +140,8 @@ cells_replaced_here above below source cells row start end here =
     changed_within_one change row rows [] there ∙ ap (λ r. set rows row (change r)) read ∙ ap (λ n. set rows n (change source)) (sym here) ∙ set-append_seam above source below (change source)
 
 -- rows that are cut at some stretches, and then at some more
-pub cut_rows-append : (decor : DecorStyle) (row : ℕ) (cuts more : List Stretch) (rows : List (List Cell)) → cut_rows decor row (cuts ++ more) rows ≡ cut_rows decor row more (cut_rows decor row cuts rows)
+pub cut_rows-append : (decor : DecorStyle) (row : ℕ) (cuts more : List Stretch) (rows : List (List Cell))
+    → cut_rows decor row (cuts ++ more) rows ≡ cut_rows decor row more (cut_rows decor row cuts rows)
 cut_rows-append decor row [] more rows = refl
 cut_rows-append decor row (cut ∷ cuts) more rows =
     let placeholder = text_cells LineNumber (placeholder_of decor) in
@@ -146,7 +156,8 @@ cuts_of-more layout room placed flags k e flag within there =
     ∙ ap (cuts_of layout room (get_or placed k e ∷ drop (k + 1) placed)) (drop_more flags k flag there)
 
 -- nothing is cut after the last entry
-pub cuts_of-none : (layout : Layout) (room k : ℕ) (placed : List PlacedEntry) (flags : List Bool) → length placed ≤ k → cuts_of layout room (drop k placed) (drop k flags) ≡ []
+pub cuts_of-none : (layout : Layout) (room k : ℕ) (placed : List PlacedEntry) (flags : List Bool) → length placed ≤ k
+    → cuts_of layout room (drop k placed) (drop k flags) ≡ []
 cuts_of-none layout room k placed flags past = ap (λ es. cuts_of layout room es (drop k flags)) (drop_all k placed past)
 
 -- the same stretch of two rows gave its place to the placeholder
@@ -164,7 +175,8 @@ replaced_here layout row start end above source marks below here =
     ap (λ rows. cells_replaced rows (row + 1) start end placeholder) (first ∙ apart) ∙ second ∙ append_assoc above (change source ∷ []) (change marks ∷ below)
 
 -- rows that are cut are the two of them, each cut
-pub cut_rows-here : (layout : Layout) (row : ℕ) (cuts : List Stretch) (above : List (List Cell)) (source marks : List Cell) (below : List (List Cell)) → length above ≡ row
+pub cut_rows-here : (layout : Layout) (row : ℕ) (cuts : List Stretch) (above : List (List Cell)) (source marks : List Cell) (below : List (List Cell))
+    → length above ≡ row
     → cut_rows layout.decor row cuts (above ++ source ∷ marks ∷ below) ≡ above ++ cut_row layout.decor cuts source ∷ cut_row layout.decor cuts marks ∷ below
 cut_rows-here layout row [] above source marks below here = refl
 cut_rows-here layout row (cut ∷ cuts) above source marks below here =
@@ -174,7 +186,8 @@ cut_rows-here layout row (cut ∷ cuts) above source marks below here =
     ∙ cut_rows-here layout row cuts above (change source) (change marks) below here
 
 -- nothing is cut where no entry is wide
-pub cuts_of-narrow : (layout : Layout) (room : ℕ) (placed : List PlacedEntry) (flags : List Bool) → list_any (is_wide_at room layout.decor) placed ≡ false → cuts_of layout room placed flags ≡ []
+pub cuts_of-narrow : (layout : Layout) (room : ℕ) (placed : List PlacedEntry) (flags : List Bool) → list_any (is_wide_at room layout.decor) placed ≡ false
+    → cuts_of layout room placed flags ≡ []
 cuts_of-narrow layout room [] flags narrow = refl
 cuts_of-narrow layout room (e ∷ es) [] narrow = refl
 cuts_of-narrow layout room (e ∷ es) (flag ∷ flags) narrow =
@@ -183,13 +196,15 @@ cuts_of-narrow layout room (e ∷ es) (flag ∷ flags) narrow =
     ∙ cuts_of-narrow layout room es flags parts.1
 
 -- a row that is cut at some stretches, and then at some more
-cut_row-append : (decor : DecorStyle) (cuts more : List Stretch) (row : List Cell) → cut_row decor (cuts ++ more) row ≡ cut_row decor more (cut_row decor cuts row)
+cut_row-append : (decor : DecorStyle) (cuts more : List Stretch) (row : List Cell)
+    → cut_row decor (cuts ++ more) row ≡ cut_row decor more (cut_row decor cuts row)
 cut_row-append decor [] more row = refl
 cut_row-append decor (cut ∷ cuts) more row =
     cut_row-append decor cuts more (replaced_within cut.from cut.to (text_cells LineNumber (placeholder_of decor)) row)
 
 -- a row is cut once at most for each wide entry
-pub IsCut-cuts : (layout : Layout) (room : ℕ) (placed : List PlacedEntry) (flags : List Bool) (row : List Cell) → IsCut layout (wide_entries room layout.decor (map (λ (e : PlacedEntry). e.entry) placed)) row (cut_row layout.decor (cuts_of layout room placed flags) row)
+pub IsCut-cuts : (layout : Layout) (room : ℕ) (placed : List PlacedEntry) (flags : List Bool) (row : List Cell)
+    → IsCut layout (wide_entries room layout.decor (map (λ (e : PlacedEntry). e.entry) placed)) row (cut_row layout.decor (cuts_of layout room placed flags) row)
 IsCut-cuts layout room [] flags row = IsCut-none layout (wide_entries room layout.decor []) row
 IsCut-cuts layout room (e ∷ es) [] row =
     IsCut-none layout (wide_entries room layout.decor (map (λ (x : PlacedEntry). x.entry) (e ∷ es))) row

@@ -1,5 +1,6 @@
 -- Drawing in rows from one on, and in cells from one on.
-use Rattle.std.proofs.Common.{◌≡◌, ℕ, ◌+◌, ◌-◌, ◌<◌, ◌≤◌, ◌==◌, ◌||◌, Bool, true, false, List, [], ◌∷◌, length, drop, get_or, refl, sym, ap, ◌∙◌, subst, arith, inl, inr, All}
+use Rattle.std.proofs.Common.{◌≡◌, ℕ, ◌+◌, ◌-◌, ◌<◌, ◌≤◌, ◌==◌, ◌||◌, Bool, true, false, List, [], ◌∷◌, length, drop, get_or, refl, sym, ap, ◌∙◌, subst, arith}
+use Rattle.std.proofs.Common.{inl, inr, All}
 use Rattle.std.proofs.lemmas.Bool.{cases_lt, cases_eq}
 use Rattle.snippet_grid.specs.Grid.{cell_at, row_at, WritesCells}
 use Rattle.snippet_style.specs.Cell.{Cell, SPACE, unlinked_cell}
@@ -40,7 +41,8 @@ DrawsFrom-more row from old mid new done more =
     }
 
 -- a cell of the written row
-pub written_cell : (P : Cell → Type 0) (old new : List (List Cell)) (row at c : ℕ) (cells : List Cell) → WritesCells old new row at cells → All P cells → P (cell_at old row c) → P (cell_at new row c)
+pub written_cell : (P : Cell → Type 0) (old new : List (List Cell)) (row at c : ℕ) (cells : List Cell) → WritesCells old new row at cells → All P cells
+    → P (cell_at old row c) → P (cell_at new row c)
 written_cell P old new row at c cells writes all before =
     elim (cases_lt c at) [
       | inl left ↦ subst P (sym (writes.before c left)) before
@@ -56,7 +58,8 @@ written_cell P old new row at c cells writes all before =
     ]
 
 -- a write of cells that aren't listed draws
-pub DrawsFrom-writes : (row r from at : ℕ) (old new : List (List Cell)) (cells : List Cell) → WritesCells old new r at cells → row ≤ r → r < length old → from ≤ at → All IsFreeCell cells → DrawsFrom row from old new
+pub DrawsFrom-writes : (row r from at : ℕ) (old new : List (List Cell)) (cells : List Cell) → WritesCells old new r at cells → row ≤ r → r < length old
+    → from ≤ at → All IsFreeCell cells → DrawsFrom row from old new
 DrawsFrom-writes row r from at old new cells writes lower within right all =
     let P : Cell → Type 0 = IsFreeCell in
     record {
@@ -76,10 +79,12 @@ DrawsFrom-writes row r from at old new cells writes lower within right all =
 pub KeepsBarCells-none : (layout : Layout) (rows : List (List Cell)) → KeepsBarCells layout rows rows
 KeepsBarCells-none layout rows = λ r c left is. is
 
-pub KeepsBarCells-more : (layout : Layout) (old mid new : List (List Cell)) → KeepsBarCells layout old mid → KeepsBarCells layout mid new → KeepsBarCells layout old new
+pub KeepsBarCells-more : (layout : Layout) (old mid new : List (List Cell)) → KeepsBarCells layout old mid → KeepsBarCells layout mid new
+    → KeepsBarCells layout old new
 KeepsBarCells-more layout old mid new done more = λ r c left is. more r c left (done r c left is)
 
-pub KeepsBarCells-writes : (layout : Layout) (old new : List (List Cell)) (row at : ℕ) (cells : List Cell) → WritesCells old new row at cells → All (IsBarCell layout.decor) cells → KeepsBarCells layout old new
+pub KeepsBarCells-writes : (layout : Layout) (old new : List (List Cell)) (row at : ℕ) (cells : List Cell) → WritesCells old new row at cells
+    → All (IsBarCell layout.decor) cells → KeepsBarCells layout old new
 KeepsBarCells-writes layout old new row at cells writes all r c left is =
     let P : Cell → Type 0 = IsBarCell layout.decor in
     elim (cases_eq r row) [
@@ -116,22 +121,26 @@ bar_space Ascii = record { glyph = refl; link = refl }
 bar_space Unicode = record { glyph = refl; link = refl }
 
 -- the horizontal stroke of a bar is a cell that a bar may have
-pub bar_horizontal : (decor : DecorStyle) (primary : Bool) (role : ElementStyle) (ch : ℕ) → ch ≡ (strokes_of decor primary).connector → IsBarCell decor (unlinked_cell role ch)
+pub bar_horizontal : (decor : DecorStyle) (primary : Bool) (role : ElementStyle) (ch : ℕ) → ch ≡ (strokes_of decor primary).connector
+    → IsBarCell decor (unlinked_cell role ch)
 bar_horizontal decor primary role ch is =
     record { glyph = subst (λ x. list_any (λ g. x == g) (bar_glyphs decor) ≡ true) (sym is) (bars_among decor primary).connector; link = refl }
 
 -- the vertical stroke of a bar is a cell that a bar may have
-pub bar_vertical : (decor : DecorStyle) (primary : Bool) (role : ElementStyle) (ch : ℕ) → ch ≡ (strokes_of decor primary).bar → IsBarCell decor (unlinked_cell role ch)
+pub bar_vertical : (decor : DecorStyle) (primary : Bool) (role : ElementStyle) (ch : ℕ) → ch ≡ (strokes_of decor primary).bar
+    → IsBarCell decor (unlinked_cell role ch)
 bar_vertical decor primary role ch is =
     record { glyph = subst (λ x. list_any (λ g. x == g) (bar_glyphs decor) ≡ true) (sym is) (bars_among decor primary).bar; link = refl }
 
 -- the upper corner of a bar is a cell that a bar may have
-pub bar_top : (decor : DecorStyle) (primary : Bool) (role : ElementStyle) (ch : ℕ) → ch ≡ (strokes_of decor primary).bar_top → IsBarCell decor (unlinked_cell role ch)
+pub bar_top : (decor : DecorStyle) (primary : Bool) (role : ElementStyle) (ch : ℕ) → ch ≡ (strokes_of decor primary).bar_top
+    → IsBarCell decor (unlinked_cell role ch)
 bar_top decor primary role ch is =
     record { glyph = subst (λ x. list_any (λ g. x == g) (bar_glyphs decor) ≡ true) (sym is) (bars_among decor primary).bar_top; link = refl }
 
 -- the lower corner of a bar is a cell that a bar may have
-pub bar_bottom : (decor : DecorStyle) (primary : Bool) (role : ElementStyle) (ch : ℕ) → ch ≡ (strokes_of decor primary).bar_bottom → IsBarCell decor (unlinked_cell role ch)
+pub bar_bottom : (decor : DecorStyle) (primary : Bool) (role : ElementStyle) (ch : ℕ) → ch ≡ (strokes_of decor primary).bar_bottom
+    → IsBarCell decor (unlinked_cell role ch)
 bar_bottom decor primary role ch is =
     record { glyph = subst (λ x. list_any (λ g. x == g) (bar_glyphs decor) ≡ true) (sym is) (bars_among decor primary).bar_bottom; link = refl }
 
@@ -146,7 +155,8 @@ DrawsBarCells-none layout row rows =
     }
 
 -- cells of bars drawn and further ones drawn are cells of bars drawn
-pub DrawsBarCells-more : (layout : Layout) (row : ℕ) (old mid new : List (List Cell)) → DrawsBarCells layout row old mid → DrawsBarCells layout row mid new → DrawsBarCells layout row old new
+pub DrawsBarCells-more : (layout : Layout) (row : ℕ) (old mid new : List (List Cell)) → DrawsBarCells layout row old mid → DrawsBarCells layout row mid new
+    → DrawsBarCells layout row old new
 DrawsBarCells-more layout row old mid new done more =
     record {
       draws = DrawsFrom-more row (layout.gutter + 3) old mid new done.draws more.draws;
@@ -156,7 +166,8 @@ DrawsBarCells-more layout row old mid new done more =
     }
 
 -- a cell of a bar that is written between the gutter and the code is one drawn
-pub DrawsBarCells-writes : (layout : Layout) (row r at : ℕ) (old new : List (List Cell)) (cell : Cell) → WritesCells old new r at (cell ∷ []) → row ≤ r → r < length old → layout.gutter + 3 ≤ at → at < layout.code → IsBarCell layout.decor cell → DrawsBarCells layout row old new
+pub DrawsBarCells-writes : (layout : Layout) (row r at : ℕ) (old new : List (List Cell)) (cell : Cell) → WritesCells old new r at (cell ∷ []) → row ≤ r
+    → r < length old → layout.gutter + 3 ≤ at → at < layout.code → IsBarCell layout.decor cell → DrawsBarCells layout row old new
 DrawsBarCells-writes layout row r at old new cell writes lower within right left is =
     let P : Cell → Type 0 = IsFreeCell in
     let R : Cell → Type 0 = IsBarCell layout.decor in

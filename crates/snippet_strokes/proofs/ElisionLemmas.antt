@@ -1,6 +1,7 @@
 -- The row that stands for lines that are left out.
 use Rattle.std.proofs.Common.{◌≡◌, ℕ, ◌+◌, ◌<◌, ◌≤◌, ◌∷◌, ◌++◌, [], List, length, take, drop, replicate, get_or, refl, sym, ap, ◌∙◌, subst, arith}
-use Rattle.std.proofs.lemmas.List.{places, same_lists, drop_all, drop_more, ext_get_or, get_or_append_left, get_or_past, get_or_push, get_or-take, length-take-le, length_push}
+use Rattle.std.proofs.lemmas.List.{places, same_lists, drop_all, drop_more, ext_get_or, get_or_append_left, get_or_past, get_or_push, get_or-take}
+use Rattle.std.proofs.lemmas.List.{length-take-le, length_push}
 use Rattle.snippet_model.proofs.RowLemmas.{each_fails}
 use Rattle.snippet_style.proofs.CellLemmas.{length-text_cells}
 use Rattle.snippet_style.specs.declared.glyphs.DecorStyle.{DecorStyle}
@@ -28,7 +29,8 @@ elision_cell Ascii gutter = 0
 elision_cell Unicode gutter = gutter + 1
 
 -- spaces and the glyph for lines that are left out are its bare row
-pub bare_elision_is : (decor : DecorStyle) (gutter : ℕ) → replicate (elision_cell decor gutter) SPACE ++ text_cells LineNumber (elision_of decor) ≡ bare_elision_row decor gutter
+pub bare_elision_is : (decor : DecorStyle) (gutter : ℕ)
+    → replicate (elision_cell decor gutter) SPACE ++ text_cells LineNumber (elision_of decor) ≡ bare_elision_row decor gutter
 bare_elision_is Ascii gutter = refl
 bare_elision_is Unicode gutter = refl
 

@@ -1,5 +1,6 @@
 -- Laws of the bars of spans that begin or end on a line: they stand in its rows from their corner on, or down to it.
-use Rattle.std.proofs.Common.{◌≡◌, ◌≢◌, ℕ, zero, suc, ◌+◌, ◌-◌, ◌<◌, ◌≤◌, ◌==◌, ◌||◌, ◌&&◌, Bool, true, false, not, cond, Some, List, [], ◌∷◌, ◌++◌, All, Contains, map, length, get_or, take, refl, sym, ap, ◌∙◌, arith, inl, inr}
+use Rattle.std.proofs.Common.{◌≡◌, ◌≢◌, ℕ, zero, suc, ◌+◌, ◌-◌, ◌<◌, ◌≤◌, ◌==◌, ◌||◌, ◌&&◌, Bool, true, false, not, cond, Some, List, [], ◌∷◌, ◌++◌, All}
+use Rattle.std.proofs.Common.{Contains, map, length, get_or, take, refl, sym, ap, ◌∙◌, arith, inl, inr}
 use Rattle.std.specs.Prelude.{nat_lt}
 use Rattle.std.specs.Char.{is_whitespace}
 use Rattle.std.specs.List.{filter, flat_map, list_all, list_any, range_with_len}
@@ -31,13 +32,15 @@ use Rattle.snippet_marks.proofs.PlacedLemmas.{entries_all}
 use Rattle.snippet_marks.proofs.WriteLemmas.{painted-append}
 use Rattle.snippet_strokes.specs.declared.bars.BarStroke.{BarStroke}
 use Rattle.snippet_strokes.specs.declared.bars.BarStroke.TheVariants.{Dotted, Solid, Top}
-use Rattle.snippet_strokes.specs.Bars.{Bar, HasOwnDepth, bar_at, bar_of, bar_part, bars_apart, ends_of_bars, has_depth, is_beside, is_whole_line, with_bar, with_bars}
+use Rattle.snippet_strokes.specs.Bars.{Bar, HasOwnDepth, bar_at, bar_of, bar_part, bars_apart, ends_of_bars, has_depth, is_beside, is_whole_line, with_bar}
+use Rattle.snippet_strokes.specs.Bars.{with_bars}
 use Rattle.snippet_strokes.specs.Drawing.{HasRows, row_count}
 use Rattle.snippet_strokes.specs.EndBars.{BarBegins, BarEnds, BeginsBelow, dotted_bar, end_corner, start_corner}
 use Rattle.snippet_strokes.specs.LineRows.{AreLineRows}
 use Rattle.snippet_strokes.specs.Reach.{Reaches}
 use Rattle.snippet_strokes.specs.Strokes as strokes
-use Rattle.snippet_strokes.specs.Strokes.{StrokesPainted, begun_rows, column_of, connectors_of, corner_by, corner_of, corners_of, label_of, labels_of, line_to, stem_of, stems_of, line_strokes}
+use Rattle.snippet_strokes.specs.Strokes.{StrokesPainted, begun_rows, column_of, connectors_of, corner_by, corner_of, corners_of, label_of, labels_of, line_to}
+use Rattle.snippet_strokes.specs.Strokes.{stem_of, stems_of, line_strokes}
 use Rattle.snippet_strokes.proofs.AmongLaws.{all_from_among, among_contains, contains_among, filter_map_cases}
 use Rattle.snippet_strokes.proofs.BarLaws.{bar_stands, drawn_beside}
 use Rattle.snippet_strokes.proofs.BarWrites.{All-column_of, All-stretch_of}
@@ -81,7 +84,8 @@ last_passing p (x ∷ xs) some =
 -- ---- columns
 
 -- the cells of a column that is drawn
-column_stands : (start n cell glyph : ℕ) (role : ElementStyle) (rows : List (List Cell)) (r : ℕ) → start ≤ r → r < start + n → cell_at (painted (map (λ row. glyph_at row cell glyph role) (range_with_len start n)) rows) r cell ≡ unlinked_cell role glyph
+column_stands : (start n cell glyph : ℕ) (role : ElementStyle) (rows : List (List Cell)) (r : ℕ) → start ≤ r → r < start + n
+    → cell_at (painted (map (λ row. glyph_at row cell glyph role) (range_with_len start n)) rows) r cell ≡ unlinked_cell role glyph
 column_stands start zero cell glyph role rows r from to = absurd (omega (arith, from, to))
 column_stands start (suc n) cell glyph role rows r from to =
     let w : Write = glyph_at start cell glyph role in
@@ -98,7 +102,8 @@ column_stands start (suc n) cell glyph role rows r from to =
     lower a (suc m) up =
         All-cons (λ v. Reaches r cell v → ⊥) (glyph_at a cell glyph role) (map (λ row. glyph_at row cell glyph role) (range_with_len (a + 1) m)) (λ there. omega (arith, there.row, up)) (lower (a + 1) m (omega (arith, up)))
 
-    one_glyph : (w : Write) (old : List (List Cell)) (at c : ℕ) → w.row ≡ at → w.cell ≡ c → w.text ≡ glyph ∷ [] → cell_at (written_by old w) at c ≡ unlinked_cell w.role glyph
+    one_glyph : (w : Write) (old : List (List Cell)) (at c : ℕ) → w.row ≡ at → w.cell ≡ c → w.text ≡ glyph ∷ []
+        → cell_at (written_by old w) at c ≡ unlinked_cell w.role glyph
     one_glyph w old at c row is text =
         let zero_at : c - w.cell ≡ 0 = omega (arith, is) in
         cell-written w old at c (record { row = row; from = omega (arith, is); to = omega (arith, is, ap length text) }) ∙ ap (λ n. unlinked_cell w.role (get_or w.text n 0)) zero_at ∙ ap (λ t. unlinked_cell w.role (get_or t 0 0)) text
@@ -151,7 +156,8 @@ module _ (layout : Layout) (bar : Bar) (room : layout.gutter + 2 + bar.depth < l
   glyph_leaves : (r row depth glyph : ℕ) (role : ElementStyle) → depth ≢ bar.depth → Leaves r (glyph_at row (layout.gutter + 2 + depth) glyph role)
   glyph_leaves r row depth glyph role other there = other (omega (arith, there.from, there.to))
 
-  column_leaves : (r start end depth glyph : ℕ) (role : ElementStyle) → depth ≢ bar.depth → All (Leaves r) (column_of start end (layout.gutter + 2 + depth) glyph role)
+  column_leaves : (r start end depth glyph : ℕ) (role : ElementStyle) → depth ≢ bar.depth
+      → All (Leaves r) (column_of start end (layout.gutter + 2 + depth) glyph role)
   column_leaves r start end depth glyph role other =
       All-column_of (Leaves r) start end (layout.gutter + 2 + depth) glyph role (λ n from to. glyph_leaves r n depth glyph role other)
 
@@ -177,7 +183,8 @@ module _ (layout : Layout) (bar : Bar) (room : layout.gutter + 2 + bar.depth < l
   part_leaves r e (MultilineLine depth) other = All-nil (Leaves r)
 
   -- so in it stands what the last entry of its depth leaves there
-  last_stands : (before : List PlacedEntry) (e : PlacedEntry) (after : List PlacedEntry) → placed ≡ before ++ e ∷ after → All (λ f. is_at bar.depth f.entry.annotation_type ≡ false) after
+  last_stands : (before : List PlacedEntry) (e : PlacedEntry) (after : List PlacedEntry) → placed ≡ before ++ e ∷ after
+      → All (λ f. is_at bar.depth f.entry.annotation_type ≡ false) after
       → (old : List (List Cell)) × ((r : ℕ) → cell_at (painted (line_strokes layout 0 count placed order) begun) r cell ≡ cell_at (painted (corner_of layout 0 count e) old) r cell)
   last_stands before e after split others =
       let f : PlacedEntry → List Write = corner_of layout 0 count in
@@ -213,7 +220,8 @@ module _ (layout : Layout) (bar : Bar) (room : layout.gutter + 2 + bar.depth < l
   solid_by e kind =
       ap (λ primary. unlinked_cell (underline_role primary) (strokes_of layout.decor primary).bar) kind
 
-  start_drawn : (e : PlacedEntry) (old : List (List Cell)) → HasKind e → (cell_at (painted (corner_by layout 0 count e (MultilineStart bar.depth)) old) (1 + e.position) cell ≡ start_corner layout bar)
+  start_drawn : (e : PlacedEntry) (old : List (List Cell)) → HasKind e
+      → (cell_at (painted (corner_by layout 0 count e (MultilineStart bar.depth)) old) (1 + e.position) cell ≡ start_corner layout bar)
       × ((r : ℕ) → 1 + e.position < r → r < count → cell_at (painted (corner_by layout 0 count e (MultilineStart bar.depth)) old) r cell ≡ bar_part layout Solid bar)
   start_drawn e old kind =
       let corner : ℕ = 0 + 1 + e.position in
@@ -229,7 +237,8 @@ module _ (layout : Layout) (bar : Bar) (room : layout.gutter + 2 + bar.depth < l
         λ r lower within. column_stands (corner + 1) (count - (corner + 1)) cell line (stroke_role e) (written_by old own) r (omega (arith, lower, here)) (omega (arith, lower, within, here)) ∙ solid_by e kind,
       )
 
-  end_drawn : (e : PlacedEntry) (old : List (List Cell)) → HasKind e → (cell_at (painted (corner_by layout 0 count e (MultilineEnd bar.depth)) old) (1 + e.position) cell ≡ end_corner layout bar)
+  end_drawn : (e : PlacedEntry) (old : List (List Cell)) → HasKind e
+      → (cell_at (painted (corner_by layout 0 count e (MultilineEnd bar.depth)) old) (1 + e.position) cell ≡ end_corner layout bar)
       × ((r : ℕ) → r < 1 + e.position → cell_at (painted (corner_by layout 0 count e (MultilineEnd bar.depth)) old) r cell ≡ bar_part layout Solid bar)
   end_drawn e old kind =
       let corner : ℕ = 0 + 1 + e.position in
@@ -273,7 +282,8 @@ module _ (layout : Layout) (bar : Bar) (room : layout.gutter + 2 + bar.depth < l
     long : length rows ≡ count
     within : 1 + entry.position < count
     old : List (List Cell)
-    stands : (r : ℕ) → cell_at rows r (layout.gutter + 2 + bar.depth) ≡ cell_at (painted (corner_by layout 0 count entry part) old) r (layout.gutter + 2 + bar.depth)
+    stands : (r : ℕ)
+        → cell_at rows r (layout.gutter + 2 + bar.depth) ≡ cell_at (painted (corner_by layout 0 count entry part) old) r (layout.gutter + 2 + bar.depth)
 
   own_of : (width : ℕ) (closes : Bool) (dropped : ℕ) (es : List LineAnnotation) (source : List Cell) (rows : List (List Cell)) (part : LineAnnotationType)
       → StrokesPainted layout width closes (map (shifted dropped) es) source rows → All (IsItsPart part) es → list_any is_its es ≡ true → HasOwn part rows
@@ -304,18 +314,21 @@ module _ (layout : Layout) (bar : Bar) (room : layout.gutter + 2 + bar.depth < l
       cell : ℕ
       cell = layout.gutter + 2 + bar.depth
 
-      uncut : (r : ℕ) (top marks top_now marks_now : List Cell) (lower : List (List Cell)) → take layout.code top_now ≡ take layout.code top → take layout.code marks_now ≡ take layout.code marks
+      uncut : (r : ℕ) (top marks top_now marks_now : List Cell) (lower : List (List Cell)) → take layout.code top_now ≡ take layout.code top
+          → take layout.code marks_now ≡ take layout.code marks
           → cell_at (top_now ∷ marks_now ∷ lower) r (layout.gutter + 2 + bar.depth) ≡ cell_at (top ∷ marks ∷ lower) r (layout.gutter + 2 + bar.depth)
       uncut zero top marks top_now marks_now lower first second = left_same layout.code (layout.gutter + 2 + bar.depth) top_now top (omega (arith, room)) first
       uncut (suc zero) top marks top_now marks_now lower first second = left_same layout.code (layout.gutter + 2 + bar.depth) marks_now marks (omega (arith, room)) second
       uncut (suc (suc r)) top marks top_now marks_now lower first second = refl
 
-      cut : (r : ℕ) → cell_at rows r (layout.gutter + 2 + bar.depth) ≡ cell_at (painted (line_strokes layout 0 (row_count drawn.placed + 1) drawn.placed (painting_order drawn.placed)) (begun_rows layout closes (row_count drawn.placed) source)) r (layout.gutter + 2 + bar.depth)
+      cut : (r : ℕ)
+          → cell_at rows r (layout.gutter + 2 + bar.depth) ≡ cell_at (painted (line_strokes layout 0 (row_count drawn.placed + 1) drawn.placed (painting_order drawn.placed)) (begun_rows layout closes (row_count drawn.placed) source)) r (layout.gutter + 2 + bar.depth)
       cut r =
           let at : List (List Cell) → Cell = λ all. cell_at all r (layout.gutter + 2 + bar.depth) in
           ap at drawn.cut.new_is ∙ uncut r drawn.top drawn.marks drawn.cut.source_now drawn.cut.marks_now drawn.lower drawn.cut.source_cut.left drawn.cut.marks_cut.left ∙ ap at drawn.painted_are
 
-  own_begins : (rows : List (List Cell)) → HasOwn (MultilineStart bar.depth) rows → cell_at rows 0 (layout.gutter + 2 + bar.depth) ≡ SPACE → BeginsBelow layout bar rows
+  own_begins : (rows : List (List Cell)) → HasOwn (MultilineStart bar.depth) rows → cell_at rows 0 (layout.gutter + 2 + bar.depth) ≡ SPACE
+      → BeginsBelow layout bar rows
   own_begins rows own blank =
       let drawn = start_drawn layout bar room own.count [] [] [] own.entry own.old own.kind in
       record {
@@ -339,7 +352,8 @@ module _ (layout : Layout) (bar : Bar) (room : layout.gutter + 2 + bar.depth < l
       }
 
   -- bars of other depths that run past leave the bar's cell
-  pub passed_by : (stroke : BarStroke) (bars : List Bar) (row : List Cell) → All (λ b. b.depth ≢ bar.depth) bars → get_or (with_bars layout stroke bars row) (layout.gutter + 2 + bar.depth) SPACE ≡ get_or row (layout.gutter + 2 + bar.depth) SPACE
+  pub passed_by : (stroke : BarStroke) (bars : List Bar) (row : List Cell) → All (λ b. b.depth ≢ bar.depth) bars
+      → get_or (with_bars layout stroke bars row) (layout.gutter + 2 + bar.depth) SPACE ≡ get_or row (layout.gutter + 2 + bar.depth) SPACE
   passed_by stroke [] row others = refl
   passed_by stroke (b ∷ bars) row others =
       passed_by stroke bars (with_bar layout stroke row b) (All-tail (λ x. x.depth ≢ bar.depth) b bars others) ∙ drawn_beside layout stroke bar b row (All-head (λ x. x.depth ≢ bar.depth) b bars others)
@@ -380,7 +394,8 @@ module _ (layout : Layout) (bar : Bar) (room : layout.gutter + 2 + bar.depth < l
     all_starts none =
         all_from_among (IsItsPart (MultilineStart bar.depth)) es (λ e here. by_type e.annotation_type (is_primary e.kind) (kind_of e here) (all_among (λ (x : LineAnnotation). x.annotation_type ≡ MultilineEnd bar.depth → ⊥) es e none here))
       where
-        by_type : (t : LineAnnotationType) (primary : Bool) → ((b : Bar) → bar_at t primary ≡ Some b → b.depth ≡ bar.depth → b ≡ bar) → (t ≡ MultilineEnd bar.depth → ⊥) → is_at bar.depth t ≡ true
+        by_type : (t : LineAnnotationType) (primary : Bool) → ((b : Bar) → bar_at t primary ≡ Some b → b.depth ≡ bar.depth → b ≡ bar)
+            → (t ≡ MultilineEnd bar.depth → ⊥) → is_at bar.depth t ≡ true
             → (t ≡ MultilineStart bar.depth) × (primary ≡ bar.primary)
         by_type Singleline primary own wrong at = absurd cc
         by_type (MultilineStart d) primary own wrong at =
@@ -394,7 +409,8 @@ module _ (layout : Layout) (bar : Bar) (room : layout.gutter + 2 + bar.depth < l
     all_ends none =
         all_from_among (IsItsPart (MultilineEnd bar.depth)) es (λ e here. by_type e.annotation_type (is_primary e.kind) (kind_of e here) (all_among (λ (x : LineAnnotation). x.annotation_type ≡ MultilineStart bar.depth → ⊥) es e none here))
       where
-        by_type : (t : LineAnnotationType) (primary : Bool) → ((b : Bar) → bar_at t primary ≡ Some b → b.depth ≡ bar.depth → b ≡ bar) → (t ≡ MultilineStart bar.depth → ⊥) → is_at bar.depth t ≡ true
+        by_type : (t : LineAnnotationType) (primary : Bool) → ((b : Bar) → bar_at t primary ≡ Some b → b.depth ≡ bar.depth → b ≡ bar)
+            → (t ≡ MultilineStart bar.depth → ⊥) → is_at bar.depth t ≡ true
             → (t ≡ MultilineEnd bar.depth) × (primary ≡ bar.primary)
         by_type Singleline primary own wrong at = absurd cc
         by_type (MultilineStart d) primary own wrong at = absurd (wrong (ap MultilineStart (eqb-true d bar.depth at)))
@@ -422,7 +438,8 @@ module _ (layout : Layout) (bar : Bar) (room : layout.gutter + 2 + bar.depth < l
       some_entries = let found = among_contains es one_has.0 one_has.1 in omega (arith, found.1)
 
       -- the bar of a span that begins on a line begins in the line's rows, if nothing stands beside it in the source row
-      pub bar_begins : All (λ e. e.annotation_type ≡ MultilineEnd bar.depth → ⊥) es → (is_whole_line text es ≡ false → cell_at rows 0 (layout.gutter + 2 + bar.depth) ≡ SPACE) → BarBegins layout bar rows
+      pub bar_begins : All (λ e. e.annotation_type ≡ MultilineEnd bar.depth → ⊥) es
+          → (is_whole_line text es ≡ false → cell_at rows 0 (layout.gutter + 2 + bar.depth) ≡ SPACE) → BarBegins layout bar rows
       bar_begins none blank =
           elim (cases_Bool (is_whole_line text es)) [
             | inl whole ↦
@@ -461,7 +478,8 @@ module _ (layout : Layout) (bar : Bar) (room : layout.gutter + 2 + bar.depth < l
             beside = λ i higher. own_cell i (omega (arith, higher, own.within, as_many)) ∙ own.beside i higher;
           }
         where
-          not_whole : (e : LineAnnotation) → e.annotation_type ≡ MultilineEnd bar.depth → (xs : List LineAnnotation) → Among xs e → is_whole_line text xs ≡ true → ⊥
+          not_whole : (e : LineAnnotation) → e.annotation_type ≡ MultilineEnd bar.depth → (xs : List LineAnnotation) → Among xs e → is_whole_line text xs ≡ true
+              → ⊥
           not_whole e part [] here whole = here
           not_whole e part (x ∷ xs) here whole =
               let beside : is_beside text e ≡ true = all_pass (is_beside text) (x ∷ xs) e whole here in
@@ -472,5 +490,6 @@ module _ (layout : Layout) (bar : Bar) (room : layout.gutter + 2 + bar.depth < l
               no_end wrong = cc wrong
 
 -- in the row in place of lines that are left out each bar that is open there stands, where no other has its depth
-pub elision_stands : (layout : Layout) (bar : Bar) (open_bars : List Bar) (row : List Cell) → HasOwnDepth bar open_bars → Contains open_bars bar → get_or (with_bars layout Dotted open_bars row) (layout.gutter + 2 + bar.depth) SPACE ≡ dotted_bar layout bar
+pub elision_stands : (layout : Layout) (bar : Bar) (open_bars : List Bar) (row : List Cell) → HasOwnDepth bar open_bars → Contains open_bars bar
+    → get_or (with_bars layout Dotted open_bars row) (layout.gutter + 2 + bar.depth) SPACE ≡ dotted_bar layout bar
 elision_stands layout bar open_bars row alone among = bar_stands layout Dotted bar open_bars row alone among

@@ -35,7 +35,8 @@ abbrev placed : CowStr Global → AnnotationKind → ℕ → ℕ → PlacedEntry
 placed label kind from to = record { entry = entry kind from to; label = label; position = 0 }
 
 -- the widest mark is painted first, and of one width those for context before a primary one; all others as they are placed
-widest_first : (label : CowStr Global) → painting_order (placed label Primary 4 6 ∷ placed label Context 2 4 ∷ placed label Context 0 2 ∷ placed label Primary 0 9 ∷ []) ≡ placed label Primary 0 9 ∷ placed label Context 2 4 ∷ placed label Context 0 2 ∷ placed label Primary 4 6 ∷ []
+widest_first : (label : CowStr Global)
+    → painting_order (placed label Primary 4 6 ∷ placed label Context 2 4 ∷ placed label Context 0 2 ∷ placed label Primary 0 9 ∷ []) ≡ placed label Primary 0 9 ∷ placed label Context 2 4 ∷ placed label Context 0 2 ∷ placed label Primary 4 6 ∷ []
 widest_first label = refl
 
 -- `^` and `│` are drawn with strokes, and no letter is
@@ -52,11 +53,13 @@ letter_of_none = refl
 -- `          ^^^^^`
 -- `        -----`
 -- `  ^^^`
-two_do_not_count : (label : CowStr Global) → let marks = placed label Primary 10 15 ∷ placed label Context 8 13 ∷ placed label Primary 2 5 ∷ [] in overlapped_by marks (3 ∷ 3 ∷ 3 ∷ []) 0 marks ≡ false ∷ false ∷ true ∷ []
+two_do_not_count : (label : CowStr Global)
+    → let marks = placed label Primary 10 15 ∷ placed label Context 8 13 ∷ placed label Primary 2 5 ∷ [] in overlapped_by marks (3 ∷ 3 ∷ 3 ∷ []) 0 marks ≡ false ∷ false ∷ true ∷ []
 two_do_not_count label = refl
 
 -- but where the place of no label is sought beyond the mark before it, the third isn't looked at
-looked_at_no_more : (label : CowStr Global) → let marks = placed label Primary 10 15 ∷ placed label Context 8 13 ∷ placed label Primary 2 5 ∷ [] in overlapped_by marks (2 ∷ 2 ∷ 2 ∷ []) 0 marks ≡ false ∷ false ∷ false ∷ []
+looked_at_no_more : (label : CowStr Global)
+    → let marks = placed label Primary 10 15 ∷ placed label Context 8 13 ∷ placed label Primary 2 5 ∷ [] in overlapped_by marks (2 ∷ 2 ∷ 2 ∷ []) 0 marks ≡ false ∷ false ∷ false ∷ []
 looked_at_no_more label = refl
 
 -- a third of the room stays at each end of what is cut, and five columns at least

@@ -1,5 +1,6 @@
 -- How an entry holds its label, and from where a text is lent, makes no difference to what is drawn of a line.
-use Rattle.std.proofs.Common.{◌≡◌, ℕ, ◌+◌, ◌==◌, ◌&&◌, ◌||◌, nat_le, nat_lt, not, cond, Bool, List, [], ◌∷◌, ◌++◌, None, Some, length, map, max, take, drop, get_or, refl, ap, ◌∙◌}
+use Rattle.std.proofs.Common.{◌≡◌, ℕ, ◌+◌, ◌==◌, ◌&&◌, ◌||◌, nat_le, nat_lt, not, cond, Bool, List, [], ◌∷◌, ◌++◌, None, Some, length, map, max, take, drop}
+use Rattle.std.proofs.Common.{get_or, refl, ap, ◌∙◌}
 use Rattle.std.specs.List.{flat_map, list_any, position, position_or_len, zip}
 use Rattle.std.proofs.lemmas.List.{length-map}
 use Rattle.std.specs.List.{drop-map, take-map}
@@ -14,7 +15,8 @@ use Rattle.snippet_marks.specs.Entries.{label_role}
 use Rattle.snippet_marks.proofs.HeldLemmas.{are_starts-held, held, label_text-plain, marks_of-held, position_after-held, position_at-held}
 use Rattle.snippet_strokes.specs.Cuts.{cut_of, cuts_of, is_met, is_overlapped, look_ends, looked_after, meets, overlapped, overlapped_by, up_to}
 use Rattle.snippet_strokes.specs.Drawing.{lowest_position, row_count}
-use Rattle.snippet_strokes.specs.Strokes.{connector_of, connectors_of, corner_of, corners_of, is_stem_covered, label_of, labels_of, stem_of, stems_of, line_strokes}
+use Rattle.snippet_strokes.specs.Strokes.{connector_of, connectors_of, corner_of, corners_of, is_stem_covered, label_of, labels_of, stem_of, stems_of}
+use Rattle.snippet_strokes.specs.Strokes.{line_strokes}
 
 -- ---- how many rows there are
 
@@ -52,7 +54,8 @@ module _ (layout : Layout) (row : ℕ) where
   corners_of-held count es = flat_map-map (corner_of layout row count) held es
 
 -- all strokes of a line
-pub line_strokes-held : (layout : Layout) (row count : ℕ) (placed order : List PlacedEntry) → line_strokes layout row count (map held placed) (map held order) ≡ line_strokes layout row count placed order
+pub line_strokes-held : (layout : Layout) (row count : ℕ) (placed order : List PlacedEntry)
+    → line_strokes layout row count (map held placed) (map held order) ≡ line_strokes layout row count placed order
 line_strokes-held layout row count placed order =
     let lines = connectors_of layout (row + 1) placed in
     let bars = corners_of layout row count placed in
@@ -76,7 +79,8 @@ position-held e others =
     ap (λ n. cond (nat_lt n (length (map held others))) (Some n) None) (position_or_len-map (crosses (held e)) held others)
     ∙ ap (λ n. cond (nat_lt (position_or_len (crosses e) others) n) (Some (position_or_len (crosses e) others)) None) (length-map others held)
 
-looked_after-held : (reached : ℕ) (e : PlacedEntry) (others : List PlacedEntry) → looked_after reached (held e) (map held others) ≡ looked_after reached e others
+looked_after-held : (reached : ℕ) (e : PlacedEntry) (others : List PlacedEntry)
+    → looked_after reached (held e) (map held others) ≡ looked_after reached e others
 looked_after-held reached e others =
     ap (λ n. cond ((reached == 0) && has_label e) (up_to (position (crosses (held e)) (map held others)) n) n) (length-map others held)
     ∙ ap (λ at. cond ((reached == 0) && has_label e) (up_to at (length others)) (length others)) (position-held e others)
@@ -105,7 +109,8 @@ is_met-held k e placed ends =
     let met : PlacedEntry × ℕ → Bool = λ pair. nat_lt k pair.1 && do_overlap e 0 pair.0 in
     ap (list_any met) (zip-held placed ends) ∙ list_any-map met (λ (pair : PlacedEntry × ℕ). (held pair.0, pair.1)) (zip placed ends)
 
-overlapped_by-held : (placed : List PlacedEntry) (ends : List ℕ) (k : ℕ) (es : List PlacedEntry) → overlapped_by (map held placed) ends k (map held es) ≡ overlapped_by placed ends k es
+overlapped_by-held : (placed : List PlacedEntry) (ends : List ℕ) (k : ℕ) (es : List PlacedEntry)
+    → overlapped_by (map held placed) ends k (map held es) ≡ overlapped_by placed ends k es
 overlapped_by-held placed ends k [] = refl
 overlapped_by-held placed ends k (e ∷ es) =
     let n = get_or ends k 0 in
@@ -119,6 +124,7 @@ pub overlapped-held : (placed : List PlacedEntry) → overlapped (map held place
 overlapped-held placed =
     ap (λ ends. overlapped_by (map held placed) ends 0 (map held placed)) (look_ends-held 0 0 placed) ∙ overlapped_by-held placed (look_ends 0 0 placed) 0 placed
 
-pub cuts_of-held : (layout : Layout) (room : ℕ) (order : List PlacedEntry) (flags : List Bool) → cuts_of layout room (map held order) flags ≡ cuts_of layout room order flags
+pub cuts_of-held : (layout : Layout) (room : ℕ) (order : List PlacedEntry) (flags : List Bool)
+    → cuts_of layout room (map held order) flags ≡ cuts_of layout room order flags
 cuts_of-held layout room order flags =
     ap (flat_map (cut_of layout room)) (zip-held order flags) ∙ flat_map-map (cut_of layout room) (λ (pair : PlacedEntry × Bool). (held pair.0, pair.1)) (zip order flags)

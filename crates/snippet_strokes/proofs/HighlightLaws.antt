@@ -4,14 +4,16 @@ use Rattle.std.proofs.lemmas.Bool.{cases_eq, cases_lt}
 use Rattle.std.proofs.lemmas.List.{ext_get_or, get_or_past}
 use Rattle.std.proofs.lemmas.List.FromFn.{get_or-map-range_with_len, length-map-range_with_len}
 use Rattle.snippet_grid.specs.Grid.{changed_within, row_at}
-use Rattle.snippet_grid.proofs.ChangeLemmas.{length-changed_within, slice_index_or-changed_within_after, slice_index_or-changed_within_before, slice_index_or-changed_within_inside}
+use Rattle.snippet_grid.proofs.ChangeLemmas.{length-changed_within, slice_index_or-changed_within_after, slice_index_or-changed_within_before}
+use Rattle.snippet_grid.proofs.ChangeLemmas.{slice_index_or-changed_within_inside}
 use Rattle.snippet_style.specs.Cell.{Cell, SPACE}
 use Rattle.snippet_view.specs.declared.entries.LineAnnotation.{LineAnnotation}
 use Rattle.snippet_strokes.specs.Rows.{IsHighlighted, highlighted_row, role_in_source}
 use Rattle.snippet_strokes.proofs.LineValueLaws.{highlighted_is}
 
 -- a highlighted row, read cell by cell
-pub IsHighlighted-row : (code dropped : ℕ) (es : List LineAnnotation) (plain : List Cell) → IsHighlighted code dropped es plain (highlighted_row code dropped es plain)
+pub IsHighlighted-row : (code dropped : ℕ) (es : List LineAnnotation) (plain : List Cell)
+    → IsHighlighted code dropped es plain (highlighted_row code dropped es plain)
 IsHighlighted-row code dropped es plain =
     let lit : ℕ → Cell = λ c. let cell = get_or plain c SPACE in record cell { role = role_in_source code dropped es c cell.role } in
     record {
@@ -42,7 +44,8 @@ module _ (code dropped : ℕ) (es : List LineAnnotation) (row : ℕ) (old new : 
       ]
 
   -- rows of which one is highlighted, and the others stay
-  pub highlighted_rows : IsHighlighted code dropped es (row_at old row) (row_at new row) → ((r : ℕ) → r ≢ row → row_at new r ≡ row_at old r) → length new ≡ length old → new ≡ changed
+  pub highlighted_rows : IsHighlighted code dropped es (row_at old row) (row_at new row) → ((r : ℕ) → r ≢ row → row_at new r ≡ row_at old r)
+      → length new ≡ length old → new ≡ changed
   highlighted_rows is others count =
       ext_get_or [] new changed (count ∙ sym (length-changed_within rule row (row + 1) old)) (λ r within. elim (cases_eq r row) [
         | inl here ↦

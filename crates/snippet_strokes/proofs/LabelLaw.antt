@@ -1,5 +1,6 @@
 -- No label is lost: the labels of two entries share no cell.
-use Rattle.std.proofs.Common.{◌≡◌, ℕ, ◌+◌, ◌<◌, ◌≤◌, ◌==◌, ◌&&◌, ◌||◌, cond, Bool, true, false, List, [], ◌∷◌, ◌++◌, length, get_or, take, drop, refl, sym, ap, ◌∙◌, subst, arith, inl, inr, All}
+use Rattle.std.proofs.Common.{◌≡◌, ℕ, ◌+◌, ◌<◌, ◌≤◌, ◌==◌, ◌&&◌, ◌||◌, cond, Bool, true, false, List, [], ◌∷◌, ◌++◌, length, get_or, take, drop, refl, sym, ap}
+use Rattle.std.proofs.Common.{◌∙◌, subst, arith, inl, inr, All}
 use Rattle.std.specs.List.{flat_map}
 use Rattle.std.specs.Cow.{cow_str_bytes}
 use Rattle.snippet_view.specs.declared.entries.LineAnnotation.{LineAnnotation}
@@ -19,7 +20,8 @@ use Rattle.snippet_strokes.proofs.LabelWrites.{All-label_of}
 use Rattle.snippet_strokes.proofs.WriteLaws.{All-flat_map, painted-last}
 use Rattle.snippet_marks.proofs.LabelKept.{apart, label_chars_le, label_parts, labelled_positions, position_of, stands_left, uncrowded}
 
-pub uncrowded_apart : (p : ℕ) (e f : PlacedEntry) → crowds p e f ≡ false → has_label e ≡ true → has_label f ≡ true → f.entry.start.display ≤ e.entry.start.display → f.entry.end.display + (length (cow_str_bytes f.label) + 2) ≤ e.entry.start.display
+pub uncrowded_apart : (p : ℕ) (e f : PlacedEntry) → crowds p e f ≡ false → has_label e ≡ true → has_label f ≡ true
+    → f.entry.start.display ≤ e.entry.start.display → f.entry.end.display + (length (cow_str_bytes f.label) + 2) ≤ e.entry.start.display
 uncrowded_apart p e f crowded has_e has_f left =
     let more = length (cow_str_bytes f.label) + 2 in
     let clear : reaches p e f ≡ false = right (blocks e f) (reaches p e f) crowded in
@@ -72,7 +74,8 @@ placed_apart layout row given es i j d d2 placed places before within has has_f 
     (λ one_row. subst (λ p. crowds p e f ≡ false) (sym at_e) (uncrowded 0 es i j d d2 before within (sym at_e ∙ one_row ∙ at_f))) r c here there
 
 -- each label stands whole once all are written
-pub labels_stand : (layout : Layout) (row : ℕ) (given : List LineAnnotation) (es : List PlacedEntry) (rows : List (List Cell)) → ArePlaced given es → All (λ e. HasPlace e.entry) es → All (StandsWhole layout row (painted (labels_of layout row es) rows)) es
+pub labels_stand : (layout : Layout) (row : ℕ) (given : List LineAnnotation) (es : List PlacedEntry) (rows : List (List Cell)) → ArePlaced given es
+    → All (λ e. HasPlace e.entry) es → All (StandsWhole layout row (painted (labels_of layout row es) rows)) es
 labels_stand layout row given es rows placed places k d within has n inside =
     let f : PlacedEntry → List Write = label_of layout row in
     let e : PlacedEntry = get_or es k d in

@@ -1,5 +1,6 @@
 -- The labels of entries, in the order in which the entries are given.
-use Rattle.std.proofs.Common.{◌≡◌, ℕ, suc, ◌+◌, ◌<◌, ◌≤◌, ◌==◌, ◌&&◌, nat_le, nat_lt, not, max, cond, Bool, true, false, List, [], ◌∷◌, length, map, get_or, set, refl, sym, ap, subst, ◌∙◌, arith, inl, inr, ◌⊎◌, All, chars, count_by}
+use Rattle.std.proofs.Common.{◌≡◌, ℕ, suc, ◌+◌, ◌<◌, ◌≤◌, ◌==◌, ◌&&◌, nat_le, nat_lt, not, max, cond, Bool, true, false, List, [], ◌∷◌, length, map, get_or}
+use Rattle.std.proofs.Common.{set, refl, sym, ap, subst, ◌∙◌, arith, inl, inr, ◌⊎◌, All, chars, count_by}
 use Rattle.std.specs.List.{swap}
 use Rattle.std.specs.List.Sorted.{IsPermutation}
 use Rattle.std.specs.Cow.{cow_str_bytes}
@@ -7,7 +8,8 @@ use Rattle.std.proofs.lemmas.Bool.{and_parts, cases_Bool, eq-eqb, false≢true}
 use Rattle.std.proofs.lemmas.Bool.Decides.{nat_tests}
 use Rattle.std.proofs.lemmas.List.{get_or-map, map-set}
 use Rattle.std.proofs.lemmas.List.Elements.{All-cons, All-map, All-nil}
-use Rattle.std.proofs.lemmas.List.Sorted.{All-permutation, IsPermutation-keeps, IsPermutation-refl, IsPermutation-swap, IsPermutation-sym, IsPermutation-trans, sum_by-IsPermutation}
+use Rattle.std.proofs.lemmas.List.Sorted.{All-permutation, IsPermutation-keeps, IsPermutation-refl, IsPermutation-swap, IsPermutation-sym, IsPermutation-trans}
+use Rattle.std.proofs.lemmas.List.Sorted.{sum_by-IsPermutation}
 use Rattle.std.proofs.lemmas.List.Sums.{sum_by-cons}
 use Rattle.snippet_grid.specs.Grid.{cell_at}
 use Rattle.snippet_style.specs.Cell.{Cell, SPACE}
@@ -80,7 +82,8 @@ all_fail {X} q (x ∷ xs) none =
     fails true is = cc is
     fails false is = refl
 
-one_passes : {X : Type 0} (q : X → Bool) (xs : List X) → ((i j : ℕ) (d d2 : X) → i < j → j < length xs → q (get_or xs i d) ≡ true → q (get_or xs j d2) ≡ true → ⊥) → count_by q xs ≤ 1
+one_passes : {X : Type 0} (q : X → Bool) (xs : List X)
+    → ((i j : ℕ) (d d2 : X) → i < j → j < length xs → q (get_or xs i d) ≡ true → q (get_or xs j d2) ≡ true → ⊥) → count_by q xs ≤ 1
 one_passes q [] apart = omega arith
 one_passes q (x ∷ xs) apart =
     elim (cases_Bool (q x)) [
@@ -111,7 +114,8 @@ shows_label e has some = by_length (length (chars (cow_str_bytes e.label))) (ome
     by_length n is = grind (arith, nat_tests, is)
 
 -- where a label begins
-stands_at : (layout : Layout) (e : PlacedEntry) → let l = placed_label layout e in ((l.row ≡ 0) × (l.cell ≡ layout.code + max e.entry.end.display 1 + 1)) ⊎ ((0 < l.row) × (l.cell ≡ layout.code + e.entry.start.display))
+stands_at : (layout : Layout) (e : PlacedEntry)
+    → let l = placed_label layout e in ((l.row ≡ 0) × (l.cell ≡ layout.code + max e.entry.end.display 1 + 1)) ⊎ ((0 < l.row) × (l.cell ≡ layout.code + e.entry.start.display))
 stands_at layout e =
     elim (label_parts e) [
       | inl at ↦
@@ -145,7 +149,8 @@ reached layout e r c is =
     lt a b is = grind (arith, nat_tests, is)
 
 -- no label of placed entries has a cell, if none has it where they are given
-beside_labels : (layout : Layout) (row r c : ℕ) (placed : List PlacedEntry) → count_by (λ e. is_cell_of r c (placed_label layout e)) placed ≡ 0 → BesideLabels layout row (row + r) c placed
+beside_labels : (layout : Layout) (row r c : ℕ) (placed : List PlacedEntry) → count_by (λ e. is_cell_of r c (placed_label layout e)) placed ≡ 0
+    → BesideLabels layout row (row + r) c placed
 beside_labels layout row r c placed none k d within has there =
     let e : PlacedEntry = get_or placed k d in
     let at : ℕ = layout.code + (label_place e).1 in
@@ -213,7 +218,8 @@ LabelsStand-placed layout row es placed rows below is places stands beside hung 
     entries (x ∷ xs) = ap (λ es. x.entry ∷ es) (entries xs)
 
 -- where no entry has a label to show, none stands anywhere, and where nothing is drawn, spaces do
-pub LabelsStand-none : (layout : Layout) (es : List LineAnnotation) (rows : List (List Cell)) → All (λ e. label_text e ≡ []) es → ((r c : ℕ) → layout.code ≤ c → cell_at rows r c ≡ SPACE) → LabelsStand layout es rows
+pub LabelsStand-none : (layout : Layout) (es : List LineAnnotation) (rows : List (List Cell)) → All (λ e. label_text e ≡ []) es
+    → ((r c : ℕ) → layout.code ≤ c → cell_at rows r c ≡ SPACE) → LabelsStand layout es rows
 LabelsStand-none layout es rows none blank =
     let g : LineAnnotation → PlacedLabel = λ e. record { entry = e; row = 0; cell = 0 } in
     record {
@@ -235,7 +241,8 @@ LabelsStand-none layout es rows none blank =
     no_cell r c n is = grind (arith, nat_tests, is)
 
 -- labels that stand in some rows stand in others, whose cells from the code on are the same
-pub LabelsStand-kept : (layout : Layout) (es : List LineAnnotation) (old new : List (List Cell)) → LabelsStand layout es old → ((r c : ℕ) → layout.code ≤ c → cell_at new r c ≡ cell_at old r c) → LabelsStand layout es new
+pub LabelsStand-kept : (layout : Layout) (es : List LineAnnotation) (old new : List (List Cell)) → LabelsStand layout es old
+    → ((r c : ℕ) → layout.code ≤ c → cell_at new r c ≡ cell_at old r c) → LabelsStand layout es new
 LabelsStand-kept layout es old new is same =
     record {
       labels = is.labels;
@@ -255,6 +262,8 @@ LabelsStand-kept layout es old new is same =
       others = λ r c right none. subst (IsStrokeCell layout.decor) (sym (same r c right)) (is.others r c right none);
     }
   where
-    right : (l : PlacedLabel) (n : ℕ) → ((l.row ≡ 0) × (l.cell ≡ layout.code + max l.entry.end.display 1 + 1)) ⊎ ((0 < l.row) × (l.cell ≡ layout.code + l.entry.start.display)) → layout.code ≤ l.cell + n
+    right : (l : PlacedLabel) (n : ℕ)
+        → ((l.row ≡ 0) × (l.cell ≡ layout.code + max l.entry.end.display 1 + 1)) ⊎ ((0 < l.row) × (l.cell ≡ layout.code + l.entry.start.display))
+        → layout.code ≤ l.cell + n
     right l n (inl at) = omega (arith, at.1)
     right l n (inr at) = omega (arith, at.1)

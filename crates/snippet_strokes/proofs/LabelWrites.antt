@@ -20,7 +20,8 @@ use Rattle.snippet_strokes.proofs.TextLemmas.{free_label_text}
 use Rattle.snippet_strokes.proofs.WriteLaws.{All-flat_map, DrawsFrom-painted, flat_map-none, painted-cell}
 
 -- what holds of the write of a label holds of those of all
-pub All-label_of : (P : Write → Type 0) (layout : Layout) (row : ℕ) (e : PlacedEntry) → (has_label e ≡ true → P (label_write layout row e)) → All P (label_of layout row e)
+pub All-label_of : (P : Write → Type 0) (layout : Layout) (row : ℕ) (e : PlacedEntry) → (has_label e ≡ true → P (label_write layout row e))
+    → All P (label_of layout row e)
 All-label_of P layout row e holds =
     elim (cases_Bool (has_label e)) [
       | inl has ↦ subst (λ b. All P (cond b (label_write layout row e ∷ []) [])) (sym has) (All-cons P (label_write layout row e) [] (holds has) (All-nil P))
@@ -28,7 +29,8 @@ All-label_of P layout row e holds =
     ]
 
 -- labels stand in rows that are there, and not left of their entries
-pub labels_within : (layout : Layout) (row count from : ℕ) (es : List PlacedEntry) → All (λ e. HasPlace e.entry) es → All (HasRows row count) es → All (λ e. StandsFrom layout.code from e.entry) es → All (IsWithin row count from) (labels_of layout row es)
+pub labels_within : (layout : Layout) (row count from : ℕ) (es : List PlacedEntry) → All (λ e. HasPlace e.entry) es → All (HasRows row count) es
+    → All (λ e. StandsFrom layout.code from e.entry) es → All (IsWithin row count from) (labels_of layout row es)
 labels_within layout row count from es places rows stand =
     All-flat_map (IsWithin row count from) (label_of layout row) es (λ k d within.
     let e : PlacedEntry = get_or es k d in
@@ -40,7 +42,8 @@ labels_within layout row count from es places rows stand =
     }))
 
 -- so labels are drawn there
-pub DrawsFrom-labels : (layout : Layout) (row from : ℕ) (es : List PlacedEntry) (old : List (List Cell)) → All (λ e. HasPlace e.entry) es → All (HasRows row (length old)) es → All (λ e. StandsFrom layout.code from e.entry) es → DrawsFrom row from old (painted (labels_of layout row es) old)
+pub DrawsFrom-labels : (layout : Layout) (row from : ℕ) (es : List PlacedEntry) (old : List (List Cell)) → All (λ e. HasPlace e.entry) es
+    → All (HasRows row (length old)) es → All (λ e. StandsFrom layout.code from e.entry) es → DrawsFrom row from old (painted (labels_of layout row es) old)
 DrawsFrom-labels layout row from es old places rows stand =
     DrawsFrom-painted row from (labels_of layout row es) old (labels_within layout row (length old) from es places rows stand)
 
@@ -51,7 +54,8 @@ label_unmarked Context = refl
 label_unmarked Visible = refl
 
 -- labels, painted, mark no start
-pub labels_unmarked : (layout : Layout) (row : ℕ) (es : List PlacedEntry) (rows : List (List Cell)) → MarksStarts layout.code [] rows (painted (labels_of layout row es) rows)
+pub labels_unmarked : (layout : Layout) (row : ℕ) (es : List PlacedEntry) (rows : List (List Cell))
+    → MarksStarts layout.code [] rows (painted (labels_of layout row es) rows)
 labels_unmarked layout row es rows r c _ before =
     let M : Cell → Type 0 = λ cell. has_mark_role cell ≡ false in
     let Q : Write → Type 0 = λ w. Reaches r c w → M (cell_of_write w c) in

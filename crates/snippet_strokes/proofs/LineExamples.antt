@@ -6,7 +6,8 @@ use Rattle.snippet_model.specs.declared.snippet.AnnotationKind.TheVariants.{Prim
 use Rattle.snippet_text.specs.Normalized.{norm}
 use Rattle.snippet_style.specs.Cell.{Cell, text_cells, written}
 use Rattle.snippet_style.specs.declared.glyphs.DecorStyle.TheVariants.{Ascii}
-use Rattle.snippet_style.specs.declared.role.ElementStyle.TheVariants.{LabelPrimary, LabelSecondary, LineNumber, NoStyle, Quotation, UnderlinePrimary, UnderlineSecondary}
+use Rattle.snippet_style.specs.declared.role.ElementStyle.TheVariants.{LabelPrimary, LabelSecondary, LineNumber, NoStyle, Quotation, UnderlinePrimary}
+use Rattle.snippet_style.specs.declared.role.ElementStyle.TheVariants.{UnderlineSecondary}
 use Rattle.snippet_view.specs.declared.entries.LineAnnotation.{LineAnnotation}
 use Rattle.snippet_view.specs.declared.entries.LineAnnotationType.{LineAnnotationType}
 use Rattle.snippet_view.specs.declared.entries.LineAnnotationType.TheVariants.{Singleline, MultilineStart}

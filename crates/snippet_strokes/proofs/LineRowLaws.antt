@@ -32,7 +32,8 @@ lone_count es placed is one =
 
 module _ (layout : Layout) (room : ℕ) (closes : Bool) (text : List ℕ) (dropped : ℕ) (source : List Cell) (rows : List (List Cell)) where
   -- so a line with one entry has one row below its source row at most
-  pub lone_rows : (open_bars : List Bar) (es : List LineAnnotation) → AreLineRows layout room closes text dropped open_bars es source rows → length es ≡ 1 → length rows ≤ 2
+  pub lone_rows : (open_bars : List Bar) (es : List LineAnnotation) → AreLineRows layout room closes text dropped open_bars es source rows → length es ≡ 1
+      → length rows ≤ 2
   lone_rows open_bars es drawn one =
       let past : List Bar = bars_apart open_bars (ends_of_bars es) in
       let all : length rows ≡ length drawn.own = ap length drawn.rows_are ∙ length-map drawn.own (with_bars layout Solid past) in
@@ -46,7 +47,8 @@ module _ (layout : Layout) (room : ℕ) (closes : Bool) (text : List ℕ) (dropp
       ]
 
   -- the bar that alone is open above a line on which none begins or ends stands beside each of its rows
-  pub bar_beside : (bar : Bar) (es : List LineAnnotation) → AreLineRows layout room closes text dropped (bar ∷ []) es source rows → ends_of_bars es ≡ [] → (i : ℕ) → i < length rows → cell_at rows i (layout.gutter + 2 + bar.depth) ≡ bar_part layout Solid bar
+  pub bar_beside : (bar : Bar) (es : List LineAnnotation) → AreLineRows layout room closes text dropped (bar ∷ []) es source rows → ends_of_bars es ≡ []
+      → (i : ℕ) → i < length rows → cell_at rows i (layout.gutter + 2 + bar.depth) ≡ bar_part layout Solid bar
   bar_beside bar es drawn none i within =
       let part : Cell = bar_part layout Solid bar in
       let own : List (List Cell) = drawn.own in

@@ -1,5 +1,6 @@
 -- The rows of a line, as they are drawn below those that are there.
-use Rattle.std.proofs.Common.{◌≡◌, ℕ, ◌+◌, ◌-◌, ◌<◌, Bool, true, false, List, [], ◌∷◌, ◌++◌, length, map, replicate, drop, get_or, refl, sym, ap, ◌∙◌, subst, arith, inl, inr}
+use Rattle.std.proofs.Common.{◌≡◌, ℕ, ◌+◌, ◌-◌, ◌<◌, Bool, true, false, List, [], ◌∷◌, ◌++◌, length, map, replicate, drop, get_or, refl, sym, ap, ◌∙◌, subst}
+use Rattle.std.proofs.Common.{arith, inl, inr}
 use Rattle.std.specs.Prelude.{if◌then◌else◌}
 use Rattle.std.specs.List.{list_any}
 use Rattle.std.proofs.lemmas.List.Sorted.{list_any-IsPermutation}
@@ -32,7 +33,8 @@ use Rattle.snippet_strokes.proofs.LowerWrites.{painted-below, strokes-lowered}
 use Rattle.snippet_strokes.proofs.PositionLemmas.{row_count_some}
 
 -- rows that are begun below others
-begun_below : (layout : Layout) (closes : Bool) (count : ℕ) (above : List (List Cell)) (source : List Cell) → (above ++ source ∷ []) ++ replicate (count - 1) (separator_row layout.decor layout.gutter) ++ bare_row layout.decor layout.gutter closes ∷ [] ≡ above ++ begun_rows layout closes count source
+begun_below : (layout : Layout) (closes : Bool) (count : ℕ) (above : List (List Cell)) (source : List Cell)
+    → (above ++ source ∷ []) ++ replicate (count - 1) (separator_row layout.decor layout.gutter) ++ bare_row layout.decor layout.gutter closes ∷ [] ≡ above ++ begun_rows layout closes count source
 begun_below layout closes count above source =
     let seps = replicate (count - 1) (separator_row layout.decor layout.gutter) in
     let end = bare_row layout.decor layout.gutter closes ∷ [] in
@@ -141,7 +143,9 @@ module _ (layout : Layout) (room : ℕ) (closes : Bool) (text : List ℕ) (dropp
   OwnRows es above source new = AddsOwnRows layout room closes text dropped es above source new
 
   -- a line that is marked as a whole
-  pub own_whole : (es : List LineAnnotation) (above : List (List Cell)) (source : List Cell) (old new : List (List Cell)) (row : ℕ) → is_whole_line text es ≡ true → old ≡ above ++ source ∷ [] → row ≡ length above → new ≡ barred layout Top (ends_of_bars es) row old → OwnRows es above source new
+  pub own_whole : (es : List LineAnnotation) (above : List (List Cell)) (source : List Cell) (old new : List (List Cell)) (row : ℕ)
+      → is_whole_line text es ≡ true → old ≡ above ++ source ∷ [] → row ≡ length above → new ≡ barred layout Top (ends_of_bars es) row old
+      → OwnRows es above source new
   own_whole es above source old new row whole old_is row_is new_is =
       let bars : List OpenBar = ends_of_bars es in
       let by_row = ap (λ r. barred layout Top bars r old) row_is in

@@ -68,7 +68,8 @@ module _ (layout : Layout) (room : ℕ) (closes : Bool) (source : List Cell) whe
   alike xs ys same = sym (rows_at-held xs) ∙ ap rows_at same ∙ rows_at-held ys
 
   -- so rows with strokes of these entries are the rows of their strokes
-  pub stroke_rows_are : (es : List LineAnnotation) (rows : List (List Cell)) → StrokesPainted layout room closes es source rows → rows ≡ stroke_rows layout room closes es source
+  pub stroke_rows_are : (es : List LineAnnotation) (rows : List (List Cell)) → StrokesPainted layout room closes es source rows
+      → rows ≡ stroke_rows layout room closes es source
   stroke_rows_are es rows is =
       let cut = cut_row layout.decor (cuts_at is.placed) in
       is.rows_are ∙ ap (λ whole. map cut (take 2 whole) ++ drop 2 whole) is.painted_are ∙ alike is.placed (placed_of es) (held_are es is.placed is.are)
@@ -97,7 +98,8 @@ line_rows_are layout room closes text dropped open_bars es source rows are =
     are.rows_are ∙ ap (map (with_bars layout Solid (bars_apart open_bars (ends_of_bars es)))) (own_rows_are layout room closes text dropped es source are.own are.are)
 
 -- a highlighted row is what its entries make of a source row
-pub highlighted_is : (code dropped : ℕ) (es : List LineAnnotation) (plain row : List Cell) → IsHighlighted code dropped es plain row → row ≡ highlighted_row code dropped es plain
+pub highlighted_is : (code dropped : ℕ) (es : List LineAnnotation) (plain row : List Cell) → IsHighlighted code dropped es plain row
+    → row ≡ highlighted_row code dropped es plain
 highlighted_is code dropped es plain row is =
     let lit : ℕ → Cell = λ c. let cell = get_or plain c SPACE in record cell { role = role_in_source code dropped es c cell.role } in
     let whole : length (map lit (range_with_len 0 (length plain))) ≡ length plain = length-map-range_with_len lit 0 (length plain) in
@@ -115,7 +117,8 @@ shifted-plain : (dropped : ℕ) (es : List LineAnnotation) → map (shifted drop
 shifted-plain dropped [] = refl
 shifted-plain dropped (e ∷ es) = ap (λ xs. shifted dropped (plain_entry e) ∷ xs) (shifted-plain dropped es)
 
-own_rows-plain : (layout : Layout) (room : ℕ) (closes : Bool) (text : List ℕ) (dropped : ℕ) (es : List LineAnnotation) (source : List Cell) → own_rows layout room closes text dropped (map plain_entry es) source ≡ own_rows layout room closes text dropped es source
+own_rows-plain : (layout : Layout) (room : ℕ) (closes : Bool) (text : List ℕ) (dropped : ℕ) (es : List LineAnnotation) (source : List Cell)
+    → own_rows layout room closes text dropped (map plain_entry es) source ≡ own_rows layout room closes text dropped es source
 own_rows-plain layout room closes text dropped [] source = refl
 own_rows-plain layout room closes text dropped (e ∷ es) source =
     let all : List LineAnnotation = e ∷ es in
@@ -138,7 +141,8 @@ map_alike f g [] same = refl
 map_alike f g (x ∷ xs) same = ap (λ y. y ∷ map f xs) (same x) ∙ ap (λ ys. g x ∷ ys) (map_alike f g xs same)
 
 -- and so is a highlighted row
-pub highlighted_row-plain : (code dropped : ℕ) (es : List LineAnnotation) (plain : List Cell) → highlighted_row code dropped (map plain_entry es) plain ≡ highlighted_row code dropped es plain
+pub highlighted_row-plain : (code dropped : ℕ) (es : List LineAnnotation) (plain : List Cell)
+    → highlighted_row code dropped (map plain_entry es) plain ≡ highlighted_row code dropped es plain
 highlighted_row-plain code dropped es plain =
     map_alike _ _ (range_with_len 0 (length plain)) (λ c.
     let cell = get_or plain c SPACE in

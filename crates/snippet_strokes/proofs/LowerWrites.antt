@@ -1,5 +1,6 @@
 -- Writes into rows that stand below others are writes into these rows alone.
-use Rattle.std.proofs.Common.{◌≡◌, ℕ, zero, suc, ◌+◌, ◌-◌, ◌==◌, nat_lt, cond, true, false, Bool, List, [], ◌∷◌, ◌++◌, length, map, take, drop, replicate, refl, sym, ap, ◌∙◌, arith}
+use Rattle.std.proofs.Common.{◌≡◌, ℕ, zero, suc, ◌+◌, ◌-◌, ◌==◌, nat_lt, cond, true, false, Bool, List, [], ◌∷◌, ◌++◌, length, map, take, drop, replicate, refl}
+use Rattle.std.proofs.Common.{sym, ap, ◌∙◌, arith}
 use Rattle.std.specs.List.{flat_map, range_with_len}
 use Rattle.std.proofs.lemmas.List.{map-append}
 use Rattle.std.proofs.lemmas.List.Concat.{flat_map-cons}
@@ -15,7 +16,8 @@ use Rattle.snippet_marks.specs.declared.positions.PlacedEntry.{PlacedEntry}
 use Rattle.snippet_marks.specs.Painting.{first_glyph, mark_end, mark_of, marks_of, stroke_role}
 use Rattle.snippet_strokes.specs.Drawing.{foot_glyph}
 use Rattle.snippet_marks.specs.Positions.{has_label, has_stem, label_place}
-use Rattle.snippet_strokes.specs.Strokes.{bar_of, bottom_of, connector_by, connector_of, connectors_of, corner_by, corner_of, corners_of, is_stem_covered, label_of, label_write, labels_of, line_to, stem_of, stem_write, stems_of, line_strokes, top_of, column_of}
+use Rattle.snippet_strokes.specs.Strokes.{bar_of, bottom_of, connector_by, connector_of, connectors_of, corner_by, corner_of, corners_of, is_stem_covered}
+use Rattle.snippet_strokes.specs.Strokes.{label_of, label_write, labels_of, line_to, stem_of, stem_write, stems_of, line_strokes, top_of, column_of}
 use Rattle.snippet_marks.specs.Writes.{Write, glyph_at, painted, stretch_of, written_by}
 
 -- a write so many rows farther down
@@ -31,7 +33,8 @@ written-cons x xs at new =
     let past : suc at + length new ≡ suc (at + length new) = omega arith in
     ap (λ n. take (suc at) ((x ∷ xs) ++ replicate n []) ++ new ++ drop (suc at + length new) (x ∷ xs)) fill ∙ ap (λ n. (x ∷ take at (xs ++ replicate (at - length xs) [])) ++ new ++ drop n (x ∷ xs)) past
 
-written-below : (above xs : List (List Cell)) (at : ℕ) (new : List (List Cell)) → written [] (above ++ xs) (length above + at) new ≡ above ++ written [] xs at new
+written-below : (above xs : List (List Cell)) (at : ℕ) (new : List (List Cell))
+    → written [] (above ++ xs) (length above + at) new ≡ above ++ written [] xs at new
 written-below [] xs at new = ap (λ n. written [] xs n new) (let none : 0 + at ≡ at = omega arith in none)
 written-below (x ∷ above) xs at new =
     let next : suc (length above) + at ≡ suc (length above + at) = omega arith in
@@ -49,7 +52,8 @@ painted_one above rows w =
     ap (λ row. written [] (above ++ rows) (length above + w.row) (written SPACE row w.cell cells ∷ [])) (row_at-below above rows w.row) ∙ written-below above rows w.row (written SPACE (row_at rows w.row) w.cell cells ∷ [])
 
 -- writes that are lowered past some rows leave these, and paint those below
-pub painted-below : (above : List (List Cell)) (ws : List Write) (rows : List (List Cell)) → painted (map (lowered (length above)) ws) (above ++ rows) ≡ above ++ painted ws rows
+pub painted-below : (above : List (List Cell)) (ws : List Write) (rows : List (List Cell))
+    → painted (map (lowered (length above)) ws) (above ++ rows) ≡ above ++ painted ws rows
 painted-below above [] rows = refl
 painted-below above (w ∷ ws) rows =
     ap (painted (map (lowered (length above)) ws)) (painted_one above rows w) ∙ painted-below above ws (written_by rows w)
@@ -57,12 +61,14 @@ painted-below above (w ∷ ws) rows =
 -- ---- the strokes of a line
 
 -- what a rule gives for each of some things, so many rows farther down
-flat_map-lowered : {X : Type 0} (n : ℕ) (f g : X → List Write) → ((x : X) → f x ≡ map (lowered n) (g x)) → (xs : List X) → flat_map f xs ≡ map (lowered n) (flat_map g xs)
+flat_map-lowered : {X : Type 0} (n : ℕ) (f g : X → List Write) → ((x : X) → f x ≡ map (lowered n) (g x)) → (xs : List X)
+    → flat_map f xs ≡ map (lowered n) (flat_map g xs)
 flat_map-lowered n f g same [] = refl
 flat_map-lowered n f g same (x ∷ xs) =
     flat_map-cons f x xs ∙ ap (λ ws. ws ++ flat_map f xs) (same x) ∙ ap (λ ws. map (lowered n) (g x) ++ ws) (flat_map-lowered n f g same xs) ∙ sym (ap (map (lowered n)) (flat_map-cons g x xs) ∙ map-append (lowered n) (g x) (flat_map g xs))
 
-stretch-lowered : (n low row from to glyph : ℕ) (role : ElementStyle) → low ≡ n + row → stretch_of low from to glyph role ≡ map (lowered n) (stretch_of row from to glyph role)
+stretch-lowered : (n low row from to glyph : ℕ) (role : ElementStyle) → low ≡ n + row
+    → stretch_of low from to glyph role ≡ map (lowered n) (stretch_of row from to glyph role)
 stretch-lowered n low row from to glyph role is =
     ap (λ r. stretch_of r from to glyph role) is ∙ either (nat_lt from to)
   where
@@ -74,12 +80,14 @@ stretch-lowered n low row from to glyph role is =
     either false = refl
 
 -- numbers in a row, each so much greater
-range-lowered : (f g : ℕ → Write) (n a low count : ℕ) → low ≡ n + a → ((r : ℕ) → f (n + r) ≡ lowered n (g r)) → map f (range_with_len low count) ≡ map (lowered n) (map g (range_with_len a count))
+range-lowered : (f g : ℕ → Write) (n a low count : ℕ) → low ≡ n + a → ((r : ℕ) → f (n + r) ≡ lowered n (g r))
+    → map f (range_with_len low count) ≡ map (lowered n) (map g (range_with_len a count))
 range-lowered f g n a low zero is same = refl
 range-lowered f g n a low (suc count) is same =
     ap (λ w. w ∷ map f (range_with_len (low + 1) count)) (ap f is ∙ same a) ∙ ap (λ ws. lowered n (g a) ∷ ws) (range-lowered f g n (a + 1) (low + 1) count (omega (arith, is)) same)
 
-column-lowered : (n start end cell glyph : ℕ) (role : ElementStyle) → column_of (n + start) (n + end) cell glyph role ≡ map (lowered n) (column_of start end cell glyph role)
+column-lowered : (n start end cell glyph : ℕ) (role : ElementStyle)
+    → column_of (n + start) (n + end) cell glyph role ≡ map (lowered n) (column_of start end cell glyph role)
 column-lowered n start end cell glyph role =
     let f : ℕ → Write = λ r. glyph_at r cell glyph role in
     let many : n + end - (n + start) ≡ end - start = omega arith in
@@ -104,7 +112,8 @@ module _ (layout : Layout) (n : ℕ) where
   corners-lowered row count es =
       flat_map-lowered n (corner_of layout (n + row) (n + count)) (corner_of layout row count) (λ e. by_part e e.entry.annotation_type) es
     where
-      bar : (e : PlacedEntry) (depth start end low high : ℕ) → low ≡ n + start → high ≡ n + end → bar_of layout e depth low high ≡ map (lowered n) (bar_of layout e depth start end)
+      bar : (e : PlacedEntry) (depth start end low high : ℕ) → low ≡ n + start → high ≡ n + end
+          → bar_of layout e depth low high ≡ map (lowered n) (bar_of layout e depth start end)
       bar e depth start end low high is_low is_high =
           ap (λ s. bar_of layout e depth s high) is_low ∙ ap (λ t. bar_of layout e depth (n + start) t) is_high ∙ column-lowered n start end (layout.gutter + 2 + depth) (strokes_of layout.decor (is_primary e.entry.kind)).bar (stroke_role e)
 
@@ -126,7 +135,8 @@ module _ (layout : Layout) (n : ℕ) where
           ∙ ap (λ ws. ws ++ lowered n own ∷ []) (bar e depth row (row + 1 + e.position) (n + row) (n + (row + 1 + e.position)) refl refl)
           ∙ sym (map-append (lowered n) (bar_of layout e depth row (row + 1 + e.position)) (own ∷ []))
 
-      by_part : (e : PlacedEntry) (part : LineAnnotationType) → corner_by layout (n + row) (n + count) e part ≡ map (lowered n) (corner_by layout row count e part)
+      by_part : (e : PlacedEntry) (part : LineAnnotationType)
+          → corner_by layout (n + row) (n + count) e part ≡ map (lowered n) (corner_by layout row count e part)
       by_part e Singleline = refl
       by_part e (MultilineStart depth) = top e depth
       by_part e (MultilineEnd depth) = bottom e depth
@@ -175,7 +185,8 @@ module _ (layout : Layout) (n : ℕ) where
           let w : Write = label_write layout row e in
           ap (λ (r : ℕ). record w { row = r }) (let same : n + row + (label_place e).0 ≡ n + (row + (label_place e).0) = omega arith in same)
 
-      either : (e : PlacedEntry) (labelled : Bool) → cond labelled (label_write layout (n + row) e ∷ []) [] ≡ map (lowered n) (cond labelled (label_write layout row e ∷ []) [])
+      either : (e : PlacedEntry) (labelled : Bool)
+          → cond labelled (label_write layout (n + row) e ∷ []) [] ≡ map (lowered n) (cond labelled (label_write layout row e ∷ []) [])
       either e true = ap (λ w. w ∷ []) (one e)
       either e false = refl
 
@@ -197,7 +208,8 @@ module _ (layout : Layout) (n : ℕ) where
       either e false = refl
 
   -- all strokes of a line
-  pub strokes-lowered : (count : ℕ) (placed order : List PlacedEntry) → line_strokes layout n (n + count) placed order ≡ map (lowered n) (line_strokes layout 0 count placed order)
+  pub strokes-lowered : (count : ℕ) (placed order : List PlacedEntry)
+      → line_strokes layout n (n + count) placed order ≡ map (lowered n) (line_strokes layout 0 count placed order)
   strokes-lowered count placed order =
       let none : n + 0 ≡ n = omega arith in
       let one : List Write = connectors_of layout 1 placed in

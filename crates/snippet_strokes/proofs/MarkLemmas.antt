@@ -27,12 +27,14 @@ primary_only Context is = cc
 primary_only Visible is = cc
 
 -- two kinds that are drawn alike have the same mark cells
-same_mark : (decor : DecorStyle) (kind other : AnnotationKind) (cell : Cell) → is_primary other ≡ is_primary kind → IsMarkCell decor other cell → IsMarkCell decor kind cell
+same_mark : (decor : DecorStyle) (kind other : AnnotationKind) (cell : Cell) → is_primary other ≡ is_primary kind → IsMarkCell decor other cell
+    → IsMarkCell decor kind cell
 same_mark decor kind other cell alike is =
     subst (λ (primary : Bool). IsMarkGlyph decor primary cell.ch × (cell.role ≡ underline_role primary)) alike is
 
 -- an entry that stands in front of the mark's entry, and covers the column too, is drawn as the mark is
-drawn_alike : (es : List LineAnnotation) (p : ℕ) (kind : AnnotationKind) (mark : IsEntryMark es p kind) (top : LineAnnotation) → Contains es top → EntryCovers top p → CoversOver mark.entry top → is_primary top.kind ≡ is_primary kind
+drawn_alike : (es : List LineAnnotation) (p : ℕ) (kind : AnnotationKind) (mark : IsEntryMark es p kind) (top : LineAnnotation) → Contains es top
+    → EntryCovers top p → CoversOver mark.entry top → is_primary top.kind ≡ is_primary kind
 drawn_alike es p kind mark top among covers over =
     let least = mark.least top among covers in
     let same : entry_width top ≡ entry_width mark.entry = omega (arith, over.narrower, least) in

@@ -1,5 +1,6 @@
 -- The rows of a line with no entries.
-use Rattle.std.proofs.Common.{◌≡◌, ℕ, zero, suc, ◌+◌, ◌<◌, ◌≤◌, ◌==◌, ◌&&◌, Bool, if◌then◌else◌, true, false, List, [], ◌∷◌, ◌++◌, length, drop, refl, sym, ap, ◌∙◌, subst, arith, inl}
+use Rattle.std.proofs.Common.{◌≡◌, ℕ, zero, suc, ◌+◌, ◌<◌, ◌≤◌, ◌==◌, ◌&&◌, Bool, if◌then◌else◌, true, false, List, [], ◌∷◌, ◌++◌, length, drop, refl, sym, ap}
+use Rattle.std.proofs.Common.{◌∙◌, subst, arith, inl}
 use Rattle.std.specs.List.{slice_index_or}
 use Rattle.std.proofs.lemmas.List.{append_assoc}
 use Rattle.snippet_view.specs.declared.entries.LineAnnotation.{LineAnnotation}
@@ -66,7 +67,8 @@ strokes_none layout room closes es above plain old new place none old_is bare_ba
     blank true (suc r) c right = refl
     blank false r c right = refl
 
-    space : (closes : Bool) (p : ℕ) → slice_index_or (row_at (if closes then closing_row layout.decor layout.gutter ∷ [] else []) 0) (layout.code + p) SPACE ≡ SPACE
+    space : (closes : Bool) (p : ℕ)
+        → slice_index_or (row_at (if closes then closing_row layout.decor layout.gutter ∷ [] else []) 0) (layout.code + p) SPACE ≡ SPACE
     space true p = bare_row_right layout.decor layout.gutter true (layout.code + p) (omega (arith, place))
     space false p = refl
 

@@ -23,7 +23,8 @@ one_end e = known (bar_of e)
     known (Some bar) = refl
 
 -- one entry more is read
-pub ends_more : (es : List LineAnnotation) (i : ℕ) (d : LineAnnotation) (bars next : List OpenBar) (found : Option OpenBar) → i < length es → bars ≡ ends_of_bars (take i es) → found ≡ bar_of (get_or es i d) → next ≡ bars ++ option_to_list found → next ≡ ends_of_bars (take (i + 1) es)
+pub ends_more : (es : List LineAnnotation) (i : ℕ) (d : LineAnnotation) (bars next : List OpenBar) (found : Option OpenBar) → i < length es
+    → bars ≡ ends_of_bars (take i es) → found ≡ bar_of (get_or es i d) → next ≡ bars ++ option_to_list found → next ≡ ends_of_bars (take (i + 1) es)
 ends_more es i d bars next found within before is pushed =
     let e = get_or es i d in
     pushed ∙ ap (λ bs. bs ++ option_to_list found) before ∙ sym (ap ends_of_bars (take_more es i d within) ∙ filter_map-append bar_of (take i es) (e ∷ []) ∙ ap (λ bs. ends_of_bars (take i es) ++ bs) (one_end e ∙ ap option_to_list (sym is)))
@@ -52,7 +53,8 @@ room_apart layout bars others all =
     All-filter (λ (b : OpenBar). not (has_depth others b.depth)) (HasRoom layout) bars all
 
 -- the bars that are open below a line have room, where those above it and its entries' bars do
-pub room_below : (layout : Layout) (bars : List OpenBar) (es : List LineAnnotation) → All (HasRoom layout) bars → All (HasBarCell layout) es → All (HasRoom layout) (open_below bars es)
+pub room_below : (layout : Layout) (bars : List OpenBar) (es : List LineAnnotation) → All (HasRoom layout) bars → All (HasBarCell layout) es
+    → All (HasRoom layout) (open_below bars es)
 room_below layout bars es all bar_cells =
     let ends = ends_of_bars es in
     All-append (HasRoom layout) (bars_apart bars ends) (bars_apart ends bars) (room_apart layout bars ends all) (room_apart layout ends bars (room_ends layout es bar_cells))

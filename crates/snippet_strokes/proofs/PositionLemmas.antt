@@ -1,5 +1,6 @@
 -- The positions of labels.
-use Rattle.std.proofs.Common.{◌≡◌, ℕ, ◌+◌, ◌-◌, ◌<◌, ◌≤◌, ◌^◌, ◌==◌, ◌&&◌, ◌||◌, cond, max, nat_lt, not, Bool, true, false, List, [], ◌∷◌, length, map, fold, get_or, refl, sym, ap, ◌∙◌, subst, arith, inl, inr, All}
+use Rattle.std.proofs.Common.{◌≡◌, ℕ, ◌+◌, ◌-◌, ◌<◌, ◌≤◌, ◌^◌, ◌==◌, ◌&&◌, ◌||◌, cond, max, nat_lt, not, Bool, true, false, List, [], ◌∷◌, length, map, fold}
+use Rattle.std.proofs.Common.{get_or, refl, sym, ap, ◌∙◌, subst, arith, inl, inr, All}
 use Rattle.std.specs.List.{list_any}
 use Rattle.std.proofs.lemmas.Bool.{cases_Bool, cases_eq, eq-eqb, and_parts}
 use Rattle.std.proofs.lemmas.Bool.Decides.{nat_tests}
@@ -9,14 +10,16 @@ use Rattle.std.proofs.lemmas.List.Folds.{list_any_none}
 use Rattle.std.proofs.lemmas.List.Sums.{AllPass-from_list_all}
 use Rattle.snippet_view.specs.declared.entries.LineAnnotation.{LineAnnotation}
 use Rattle.snippet_marks.specs.declared.positions.PlacedEntry.{PlacedEntry}
-use Rattle.snippet_marks.specs.Positions.{ArePlaced, has_label, takes_space, has_stem, is_start, is_start_part, are_starts, crosses, crowds, position_at, position_after, positions, flipped, line_positions, label_place}
+use Rattle.snippet_marks.specs.Positions.{ArePlaced, has_label, takes_space, has_stem, is_start, is_start_part, are_starts, crosses, crowds, position_at}
+use Rattle.snippet_marks.specs.Positions.{position_after, positions, flipped, line_positions, label_place}
 use Rattle.snippet_strokes.specs.Drawing.{lowest_position, row_count, HasRows}
 use Rattle.snippet_view.specs.Measures.{greatest}
 use Rattle.snippet_marks.specs.Entries.{HasPlace}
 use Rattle.snippet_marks.proofs.CellLemmas.{above_zero}
 
 -- the positions of a list that has no labels
-pub positions-unlabelled : (p : ℕ) (es : List PlacedEntry) → All (λ e. has_label e ≡ false) es → All (λ e. takes_space e ≡ false) es → All (λ q. q ≡ p) (positions p es)
+pub positions-unlabelled : (p : ℕ) (es : List PlacedEntry) → All (λ e. has_label e ≡ false) es → All (λ e. takes_space e ≡ false) es
+    → All (λ q. q ≡ p) (positions p es)
 positions-unlabelled p [] none flat = All-nil (λ q. q ≡ p)
 positions-unlabelled p (e ∷ others) none flat =
     let L : PlacedEntry → Type 0 = λ x. has_label x ≡ false in
@@ -79,7 +82,8 @@ pub positions_at_most : (es : List PlacedEntry) → All (λ e. e.position ≤ lo
 positions_at_most es = fold-max_all es 0
 
 -- and it is as low as a bound of all
-fold-max_le : (es : List PlacedEntry) (m n : ℕ) → m ≤ n → All (λ (e : PlacedEntry). e.position ≤ n) es → fold (λ lowest (e : PlacedEntry). max lowest e.position) m es ≤ n
+fold-max_le : (es : List PlacedEntry) (m n : ℕ) → m ≤ n → All (λ (e : PlacedEntry). e.position ≤ n) es
+    → fold (λ lowest (e : PlacedEntry). max lowest e.position) m es ≤ n
 fold-max_le [] m n low all = low
 fold-max_le (e ∷ es) m n low all =
     let here : e.position ≤ n = All-head (λ (f : PlacedEntry). f.position ≤ n) e es all in
@@ -90,7 +94,8 @@ pub lowest_position_le : (es : List PlacedEntry) (n : ℕ) → All (λ e. e.posi
 lowest_position_le es n all = fold-max_le es 0 n (omega arith) all
 
 -- what is known of all positions is known of the entries
-pub of_positions : (P : ℕ → Type 0) (es : List PlacedEntry) (ps : List ℕ) → map (λ (e : PlacedEntry). e.position) es ≡ ps → All P ps → All (λ e. P e.position) es
+pub of_positions : (P : ℕ → Type 0) (es : List PlacedEntry) (ps : List ℕ) → map (λ (e : PlacedEntry). e.position) es ≡ ps → All P ps
+    → All (λ e. P e.position) es
 of_positions P es ps are all k d within =
     subst P (ap (λ xs. get_or xs k d.position) (sym are) ∙ get_or-map (λ (e : PlacedEntry). e.position) es k d d.position within) (all k d.position (omega (arith, within, length-map es (λ (e : PlacedEntry). e.position), ap length are)))
 

@@ -70,6 +70,7 @@ module _ {layout : Layout} {row below count : ℕ} {placed xs : List PlacedEntry
       ap length drawn_now ∙ (DrawsFrom-labels layout below 0 xs old (subst (All (λ e. HasPlace e.entry)) (sym given) enough.places) rows_for (λ k d within. omega arith)).count ∙ many
 
 -- nor do marks
-pub count_marks : {layout : Layout} {row below count : ℕ} {placed : List PlacedEntry} → AreEnough layout row below count placed → (xs : List PlacedEntry) (old new : List (List Cell)) → length old ≡ count → new ≡ painted (marks_of layout below xs) old → length new ≡ count
+pub count_marks : {layout : Layout} {row below count : ℕ} {placed : List PlacedEntry} → AreEnough layout row below count placed
+    → (xs : List PlacedEntry) (old new : List (List Cell)) → length old ≡ count → new ≡ painted (marks_of layout below xs) old → length new ≡ count
 count_marks {layout} {row} {below} {count} {placed} enough xs old new many drawn_now =
     ap length drawn_now ∙ (Painted-marks layout below xs old).count (omega (arith, many, enough.there)) ∙ many

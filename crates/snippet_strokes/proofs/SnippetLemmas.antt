@@ -1,11 +1,13 @@
 -- The rows of lines, one after another.
-use Rattle.std.proofs.Common.{◌≡◌, ◌≢◌, ℕ, ◌+◌, ◌-◌, ◌<◌, ◌≤◌, ◌==◌, ◌&&◌, true, false, Bool, None, List, [], ◌∷◌, ◌++◌, length, map, max, get_or, refl, sym, ap, ◌∙◌, subst, arith, inl, inr, All, chars, drop}
+use Rattle.std.proofs.Common.{◌≡◌, ◌≢◌, ℕ, ◌+◌, ◌-◌, ◌<◌, ◌≤◌, ◌==◌, ◌&&◌, true, false, Bool, None, List, [], ◌∷◌, ◌++◌, length, map, max, get_or, refl, sym}
+use Rattle.std.proofs.Common.{ap, ◌∙◌, subst, arith, inl, inr, All, chars, drop}
 use Rattle.std.specs.Prelude.{filter, not, nat_le, nat_lt}
 use Rattle.std.specs.List.{slice_index_or, list_any}
 use Rattle.std.specs.Char.{is_ascii_alphanumeric}
 use Rattle.std.proofs.lemmas.Bool.{cases_eq, cases_lt, false≢true, and_left, and_right, lt-leb}
 use Rattle.std.proofs.lemmas.Bool.Decides.{nat_tests}
-use Rattle.std.proofs.lemmas.List.{append_assoc, append-nil, drop_all, drop_more, get_or_past, length_push, length-drop, get_or_push, get_or_append_left, get_or-map, length-map, ext_get_or}
+use Rattle.std.proofs.lemmas.List.{append_assoc, append-nil, drop_all, drop_more, get_or_past, length_push, length-drop, get_or_push, get_or_append_left}
+use Rattle.std.proofs.lemmas.List.{get_or-map, length-map, ext_get_or}
 use Rattle.std.proofs.lemmas.List.Folds.{list_any_none}
 use Rattle.std.proofs.lemmas.List.Elements.{All-get_or, All-from_get_or, All-append, All-cons, All-nil, All-same}
 use Rattle.snippet_lines.specs.declared.number.LineNumbers.{LineNumbers}
@@ -43,12 +45,14 @@ use Rattle.snippet_strokes.proofs.RowLemmas.{bare_row_left}
 use Rattle.snippet_strokes.specs.Snippet.{ShowsLine, AreLinesShown, AddsGap, AddsLine, AddsSnippet, IsGap}
 
 -- a row of strokes holds no number, since spaces stand left of its separator
-no_number : (layout : Layout) (plain : Bool) (es : List LineAnnotation) (closes : Bool) (row : List Cell) → IsStrokeRow layout plain es closes row → HasNoNumber layout.gutter row
+no_number : (layout : Layout) (plain : Bool) (es : List LineAnnotation) (closes : Bool) (row : List Cell) → IsStrokeRow layout plain es closes row
+    → HasNoNumber layout.gutter row
 no_number layout plain es closes row is c left =
     ap (λ (cell : Cell). is_ascii_alphanumeric cell.ch) (is.left c (omega (arith, left)) ∙ bare_row_left layout.decor layout.gutter closes c left)
 
 -- a grid of which only the last row changed
-last_changed : (old begun new : List (List Cell)) (row : ℕ) (first : List Cell) → row ≡ length old → begun ≡ old ++ first ∷ [] → length new ≡ length begun → ((r : ℕ) → r ≢ row → row_at new r ≡ row_at begun r) → new ≡ old ++ row_at new row ∷ []
+last_changed : (old begun new : List (List Cell)) (row : ℕ) (first : List Cell) → row ≡ length old → begun ≡ old ++ first ∷ [] → length new ≡ length begun
+    → ((r : ℕ) → r ≢ row → row_at new r ≡ row_at begun r) → new ≡ old ++ row_at new row ∷ []
 last_changed old begun new row first last begins count others =
     let changed = row_at new row in
     let long : length begun ≡ length old + 1 = ap length begins ∙ length_push old first in
@@ -73,7 +77,8 @@ highlighted_free code dropped es plain row is free =
     subst P (sym (is.cells c inside)) (All-get_or P plain c SPACE inside free))
 
 -- and it leaves the row's text as it was
-pub highlighted_text : (code dropped : ℕ) (es : List LineAnnotation) (plain row : List Cell) → IsHighlighted code dropped es plain row → row_text row ≡ row_text plain
+pub highlighted_text : (code dropped : ℕ) (es : List LineAnnotation) (plain row : List Cell) → IsHighlighted code dropped es plain row
+    → row_text row ≡ row_text plain
 highlighted_text code dropped es plain row is =
     let f : Cell → ℕ = λ c. c.ch in
     let long : length (row_text row) ≡ length (row_text plain) = length-map row f ∙ is.width ∙ sym (length-map plain f) in
@@ -97,7 +102,8 @@ role_left code dropped c left es role =
     rw (primary, any)
 
 -- highlighting changes no cell left of the code
-pub highlighted_left : (code dropped : ℕ) (es : List LineAnnotation) (plain row : List Cell) → IsHighlighted code dropped es plain row → (c : ℕ) → c < code → slice_index_or row c SPACE ≡ slice_index_or plain c SPACE
+pub highlighted_left : (code dropped : ℕ) (es : List LineAnnotation) (plain row : List Cell) → IsHighlighted code dropped es plain row → (c : ℕ) → c < code
+    → slice_index_or row c SPACE ≡ slice_index_or plain c SPACE
 highlighted_left code dropped es plain row is c left =
     elim (cases_lt c (length plain)) [
       | inl inside ↦
@@ -120,7 +126,8 @@ source_row_long layout shown cells row is =
     ]
 
 -- highlighting changes roles alone
-highlighted_cell : (code dropped : ℕ) (es : List LineAnnotation) (plain row : List Cell) → IsHighlighted code dropped es plain row → (c : ℕ) → slice_index_or plain c SPACE ≡ SPACE → ((slice_index_or row c SPACE).ch ≡ 32) × ((slice_index_or row c SPACE).link ≡ None)
+highlighted_cell : (code dropped : ℕ) (es : List LineAnnotation) (plain row : List Cell) → IsHighlighted code dropped es plain row → (c : ℕ)
+    → slice_index_or plain c SPACE ≡ SPACE → ((slice_index_or row c SPACE).ch ≡ 32) × ((slice_index_or row c SPACE).link ≡ None)
 highlighted_cell code dropped es plain row is c space =
     elim (cases_lt c (length plain)) [
       | inl inside ↦ (
@@ -134,7 +141,8 @@ highlighted_cell code dropped es plain row is c space =
           )
     ]
 
-no_bars : (layout : Layout) (shown : List ℕ) (cells : List Cell) (dropped : ℕ) (es : List LineAnnotation) (plain row : List Cell) → IsSourceRow layout shown cells plain → length shown ≤ layout.gutter + 1 → IsHighlighted layout.code dropped es plain row → HasNoBars layout row
+no_bars : (layout : Layout) (shown : List ℕ) (cells : List Cell) (dropped : ℕ) (es : List LineAnnotation) (plain row : List Cell)
+    → IsSourceRow layout shown cells plain → length shown ≤ layout.gutter + 1 → IsHighlighted layout.code dropped es plain row → HasNoBars layout row
 no_bars layout shown cells dropped es plain row source short is = (
   omega (arith, is.width, source_row_long layout shown cells plain source),
   λ c from to.
@@ -143,7 +151,8 @@ no_bars layout shown cells dropped es plain row source short is = (
 )
 
 -- entries that stand after the padding stand after the columns that are dropped
-pub clear_entries : (margin : Margin) (dropped : ℕ) (es : List LineAnnotation) → All (StandsClear margin) es → dropped < (bounds_of margin).left + 4 → ((bounds_of margin).left ≡ 0 → dropped ≡ 0) → All (λ e. is_bar e.annotation_type ≡ false → dropped ≤ e.start.display) es
+pub clear_entries : (margin : Margin) (dropped : ℕ) (es : List LineAnnotation) → All (StandsClear margin) es → dropped < (bounds_of margin).left + 4
+    → ((bounds_of margin).left ≡ 0 → dropped ≡ 0) → All (λ e. is_bar e.annotation_type ≡ false → dropped ≤ e.start.display) es
 clear_entries margin dropped es all near uncut k d within columns =
     elim (cases_lt 0 (bounds_of margin).left) [
       | inl cut ↦ omega (arith, all k d within columns cut, near)
@@ -162,7 +171,8 @@ pub line_added : (layout : Layout) (margin : Margin) (numbers : LineNumbers) (cl
     → ((above : List (List Cell)) (plain : List Cell) → high ≡ above ++ plain ∷ [] → HasNoBars layout plain → AddsStrokes layout margin.term_width (map (shifted dropped) info.annotations.items) closes above plain done)
     → DrawsBars layout row done new
     → ((above : List (List Cell)) (bright : List Cell) → high ≡ above ++ bright ∷ [] → AddsOwnRows layout margin.term_width closes (norm (chars info.line.now)) dropped info.annotations.items above bright done)
-    → bars ≡ bars_apart open_bars (ends_of_bars info.annotations.items) → new ≡ barred layout Solid bars row done → AddsLine layout margin numbers closes open_bars info old new
+    → bars ≡ bars_apart open_bars (ends_of_bars info.annotations.items) → new ≡ barred layout Solid bars row done
+    → AddsLine layout margin numbers closes open_bars info old new
 line_added layout margin numbers closes open_bars bars info dropped old mid high done new row short source last dropped_is clear highlights others count strokes draws own bars_are value =
     let shown = shown_number numbers layout.gutter info.line_index in
     let text = norm (chars info.line.now) in
@@ -206,15 +216,18 @@ line_added layout margin numbers closes open_bars bars info dropped old mid high
 pub record AddsLines (layout : Layout) (margin : Margin) (numbers : LineNumbers) (closes : Bool) (infos : List AnnotatedLineInfo) (i : ℕ) (open_bars : List OpenBar) (old new : List (List Cell)) : Type 0 where
   pub rows : List (List Cell)
   pub added : new ≡ old ++ rows
-  pub shown : (rest : List (List Cell)) → AreLinesShown layout margin numbers closes open_bars (drop i infos) rest → AreLinesShown layout margin numbers closes [] infos (rows ++ rest)
+  pub shown : (rest : List (List Cell)) → AreLinesShown layout margin numbers closes open_bars (drop i infos) rest
+      → AreLinesShown layout margin numbers closes [] infos (rows ++ rest)
 
 -- no line is drawn yet
-pub AddsLines-none : (layout : Layout) (margin : Margin) (numbers : LineNumbers) (closes : Bool) (infos : List AnnotatedLineInfo) (rows : List (List Cell)) → AddsLines layout margin numbers closes infos 0 [] rows rows
+pub AddsLines-none : (layout : Layout) (margin : Margin) (numbers : LineNumbers) (closes : Bool) (infos : List AnnotatedLineInfo) (rows : List (List Cell))
+    → AddsLines layout margin numbers closes infos 0 [] rows rows
 AddsLines-none layout margin numbers closes infos rows =
     record { rows = []; added = sym (append-nil rows); shown = λ rest shows. shows }
 
 -- the window closes with the last line
-last_closes : (closes : Bool) (infos : List AnnotatedLineInfo) (i : ℕ) → i < length infos → (closes && i + 1 == length infos) ≡ (closes && length (drop (i + 1) infos) == 0)
+last_closes : (closes : Bool) (infos : List AnnotatedLineInfo) (i : ℕ) → i < length infos
+    → (closes && i + 1 == length infos) ≡ (closes && length (drop (i + 1) infos) == 0)
 last_closes true infos i within =
     grind (arith, nat_tests, length-drop (i + 1) infos, within)
 last_closes false infos i within = refl
@@ -266,7 +279,8 @@ AddsSnippet-from_lines layout margin numbers closes infos i open_bars old new al
     }
 
 -- the row for lines that are left out holds no listed character
-free_gap : (layout : Layout) (open_bars : List OpenBar) (number : ℕ) (infos : List AnnotatedLineInfo) (rows : List (List Cell)) → IsGap layout open_bars number infos rows → All IsFree rows
+free_gap : (layout : Layout) (open_bars : List OpenBar) (number : ℕ) (infos : List AnnotatedLineInfo) (rows : List (List Cell))
+    → IsGap layout open_bars number infos rows → All IsFree rows
 free_gap layout open_bars number [] rows none = All-same IsFree rows [] none (All-nil IsFree)
 free_gap layout open_bars number (next ∷ infos) rows (inl gap) =
     All-same IsFree rows (gap.1 ∷ []) gap.2 (All-cons IsFree gap.1 [] gap.3.free (All-nil IsFree))

@@ -1,5 +1,6 @@
 -- Laws of the cells of bars beside a line and beside lines that are left out: where no bar has its place the row stays as it is.
-use Rattle.std.proofs.Common.{◌≡◌, ◌≢◌, ℕ, ◌+◌, ◌<◌, Bool, false, not, Some, List, [], ◌∷◌, ◌++◌, ◌==◌, All, Contains, map, length, get_or, ap, ◌∙◌, refl, arith, inl, inr}
+use Rattle.std.proofs.Common.{◌≡◌, ◌≢◌, ℕ, ◌+◌, ◌<◌, Bool, false, not, Some, List, [], ◌∷◌, ◌++◌, ◌==◌, All, Contains, map, length, get_or, ap, ◌∙◌, refl}
+use Rattle.std.proofs.Common.{arith, inl, inr}
 use Rattle.std.proofs.lemmas.Bool.{cases_Bool, false_from_ne_true, eqb-true}
 use Rattle.std.proofs.lemmas.List.{get_or-map, get_or_past, length-map}
 use Rattle.std.proofs.lemmas.List.Elements.{All-append, All-cons, All-filter, All-map, All-nil}
@@ -25,15 +26,18 @@ use Rattle.snippet_strokes.specs.LineRows.{AreLineRows, AreOwnRows}
 use Rattle.snippet_strokes.specs.Reach.{Reaches}
 use Rattle.snippet_strokes.specs.Rows.{bare_elision_row}
 use Rattle.snippet_strokes.specs.Snippet.{gap_row}
-use Rattle.snippet_strokes.specs.Strokes.{StrokesPainted, begun_rows, column_of, connector_of, connectors_of, corner_by, corner_of, corners_of, labels_of, stems_of, line_strokes}
+use Rattle.snippet_strokes.specs.Strokes.{StrokesPainted, begun_rows, column_of, connector_of, connectors_of, corner_by, corner_of, corners_of, labels_of}
+use Rattle.snippet_strokes.specs.Strokes.{stems_of, line_strokes}
 use Rattle.snippet_strokes.proofs.AmongLaws.{all_from_among}
 use Rattle.snippet_strokes.proofs.BarWrites.{All-column_of, All-connector_of, All-stretch_of}
 use Rattle.snippet_strokes.proofs.ElisionLemmas.{bare_elision_short}
-use Rattle.snippet_strokes.proofs.EndBarLaws.{bar_begins, is_at, labels_right, left_same, marks_right, part_leaves, passed_by, past_apart, some_entries, stems_right}
+use Rattle.snippet_strokes.proofs.EndBarLaws.{bar_begins, is_at, labels_right, left_same, marks_right, part_leaves, passed_by, past_apart, some_entries}
+use Rattle.snippet_strokes.proofs.EndBarLaws.{stems_right}
 use Rattle.snippet_strokes.proofs.WriteLaws.{All-flat_map, painted-untouched}
 
 -- where no bar of a line has this depth no start and no end has it
-pub none_has : (depth : ℕ) (es : List LineAnnotation) → All (λ b. b.depth ≢ depth) (ends_of_bars es) → All (λ (e : LineAnnotation). is_at depth e.annotation_type ≡ false) es
+pub none_has : (depth : ℕ) (es : List LineAnnotation) → All (λ b. b.depth ≢ depth) (ends_of_bars es)
+    → All (λ (e : LineAnnotation). is_at depth e.annotation_type ≡ false) es
 unfolding is_at
 none_has depth es others =
     all_from_among (λ (e : LineAnnotation). is_at depth e.annotation_type ≡ false) es (λ e here. by_type e.annotation_type (is_primary e.kind) (λ b is. all_among (λ (x : Bar). x.depth ≢ depth) (ends_of_bars es) b others (among_filter_map bar_of es e b here is)))
@@ -70,7 +74,8 @@ module _ (layout : Layout) (depth : ℕ) (room : layout.gutter + 2 + depth < lay
   IsNoEnd e = e.annotation_type ≡ MultilineEnd depth → ⊥
 
   -- so no stroke of a line reaches it, if no entry is such an end: the bar of a start stands below the source row
-  untouched : (count : ℕ) (placed order : List PlacedEntry) (begun : List (List Cell)) → All (λ (e : PlacedEntry). IsNoEnd e.entry) placed → cell_at (painted (line_strokes layout 0 count placed order) begun) 0 cell ≡ cell_at begun 0 cell
+  untouched : (count : ℕ) (placed order : List PlacedEntry) (begun : List (List Cell)) → All (λ (e : PlacedEntry). IsNoEnd e.entry) placed
+      → cell_at (painted (line_strokes layout 0 count placed order) begun) 0 cell ≡ cell_at begun 0 cell
   unfolding is_at
   untouched count placed order begun others =
       let one : List Write = connectors_of layout 1 placed in
@@ -97,7 +102,8 @@ module _ (layout : Layout) (depth : ℕ) (room : layout.gutter + 2 + depth < lay
       by_part e (MultilineLine d) other = All-nil Leaves
 
   -- beside a line that isn't marked as a whole the cell stays, if no entry is such an end
-  painted_source : (width : ℕ) (closes : Bool) (dropped : ℕ) (es : List LineAnnotation) (source : List Cell) (rows : List (List Cell)) → All IsNoEnd es → StrokesPainted layout width closes (map (shifted dropped) es) source rows → cell_at rows 0 cell ≡ get_or source cell SPACE
+  painted_source : (width : ℕ) (closes : Bool) (dropped : ℕ) (es : List LineAnnotation) (source : List Cell) (rows : List (List Cell)) → All IsNoEnd es
+      → StrokesPainted layout width closes (map (shifted dropped) es) source rows → cell_at rows 0 cell ≡ get_or source cell SPACE
   painted_source width closes dropped es source rows none drawn =
       let placed : List PlacedEntry = drawn.placed in
       let begun : List (List Cell) = begun_rows layout closes (row_count placed) source in
@@ -125,7 +131,8 @@ module _ (layout : Layout) (depth : ℕ) (room : layout.gutter + 2 + depth < lay
         by_entries (x ∷ xs) is other = painted_source width closes dropped es source rows none_at (are.strokes other (omega (arith, ap length is)))
 
     -- beside a line's source row nothing comes into a cell of bars, where no bar has its place there
-    pub line_source : (open_bars : List Bar) (rows : List (List Cell)) → AreLineRows layout width closes text dropped open_bars es source rows → All (λ b. b.depth ≢ depth) open_bars → 0 < length rows → cell_at rows 0 cell ≡ get_or source cell SPACE
+    pub line_source : (open_bars : List Bar) (rows : List (List Cell)) → AreLineRows layout width closes text dropped open_bars es source rows
+        → All (λ b. b.depth ≢ depth) open_bars → 0 < length rows → cell_at rows 0 cell ≡ get_or source cell SPACE
     line_source open_bars rows drawn open_others some =
         let past : List Bar = bars_apart open_bars (ends_of_bars es) in
         let rule : List Cell → List Cell = with_bars layout Solid past in
@@ -142,7 +149,8 @@ module _ (layout : Layout) (depth : ℕ) (room : layout.gutter + 2 + depth < lay
 
 module _ (layout : Layout) (bar : Bar) (room : layout.gutter + 2 + bar.depth < layout.code) (es : List LineAnnotation) (among : Contains (ends_of_bars es) bar) (alone : HasOwnDepth bar (ends_of_bars es)) where
   -- the bar of a span that begins on a line begins in the line's rows, where a space stands in its cell of the row that shows the line alone
-  pub begins : (width : ℕ) (closes : Bool) (text : List ℕ) (dropped : ℕ) (open_bars : List Bar) (source : List Cell) (rows : List (List Cell)) → AreLineRows layout width closes text dropped open_bars es source rows
+  pub begins : (width : ℕ) (closes : Bool) (text : List ℕ) (dropped : ℕ) (open_bars : List Bar) (source : List Cell) (rows : List (List Cell))
+      → AreLineRows layout width closes text dropped open_bars es source rows
       → All (λ e. e.annotation_type ≡ MultilineEnd bar.depth → ⊥) es → get_or source (layout.gutter + 2 + bar.depth) SPACE ≡ SPACE → BarBegins layout bar rows
   begins width closes text dropped open_bars source rows drawn none blank =
       bar_begins layout bar room es among alone width closes text dropped open_bars source rows drawn none (λ other.

@@ -1,5 +1,6 @@
 -- Stems lead to labels: below a mark whose label hangs, a stem stands in each row down to the label, unless a label stands there.
-use Rattle.std.proofs.Common.{◌≡◌, ℕ, zero, suc, ◌+◌, ◌-◌, ◌<◌, ◌≤◌, ◌==◌, ◌&&◌, ◌||◌, nat_le, nat_lt, cond, Bool, true, false, List, [], ◌∷◌, ◌++◌, length, get_or, map, refl, sym, ap, subst, arith, inl, inr, All}
+use Rattle.std.proofs.Common.{◌≡◌, ℕ, zero, suc, ◌+◌, ◌-◌, ◌<◌, ◌≤◌, ◌==◌, ◌&&◌, ◌||◌, nat_le, nat_lt, cond, Bool, true, false, List, [], ◌∷◌, ◌++◌, length}
+use Rattle.std.proofs.Common.{get_or, map, refl, sym, ap, subst, arith, inl, inr, All}
 use Rattle.std.specs.List.{list_any, range_with_len}
 use Rattle.std.proofs.lemmas.Bool.{and_parts, cases_Bool}
 use Rattle.std.proofs.lemmas.Bool.Decides.{nat_tests}
@@ -67,7 +68,8 @@ module _ (layout : Layout) (r c : ℕ) where
   Q w = Reaches r c w → P (cell_of_write w c)
 
   -- where one of some writes that do reaches the cell, a stem stands there after them
-  painted_reached : (ws : List Write) (k : ℕ) (d : Write) (rows : List (List Cell)) → k < length ws → Reaches r c (get_or ws k d) → All Q ws → P (cell_at (painted ws rows) r c)
+  painted_reached : (ws : List Write) (k : ℕ) (d : Write) (rows : List (List Cell)) → k < length ws → Reaches r c (get_or ws k d) → All Q ws
+      → P (cell_at (painted ws rows) r c)
   painted_reached [] k d rows within there all = absurd (omega (arith, within))
   painted_reached (w ∷ ws) zero d rows within there all =
       painted-cell P ws (written_by rows w) r c (subst P (sym (cell-written w rows r c there)) (All-head Q w ws all there)) (All-tail Q w ws all)
@@ -95,7 +97,8 @@ module _ (layout : Layout) (r c : ℕ) where
   stems_leave row es = All-stems_of Q layout row es (λ k d within. stem_leaves row (get_or es k d))
 
   -- a stem that is drawn stands in each of its cells
-  stem_stands : (row b : ℕ) (e : PlacedEntry) (rows : List (List Cell)) → has_stem e ≡ true → b ≤ e.position → r ≡ row + b → c ≡ layout.code + e.entry.start.display → P (cell_at (painted (stem_of layout row e) rows) r c)
+  stem_stands : (row b : ℕ) (e : PlacedEntry) (rows : List (List Cell)) → has_stem e ≡ true → b ≤ e.position → r ≡ row + b
+      → c ≡ layout.code + e.entry.start.display → P (cell_at (painted (stem_of layout row e) rows) r c)
   stem_stands row b e rows stem low at_row at_cell =
       let f : ℕ → Write = stem_write layout row e in
       let own : List Write = map f (range_with_len 0 (e.position + 1)) in
@@ -175,6 +178,7 @@ IsHung layout row placed rows e =
     has_label e ≡ true → (b : ℕ) → 0 < b → b ≤ e.position → BesideLabels layout row (row + b) (layout.code + e.entry.start.display) placed → IsStemCell layout.decor (cell_at rows (row + b) (layout.code + e.entry.start.display))
 
 -- all strokes of a line leave rows in which each label that hangs is hung so
-pub all_hung : (layout : Layout) (row count : ℕ) (placed order : List PlacedEntry) (rows : List (List Cell)) → All (IsHung layout (row + 1) placed (painted (line_strokes layout row count placed order) rows)) placed
+pub all_hung : (layout : Layout) (row count : ℕ) (placed order : List PlacedEntry) (rows : List (List Cell))
+    → All (IsHung layout (row + 1) placed (painted (line_strokes layout row count placed order) rows)) placed
 all_hung layout row count placed order rows k d within has b some low beside =
     stem_of_strokes layout (row + 1 + b) (layout.code + (get_or placed k d).entry.start.display) row count placed order rows k b d within has some low refl refl beside

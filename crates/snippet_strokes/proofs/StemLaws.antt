@@ -1,5 +1,6 @@
 -- Rows in which no stem leads to a label contradict what is promised of labels.
-use Rattle.std.proofs.Common.{◌≡◌, ℕ, ◌+◌, ◌-◌, ◌<◌, ◌≤◌, ◌==◌, ◌&&◌, nat_le, nat_lt, true, false, List, length, count_by, get_or, refl, sym, ap, ◌∙◌, arith, inl, inr}
+use Rattle.std.proofs.Common.{◌≡◌, ℕ, ◌+◌, ◌-◌, ◌<◌, ◌≤◌, ◌==◌, ◌&&◌, nat_le, nat_lt, true, false, List, length, count_by, get_or, refl, sym, ap, ◌∙◌, arith}
+use Rattle.std.proofs.Common.{inl, inr}
 use Rattle.std.proofs.lemmas.Bool.{and_parts, cases_Bool, false≢true}
 use Rattle.std.proofs.lemmas.Bool.Decides.{nat_tests}
 use Rattle.snippet_grid.specs.Grid.{cell_at}
@@ -19,7 +20,8 @@ label_role_keeps Primary = refl
 label_role_keeps Context = refl
 label_role_keeps Visible = refl
 
-no_space : (layout : Layout) (rows : List (List Cell)) (l : PlacedLabel) (r c : ℕ) → (0 < length (label_text l.entry) → StandsIn layout rows l) → is_cell_of r c l ≡ true → cell_at rows r c ≡ SPACE → ⊥
+no_space : (layout : Layout) (rows : List (List Cell)) (l : PlacedLabel) (r c : ℕ) → (0 < length (label_text l.entry) → StandsIn layout rows l)
+    → is_cell_of r c l ≡ true → cell_at rows r c ≡ SPACE → ⊥
 no_space layout rows l r c stands is blank =
     let n : ℕ = length (label_text l.entry) in
     let outer = and_parts (l.row == r) (nat_le l.cell c && nat_lt c (l.cell + n)) is in

@@ -1,5 +1,6 @@
 -- The writes of stems.
-use Rattle.std.proofs.Common.{◌≡◌, ℕ, suc, ◌+◌, ◌<◌, ◌≤◌, ◌==◌, cond, Bool, true, false, List, [], ◌∷◌, ◌++◌, length, map, get_or, refl, sym, ap, ◌∙◌, subst, arith, All}
+use Rattle.std.proofs.Common.{◌≡◌, ℕ, suc, ◌+◌, ◌<◌, ◌≤◌, ◌==◌, cond, Bool, true, false, List, [], ◌∷◌, ◌++◌, length, map, get_or, refl, sym, ap, ◌∙◌, subst}
+use Rattle.std.proofs.Common.{arith, All}
 use Rattle.std.specs.List.{range_with_len}
 use Rattle.std.proofs.lemmas.List.Elements.{All-append, All-cons, All-head, All-map, All-nil, All-tail, All-weaker}
 use Rattle.std.proofs.lemmas.List.FromFn.{get_or-range_with_len, length-range_with_len}
@@ -21,7 +22,8 @@ use Rattle.snippet_strokes.proofs.WriteLaws.{DrawsFrom-painted, painted-cell, pa
 use Rattle.snippet_marks.proofs.WriteLemmas.{painted-append}
 
 -- what holds of each cell of a stem holds of those of all
-pub All-stem_of : (P : Write → Type 0) (layout : Layout) (row : ℕ) (e : PlacedEntry) → ((b : ℕ) → b ≤ e.position → P (stem_write layout row e b)) → All P (stem_of layout row e)
+pub All-stem_of : (P : Write → Type 0) (layout : Layout) (row : ℕ) (e : PlacedEntry) → ((b : ℕ) → b ≤ e.position → P (stem_write layout row e b))
+    → All P (stem_of layout row e)
 All-stem_of P layout row e holds =
     let f : ℕ → Write = stem_write layout row e in
     elim (has_stem e) as (λ b. All P (cond b (map f (range_with_len 0 (e.position + 1))) [])) [
@@ -32,7 +34,8 @@ All-stem_of P layout row e holds =
     ]
 
 -- what holds of the stem of each entry holds of those that are drawn
-pub All-stems_of : (P : Write → Type 0) (layout : Layout) (row : ℕ) (es : List PlacedEntry) → ((k : ℕ) (d : PlacedEntry) → k < length es → All P (stem_of layout row (get_or es k d))) → All P (stems_of layout row es)
+pub All-stems_of : (P : Write → Type 0) (layout : Layout) (row : ℕ) (es : List PlacedEntry)
+    → ((k : ℕ) (d : PlacedEntry) → k < length es → All P (stem_of layout row (get_or es k d))) → All P (stems_of layout row es)
 All-stems_of P layout row [] each = All-nil P
 All-stems_of P layout row (e ∷ later) each =
     All-append P (cond (is_stem_covered e later) [] (stem_of layout row e)) (stems_of layout row later) (elim (is_stem_covered e later) as (λ b. All P (cond b [] (stem_of layout row e))) [
@@ -41,7 +44,8 @@ All-stems_of P layout row (e ∷ later) each =
     ]) (All-stems_of P layout row later (λ k d within. each (suc k) d (omega (arith, within))))
 
 -- a stem stands in rows that are there, and not left of its entry
-pub stem_within : (layout : Layout) (row count from : ℕ) (e : PlacedEntry) → HasRows row count e → StandsFrom layout.code from e.entry → All (IsWithin row count from) (stem_of layout row e)
+pub stem_within : (layout : Layout) (row count from : ℕ) (e : PlacedEntry) → HasRows row count e → StandsFrom layout.code from e.entry
+    → All (IsWithin row count from) (stem_of layout row e)
 stem_within layout row count from e rows stand =
     let primary = is_primary e.entry.kind in
     let P : ℕ → Type 0 = λ ch. is_listed ch ≡ false in
@@ -59,33 +63,39 @@ stem_within layout row count from e rows stand =
     either false foot stem is_foot is_stem = is_stem
 
 -- the writes of stems stay within the rows, and right of the columns before their entries
-pub stems_within : (layout : Layout) (row count from : ℕ) (es : List PlacedEntry) → All (HasRows row count) es → All (λ e. StandsFrom layout.code from e.entry) es → All (IsWithin row count from) (stems_of layout row es)
+pub stems_within : (layout : Layout) (row count from : ℕ) (es : List PlacedEntry) → All (HasRows row count) es
+    → All (λ e. StandsFrom layout.code from e.entry) es → All (IsWithin row count from) (stems_of layout row es)
 stems_within layout row count from es rows stand =
     All-stems_of (IsWithin row count from) layout row es (λ k d within. stem_within layout row count from (get_or es k d) (rows k d within) (stand k d within))
 
 -- so stems are drawn there
-pub DrawsFrom-stems : (layout : Layout) (row from : ℕ) (es : List PlacedEntry) (old : List (List Cell)) → All (HasRows row (length old)) es → All (λ e. StandsFrom layout.code from e.entry) es → DrawsFrom row from old (painted (stems_of layout row es) old)
+pub DrawsFrom-stems : (layout : Layout) (row from : ℕ) (es : List PlacedEntry) (old : List (List Cell)) → All (HasRows row (length old)) es
+    → All (λ e. StandsFrom layout.code from e.entry) es → DrawsFrom row from old (painted (stems_of layout row es) old)
 DrawsFrom-stems layout row from es old rows stand =
     DrawsFrom-painted row from (stems_of layout row es) old (stems_within layout row (length old) from es rows stand)
 
 -- a stem adds no row
-pub stem_count : (layout : Layout) (row : ℕ) (e : PlacedEntry) (rows : List (List Cell)) → HasRows row (length rows) e → length (painted (stem_of layout row e) rows) ≡ length rows
+pub stem_count : (layout : Layout) (row : ℕ) (e : PlacedEntry) (rows : List (List Cell)) → HasRows row (length rows) e
+    → length (painted (stem_of layout row e) rows) ≡ length rows
 stem_count layout row e rows has =
     let n = length rows in
     painted-count (stem_of layout row e) rows n refl (All-weaker (IsWithin row n 0) (λ (w : Write). w.row < n) (λ w is. is.there) (stem_of layout row e) (stem_within layout row n 0 e has (omega arith)))
 
 -- the stems from one entry on are its own, unless the next one's covers it, and those of the later ones
-pub stems_next : (layout : Layout) (row : ℕ) (e : PlacedEntry) (later : List PlacedEntry) (old new : List (List Cell)) → is_stem_covered e later ≡ false → new ≡ painted (stem_of layout row e) old → painted (stems_of layout row later) new ≡ painted (stems_of layout row (e ∷ later)) old
+pub stems_next : (layout : Layout) (row : ℕ) (e : PlacedEntry) (later : List PlacedEntry) (old new : List (List Cell)) → is_stem_covered e later ≡ false
+    → new ≡ painted (stem_of layout row e) old → painted (stems_of layout row later) new ≡ painted (stems_of layout row (e ∷ later)) old
 stems_next layout row e later old new shown drawn_now =
     ap (painted (stems_of layout row later)) drawn_now ∙ sym (painted-append (stem_of layout row e) (stems_of layout row later) old) ∙ sym (ap (λ b. painted (cond b [] (stem_of layout row e) ++ stems_of layout row later) old) shown)
 
 -- an entry that is hidden by a later one adds no stem
-pub stems_skip : (layout : Layout) (row : ℕ) (e : PlacedEntry) (later : List PlacedEntry) (rows : List (List Cell)) → is_stem_covered e later ≡ true → painted (stems_of layout row later) rows ≡ painted (stems_of layout row (e ∷ later)) rows
+pub stems_skip : (layout : Layout) (row : ℕ) (e : PlacedEntry) (later : List PlacedEntry) (rows : List (List Cell)) → is_stem_covered e later ≡ true
+    → painted (stems_of layout row later) rows ≡ painted (stems_of layout row (e ∷ later)) rows
 stems_skip layout row e later rows hidden =
     sym (ap (λ b. painted (cond b [] (stem_of layout row e) ++ stems_of layout row later) rows) hidden)
 
 -- stems stand below the first columns of their entries
-pub stems_start : (layout : Layout) (row : ℕ) (es : List PlacedEntry) (rows : List (List Cell)) → MarksStarts layout.code es rows (painted (stems_of layout row es) rows)
+pub stems_start : (layout : Layout) (row : ℕ) (es : List PlacedEntry) (rows : List (List Cell))
+    → MarksStarts layout.code es rows (painted (stems_of layout row es) rows)
 stems_start layout row es rows r c beside before =
     let M : Cell → Type 0 = λ cell. has_mark_role cell ≡ false in
     let Q : Write → Type 0 = λ w. Reaches r c w → M (cell_of_write w c) in

@@ -20,7 +20,8 @@ use Rattle.snippet_strokes.specs.Drawing.{foot_glyph}
 use Rattle.snippet_marks.specs.Positions.{has_label}
 use Rattle.snippet_strokes.specs.Reach.{Reaches, cell_of_write}
 use Rattle.snippet_marks.specs.Writes.{Write, glyph_at, painted, stretch_of}
-use Rattle.snippet_strokes.specs.Strokes.{bar_of, connector_of, connectors_of, corner_by, corner_of, corners_of, label_of, label_write, labels_of, stems_of, line_strokes, stem_of}
+use Rattle.snippet_strokes.specs.Strokes.{bar_of, connector_of, connectors_of, corner_by, corner_of, corners_of, label_of, label_write, labels_of, stems_of}
+use Rattle.snippet_strokes.specs.Strokes.{line_strokes, stem_of}
 use Rattle.snippet_strokes.proofs.BarWrites.{All-column_of, All-connector_of, All-stretch_of}
 use Rattle.snippet_strokes.proofs.LabelWrites.{All-label_of}
 use Rattle.snippet_strokes.proofs.StemWrites.{All-stem_of, All-stems_of}
@@ -78,7 +79,8 @@ module _ (layout : Layout) (r c : ℕ) (right : layout.code ≤ c) where
   corners row count es bar_cells =
       All-flat_map Q (corner_of layout row count) es (λ k d within. by_part (get_or es k d) (get_or es k d).entry.annotation_type (bar_cells k d within))
     where
-      left : (e : PlacedEntry) (depth row glyph : ℕ) → layout.gutter + 3 + depth < layout.code → Q (glyph_at row (layout.gutter + 2 + depth) glyph (stroke_role e))
+      left : (e : PlacedEntry) (depth row glyph : ℕ) → layout.gutter + 3 + depth < layout.code
+          → Q (glyph_at row (layout.gutter + 2 + depth) glyph (stroke_role e))
       left e depth row glyph room there = absurd (omega (arith, there.to, room, right))
 
       bar : (e : PlacedEntry) (depth start end : ℕ) → layout.gutter + 3 + depth < layout.code → All Q (bar_of layout e depth start end)
@@ -136,7 +138,8 @@ module _ (layout : Layout) (r c : ℕ) (right : layout.code ≤ c) where
           ]
 
   -- so all strokes of a line leave in a cell that no label reaches a space or a stroke, if nothing else stood there before
-  pub cell_of_strokes : (row count : ℕ) (placed order : List PlacedEntry) (rows : List (List Cell)) → All (λ e. HasBarCell layout e.entry) placed → P (cell_at rows r c) → BesideLabels layout (row + 1) r c placed → P (cell_at (painted (line_strokes layout row count placed order) rows) r c)
+  pub cell_of_strokes : (row count : ℕ) (placed order : List PlacedEntry) (rows : List (List Cell)) → All (λ e. HasBarCell layout e.entry) placed
+      → P (cell_at rows r c) → BesideLabels layout (row + 1) r c placed → P (cell_at (painted (line_strokes layout row count placed order) rows) r c)
   cell_of_strokes row count placed order rows bar_cells before beside =
       let one : List Write = connectors_of layout (row + 1) placed in
       let two : List Write = corners_of layout row count placed in

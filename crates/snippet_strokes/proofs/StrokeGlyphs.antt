@@ -33,7 +33,8 @@ free_bars Unicode true = each_bar is_listed false (strokes_of Unicode true) refl
 free_bars Unicode false = each_bar is_listed false (strokes_of Unicode false) refl
 
 -- what holds of each glyph of stems holds of that at a foot
-pub of_foot : (P : ℕ → Type 0) (part : LineAnnotationType) (decor : DecorStyle) (primary labelled : Bool) → EachStem P (strokes_of decor primary) → P (foot_of part decor primary labelled)
+pub of_foot : (P : ℕ → Type 0) (part : LineAnnotationType) (decor : DecorStyle) (primary labelled : Bool) → EachStem P (strokes_of decor primary)
+    → P (foot_of part decor primary labelled)
 of_foot P Singleline decor primary labelled each = each.stem
 of_foot P (MultilineStart depth) decor primary labelled each = each.corner
 of_foot P (MultilineEnd depth) decor primary true each = each.corner_with_label

@@ -1,11 +1,13 @@
 -- The rows of a line's strokes, once all are drawn.
-use Rattle.std.proofs.Common.{◌≡◌, ◌≢◌, ℕ, zero, suc, ◌+◌, ◌-◌, ◌<◌, ◌≤◌, ◌==◌, ◌&&◌, max, not, Bool, true, false, List, [], ◌∷◌, ◌++◌, length, map, take, drop, replicate, get_or, refl, sym, ap, ◌∙◌, subst, arith, inl, inr, All, chars}
+use Rattle.std.proofs.Common.{◌≡◌, ◌≢◌, ℕ, zero, suc, ◌+◌, ◌-◌, ◌<◌, ◌≤◌, ◌==◌, ◌&&◌, max, not, Bool, true, false, List, [], ◌∷◌, ◌++◌, length, map, take, drop}
+use Rattle.std.proofs.Common.{replicate, get_or, refl, sym, ap, ◌∙◌, subst, arith, inl, inr, All, chars}
 use Rattle.std.specs.List.{slice_index_or}
 use Rattle.std.specs.List.Sorted.{IsPermutation}
 use Rattle.std.specs.Cow.{cow_str_bytes}
 use Rattle.std.proofs.lemmas.Bool.{cases_lt}
 use Rattle.std.proofs.lemmas.Bool.Decides.{nat_tests}
-use Rattle.std.proofs.lemmas.List.{length-append, length-replicate, length-map, length-drop, get_or_append_left, get_or_past, get_or_push, length_push, get_or-drop, drop_more, take-take}
+use Rattle.std.proofs.lemmas.List.{length-append, length-replicate, length-map, length-drop, get_or_append_left, get_or_past, get_or_push, length_push}
+use Rattle.std.proofs.lemmas.List.{get_or-drop, drop_more, take-take}
 use Rattle.std.proofs.lemmas.List.Elements.{All-from_get_or, All-nil, All-cons}
 use Rattle.std.proofs.lemmas.List.Sorted.{IsPermutation-map, IsPermutation-trans, length_permutation}
 use Rattle.snippet_view.specs.declared.entries.LineAnnotation.{LineAnnotation}
@@ -45,9 +47,11 @@ use Rattle.snippet_strokes.proofs.StemWrites.{DrawsFrom-stems, stems_none, stems
 use Rattle.snippet_strokes.proofs.LabelWrites.{DrawsFrom-labels, label_lone, labels_none, labels_unmarked}
 use Rattle.snippet_strokes.proofs.LabelLaw.{labels_stand}
 use Rattle.snippet_strokes.proofs.StrokeWrites.{strokes_painted}
-use Rattle.snippet_strokes.proofs.PositionLemmas.{HasRows-row_count, line_positions_low, of_positions, positions-unlabelled, positions_sole, row_count_one, row_count_some, stemless_bare, stemless_beside}
+use Rattle.snippet_strokes.proofs.PositionLemmas.{HasRows-row_count, line_positions_low, of_positions, positions-unlabelled, positions_sole, row_count_one}
+use Rattle.snippet_strokes.proofs.PositionLemmas.{row_count_some, stemless_bare, stemless_beside}
 use Rattle.snippet_strokes.proofs.RowLemmas.{bare_row_short, bare_row_right, free_bare_row}
-use Rattle.snippet_strokes.proofs.BegunLemmas.{kept_above, begun_row, written_far, same_after, free_cell, sole, plain_entries, plain_narrow, cut_left, IsStrokeRow-cut, same_front, sole_same, wide_entries-order}
+use Rattle.snippet_strokes.proofs.BegunLemmas.{kept_above, begun_row, written_far, same_after, free_cell, sole, plain_entries, plain_narrow, cut_left}
+use Rattle.snippet_strokes.proofs.BegunLemmas.{IsStrokeRow-cut, same_front, sole_same, wide_entries-order}
 use Rattle.snippet_strokes.proofs.CutLemmas.{CutsRows-cuts}
 
 module _ (layout : Layout) (room : ℕ) (closes : Bool) (es : List LineAnnotation) (placed : List PlacedEntry) (above_rows : List (List Cell)) (plain_row : List Cell) (begun joined barred stemmed labelled new : List (List Cell))
@@ -132,7 +136,8 @@ module _ (layout : Layout) (room : ℕ) (closes : Bool) (es : List LineAnnotatio
   no_labels : All (λ e. has_label e ≡ false) placed → labelled ≡ stemmed
   no_labels none = labels_are ∙ ap (λ ws. painted ws stemmed) (labels_none layout row placed none)
 
-  lone_label : (e : PlacedEntry) → placed ≡ e ∷ [] → e.position ≡ 0 → 0 < e.entry.end.display → has_label e ≡ true → labelled ≡ cells_written stemmed row (layout.code + e.entry.end.display + 1) (text_cells (label_role e.entry.kind) (label_text e.entry))
+  lone_label : (e : PlacedEntry) → placed ≡ e ∷ [] → e.position ≡ 0 → 0 < e.entry.end.display → has_label e ≡ true
+      → labelled ≡ cells_written stemmed row (layout.code + e.entry.end.display + 1) (text_cells (label_role e.entry.kind) (label_text e.entry))
   lone_label e one beside some has =
       labels_are ∙ ap (λ xs. painted (labels_of layout row xs) stemmed) one ∙ label_lone layout row e stemmed beside some has
 
@@ -271,7 +276,8 @@ module _ (layout : Layout) (room : ℕ) (closes : Bool) (es : List LineAnnotatio
   spaceless_all flat k d within = spaceless (get_or placed k d) (single flat k d within)
 
   -- cells left of all entries
-  left_of : plain ≡ true → (k c from : ℕ) → k < row_count placed → c < from → All (StandsFrom layout.code from) es → cell_at new (row + k) c ≡ slice_index_or (bare k) c SPACE
+  left_of : plain ≡ true → (k c from : ℕ) → k < row_count placed → c < from → All (StandsFrom layout.code from) es
+      → cell_at new (row + k) c ≡ slice_index_or (bare k) c SPACE
   left_of flat zero c from within before all =
       let same : row + 0 ≡ row = omega arith in
       let marks : cell_at new row c ≡ cell_at labelled row c = marked.painted.left c (λ k d inside. omega (arith, before, ordered_all (StandsFrom layout.code from) all k d inside)) in
@@ -346,7 +352,8 @@ module _ (layout : Layout) (room : ℕ) (closes : Bool) (es : List LineAnnotatio
       found.1 ∙ ap (λ x. x ∷ []) (sole_same q found.0 (subst (λ xs. IsPermutation xs (found.0 ∷ [])) one (subst (IsPermutation placed) found.1 marked.same)))
 
   -- after the mark of a line's one entry stand a space and its label
-  lone : plain ≡ true → (e : LineAnnotation) → es ≡ e ∷ [] → e.start.display < e.end.display → 0 < length (label_text e) → drop (layout.code + e.end.display) (row_at new row) ≡ SPACE ∷ text_cells (label_role e.kind) (label_text e)
+  lone : plain ≡ true → (e : LineAnnotation) → es ≡ e ∷ [] → e.start.display < e.end.display → 0 < length (label_text e)
+      → drop (layout.code + e.end.display) (row_at new row) ≡ SPACE ∷ text_cells (label_role e.kind) (label_text e)
   lone flat e one some shown =
       let found = lone_placed e one in
       let q : PlacedEntry = found.0 in
@@ -370,7 +377,8 @@ module _ (layout : Layout) (room : ℕ) (closes : Bool) (es : List LineAnnotatio
       has : (cs : List ℕ) → 0 < length cs → not (length cs == 0) ≡ true
       has cs some = grind (arith, nat_tests, some)
 
-      after : (q : PlacedEntry) (e : LineAnnotation) → placed ≡ q ∷ [] → mark_end q ≡ e.end.display → (c : ℕ) → layout.code + e.end.display ≤ c → cell_at new row c ≡ cell_at labelled row c
+      after : (q : PlacedEntry) (e : LineAnnotation) → placed ≡ q ∷ [] → mark_end q ≡ e.end.display → (c : ℕ) → layout.code + e.end.display ≤ c
+          → cell_at new row c ≡ cell_at labelled row c
       after q e one ends c right =
           let p : ℕ = c - layout.code in
           let N : PlacedEntry → Type 0 = λ x. IsPaintedAt x p → ⊥ in
@@ -453,7 +461,9 @@ module _ (layout : Layout) (room : ℕ) (closes : Bool) (es : List LineAnnotatio
       subst (λ rows. IsStrokeCell layout.decor (cell_at rows (row + k) c)) (sym new_is) (cell_of_strokes layout (row + k) c right (length above_rows) (length begun) placed (painting_order placed) begun bar_cells (inl (begun_space k c right)) beside)
 
   -- the rows of a line's strokes are added, once those of the source and of the marks are cut where entries are wide
-  pub strokes_added : (final : List (List Cell)) → 0 < length es → CutsRows layout (wide_entries room layout.decor es) above_rows source (row_at new row) lower final → AddsStrokes layout room es closes above_rows plain_row final
+  pub strokes_added : (final : List (List Cell)) → 0 < length es
+      → CutsRows layout (wide_entries room layout.decor es) above_rows source (row_at new row) lower final
+      → AddsStrokes layout room es closes above_rows plain_row final
   strokes_added final some cuts =
       let wide : ℕ = wide_entries room layout.decor es in
       let narrow : plain ≡ true → wide ≡ 0 = plain_narrow room layout.decor es in
@@ -476,14 +486,17 @@ module _ (layout : Layout) (room : ℕ) (closes : Bool) (es : List LineAnnotatio
         };
       }
     where
-      stroke_rows : (wide : ℕ) → (plain ≡ true → wide ≡ 0) → (marks_now : List Cell) → IsCut layout wide (row_at new row) marks_now → (k : ℕ) → k < row_count placed → IsStrokeRow layout plain es (closes && k + 1 == row_count placed) (row_at (marks_now ∷ lower) k)
+      stroke_rows : (wide : ℕ) → (plain ≡ true → wide ≡ 0) → (marks_now : List Cell) → IsCut layout wide (row_at new row) marks_now → (k : ℕ)
+          → k < row_count placed → IsStrokeRow layout plain es (closes && k + 1 == row_count placed) (row_at (marks_now ∷ lower) k)
       stroke_rows wide narrow marks_now cut zero within =
           IsStrokeRow-cut layout wide plain es (closes && 0 + 1 == row_count placed) (row_at new row) marks_now place narrow (subst (IsStrokeRow layout plain es (closes && 0 + 1 == row_count placed)) (ap (row_at new) (let same : row + 0 ≡ row = omega arith in same)) (stroke_row 0 within)) cut
       stroke_rows wide narrow marks_now cut (suc k) within =
           subst (IsStrokeRow layout plain es (closes && suc k + 1 == row_count placed)) (sym (lower_at k)) (stroke_row (suc k) within)
 
   -- the same, where it is known what is cut
-  pub strokes_drawn : (final : List (List Cell)) (flags : List Bool) → 0 < length es → final ≡ cut_rows layout.decor (length above_rows) (cuts_of layout room (painting_order placed) flags) new → AddsStrokes layout room es closes above_rows plain_row final
+  pub strokes_drawn : (final : List (List Cell)) (flags : List Bool) → 0 < length es
+      → final ≡ cut_rows layout.decor (length above_rows) (cuts_of layout room (painting_order placed) flags) new
+      → AddsStrokes layout room es closes above_rows plain_row final
   strokes_drawn final flags some final_is =
       let order = painting_order placed in
       let n : ℕ = length above_rows in

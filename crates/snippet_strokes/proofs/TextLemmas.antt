@@ -1,5 +1,6 @@
 -- The characters of labels, stems and their feet: they are few, and none is listed.
-use Rattle.std.proofs.Common.{◌≡◌, ◌==◌, true, false, not, ap, ◌∙◌, ℕ, ◌<◌, ◌^◌, List, [], length, map, get_or, arith, All, IfSome, Option, Some, None, Bor, IsUtf8}
+use Rattle.std.proofs.Common.{◌≡◌, ◌==◌, true, false, not, ap, ◌∙◌, ℕ, ◌<◌, ◌^◌, List, [], length, map, get_or, arith, All, IfSome, Option, Some, None, Bor}
+use Rattle.std.proofs.Common.{IsUtf8}
 use Rattle.snippet_view.specs.declared.entries.LineAnnotation.{LineAnnotation}
 use Rattle.snippet_text.proofs.NormLemmas.{list_any-norm}
 use Rattle.snippet_marks.specs.Entries.{label_chars, label_text, shifted}
@@ -42,6 +43,7 @@ label_short e fits = of_label e.label fits
     of_label (Some label) fits = norm_short label.now fits
 
 -- the labels of entries are short also where these are shifted
-pub labels_short : (dropped : ℕ) (es : List LineAnnotation) → All (λ e. IfSome e.label (λ t. length t.now < 2 ^ 56)) es → All (λ e. length (label_text e) < 2 ^ 60) (map (shifted dropped) es)
+pub labels_short : (dropped : ℕ) (es : List LineAnnotation) → All (λ e. IfSome e.label (λ t. length t.now < 2 ^ 56)) es
+    → All (λ e. length (label_text e) < 2 ^ 60) (map (shifted dropped) es)
 labels_short dropped es fit =
     All-map (λ (e : LineAnnotation). length (label_text e) < 2 ^ 60) (shifted dropped) es (λ k d within. label_short (get_or es k d) (fit k d within))

@@ -46,7 +46,8 @@ whole_between decor room right text fits =
     ap (λ e. shown_cells decor None (inner_part room 0 right text) e) (end-none room right (placeholder_of decor) text fits) ∙ ap (text_cells Quotation) (inner-whole room right text fits)
 
 -- a text that fits the room, of which nothing is cut on the left, is shown whole
-pub window_cells-whole : (decor : DecorStyle) (margin : Margin) (text : List ℕ) → (bounds_of margin).left ≡ 0 → width_of text ≤ margin.term_width → window_cells decor margin text ≡ text_cells Quotation text
+pub window_cells-whole : (decor : DecorStyle) (margin : Margin) (text : List ℕ) → (bounds_of margin).left ≡ 0 → width_of text ≤ margin.term_width
+    → window_cells decor margin text ≡ text_cells Quotation text
 unfolding cells_between
 window_cells-whole decor margin text uncut fits =
     ap (λ left. cells_between decor margin.term_width left (bounds_of margin).right text) uncut ∙ whole_between decor margin.term_width (bounds_of margin).right text fits

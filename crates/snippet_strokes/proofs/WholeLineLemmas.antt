@@ -39,7 +39,8 @@ none_false true b is both = false≢true (sym is)
 none_false false b is both = false≢true both
 
 -- so the marks of such a line aren't promised
-whole_not_plain : (text : List ℕ) (room dropped : ℕ) (decor : DecorStyle) (es : List LineAnnotation) → is_whole_line text es ≡ true → are_plain room decor (map (shifted dropped) es) ≡ true → ⊥
+whole_not_plain : (text : List ℕ) (room dropped : ℕ) (decor : DecorStyle) (es : List LineAnnotation) → is_whole_line text es ≡ true
+    → are_plain room decor (map (shifted dropped) es) ≡ true → ⊥
 whole_not_plain text room dropped decor [] whole plain = false≢true whole
 whole_not_plain text room dropped decor (e ∷ es) whole plain =
     let blank = list_all is_whitespace (take e.start.display text) in
@@ -63,7 +64,8 @@ second_true : (a b : Bool) → (a && b) ≡ true → b ≡ true
 second_true true b is = is
 second_true false b is = absurd (false≢true is)
 
-all_unlabelled : (text : List ℕ) (dropped : ℕ) (es : List LineAnnotation) → list_all (is_beside text) es ≡ true → All IsLabelledAtEnd (map (shifted dropped) es) → All (λ e. label_text e ≡ []) (map (shifted dropped) es)
+all_unlabelled : (text : List ℕ) (dropped : ℕ) (es : List LineAnnotation) → list_all (is_beside text) es ≡ true → All IsLabelledAtEnd (map (shifted dropped) es)
+    → All (λ e. label_text e ≡ []) (map (shifted dropped) es)
 all_unlabelled text dropped [] whole ends = All-nil (λ e. label_text e ≡ [])
 all_unlabelled text dropped (e ∷ es) whole ends =
     let beside : is_beside text e ≡ true = first_true (is_beside text e) (list_all (is_beside text) es) whole in
@@ -72,12 +74,14 @@ all_unlabelled text dropped (e ∷ es) whole ends =
     let others : List LineAnnotation = map (shifted dropped) es in
     All-cons (λ x. label_text x ≡ []) first others (All-head IsLabelledAtEnd first others ends (bar_or_start e.annotation_type (list_all is_whitespace (take e.start.display text)) beside)) (all_unlabelled text dropped es rest (All-tail IsLabelledAtEnd first others ends))
 
-beside_unlabelled : (text : List ℕ) (dropped : ℕ) (es : List LineAnnotation) → is_whole_line text es ≡ true → All IsLabelledAtEnd (map (shifted dropped) es) → All (λ e. label_text e ≡ []) (map (shifted dropped) es)
+beside_unlabelled : (text : List ℕ) (dropped : ℕ) (es : List LineAnnotation) → is_whole_line text es ≡ true → All IsLabelledAtEnd (map (shifted dropped) es)
+    → All (λ e. label_text e ≡ []) (map (shifted dropped) es)
 beside_unlabelled text dropped [] whole ends = absurd (false≢true whole)
 beside_unlabelled text dropped (e ∷ es) whole ends = all_unlabelled text dropped (e ∷ es) whole ends
 
 -- no rows of strokes
-AreStrokes-whole : (layout : Layout) (text : List ℕ) (room dropped : ℕ) (closes : Bool) (es : List LineAnnotation) → is_whole_line text es ≡ true → AreStrokes layout room (map (shifted dropped) es) closes []
+AreStrokes-whole : (layout : Layout) (text : List ℕ) (room dropped : ℕ) (closes : Bool) (es : List LineAnnotation) → is_whole_line text es ≡ true
+    → AreStrokes layout room (map (shifted dropped) es) closes []
 AreStrokes-whole layout text room dropped closes es whole =
     let none = whole_not_plain text room dropped layout.decor es whole in
     record {

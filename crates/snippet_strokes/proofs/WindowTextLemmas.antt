@@ -1,5 +1,6 @@
 -- The text that the cells of a window print.
-use Rattle.std.proofs.Common.{◌≡◌, ℕ, ◌+◌, ◌-◌, ◌==◌, cond, Bool, true, false, Option, None, Some, List, [], ◌∷◌, ◌++◌, length, map, take, drop, replicate, zero, suc, refl, sym, ap, ◌∙◌}
+use Rattle.std.proofs.Common.{◌≡◌, ℕ, ◌+◌, ◌-◌, ◌==◌, cond, Bool, true, false, Option, None, Some, List, [], ◌∷◌, ◌++◌, length, map, take, drop, replicate}
+use Rattle.std.proofs.Common.{zero, suc, refl, sym, ap, ◌∙◌}
 use Rattle.std.proofs.lemmas.List.{map-append, take-map, drop-map, length-map}
 use Rattle.snippet_view.specs.declared.margin.Margin.{Margin}
 use Rattle.snippet_view.specs.Margin.{bounds_of}
@@ -31,7 +32,8 @@ row_text-written cells at new =
     (map-append f (take at (cells ++ replicate (at - length cells) SPACE)) new ∙ ap (λ xs. xs ++ map f new) front)
     ∙ ap (λ xs. (take at (map f cells ++ replicate (at - length (map f cells)) 32) ++ map f new) ++ xs) back
 
-row_text-begun : (decor : DecorStyle) (start : Option ℕ) (text : List ℕ) → row_text (begun_cells decor start text) ≡ begun_with (placeholder_of decor) start text
+row_text-begun : (decor : DecorStyle) (start : Option ℕ) (text : List ℕ)
+    → row_text (begun_cells decor start text) ≡ begun_with (placeholder_of decor) start text
 row_text-begun decor None text = row_text-text_cells Quotation text
 row_text-begun decor (Some columns) [] = row_text-text_cells LineNumber (placeholder_of decor)
 row_text-begun decor (Some columns) (c ∷ cs) =
@@ -48,13 +50,15 @@ row_text-begun decor (Some columns) (c ∷ cs) =
     some true is = row_text-text_cells LineNumber (placeholder_of decor)
     some false is = is
 
-row_text-ended : (decor : DecorStyle) (end : Option ℕ) (cells : List Cell) (text : List ℕ) → row_text cells ≡ text → row_text (ended_cells decor end cells) ≡ ended_with (placeholder_of decor) end text
+row_text-ended : (decor : DecorStyle) (end : Option ℕ) (cells : List Cell) (text : List ℕ) → row_text cells ≡ text
+    → row_text (ended_cells decor end cells) ≡ ended_with (placeholder_of decor) end text
 row_text-ended decor None cells text is = is
 row_text-ended decor (Some at) cells text is =
     row_text-written cells at (text_cells LineNumber (placeholder_of decor)) ∙ ap (λ t. written 32 t at (row_text (text_cells LineNumber (placeholder_of decor)))) is ∙ ap (written 32 text at) (row_text-text_cells LineNumber (placeholder_of decor))
 
 -- the characters of the cells of a window are the window
-pub row_text-window_cells : (decor : DecorStyle) (margin : Margin) (text : List ℕ) → row_text (window_cells decor margin text) ≡ window (placeholder_of decor) margin.term_width (bounds_of margin).left (bounds_of margin).right text
+pub row_text-window_cells : (decor : DecorStyle) (margin : Margin) (text : List ℕ)
+    → row_text (window_cells decor margin text) ≡ window (placeholder_of decor) margin.term_width (bounds_of margin).left (bounds_of margin).right text
 row_text-window_cells decor margin text =
     let left = (bounds_of margin).left in
     let right = (bounds_of margin).right in

@@ -50,7 +50,8 @@ reached w r c =
       | inr other ↦ inr (λ is. other is.row)
     ]
 
-kept_written : (P : Cell → Type 0) (w : Write) (rows : List (List Cell)) (r c : ℕ) → P (cell_at rows r c) → (Reaches r c w → P (cell_of_write w c)) → P (cell_at (written_by rows w) r c)
+kept_written : (P : Cell → Type 0) (w : Write) (rows : List (List Cell)) (r c : ℕ) → P (cell_at rows r c) → (Reaches r c w → P (cell_of_write w c))
+    → P (cell_at (written_by rows w) r c)
 kept_written P w rows r c before leaves =
     elim (reached w r c) [
       | inl there ↦ subst P (sym (cell-written w rows r c there)) (leaves there)
@@ -58,20 +59,23 @@ kept_written P w rows r c before leaves =
     ]
 
 -- what holds of a cell, and of what each write leaves there that reaches it, holds after the writes
-pub painted-cell : (P : Cell → Type 0) (ws : List Write) (rows : List (List Cell)) (r c : ℕ) → P (cell_at rows r c) → All (λ w. Reaches r c w → P (cell_of_write w c)) ws → P (cell_at (painted ws rows) r c)
+pub painted-cell : (P : Cell → Type 0) (ws : List Write) (rows : List (List Cell)) (r c : ℕ) → P (cell_at rows r c)
+    → All (λ w. Reaches r c w → P (cell_of_write w c)) ws → P (cell_at (painted ws rows) r c)
 painted-cell P [] rows r c before all = before
 painted-cell P (w ∷ ws) rows r c before all =
     let Q : Write → Type 0 = λ v. Reaches r c v → P (cell_of_write v c) in
     painted-cell P ws (written_by rows w) r c (kept_written P w rows r c before (All-head Q w ws all)) (All-tail Q w ws all)
 
 -- a cell that no write reaches stays
-pub painted-untouched : (ws : List Write) (rows : List (List Cell)) (r c : ℕ) → All (λ w. Reaches r c w → ⊥) ws → cell_at (painted ws rows) r c ≡ cell_at rows r c
+pub painted-untouched : (ws : List Write) (rows : List (List Cell)) (r c : ℕ) → All (λ w. Reaches r c w → ⊥) ws
+    → cell_at (painted ws rows) r c ≡ cell_at rows r c
 painted-untouched [] rows r c beside = refl
 painted-untouched (w ∷ ws) rows r c beside =
     painted-untouched ws (written_by rows w) r c (All-tail (λ v. Reaches r c v → ⊥) w ws beside) ∙ cell-unwritten w rows r c (All-head (λ v. Reaches r c v → ⊥) w ws beside)
 
 -- the last write of a cell stands
-pub painted-last : (ws vs : List Write) (w : Write) (rows : List (List Cell)) (r c : ℕ) → Reaches r c w → All (λ v. Reaches r c v → ⊥) vs → cell_at (painted (ws ++ w ∷ vs) rows) r c ≡ cell_of_write w c
+pub painted-last : (ws vs : List Write) (w : Write) (rows : List (List Cell)) (r c : ℕ) → Reaches r c w → All (λ v. Reaches r c v → ⊥) vs
+    → cell_at (painted (ws ++ w ∷ vs) rows) r c ≡ cell_of_write w c
 painted-last ws vs w rows r c reaches beside =
     ap (λ new. cell_at new r c) (painted-append ws (w ∷ vs) rows) ∙ painted-untouched vs (written_by (painted ws rows) w) r c beside ∙ cell-written w (painted ws rows) r c reaches
 
@@ -101,7 +105,8 @@ flat_map-none f (x ∷ xs) none =
     ap (λ ws. ws ++ flat_map f xs) (All-head (λ y. f y ≡ []) x xs none) ∙ flat_map-none f xs (All-tail (λ y. f y ≡ []) x xs none)
 
 -- writes that stay below a row and right of a cell draw there, and nothing else
-pub DrawsFrom-painted : (row from : ℕ) (ws : List Write) (rows : List (List Cell)) → All (IsWithin row (length rows) from) ws → DrawsFrom row from rows (painted ws rows)
+pub DrawsFrom-painted : (row from : ℕ) (ws : List Write) (rows : List (List Cell)) → All (IsWithin row (length rows) from) ws
+    → DrawsFrom row from rows (painted ws rows)
 DrawsFrom-painted row from ws rows within =
     let n = length rows in
     let W : Write → Type 0 = IsWithin row n from in

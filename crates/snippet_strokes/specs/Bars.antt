@@ -1,5 +1,6 @@
 -- The bars of spans of several lines: which are open beside a line, and what drawing them changes.
-use Rattle.std.specs.Prelude.{◌≡◌, ◌<◌, ◌≤◌, ◌+◌, ◌==◌, ◌&&◌, ◌||◌, ℕ, max, not, Bool, false, Option, Some, None, All, List, [], ◌∷◌, ◌++◌, drop, filter, fold, length, map, take}
+use Rattle.std.specs.Prelude.{◌≡◌, ◌<◌, ◌≤◌, ◌+◌, ◌==◌, ◌&&◌, ◌||◌, ℕ, max, not, Bool, false, Option, Some, None, All, List, [], ◌∷◌, ◌++◌, drop, filter, fold}
+use Rattle.std.specs.Prelude.{length, map, take}
 use Rattle.std.specs.Char.{is_whitespace}
 use Rattle.std.specs.List.{filter_map, list_all, list_any, slice_index_or}
 use Rattle.snippet_view.specs.declared.entries.LineAnnotation.{LineAnnotation}

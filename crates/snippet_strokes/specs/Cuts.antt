@@ -1,5 +1,6 @@
 -- Which stretches of a line give their place to the placeholder, because the entries there are wide.
-use Rattle.std.specs.Prelude.{ℕ, ◌+◌, ◌-◌, ◌/◌, ◌==◌, ◌&&◌, ◌||◌, nat_le, nat_lt, not, max, Bool, Option, None, Some, List, [], ◌∷◌, drop, take, length, if◌then◌else◌}
+use Rattle.std.specs.Prelude.{ℕ, ◌+◌, ◌-◌, ◌/◌, ◌==◌, ◌&&◌, ◌||◌, nat_le, nat_lt, not, max, Bool, Option, None, Some, List, [], ◌∷◌, drop, take, length}
+use Rattle.std.specs.Prelude.{if◌then◌else◌}
 use Rattle.std.specs.List.{flat_map, list_any, position, slice_index_or, zip}
 use Rattle.snippet_style.specs.Cell.{Cell, text_cells}
 use Rattle.snippet_style.specs.Glyphs.{placeholder_of}

@@ -62,7 +62,8 @@ pub record IsEntryMark (es : List LineAnnotation) (p : ℕ) (kind : AnnotationKi
   pub covers : EntryCovers entry p
   pub is : entry.kind ≡ kind
   pub least : (other : LineAnnotation) → Contains es other → EntryCovers other p → entry_width entry ≤ entry_width other
-  pub primary_wins : is_primary kind ≡ false → (other : LineAnnotation) → Contains es other → EntryCovers other p → other.kind ≡ Primary → entry_width entry < entry_width other
+  pub primary_wins : is_primary kind ≡ false → (other : LineAnnotation) → Contains es other → EntryCovers other p → other.kind ≡ Primary
+      → entry_width entry < entry_width other
 
 -- the cell holds a mark of this kind, drawn as this decor draws it, in the role of its strokes
 abbrev pub IsMarkCell : DecorStyle → AnnotationKind → Cell → Type 0

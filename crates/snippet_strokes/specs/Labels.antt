@@ -1,5 +1,6 @@
 -- What is promised of the labels of a line: none is lost.
-use Rattle.std.specs.Prelude.{ℕ, Bool, true, false, ◌+◌, ◌<◌, ◌≤◌, ◌≡◌, ◌⊎◌, ◌==◌, ◌&&◌, ◌||◌, nat_le, nat_lt, max, All, List, [], ◌++◌, count_by, length, map, slice_index_or}
+use Rattle.std.specs.Prelude.{ℕ, Bool, true, false, ◌+◌, ◌<◌, ◌≤◌, ◌≡◌, ◌⊎◌, ◌==◌, ◌&&◌, ◌||◌, nat_le, nat_lt, max, All, List, [], ◌++◌, count_by, length, map}
+use Rattle.std.specs.Prelude.{slice_index_or}
 use Rattle.std.specs.List.{list_any}
 use Rattle.snippet_style.specs.Cell.{Cell, SPACE, unlinked_cell}
 use Rattle.snippet_style.specs.declared.glyphs.DecorStyle.{DecorStyle}
@@ -25,7 +26,8 @@ is_cell_of r c l = l.row == r && (nat_le l.cell c && nat_lt c (l.cell + length (
 -- the label stands whole in these rows, in the role of labels of its kind: in the row of the marks one cell after its mark, which
 -- takes column 0 even where it ends there; or in a row below, at the mark's first column
 pub record StandsIn (layout : Layout) (rows : List (List Cell)) (l : PlacedLabel) : Type 0 where
-  pub whole : (n : ℕ) → n < length (label_text l.entry) → cell_at rows l.row (l.cell + n) ≡ unlinked_cell (label_role l.entry.kind) (slice_index_or (label_text l.entry) n 0)
+  pub whole : (n : ℕ) → n < length (label_text l.entry)
+      → cell_at rows l.row (l.cell + n) ≡ unlinked_cell (label_role l.entry.kind) (slice_index_or (label_text l.entry) n 0)
   pub place : ((l.row ≡ 0) × (l.cell ≡ layout.code + max l.entry.end.display 1 + 1)) ⊎ ((0 < l.row) × (l.cell ≡ layout.code + l.entry.start.display))
 
 -- the glyphs that strokes are drawn with from the code on: marks, stems, the lines that lead to bars, and what stands where they meet

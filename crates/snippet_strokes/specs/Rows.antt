@@ -1,5 +1,6 @@
 -- The rows of a line that is shown: its source row with what stands in it, and the rows of its strokes below it.
-use Rattle.std.specs.Prelude.{◌≡◌, ℕ, ◌≢◌, ◌+◌, ◌-◌, ◌<◌, ◌≤◌, ◌==◌, ◌&&◌, nat_le, nat_lt, Bool, true, false, List, [], ◌∷◌, ◌++◌, All, length, map, max, take, drop, replicate, if◌then◌else◌}
+use Rattle.std.specs.Prelude.{◌≡◌, ℕ, ◌≢◌, ◌+◌, ◌-◌, ◌<◌, ◌≤◌, ◌==◌, ◌&&◌, nat_le, nat_lt, Bool, true, false, List, [], ◌∷◌, ◌++◌, All, length, map, max, take}
+use Rattle.std.specs.Prelude.{drop, replicate, if◌then◌else◌}
 use Rattle.std.specs.List.{slice_index_or, list_any, range_with_len}
 use Rattle.snippet_model.specs.declared.snippet.AnnotationKind.{AnnotationKind}
 use Rattle.snippet_view.specs.declared.entries.LineAnnotation.{LineAnnotation}
@@ -28,7 +29,8 @@ pub record ShowsMarks (decor : DecorStyle) (code : ℕ) (es : List LineAnnotatio
   pub marks : (p : ℕ) (kind : AnnotationKind) → IsEntryMark es p kind → IsMarkCell decor kind (slice_index_or row (code + p) SPACE)
   pub unmarked : (p : ℕ) → All (λ e. EntryCovers e p → ⊥) es → has_mark_role (slice_index_or row (code + p) SPACE) ≡ false
   pub spaces : All (λ e. label_text e ≡ []) es → (p : ℕ) → All (λ e. EntryCovers e p → ⊥) es → slice_index_or row (code + p) SPACE ≡ SPACE
-  pub lone : (e : LineAnnotation) → es ≡ e ∷ [] → e.start.display < e.end.display → 0 < length (label_text e) → drop (code + e.end.display) row ≡ SPACE ∷ text_cells (label_role e.kind) (label_text e)
+  pub lone : (e : LineAnnotation) → es ≡ e ∷ [] → e.start.display < e.end.display → 0 < length (label_text e)
+      → drop (code + e.end.display) row ≡ SPACE ∷ text_cells (label_role e.kind) (label_text e)
 
 -- a row of strokes: left of the bars it is as a separator row, or as the closing row where the window closes; where bars
 -- stand it holds nothing but parts of them; on a plain line spaces stand between them and the first entry; and it holds no
@@ -125,12 +127,14 @@ highlighted_row code dropped es plain =
 -- the row is this source row, with the characters highlighted that entries ask for
 pub record IsHighlighted (code dropped : ℕ) (es : List LineAnnotation) (plain row : List Cell) : Type 0 where
   pub width : length row ≡ length plain
-  pub cells : (c : ℕ) → c < length plain → slice_index_or row c SPACE ≡ (let cell = slice_index_or plain c SPACE in record cell { role = role_in_source code dropped es c cell.role })
+  pub cells : (c : ℕ) → c < length plain
+      → slice_index_or row c SPACE ≡ (let cell = slice_index_or plain c SPACE in record cell { role = role_in_source code dropped es c cell.role })
 
 -- the characters of a row that one entry asks to highlight have the role of its marks, where it is primary or their own
 -- gives way, and nothing else changed
 pub record Restyled (code dropped : ℕ) (e : LineAnnotation) (row : ℕ) (old new : List (List Cell)) : Type 0 where
-  pub asked : (c : ℕ) → c < length (row_at old row) → holds_character code dropped c e ≡ true → cell_at new row c ≡ restyled (underline_role (is_primary e.kind)) (is_primary e.kind) (cell_at old row c)
+  pub asked : (c : ℕ) → c < length (row_at old row) → holds_character code dropped c e ≡ true
+      → cell_at new row c ≡ restyled (underline_role (is_primary e.kind)) (is_primary e.kind) (cell_at old row c)
   pub unasked : (c : ℕ) → holds_character code dropped c e ≡ false → cell_at new row c ≡ cell_at old row c
   pub others : (r : ℕ) → r ≢ row → row_at new r ≡ row_at old r
   pub width : length (row_at new row) ≡ length (row_at old row)

@@ -36,7 +36,8 @@ pub record ShowsLine (layout : Layout) (margin : Margin) (numbers : LineNumbers)
   pub plain : List Cell
   pub shows : IsSourceRow layout (shown_number numbers layout.gutter info.line_index) (window_cells layout.decor margin (norm (chars info.line.now))) plain
   pub text : row_text (drop layout.code plain) ≡ window (placeholder_of layout.decor) margin.term_width (bounds_of margin).left (bounds_of margin).right (norm (chars info.line.now))
-  pub whole : (bounds_of margin).left ≡ 0 → width_of (norm (chars info.line.now)) ≤ margin.term_width → drop layout.code plain ≡ text_cells Quotation (norm (chars info.line.now))
+  pub whole : (bounds_of margin).left ≡ 0 → width_of (norm (chars info.line.now)) ≤ margin.term_width
+      → drop layout.code plain ≡ text_cells Quotation (norm (chars info.line.now))
   pub dropped : ℕ
   pub dropped_is : dropped ≡ width_of (dropped_part (bounds_of margin).left (norm (chars info.line.now)))
   pub clear : All (λ e. is_bar e.annotation_type ≡ false → dropped ≤ e.start.display) info.annotations.items

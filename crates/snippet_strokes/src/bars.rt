@@ -1,5 +1,6 @@
 //! The bars of spans of several lines, which run beside the rows, left of the code.
-ghost use Rattle.std.specs.Prelude.{◌≡◌, ◌+◌, ◌-◌, ◌^◌, ◌<◌, ◌≤◌, ℕ, true, All, IfOk, OnOk, length, replicate, slice_index_or};
+ghost use Rattle.std.specs.Prelude.{◌≡◌, ◌+◌, ◌-◌, ◌^◌, ◌<◌, ◌≤◌, ℕ, true, All, IfOk, OnOk, length, replicate};
+ghost use Rattle.std.specs.Prelude.{slice_index_or};
 ghost use Rattle.snippet_strokes.specs.declared.bars.OpenBar.{OpenBar};
 ghost use Rattle.snippet_strokes.specs.Bars as spec;
 ghost use Rattle.snippet_strokes.specs.Bars.{HasRoom, StandsBeside, bar_part, barred, changed_from, ends_of_bars};

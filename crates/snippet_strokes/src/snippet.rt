@@ -1,5 +1,6 @@
 //! The rows of a snippet: those of each line that is shown.
-ghost use Rattle.std.specs.Prelude.{◌≡◌, ◌+◌, ◌^◌, ◌<◌, ◌≤◌, ◌++◌, ◌∷◌, [], false, List, All, IfOk, IfSome, OnOk, chars, length, map};
+ghost use Rattle.std.specs.Prelude.{◌≡◌, ◌+◌, ◌^◌, ◌<◌, ◌≤◌, ◌++◌, ◌∷◌, [], false, List, All, IfOk, IfSome, OnOk};
+ghost use Rattle.std.specs.Prelude.{chars, length, map};
 ghost use Rattle.snippet_view.specs.Measures.{StandsClear, is_bar};
 ghost use Rattle.snippet_view.specs.ShownLines.{infos_of};
 ghost use Rattle.snippet_marks.specs.Entries.{HasPlace, shifted};

@@ -1,5 +1,6 @@
 //! All that stands below the source row of a line, and the bars beside it of spans that begin or end there.
-ghost use Rattle.std.specs.Prelude.{◌≡◌, ◌+◌, ◌^◌, ◌<◌, ◌≤◌, ◌++◌, ◌∷◌, [], if◌then◌else◌, All, IfSome, List, OnOk, false, length, map};
+ghost use Rattle.std.specs.Prelude.{◌≡◌, ◌+◌, ◌^◌, ◌<◌, ◌≤◌, ◌++◌, ◌∷◌, [], if◌then◌else◌, All, IfSome, List, OnOk};
+ghost use Rattle.std.specs.Prelude.{false, length, map};
 ghost use Rattle.snippet_marks.specs.Entries.{HasPlace, shifted};
 ghost use Rattle.snippet_strokes.specs.EntryMarks.{HasBarCell};
 ghost use Rattle.snippet_view.specs.Measures.{is_bar};

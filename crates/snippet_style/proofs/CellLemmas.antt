@@ -26,7 +26,8 @@ pub length-text_cells : (role : ElementStyle) (chars : List ℕ) → length (tex
 length-text_cells role chars = length-map chars (λ (c : ℕ). unlinked_cell role c)
 
 -- the cell of a character
-pub slice_index_or-text_cells : (role : ElementStyle) (chars : List ℕ) (k : ℕ) (d : Cell) → k < length chars → slice_index_or (text_cells role chars) k d ≡ unlinked_cell role (slice_index_or chars k 0)
+pub slice_index_or-text_cells : (role : ElementStyle) (chars : List ℕ) (k : ℕ) (d : Cell) → k < length chars
+    → slice_index_or (text_cells role chars) k d ≡ unlinked_cell role (slice_index_or chars k 0)
 slice_index_or-text_cells role chars k d within = get_or-map (λ (c : ℕ). unlinked_cell role c) chars k 0 d within
 
 -- the cells of two texts, one after the other
@@ -43,17 +44,20 @@ unfolding written
 length-written blank xs at new = grind (arith, places)
 
 -- what stands before, in and after a write
-pub slice_index_or-written_before : {X : Type 0} (blank : X) (xs : List X) (at : ℕ) (new : List X) (k : ℕ) → k < at → slice_index_or (written blank xs at new) k blank ≡ slice_index_or xs k blank
+pub slice_index_or-written_before : {X : Type 0} (blank : X) (xs : List X) (at : ℕ) (new : List X) (k : ℕ) → k < at
+    → slice_index_or (written blank xs at new) k blank ≡ slice_index_or xs k blank
 unfolding written
 slice_index_or-written_before blank xs at new k before = grind (arith, places)
 
 -- a cell that is written over holds what is written there
-pub slice_index_or-written_inside : {X : Type 0} (blank : X) (xs : List X) (at : ℕ) (new : List X) (k : ℕ) (d : X) → k < length new → slice_index_or (written blank xs at new) (at + k) d ≡ slice_index_or new k d
+pub slice_index_or-written_inside : {X : Type 0} (blank : X) (xs : List X) (at : ℕ) (new : List X) (k : ℕ) (d : X) → k < length new
+    → slice_index_or (written blank xs at new) (at + k) d ≡ slice_index_or new k d
 unfolding written
 slice_index_or-written_inside blank xs at new k d inside = grind (arith, places)
 
 -- a cell right of what is written is as it was
-pub slice_index_or-written_after : {X : Type 0} (blank : X) (xs : List X) (at : ℕ) (new : List X) (k : ℕ) (d : X) → at + length new ≤ k → slice_index_or (written blank xs at new) k d ≡ slice_index_or xs k d
+pub slice_index_or-written_after : {X : Type 0} (blank : X) (xs : List X) (at : ℕ) (new : List X) (k : ℕ) (d : X) → at + length new ≤ k
+    → slice_index_or (written blank xs at new) k d ≡ slice_index_or xs k d
 unfolding written
 slice_index_or-written_after blank xs at new k d after = grind (arith, places)
 
@@ -63,12 +67,14 @@ drop-written blank xs at new =
     same_lists _ _ (unfold written in grind (arith, places)) (λ k d h. unfold written in grind (arith, places))
 
 -- a list that was written, up to the write
-pub take-written : {X : Type 0} (blank : X) (xs : List X) (at : ℕ) (new : List X) → take at (written blank xs at new) ≡ take at (xs ++ replicate (at - length xs) blank)
+pub take-written : {X : Type 0} (blank : X) (xs : List X) (at : ℕ) (new : List X)
+    → take at (written blank xs at new) ≡ take at (xs ++ replicate (at - length xs) blank)
 take-written blank xs at new =
     same_lists _ _ (unfold written in grind (arith, places)) (λ k d h. unfold written in grind (arith, places))
 
 -- the same, where the list ends at the write or before it
-pub take-written_past : {X : Type 0} (blank : X) (xs : List X) (at : ℕ) (new : List X) → length xs ≤ at → take at (written blank xs at new) ≡ xs ++ replicate (at - length xs) blank
+pub take-written_past : {X : Type 0} (blank : X) (xs : List X) (at : ℕ) (new : List X) → length xs ≤ at
+    → take at (written blank xs at new) ≡ xs ++ replicate (at - length xs) blank
 take-written_past blank xs at new past =
     same_lists _ _ (unfold written in grind (arith, places)) (λ k d h. unfold written in grind (arith, places))
 

@@ -1,5 +1,6 @@
 -- Rows that show no line: of a placeholder, a glyph or marks.
-use Rattle.std.proofs.Common.{◌≡◌, ℕ, zero, suc, ◌+◌, ◌-◌, ◌<◌, ◌≤◌, true, false, List, [], ◌∷◌, ◌++◌, length, replicate, refl, sym, ap, ◌∙◌, arith, inl, inr, subst, chars}
+use Rattle.std.proofs.Common.{◌≡◌, ℕ, zero, suc, ◌+◌, ◌-◌, ◌<◌, ◌≤◌, true, false, List, [], ◌∷◌, ◌++◌, length, replicate, refl, sym, ap, ◌∙◌, arith, inl, inr}
+use Rattle.std.proofs.Common.{subst, chars}
 use Rattle.std.specs.List.{list_all, list_any, slice_index_or}
 use Rattle.std.proofs.lemmas.Bool.{cases_lt}
 use Rattle.snippet_grid.specs.Print.{row_text}
@@ -14,7 +15,8 @@ use Rattle.snippet_style.specs.declared.role.ElementStyle.TheVariants.{LineNumbe
 use Rattle.snippet_style.specs.Glyphs.{placeholder_of}
 use Rattle.snippet_grid.specs.Grid.{cells_written}
 use Rattle.snippet_style.specs.Cell.{Cell, SPACE, text_cells, written}
-use Rattle.snippet_style.proofs.CellLemmas.{All-text_cells, length-chars_le, length-text_cells, slice_index_or-written_after, slice_index_or-written_before, slice_index_or-written_inside}
+use Rattle.snippet_style.proofs.CellLemmas.{All-text_cells, length-chars_le, length-text_cells, slice_index_or-written_after, slice_index_or-written_before}
+use Rattle.snippet_style.proofs.CellLemmas.{slice_index_or-written_inside}
 use Rattle.snippet_text.specs.Normalized.{is_listed}
 use Rattle.snippet_model.specs.Rows.{IsFreeCell}
 use Rattle.snippet_style.specs.declared.glyphs.SuggestionGlyph.{SuggestionGlyph}
@@ -34,7 +36,8 @@ bare_none decor gutter =
     }
 
 -- a glyph that is put after the gutter
-pub bare_signed : (decor : DecorStyle) (gutter : ℕ) (role : ElementStyle) (glyph : SuggestionGlyph) (row : List Cell) → is_sign glyph ≡ false → IsBareRow decor gutter row → IsBareRow decor gutter (written SPACE row (gutter + 1) (text_cells role (suggestion_glyph_of decor glyph)))
+pub bare_signed : (decor : DecorStyle) (gutter : ℕ) (role : ElementStyle) (glyph : SuggestionGlyph) (row : List Cell) → is_sign glyph ≡ false
+    → IsBareRow decor gutter row → IsBareRow decor gutter (written SPACE row (gutter + 1) (text_cells role (suggestion_glyph_of decor glyph)))
 bare_signed decor gutter role glyph row other bare =
     let P : Cell → Type 0 = λ cell. is_stroke decor cell.ch ≡ true in
     let cells = text_cells role (suggestion_glyph_of decor glyph) in
@@ -46,7 +49,8 @@ bare_signed decor gutter role glyph row other bare =
     }
 
 -- a row that spaces lead, and that ends before the line's place with what stands left of it
-pub bare_led : (decor : DecorStyle) (gutter at : ℕ) (role : ElementStyle) (cs : List ℕ) → at + length cs ≤ gutter + 3 → list_all (is_stroke decor) cs ≡ true → list_any is_listed cs ≡ false → IsBareRow decor gutter (replicate at SPACE ++ text_cells role cs)
+pub bare_led : (decor : DecorStyle) (gutter at : ℕ) (role : ElementStyle) (cs : List ℕ) → at + length cs ≤ gutter + 3 → list_all (is_stroke decor) cs ≡ true
+    → list_any is_listed cs ≡ false → IsBareRow decor gutter (replicate at SPACE ++ text_cells role cs)
 bare_led decor gutter at role cs short strokes free =
     let P : Cell → Type 0 = λ cell. is_stroke decor cell.ch ≡ true in
     let row = replicate at SPACE ++ text_cells role cs in
@@ -63,7 +67,8 @@ led_text zero role cs = row_text-text_cells role cs
 led_text (suc n) role cs = ap (λ t. 32 ∷ t) (led_text n role cs)
 
 -- spaces and then the characters of strokes, no wider than a bare row, are a row of strokes
-pub stroke_led : (decor : DecorStyle) (gutter at : ℕ) (role : ElementStyle) (cs : List ℕ) → at + length cs ≤ gutter + 3 → list_all (is_stroke decor) cs ≡ true → list_any is_listed cs ≡ false → IsStrokeRow decor gutter (replicate at 32 ++ cs) (replicate at SPACE ++ text_cells role cs)
+pub stroke_led : (decor : DecorStyle) (gutter at : ℕ) (role : ElementStyle) (cs : List ℕ) → at + length cs ≤ gutter + 3 → list_all (is_stroke decor) cs ≡ true
+    → list_any is_listed cs ≡ false → IsStrokeRow decor gutter (replicate at 32 ++ cs) (replicate at SPACE ++ text_cells role cs)
 stroke_led decor gutter at role cs short strokes free =
     record {
       bare = bare_led decor gutter at role cs short strokes free;
@@ -71,7 +76,8 @@ stroke_led decor gutter at role cs short strokes free =
     }
 
 -- a glyph that is put after the gutter of a row with one that is no longer, or with none
-put_left : (gutter : ℕ) (role : ElementStyle) (old cs : List ℕ) (row : List Cell) → length old ≤ length cs → HasLeft gutter (beside_gutter gutter old) row → HasLeft gutter (beside_gutter gutter cs) (written SPACE row (gutter + 1) (text_cells role cs))
+put_left : (gutter : ℕ) (role : ElementStyle) (old cs : List ℕ) (row : List Cell) → length old ≤ length cs → HasLeft gutter (beside_gutter gutter old) row
+    → HasLeft gutter (beside_gutter gutter cs) (written SPACE row (gutter + 1) (text_cells role cs))
 put_left gutter role old cs row covers there c inside =
     let at : ℕ = gutter + 1 in
     let spaces : List ℕ = replicate at 32 in
@@ -119,7 +125,8 @@ pub stroke_none : (decor : DecorStyle) (gutter : ℕ) → IsStrokeRow decor gutt
 stroke_none decor gutter = record { bare = bare_none decor gutter; left_is = λ c inside. refl }
 
 -- a glyph that is put after the gutter of such a row
-pub stroke_signed : (decor : DecorStyle) (gutter : ℕ) (role : ElementStyle) (glyph : SuggestionGlyph) → is_sign glyph ≡ false → IsStrokeRow decor gutter (beside_gutter gutter (suggestion_glyph_of decor glyph)) (written SPACE [] (gutter + 1) (text_cells role (suggestion_glyph_of decor glyph)))
+pub stroke_signed : (decor : DecorStyle) (gutter : ℕ) (role : ElementStyle) (glyph : SuggestionGlyph) → is_sign glyph ≡ false
+    → IsStrokeRow decor gutter (beside_gutter gutter (suggestion_glyph_of decor glyph)) (written SPACE [] (gutter + 1) (text_cells role (suggestion_glyph_of decor glyph)))
 stroke_signed decor gutter role glyph other =
     stroke_put decor gutter role glyph [] [] other (omega arith) (record { bare = bare_none decor gutter; left_is = λ c inside. sym (spaces_left (gutter + 1) c) })
 

@@ -20,7 +20,8 @@ zip_append R (x ∷ xs) vs [] ws front back = elim front [ ]
 zip_append R (x ∷ xs) vs (y ∷ ys) ws front back = (front.0, zip_append R xs vs ys ws front.1 back)
 
 -- rows, and further ones below them
-pub rows_append : (layout : SuggestionLayout) (first : ℕ) (lines : List (List ℕ)) (shown more : List SuggestionRow) (above mid new : List (List Cell)) → AddsRows layout first lines shown above mid → AddsRows layout first lines more mid new → AddsRows layout first lines (shown ++ more) above new
+pub rows_append : (layout : SuggestionLayout) (first : ℕ) (lines : List (List ℕ)) (shown more : List SuggestionRow) (above mid new : List (List Cell))
+    → AddsRows layout first lines shown above mid → AddsRows layout first lines more mid new → AddsRows layout first lines (shown ++ more) above new
 rows_append layout first lines shown more above mid new front back =
     record {
       rows = front.rows ++ back.rows;
@@ -29,7 +30,8 @@ rows_append layout first lines shown more above mid new front back =
     }
 
 -- one row
-pub row_alone : (layout : SuggestionLayout) (first : ℕ) (lines : List (List ℕ)) (shown : SuggestionRow) (above new : List (List Cell)) → AddsRow (Shows layout first lines shown) above new → AddsRows layout first lines (shown ∷ []) above new
+pub row_alone : (layout : SuggestionLayout) (first : ℕ) (lines : List (List ℕ)) (shown : SuggestionRow) (above new : List (List Cell))
+    → AddsRow (Shows layout first lines shown) above new → AddsRows layout first lines (shown ∷ []) above new
 row_alone layout first lines shown above new adds =
     record {
       rows = adds.row ∷ [];
@@ -38,12 +40,14 @@ row_alone layout first lines shown above new adds =
     }
 
 -- rows, none of which is empty
-pub none_empty : (layout : SuggestionLayout) (first : ℕ) (lines : List (List ℕ)) (shown : List SuggestionRow) (above new : List (List Cell)) → AddsRows layout first lines shown above new → AddsRows layout first lines shown above (new ++ replicate 0 [])
+pub none_empty : (layout : SuggestionLayout) (first : ℕ) (lines : List (List ℕ)) (shown : List SuggestionRow) (above new : List (List Cell))
+    → AddsRows layout first lines shown above new → AddsRows layout first lines shown above (new ++ replicate 0 [])
 none_empty layout first lines shown above new adds =
     subst (AddsRows layout first lines shown above) (sym (append-nil new)) adds
 
 -- rows of lines that are shown, with placeholders between them
-shown_zip : (layout : SuggestionLayout) (first : ℕ) (lines : List (List ℕ)) (shown : List SuggestionLine) (rows : List (List Cell)) → AllZip (IsShownRow layout first lines) shown rows → AllZip (Shows layout first lines) (map row_of_shown shown) rows
+shown_zip : (layout : SuggestionLayout) (first : ℕ) (lines : List (List ℕ)) (shown : List SuggestionLine) (rows : List (List Cell))
+    → AllZip (IsShownRow layout first lines) shown rows → AllZip (Shows layout first lines) (map row_of_shown shown) rows
 shown_zip layout first lines [] [] are = tt
 shown_zip layout first lines [] (row ∷ rows) are = elim are [ ]
 shown_zip layout first lines (line ∷ shown) [] are = elim are [ ]
@@ -51,7 +55,8 @@ shown_zip layout first lines (Line k ∷ shown) (row ∷ rows) are = (are.0, sho
 shown_zip layout first lines (Gap ∷ shown) (row ∷ rows) are = (are.0, shown_zip layout first lines shown rows are.1)
 
 -- shown lines that are added are rows of the suggestion that are added
-pub rows_shown : (layout : SuggestionLayout) (first : ℕ) (lines : List (List ℕ)) (shown : List SuggestionLine) (above new : List (List Cell)) → AddsShown layout first lines shown above new → AddsRows layout first lines (map row_of_shown shown) above new
+pub rows_shown : (layout : SuggestionLayout) (first : ℕ) (lines : List (List ℕ)) (shown : List SuggestionLine) (above new : List (List Cell))
+    → AddsShown layout first lines shown above new → AddsRows layout first lines (map row_of_shown shown) above new
 rows_shown layout first lines shown above new adds =
     record {
       rows = adds.rows;
@@ -64,7 +69,8 @@ pub number_first : (first : ℕ) → first < 2 ^ 64 → number_after first 0 ≡
 number_first first small = omega arith
 
 -- the first number fits the gutter where that of the first line does
-pub first_fits : (layout : SuggestionLayout) (first : ℕ) → first < 2 ^ 64 → NumberFits layout first (Line 0) → length (shown_number layout.numbers layout.frame.gutter first) ≤ layout.frame.gutter + 1
+pub first_fits : (layout : SuggestionLayout) (first : ℕ) → first < 2 ^ 64 → NumberFits layout first (Line 0)
+    → length (shown_number layout.numbers layout.frame.gutter first) ≤ layout.frame.gutter + 1
 first_fits layout first small fits =
     subst (λ (n : ℕ). length (shown_number layout.numbers layout.frame.gutter n) ≤ layout.frame.gutter + 1) (number_first first small) fits
 

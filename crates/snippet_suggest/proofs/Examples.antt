@@ -57,7 +57,8 @@ abbrev pub one_word : Vec Patch Global → Snippet Patch
 one_word v = snippet v true (codes "foo") (patch 0 3 (codes "bar") ∷ []) (omega arith)
 
 -- one word in place of another is a diff: it removes the line, and offers the one with the new word
-pub one_word_gives : (v : Vec Patch Global) → Gives (one_word v) Diff (codes "bar" ∷ []) (0 ∷ []) (0 ∷ []) 1 (Begins Opening ∷ Removes 0 1 (codes "foo") ∷ Offers 0 ∷ [])
+pub one_word_gives : (v : Vec Patch Global)
+    → Gives (one_word v) Diff (codes "bar" ∷ []) (0 ∷ []) (0 ∷ []) 1 (Begins Opening ∷ Removes 0 1 (codes "foo") ∷ Offers 0 ∷ [])
 unfolding shown_text trimmed_edit sandwich kept_before start_of line_of chars last_line_reached newline_count trim_start trim_end lib.Utf8.encode
 one_word_gives v = record { kind_is = refl; lines_are = refl; offered_are = refl; removed_are = refl; counted_is = refl; rows_are = refl }
 
@@ -95,7 +96,8 @@ two_lines_gives v = record { kind_is = refl; lines_are = refl; offered_are = ref
 abbrev insertion_first : Vec Patch Global → Snippet Patch
 insertion_first v = snippet v true (codes "a") (patch 0 1 (codes "b") ∷ patch 0 0 (codes "x") ∷ []) (omega arith)
 
-insertion_first_gives : (v : Vec Patch Global) → Gives (insertion_first v) Diff (codes "xb" ∷ []) (0 ∷ []) (0 ∷ []) 1 (Begins Opening ∷ Removes 0 1 (codes "a") ∷ Offers 0 ∷ [])
+insertion_first_gives : (v : Vec Patch Global)
+    → Gives (insertion_first v) Diff (codes "xb" ∷ []) (0 ∷ []) (0 ∷ []) 1 (Begins Opening ∷ Removes 0 1 (codes "a") ∷ Offers 0 ∷ [])
 unfolding shown_text trimmed_edit sandwich kept_before start_of line_of chars last_line_reached newline_count trim_start trim_end lib.Utf8.encode
 insertion_first_gives v = record { kind_is = refl; lines_are = refl; offered_are = refl; removed_are = refl; counted_is = refl; rows_are = refl }
 
@@ -132,7 +134,8 @@ after_final_gives v = record { kind_is = refl; lines_are = refl; offered_are = r
 abbrev pub first_line_deleted : Vec Patch Global → Snippet Patch
 first_line_deleted v = snippet v true (codes "a" ++ 10 ∷ codes "b") (patch 0 2 [] ∷ []) (omega arith)
 
-first_line_deleted_gives : (v : Vec Patch Global) → Gives (first_line_deleted v) Diff (codes "b" ∷ []) [] (0 ∷ []) 2 (Begins Opening ∷ Removes 0 1 (codes "a") ∷ [])
+first_line_deleted_gives : (v : Vec Patch Global)
+    → Gives (first_line_deleted v) Diff (codes "b" ∷ []) [] (0 ∷ []) 2 (Begins Opening ∷ Removes 0 1 (codes "a") ∷ [])
 unfolding shown_text trimmed_edit sandwich kept_before start_of line_of chars last_line_reached newline_count trim_start trim_end lib.Utf8.encode
 first_line_deleted_gives v = record { kind_is = refl; lines_are = refl; offered_are = refl; removed_are = refl; counted_is = refl; rows_are = refl }
 
@@ -173,7 +176,8 @@ first_of_three_gives v = record { kind_is = refl; lines_are = refl; offered_are 
 abbrev gap : Vec Patch Global → Snippet Patch
 gap v = snippet v true (codes "a" ++ 10 ∷ codes "b" ++ 10 ∷ codes "c" ++ 10 ∷ codes "d" ++ 10 ∷ codes "e" ++ 10 ∷ codes "f" ++ 10 ∷ codes "g") (patch 0 0 (codes "x") ∷ patch 13 13 (codes "y") ∷ []) (omega arith)
 
-gap_gives : (v : Vec Patch Global) → Gives (gap v) Plain (codes "xa" ∷ codes "b" ∷ codes "c" ∷ codes "d" ∷ codes "e" ∷ codes "f" ∷ codes "gy" ∷ []) (0 ∷ 1 ∷ 5 ∷ 6 ∷ []) [] 7 (Begins Opening ∷ Offers 0 ∷ Offers 1 ∷ Skips ∷ Offers 5 ∷ Offers 6 ∷ [])
+gap_gives : (v : Vec Patch Global)
+    → Gives (gap v) Plain (codes "xa" ∷ codes "b" ∷ codes "c" ∷ codes "d" ∷ codes "e" ∷ codes "f" ∷ codes "gy" ∷ []) (0 ∷ 1 ∷ 5 ∷ 6 ∷ []) [] 7 (Begins Opening ∷ Offers 0 ∷ Offers 1 ∷ Skips ∷ Offers 5 ∷ Offers 6 ∷ [])
 unfolding shown_text trimmed_edit sandwich kept_before start_of line_of chars last_line_reached newline_count trim_start trim_end lib.Utf8.encode
 gap_gives v = record { kind_is = refl; lines_are = refl; offered_are = refl; removed_are = refl; counted_is = refl; rows_are = refl }
 
@@ -186,7 +190,8 @@ gap_gives v = record { kind_is = refl; lines_are = refl; offered_are = refl; rem
 abbrev third_line : Vec Patch Global → Snippet Patch
 third_line v = snippet v true (codes "a" ++ 10 ∷ codes "b" ++ 10 ∷ codes "c") (patch 4 5 (codes "x") ∷ []) (omega arith)
 
-third_line_gives : (v : Vec Patch Global) → Gives (third_line v) Diff (codes "x" ∷ []) (2 ∷ []) (2 ∷ []) 3 (Begins Opening ∷ Removes 2 3 (codes "c") ∷ Offers 0 ∷ [])
+third_line_gives : (v : Vec Patch Global)
+    → Gives (third_line v) Diff (codes "x" ∷ []) (2 ∷ []) (2 ∷ []) 3 (Begins Opening ∷ Removes 2 3 (codes "c") ∷ Offers 0 ∷ [])
 unfolding shown_text trimmed_edit sandwich kept_before start_of line_of chars last_line_reached newline_count trim_start trim_end lib.Utf8.encode
 third_line_gives v = record { kind_is = refl; lines_are = refl; offered_are = refl; removed_are = refl; counted_is = refl; rows_are = refl }
 
@@ -200,7 +205,8 @@ third_line_gives v = record { kind_is = refl; lines_are = refl; offered_are = re
 abbrev pub third_unfolded : Vec Patch Global → Snippet Patch
 third_unfolded v = snippet v false (codes "a" ++ 10 ∷ codes "b" ++ 10 ∷ codes "c") (patch 4 5 (codes "x") ∷ []) (omega arith)
 
-third_unfolded_gives : (v : Vec Patch Global) → Gives (third_unfolded v) Plain (codes "a" ∷ codes "b" ∷ codes "x" ∷ []) (0 ∷ 1 ∷ 2 ∷ []) [] 3 (Begins Opening ∷ Offers 0 ∷ Offers 1 ∷ Offers 2 ∷ [])
+third_unfolded_gives : (v : Vec Patch Global)
+    → Gives (third_unfolded v) Plain (codes "a" ∷ codes "b" ∷ codes "x" ∷ []) (0 ∷ 1 ∷ 2 ∷ []) [] 3 (Begins Opening ∷ Offers 0 ∷ Offers 1 ∷ Offers 2 ∷ [])
 unfolding shown_text trimmed_edit sandwich kept_before start_of line_of chars last_line_reached newline_count trim_start trim_end lib.Utf8.encode
 third_unfolded_gives v = record { kind_is = refl; lines_are = refl; offered_are = refl; removed_are = refl; counted_is = refl; rows_are = refl }
 

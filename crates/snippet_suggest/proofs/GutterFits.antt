@@ -1,5 +1,6 @@
 -- Why the gutter that has room for the number that a suggestion counts has room for the number of each line that it gives.
-use Rattle.std.proofs.Common.{◌≡◌, ℕ, ◌+◌, ◌<◌, ◌≤◌, ◌^◌, nat_le, ◌&&◌, Bool, true, false, if◌then◌else◌, List, [], ◌∷◌, All, length, map, refl, sym, ap, ◌∙◌, arith, subst}
+use Rattle.std.proofs.Common.{◌≡◌, ℕ, ◌+◌, ◌<◌, ◌≤◌, ◌^◌, nat_le, ◌&&◌, Bool, true, false, if◌then◌else◌, List, [], ◌∷◌, All, length, map, refl, sym, ap, ◌∙◌}
+use Rattle.std.proofs.Common.{arith, subst}
 use Rattle.std.specs.Cow.{cow_str_bytes}
 use Rattle.std.specs.List.{list_any}
 use Rattle.std.proofs.lemmas.Bool.{cond-true, cond_both}
@@ -53,14 +54,16 @@ lines_counted [] some = absurd (omega (arith, some))
 lines_counted (b ∷ bs) some = length-source_lines (b ∷ bs)
 
 -- the number of a line is at most the one that is counted, folded
-folded_fits : (kind : DisplaySuggestion) (first removed last k : ℕ) → (counted_folded kind 0 0 1 ≡ 0 → k ≡ 0) → first ≤ removed → first + k ≤ last → first + k ≤ counted_folded kind first removed last
+folded_fits : (kind : DisplaySuggestion) (first removed last k : ℕ) → (counted_folded kind 0 0 1 ≡ 0 → k ≡ 0) → first ≤ removed → first + k ≤ last
+    → first + k ≤ counted_folded kind first removed last
 folded_fits Underline first removed last k one before within = omega (arith, one refl)
 folded_fits Diff first removed last k one before within = omega (arith, one refl, before)
 folded_fits Plain first removed last k one before within = within
 folded_fits Add first removed last k one before within = within
 
 -- the number that is counted of a folded suggestion fits 64 bits where its lines do
-pub folded_small : (kind : DisplaySuggestion) (first removed last : ℕ) → first < 2 ^ 64 → removed < 2 ^ 64 → last < 2 ^ 64 → counted_folded kind first removed last < 2 ^ 64
+pub folded_small : (kind : DisplaySuggestion) (first removed last : ℕ) → first < 2 ^ 64 → removed < 2 ^ 64 → last < 2 ^ 64
+    → counted_folded kind first removed last < 2 ^ 64
 folded_small Underline first removed last a b c = a
 folded_small Diff first removed last a b c = b
 folded_small Plain first removed last a b c = c
@@ -74,7 +77,8 @@ first_before source (e ∷ es) spans =
     omega (arith, h.start, h.ordered)
 
 -- the number of each line that is given is at most the one that is counted, and that one fits
-counted_last : (s : Snippet Patch) → IsSuggestible s → (k : ℕ) → k < length (given_lines s) → (s.line_start + first_given s + k ≤ counted_line s) × (counted_line s < 2 ^ 64)
+counted_last : (s : Snippet Patch) → IsSuggestible s → (k : ℕ) → k < length (given_lines s)
+    → (s.line_start + first_given s + k ≤ counted_line s) × (counted_line s < 2 ^ 64)
 counted_last s can k within =
     let source : List ℕ = cow_str_bytes s.source in
     let ls = source_lines source in
@@ -97,12 +101,14 @@ counted_last s can k within =
     (λ _. (low, small))
 
 -- a number that is at most one for which there is room has room
-shown_fits : (numbers : LineNumbers) (gutter number counted : ℕ) → number_width numbers counted ≤ gutter → number ≤ counted → counted < 2 ^ 64 → length (shown_number numbers gutter number) ≤ gutter + 1
+shown_fits : (numbers : LineNumbers) (gutter number counted : ℕ) → number_width numbers counted ≤ gutter → number ≤ counted → counted < 2 ^ 64
+    → length (shown_number numbers gutter number) ≤ gutter + 1
 shown_fits numbers gutter number counted room low small =
     omega (arith, length-shown_number numbers gutter number (omega (arith, number_width_monotone numbers number counted low small, room)))
 
 -- what the gutter shows beside a line that is given stands left of the sign
-pub numbers_fit : (layout : SuggestionLayout) (s : Snippet Patch) → IsSuggestible s → HasGutter layout s → (k : ℕ) → k < length (given_lines s) → NumberFits layout (s.line_start + first_given s) (Line k)
+pub numbers_fit : (layout : SuggestionLayout) (s : Snippet Patch) → IsSuggestible s → HasGutter layout s → (k : ℕ) → k < length (given_lines s)
+    → NumberFits layout (s.line_start + first_given s) (Line k)
 numbers_fit layout s can room k within =
     let first : ℕ = s.line_start + first_given s in
     let counted = counted_last s can k within in

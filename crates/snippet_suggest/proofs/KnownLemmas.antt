@@ -53,7 +53,9 @@ known_apart p is =
     trimmed-apart source 0 (in_order (edits_of p.snippet.now)) (apart-in_order (edits_of p.snippet.now) (ordered-spans source p.snippet.now.markers.items is.suggestible.spans) is.suggestible.disjoint)
 
 -- the last of the lines that are removed is the last that its patches reach
-pub known_reached : (p : PreparedSuggestion) → IsPrepared p → (infos : List LineInfo) (start end : ℕ) → start ≤ end → end ≡ end_from 0 (map trimmed_edit_of p.splice.patches.items) → map entry_of infos ≡ touched_entries p.map start end → last_removed infos ≡ last_reached p.snippet.now
+pub known_reached : (p : PreparedSuggestion) → IsPrepared p → (infos : List LineInfo) (start end : ℕ) → start ≤ end
+    → end ≡ end_from 0 (map trimmed_edit_of p.splice.patches.items) → map entry_of infos ≡ touched_entries p.map start end
+    → last_removed infos ≡ last_reached p.snippet.now
 known_reached p is infos start end ordered ends are =
     let source : List ℕ = cow_str_bytes p.snippet.now.source in
     let es : List Edit = edits_of p.snippet.now in
@@ -80,7 +82,8 @@ known_first_end p is =
     first_end_of p.splice.patches.items (in_order (edits_of p.snippet.now)) is.originals
 
 -- the number of the first line of a prepared suggestion is that of the first that is given
-pub known_first : (p : PreparedSuggestion) → IsPrepared p → p.map.first + (if p.snippet.now.fold then line_of (source_lines p.map.text) (first_original p.splice.patches.items) else 0) ≡ p.snippet.now.line_start + first_given p.snippet.now
+pub known_first : (p : PreparedSuggestion) → IsPrepared p
+    → p.map.first + (if p.snippet.now.fold then line_of (source_lines p.map.text) (first_original p.splice.patches.items) else 0) ≡ p.snippet.now.line_start + first_given p.snippet.now
 known_first p is =
     let s = p.snippet.now in
     let trimmed = p.splice.patches.items in

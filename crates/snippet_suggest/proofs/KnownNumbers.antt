@@ -19,7 +19,8 @@ cond_same true = refl
 cond_same false = refl
 
 -- in a diff the one line that is given is shown where a patch touches it and it isn't left out
-pub diff_numbers : (folds : Bool) (ranges : List LineRange) (line last : List ℕ) (touched : Bool) → is_touched folds ranges 0 ≡ touched → numbers_of Diff folds ranges (line ∷ []) last ≡ (if touched then (if is_left_out Diff (line ∷ []) last then [] else 0 ∷ []) else [])
+pub diff_numbers : (folds : Bool) (ranges : List LineRange) (line last : List ℕ) (touched : Bool) → is_touched folds ranges 0 ≡ touched
+    → numbers_of Diff folds ranges (line ∷ []) last ≡ (if touched then (if is_left_out Diff (line ∷ []) last then [] else 0 ∷ []) else [])
 diff_numbers folds ranges line last true is =
     ap (λ t. if is_left_out Diff (line ∷ []) last then [] else numbers_shown (if t then shown_run 0 0 ++ (Line 0 ∷ []) else [])) is
 diff_numbers folds ranges line last false is =
@@ -30,12 +31,14 @@ pub none_numbers : (kind : DisplaySuggestion) (folds : Bool) (ranges : List Line
 none_numbers kind folds ranges last = cond_same (is_left_out kind [] last)
 
 -- no texts are made of no lines
-pub lines_none : {X : Type 0} (text_of : X → List ℕ) (lines : List X) (texts : List (List ℕ)) → slice_get lines 0 ≡ None → map text_of lines ≡ texts → texts ≡ []
+pub lines_none : {X : Type 0} (text_of : X → List ℕ) (lines : List X) (texts : List (List ℕ)) → slice_get lines 0 ≡ None → map text_of lines ≡ texts
+    → texts ≡ []
 lines_none text_of [] texts none are = sym are
 lines_none text_of (l ∷ ls) texts none are = absurd (cc)
 
 -- where one is given, it is the first
-pub lines_some : {X : Type 0} (text_of : X → List ℕ) (lines : List X) (texts : List (List ℕ)) (line : X) → slice_get lines 0 ≡ Some line → map text_of lines ≡ texts → (rest : List (List ℕ)) × (texts ≡ text_of line ∷ rest)
+pub lines_some : {X : Type 0} (text_of : X → List ℕ) (lines : List X) (texts : List (List ℕ)) (line : X) → slice_get lines 0 ≡ Some line
+    → map text_of lines ≡ texts → (rest : List (List ℕ)) × (texts ≡ text_of line ∷ rest)
 lines_some text_of [] texts line some are = absurd (cc)
 lines_some text_of (l ∷ ls) texts line some are =
     let same : l ≡ line = cc in
@@ -49,7 +52,8 @@ known_few p is diff =
     omega (arith, one_given (cow_str_bytes s.source) (trimmed_of s) (given_text s) (ap (λ k. counted_folded k 0 0 1) kind), length-map (lines_of (given_text s)) (λ l. l.0))
 
 -- a suggestion shown as a diff that gives a line gives that one alone
-pub known_one : {X : Type 0} (p : PreparedSuggestion) → IsPrepared p → p.kind ≡ Diff → (text_of : X → List ℕ) (lines : List X) (line : X) → slice_get lines 0 ≡ Some line → map text_of lines ≡ given_lines p.snippet.now → given_lines p.snippet.now ≡ text_of line ∷ []
+pub known_one : {X : Type 0} (p : PreparedSuggestion) → IsPrepared p → p.kind ≡ Diff → (text_of : X → List ℕ) (lines : List X) (line : X)
+    → slice_get lines 0 ≡ Some line → map text_of lines ≡ given_lines p.snippet.now → given_lines p.snippet.now ≡ text_of line ∷ []
 known_one p is diff text_of [] line some are = absurd (cc)
 known_one p is diff text_of (l ∷ []) line some are = let same : l ≡ line = cc in sym are ∙ ap (λ x. text_of x ∷ []) same
 known_one p is diff text_of (l ∷ m ∷ ls) line some are = absurd (omega (arith, ap length are, known_few p is diff))

@@ -14,7 +14,9 @@ use Rattle.snippet_splice.specs.Edits.{in_order, trimmed_edit_of}
 use Rattle.snippet_splice.specs.Shown.{first_start}
 use Rattle.snippet_suggest.specs.declared.prepared.PreparedSuggestion.{PreparedSuggestion}
 use Rattle.snippet_suggest.specs.declared.kind.DisplaySuggestion.TheVariants.{Diff}
-use Rattle.snippet_suggest.specs.Given.{edits_of, emptied_lines, first_end, first_original, first_original_end, first_given, given_lines, last_reached, last_removed, lines_touched, removed_lines, removed_of, replaced_lines, shown_kind, texts_at, texts_of_source, trimmed_of, unless_stays}
+use Rattle.snippet_suggest.specs.Given.{edits_of, emptied_lines, first_end, first_original, first_original_end, first_given, given_lines, last_reached}
+use Rattle.snippet_suggest.specs.Given.{last_removed, lines_touched, removed_lines, removed_of, replaced_lines, shown_kind, texts_at, texts_of_source}
+use Rattle.snippet_suggest.specs.Given.{trimmed_of, unless_stays}
 use Rattle.snippet_suggest.specs.Order.{Removes, SuggestionRow, counted_from, number_after, number_beside, numbered_at, removed_from, removed_row}
 use Rattle.snippet_suggest.specs.Prepared.{IsPrepared}
 use Rattle.snippet_suggest.specs.Shown.{is_touched}
@@ -22,13 +24,15 @@ use Rattle.snippet_suggest.proofs.KnownLemmas.{known_first_end, known_first_star
 use Rattle.snippet_suggest.proofs.ReachLemmas.{touched_numbered, touched_texts}
 
 -- the texts of the lines that a span touches are those of the source
-touched_source : (p : PreparedSuggestion) → IsPrepared p → (infos : List LineInfo) (start end : ℕ) → map entry_of infos ≡ touched_entries p.map start end → texts_at infos ≡ texts_of_source p.snippet.now (lines_touched (cow_str_bytes p.snippet.now.source) start end)
+touched_source : (p : PreparedSuggestion) → IsPrepared p → (infos : List LineInfo) (start end : ℕ) → map entry_of infos ≡ touched_entries p.map start end
+    → texts_at infos ≡ texts_of_source p.snippet.now (lines_touched (cow_str_bytes p.snippet.now.source) start end)
 touched_source p is infos start end are =
     let text : p.map.text ≡ cow_str_bytes p.snippet.now.source = ap (λ m. m.text) is.lines in
     touched_texts p.map infos start end are ∙ ap (λ (t : List ℕ). map (text_at (source_lines t)) (lines_touched t start end)) text
 
 -- those of the first patch's span, or of the whole source
-touched_either : (folds : Bool) (source : List ℕ) (start end size : ℕ) → lines_touched source (if folds then start else 0) (if folds then end else size) ≡ (if folds then lines_touched source start end else lines_touched source 0 size)
+touched_either : (folds : Bool) (source : List ℕ) (start end size : ℕ)
+    → lines_touched source (if folds then start else 0) (if folds then end else size) ≡ (if folds then lines_touched source start end else lines_touched source 0 size)
 touched_either true source start end size = refl
 touched_either false source start end size = refl
 
@@ -50,7 +54,8 @@ range_removed : (f : ℕ → ℕ × List ℕ) (a n : ℕ) → removed_from a (ma
 range_removed f a zero = refl
 range_removed f a (suc n) = ap (λ rows. Removes a (f a).0 (f a).1 ∷ rows) (range_removed f (a + 1) n)
 
-range_counted : (f : ℕ → List ℕ) (first a b j n : ℕ) → b ≡ a + j → counted_from first j (map f (range_with_len b n)) ≡ map {B = ℕ × List ℕ} (λ k. (number_after first (k - a), f k)) (range_with_len b n)
+range_counted : (f : ℕ → List ℕ) (first a b j n : ℕ) → b ≡ a + j
+    → counted_from first j (map f (range_with_len b n)) ≡ map {B = ℕ × List ℕ} (λ k. (number_after first (k - a), f k)) (range_with_len b n)
 range_counted f first a b j zero at = refl
 range_counted f first a b j (suc n) at =
     let here : j ≡ b - a = omega (arith, at) in
@@ -99,7 +104,8 @@ unless_range false a n = refl
 
 -- where one line is given and a patch touches it, those from the first trimmed patch's start to the last one's end are removed,
 -- without the last if that stays
-removes_replaced : (p : PreparedSuggestion) → IsPrepared p → (line : List ℕ) → p.kind ≡ Diff → given_lines p.snippet.now ≡ line ∷ [] → removed_lines p.snippet.now ≡ replaced_lines p.snippet.now
+removes_replaced : (p : PreparedSuggestion) → IsPrepared p → (line : List ℕ) → p.kind ≡ Diff → given_lines p.snippet.now ≡ line ∷ []
+    → removed_lines p.snippet.now ≡ replaced_lines p.snippet.now
 removes_replaced p is line diff one =
     let s = p.snippet.now in
     ap (λ (ls : List (List ℕ)). removed_of ls (shown_kind s) (emptied_lines s) (replaced_lines s)) one ∙ ap (λ k. removed_of (line ∷ []) k (emptied_lines s) (replaced_lines s)) (sym is.kind ∙ diff)

@@ -12,7 +12,8 @@ use Rattle.snippet_suggest.specs.Rows.{AddsEnd, AddsRow, AddsRows, AddsSuggestio
 use Rattle.snippet_suggest.proofs.BareLemmas.{stroke_none}
 
 -- what is added below so many empty rows
-pub end_row : (layout : SuggestionLayout) (glyph : List ℕ) (skipped : ℕ) (old new : List (List Cell)) → AddsEnd layout glyph skipped old new → AddsRow (IsStrokeRow layout.frame.decor layout.frame.gutter (beside_gutter layout.frame.gutter glyph)) (old ++ replicate skipped []) new
+pub end_row : (layout : SuggestionLayout) (glyph : List ℕ) (skipped : ℕ) (old new : List (List Cell)) → AddsEnd layout glyph skipped old new
+    → AddsRow (IsStrokeRow layout.frame.decor layout.frame.gutter (beside_gutter layout.frame.gutter glyph)) (old ++ replicate skipped []) new
 end_row layout glyph skipped old new adds =
     record {
       row = adds.last;
@@ -26,7 +27,8 @@ end_number skipped row old is =
     omega (arith, is, length-append old (replicate skipped []), length-replicate {A = List Cell} skipped [])
 
 -- below the row that a suggestion begins with one stays empty
-pub empty_below : (layout : SuggestionLayout) (first : ℕ) (lines : List (List ℕ)) (begin : SuggestionRow) (above new : List (List Cell)) → AddsRow (Shows layout first lines begin) above new → AddsRows layout first lines (begin ∷ Empty ∷ []) above (new ++ replicate 1 [])
+pub empty_below : (layout : SuggestionLayout) (first : ℕ) (lines : List (List ℕ)) (begin : SuggestionRow) (above new : List (List Cell))
+    → AddsRow (Shows layout first lines begin) above new → AddsRows layout first lines (begin ∷ Empty ∷ []) above (new ++ replicate 1 [])
 empty_below layout first lines begin above new adds =
     record {
       rows = adds.row ∷ [] ∷ [];

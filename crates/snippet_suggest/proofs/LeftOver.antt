@@ -30,7 +30,8 @@ abbrev pub StaysLeft : DecorStyle → ℕ → List ℕ → Type 0
 StaysLeft decor gutter cs = All (IsLeftOver decor) cs ⊎ (length cs ≤ gutter + 3)
 
 -- a number may be too long for the gutter, but not what stands in its place
-pub number_left : (decor : DecorStyle) (numbers : LineNumbers) (gutter number : ℕ) → number < 2 ^ 64 → StaysLeft decor gutter (shown_number numbers gutter number)
+pub number_left : (decor : DecorStyle) (numbers : LineNumbers) (gutter number : ℕ) → number < 2 ^ 64
+    → StaysLeft decor gutter (shown_number numbers gutter number)
 number_left decor Shown gutter number fits =
     let P : ℕ → Type 0 = IsLeftOver decor in
     let digit : (d : ℕ) → d < 10 → P (48 + d) = λ d small. inr (omega arith, omega arith) in
@@ -41,7 +42,8 @@ number_left decor Anonymized gutter number fits =
 number_left decor Hidden gutter number fits = inr (omega (arith, length-replicate {A = ℕ} gutter 32))
 
 -- the characters of a number are such as stand before a sign
-pub number_before : (decor : DecorStyle) (numbers : LineNumbers) (gutter number : ℕ) → number < 2 ^ 64 → All (IsBeforeSign numbers decor) (shown_number numbers gutter number)
+pub number_before : (decor : DecorStyle) (numbers : LineNumbers) (gutter number : ℕ) → number < 2 ^ 64
+    → All (IsBeforeSign numbers decor) (shown_number numbers gutter number)
 number_before decor Shown gutter number fits =
     let P : ℕ → Type 0 = IsBeforeSign Shown decor in
     let digit : (d : ℕ) → d < 10 → P (48 + d) = λ d small. inr (omega arith, omega arith) in

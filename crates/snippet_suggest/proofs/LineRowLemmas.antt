@@ -15,7 +15,8 @@ use Rattle.snippet_style.specs.Glyphs.{suggestion_glyph_of}
 use Rattle.snippet_suggest.specs.Glyphs.{is_sign}
 use Rattle.snippet_suggest.specs.Rows.{IsLineRow, IsSign}
 use Rattle.snippet_suggest.proofs.GlyphLemmas.{glyph_plain, glyph_short, glyph_unlisted, sign_first, sign_second}
-use Rattle.snippet_suggest.proofs.RowLemmas.{All-from_none, begins_texted, each_cell, free_drawn, free_led, free_texted, holds_texted, kept_after, led_ch, left_after, length-texted_ge, length-texted_le, take_texted, texted}
+use Rattle.snippet_suggest.proofs.RowLemmas.{All-from_none, begins_texted, each_cell, free_drawn, free_led, free_texted, holds_texted, kept_after, led_ch}
+use Rattle.snippet_suggest.proofs.RowLemmas.{left_after, length-texted_ge, length-texted_le, take_texted, texted}
 
 -- a row that a glyph begins, with spaces before it
 abbrev pub sign_row : ℕ → ElementStyle → List ℕ → List Cell
@@ -40,19 +41,22 @@ line_row_between gutter c sign_role number_role line_role sign number text after
     kept_after text (texted number led 0 cells) (gutter + 3) c (text_cells line_role (chars text)) left ∙ left_after number led 0 c cells (omega (arith, length-text_cells number_role (chars number), after))
 
 -- a glyph's row holds no letter or digit
-sign_row_plain : (gutter : ℕ) (role : ElementStyle) (sign : List ℕ) → list_any is_ascii_alphanumeric sign ≡ false → (c : ℕ) → is_ascii_alphanumeric (slice_index_or (sign_row gutter role sign) c SPACE).ch ≡ false
+sign_row_plain : (gutter : ℕ) (role : ElementStyle) (sign : List ℕ) → list_any is_ascii_alphanumeric sign ≡ false → (c : ℕ)
+    → is_ascii_alphanumeric (slice_index_or (sign_row gutter role sign) c SPACE).ch ≡ false
 sign_row_plain gutter role sign plain c =
     let P : Cell → Type 0 = λ cell. is_ascii_alphanumeric cell.ch ≡ false in
     each_cell P (sign_row gutter role sign) refl (All-append P (replicate (gutter + 1) SPACE) (text_cells role sign) (All-replicate P (gutter + 1) SPACE refl) (All-text_cells P role sign (All-from_none is_ascii_alphanumeric sign plain))) c
 
 -- and shows the glyph after the gutter, with a space if it has one character
-sign_row_sign : (gutter : ℕ) (role : ElementStyle) (decor : DecorStyle) (glyph : SuggestionGlyph) → is_sign glyph ≡ true → IsSign decor (slice_index_or (sign_row gutter role (suggestion_glyph_of decor glyph)) (gutter + 1) SPACE).ch
+sign_row_sign : (gutter : ℕ) (role : ElementStyle) (decor : DecorStyle) (glyph : SuggestionGlyph) → is_sign glyph ≡ true
+    → IsSign decor (slice_index_or (sign_row gutter role (suggestion_glyph_of decor glyph)) (gutter + 1) SPACE).ch
 sign_row_sign gutter role decor glyph is =
     let here : gutter + 1 + 0 ≡ gutter + 1 = omega arith in
     let shows = led_ch (gutter + 1) 0 role (suggestion_glyph_of decor glyph) in
     subst (λ (c : ℕ). IsSign decor (slice_index_or (sign_row gutter role (suggestion_glyph_of decor glyph)) c SPACE).ch) here (subst (λ (ch : ℕ). IsSign decor ch) (sym shows) (sign_first decor glyph is))
 
-sign_row_space : (gutter : ℕ) (role : ElementStyle) (decor : DecorStyle) (glyph : SuggestionGlyph) → is_sign glyph ≡ true → (slice_index_or (sign_row gutter role (suggestion_glyph_of decor glyph)) (gutter + 2) SPACE).ch ≡ 32
+sign_row_space : (gutter : ℕ) (role : ElementStyle) (decor : DecorStyle) (glyph : SuggestionGlyph) → is_sign glyph ≡ true
+    → (slice_index_or (sign_row gutter role (suggestion_glyph_of decor glyph)) (gutter + 2) SPACE).ch ≡ 32
 sign_row_space gutter role decor glyph is =
     let here : gutter + 1 + 1 ≡ gutter + 2 = omega arith in
     sym (ap (λ c. (slice_index_or (sign_row gutter role (suggestion_glyph_of decor glyph)) c SPACE).ch) here) ∙ led_ch (gutter + 1) 1 role (suggestion_glyph_of decor glyph) ∙ sign_second decor glyph is

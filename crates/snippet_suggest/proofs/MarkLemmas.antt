@@ -33,7 +33,8 @@ mark_unlisted decor ch is =
     changed_unlisted Unicode = refl
 
 -- what stands in a row after a mark was put into it
-mark_there : (decor : DecorStyle) (role : ElementStyle) (ch at c : ℕ) (row : List Cell) → IsMarkOrSpace decor ch → IsMarkOrSpace decor (slice_index_or row c SPACE).ch → IsMarkOrSpace decor (slice_index_or (written SPACE row at (text_cells role (ch ∷ []))) c SPACE).ch
+mark_there : (decor : DecorStyle) (role : ElementStyle) (ch at c : ℕ) (row : List Cell) → IsMarkOrSpace decor ch
+    → IsMarkOrSpace decor (slice_index_or row c SPACE).ch → IsMarkOrSpace decor (slice_index_or (written SPACE row at (text_cells role (ch ∷ []))) c SPACE).ch
 mark_there decor role ch at c row is before =
     let cells = text_cells role (ch ∷ []) in
     let Shows = λ (cell : Cell). IsMarkOrSpace decor cell.ch in
@@ -48,7 +49,8 @@ mark_there decor role ch at c row is before =
     ]
 
 -- a mark that is put where lines stand
-bare_marked : (decor : DecorStyle) (gutter at : ℕ) (role : ElementStyle) (ch : ℕ) (row : List Cell) → gutter + 3 ≤ at → IsMarkOrSpace decor ch → IsBareRow decor gutter row → IsBareRow decor gutter (written SPACE row at (text_cells role (ch ∷ [])))
+bare_marked : (decor : DecorStyle) (gutter at : ℕ) (role : ElementStyle) (ch : ℕ) (row : List Cell) → gutter + 3 ≤ at → IsMarkOrSpace decor ch
+    → IsBareRow decor gutter row → IsBareRow decor gutter (written SPACE row at (text_cells role (ch ∷ [])))
 bare_marked decor gutter at role ch row right is bare =
     let cells = text_cells role (ch ∷ []) in
     let P : Cell → Type 0 = IsFreeCell in
@@ -60,7 +62,8 @@ bare_marked decor gutter at role ch row right is bare =
     }
 
 -- what stands left of the lines stays
-stroke_marked : (decor : DecorStyle) (gutter at : ℕ) (role : ElementStyle) (ch : ℕ) (left : List ℕ) (row : List Cell) → gutter + 3 ≤ at → IsMarkOrSpace decor ch → IsStrokeRow decor gutter left row → IsStrokeRow decor gutter left (written SPACE row at (text_cells role (ch ∷ [])))
+stroke_marked : (decor : DecorStyle) (gutter at : ℕ) (role : ElementStyle) (ch : ℕ) (left : List ℕ) (row : List Cell) → gutter + 3 ≤ at → IsMarkOrSpace decor ch
+    → IsStrokeRow decor gutter left row → IsStrokeRow decor gutter left (written SPACE row at (text_cells role (ch ∷ [])))
 stroke_marked decor gutter at role ch left row right is stroke =
     record {
       bare = bare_marked decor gutter at role ch row right is stroke.bare;

@@ -1,5 +1,6 @@
 -- Marks as values: what the patches before one move, and the cells that the marks take.
-use Rattle.std.proofs.Common.{◌≡◌, ℕ, suc, ◌+◌, ◌-◌, ◌^◌, ◌<◌, ◌≤◌, leb, All, List, [], ◌∷◌, ◌++◌, length, max, min, replicate, take, get_or, refl, sym, ap, ◌∙◌, arith, inl, inr, sum_by}
+use Rattle.std.proofs.Common.{◌≡◌, ℕ, suc, ◌+◌, ◌-◌, ◌^◌, ◌<◌, ◌≤◌, leb, All, List, [], ◌∷◌, ◌++◌, length, max, min, replicate, take, get_or, refl, sym, ap}
+use Rattle.std.proofs.Common.{◌∙◌, arith, inl, inr, sum_by}
 use Rattle.std.proofs.lemmas.Bool.{cases_Bool}
 use Rattle.std.proofs.lemmas.Bool.Decides.{nat_tests}
 use Rattle.std.proofs.lemmas.List.Elements.{All-push}
@@ -37,14 +38,16 @@ left_more cs c =
     let all : sum_by f (cs ++ c ∷ []) ≡ sum_by f cs + (0 + c.end) = sum_by-append f cs (c ∷ []) in
     omega (arith, all)
 
-pub shift_more : (cs : List PatchColumns) (c : PatchColumns) (s : Shift) (right left : ℕ) → s ≡ shift_of cs → right ≡ capped (capped (s.right + c.width) + c.start) → left ≡ capped (s.left + c.end) → record { right = right; left = left } ≡ shift_of (cs ++ c ∷ [])
+pub shift_more : (cs : List PatchColumns) (c : PatchColumns) (s : Shift) (right left : ℕ) → s ≡ shift_of cs
+    → right ≡ capped (capped (s.right + c.width) + c.start) → left ≡ capped (s.left + c.end) → record { right = right; left = left } ≡ shift_of (cs ++ c ∷ [])
 shift_more cs c s right left is rights lefts =
     let r : right ≡ to_right (cs ++ c ∷ []) = rights ∙ ap (λ (t : Shift). capped (capped (t.right + c.width) + c.start)) is ∙ sym (right_more cs c) in
     let l : left ≡ to_left (cs ++ c ∷ []) = lefts ∙ ap (λ (t : Shift). capped (t.left + c.end)) is ∙ sym (left_more cs c) in
     let of : ℕ → ℕ → Shift = λ m n. record { right = m; left = n } in
     ap (λ n. of n left) r ∙ ap (of (to_right (cs ++ c ∷ []))) l
 
-pub moves_more : (cs : List PatchColumns) (c : PatchColumns) (old new : Moves) → AreMoves cs old → new.patches.items ≡ old.patches.items ++ c ∷ [] → (old.all ≡ shift_of cs → new.all ≡ shift_of (cs ++ c ∷ [])) → new.end ≡ max old.end c.end → AreMoves (cs ++ c ∷ []) new
+pub moves_more : (cs : List PatchColumns) (c : PatchColumns) (old new : Moves) → AreMoves cs old → new.patches.items ≡ old.patches.items ++ c ∷ []
+    → (old.all ≡ shift_of cs → new.all ≡ shift_of (cs ++ c ∷ [])) → new.end ≡ max old.end c.end → AreMoves (cs ++ c ∷ []) new
 moves_more cs c old new are pushed shifts ends =
     let P : PatchColumns → Type 0 = λ d. d.end ≤ new.end in
     record {
@@ -73,12 +76,14 @@ left_no start (d ∷ cs) c high =
     ]
 
 -- one more text that ends at the start or left of it is one more of those left of it
-pub left_next : (start : ℕ) (cs : List PatchColumns) (i : ℕ) (d : PatchColumns) → i < length cs → (get_or cs i d).end ≤ start → left_of start (take (i + 1) cs) ≡ left_of start (take i cs) ++ get_or cs i d ∷ []
+pub left_next : (start : ℕ) (cs : List PatchColumns) (i : ℕ) (d : PatchColumns) → i < length cs → (get_or cs i d).end ≤ start
+    → left_of start (take (i + 1) cs) ≡ left_of start (take i cs) ++ get_or cs i d ∷ []
 left_next start cs i d within low =
     ap (left_of start) (take_more cs i d within) ∙ left_yes start (take i cs) (get_or cs i d) low
 
 -- a text that ends right of the start adds none to those left of it
-pub left_passed : (start : ℕ) (cs : List PatchColumns) (i : ℕ) (d : PatchColumns) → i < length cs → start < (get_or cs i d).end → left_of start (take (i + 1) cs) ≡ left_of start (take i cs)
+pub left_passed : (start : ℕ) (cs : List PatchColumns) (i : ℕ) (d : PatchColumns) → i < length cs → start < (get_or cs i d).end
+    → left_of start (take (i + 1) cs) ≡ left_of start (take i cs)
 left_passed start cs i d within high =
     ap (left_of start) (take_more cs i d within) ∙ left_no start (take i cs) (get_or cs i d) high
 
@@ -92,11 +97,13 @@ left_all start (c ∷ cs) all =
 
 -- ---- cells
 
-written_twice : (row : List Cell) (at : ℕ) (xs : List Cell) (y : Cell) → written SPACE (written SPACE row at xs) (at + length xs) (y ∷ []) ≡ written SPACE row at (xs ++ y ∷ [])
+written_twice : (row : List Cell) (at : ℕ) (xs : List Cell) (y : Cell)
+    → written SPACE (written SPACE row at xs) (at + length xs) (y ∷ []) ≡ written SPACE row at (xs ++ y ∷ [])
 written_twice row at xs y =
     same_lists _ _ (unfold written in grind (arith, places)) (λ k d h. unfold written in grind (arith, places))
 
-put_push : (role : ElementStyle) (cs : List ℕ) (c at : ℕ) (row : List Cell) → written SPACE (put role cs at row) (at + length cs) (text_cells role (c ∷ [])) ≡ put role (cs ++ c ∷ []) at row
+put_push : (role : ElementStyle) (cs : List ℕ) (c at : ℕ) (row : List Cell)
+    → written SPACE (put role cs at row) (at + length cs) (text_cells role (c ∷ [])) ≡ put role (cs ++ c ∷ []) at row
 unfolding put
 put_push role [] c at row =
     let here : at + 0 ≡ at = omega arith in
@@ -111,7 +118,8 @@ replicate_push : (n c : ℕ) → replicate n c ++ c ∷ [] ≡ replicate (n + 1)
 replicate_push n c = same_lists _ _ (grind (arith, places)) (λ k d h. grind (arith, places))
 
 -- so many marks are there
-pub marks_begun : (mark at n : ℕ) (above : List (List Cell)) (last : List Cell) (now : List (List Cell)) → n ≡ 0 → now ≡ above ++ last ∷ [] → now ≡ above ++ put Addition (replicate n mark) at last ∷ []
+pub marks_begun : (mark at n : ℕ) (above : List (List Cell)) (last : List Cell) (now : List (List Cell)) → n ≡ 0 → now ≡ above ++ last ∷ []
+    → now ≡ above ++ put Addition (replicate n mark) at last ∷ []
 marks_begun mark at n above last now none is =
     is ∙ ap (λ (row : List Cell). above ++ row ∷ []) (sym (ap (λ k. put Addition (replicate k mark) at last) none ∙ put_none Addition at last))
 
@@ -175,6 +183,7 @@ marked_next layout s earlier later e left es all above now new mark start end so
     }
 
 -- once no edit is left the row has all marks
-pub marked_done : (layout : SuggestionLayout) (s : Source) (earlier : List PatchColumns) (left : List Edit) (all : List Cell) (above now : List (List Cell)) → left ≡ [] → Marked layout s earlier left all above now → now ≡ above ++ all ∷ []
+pub marked_done : (layout : SuggestionLayout) (s : Source) (earlier : List PatchColumns) (left : List Edit) (all : List Cell) (above now : List (List Cell))
+    → left ≡ [] → Marked layout s earlier left all above now → now ≡ above ++ all ∷ []
 marked_done layout s earlier left all above now none drawn =
     drawn.is ∙ ap (λ (row : List Cell). above ++ row ∷ []) (sym (marks-nil layout s earlier drawn.row) ∙ ap (λ ds. with_marks layout s earlier ds drawn.row) (sym none) ∙ drawn.whole)

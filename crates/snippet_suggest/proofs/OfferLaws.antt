@@ -15,7 +15,8 @@ use Rattle.snippet_splice.proofs.OverlapLemmas.{apart-in_order, ordered-spans}
 use Rattle.snippet_splice.proofs.ShownLemmas.{some-edits}
 use Rattle.snippet_splice.proofs.SpliceLemmas.{IsShownPart, shown-part}
 use Rattle.snippet_splice.proofs.LineLemmas.{AreFrom-at, shown-lines}
-use Rattle.snippet_suggest.specs.Given.{IsOfferable, edits_of, first_given, given_lines, given_ranges, is_left_out, last_reached, numbers_given, offered_lines, shown_kind}
+use Rattle.snippet_suggest.specs.Given.{IsOfferable, edits_of, first_given, given_lines, given_ranges, is_left_out, last_reached, numbers_given, offered_lines}
+use Rattle.snippet_suggest.specs.Given.{shown_kind}
 use Rattle.snippet_suggest.specs.Shown.{AreRising, is_touched, numbers_shown, shown_lines}
 use Rattle.snippet_suggest.proofs.AscendLemmas.{rising-moved}
 use Rattle.snippet_suggest.proofs.RisingLemmas.{rising_shown}
@@ -30,12 +31,14 @@ edits-apart s spans disjoint =
     apart-in_order (edits_of s) (ordered-spans (cow_str_bytes s.source) s.markers.items spans) disjoint
 
 -- the part of the patched source that is given
-pub given-part : (s : Snippet Patch) → HaveSpans s → AreDisjoint (edits_of s) → s.markers.items ≢ [] → IsOfferable s → IsShownPart s.fold (cow_str_bytes s.source) (edits_of s)
+pub given-part : (s : Snippet Patch) → HaveSpans s → AreDisjoint (edits_of s) → s.markers.items ≢ [] → IsOfferable s
+    → IsShownPart s.fold (cow_str_bytes s.source) (edits_of s)
 given-part s spans disjoint some offerable =
     shown-part s.fold (cow_str_bytes s.source) (edits_of s) offerable.no_cr offerable.before (edits-apart s spans disjoint) (some-edits (cow_str_bytes s.source) s.markers.items some)
 
 -- the lines that are given are lines of the patched source, one after the other
-pub given-from : (s : Snippet Patch) → HaveSpans s → AreDisjoint (edits_of s) → s.markers.items ≢ [] → IsOfferable s → AreFrom (first_given s) (given_lines s) (texts_of (source_lines (patched (cow_str_bytes s.source) (edits_of s))))
+pub given-from : (s : Snippet Patch) → HaveSpans s → AreDisjoint (edits_of s) → s.markers.items ≢ [] → IsOfferable s
+    → AreFrom (first_given s) (given_lines s) (texts_of (source_lines (patched (cow_str_bytes s.source) (edits_of s))))
 given-from s spans disjoint some offerable =
     let source : List ℕ = cow_str_bytes s.source in
     let part : IsShownPart s.fold source (edits_of s) = given-part s spans disjoint some offerable in

@@ -12,8 +12,10 @@ use Rattle.snippet_suggest.specs.declared.kind.DisplaySuggestion.TheVariants.{Ad
 use Rattle.snippet_suggest.specs.declared.layout.SuggestionStart.{SuggestionStart}
 use Rattle.snippet_suggest.specs.declared.shown.SuggestionLine.{SuggestionLine}
 use Rattle.snippet_suggest.specs.declared.shown.SuggestionLine.TheVariants.{Gap, Line}
-use Rattle.snippet_suggest.specs.Given.{counted_folded, emptied_lines, given_lines, given_ranges, given_text, is_left_out, last_reached, numbers_given, numbers_of, removed_lines, removed_of, replaced_lines, shown_kind, trimmed_of}
-use Rattle.snippet_suggest.specs.Order.{Begins, Empty, Ends, Offers, Removes, Skips, SuggestionRow, changed_rows, is_diff, line_taken, lines_taken, number_offered, numbers_offered, removed_number, removed_row, row_of_shown, rows_of_suggestion, rows_where}
+use Rattle.snippet_suggest.specs.Given.{counted_folded, emptied_lines, given_lines, given_ranges, given_text, is_left_out, last_reached, numbers_given}
+use Rattle.snippet_suggest.specs.Given.{numbers_of, removed_lines, removed_of, replaced_lines, shown_kind, trimmed_of}
+use Rattle.snippet_suggest.specs.Order.{Begins, Empty, Ends, Offers, Removes, Skips, SuggestionRow, changed_rows, is_diff, line_taken, lines_taken}
+use Rattle.snippet_suggest.specs.Order.{number_offered, numbers_offered, removed_number, removed_row, row_of_shown, rows_of_suggestion, rows_where}
 use Rattle.snippet_suggest.specs.Shown.{is_touched, numbers_shown, shown_lines}
 use Rattle.snippet_suggest.proofs.GutterFits.{one_given}
 use Rattle.snippet_suggest.proofs.KnownNumbers.{diff_numbers, none_numbers}
@@ -40,7 +42,8 @@ module _ (start : SuggestionStart) (s : Snippet Patch) where
   abbrev offered : List SuggestionRow
   offered = map row_of_shown (shown_lines (is_touched s.fold (given_ranges s)) (length (given_lines s)))
 
-  by_case : (lines : List (List ℕ)) (diff : Bool) → given_lines s ≡ lines → is_diff (shown_kind s) ≡ diff → rows_of_suggestion start s ≡ rows_where lines diff (Begins start) taken (changed_rows touched_first left_out taken) offered
+  by_case : (lines : List (List ℕ)) (diff : Bool) → given_lines s ≡ lines → is_diff (shown_kind s) ≡ diff
+      → rows_of_suggestion start s ≡ rows_where lines diff (Begins start) taken (changed_rows touched_first left_out taken) offered
   by_case lines diff lines_are kind_is =
       let changed : List SuggestionRow = changed_rows touched_first left_out taken in
       ap (λ ls. rows_where ls (is_diff (shown_kind s)) (Begins start) taken changed offered) lines_are ∙ ap (λ d. rows_where lines d (Begins start) taken changed offered) kind_is
@@ -62,7 +65,8 @@ module _ (start : SuggestionStart) (s : Snippet Patch) where
       by_case (line ∷ lines) true some (ap is_diff diff) ∙ ap (λ t. Begins start ∷ changed_rows t left_out taken) touches ∙ ap (λ l. Begins start ∷ changed_rows touched l taken) left_is
 
   -- in another kind
-  pub rows_others : (line : List ℕ) (lines : List (List ℕ)) → given_lines s ≡ line ∷ lines → shown_kind s ≢ Diff → rows_of_suggestion start s ≡ Begins start ∷ map row_of_shown (shown_lines (is_touched s.fold (given_ranges s)) (length (given_lines s)))
+  pub rows_others : (line : List ℕ) (lines : List (List ℕ)) → given_lines s ≡ line ∷ lines → shown_kind s ≢ Diff
+      → rows_of_suggestion start s ≡ Begins start ∷ map row_of_shown (shown_lines (is_touched s.fold (given_ranges s)) (length (given_lines s)))
   rows_others line lines some other = by_case (line ∷ lines) false some (not_diff (shown_kind s) other)
 
 -- ---- laws
@@ -86,12 +90,14 @@ removed_take s [] = refl
 removed_take s (i ∷ is) = ap (λ ks. i ∷ ks) (removed_take s is)
 
 -- the rows of a diff
-changed_offer : (touched left : Bool) (removed : List SuggestionRow) → numbers_offered removed ≡ [] → numbers_offered (changed_rows touched left removed) ≡ (if touched then (if left then [] else 0 ∷ []) else [])
+changed_offer : (touched left : Bool) (removed : List SuggestionRow) → numbers_offered removed ≡ []
+    → numbers_offered (changed_rows touched left removed) ≡ (if touched then (if left then [] else 0 ∷ []) else [])
 changed_offer true true removed none = filter_map-append number_offered removed [] ∙ ap (λ ks. ks ++ []) none
 changed_offer true false removed none = filter_map-append number_offered removed (Offers 0 ∷ []) ∙ ap (λ ks. ks ++ 0 ∷ []) none
 changed_offer false left removed none = refl
 
-changed_take : (touched left : Bool) (removed : List SuggestionRow) (ks : List ℕ) → lines_taken removed ≡ ks → (touched ≡ false → ks ≡ []) → lines_taken (changed_rows touched left removed) ≡ ks
+changed_take : (touched left : Bool) (removed : List SuggestionRow) (ks : List ℕ) → lines_taken removed ≡ ks → (touched ≡ false → ks ≡ [])
+    → lines_taken (changed_rows touched left removed) ≡ ks
 changed_take true true removed ks taken untouched = filter_map-append line_taken removed [] ∙ append-nil (lines_taken removed) ∙ taken
 changed_take true false removed ks taken untouched = filter_map-append line_taken removed (Offers 0 ∷ []) ∙ append-nil (lines_taken removed) ∙ taken
 changed_take false left removed ks taken untouched = sym (untouched refl)
@@ -172,13 +178,15 @@ own_rows : (s : Snippet Patch) (is : List ℕ) → All (IsRowOf s) (map (removed
 own_rows s [] = All-nil (IsRowOf s)
 own_rows s (i ∷ is) = All-cons (IsRowOf s) (removed_row s i) (map (removed_row s) is) (refl, refl) (own_rows s is)
 
-changed_own : (s : Snippet Patch) (touched left : Bool) (removed : List SuggestionRow) → All (IsRowOf s) removed → All (IsRowOf s) (changed_rows touched left removed)
+changed_own : (s : Snippet Patch) (touched left : Bool) (removed : List SuggestionRow) → All (IsRowOf s) removed
+    → All (IsRowOf s) (changed_rows touched left removed)
 changed_own s true true removed own = All-append (IsRowOf s) removed [] own (All-nil (IsRowOf s))
 changed_own s true false removed own =
     All-append (IsRowOf s) removed (Offers 0 ∷ []) own (All-cons (IsRowOf s) (Offers 0) [] tt (All-nil (IsRowOf s)))
 changed_own s false left removed own = All-cons (IsRowOf s) Empty [] tt (All-nil (IsRowOf s))
 
-own_where : (s : Snippet Patch) (lines : List (List ℕ)) (diff : Bool) (start : SuggestionStart) (removed changed shown : List SuggestionRow) → All (IsRowOf s) removed → All (IsRowOf s) changed → All (IsRowOf s) shown → All (IsRowOf s) (rows_where lines diff (Begins start) removed changed shown)
+own_where : (s : Snippet Patch) (lines : List (List ℕ)) (diff : Bool) (start : SuggestionStart) (removed changed shown : List SuggestionRow)
+    → All (IsRowOf s) removed → All (IsRowOf s) changed → All (IsRowOf s) shown → All (IsRowOf s) (rows_where lines diff (Begins start) removed changed shown)
 own_where s [] true start removed changed shown r c o = All-cons (IsRowOf s) (Begins start) removed tt r
 own_where s [] false start removed changed shown r c o = r
 own_where s (line ∷ lines) true start removed changed shown r c o = All-cons (IsRowOf s) (Begins start) changed tt c

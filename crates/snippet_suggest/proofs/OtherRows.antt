@@ -22,7 +22,8 @@ pub record AddsOthers (layout : SuggestionLayout) (first : ℕ) (lines : List (L
   pub shown_are : shown ≡ front ++ end ∷ []
 
 -- the row that begins a suggestion is the first of its other rows
-pub others_begun : (layout : SuggestionLayout) (first : ℕ) (lines : List (List ℕ)) (begin : SuggestionRow) (above new : List (List Cell)) (row : List Cell) → new ≡ above ++ row ∷ [] → Shows layout first lines begin row → AddsOthers layout first lines (begin ∷ []) above new
+pub others_begun : (layout : SuggestionLayout) (first : ℕ) (lines : List (List ℕ)) (begin : SuggestionRow) (above new : List (List Cell)) (row : List Cell)
+    → new ≡ above ++ row ∷ [] → Shows layout first lines begin row → AddsOthers layout first lines (begin ∷ []) above new
 others_begun layout first lines begin above new row added is =
     record {
       before = [];
@@ -77,7 +78,8 @@ pub others_removed : (layout : SuggestionLayout) (first : ℕ) (lines : List (Li
     → AddsRemoved layout removed mid new → AddsOthers layout first lines (shown ++ removed_from i removed) above new
 others_removed layout first lines shown i removed above mid new adds more = go shown i removed more.rows mid adds more.added more.are
   where
-    go : (done : List SuggestionRow) (at : ℕ) (ls : List (ℕ × List ℕ)) (rows now : List (List Cell)) → AddsOthers layout first lines done above now → new ≡ now ++ rows → AllZip (IsRowOfRemoved layout) ls rows → AddsOthers layout first lines (done ++ removed_from at ls) above new
+    go : (done : List SuggestionRow) (at : ℕ) (ls : List (ℕ × List ℕ)) (rows now : List (List Cell)) → AddsOthers layout first lines done above now
+        → new ≡ now ++ rows → AllZip (IsRowOfRemoved layout) ls rows → AddsOthers layout first lines (done ++ removed_from at ls) above new
     go done at [] [] now adds added are =
         subst (λ rs. AddsOthers layout first lines rs above new) (sym (append-nil done)) (subst (AddsOthers layout first lines done above) (sym (added ∙ append-nil now)) adds)
     go done at [] (row ∷ rows) now adds added are = elim are [ ]
@@ -88,7 +90,8 @@ others_removed layout first lines shown i removed above mid new adds more = go s
         subst (λ rs. AddsOthers layout first lines rs above new) (append_assoc done (end ∷ []) (removed_from (at + 1) ls)) (go (done ++ end ∷ []) (at + 1) ls rows (now ++ row ∷ []) next (added ∙ sym (append_assoc now (row ∷ []) rows)) are.1)
 
 -- so they are added
-pub rows_of_others : (layout : SuggestionLayout) (first : ℕ) (lines : List (List ℕ)) (shown : List SuggestionRow) (above new : List (List Cell)) → AddsOthers layout first lines shown above new → AddsRows layout first lines shown above new
+pub rows_of_others : (layout : SuggestionLayout) (first : ℕ) (lines : List (List ℕ)) (shown : List SuggestionRow) (above new : List (List Cell))
+    → AddsOthers layout first lines shown above new → AddsRows layout first lines shown above new
 rows_of_others layout first lines shown above new adds =
     let rows : List (List Cell) = adds.before ++ adds.last.row ∷ [] in
     record {
@@ -98,7 +101,8 @@ rows_of_others layout first lines shown above new adds =
     }
 
 -- the texts of the lines that are left, if the last of them may stay
-pub left_texts : (infos left : List LineInfo) (count : ℕ) (stays : Bool) → left ≡ take count infos → count ≡ length infos - bool_byte stays → texts_at left ≡ unless_stays stays (texts_at infos)
+pub left_texts : (infos left : List LineInfo) (count : ℕ) (stays : Bool) → left ≡ take count infos → count ≡ length infos - bool_byte stays
+    → texts_at left ≡ unless_stays stays (texts_at infos)
 left_texts infos left count true is counts =
     let text : LineInfo → List ℕ = λ info. info.line.now in
     let short : count ≡ length (texts_at infos) - 1 = omega (arith, counts, length-map infos text) in

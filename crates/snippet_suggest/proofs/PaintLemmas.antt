@@ -1,5 +1,6 @@
 -- Rows whose cells get other roles.
-use Rattle.std.proofs.Common.{◌≡◌, ℕ, ◌+◌, ◌-◌, ◌<◌, max, true, false, Option, None, List, [], ◌∷◌, ◌++◌, length, take, drop, map, set, get_or, refl, sym, ap, ◌∙◌, arith, subst}
+use Rattle.std.proofs.Common.{◌≡◌, ℕ, ◌+◌, ◌-◌, ◌<◌, max, true, false, Option, None, List, [], ◌∷◌, ◌++◌, length, take, drop, map, set, get_or, refl, sym, ap}
+use Rattle.std.proofs.Common.{◌∙◌, arith, subst}
 use Rattle.std.specs.Char.{is_ascii_alphanumeric}
 use Rattle.std.specs.List.{slice_index_or}
 use Rattle.std.proofs.lemmas.List.{places, same_lists, map-append, get_or_at, get_or-map, drop-map, take-map, length-append, length-map}
@@ -24,7 +25,8 @@ parts_whole : (xs : List Cell) (start end : ℕ) → take start xs ++ take (end 
 parts_whole xs start end = same_lists _ _ (grind (arith, places)) (λ k d h. grind (arith, places))
 
 -- restyled cells are the same but for their role
-pub changed_same : (role : ElementStyle) (xs : List Cell) (start end : ℕ) → map without_role (changed_within (restyled role true) start end xs) ≡ map without_role xs
+pub changed_same : (role : ElementStyle) (xs : List Cell) (start end : ℕ)
+    → map without_role (changed_within (restyled role true) start end xs) ≡ map without_role xs
 unfolding changed_within
 changed_same role xs start end =
     let a = take start xs in
@@ -38,7 +40,8 @@ set_last [] row new = refl
 set_last (x ∷ above) row new = ap (λ t. x ∷ t) (set_last above row new)
 
 -- the last row of some
-pub changed_last : (f : List Cell → List Cell) (above : List (List Cell)) (row : List Cell) → changed_within f (length above) (length above + 1) (above ++ row ∷ []) ≡ above ++ f row ∷ []
+pub changed_last : (f : List Cell → List Cell) (above : List (List Cell)) (row : List Cell)
+    → changed_within f (length above) (length above + 1) (above ++ row ∷ []) ≡ above ++ f row ∷ []
 changed_last f above row =
     let rows = above ++ row ∷ [] in
     let r = length above in
@@ -55,7 +58,8 @@ repaint_none above last new is =
     }
 
 -- a row that is repainted once more is repainted
-pub repaint_more : (above : List (List Cell)) (last : List Cell) (mid new : List (List Cell)) (row start end : ℕ) (role : ElementStyle) → row ≡ length above → IsRepainted above last mid → new ≡ cells_restyled mid row start end role true → IsRepainted above last new
+pub repaint_more : (above : List (List Cell)) (last : List Cell) (mid new : List (List Cell)) (row start end : ℕ) (role : ElementStyle) → row ≡ length above
+    → IsRepainted above last mid → new ≡ cells_restyled mid row start end role true → IsRepainted above last new
 repaint_more above last mid new row start end role here painted paints =
     let f : List Cell → List Cell = changed_within (restyled role true) start end in
     record {
@@ -92,7 +96,8 @@ seen_take n xs ys same = sym (take-map without_role n xs) ∙ ap (take n) same �
 pub seen_ch : (c : ℕ) (xs ys : List Cell) → map without_role xs ≡ map without_role ys → (slice_index_or xs c SPACE).ch ≡ (slice_index_or ys c SPACE).ch
 seen_ch c xs ys same = ch_at xs c ∙ ap (λ t. slice_index_or t c 32) (seen_text xs ys same) ∙ sym (ch_at ys c)
 
-pub line_row_painted : (decor : DecorStyle) (gutter : ℕ) (number text : List ℕ) (row now : List Cell) → map without_role now ≡ map without_role row → IsLineRow decor gutter number text row → IsLineRow decor gutter number text now
+pub line_row_painted : (decor : DecorStyle) (gutter : ℕ) (number text : List ℕ) (row now : List Cell) → map without_role now ≡ map without_role row
+    → IsLineRow decor gutter number text row → IsLineRow decor gutter number text now
 line_row_painted decor gutter number text row now same is =
     record {
       numbered = seen_text (take (length number) now) (take (length number) row) (seen_take (length number) now row same) ∙ is.numbered;

@@ -44,7 +44,8 @@ first_end-of (s ∷ ts) t is =
     ap (λ (u : TrimmedPatch). u.span.end) (sym same)
 
 -- where patches are given some are left
-pub some-left : (source : List ℕ) (ps : List Patch) (ts : List TrimmedPatch) → ps ≢ [] → map trimmed_edit_of ts ≡ trimmed_edits source (map edit_of ps) → 0 < length ts
+pub some-left : (source : List ℕ) (ps : List Patch) (ts : List TrimmedPatch) → ps ≢ [] → map trimmed_edit_of ts ≡ trimmed_edits source (map edit_of ps)
+    → 0 < length ts
 some-left source ps [] some same = absurd (some (none-given source ps [] same refl))
 some-left source ps (t ∷ ts) some same = omega arith
 

@@ -1,5 +1,6 @@
 -- Rows as values: what the texts that are put into them make of them.
-use Rattle.std.proofs.Common.{◌≡◌, ◌≢◌, ℕ, ◌+◌, ◌-◌, ◌<◌, ◌≤◌, Bool, List, [], ◌∷◌, ◌++◌, length, replicate, refl, sym, ap, ◌∙◌, arith, chars, codes, append_assoc}
+use Rattle.std.proofs.Common.{◌≡◌, ◌≢◌, ℕ, ◌+◌, ◌-◌, ◌<◌, ◌≤◌, Bool, List, [], ◌∷◌, ◌++◌, length, replicate, refl, sym, ap, ◌∙◌, arith, chars, codes}
+use Rattle.std.proofs.Common.{append_assoc}
 use Rattle.std.proofs.lemmas.List.{append-nil}
 use Rattle.std.proofs.lemmas.Str.{chars-nil, encodes-chars}
 use Rattle.std.specs.Str.{IsUtf8}
@@ -43,13 +44,15 @@ put_some role [] at row some = absurd (some refl)
 put_some role (c ∷ cs) at row some = refl
 
 -- what a grid has where the rows below some are one row, or none
-pub over : (above tail : List (List Cell)) (at : ℕ) (cells : List Cell) → length tail ≤ 1 → cells_written (above ++ tail) (length above) at cells ≡ above ++ written SPACE (row_at tail 0) at cells ∷ []
+pub over : (above tail : List (List Cell)) (at : ℕ) (cells : List Cell) → length tail ≤ 1
+    → cells_written (above ++ tail) (length above) at cells ≡ above ++ written SPACE (row_at tail 0) at cells ∷ []
 over above [] at cells few = ap (λ (rows : List (List Cell)). cells_written rows (length above) at cells) (append-nil above) ∙ cells_written_below above at cells
 over above (row ∷ []) at cells few = cells_written_last above row at cells
 over above (row ∷ next ∷ tail) at cells few = absurd (omega arith)
 
 -- a text that isn't empty was put there
-pub put_begun : (role : ElementStyle) (cs : List ℕ) (at r : ℕ) (above tail old new : List (List Cell)) → cs ≢ [] → r ≡ length above → old ≡ above ++ tail → length tail ≤ 1 → new ≡ cells_written old r at (text_cells role cs) → new ≡ above ++ put role cs at (row_at tail 0) ∷ []
+pub put_begun : (role : ElementStyle) (cs : List ℕ) (at r : ℕ) (above tail old new : List (List Cell)) → cs ≢ [] → r ≡ length above → old ≡ above ++ tail
+    → length tail ≤ 1 → new ≡ cells_written old r at (text_cells role cs) → new ≡ above ++ put role cs at (row_at tail 0) ∷ []
 put_begun role cs at r above tail old new some here is few writes =
     let cells = text_cells role cs in
     writes ∙ ap (λ n. cells_written old n at cells) here ∙ ap (λ (rows : List (List Cell)). cells_written rows (length above) at cells) is ∙ over above tail at cells few ∙ ap (λ (row : List Cell). above ++ row ∷ []) (sym (put_some role cs at (row_at tail 0) some))
@@ -205,14 +208,16 @@ unfolding begin_cells
 begin_next layout under = refl
 
 -- a suggestion below a path begins in the path's row
-pub begin_path : (layout : SuggestionLayout) (above tail old : List (List Cell)) → old ≡ above ++ tail → length tail ≡ 1 → old ≡ above ++ begin_cells layout Path (row_at tail 0) ∷ []
+pub begin_path : (layout : SuggestionLayout) (above tail old : List (List Cell)) → old ≡ above ++ tail → length tail ≡ 1
+    → old ≡ above ++ begin_cells layout Path (row_at tail 0) ∷ []
 unfolding begin_cells
 begin_path layout above [] old is one = absurd (omega (arith, one))
 begin_path layout above (row ∷ []) old is one = is
 begin_path layout above (row ∷ next ∷ rows) old is one = absurd (omega (arith, one))
 
 -- the glyph of the end makes the row that ends a suggestion
-pub end_is : (layout : SuggestionLayout) (follows : Bool) → put LineNumber (end_glyph layout.frame.decor follows) (layout.frame.gutter + 1) [] ≡ end_cells layout follows
+pub end_is : (layout : SuggestionLayout) (follows : Bool)
+    → put LineNumber (end_glyph layout.frame.decor follows) (layout.frame.gutter + 1) [] ≡ end_cells layout follows
 unfolding end_cells
 end_is layout follows = refl
 
@@ -222,6 +227,7 @@ unfolding sign_of
 diff_sign line ss = refl
 
 -- an added line of a diff, with its stretches, is the row of that offered line
-pub diff_offered : (layout : SuggestionLayout) (number : ℕ) (line : List ℕ) (ss : List SubstitutionHighlight) → with_stretches Addition layout.frame.gutter (chars line) ss (line_cells layout sign.Added number line) ≡ offered_cells layout Diff 1 number line ss
+pub diff_offered : (layout : SuggestionLayout) (number : ℕ) (line : List ℕ) (ss : List SubstitutionHighlight)
+    → with_stretches Addition layout.frame.gutter (chars line) ss (line_cells layout sign.Added number line) ≡ offered_cells layout Diff 1 number line ss
 diff_offered layout number line ss =
     offered_is layout Diff sign.Added 1 1 number number line line ss ss (diff_sign line ss) refl refl refl refl

@@ -20,7 +20,8 @@ use Rattle.snippet_suggest.specs.Order.{numbered_at}
 -- ---- the end of the last edit
 
 -- the last of some patches ends where the edits end
-pub last_end : (at : ℕ) (ps : List TrimmedPatch) (d : TrimmedPatch) → 0 < length ps → (get_or ps (length ps - 1) d).span.end ≡ end_from at (map trimmed_edit_of ps)
+pub last_end : (at : ℕ) (ps : List TrimmedPatch) (d : TrimmedPatch) → 0 < length ps
+    → (get_or ps (length ps - 1) d).span.end ≡ end_from at (map trimmed_edit_of ps)
 last_end at [] d some = absurd (omega (arith, some))
 last_end at (p ∷ []) d some = refl
 last_end at (p ∷ q ∷ ps) d some =
@@ -28,7 +29,8 @@ last_end at (p ∷ q ∷ ps) d some =
     ap (λ n. (get_or (p ∷ q ∷ ps) n d).span.end) here ∙ last_end p.span.end (q ∷ ps) d (omega arith)
 
 -- an only patch ends where the edits end
-pub only_end : (at : ℕ) (ps : List TrimmedPatch) (d : TrimmedPatch) → 0 < length ps → length ps < 2 → (get_or ps 0 d).span.end ≡ end_from at (map trimmed_edit_of ps)
+pub only_end : (at : ℕ) (ps : List TrimmedPatch) (d : TrimmedPatch) → 0 < length ps → length ps < 2
+    → (get_or ps 0 d).span.end ≡ end_from at (map trimmed_edit_of ps)
 only_end at [] d some one = absurd (omega (arith, some))
 only_end at (p ∷ []) d some one = refl
 only_end at (p ∷ q ∷ ps) d some one = absurd (omega (arith, one))
@@ -48,7 +50,8 @@ begin_before [] apart = omega arith
 begin_before (e ∷ es) apart = omega (arith, end_after e.end es apart.2, apart.1)
 
 -- patches that stand apart begin at the first one's start
-pub least_begin : (ps : List TrimmedPatch) (d : TrimmedPatch) → 0 < length ps → AreApart 0 (map trimmed_edit_of ps) → min (get_or ps 0 d).span.start (get_or ps (length ps - 1) d).span.end ≡ first_start (map trimmed_edit_of ps)
+pub least_begin : (ps : List TrimmedPatch) (d : TrimmedPatch) → 0 < length ps → AreApart 0 (map trimmed_edit_of ps)
+    → min (get_or ps 0 d).span.start (get_or ps (length ps - 1) d).span.end ≡ first_start (map trimmed_edit_of ps)
 least_begin ps d some apart =
     omega (arith, first_begin ps d some, last_end 0 ps d some, begin_before (map trimmed_edit_of ps) apart)
 
@@ -60,13 +63,15 @@ greatest_end at (e ∷ es) apart =
     ap (λ n. fold max n (map (λ d. d.end) es)) greater ∙ greatest_end e.end es apart.2
 
 -- the last line that edits reach is the one where the last of them ends
-pub reached : (source : List ℕ) (es : List Edit) → AreApart 0 (trimmed_edits source es) → last_line_reached source es ≡ line_of (source_lines source) (end_from 0 (trimmed_edits source es))
+pub reached : (source : List ℕ) (es : List Edit) → AreApart 0 (trimmed_edits source es)
+    → last_line_reached source es ≡ line_of (source_lines source) (end_from 0 (trimmed_edits source es))
 unfolding last_line_reached
 reached source es apart = ap (line_of (source_lines source)) (greatest_end 0 (trimmed_edits source es) apart)
 
 -- ---- the lines that a span touches
 
-touched_count : (s : Source) (infos : List LineInfo) (start end : ℕ) → start ≤ end → map entry_of infos ≡ touched_entries s start end → length infos ≡ line_of (source_lines s.text) end + 1 - line_of (source_lines s.text) start
+touched_count : (s : Source) (infos : List LineInfo) (start end : ℕ) → start ≤ end → map entry_of infos ≡ touched_entries s start end
+    → length infos ≡ line_of (source_lines s.text) end + 1 - line_of (source_lines s.text) start
 touched_count s infos start end ordered are =
     let ls = source_lines s.text in
     sym (length-map infos entry_of) ∙ ap length are ∙ length-map (range_with_len (line_of ls start) (line_of ls end + 1 - line_of ls start)) (entry_at s.first ls) ∙ length-range_with_len (line_of ls start) (line_of ls end + 1 - line_of ls start)
@@ -80,7 +85,8 @@ touched_some s infos start end ordered are =
     omega (arith, touched_count s infos start end ordered are, lines_ordered s start end ordered)
 
 -- their texts
-pub touched_texts : (s : Source) (infos : List LineInfo) (start end : ℕ) → map entry_of infos ≡ touched_entries s start end → texts_at infos ≡ map (text_at (source_lines s.text)) (lines_touched s.text start end)
+pub touched_texts : (s : Source) (infos : List LineInfo) (start end : ℕ) → map entry_of infos ≡ touched_entries s start end
+    → texts_at infos ≡ map (text_at (source_lines s.text)) (lines_touched s.text start end)
 touched_texts s infos start end are =
     let ls = source_lines s.text in
     let text : LineEntry → List ℕ = λ e. e.text in
@@ -95,7 +101,8 @@ touched_texts s infos start end are =
     theirs (k ∷ ks) = ap (λ ts. text_at (source_lines s.text) k ∷ ts) (theirs ks)
 
 -- their numbers and texts
-pub touched_numbered : (s : Source) (infos : List LineInfo) (start end : ℕ) → map entry_of infos ≡ touched_entries s start end → numbered_at infos ≡ map {B = ℕ × List ℕ} (λ k. (s.first + k, text_at (source_lines s.text) k)) (lines_touched s.text start end)
+pub touched_numbered : (s : Source) (infos : List LineInfo) (start end : ℕ) → map entry_of infos ≡ touched_entries s start end
+    → numbered_at infos ≡ map {B = ℕ × List ℕ} (λ k. (s.first + k, text_at (source_lines s.text) k)) (lines_touched s.text start end)
 touched_numbered s infos start end are =
     let line : LineEntry → ℕ × List ℕ = λ e. (e.number, e.text) in
     own infos ∙ ap (map line) are ∙ theirs (lines_touched s.text start end)
@@ -104,12 +111,14 @@ touched_numbered s infos start end are =
     own [] = refl
     own (info ∷ is) = ap (λ ls. (info.line_index, info.line.now) ∷ ls) (own is)
 
-    theirs : (ks : List ℕ) → map {B = ℕ × List ℕ} (λ (e : LineEntry). (e.number, e.text)) (map (entry_at s.first (source_lines s.text)) ks) ≡ map {B = ℕ × List ℕ} (λ k. (s.first + k, text_at (source_lines s.text) k)) ks
+    theirs : (ks : List ℕ)
+        → map {B = ℕ × List ℕ} (λ (e : LineEntry). (e.number, e.text)) (map (entry_at s.first (source_lines s.text)) ks) ≡ map {B = ℕ × List ℕ} (λ k. (s.first + k, text_at (source_lines s.text) k)) ks
     theirs [] = refl
     theirs (k ∷ ks) = ap (λ ls. (s.first + k, text_at (source_lines s.text) k) ∷ ls) (theirs ks)
 
 -- the last of them is the one on which the span ends
-pub touched_last : (s : Source) (infos : List LineInfo) (start end : ℕ) → start ≤ end → map entry_of infos ≡ touched_entries s start end → last_removed infos ≡ text_at (source_lines s.text) (line_of (source_lines s.text) end)
+pub touched_last : (s : Source) (infos : List LineInfo) (start end : ℕ) → start ≤ end → map entry_of infos ≡ touched_entries s start end
+    → last_removed infos ≡ text_at (source_lines s.text) (line_of (source_lines s.text) end)
 touched_last s infos start end ordered are =
     let ls = source_lines s.text in
     let a : ℕ = line_of ls start in

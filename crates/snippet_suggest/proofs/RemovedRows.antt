@@ -1,5 +1,6 @@
 -- Rows of removed lines, below some rows.
-use Rattle.std.proofs.Common.{◌≡◌, ℕ, ◌+◌, ◌-◌, ◌<◌, ◌≤◌, Bool, true, false, List, [], ◌∷◌, ◌++◌, get_or, length, take, refl, sym, ap, ◌∙◌, arith, append_assoc, subst, if◌then◌else◌}
+use Rattle.std.proofs.Common.{◌≡◌, ℕ, ◌+◌, ◌-◌, ◌<◌, ◌≤◌, Bool, true, false, List, [], ◌∷◌, ◌++◌, get_or, length, take, refl, sym, ap, ◌∙◌, arith, append_assoc}
+use Rattle.std.proofs.Common.{subst, if◌then◌else◌}
 use Rattle.std.specs.List.{AllZip}
 use Rattle.std.proofs.lemmas.List.{append-nil, get_or-map, length-append, length-map, length-take, take_all, take_more}
 use Rattle.snippet_style.specs.Cell.{Cell}
@@ -11,14 +12,16 @@ use Rattle.snippet_suggest.specs.Rows.{AddsRemoved, AddsRow, AddsRows, IsRowOfRe
 use Rattle.snippet_suggest.proofs.DrawnLemmas.{zip_push}
 
 -- rows of lines that are removed are rows of a suggestion
-removed_zip : (layout : SuggestionLayout) (first : ℕ) (lines : List (List ℕ)) (i : ℕ) (removed : List (ℕ × List ℕ)) (rows : List (List Cell)) → AllZip (IsRowOfRemoved layout) removed rows → AllZip (Shows layout first lines) (removed_from i removed) rows
+removed_zip : (layout : SuggestionLayout) (first : ℕ) (lines : List (List ℕ)) (i : ℕ) (removed : List (ℕ × List ℕ)) (rows : List (List Cell))
+    → AllZip (IsRowOfRemoved layout) removed rows → AllZip (Shows layout first lines) (removed_from i removed) rows
 removed_zip layout first lines i [] [] are = tt
 removed_zip layout first lines i [] (row ∷ rows) are = elim are [ ]
 removed_zip layout first lines i (line ∷ removed) [] are = elim are [ ]
 removed_zip layout first lines i (line ∷ removed) (row ∷ rows) are = (are.0, removed_zip layout first lines (i + 1) removed rows are.1)
 
 -- removed lines that are added are rows of the suggestion that are added
-pub removed_rows : (layout : SuggestionLayout) (first : ℕ) (lines : List (List ℕ)) (i : ℕ) (removed : List (ℕ × List ℕ)) (above new : List (List Cell)) → AddsRemoved layout removed above new → AddsRows layout first lines (removed_from i removed) above new
+pub removed_rows : (layout : SuggestionLayout) (first : ℕ) (lines : List (List ℕ)) (i : ℕ) (removed : List (ℕ × List ℕ)) (above new : List (List Cell))
+    → AddsRemoved layout removed above new → AddsRows layout first lines (removed_from i removed) above new
 removed_rows layout first lines i removed above new adds =
     record {
       rows = adds.rows;
@@ -36,7 +39,8 @@ removed_none layout old =
     }
 
 -- one line more is counted
-counted_push : (first k : ℕ) (texts : List (List ℕ)) (text : List ℕ) → counted_from first k (texts ++ text ∷ []) ≡ counted_from first k texts ++ (number_after first (k + length texts), text) ∷ []
+counted_push : (first k : ℕ) (texts : List (List ℕ)) (text : List ℕ)
+    → counted_from first k (texts ++ text ∷ []) ≡ counted_from first k texts ++ (number_after first (k + length texts), text) ∷ []
 counted_push first k [] text =
     let here : k ≡ k + 0 = omega arith in
     ap (λ (n : ℕ). (number_after first n, text) ∷ []) here
@@ -44,7 +48,8 @@ counted_push first k (t ∷ texts) text =
     let here : k + 1 + length texts ≡ k + length (t ∷ texts) = omega arith in
     ap (λ ls. (number_after first k, t) ∷ ls) (counted_push first (k + 1) texts text ∙ ap (λ (n : ℕ). counted_from first (k + 1) texts ++ (number_after first n, text) ∷ []) here)
 
-counted_next : (first : ℕ) (infos : List LineInfo) (i : ℕ) (d : LineInfo) → i < length infos → counted_from first 0 (take i (texts_at infos)) ++ (number_after first i, (get_or infos i d).line.now) ∷ [] ≡ counted_from first 0 (take (i + 1) (texts_at infos))
+counted_next : (first : ℕ) (infos : List LineInfo) (i : ℕ) (d : LineInfo) → i < length infos
+    → counted_from first 0 (take i (texts_at infos)) ++ (number_after first i, (get_or infos i d).line.now) ∷ [] ≡ counted_from first 0 (take (i + 1) (texts_at infos))
 counted_next first infos i d within =
     let text : LineInfo → List ℕ = λ info. info.line.now in
     let texts : List (List ℕ) = texts_at infos in
@@ -75,12 +80,14 @@ all_texts infos i all =
     take_all i (texts_at infos) (omega (arith, length-map infos (λ (info : LineInfo). info.line.now)))
 
 -- once no removed line is left all are added
-pub removed_all : (layout : SuggestionLayout) (first : ℕ) (infos : List LineInfo) (i : ℕ) (old new : List (List Cell)) → length infos ≤ i → AddsRemoved layout (counted_from first 0 (take i (texts_at infos))) old new → AddsRemoved layout (counted_from first 0 (texts_at infos)) old new
+pub removed_all : (layout : SuggestionLayout) (first : ℕ) (infos : List LineInfo) (i : ℕ) (old new : List (List Cell)) → length infos ≤ i
+    → AddsRemoved layout (counted_from first 0 (take i (texts_at infos))) old new → AddsRemoved layout (counted_from first 0 (texts_at infos)) old new
 removed_all layout first infos i old new all adds =
     subst (λ ts. AddsRemoved layout (counted_from first 0 ts) old new) (all_texts infos i all) adds
 
 -- the next of some lines with their own numbers, and all of them
-numbered_next : (infos : List LineInfo) (i : ℕ) (d : LineInfo) → i < length infos → take i (numbered_at infos) ++ ((get_or infos i d).line_index, (get_or infos i d).line.now) ∷ [] ≡ take (i + 1) (numbered_at infos)
+numbered_next : (infos : List LineInfo) (i : ℕ) (d : LineInfo) → i < length infos
+    → take i (numbered_at infos) ++ ((get_or infos i d).line_index, (get_or infos i d).line.now) ∷ [] ≡ take (i + 1) (numbered_at infos)
 numbered_next infos i d within =
     let line : LineInfo → ℕ × List ℕ = λ info. (info.line_index, info.line.now) in
     let inside : i < length (numbered_at infos) = omega (arith, length-map infos line) in
@@ -104,7 +111,8 @@ pub record RemovesAt (layout : SuggestionLayout) (above : List (List Cell)) (inf
   pub after : 0 < count → tail ≡ []
 
 -- before any removed line is added the rows are those above and their tail
-pub removes_begun : (layout : SuggestionLayout) (above tail : List (List Cell)) (shares : Bool) (infos : List LineInfo) (at : ℕ) (now : List (List Cell)) → at ≡ length above → now ≡ above ++ tail → IsTail layout.frame.decor layout.frame.gutter shares tail → RemovesAt layout above infos at 0 now
+pub removes_begun : (layout : SuggestionLayout) (above tail : List (List Cell)) (shares : Bool) (infos : List LineInfo) (at : ℕ) (now : List (List Cell))
+    → at ≡ length above → now ≡ above ++ tail → IsTail layout.frame.decor layout.frame.gutter shares tail → RemovesAt layout above infos at 0 now
 removes_begun layout above tail shares infos at now here stands is =
     record {
       rows = [];
@@ -137,7 +145,8 @@ removes_more layout above infos d at count next now new drawn within adds below 
     }
 
 -- once no removed line is left all are added with their numbers
-pub removes_done : (layout : SuggestionLayout) (above : List (List Cell)) (infos : List LineInfo) (at count : ℕ) (now : List (List Cell)) → 0 < count → length infos ≤ count → RemovesAt layout above infos at count now → AddsRemoved layout (numbered_at infos) above now
+pub removes_done : (layout : SuggestionLayout) (above : List (List Cell)) (infos : List LineInfo) (at count : ℕ) (now : List (List Cell)) → 0 < count
+    → length infos ≤ count → RemovesAt layout above infos at count now → AddsRemoved layout (numbered_at infos) above now
 removes_done layout above infos at count now some all drawn =
     record {
       rows = drawn.rows;
@@ -146,7 +155,8 @@ removes_done layout above infos at count now some all drawn =
     }
 
 -- the row in which what it finds there begins
-pub tail_row : (layout : SuggestionLayout) (shares : Bool) (above tail old : List (List Cell)) (row : ℕ) → old ≡ above ++ tail → IsTail layout.frame.decor layout.frame.gutter shares tail → row ≡ length old - (if shares then 1 else 0) → row ≡ length above
+pub tail_row : (layout : SuggestionLayout) (shares : Bool) (above tail old : List (List Cell)) (row : ℕ) → old ≡ above ++ tail
+    → IsTail layout.frame.decor layout.frame.gutter shares tail → row ≡ length old - (if shares then 1 else 0) → row ≡ length above
 tail_row layout true above tail old row is shared at =
     omega (arith, ap length is, ap length shared.2, length-append above tail)
 tail_row layout false above tail old row is none at =

@@ -1,5 +1,6 @@
 -- A row whose cells get other roles shows what it showed.
-use Rattle.std.proofs.Common.{◌≡◌, ℕ, ◌+◌, ◌<◌, true, false, Option, None, List, ◌∷◌, [], length, take, drop, map, get_or, refl, sym, ap, ◌∙◌, arith, subst, chars}
+use Rattle.std.proofs.Common.{◌≡◌, ℕ, ◌+◌, ◌<◌, true, false, Option, None, List, ◌∷◌, [], length, take, drop, map, get_or, refl, sym, ap, ◌∙◌, arith, subst}
+use Rattle.std.proofs.Common.{chars}
 use Rattle.std.proofs.Math.ListN.{get_or-map}
 use Rattle.std.proofs.lemmas.List.{drop-map, take-map, length-map}
 use Rattle.snippet_text.specs.Normalized.{is_listed, norm}
@@ -12,7 +13,8 @@ use Rattle.snippet_lines.specs.Number.{shown_number}
 use Rattle.snippet_lines.specs.declared.number.LineNumbers.{LineNumbers}
 use Rattle.snippet_suggest.specs.declared.layout.SuggestionLayout.{SuggestionLayout}
 use Rattle.snippet_suggest.specs.Order.{Begins, Empty, Ends, Offers, Removes, Skips, SuggestionRow, number_after}
-use Rattle.snippet_suggest.specs.Rows.{without_role, AddsRow, IsBareRow, IsBeforeSign, IsLeftOver, IsLineRow, IsRemovedRow, IsRepainted, IsRowOfRemoved, IsMarkOrSpace, IsSign, IsStrokeRow, Shows, begin_glyph, beside_gutter, end_glyph, gap_left, is_stroke}
+use Rattle.snippet_suggest.specs.Rows.{without_role, AddsRow, IsBareRow, IsBeforeSign, IsLeftOver, IsLineRow, IsRemovedRow, IsRepainted, IsRowOfRemoved}
+use Rattle.snippet_suggest.specs.Rows.{IsMarkOrSpace, IsSign, IsStrokeRow, Shows, begin_glyph, beside_gutter, end_glyph, gap_left, is_stroke}
 
 -- two rows hold the same characters and links
 abbrev pub AreSame : List Cell → List Cell → Type 0
@@ -64,14 +66,16 @@ same_bare decor gutter now last same is =
       free = same_free now last same is.free;
     }
 
-same_stroke : (decor : DecorStyle) (gutter : ℕ) (left : List ℕ) (now last : List Cell) → AreSame now last → IsStrokeRow decor gutter left last → IsStrokeRow decor gutter left now
+same_stroke : (decor : DecorStyle) (gutter : ℕ) (left : List ℕ) (now last : List Cell) → AreSame now last → IsStrokeRow decor gutter left last
+    → IsStrokeRow decor gutter left now
 same_stroke decor gutter left now last same is =
     record {
       bare = same_bare decor gutter now last same is.bare;
       left_is = λ c inside. same_char (λ ch. ch ≡ get_or left c 32) now last c same (is.left_is c inside);
     }
 
-same_removed : (numbers : LineNumbers) (decor : DecorStyle) (gutter : ℕ) (number text : List ℕ) (now last : List Cell) → AreSame now last → IsRemovedRow numbers decor gutter number text last → IsRemovedRow numbers decor gutter number text now
+same_removed : (numbers : LineNumbers) (decor : DecorStyle) (gutter : ℕ) (number text : List ℕ) (now last : List Cell) → AreSame now last
+    → IsRemovedRow numbers decor gutter number text last → IsRemovedRow numbers decor gutter number text now
 same_removed numbers decor gutter number text now last same is =
     let n : ℕ = length text in
     record {
@@ -84,7 +88,8 @@ same_removed numbers decor gutter number text now last same is =
       free = same_free now last same is.free;
     }
 
-same_line : (decor : DecorStyle) (gutter : ℕ) (number text : List ℕ) (now last : List Cell) → AreSame now last → IsLineRow decor gutter number text last → IsLineRow decor gutter number text now
+same_line : (decor : DecorStyle) (gutter : ℕ) (number text : List ℕ) (now last : List Cell) → AreSame now last → IsLineRow decor gutter number text last
+    → IsLineRow decor gutter number text now
 same_line decor gutter number text now last same is =
     record {
       numbered = same_text (take (length number) now) (take (length number) last) (same_take (length number) now last same) ∙ is.numbered;
@@ -95,7 +100,8 @@ same_line decor gutter number text now last same is =
       free = same_free now last same is.free;
     }
 
-same_shows : (layout : SuggestionLayout) (first : ℕ) (lines : List (List ℕ)) (shown : SuggestionRow) (now last : List Cell) → AreSame now last → Shows layout first lines shown last → Shows layout first lines shown now
+same_shows : (layout : SuggestionLayout) (first : ℕ) (lines : List (List ℕ)) (shown : SuggestionRow) (now last : List Cell) → AreSame now last
+    → Shows layout first lines shown last → Shows layout first lines shown now
 same_shows layout first lines (Begins start) now last same is =
     same_stroke layout.frame.decor layout.frame.gutter (beside_gutter layout.frame.gutter (begin_glyph layout.frame.decor start)) now last same is
 same_shows layout first lines (Offers k) now last same is =
@@ -109,7 +115,8 @@ same_shows layout first lines (Ends follows) now last same is =
     same_stroke layout.frame.decor layout.frame.gutter (beside_gutter layout.frame.gutter (end_glyph layout.frame.decor follows)) now last same is
 
 -- so a row that was added and then painted is added
-row_repainted : (P : List Cell → Type 0) → ((now last : List Cell) → AreSame now last → P last → P now) → (old mid new : List (List Cell)) (adds : AddsRow P old mid) → IsRepainted old adds.row new → AddsRow P old new
+row_repainted : (P : List Cell → Type 0) → ((now last : List Cell) → AreSame now last → P last → P now)
+    → (old mid new : List (List Cell)) (adds : AddsRow P old mid) → IsRepainted old adds.row new → AddsRow P old new
 row_repainted P stays old mid new adds painted =
     record {
       row = painted.now;
@@ -118,7 +125,8 @@ row_repainted P stays old mid new adds painted =
     }
 
 -- the row of a removed line that is repainted is its row still
-pub removed_repainted : (layout : SuggestionLayout) (line : ℕ × List ℕ) (old mid new : List (List Cell)) (adds : AddsRow (IsRowOfRemoved layout line) old mid) → IsRepainted old adds.row new → AddsRow (IsRowOfRemoved layout line) old new
+pub removed_repainted : (layout : SuggestionLayout) (line : ℕ × List ℕ) (old mid new : List (List Cell)) (adds : AddsRow (IsRowOfRemoved layout line) old mid)
+    → IsRepainted old adds.row new → AddsRow (IsRowOfRemoved layout line) old new
 removed_repainted layout line old mid new adds painted =
     let number : List ℕ = shown_number layout.numbers layout.frame.gutter line.0 in
     row_repainted (IsRowOfRemoved layout line) (same_removed layout.numbers layout.frame.decor layout.frame.gutter number (norm (chars line.1))) old mid new adds painted

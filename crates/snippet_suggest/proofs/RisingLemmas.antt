@@ -1,5 +1,6 @@
 -- The lines that are shown ascend, and each touched line is among them.
-use Rattle.std.proofs.Common.{◌≡◌, ℕ, zero, suc, ◌+◌, ◌-◌, ◌<◌, ◌≤◌, nat_le, Bool, true, false, List, [], ◌∷◌, ◌++◌, if◌then◌else◌, refl, sym, ap, ◌∙◌, arith, subst, All, Contains, inl, inr}
+use Rattle.std.proofs.Common.{◌≡◌, ℕ, zero, suc, ◌+◌, ◌-◌, ◌<◌, ◌≤◌, nat_le, Bool, true, false, List, [], ◌∷◌, ◌++◌, if◌then◌else◌, refl, sym, ap, ◌∙◌, arith}
+use Rattle.std.proofs.Common.{subst, All, Contains, inl, inr}
 use Rattle.std.proofs.lemmas.Bool.Decides.{nat_tests}
 use Rattle.std.proofs.lemmas.List.Elements.{filter_map-append, All-cons, All-nil, Contains-append_right}
 use Rattle.std.proofs.lemmas.Bool.{cases_eq}
@@ -28,7 +29,8 @@ rising_lines : (from n to : ℕ) → from + n ≡ to → AreRising from to (numb
 rising_lines from zero to is = omega (arith, is)
 rising_lines from (suc n) to is = (omega arith, rising_lines (from + 1) n to (omega (arith, is)))
 
-rising_run_by : (from to : ℕ) (few : Bool) → nat_le (to - from) 3 ≡ few → from ≤ to → AreRising from to (numbers_shown (if few then lines_from from (to - from) else Line from ∷ Gap ∷ Line (to - 1) ∷ []))
+rising_run_by : (from to : ℕ) (few : Bool) → nat_le (to - from) 3 ≡ few → from ≤ to
+    → AreRising from to (numbers_shown (if few then lines_from from (to - from) else Line from ∷ Gap ∷ Line (to - 1) ∷ []))
 rising_run_by from to true is ordered = rising_lines from (to - from) to (omega (arith, ordered))
 rising_run_by from to false is ordered =
     let many : 3 < to - from = grind (arith, nat_tests) in
@@ -61,7 +63,8 @@ rising_shown touched count =
     subst (λ (to : ℕ). AreRising 0 to (numbers_shown (shown_lines touched count))) same (rising_from touched 0 0 count (omega arith))
 
 -- where there is room for the number of each line, there is for those that are shown
-rooms_of : (layout : SuggestionLayout) (first low count : ℕ) (shown : List SuggestionLine) → AreRising low count (numbers_shown shown) → ((k : ℕ) → k < count → NumberFits layout first (Line k)) → All (NumberFits layout first) shown
+rooms_of : (layout : SuggestionLayout) (first low count : ℕ) (shown : List SuggestionLine) → AreRising low count (numbers_shown shown)
+    → ((k : ℕ) → k < count → NumberFits layout first (Line k)) → All (NumberFits layout first) shown
 rooms_of layout first low count [] rising rooms = All-nil (NumberFits layout first)
 rooms_of layout first low count (Line k ∷ shown) rising rooms =
     All-cons (NumberFits layout first) (Line k) shown (rooms k (omega (arith, rising_bound (k + 1) count (numbers_shown shown) rising.1))) (rooms_of layout first (k + 1) count shown rising.1 rooms)
@@ -69,12 +72,14 @@ rooms_of layout first low count (Gap ∷ shown) rising rooms =
     All-cons (NumberFits layout first) Gap shown tt (rooms_of layout first low count shown rising rooms)
 
 -- the numbers of shown lines fit the gutter where those of all lines do
-pub rooms_shown : (layout : SuggestionLayout) (first count : ℕ) (touched : ℕ → Bool) → ((k : ℕ) → k < count → NumberFits layout first (Line k)) → All (NumberFits layout first) (shown_lines touched count)
+pub rooms_shown : (layout : SuggestionLayout) (first count : ℕ) (touched : ℕ → Bool) → ((k : ℕ) → k < count → NumberFits layout first (Line k))
+    → All (NumberFits layout first) (shown_lines touched count)
 rooms_shown layout first count touched rooms =
     rooms_of layout first 0 count (shown_lines touched count) (rising_shown touched count) rooms
 
 -- at the end nothing is still to come
-pub shown_all : (touched : ℕ → Bool) (shown all : List SuggestionLine) (after line count : ℕ) → count ≤ line → shown ++ shown_from touched after line (count - line) ≡ all → shown ≡ all
+pub shown_all : (touched : ℕ → Bool) (shown all : List SuggestionLine) (after line count : ℕ) → count ≤ line
+    → shown ++ shown_from touched after line (count - line) ≡ all → shown ≡ all
 shown_all touched shown all after line count past whole =
     let none : count - line ≡ 0 = omega (arith, past) in
     sym (append-nil shown) ∙ sym (ap (λ n. shown ++ shown_from touched after line n) none) ∙ whole

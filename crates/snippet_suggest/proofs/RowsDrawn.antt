@@ -1,5 +1,6 @@
 -- Rows that are drawn one below the other, as values.
-use Rattle.std.proofs.Common.{◌≡◌, ℕ, ◌+◌, ◌-◌, ◌<◌, ◌≤◌, Bool, true, false, List, [], ◌∷◌, ◌++◌, length, map, take, drop, get_or, refl, sym, ap, ◌∙◌, ◌||◌, arith, chars, append_assoc}
+use Rattle.std.proofs.Common.{◌≡◌, ℕ, ◌+◌, ◌-◌, ◌<◌, ◌≤◌, Bool, true, false, List, [], ◌∷◌, ◌++◌, length, map, take, drop, get_or, refl, sym, ap, ◌∙◌, ◌||◌}
+use Rattle.std.proofs.Common.{arith, chars, append_assoc}
 use mir.Val.{bool_byte}
 use Rattle.std.specs.Str.{bytes_eq}
 use Rattle.std.proofs.lemmas.Bool.{cond-false, cond-true}
@@ -19,7 +20,8 @@ use Rattle.std.proofs.lemmas.List.{append-nil, drop_all, drop_more, get_or-map a
 use Rattle.snippet_suggest.proofs.StretchRows.{with_none}
 
 -- one row more for each of some items
-pub drawn_next : {A : Type 0} (f : A → List Cell) (xs : List A) (i : ℕ) (d : A) (old now new : List (List Cell)) → i < length xs → now ≡ old ++ map f (take i xs) → new ≡ now ++ f (get_or xs i d) ∷ [] → new ≡ old ++ map f (take (i + 1) xs)
+pub drawn_next : {A : Type 0} (f : A → List Cell) (xs : List A) (i : ℕ) (d : A) (old now new : List (List Cell)) → i < length xs
+    → now ≡ old ++ map f (take i xs) → new ≡ now ++ f (get_or xs i d) ∷ [] → new ≡ old ++ map f (take (i + 1) xs)
 drawn_next {A} f xs i d old now new within is adds =
     let one : List (List Cell) = f (get_or xs i d) ∷ [] in
     let more : map f (take (i + 1) xs) ≡ map f (take i xs) ++ one = ap (map f) (take_more xs i d within) ∙ map-append f (take i xs) (get_or xs i d ∷ []) in
@@ -38,7 +40,8 @@ pub record Emptied (layout : SuggestionLayout) (above : List (List Cell)) (under
   pub after : 0 < count → tail ≡ []
 
 -- before any emptied line is added the rows are those above and their tail
-pub emptied_begun : (layout : SuggestionLayout) (above tail : List (List Cell)) (lines : List (ℕ × List ℕ)) (at : ℕ) (now : List (List Cell)) → at ≡ length above → now ≡ above ++ tail → length tail ≤ 1 → Emptied layout above (row_at tail 0) lines at 0 now
+pub emptied_begun : (layout : SuggestionLayout) (above tail : List (List Cell)) (lines : List (ℕ × List ℕ)) (at : ℕ) (now : List (List Cell))
+    → at ≡ length above → now ≡ above ++ tail → length tail ≤ 1 → Emptied layout above (row_at tail 0) lines at 0 now
 emptied_begun layout above tail lines at now here is few =
     record {
       rows = [];
@@ -50,7 +53,8 @@ emptied_begun layout above tail lines at now here is few =
       after = λ none. absurd (omega arith);
     }
 
-emptied-cons : (layout : SuggestionLayout) (line : ℕ × List ℕ) (lines : List (ℕ × List ℕ)) (under : List Cell) → emptied_cells layout (line ∷ lines) under ≡ removed_cells layout Removal line.0 line.1 under ∷ emptied_cells layout lines []
+emptied-cons : (layout : SuggestionLayout) (line : ℕ × List ℕ) (lines : List (ℕ × List ℕ)) (under : List Cell)
+    → emptied_cells layout (line ∷ lines) under ≡ removed_cells layout Removal line.0 line.1 under ∷ emptied_cells layout lines []
 unfolding emptied_cells
 emptied-cons layout line lines under = refl
 
@@ -120,7 +124,8 @@ taken-append layout first replaced k (one ∷ infos) info =
     ap (λ rows. top ∷ rows) (taken-append layout first replaced (k + 1) infos info) ∙ ap (λ n. top ∷ (taken_cells layout first replaced (k + 1) infos ++ Row n ∷ [])) here
 
 -- before any removed line is taken no row is added
-pub taken_none : (layout : SuggestionLayout) (first : ℕ) (replaced : ℕ → List SubstitutionHighlight) (infos : List LineInfo) (old : List (List Cell)) → old ≡ old ++ taken_cells layout first replaced 0 (take 0 infos)
+pub taken_none : (layout : SuggestionLayout) (first : ℕ) (replaced : ℕ → List SubstitutionHighlight) (infos : List LineInfo) (old : List (List Cell))
+    → old ≡ old ++ taken_cells layout first replaced 0 (take 0 infos)
 unfolding taken_cells
 taken_none layout first replaced infos old = sym (append-nil old)
 
@@ -204,7 +209,8 @@ left_infos infos count true is = ap (λ n. take n infos) is
 left_infos infos count false is = take_all count infos (omega (arith, is))
 
 -- where the last line goes too, no stretch is given to another row
-pub none_gone : (gutter : ℕ) (line : List ℕ) (stays : Bool) (first : ℕ) (replaced : ℕ → List SubstitutionHighlight) (infos : List LineInfo) (row : List Cell) → stays ≡ false → with_stretches Removal gutter (chars line) (gone_of stays first replaced infos) row ≡ row
+pub none_gone : (gutter : ℕ) (line : List ℕ) (stays : Bool) (first : ℕ) (replaced : ℕ → List SubstitutionHighlight) (infos : List LineInfo) (row : List Cell)
+    → stays ≡ false → with_stretches Removal gutter (chars line) (gone_of stays first replaced infos) row ≡ row
 none_gone gutter line stays first replaced infos row goes =
     ap (λ b. with_stretches Removal gutter (chars line) (gone_of b first replaced infos) row) goes ∙ with_none Removal gutter (chars line) row
 

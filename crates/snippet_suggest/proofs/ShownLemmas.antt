@@ -5,7 +5,8 @@ use Rattle.snippet_suggest.specs.declared.shown.SuggestionLine.TheVariants.{Line
 use Rattle.snippet_suggest.specs.Shown.{lines_from, shown_run, shown_from}
 
 -- one line more of a run
-pub run_step : (done new all : List SuggestionLine) (line to : ℕ) → line < to → new ≡ done ++ Line line ∷ [] → done ++ lines_from line (to - line) ≡ all → new ++ lines_from (line + 1) (to - (line + 1)) ≡ all
+pub run_step : (done new all : List SuggestionLine) (line to : ℕ) → line < to → new ≡ done ++ Line line ∷ [] → done ++ lines_from line (to - line) ≡ all
+    → new ++ lines_from (line + 1) (to - (line + 1)) ≡ all
 run_step done new all line to below pushed is =
     let left : to - line ≡ suc (to - (line + 1)) = omega arith in
     ap (λ xs. xs ++ lines_from (line + 1) (to - (line + 1))) pushed ∙ append_assoc done (Line line ∷ []) (lines_from (line + 1) (to - (line + 1))) ∙ sym (ap (λ n. done ++ lines_from line n) left) ∙ is
@@ -23,7 +24,8 @@ touched_step touched done mid new all after line count below holds run pushed is
     holds) ∙ sym (ap (λ n. done ++ shown_from touched after line n) left) ∙ is
 
 -- a line that isn't touched adds no shown line
-pub untouched_step : (touched : ℕ → Bool) (done all : List SuggestionLine) (after line count : ℕ) → line < count → touched line ≡ false → done ++ shown_from touched after line (count - line) ≡ all → done ++ shown_from touched after (line + 1) (count - (line + 1)) ≡ all
+pub untouched_step : (touched : ℕ → Bool) (done all : List SuggestionLine) (after line count : ℕ) → line < count → touched line ≡ false
+    → done ++ shown_from touched after line (count - line) ≡ all → done ++ shown_from touched after (line + 1) (count - (line + 1)) ≡ all
 untouched_step touched done all after line count below holds is =
     let left : count - line ≡ suc (count - (line + 1)) = omega arith in
     let rest = shown_from touched (line + 1) (line + 1) (count - (line + 1)) in

@@ -1,5 +1,6 @@
 -- The sign beside a line that is offered stands in its row, whatever else is written there.
-use Rattle.std.proofs.Common.{◌≡◌, ◌≢◌, ℕ, ◌+◌, ◌-◌, ◌<◌, ◌≤◌, Bool, true, ◌&&◌, List, [], ◌∷◌, length, map, chars, refl, sym, ap, ◌∙◌, arith, inl, inr, subst, if◌then◌else◌}
+use Rattle.std.proofs.Common.{◌≡◌, ◌≢◌, ℕ, ◌+◌, ◌-◌, ◌<◌, ◌≤◌, Bool, true, ◌&&◌, List, [], ◌∷◌, length, map, chars, refl, sym, ap, ◌∙◌, arith, inl, inr, subst}
+use Rattle.std.proofs.Common.{if◌then◌else◌}
 use Rattle.std.specs.Cow.{cow_str_bytes}
 use Rattle.std.specs.List.{AllZip, slice_index_or}
 use Rattle.std.specs.Str.{bytes_eq}
@@ -30,7 +31,8 @@ use Rattle.snippet_suggest.proofs.PaintLemmas.{changed_same, seen_ch}
 use Rattle.snippet_suggest.proofs.PutLemmas.{glyph_some}
 
 -- cells that take a role keep their characters
-with_same : (role : ElementStyle) (gutter : ℕ) (cs : List ℕ) (ss : List SubstitutionHighlight) (row : List Cell) → map without_role (with_stretches role gutter cs ss row) ≡ map without_role row
+with_same : (role : ElementStyle) (gutter : ℕ) (cs : List ℕ) (ss : List SubstitutionHighlight) (row : List Cell)
+    → map without_role (with_stretches role gutter cs ss row) ≡ map without_role row
 unfolding with_stretches
 with_same role gutter cs [] row = refl
 with_same role gutter cs (s ∷ ss) row =
@@ -42,14 +44,16 @@ unfolding put
 put_left role [] at c row left = refl
 put_left role (x ∷ cs) at c row left = slice_index_or-written_before SPACE row at (text_cells role (x ∷ cs)) c left
 
-put_right : (role : ElementStyle) (cs : List ℕ) (at c : ℕ) (row : List Cell) → at + length cs ≤ c → slice_index_or (put role cs at row) c SPACE ≡ slice_index_or row c SPACE
+put_right : (role : ElementStyle) (cs : List ℕ) (at c : ℕ) (row : List Cell) → at + length cs ≤ c
+    → slice_index_or (put role cs at row) c SPACE ≡ slice_index_or row c SPACE
 unfolding put
 put_right role [] at c row right = refl
 put_right role (x ∷ cs) at c row right =
     let long : length (text_cells role (x ∷ cs)) ≡ length (x ∷ cs) = length-text_cells role (x ∷ cs) in
     slice_index_or-written_after SPACE row at (text_cells role (x ∷ cs)) c SPACE (omega (arith, long, right))
 
-put_first : (role : ElementStyle) (cs : List ℕ) (at : ℕ) (row : List Cell) → cs ≢ [] → (slice_index_or (put role cs at row) at SPACE).ch ≡ slice_index_or cs 0 32
+put_first : (role : ElementStyle) (cs : List ℕ) (at : ℕ) (row : List Cell) → cs ≢ []
+    → (slice_index_or (put role cs at row) at SPACE).ch ≡ slice_index_or cs 0 32
 unfolding put
 put_first role [] at row some = absurd (some refl)
 put_first role (x ∷ cs) at row some =
@@ -81,7 +85,8 @@ offered_sign layout kind count number line ss fits =
     seen_ch (layout.frame.gutter + 1) (with_stretches Addition layout.frame.gutter (chars line) ss row) row (with_same Addition layout.frame.gutter (chars line) ss row) ∙ line_sign layout (sign_of kind count line ss) number line fits
 
 -- each row has its sign
-pub has_sign : (layout : SuggestionLayout) (s : Snippet Patch) (under : List Cell) (shown : SuggestionRow) → HasSign layout s shown (cells_of layout s under shown)
+pub has_sign : (layout : SuggestionLayout) (s : Snippet Patch) (under : List Cell) (shown : SuggestionRow)
+    → HasSign layout s shown (cells_of layout s under shown)
 unfolding cells_of
 has_sign layout s under (Begins start) = tt
 has_sign layout s under (Offers k) = λ fits. offered_sign layout (shown_kind s) (length (given_lines s)) _ (slice_index_or (given_lines s) k []) (new_on s k) fits
@@ -94,12 +99,14 @@ signs_later : (layout : SuggestionLayout) (s : Snippet Patch) (rows : List Sugge
 signs_later layout s [] = tt
 signs_later layout s (row ∷ rows) = (has_sign layout s [] row, signs_later layout s rows)
 
-signs_over : (layout : SuggestionLayout) (s : Snippet Patch) (under : List Cell) (rows : List SuggestionRow) → AllZip (HasSign layout s) rows (cells_over (cells_of layout s) under rows)
+signs_over : (layout : SuggestionLayout) (s : Snippet Patch) (under : List Cell) (rows : List SuggestionRow)
+    → AllZip (HasSign layout s) rows (cells_over (cells_of layout s) under rows)
 signs_over layout s under [] = tt
 signs_over layout s under (row ∷ rows) = (has_sign layout s under row, signs_later layout s rows)
 
 -- so it has in another role
-sign_kept : (layout : SuggestionLayout) (s : Snippet Patch) (shown : SuggestionRow) (now row : List Cell) → map without_role now ≡ map without_role row → HasSign layout s shown row → HasSign layout s shown now
+sign_kept : (layout : SuggestionLayout) (s : Snippet Patch) (shown : SuggestionRow) (now row : List Cell) → map without_role now ≡ map without_role row
+    → HasSign layout s shown row → HasSign layout s shown now
 sign_kept layout s (Begins start) now row same has = tt
 sign_kept layout s (Offers k) now row same has = λ fits. seen_ch (layout.frame.gutter + 1) now row same ∙ has fits
 sign_kept layout s Skips now row same has = tt
@@ -118,7 +125,8 @@ signs_last layout s f (x ∷ shown) (row ∷ []) same have = (sign_kept layout s
 signs_last layout s f (x ∷ shown) (row ∷ next ∷ rows) same have =
     (have.0, signs_last layout s f shown (next ∷ rows) same have.1)
 
-signs_left_out : (layout : SuggestionLayout) (s : Snippet Patch) (lines : List (List ℕ)) (shown : List SuggestionRow) (rows : List (List Cell)) → AllZip (HasSign layout s) shown rows → AllZip (HasSign layout s) shown (with_left_out layout s lines rows)
+signs_left_out : (layout : SuggestionLayout) (s : Snippet Patch) (lines : List (List ℕ)) (shown : List SuggestionRow) (rows : List (List Cell))
+    → AllZip (HasSign layout s) shown rows → AllZip (HasSign layout s) shown (with_left_out layout s lines rows)
 signs_left_out layout s [] shown rows have = have
 signs_left_out layout s (line ∷ lines) shown rows have =
     let test : Bool = is_diff (shown_kind s) && is_touched s.fold (given_ranges s) 0 && is_left_out (shown_kind s) (line ∷ lines) (last_reached s) in
@@ -132,7 +140,8 @@ signs_left_out layout s (line ∷ lines) shown rows have =
     ]
 
 -- the rows of a suggestion have their signs
-pub body_signs : (layout : SuggestionLayout) (start : SuggestionStart) (s : Snippet Patch) (under : List Cell) → AllZip (HasSign layout s) (rows_of_suggestion start s) (body_cells layout start s under)
+pub body_signs : (layout : SuggestionLayout) (start : SuggestionStart) (s : Snippet Patch) (under : List Cell)
+    → AllZip (HasSign layout s) (rows_of_suggestion start s) (body_cells layout start s under)
 unfolding body_cells
 body_signs layout start s under =
     signs_left_out layout s (given_lines s) (rows_of_suggestion start s) (cells_over (cells_of layout s) under (rows_of_suggestion start s)) (signs_over layout s under (rows_of_suggestion start s))

@@ -1,5 +1,6 @@
 -- Spans of a source that are taken.
-use Rattle.std.proofs.Common.{◌≡◌, ℕ, ◌+◌, ◌-◌, ◌≤◌, min, ◌&&◌, ltb, leb, Option, Some, None, List, [], ◌∷◌, All, drop, get_or, length, map, inl, inr, refl, sym, ◌∙◌, arith, subst}
+use Rattle.std.proofs.Common.{◌≡◌, ℕ, ◌+◌, ◌-◌, ◌≤◌, min, ◌&&◌, ltb, leb, Option, Some, None, List, [], ◌∷◌, All, drop, get_or, length, map, inl, inr, refl}
+use Rattle.std.proofs.Common.{sym, ◌∙◌, arith, subst}
 use Rattle.std.specs.List.{slice_range}
 use Rattle.std.specs.Str.{IsCharBoundary, IsUtf8}
 use Rattle.std.proofs.lemmas.Bool.{and_parts, cases_lt, cond_both, leb-true}
@@ -33,7 +34,8 @@ joined_span source a b c d from is first last =
     ]
 
 -- a part of a source may be cut where the source may
-border_inside : (source : List ℕ) (start end before : ℕ) → start ≤ end → end ≤ length source → IsSpanBorder source end → IsCharBoundary (slice_range source start end) before → IsCharBoundary source (start + before)
+border_inside : (source : List ℕ) (start end before : ℕ) → start ≤ end → end ≤ length source → IsSpanBorder source end
+    → IsCharBoundary (slice_range source start end) before → IsCharBoundary source (start + before)
 border_inside source start end before ordered within to border =
     let part : List ℕ = slice_range source start end in
     let size : length part ≡ end - start = length-take-le (end - start) (drop start source) (omega (arith, length-drop start source)) in
@@ -58,7 +60,8 @@ edit_span source e span =
     (λ t. kept (sandwich (slice_range source e.start e.end) e.text) (leb-true e.end (length source) (and_parts (ltb 0 (length e.text)) (leb e.end (length source)) t).1) refl)
     (λ _. span)
   where
-    kept : (r : Option (ℕ × List ℕ × ℕ)) → e.end ≤ length source → sandwich (slice_range source e.start e.end) e.text ≡ r → IsSpan source (shrunk e r).start (shrunk e r).end
+    kept : (r : Option (ℕ × List ℕ × ℕ)) → e.end ≤ length source → sandwich (slice_range source e.start e.end) e.text ≡ r
+        → IsSpan source (shrunk e r).start (shrunk e r).end
     kept None within is = span
     kept (Some k) within is =
         let h = sandwich-sandwiched (slice_range source e.start e.end) e.text k.0 k.1 k.2 is in
@@ -80,7 +83,8 @@ spans_in_order source (e ∷ es) all =
     All-put_in precedes P e (in_order es) (All-head P e es all) (spans_in_order source es (All-tail P e es all))
 
 -- so are those of patches whose edits are known, and those that they had before they were trimmed
-pub trimmed_spans : (source : List ℕ) (es : List Edit) (ps : List TrimmedPatch) → All (λ e. IsSpan source e.start e.end) es → map trimmed_edit_of ps ≡ trimmed_edits source es → All (λ p. IsSpan source p.span.start p.span.end) ps
+pub trimmed_spans : (source : List ℕ) (es : List Edit) (ps : List TrimmedPatch) → All (λ e. IsSpan source e.start e.end) es
+    → map trimmed_edit_of ps ≡ trimmed_edits source es → All (λ p. IsSpan source p.span.start p.span.end) ps
 trimmed_spans source es ps all same =
     let P : Edit → Type 0 = λ d. IsSpan source d.start d.end in
     let given : All P (in_order es) = spans_in_order source es all in
@@ -88,7 +92,8 @@ trimmed_spans source es ps all same =
     All-unmapped P trimmed_edit_of ps (subst (All P) (sym same) trimmed)
 
 -- the patches of edits on spans stand on spans
-pub original_spans : (source : List ℕ) (es : List Edit) (ps : List TrimmedPatch) → All (λ e. IsSpan source e.start e.end) es → map original_bounds_of ps ≡ map bounds_of (in_order es) → All (λ p. IsSpan source p.original_span.start p.original_span.end) ps
+pub original_spans : (source : List ℕ) (es : List Edit) (ps : List TrimmedPatch) → All (λ e. IsSpan source e.start e.end) es
+    → map original_bounds_of ps ≡ map bounds_of (in_order es) → All (λ p. IsSpan source p.original_span.start p.original_span.end) ps
 original_spans source es ps all same =
     let P : ℕ × ℕ → Type 0 = λ b. IsSpan source b.0 b.1 in
     All-unmapped P original_bounds_of ps (subst (All P) (sym same) (All-map P bounds_of (in_order es) (spans_in_order source es all)))

@@ -1,5 +1,6 @@
 -- The stretches of a line that take a role, one after another, and the walk that counts the tabs before them.
-use Rattle.std.proofs.Common.{◌≡◌, ℕ, ◌+◌, ◌-◌, ◌^◌, ◌<◌, ◌≤◌, eqb, Bool, true, List, [], ◌∷◌, ◌++◌, length, min, take, drop, get_or, refl, sym, ap, ◌∙◌, arith, inl, inr, subst, chars, count_by}
+use Rattle.std.proofs.Common.{◌≡◌, ℕ, ◌+◌, ◌-◌, ◌^◌, ◌<◌, ◌≤◌, eqb, Bool, true, List, [], ◌∷◌, ◌++◌, length, min, take, drop, get_or, refl, sym, ap, ◌∙◌, arith}
+use Rattle.std.proofs.Common.{inl, inr, subst, chars, count_by}
 use Rattle.std.proofs.lemmas.Bool.{cases_Bool}
 use Rattle.std.proofs.lemmas.List.Sums.{count_by_more_no, count_by_more_yes}
 use Rattle.std.proofs.lemmas.Str.{IsUtf8-past_char, chars-nil, chars_past_char}
@@ -42,7 +43,8 @@ first_left cs left n c is =
     (within, cc, cc)
 
 -- one tab more, or none
-one_more : (cs : List ℕ) (n c tabs more now : ℕ) → n < length cs → get_or cs n 0 ≡ c → tabs ≡ capped (count_by (λ d. eqb d 9) (take n cs)) → more ≡ bool_byte (eqb c 9) → now ≡ min (tabs + more) (2 ^ 64 - 1) → now ≡ capped (count_by (λ d. eqb d 9) (take (n + 1) cs))
+one_more : (cs : List ℕ) (n c tabs more now : ℕ) → n < length cs → get_or cs n 0 ≡ c → tabs ≡ capped (count_by (λ d. eqb d 9) (take n cs))
+    → more ≡ bool_byte (eqb c 9) → now ≡ min (tabs + more) (2 ^ 64 - 1) → now ≡ capped (count_by (λ d. eqb d 9) (take (n + 1) cs))
 one_more cs n c tabs more now within at counted adds sums =
     let p : ℕ → Bool = λ d. eqb d 9 in
     elim (cases_Bool (eqb c 9)) [
@@ -57,7 +59,8 @@ one_more cs n c tabs more now within at counted adds sums =
     ]
 
 -- a cursor that passes one more character counts it where it is a tab
-pub cursor_next : (t now : TabCursor) (c more : ℕ) → IsCursor t → now.line.now ≡ t.line.now → chars_rest t.rest ≡ encode_utf8 c ++ chars_rest now.rest → now.passed ≡ t.passed + 1 → more ≡ bool_byte (eqb c 9) → now.tabs ≡ min (t.tabs + more) (2 ^ 64 - 1) → IsCursor now
+pub cursor_next : (t now : TabCursor) (c more : ℕ) → IsCursor t → now.line.now ≡ t.line.now → chars_rest t.rest ≡ encode_utf8 c ++ chars_rest now.rest
+    → now.passed ≡ t.passed + 1 → more ≡ bool_byte (eqb c 9) → now.tabs ≡ min (t.tabs + more) (2 ^ 64 - 1) → IsCursor now
 cursor_next t now c more at line rest passed adds sums =
     let cs : List ℕ = chars t.line.now in
     let stands : chars (chars_rest t.rest) ≡ c ∷ chars (chars_rest now.rest) = chars_past_char (chars_rest t.rest) (chars_rest now.rest) c at.left_text rest in
@@ -77,7 +80,8 @@ cursor_there t k at there =
     at.counted ∙ ap (λ n. capped (count_by (λ c. eqb c 9) (take n (chars t.line.now)))) there
 
 -- a cursor at the end has counted all tabs
-pub cursor_ended : (t : TabCursor) (k : ℕ) → IsCursor t → t.passed ≤ k → length (chars_rest t.rest) ≡ 0 → t.tabs ≡ capped (count_by (λ c. eqb c 9) (take k (chars t.line.now)))
+pub cursor_ended : (t : TabCursor) (k : ℕ) → IsCursor t → t.passed ≤ k → length (chars_rest t.rest) ≡ 0
+    → t.tabs ≡ capped (count_by (λ c. eqb c 9) (take k (chars t.line.now)))
 cursor_ended t k at few ended =
     let cs : List ℕ = chars t.line.now in
     let none : chars_rest t.rest ≡ [] = empty (chars_rest t.rest) ended in

@@ -1,5 +1,6 @@
 -- What is drawn of a suggestion is its value.
-use Rattle.std.proofs.Common.{◌≡◌, ◌≢◌, ℕ, zero, suc, ◌+◌, ◌-◌, ◌^◌, ◌<◌, ◌≤◌, Bool, true, false, List, [], ◌∷◌, ◌++◌, length, map, get_or, refl, sym, ap, ◌∙◌, ◌&&◌, arith, append_assoc, chars, take, inl, inr, if◌then◌else◌}
+use Rattle.std.proofs.Common.{◌≡◌, ◌≢◌, ℕ, zero, suc, ◌+◌, ◌-◌, ◌^◌, ◌<◌, ◌≤◌, Bool, true, false, List, [], ◌∷◌, ◌++◌, length, map, get_or, refl, sym, ap, ◌∙◌}
+use Rattle.std.proofs.Common.{◌&&◌, arith, append_assoc, chars, take, inl, inr, if◌then◌else◌}
 use Rattle.std.proofs.Math.ListN.{get_or-map}
 use Rattle.std.proofs.lemmas.List.{append-nil, length-map, map-append, take-map}
 use Rattle.std.proofs.lemmas.List.FromFn.{get_or-map-range_with_len, length-range_with_len}
@@ -22,10 +23,13 @@ use Rattle.snippet_suggest.specs.declared.layout.SuggestionStart.{SuggestionStar
 use Rattle.snippet_suggest.specs.declared.layout.SuggestionStart.TheVariants.{Next, Opening, Path}
 use Rattle.snippet_suggest.specs.declared.shown.SuggestionLine.{SuggestionLine}
 use Rattle.snippet_suggest.specs.declared.shown.SuggestionLine.TheVariants.{Gap, Line}
-use Rattle.snippet_suggest.specs.Cells.{begin_cells, diff_cells, emptied_cells, end_cells, gone_of, left_out_cells, offered_cells, on_last, removed_cells, shown_cells, taken_cells, with_stretches}
-use Rattle.snippet_suggest.specs.Given.{edits_of, first_given, given_lines, given_ranges, is_left_out, last_reached, last_removed, shown_kind, trimmed_of, unless_stays}
+use Rattle.snippet_suggest.specs.Cells.{begin_cells, diff_cells, emptied_cells, end_cells, gone_of, left_out_cells, offered_cells, on_last, removed_cells}
+use Rattle.snippet_suggest.specs.Cells.{shown_cells, taken_cells, with_stretches}
+use Rattle.snippet_suggest.specs.Given.{edits_of, first_given, given_lines, given_ranges, is_left_out, last_reached, last_removed, shown_kind, trimmed_of}
+use Rattle.snippet_suggest.specs.Given.{unless_stays}
 use Rattle.snippet_view.specs.Numbered.{numbered_source}
-use Rattle.snippet_suggest.specs.Order.{Begins, Empty, Ends, Offers, Removes, SuggestionRow, changed_rows, counted_from, is_diff, number_after, numbered_at, removed_from, row_of_shown, rows_of_suggestion}
+use Rattle.snippet_suggest.specs.Order.{Begins, Empty, Ends, Offers, Removes, SuggestionRow, changed_rows, counted_from, is_diff, number_after, numbered_at}
+use Rattle.snippet_suggest.specs.Order.{removed_from, row_of_shown, rows_of_suggestion}
 use Rattle.snippet_suggest.specs.Rows.{rows_shared}
 use Rattle.snippet_suggest.specs.Shown.{is_touched}
 use Rattle.snippet_suggest.specs.Suggested.{body_cells, cells_of, cells_over, marked_edits, new_on, removed_in, replaced_on, suggestion_cells, with_left_out}
@@ -36,7 +40,8 @@ use Rattle.snippet_suggest.proofs.OrderLaws.{not_diff}
 
 -- ---- rows one by one
 
-pub begins_is : (layout : SuggestionLayout) (s : Snippet Patch) (under : List Cell) (start : SuggestionStart) → cells_of layout s under (Begins start) ≡ begin_cells layout start under
+pub begins_is : (layout : SuggestionLayout) (s : Snippet Patch) (under : List Cell) (start : SuggestionStart)
+    → cells_of layout s under (Begins start) ≡ begin_cells layout start under
 unfolding cells_of
 begins_is layout s under start = refl
 
@@ -53,7 +58,8 @@ shown_same layout kind first lines f g (Line k ∷ shown) same =
 shown_same layout kind first lines f g (Gap ∷ shown) same =
     ap (λ rows. shown_cells layout kind first lines g Gap ∷ rows) (shown_same layout kind first lines f g shown same)
 
-pub shown_is : (layout : SuggestionLayout) (s : Snippet Patch) (shown : List SuggestionLine) → map (cells_of layout s []) (map row_of_shown shown) ≡ map (shown_cells layout (shown_kind s) (s.line_start + first_given s) (given_lines s) (new_on s)) shown
+pub shown_is : (layout : SuggestionLayout) (s : Snippet Patch) (shown : List SuggestionLine)
+    → map (cells_of layout s []) (map row_of_shown shown) ≡ map (shown_cells layout (shown_kind s) (s.line_start + first_given s) (given_lines s) (new_on s)) shown
 unfolding cells_of
 shown_is layout s [] = refl
 shown_is layout s (Line k ∷ shown) =
@@ -63,30 +69,35 @@ shown_is layout s (Gap ∷ shown) =
 
 -- ---- where no line is given
 
-removed_none : (layout : SuggestionLayout) (s : Snippet Patch) (under : List Cell) (i number : ℕ) (text : List ℕ) → given_lines s ≡ [] → cells_of layout s under (Removes i number text) ≡ removed_cells layout Removal number text under
+removed_none : (layout : SuggestionLayout) (s : Snippet Patch) (under : List Cell) (i number : ℕ) (text : List ℕ) → given_lines s ≡ []
+    → cells_of layout s under (Removes i number text) ≡ removed_cells layout Removal number text under
 unfolding cells_of
 removed_none layout s under i number text none =
     ap (λ (ls : List (List ℕ)). removed_in layout ls (replaced_on s (i - first_given s)) number text under) none
 
-emptied_later : (layout : SuggestionLayout) (s : Snippet Patch) (i : ℕ) (lines : List (ℕ × List ℕ)) → given_lines s ≡ [] → map (cells_of layout s []) (removed_from i lines) ≡ emptied_cells layout lines []
+emptied_later : (layout : SuggestionLayout) (s : Snippet Patch) (i : ℕ) (lines : List (ℕ × List ℕ)) → given_lines s ≡ []
+    → map (cells_of layout s []) (removed_from i lines) ≡ emptied_cells layout lines []
 unfolding emptied_cells
 emptied_later layout s i [] none = refl
 emptied_later layout s i (line ∷ lines) none =
     ap (λ row. row ∷ map (cells_of layout s []) (removed_from (i + 1) lines)) (removed_none layout s [] i line.0 line.1 none) ∙ ap (λ rows. removed_cells layout Removal line.0 line.1 [] ∷ rows) (emptied_later layout s (i + 1) lines none)
 
-emptied_over : (layout : SuggestionLayout) (s : Snippet Patch) (under : List Cell) (i : ℕ) (lines : List (ℕ × List ℕ)) → given_lines s ≡ [] → cells_over (cells_of layout s) under (removed_from i lines) ≡ emptied_cells layout lines under
+emptied_over : (layout : SuggestionLayout) (s : Snippet Patch) (under : List Cell) (i : ℕ) (lines : List (ℕ × List ℕ)) → given_lines s ≡ []
+    → cells_over (cells_of layout s) under (removed_from i lines) ≡ emptied_cells layout lines under
 unfolding emptied_cells
 emptied_over layout s under i [] none = refl
 emptied_over layout s under i (line ∷ lines) none =
     ap (λ row. row ∷ map (cells_of layout s []) (removed_from (i + 1) lines)) (removed_none layout s under i line.0 line.1 none) ∙ ap (λ rows. removed_cells layout Removal line.0 line.1 under ∷ rows) (emptied_later layout s (i + 1) lines none)
 
-body_none : (layout : SuggestionLayout) (start : SuggestionStart) (s : Snippet Patch) (under : List Cell) (rows : List SuggestionRow) → given_lines s ≡ [] → rows_of_suggestion start s ≡ rows → body_cells layout start s under ≡ cells_over (cells_of layout s) under rows
+body_none : (layout : SuggestionLayout) (start : SuggestionStart) (s : Snippet Patch) (under : List Cell) (rows : List SuggestionRow) → given_lines s ≡ []
+    → rows_of_suggestion start s ≡ rows → body_cells layout start s under ≡ cells_over (cells_of layout s) under rows
 unfolding body_cells
 body_none layout start s under rows none is =
     ap (λ (ls : List (List ℕ)). with_left_out layout s ls (cells_over (cells_of layout s) under (rows_of_suggestion start s))) none ∙ ap (cells_over (cells_of layout s) under) is
 
 -- where no line is given, the rows of emptied lines are those of the suggestion
-pub body_emptied : (layout : SuggestionLayout) (start : SuggestionStart) (s : Snippet Patch) (under : List Cell) (i : ℕ) (lines : List (ℕ × List ℕ)) → given_lines s ≡ [] → rows_of_suggestion start s ≡ removed_from i lines → emptied_cells layout lines under ≡ body_cells layout start s under
+pub body_emptied : (layout : SuggestionLayout) (start : SuggestionStart) (s : Snippet Patch) (under : List Cell) (i : ℕ) (lines : List (ℕ × List ℕ))
+    → given_lines s ≡ [] → rows_of_suggestion start s ≡ removed_from i lines → emptied_cells layout lines under ≡ body_cells layout start s under
 body_emptied layout start s under i lines none is =
     sym (body_none layout start s under (removed_from i lines) none is ∙ emptied_over layout s under i lines none)
 
@@ -178,13 +189,15 @@ own_numbers : (infos : List LineInfo) → map (λ (info : LineInfo). info.line_i
 own_numbers [] = refl
 own_numbers (info ∷ infos) = ap (λ ks. info.line_index ∷ ks) (own_numbers infos)
 
-own_index : (infos : List LineInfo) → get_or (map (λ (info : LineInfo). info.line_index) infos) (length infos - 1) 0 ≡ get_or (map (λ (l : ℕ × List ℕ). l.0) (numbered_at infos)) (length (numbered_at infos) - 1) 0
+own_index : (infos : List LineInfo)
+    → get_or (map (λ (info : LineInfo). info.line_index) infos) (length infos - 1) 0 ≡ get_or (map (λ (l : ℕ × List ℕ). l.0) (numbered_at infos)) (length (numbered_at infos) - 1) 0
 own_index infos =
     let g : LineInfo → ℕ × List ℕ = λ info. (info.line_index, info.line.now) in
     let ks : List ℕ = map (λ (l : ℕ × List ℕ). l.0) (numbered_at infos) in
     ap (λ (ns : List ℕ). get_or ns (length infos - 1) 0) (own_numbers infos) ∙ ap (λ (n : ℕ). get_or ks (n - 1) 0) (sym (length-map infos g))
 
-last_index : (base : ℕ) (f : ℕ → List ℕ) (a n : ℕ) → 0 < n → let ls : List (ℕ × List ℕ) = map {B = ℕ × List ℕ} (λ j. (base + j, f j)) (range_with_len a n) in get_or (map (λ (l : ℕ × List ℕ). l.0) ls) (length ls - 1) 0 ≡ base + (a + (n - 1))
+last_index : (base : ℕ) (f : ℕ → List ℕ) (a n : ℕ) → 0 < n
+    → let ls : List (ℕ × List ℕ) = map {B = ℕ × List ℕ} (λ j. (base + j, f j)) (range_with_len a n) in get_or (map (λ (l : ℕ × List ℕ). l.0) ls) (length ls - 1) 0 ≡ base + (a + (n - 1))
 last_index base f a n some =
     let g : ℕ → ℕ × List ℕ = λ j. (base + j, f j) in
     let first : ℕ × List ℕ → ℕ = λ l. l.0 in
@@ -301,7 +314,8 @@ module _ (layout : SuggestionLayout) (s : Snippet Patch) (line : List ℕ) (f : 
 -- ---- the last row
 
 -- the last row of an underlined suggestion has its marks
-pub ends_marked : (layout : SuggestionLayout) (s : Snippet Patch) (follows : Bool) → shown_kind s ≡ Underline → with_marks layout (numbered_source s) [] (trimmed_of s) (end_cells layout follows) ≡ cells_of layout s [] (Ends follows)
+pub ends_marked : (layout : SuggestionLayout) (s : Snippet Patch) (follows : Bool) → shown_kind s ≡ Underline
+    → with_marks layout (numbered_source s) [] (trimmed_of s) (end_cells layout follows) ≡ cells_of layout s [] (Ends follows)
 unfolding cells_of
 ends_marked layout s follows marks =
     ap (λ k. with_marks layout (numbered_source s) [] (marked_edits k (trimmed_of s)) (end_cells layout follows)) (sym marks)
@@ -313,7 +327,8 @@ none_marked Plain es other = refl
 none_marked Add es other = refl
 
 -- the last row of a suggestion that isn't underlined has no marks
-pub ends_plain : (layout : SuggestionLayout) (s : Snippet Patch) (follows : Bool) → shown_kind s ≢ Underline → end_cells layout follows ≡ cells_of layout s [] (Ends follows)
+pub ends_plain : (layout : SuggestionLayout) (s : Snippet Patch) (follows : Bool) → shown_kind s ≢ Underline
+    → end_cells layout follows ≡ cells_of layout s [] (Ends follows)
 unfolding cells_of with_marks
 ends_plain layout s follows other =
     ap (λ es. with_marks layout (numbered_source s) [] es (end_cells layout follows)) (sym (none_marked (shown_kind s) (trimmed_of s) other))

@@ -1,5 +1,6 @@
 -- What is drawn into the row that a suggestion before shares, or into a new one.
-use Rattle.std.proofs.Common.{◌≡◌, ℕ, ◌+◌, ◌<◌, ◌≤◌, Bool, true, false, List, [], ◌∷◌, ◌++◌, length, max, replicate, take, refl, sym, ap, ◌∙◌, arith, subst, All, chars}
+use Rattle.std.proofs.Common.{◌≡◌, ℕ, ◌+◌, ◌<◌, ◌≤◌, Bool, true, false, List, [], ◌∷◌, ◌++◌, length, max, replicate, take, refl, sym, ap, ◌∙◌, arith, subst}
+use Rattle.std.proofs.Common.{All, chars}
 use Rattle.std.specs.List.{slice_index_or}
 use Rattle.std.proofs.lemmas.List.{append-nil, get_or_past, places, same_lists}
 use Rattle.std.proofs.lemmas.List.Elements.{All-cons, All-nil}
@@ -11,7 +12,8 @@ use Rattle.snippet_style.specs.declared.role.ElementStyle.TheVariants.{LineNumbe
 use Rattle.snippet_grid.specs.Grid.{cells_written}
 use Rattle.snippet_style.specs.Cell.{Cell, SPACE, text_cells, unlinked_cell, written}
 use Rattle.snippet_grid.proofs.GridLemmas.{cells_written_below, cells_written_last}
-use Rattle.snippet_style.proofs.CellLemmas.{length-text_cells, length-written, slice_index_or-written_before, slice_index_or-written_after, slice_index_or-written_inside}
+use Rattle.snippet_style.proofs.CellLemmas.{length-text_cells, length-written, slice_index_or-written_before, slice_index_or-written_after}
+use Rattle.snippet_style.proofs.CellLemmas.{slice_index_or-written_inside}
 use Rattle.snippet_text.specs.Normalized.{is_listed}
 use Rattle.snippet_lines.specs.declared.number.LineNumbers.{LineNumbers}
 use Rattle.snippet_model.specs.Rows.{IsFreeCell, IsFree}
@@ -19,14 +21,16 @@ use Rattle.snippet_style.specs.declared.glyphs.SuggestionGlyph.{SuggestionGlyph}
 use Rattle.snippet_suggest.specs.declared.layout.SuggestionLayout.{SuggestionLayout}
 use Rattle.snippet_style.specs.Glyphs.{suggestion_glyph_of}
 use Rattle.snippet_suggest.specs.Glyphs.{is_begin, is_sign}
-use Rattle.snippet_suggest.specs.Rows.{AddsEnd, AddsRow, IsBareRow, IsBeforeSign, IsLeftOver, IsRemovedRow, IsStart, IsStrokeRow, IsTail, begin_glyph, begins_in_last, beside_gutter, end_glyph}
+use Rattle.snippet_suggest.specs.Rows.{AddsEnd, AddsRow, IsBareRow, IsBeforeSign, IsLeftOver, IsRemovedRow, IsStart, IsStrokeRow, IsTail, begin_glyph}
+use Rattle.snippet_suggest.specs.Rows.{begins_in_last, beside_gutter, end_glyph}
 use Rattle.snippet_suggest.specs.declared.layout.SuggestionStart.{SuggestionStart}
 use Rattle.snippet_suggest.specs.declared.layout.SuggestionStart.TheVariants.{Opening, Next, Path}
 use Rattle.snippet_style.specs.declared.glyphs.SuggestionGlyph.TheVariants as sign
 use Rattle.snippet_style.specs.declared.glyphs.DecorStyle.TheVariants.{Ascii, Unicode}
 use Rattle.snippet_suggest.proofs.BareLemmas.{bare_none, stroke_put, stroke_signed}
 use Rattle.snippet_suggest.proofs.LeftOver.{StaysLeft, before_sign, left_over}
-use Rattle.snippet_suggest.proofs.RowLemmas.{free_drawn, free_texted, free_written, begins_texted, kept_after, left_after, stands_texted, take_texted, text_put, texted}
+use Rattle.snippet_suggest.proofs.RowLemmas.{free_drawn, free_texted, free_written, begins_texted, kept_after, left_after, stands_texted, take_texted, text_put}
+use Rattle.snippet_suggest.proofs.RowLemmas.{texted}
 
 -- the row that there is, or one with no cells where there is none
 abbrev pub tail_row : List (List Cell) → List Cell
@@ -34,7 +38,8 @@ tail_row [] = []
 tail_row (row ∷ rows) = row
 
 -- it shows no line
-pub tail_bare : (layout : SuggestionLayout) (shares : Bool) (tail : List (List Cell)) → IsTail layout.frame.decor layout.frame.gutter shares tail → IsBareRow layout.frame.decor layout.frame.gutter (tail_row tail)
+pub tail_bare : (layout : SuggestionLayout) (shares : Bool) (tail : List (List Cell)) → IsTail layout.frame.decor layout.frame.gutter shares tail
+    → IsBareRow layout.frame.decor layout.frame.gutter (tail_row tail)
 tail_bare layout true tail is =
     subst (λ (rows : List (List Cell)). IsBareRow layout.frame.decor layout.frame.gutter (tail_row rows)) (sym is.2) is.3.bare
 tail_bare layout false tail is =
@@ -50,14 +55,17 @@ lead_glyph Ascii = refl
 lead_glyph Unicode = refl
 
 -- the start of a suggestion is a tail of the rows above
-pub start_tail : (layout : SuggestionLayout) (start : SuggestionStart) (tail : List (List Cell)) → IsStart layout start tail → IsTail layout.frame.decor layout.frame.gutter (begins_in_last start) tail
+pub start_tail : (layout : SuggestionLayout) (start : SuggestionStart) (tail : List (List Cell)) → IsStart layout start tail
+    → IsTail layout.frame.decor layout.frame.gutter (begins_in_last start) tail
 start_tail layout Opening tail none = none
 start_tail layout Next tail shared = shared
 start_tail layout Path tail is =
     (is.0, true, is.1, subst (λ (cs : List ℕ). IsStrokeRow layout.frame.decor layout.frame.gutter (beside_gutter layout.frame.gutter cs) is.0) (lead_glyph layout.frame.decor) is.2)
 
 -- what is written below the rows above goes into it
-pub tail_written : (layout : SuggestionLayout) (shares : Bool) (above tail : List (List Cell)) (at : ℕ) (cells : List Cell) → IsTail layout.frame.decor layout.frame.gutter shares tail → cells_written (above ++ tail) (length above) at cells ≡ above ++ written SPACE (tail_row tail) at cells ∷ []
+pub tail_written : (layout : SuggestionLayout) (shares : Bool) (above tail : List (List Cell)) (at : ℕ) (cells : List Cell)
+    → IsTail layout.frame.decor layout.frame.gutter shares tail
+    → cells_written (above ++ tail) (length above) at cells ≡ above ++ written SPACE (tail_row tail) at cells ∷ []
 tail_written layout true above tail at cells is =
     subst (λ (rows : List (List Cell)). cells_written (above ++ rows) (length above) at cells ≡ above ++ written SPACE (tail_row tail) at cells ∷ []) (sym (tail_is_row layout tail is)) (cells_written_last above (tail_row tail) at cells)
 tail_written layout false above tail at cells is =
@@ -81,7 +89,8 @@ begin_other sign.Alone is = absurd (cc)
 begin_other sign.Changed is = absurd (cc)
 begin_other sign.Added is = absurd (cc)
 
-begin_covers : (decor : DecorStyle) (glyph : SuggestionGlyph) (follows : Bool) → is_begin glyph ≡ true → length (end_glyph decor follows) ≤ length (suggestion_glyph_of decor glyph)
+begin_covers : (decor : DecorStyle) (glyph : SuggestionGlyph) (follows : Bool) → is_begin glyph ≡ true
+    → length (end_glyph decor follows) ≤ length (suggestion_glyph_of decor glyph)
 begin_covers Ascii sign.Opening true is = omega arith
 begin_covers Ascii sign.Opening false is = omega arith
 begin_covers Ascii sign.Next true is = omega arith
@@ -123,7 +132,8 @@ glyph_added layout shares glyph above tail old new row text begins is writes her
     }
 
 -- writing so many rows below all
-pub skipped_written : (rows : List (List Cell)) (skipped at : ℕ) (cells : List Cell) → cells_written rows (length rows + skipped) at cells ≡ rows ++ (replicate skipped [] ++ written SPACE [] at cells ∷ [])
+pub skipped_written : (rows : List (List Cell)) (skipped at : ℕ) (cells : List Cell)
+    → cells_written rows (length rows + skipped) at cells ≡ rows ++ (replicate skipped [] ++ written SPACE [] at cells ∷ [])
 skipped_written rows skipped at cells =
     ap (λ (row : List Cell). written [] rows (length rows + skipped) (written SPACE row at cells ∷ [])) (get_or_past rows (length rows + skipped) [] (omega arith)) ∙ filled (written SPACE [] at cells)
   where

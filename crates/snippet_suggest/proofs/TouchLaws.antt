@@ -1,5 +1,6 @@
 -- Each line that a patch touches is offered, unless it is blank or the suggestion's text is as it was.
-use Rattle.std.proofs.Common.{◌≡◌, ◌≢◌, ℕ, ◌+◌, ◌-◌, ◌<◌, ◌≤◌, ◌⊎◌, inl, inr, Bool, true, false, not, nat_le, ◌&&◌, if◌then◌else◌, List, [], ◌∷◌, Contains, length, map, get_or, refl, sym, ap, subst, ◌∙◌, ⊎_elim, arith}
+use Rattle.std.proofs.Common.{◌≡◌, ◌≢◌, ℕ, ◌+◌, ◌-◌, ◌<◌, ◌≤◌, ◌⊎◌, inl, inr, Bool, true, false, not, nat_le, ◌&&◌, if◌then◌else◌, List, [], ◌∷◌, Contains}
+use Rattle.std.proofs.Common.{length, map, get_or, refl, sym, ap, subst, ◌∙◌, ⊎_elim, arith}
 use Rattle.std.proofs.lemmas.List.{length-map, get_or-map}
 use Rattle.std.proofs.lemmas.List.Folds.{list_any_at}
 use Rattle.std.proofs.lemmas.Bool.{true≢false, and_from, or_cases, or_right, le-leb, leb-true, cases_Bool}
@@ -22,7 +23,8 @@ use Rattle.snippet_splice.proofs.SpliceLemmas.{IsShownPart}
 use Rattle.snippet_splice.proofs.TouchLemmas.{IsHeld, shown-touched, touched-held}
 use Rattle.snippet_suggest.specs.declared.kind.DisplaySuggestion.{DisplaySuggestion}
 use Rattle.snippet_suggest.specs.declared.kind.DisplaySuggestion.TheVariants.{Underline, Diff, Plain, Add}
-use Rattle.snippet_suggest.specs.Given.{IsAsItWas, IsOfferable, edits_of, first_given, given_lines, given_ranges, given_text, is_left_out, last_reached, numbers_given, numbers_of, offered_lines, shown_kind, trimmed_of}
+use Rattle.snippet_suggest.specs.Given.{IsAsItWas, IsOfferable, edits_of, first_given, given_lines, given_ranges, given_text, is_left_out, last_reached}
+use Rattle.snippet_suggest.specs.Given.{numbers_given, numbers_of, offered_lines, shown_kind, trimmed_of}
 use Rattle.snippet_suggest.specs.Kind.{adds_lines, is_blank, is_replacement, kind_of, takes_away}
 use Rattle.snippet_suggest.specs.Shown.{is_held, is_touched, numbers_shown, shown_lines}
 use Rattle.snippet_suggest.proofs.RisingLemmas.{touched_shown}
@@ -41,7 +43,8 @@ held-later base j ranges h =
     list_any_at (λ q. nat_le q.first (j - base) && nat_le (j - base) q.last) ranges i h.range within (and_from _ _ (le-leb r.first (j - base) (omega (arith, from))) (le-leb (j - base) r.last (omega (arith, to))))
 
 -- a line is left out only of a diff: it is blank, or the same as the last that is removed
-left-out : (kind : DisplaySuggestion) (lines : List (List ℕ)) (last : List ℕ) → is_left_out kind lines last ≡ true → (kind ≡ Diff) × ((is_blank (get_or lines 0 []) ≡ true) ⊎ (get_or lines 0 [] ≡ last))
+left-out : (kind : DisplaySuggestion) (lines : List (List ℕ)) (last : List ℕ) → is_left_out kind lines last ≡ true
+    → (kind ≡ Diff) × ((is_blank (get_or lines 0 []) ≡ true) ⊎ (get_or lines 0 [] ≡ last))
 left-out Diff lines last is =
     (refl, ⊎_elim (λ blank. inl blank) (λ same. inr ((bytes_eq-Decides (get_or lines 0 []) last).0 same)) (or_cases (is_blank (get_or lines 0 [])) (bytes_eq (get_or lines 0 []) last) is))
 left-out Underline lines last is = absurd (true≢false (sym is))
@@ -49,7 +52,8 @@ left-out Plain lines last is = absurd (true≢false (sym is))
 left-out Add lines last is = absurd (true≢false (sym is))
 
 -- a diff has at most one line
-diff-by : (few takes whole closes : Bool) → (if few && takes then Diff else if whole then (if closes then Add else Plain) else if few then Underline else Plain) ≡ Diff → few ≡ true
+diff-by : (few takes whole closes : Bool)
+    → (if few && takes then Diff else if whole then (if closes then Add else Plain) else if few then Underline else Plain) ≡ Diff → few ≡ true
 diff-by true takes whole closes is = refl
 diff-by false takes true true is = absurd (cc)
 diff-by false takes true false is = absurd (cc)
@@ -78,7 +82,8 @@ contains-moved base k j ks is among =
     (among.0, omega (arith, among.1, length-map ks move), get_or-map move ks among.0 k j among.1 ∙ ap move among.2 ∙ is)
 
 -- where none is left out they are those that are shown
-none-left-out : (kind : DisplaySuggestion) (folds : Bool) (ranges : List LineRange) (lines : List (List ℕ)) (last : List ℕ) → is_left_out kind lines last ≡ false → numbers_of kind folds ranges lines last ≡ numbers_shown (shown_lines (is_touched folds ranges) (length lines))
+none-left-out : (kind : DisplaySuggestion) (folds : Bool) (ranges : List LineRange) (lines : List (List ℕ)) (last : List ℕ)
+    → is_left_out kind lines last ≡ false → numbers_of kind folds ranges lines last ≡ numbers_shown (shown_lines (is_touched folds ranges) (length lines))
 none-left-out kind folds ranges lines last none =
     ap (λ b. if b then [] else numbers_shown (shown_lines (is_touched folds ranges) (length lines))) none
 
@@ -101,7 +106,8 @@ touched-some s j touched none =
     omega (arith, touched.among.1, ap (λ ps. length (stands source (trimmed_edits source (map edit_of ps)))) none)
 
 -- each touched line that isn't blank is offered, unless the text is as it was
-pub touched-offered : (s : Snippet Patch) → HaveSpans s → AreDisjoint (edits_of s) → IsOfferable s → (j : ℕ) → IsTouched (cow_str_bytes s.source) (edits_of s) j → is_blank (text_at (source_lines (patched (cow_str_bytes s.source) (edits_of s))) j) ≡ false → IsAsItWas s ⊎ Contains (offered_lines s) j
+pub touched-offered : (s : Snippet Patch) → HaveSpans s → AreDisjoint (edits_of s) → IsOfferable s → (j : ℕ) → IsTouched (cow_str_bytes s.source) (edits_of s) j
+    → is_blank (text_at (source_lines (patched (cow_str_bytes s.source) (edits_of s))) j) ≡ false → IsAsItWas s ⊎ Contains (offered_lines s) j
 touched-offered s spans disjoint offerable j touched filled =
     let some : s.markers.items ≢ [] = touched-some s j touched in
     let source : List ℕ = cow_str_bytes s.source in

@@ -33,7 +33,9 @@ pub record IsPrepared (p : PreparedSuggestion) : Type 0 where
   pub edits : map trimmed_edit_of p.splice.patches.items ≡ trimmed_of p.snippet.now
   pub originals : map original_bounds_of p.splice.patches.items ≡ map bounds_of (in_order (edits_of p.snippet.now))
   pub ranges : p.splice.ranges.items ≡ given_ranges p.snippet.now
-  pub new : (k : ℕ) → line_stretches p.splice.highlights.items k ≡ new_stretches p.snippet.now.fold (cow_str_bytes p.snippet.now.source) (edits_of p.snippet.now) k
-  pub replaced : (k : ℕ) → line_stretches p.splice.replaced_highlights.items k ≡ replaced_stretches p.snippet.now.fold (cow_str_bytes p.snippet.now.source) (edits_of p.snippet.now) k
+  pub new : (k : ℕ)
+      → line_stretches p.splice.highlights.items k ≡ new_stretches p.snippet.now.fold (cow_str_bytes p.snippet.now.source) (edits_of p.snippet.now) k
+  pub replaced : (k : ℕ)
+      → line_stretches p.splice.replaced_highlights.items k ≡ replaced_stretches p.snippet.now.fold (cow_str_bytes p.snippet.now.source) (edits_of p.snippet.now) k
   pub kind : p.kind ≡ shown_kind p.snippet.now
   pub counted : p.counted ≡ counted_line p.snippet.now

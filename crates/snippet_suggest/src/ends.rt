@@ -1,8 +1,10 @@
 //! The rows that a suggestion begins and ends with.
-ghost use Rattle.std.specs.Prelude.{◌≡◌, ℕ, ◌<◌, ◌^◌, ◌≤◌, ◌+◌, ◌++◌, ◌∷◌, [], Bool, true, false, List, IfOk, OnOk, length, replicate};
+ghost use Rattle.std.specs.Prelude.{◌≡◌, ℕ, ◌<◌, ◌^◌, ◌≤◌, ◌+◌, ◌++◌, ◌∷◌, [], Bool, true, false, List, IfOk, OnOk};
+ghost use Rattle.std.specs.Prelude.{length, replicate};
 ghost use Rattle.snippet_style.specs.Glyphs.{suggestion_glyph_of};
 ghost use Rattle.snippet_suggest.specs.Glyphs.{is_begin, is_sign};
-ghost use Rattle.snippet_suggest.specs.Rows.{AddsEnd, AddsRow, IsStart, IsStrokeRow, IsTail, begin_glyph, beside_gutter, end_glyph, rows_shared};
+ghost use Rattle.snippet_suggest.specs.Rows.{AddsEnd, AddsRow, IsStart, IsStrokeRow, IsTail, begin_glyph};
+ghost use Rattle.snippet_suggest.specs.Rows.{beside_gutter, end_glyph, rows_shared};
 ghost use Rattle.snippet_suggest.specs.Cells.{begin_cells, end_cells, put};
 ghost use Rattle.snippet_style.specs.declared.role.ElementStyle.TheVariants.{LineNumber};
 ghost use Rattle.snippet_grid.specs.Grid.{row_at};
@@ -57,7 +59,8 @@ fn draw_glyph(
 ) -> Result<(), AllocError>
     requires row { row + 1 < 2 ^ 64 }
     ensures added { is_begin glyph ≡ true → (above tail : List (List Cell)) (shares : Bool) → row ≡ length above → buffer.old ≡ above ++ tail
-        → IsTail layout.now.frame.decor layout.now.frame.gutter shares tail → OnOk result (AddsRow (IsStrokeRow layout.now.frame.decor layout.now.frame.gutter
+        → IsTail layout.now.frame.decor layout.now.frame.gutter shares tail
+        → OnOk result (AddsRow (IsStrokeRow layout.now.frame.decor layout.now.frame.gutter
         (beside_gutter layout.now.frame.gutter (suggestion_glyph_of layout.now.frame.decor glyph))) above buffer.new) }
     ensures end { is_sign glyph ≡ false → (skipped : ℕ) → row ≡ length buffer.old + skipped
         → OnOk result (AddsEnd layout.now (suggestion_glyph_of layout.now.frame.decor glyph) skipped

@@ -6,7 +6,8 @@ ghost use Rattle.std.specs.String.{string_bytes};
 ghost use Rattle.snippet_lines.specs.Lines.{last_byte, lines_of};
 ghost use Rattle.snippet_lines.specs.Span.{IsSpan};
 ghost use Rattle.snippet_splice.specs.Edits.{trimmed_edit_of};
-ghost use Rattle.snippet_suggest.specs.Kind.{adds_lines, adds_text, is_replacement, is_under_text, kind_of, loses_text, text_under};
+ghost use Rattle.snippet_suggest.specs.Kind.{adds_lines, adds_text, is_replacement, is_under_text, kind_of, loses_text};
+ghost use Rattle.snippet_suggest.specs.Kind.{text_under};
 ghost use Rattle.snippet_suggest.specs.Kind as spec;
 
 use snippet_lines::{ends_with_line_feed, newline_count};

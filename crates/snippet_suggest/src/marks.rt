@@ -2,7 +2,8 @@
 ghost use Rattle.std.specs.Prelude.{◌≡◌, ℕ, ◌<◌, ◌^◌, ◌+◌, ◌-◌, ◌++◌, ◌∷◌, [], List, All, OnOk, length};
 ghost use Rattle.snippet_splice.specs.Edits.{trimmed_edit_of};
 ghost use Rattle.snippet_splice.specs.Stretches.{capped};
-ghost use Rattle.snippet_suggest.specs.Marks.{columns_of, edits_at, left_of, mark_end, mark_glyph_of, mark_start, text_width, with_mark, with_marks};
+ghost use Rattle.snippet_suggest.specs.Marks.{columns_of, edits_at, left_of, mark_end, mark_glyph_of, mark_start};
+ghost use Rattle.snippet_suggest.specs.Marks.{text_width, with_mark, with_marks};
 ghost use Rattle.snippet_suggest.specs.Moves.{AreMoves, shift_of};
 ghost use Rattle.snippet_suggest.specs.declared.marks.PatchColumns.{PatchColumns};
 ghost use Rattle.snippet_style.specs.Cell.{Cell};
@@ -142,7 +143,8 @@ pub(crate) fn draw_marks(
     requires spans { All (λ p. IsSpan map.now.text p.span.start p.span.end) patches.now }
     // Into the last row, which shows no line.
     ensures marked { (above : List (List Cell)) (last : List Cell) (left : List ℕ) → row ≡ length above → buffer.old ≡ above ++ last ∷ []
-        → IsStrokeRow layout.now.frame.decor layout.now.frame.gutter left last → OnOk result (AddsRow (IsStrokeRow layout.now.frame.decor layout.now.frame.gutter left) above buffer.new) }
+        → IsStrokeRow layout.now.frame.decor layout.now.frame.gutter left last
+        → OnOk result (AddsRow (IsStrokeRow layout.now.frame.decor layout.now.frame.gutter left) above buffer.new) }
     ensures cells { (above : List (List Cell)) (last : List Cell) → row ≡ length above → buffer.old ≡ above ++ last ∷ []
         → OnOk result (buffer.new ≡ above ++ with_marks layout.now map.now [] (edits_at patches.now) last ∷ []) }
 {
@@ -182,7 +184,8 @@ fn draw_mark(
 ) -> Result<(), AllocError>
     requires row { row + 1 < 2 ^ 64 }
     ensures marked { (above : List (List Cell)) (last : List Cell) (left : List ℕ) → row ≡ length above → buffer.old ≡ above ++ last ∷ []
-        → IsStrokeRow layout.now.frame.decor layout.now.frame.gutter left last → IsMarkOrSpace layout.now.frame.decor mark
+        → IsStrokeRow layout.now.frame.decor layout.now.frame.gutter left last
+        → IsMarkOrSpace layout.now.frame.decor mark
         → OnOk result (AddsRow (IsStrokeRow layout.now.frame.decor layout.now.frame.gutter left) above buffer.new) }
     ensures cells { (above : List (List Cell)) (last : List Cell) → row ≡ length above → buffer.old ≡ above ++ last ∷ []
         → OnOk result (buffer.new ≡ above ++ with_mark layout.now mark start end last ∷ []) }

@@ -34,7 +34,8 @@ pub(crate) fn draw_removed_lines(
     requires some { 0 < length lines.now }
     // Below some rows, the first of them perhaps over a row that shows no line.
     ensures added { (above tail : List (List Cell)) (shares : Bool) → row ≡ length above → buffer.old ≡ above ++ tail
-        → IsTail layout.now.frame.decor layout.now.frame.gutter shares tail → OnOk result (AddsRemoved layout.now (numbered_at lines.now) above buffer.new) }
+        → IsTail layout.now.frame.decor layout.now.frame.gutter shares tail
+        → OnOk result (AddsRemoved layout.now (numbered_at lines.now) above buffer.new) }
     ensures cells { (above tail : List (List Cell)) → row ≡ length above → buffer.old ≡ above ++ tail → length tail ≤ 1
         → OnOk result (buffer.new ≡ above ++ emptied_cells layout.now (numbered_at lines.now) (row_at tail 0)) }
 {

@@ -1,5 +1,6 @@
 //! The row of one line.
-ghost use Rattle.std.specs.Prelude.{◌≡◌, ◌<◌, ◌≤◌, ◌^◌, ◌+◌, ◌++◌, ◌∷◌, [], true, Bool, List, IfOk, OnOk, chars, length};
+ghost use Rattle.std.specs.Prelude.{◌≡◌, ◌<◌, ◌≤◌, ◌^◌, ◌+◌, ◌++◌, ◌∷◌, [], true, Bool, List, IfOk, OnOk, chars};
+ghost use Rattle.std.specs.Prelude.{length};
 ghost use Rattle.snippet_text.specs.Normalized.{norm};
 ghost use Rattle.snippet_lines.specs.Number.{shown_number};
 ghost use Rattle.snippet_style.specs.Cell.{Cell};
@@ -70,7 +71,8 @@ pub(crate) fn draw_removed_line(
     requires row { row + 1 < 2 ^ 64 }
     // In a row of its own, or over one that shows no line.
     ensures added { (above tail : List (List Cell)) (shares : Bool) → row ≡ length above → buffer.old ≡ above ++ tail
-        → IsTail layout.now.frame.decor layout.now.frame.gutter shares tail → OnOk result (AddsRow (IsRowOfRemoved layout.now (number, line.now)) above buffer.new) }
+        → IsTail layout.now.frame.decor layout.now.frame.gutter shares tail
+        → OnOk result (AddsRow (IsRowOfRemoved layout.now (number, line.now)) above buffer.new) }
     ensures cells { (above tail : List (List Cell)) → row ≡ length above → buffer.old ≡ above ++ tail → length tail ≤ 1
         → OnOk result (buffer.new ≡ above ++ removed_cells layout.now role number line.now (row_at tail 0) ∷ []) }
 {

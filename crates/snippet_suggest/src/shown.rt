@@ -1,5 +1,6 @@
 //! Which lines of the spliced text are shown.
-ghost use Rattle.std.specs.Prelude.{◌≡◌, ℕ, ◌++◌, ◌<◌, ◌≤◌, nat_le, ◌&&◌, ◌||◌, true, false, Contains, IfOk, OnOk, length};
+ghost use Rattle.std.specs.Prelude.{◌≡◌, ℕ, ◌++◌, ◌<◌, ◌≤◌, nat_le, ◌&&◌, ◌||◌, true, false, Contains, IfOk, OnOk};
+ghost use Rattle.std.specs.Prelude.{length};
 ghost use Rattle.std.specs.List.{slice_index_or};
 ghost use Rattle.snippet_suggest.specs.Shown as spec;
 ghost use Rattle.snippet_suggest.specs.Shown.{AreRising, numbers_shown, shown_run};

@@ -2,14 +2,16 @@
 ghost use Rattle.snippet_grid.specs.Grid.{row_at};
 ghost use Rattle.snippet_suggest.specs.Cells.{begin_cells};
 ghost use Rattle.snippet_suggest.specs.Suggested.{body_cells, suggestion_cells};
-ghost use Rattle.std.specs.Prelude.{◌≡◌, ◌<◌, ◌^◌, ◌+◌, ◌-◌, ◌++◌, ◌∷◌, [], List, IfOk, OnOk, All, length, map, replicate, if◌then◌else◌};
+ghost use Rattle.std.specs.Prelude.{◌≡◌, ◌<◌, ◌^◌, ◌+◌, ◌-◌, ◌++◌, ◌∷◌, [], List, IfOk, OnOk, All, length, map};
+ghost use Rattle.std.specs.Prelude.{replicate, if◌then◌else◌};
 ghost use Rattle.snippet_style.specs.Cell.{Cell};
 ghost use Rattle.snippet_lines.specs.Span.{IsSpan};
 ghost use Rattle.snippet_splice.specs.Copied.{end_from};
 ghost use Rattle.snippet_splice.specs.Shown.{first_start};
 ghost use Rattle.snippet_splice.specs.Edits.{AreApart, trimmed_edit_of};
 ghost use Rattle.snippet_suggest.specs.Prepared.{IsPrepared};
-ghost use Rattle.snippet_suggest.specs.Rows.{AddsRows, AddsSuggestion, HasGutter, IsStart, NumberFits, Shows, rows_shared};
+ghost use Rattle.snippet_suggest.specs.Rows.{AddsRows, AddsSuggestion, HasGutter, IsStart, NumberFits, Shows};
+ghost use Rattle.snippet_suggest.specs.Rows.{rows_shared};
 ghost use Rattle.snippet_suggest.specs.Order.{Begins, rows_of_suggestion};
 ghost use Rattle.snippet_suggest.specs.Given.{first_given, first_original, first_original_end, given_lines};
 ghost use Rattle.snippet_suggest.specs.declared.kind.DisplaySuggestion.TheVariants.{Diff};
@@ -142,7 +144,8 @@ fn draw_changed(
         → IfOk result (λ skipped. AddsRows layout.now first (given_lines s) (rows_of_suggestion start s)
         above (buffer.new ++ replicate skipped [])) }
     ensures cells { let s = suggestion.now.snippet.now in
-        (above : List (List Cell)) (under : List Cell) (start : SuggestionStart) → buffer.old ≡ above ++ begin_cells layout.now start under ∷ []
+        (above : List (List Cell)) (under : List Cell) (start : SuggestionStart)
+        → buffer.old ≡ above ++ begin_cells layout.now start under ∷ []
         → IfOk result (λ skipped. buffer.new ++ replicate skipped [] ≡ above ++ body_cells layout.now start s under) }
 {
     let splice = &suggestion.splice;

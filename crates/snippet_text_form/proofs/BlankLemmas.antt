@@ -1,5 +1,6 @@
 -- Whitespace at the front of a line and after a place of it, as it is looked for.
-use Rattle.std.proofs.Common.{◌≡◌, ℕ, zero, suc, ◌+◌, ◌-◌, ◌<◌, Bool, true, false, not, ◌&&◌, eqb, leb, List, [], ◌∷◌, length, take, drop, get_or, refl, sym, ap, ◌∙◌, arith}
+use Rattle.std.proofs.Common.{◌≡◌, ℕ, zero, suc, ◌+◌, ◌-◌, ◌<◌, Bool, true, false, not, ◌&&◌, eqb, leb, List, [], ◌∷◌, length, take, drop, get_or, refl, sym}
+use Rattle.std.proofs.Common.{ap, ◌∙◌, arith}
 use Rattle.std.proofs.lemmas.Bool.Decides.{nat_tests}
 use Rattle.std.proofs.lemmas.List.{at_drop_more, drop_all}
 use Rattle.std.specs.Char.{is_whitespace}
@@ -27,12 +28,14 @@ first-to cs c (suc left) blank some is =
     ap (λ b. b && blank_to cs left) is ∙ ap (λ n. blank && blank_to cs n) (sym fewer)
 
 -- a character that is no white space, left of the place, ends what is blank
-pub blank_to-stop : (cs : List ℕ) (n c left : ℕ) → (n < length cs) × (c ≡ get_or cs n c) → (left ≡ 0 → ⊥) → is_whitespace c ≡ false → blank_to (drop n cs) left ≡ false
+pub blank_to-stop : (cs : List ℕ) (n c left : ℕ) → (n < length cs) × (c ≡ get_or cs n c) → (left ≡ 0 → ⊥) → is_whitespace c ≡ false
+    → blank_to (drop n cs) left ≡ false
 blank_to-stop cs n c left at some visible =
     to-here cs n c left at ∙ first-to (drop (n + 1) cs) c left false some visible
 
 -- white space left of the place is passed
-pub blank_to-step : (cs : List ℕ) (n c left : ℕ) → (n < length cs) × (c ≡ get_or cs n c) → (left ≡ 0 → ⊥) → is_whitespace c ≡ true → blank_to (drop (n + 1) cs) (left - 1) ≡ blank_to (drop n cs) left
+pub blank_to-step : (cs : List ℕ) (n c left : ℕ) → (n < length cs) × (c ≡ get_or cs n c) → (left ≡ 0 → ⊥) → is_whitespace c ≡ true
+    → blank_to (drop (n + 1) cs) (left - 1) ≡ blank_to (drop n cs) left
 blank_to-step cs n c left at some blank =
     sym (to-here cs n c left at ∙ first-to (drop (n + 1) cs) c left true some blank)
 
@@ -73,11 +76,13 @@ from-here cs n c left at =
     at_drop_more (λ l. blank_from l left) cs n c at.0 ∙ ap (λ d. blank_from (d ∷ drop (n + 1) cs) left) (sym at.1)
 
 -- a character that is no white space, at the place or right of it, ends what is blank
-pub blank_from-stop : (cs : List ℕ) (n c left : ℕ) → (n < length cs) × (c ≡ get_or cs n c) → (eqb left 0 && not (is_whitespace c)) ≡ true → blank_from (drop n cs) left ≡ false
+pub blank_from-stop : (cs : List ℕ) (n c left : ℕ) → (n < length cs) × (c ≡ get_or cs n c) → (eqb left 0 && not (is_whitespace c)) ≡ true
+    → blank_from (drop n cs) left ≡ false
 blank_from-stop cs n c left at visible = from-here cs n c left at ∙ stopped (drop (n + 1) cs) c left visible
 
 -- a character left of the place, or white space, is passed
-pub blank_from-step : (cs : List ℕ) (n c left fewer : ℕ) → (n < length cs) × (c ≡ get_or cs n c) → (eqb left 0 && not (is_whitespace c)) ≡ false → fewer ≡ left - 1 → blank_from (drop (n + 1) cs) fewer ≡ blank_from (drop n cs) left
+pub blank_from-step : (cs : List ℕ) (n c left fewer : ℕ) → (n < length cs) × (c ≡ get_or cs n c) → (eqb left 0 && not (is_whitespace c)) ≡ false
+    → fewer ≡ left - 1 → blank_from (drop (n + 1) cs) fewer ≡ blank_from (drop n cs) left
 blank_from-step cs n c left fewer at hidden less =
     ap (blank_from (drop (n + 1) cs)) less ∙ sym (from-here cs n c left at ∙ passed (drop (n + 1) cs) c left hidden)
 

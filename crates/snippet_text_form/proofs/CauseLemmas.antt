@@ -1,5 +1,6 @@
 -- Named spans: their order, what holds of each, and the texts that are added for several.
-use Rattle.std.proofs.Common.{◌≡◌, ℕ, suc, ◌==◌, Bool, true, false, cond, not, eqb, ltb, Option, None, List, [], ◌∷◌, ◌++◌, length, map, filter, All, codes, encode_utf8_all, refl, sym, ap, ◌∙◌, arith, append_assoc}
+use Rattle.std.proofs.Common.{◌≡◌, ℕ, suc, ◌==◌, Bool, true, false, cond, not, eqb, ltb, Option, None, List, [], ◌∷◌, ◌++◌, length, map, filter, All, codes}
+use Rattle.std.proofs.Common.{encode_utf8_all, refl, sym, ap, ◌∙◌, arith, append_assoc}
 use Rattle.std.proofs.lemmas.Bool.{cond-true, cond-false}
 use Rattle.std.proofs.lemmas.Bool.Decides.{nat_tests}
 use Rattle.std.proofs.lemmas.List.{append-nil, map-append}
@@ -20,7 +21,8 @@ use Rattle.snippet_lines.proofs.OrderLemmas.{sorted-only, map-ordered_by}
 use Rattle.snippet_model.specs.declared.snippet.Annotation.{Annotation}
 use Rattle.snippet_model.specs.declared.snippet.Snippet.{Snippet}
 use Rattle.snippet_view.specs.Mark.{is_marking}
-use Rattle.snippet_text_form.specs.Cause.{after_place, cause_form, is_named_before, further_indent, is_labelled, kind_rank, label_characters, named_spans, span_form, span_place, spans_form}
+use Rattle.snippet_text_form.specs.Cause.{after_place, cause_form, is_named_before, further_indent, is_labelled, kind_rank, label_characters, named_spans}
+use Rattle.snippet_text_form.specs.Cause.{span_form, span_place, spans_form}
 use Rattle.snippet_view.specs.Numbered.{numbered_source}
 use Rattle.snippet_text_form.specs.Form.{FormPiece, Break, bare}
 use Rattle.snippet_text_form.specs.Position.{place}
@@ -36,7 +38,8 @@ compare-tells a b c d = grind (arith, nat_tests)
 one_way : (a b c d : ℕ) → cond (eqb a c) (ltb b d) (ltb a c) ≡ true → cond (eqb c a) (ltb d b) (ltb c a) ≡ false
 one_way a b c d h = grind (arith, nat_tests)
 
-chained : (a b c d e f : ℕ) → cond (eqb a c) (ltb b d) (ltb a c) ≡ false → cond (eqb c e) (ltb d f) (ltb c e) ≡ false → cond (eqb a e) (ltb b f) (ltb a e) ≡ false
+chained : (a b c d e f : ℕ) → cond (eqb a c) (ltb b d) (ltb a c) ≡ false → cond (eqb c e) (ltb d f) (ltb c e) ≡ false
+    → cond (eqb a e) (ltb b f) (ltb a e) ≡ false
 chained a b c d e f h k = grind (arith, nat_tests)
 
 pub comes_before-order : IsStrictWeakOrder is_named_before
@@ -61,7 +64,8 @@ span_before-order = record {
 }
 
 -- what a stable sort makes of the spans that are marked
-pub named_spans-is : (given sorted : List NamedSpan) (marks : List Annotation) → IsSortedBy span_before sorted → IsStableBy span_before given sorted → map annotation_of given ≡ filter (λ a. is_marking a.kind) marks → map annotation_of sorted ≡ named_spans marks
+pub named_spans-is : (given sorted : List NamedSpan) (marks : List Annotation) → IsSortedBy span_before sorted → IsStableBy span_before given sorted
+    → map annotation_of given ≡ filter (λ a. is_marking a.kind) marks → map annotation_of sorted ≡ named_spans marks
 named_spans-is given sorted marks up stable are =
     ap (map annotation_of) (sorted-only span_before span_before-order given sorted up stable) ∙ map-ordered_by annotation_of is_named_before given ∙ ap (ordered_by is_named_before) are
 
@@ -81,7 +85,8 @@ All-annotations P (s ∷ spans) all =
 -- ---- what is added
 
 -- four texts, one after the other
-pub bare-four : (old one two three four : List FormPiece) (a b c d : List ℕ) → one ≡ old ++ bare a → two ≡ one ++ bare b → three ≡ two ++ bare c → four ≡ three ++ bare d → four ≡ old ++ bare (a ++ b ++ c ++ d)
+pub bare-four : (old one two three four : List FormPiece) (a b c d : List ℕ) → one ≡ old ++ bare a → two ≡ one ++ bare b → three ≡ two ++ bare c
+    → four ≡ three ++ bare d → four ≡ old ++ bare (a ++ b ++ c ++ d)
 bare-four old one two three four a b c d first second third fourth =
     fourth ∙ ap (λ l. l ++ bare d) (third ∙ ap (λ l. l ++ bare c) (second ∙ ap (λ l. l ++ bare b) first)) ∙ joined
   where
@@ -89,7 +94,8 @@ bare-four old one two three four a b c d first second third fourth =
     joined = simp (append_assoc, map-append)
 
 -- three texts that are added one after the other are added as one
-pub bare-three : (old one two three : List FormPiece) (a b c : List ℕ) → one ≡ old ++ bare a → two ≡ one ++ bare b → three ≡ two ++ bare c → three ≡ old ++ bare (a ++ b ++ c)
+pub bare-three : (old one two three : List FormPiece) (a b c : List ℕ) → one ≡ old ++ bare a → two ≡ one ++ bare b → three ≡ two ++ bare c
+    → three ≡ old ++ bare (a ++ b ++ c)
 bare-three old one two three a b c first second third =
     third ∙ ap (λ l. l ++ bare c) (second ∙ ap (λ l. l ++ bare b) first) ∙ joined
   where
@@ -99,7 +105,8 @@ bare-three old one two three a b c first second third =
 -- ---- a span that is added
 
 -- a break, an indent and a place
-pub place-added : (old one two three : List FormPiece) (indent place : List ℕ) → one ≡ old ++ Break ∷ [] → two ≡ one ++ bare indent → three ≡ two ++ bare place → three ≡ old ++ Break ∷ bare (indent ++ place)
+pub place-added : (old one two three : List FormPiece) (indent place : List ℕ) → one ≡ old ++ Break ∷ [] → two ≡ one ++ bare indent → three ≡ two ++ bare place
+    → three ≡ old ++ Break ∷ bare (indent ++ place)
 place-added old one two three indent place first second third =
     third ∙ ap (λ l. l ++ bare place) (second ∙ ap (λ l. l ++ bare indent) first) ∙ joined
   where
@@ -144,12 +151,14 @@ span-labelled anonymized source indent path a at old one two three four five is 
 -- ---- spans after the first
 
 -- a span without a label adds nothing
-pub further-none : (form : Annotation → List FormPiece) (old : List FormPiece) (a : Annotation) → is_labelled a ≡ false → old ≡ old ++ flat_map form (filter is_labelled (a ∷ []))
+pub further-none : (form : Annotation → List FormPiece) (old : List FormPiece) (a : Annotation) → is_labelled a ≡ false
+    → old ≡ old ++ flat_map form (filter is_labelled (a ∷ []))
 further-none form old a none =
     sym (ap (λ l. old ++ flat_map form l) (cond-false (is_labelled a) (a ∷ []) [] none) ∙ append-nil old)
 
 -- a span with a label adds its form
-pub further-one : (form : Annotation → List FormPiece) (old new : List FormPiece) (a : Annotation) → is_labelled a ≡ true → new ≡ old ++ form a → new ≡ old ++ flat_map form (filter is_labelled (a ∷ []))
+pub further-one : (form : Annotation → List FormPiece) (old new : List FormPiece) (a : Annotation) → is_labelled a ≡ true → new ≡ old ++ form a
+    → new ≡ old ++ flat_map form (filter is_labelled (a ∷ []))
 further-one form old new a some added =
     added ∙ ap (λ l. old ++ l) (sym (ap (flat_map form) (cond-true (is_labelled a) (a ∷ []) [] some) ∙ append-nil (form a)))
 

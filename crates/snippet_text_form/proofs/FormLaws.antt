@@ -10,14 +10,16 @@ use Rattle.snippet_style.specs.declared.role.ElementStyle.{ElementStyle}
 use Rattle.snippet_style.specs.declared.role.LevelInner.TheVariants.{Note}
 use Rattle.snippet_style.specs.declared.style.Style.{Style}
 use Rattle.snippet_style.specs.declared.stylesheet.Stylesheet.{Stylesheet}
-use Rattle.snippet_text_form.specs.Form.{FormPiece, Char, Break, Styled, begun_after, plain_from, form_text, form_links, link_codes_before, link_codes_after, in_style, role_style, woven_from, form_bytes}
+use Rattle.snippet_text_form.specs.Form.{FormPiece, Char, Break, Styled, begun_after, plain_from, form_text, form_links, link_codes_before, link_codes_after}
+use Rattle.snippet_text_form.specs.Form.{in_style, role_style, woven_from, form_bytes}
 
 -- the woven characters of a text
 abbrev pub woven_chars : List ℕ → List Piece
 woven_chars cs = map (λ ch. woven.Char ch) cs
 
 -- a text in a style, piece by piece
-pub in_style-pieces : (style : Style) (link : Option (List ℕ)) (text : List ℕ) (rest : List Piece) → in_style style link text ++ rest ≡ Opening style ∷ (link_codes_before link ++ (woven_chars text ++ (link_codes_after link ++ Reset style ∷ rest)))
+pub in_style-pieces : (style : Style) (link : Option (List ℕ)) (text : List ℕ) (rest : List Piece)
+    → in_style style link text ++ rest ≡ Opening style ∷ (link_codes_before link ++ (woven_chars text ++ (link_codes_after link ++ Reset style ∷ rest)))
 in_style-pieces style None text rest =
     ap (λ (ps : List Piece). Opening style ∷ ps) (append_assoc (woven_chars text) (Reset style ∷ []) rest)
 in_style-pieces style (Some url) text rest =
@@ -28,11 +30,13 @@ plain-chars : (cs : List ℕ) (ps : List Piece) → flat_map plain_piece (woven_
 plain-chars [] ps = refl
 plain-chars (c ∷ cs) ps = ap (λ (t : List ℕ). c ∷ t) (plain-chars cs ps)
 
-plain-linked : (style : Style) (link : Option (List ℕ)) (text : List ℕ) (rest : List Piece) → flat_map plain_piece (link_codes_before link ++ (woven_chars text ++ (link_codes_after link ++ Reset style ∷ rest))) ≡ text ++ flat_map plain_piece rest
+plain-linked : (style : Style) (link : Option (List ℕ)) (text : List ℕ) (rest : List Piece)
+    → flat_map plain_piece (link_codes_before link ++ (woven_chars text ++ (link_codes_after link ++ Reset style ∷ rest))) ≡ text ++ flat_map plain_piece rest
 plain-linked style None text rest = plain-chars text (Reset style ∷ rest)
 plain-linked style (Some url) text rest = plain-chars text (LinkEnd ∷ Reset style ∷ rest)
 
-plain-in_style : (style : Style) (link : Option (List ℕ)) (text : List ℕ) (rest : List Piece) → flat_map plain_piece (in_style style link text ++ rest) ≡ text ++ flat_map plain_piece rest
+plain-in_style : (style : Style) (link : Option (List ℕ)) (text : List ℕ) (rest : List Piece)
+    → flat_map plain_piece (in_style style link text ++ rest) ≡ text ++ flat_map plain_piece rest
 plain-in_style style link text rest =
     ap (flat_map plain_piece) (in_style-pieces style link text rest) ∙ plain-linked style link text rest
 
@@ -49,7 +53,8 @@ links-chars : (cs : List ℕ) (ps : List Piece) → flat_map piece_link (woven_c
 links-chars [] ps = refl
 links-chars (c ∷ cs) ps = links-chars cs ps
 
-links-linked : (style : Style) (link : Option (List ℕ)) (text : List ℕ) (rest : List Piece) → flat_map piece_link (link_codes_before link ++ (woven_chars text ++ (link_codes_after link ++ Reset style ∷ rest))) ≡ option_to_list link ++ flat_map piece_link rest
+links-linked : (style : Style) (link : Option (List ℕ)) (text : List ℕ) (rest : List Piece)
+    → flat_map piece_link (link_codes_before link ++ (woven_chars text ++ (link_codes_after link ++ Reset style ∷ rest))) ≡ option_to_list link ++ flat_map piece_link rest
 links-linked style None text rest = links-chars text (Reset style ∷ rest)
 links-linked style (Some url) text rest =
     ap (λ (urls : List (List ℕ)). url ∷ urls) (links-chars text (LinkEnd ∷ Reset style ∷ rest))
@@ -69,12 +74,14 @@ chars_of_sheet sheet [] ps of = of
 chars_of_sheet sheet (c ∷ cs) ps of =
     All-cons (λ p. IsOfSheet sheet p) (woven.Char c) (woven_chars cs ++ ps) tt (chars_of_sheet sheet cs ps of)
 
-linked_of_sheet : (sheet : Stylesheet) (link : Option (List ℕ)) (text : List ℕ) (ps : List Piece) → All (λ p. IsOfSheet sheet p) ps → All (λ p. IsOfSheet sheet p) (link_codes_before link ++ (woven_chars text ++ (link_codes_after link ++ ps)))
+linked_of_sheet : (sheet : Stylesheet) (link : Option (List ℕ)) (text : List ℕ) (ps : List Piece) → All (λ p. IsOfSheet sheet p) ps
+    → All (λ p. IsOfSheet sheet p) (link_codes_before link ++ (woven_chars text ++ (link_codes_after link ++ ps)))
 linked_of_sheet sheet None text ps of = chars_of_sheet sheet text ps of
 linked_of_sheet sheet (Some url) text ps of =
     All-cons (λ p. IsOfSheet sheet p) (LinkTo url) (woven_chars text ++ LinkEnd ∷ ps) tt (chars_of_sheet sheet text (LinkEnd ∷ ps) (All-cons (λ p. IsOfSheet sheet p) LinkEnd ps tt of))
 
-in_style_of_sheet : (sheet : Stylesheet) (role : ElementStyle) (link : Option (List ℕ)) (text : List ℕ) (rest : List Piece) → All (λ p. IsOfSheet sheet p) rest → All (λ p. IsOfSheet sheet p) (in_style (role_style sheet role) link text ++ rest)
+in_style_of_sheet : (sheet : Stylesheet) (role : ElementStyle) (link : Option (List ℕ)) (text : List ℕ) (rest : List Piece) → All (λ p. IsOfSheet sheet p) rest
+    → All (λ p. IsOfSheet sheet p) (in_style (role_style sheet role) link text ++ rest)
 in_style_of_sheet sheet role link text rest of =
     let style : Style = role_style sheet role in
     let own : IsStyleOf sheet style = record { level = Note; role = role; is = refl } in
@@ -97,7 +104,8 @@ chars_ended : (inside : Bool) (cs : List ℕ) (ps : List Piece) → AreLinksEnde
 chars_ended inside [] ps ended = ended
 chars_ended inside (c ∷ cs) ps ended = chars_ended inside cs ps ended
 
-linked_ended : (style : Style) (link : Option (List ℕ)) (text : List ℕ) (rest : List Piece) → AreLinksEnded false rest → AreLinksEnded false (link_codes_before link ++ (woven_chars text ++ (link_codes_after link ++ Reset style ∷ rest)))
+linked_ended : (style : Style) (link : Option (List ℕ)) (text : List ℕ) (rest : List Piece) → AreLinksEnded false rest
+    → AreLinksEnded false (link_codes_before link ++ (woven_chars text ++ (link_codes_after link ++ Reset style ∷ rest)))
 linked_ended style None text rest ended = chars_ended false text (Reset style ∷ rest) ended
 linked_ended style (Some url) text rest ended =
     (refl, chars_ended true text (LinkEnd ∷ Reset style ∷ rest) (refl, ended))

@@ -1,5 +1,6 @@
 -- How the text of a form grows, part by part.
-use Rattle.std.proofs.Common.{◌≡◌, ℕ, zero, suc, ◌+◌, ◌<◌, ◌≤◌, ◌/◌, ◌%◌, ◌==◌, ◌||◌, not, Bool, true, false, List, [], ◌∷◌, ◌++◌, Option, Result, Ok, Err, if◌then◌else◌, All, chars, length, replicate, take, get_or, refl, sym, ap, ◌∙◌, subst, arith, encode_utf8, encode_utf8_all}
+use Rattle.std.proofs.Common.{◌≡◌, ℕ, zero, suc, ◌+◌, ◌<◌, ◌≤◌, ◌/◌, ◌%◌, ◌==◌, ◌||◌, not, Bool, true, false, List, [], ◌∷◌, ◌++◌, Option, Result, Ok, Err}
+use Rattle.std.proofs.Common.{if◌then◌else◌, All, chars, length, replicate, take, get_or, refl, sym, ap, ◌∙◌, subst, arith, encode_utf8, encode_utf8_all}
 use Rattle.std.specs.Fmt.{decimal, digits, digits_onto, digit_glyph}
 use Rattle.std.specs.List.{flat_map}
 use Rattle.std.specs.Result.{OnOk, is_ok}
@@ -17,7 +18,8 @@ use Rattle.snippet_grid.specs.Woven.{Piece, Opening, Reset, piece_text}
 use Rattle.snippet_style.specs.declared.style.Style.{Style}
 use Rattle.snippet_style.specs.declared.stylesheet.Stylesheet.{Stylesheet}
 use Rattle.snippet_titles.proofs.DigitLemmas.{IsDigit, decimal-all}
-use Rattle.snippet_text_form.specs.Form.{FormPiece, Char, Break, Styled, bare, begun_after, pieces_of_part, plain_from, form_bytes, link_codes_before, link_codes_after, in_style, role_style, woven_from}
+use Rattle.snippet_text_form.specs.Form.{FormPiece, Char, Break, Styled, bare, begun_after, pieces_of_part, plain_from, form_bytes, link_codes_before}
+use Rattle.snippet_text_form.specs.Form.{link_codes_after, in_style, role_style, woven_from}
 use Rattle.snippet_text_form.specs.declared.form.TextPart.{TextPart}
 use Rattle.snippet_text_form.proofs.FormLaws.{woven_chars, in_style-pieces}
 
@@ -39,7 +41,8 @@ woven-text sheet begun bytes utf8 =
     sym (encodes-chars bytes utf8) ∙ sym (woven-bare sheet begun (chars bytes))
 
 -- the same of what a call adds that may fail
-pub pushed-on_ok : {T E : Type 0} (r : Result T E) (old new kept added bytes : List ℕ) → new ≡ (if is_ok r then old ++ added else kept) → added ≡ bytes → OnOk r (new ≡ old ++ bytes)
+pub pushed-on_ok : {T E : Type 0} (r : Result T E) (old new kept added bytes : List ℕ) → new ≡ (if is_ok r then old ++ added else kept) → added ≡ bytes
+    → OnOk r (new ≡ old ++ bytes)
 pushed-on_ok (Ok value) old new kept added bytes is same = is ∙ ap (λ (bs : List ℕ). old ++ bs) same
 pushed-on_ok (Err error) old new kept added bytes is same = tt
 
@@ -133,7 +136,8 @@ begun_past-append false (Break ∷ ps) more = begun_past-append false ps more
 begun_past-append begun (Styled role link text ∷ ps) more = begun_past-append (begun_after begun text) ps more
 
 -- a form is woven piece by piece
-pub woven-append : (sheet : Stylesheet) (begun : Bool) (form more : List FormPiece) → woven_from sheet begun (form ++ more) ≡ woven_from sheet begun form ++ woven_from sheet (begun_past begun form) more
+pub woven-append : (sheet : Stylesheet) (begun : Bool) (form more : List FormPiece)
+    → woven_from sheet begun (form ++ more) ≡ woven_from sheet begun form ++ woven_from sheet (begun_past begun form) more
 woven-append sheet begun [] more = refl
 woven-append sheet begun (Char ch ∷ ps) more =
     ap (λ (qs : List Piece). woven.Char ch ∷ qs) (woven-append sheet true ps more)
@@ -157,17 +161,20 @@ begun-chars empty bytes text utf8 same is =
     ap not is ∙ some-chars (chars bytes) bytes (encodes-chars bytes utf8) ∙ ap (λ (bs : List ℕ). begun_after false (chars bs)) same
 
 -- a text that is added has begun a line where it isn't empty
-pub begun-text : (empty : Bool) (bytes text : List ℕ) → IsUtf8 bytes → bytes ≡ text → empty ≡ (length bytes == 0) → not empty ≡ begun_after false (plain_from false (bare (chars text)))
+pub begun-text : (empty : Bool) (bytes text : List ℕ) → IsUtf8 bytes → bytes ≡ text → empty ≡ (length bytes == 0)
+    → not empty ≡ begun_after false (plain_from false (bare (chars text)))
 begun-text empty bytes text utf8 same is =
     begun-chars empty bytes text utf8 same is ∙ ap (begun_after false) (sym (plain-bare false (chars text)))
 
 -- a styled text has begun a line where it isn't empty
-pub begun-styled : (empty : Bool) (bytes text : List ℕ) → IsUtf8 bytes → bytes ≡ text → empty ≡ (length bytes == 0) → not empty ≡ begun_after false (chars text ++ [])
+pub begun-styled : (empty : Bool) (bytes text : List ℕ) → IsUtf8 bytes → bytes ≡ text → empty ≡ (length bytes == 0)
+    → not empty ≡ begun_after false (chars text ++ [])
 begun-styled empty bytes text utf8 same is =
     begun-chars empty bytes text utf8 same is ∙ ap (begun_after false) (sym (append-nil (chars text)))
 
 -- a number has a digit
-digits-step : (k n : ℕ) (others : List ℕ) (done : Bool) → (n / 10 == 0) ≡ done → 0 < length (digits_onto k 10 false (n / 10) (digit_glyph false (n % 10) ∷ others)) → 0 < length (digits_onto (suc k) 10 false n others)
+digits-step : (k n : ℕ) (others : List ℕ) (done : Bool) → (n / 10 == 0) ≡ done
+    → 0 < length (digits_onto k 10 false (n / 10) (digit_glyph false (n % 10) ∷ others)) → 0 < length (digits_onto (suc k) 10 false n others)
 digits-step k n others true is more = rw is (omega arith)
 digits-step k n others false is more = rw is more
 
@@ -222,6 +229,7 @@ IsRendered-more sheet parts i part old new begun after within read rendered adde
     subst (λ (ps : List TextPart). IsRendered sheet ps new after) (sym more) (rendered-push sheet (take i parts) part old new begun after rendered added is)
 
 -- all parts
-pub IsRendered-all : (sheet : Stylesheet) (parts : List TextPart) (i : ℕ) (text : List ℕ) (begun : Bool) (form : List FormPiece) → length parts ≤ i → flat_map pieces_of_part parts ≡ form → IsRendered sheet (take i parts) text begun → text ≡ form_bytes sheet form
+pub IsRendered-all : (sheet : Stylesheet) (parts : List TextPart) (i : ℕ) (text : List ℕ) (begun : Bool) (form : List FormPiece) → length parts ≤ i
+    → flat_map pieces_of_part parts ≡ form → IsRendered sheet (take i parts) text begun → text ≡ form_bytes sheet form
 IsRendered-all sheet parts i text begun form past is rendered =
     rendered.text_is ∙ ap (λ (ps : List TextPart). form_bytes sheet (flat_map pieces_of_part ps)) (take_all i parts past) ∙ ap (form_bytes sheet) is

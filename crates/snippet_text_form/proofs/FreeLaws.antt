@@ -1,5 +1,6 @@
 -- No text form holds a listed character but those of a trusted heading's text.
-use Rattle.std.proofs.Common.{◌≡◌, ℕ, ◌==◌, ◌+◌, ◌&&◌, not, nat_lt, Bool, true, false, Option, None, Some, List, [], ◌∷◌, ◌++◌, All, chars, codes, filter, length, replicate, if◌then◌else◌, refl, sym, subst, arith}
+use Rattle.std.proofs.Common.{◌≡◌, ℕ, ◌==◌, ◌+◌, ◌&&◌, not, nat_lt, Bool, true, false, Option, None, Some, List, [], ◌∷◌, ◌++◌, All, chars, codes, filter}
+use Rattle.std.proofs.Common.{length, replicate, if◌then◌else◌, refl, sym, subst, arith}
 use Rattle.std.specs.Cow.{cow_str_bytes}
 use Rattle.std.specs.Fmt.{decimal}
 use Rattle.std.specs.List.{flat_map, Contains}
@@ -31,12 +32,15 @@ use Rattle.snippet_titles.specs.declared.style.HeadingRoles.{HeadingRoles}
 use Rattle.snippet_titles.proofs.DigitLemmas.{IsDigit, decimal-all}
 use Rattle.snippet_titles.proofs.FreeLemmas.{IsUnlisted, IsOwn, norm-free, own_text, own_unlisted, All-slice_split}
 use Rattle.snippet_titles.proofs.OriginFree.{each-fails}
-use Rattle.snippet_text_form.specs.Cause.{after_place, cause_form, column_unless, end_in_file, end_on_line, is_labelled, is_blank_before, is_blank_after, label_characters, named_spans, further_indent, span_form, span_place, span_text, spans_form}
+use Rattle.snippet_text_form.specs.Cause.{after_place, cause_form, column_unless, end_in_file, end_on_line, is_labelled, is_blank_before, is_blank_after}
+use Rattle.snippet_text_form.specs.Cause.{label_characters, named_spans, further_indent, span_form, span_place, span_text, spans_form}
 use Rattle.snippet_view.specs.Numbered.{numbered_source}
 use Rattle.snippet_text_form.specs.Form.{FormPiece, Break, Styled, bare, begun_after, plain_from, styled}
-use Rattle.snippet_text_form.specs.Heading.{before_id, before_name, colon_form, further_line, heading_form, id_form, id_text_form, label_form, heading_label, link_for, linking, lines_form, name_form, text_roles_of}
+use Rattle.snippet_text_form.specs.Heading.{before_id, before_name, colon_form, further_line, heading_form, id_form, id_text_form, label_form, heading_label}
+use Rattle.snippet_text_form.specs.Heading.{link_for, linking, lines_form, name_form, text_roles_of}
 use Rattle.snippet_text_form.specs.Position.{after_path, column_words, place, place_in_file, place_on_line}
-use Rattle.snippet_text_form.specs.Suggestion.{added_form, edit_form, edit_indent, edit_place, replaces_whole_line, named_path, option_form, origin_form, overwrites, replaced_to, replaces, suggestion_form}
+use Rattle.snippet_text_form.specs.Suggestion.{added_form, edit_form, edit_indent, edit_place, replaces_whole_line, named_path, option_form, origin_form}
+use Rattle.snippet_text_form.specs.Suggestion.{overwrites, replaced_to, replaces, suggestion_form}
 use Rattle.snippet_text_form.specs.declared.heading.HeadingKind.{HeadingKind}
 use Rattle.snippet_text_form.specs.declared.heading.HeadingKind.TheVariants.{Title, Message}
 use Rattle.snippet_text_form.specs.declared.suggestion.SuggestionContext.{SuggestionContext}
@@ -175,7 +179,8 @@ after_place-free label free = of_shown (nat_lt 0 (length label))
     of_shown true = free-append (codes ": ") label (each-fails is_listed (codes ": ") refl) free
     of_shown false = All-nil IsUnlisted
 
-span_text-free : (anonymized : Bool) (source : Source) (indent : List ℕ) (path : Option (List ℕ)) (a : Annotation) → AreFree indent → AreFree (span_text anonymized source indent path a)
+span_text-free : (anonymized : Bool) (source : Source) (indent : List ℕ) (path : Option (List ℕ)) (a : Annotation) → AreFree indent
+    → AreFree (span_text anonymized source indent path a)
 span_text-free anonymized source indent path a free =
     let at = locations_of source a.span.start a.span.end in
     let place : List ℕ = span_place anonymized source path at.0 at.1 in
@@ -233,7 +238,8 @@ replaced_to-free anonymized start end = of_lines (start.line == end.line)
         (free-append (codes " to line ") (line_name anonymized end.line) (each-fails is_listed (codes " to line ") refl)
         (line_name-free anonymized end.line)) (each-fails is_listed (codes ", column ") refl)) (decimal-free (end.char + 1))
 
-edit_place-free : (anonymized : Bool) (source : Source) (path : Option (List ℕ)) (e : Edit) (start end : Loc) → AreFree (edit_place anonymized source path e start end)
+edit_place-free : (anonymized : Bool) (source : Source) (path : Option (List ℕ)) (e : Edit) (start end : Loc)
+    → AreFree (edit_place anonymized source path e start end)
 edit_place-free anonymized source path e start end = of_kind (replaces source.text e)
   where
     column : Option ℕ
@@ -266,7 +272,8 @@ added-free source e = of_blank (is_blank e.text)
     of_blank false =
         each-append IsUnlisted refl (bare sign) (styled Addition text) (each-bare IsUnlisted refl sign (sign-free (overwrites source e))) (each-styled IsUnlisted refl Addition None text (norm-free (chars (without_final_line_feeds e.text))))
 
-edit-free : (anonymized : Bool) (source : Source) (indent : List ℕ) (path : Option (List ℕ)) → AreFree indent → (e : Edit) → FormIsFree (edit_form anonymized source indent path e)
+edit-free : (anonymized : Bool) (source : Source) (indent : List ℕ) (path : Option (List ℕ)) → AreFree indent → (e : Edit)
+    → FormIsFree (edit_form anonymized source indent path e)
 edit-free anonymized source indent path free e =
     let at = locations_of source e.start e.end in
     let place : List ℕ = edit_place anonymized source path e at.0 at.1 in
@@ -284,7 +291,8 @@ edit_indent-free None = each-fails is_listed (codes " ") refl
 edit_indent-free (Some number) = each-fails is_listed (codes "  ") refl
 
 -- a suggestion holds none, nor does a place without source
-pub suggestion-free : (begun anonymized : Bool) (at : SuggestionContext) (s : Snippet Patch) → All (λ c. is_listed c ≡ false) (plain_from begun (suggestion_form anonymized at s))
+pub suggestion-free : (begun anonymized : Bool) (at : SuggestionContext) (s : Snippet Patch)
+    → All (λ c. is_listed c ≡ false) (plain_from begun (suggestion_form anonymized at s))
 unfolding suggestion_form
 suggestion-free begun anonymized at s =
     let source : Source = numbered_source s in
@@ -375,6 +383,7 @@ module _ (P : ℕ → Type 0) (free : (c : ℕ) → IsUnlisted c → P c) where
       each-break P (free 10 refl) (label ++ lines) (each-append P (free 10 refl) label lines (label-all hyperlink kind roles heading) (lines-all roles.text width (heading_lines heading) (All-slice_split P (λ c. c == 10) (shown_text heading) all)))
 
 -- a listed character in the text form of a heading is of its own text, and that may be styled
-pub heading-free : (begun hyperlink : Bool) (kind : HeadingKind) (heading : Heading) → All (λ c. is_listed c ≡ true → (heading.allows_styling ≡ true) × Contains (chars heading.text) c) (plain_from begun (heading_form hyperlink kind heading))
+pub heading-free : (begun hyperlink : Bool) (kind : HeadingKind) (heading : Heading)
+    → All (λ c. is_listed c ≡ true → (heading.allows_styling ≡ true) × Contains (chars heading.text) c) (plain_from begun (heading_form hyperlink kind heading))
 heading-free begun hyperlink kind heading =
     heading-all (IsOwn heading) (own_unlisted heading) hyperlink kind heading (own_text heading heading.allows_styling refl) begun

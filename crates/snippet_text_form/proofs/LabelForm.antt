@@ -1,5 +1,6 @@
 -- What stands before a heading's text, and the whole heading.
-use Rattle.std.proofs.Common.{◌≡◌, ℕ, ◌+◌, ◌==◌, Bool, true, false, nat_lt, List, [], ◌∷◌, ◌++◌, Option, None, Some, Result, chars, length, if◌then◌else◌, refl, sym, ap, ◌∙◌, subst, arith}
+use Rattle.std.proofs.Common.{◌≡◌, ℕ, ◌+◌, ◌==◌, Bool, true, false, nat_lt, List, [], ◌∷◌, ◌++◌, Option, None, Some, Result, chars, length, if◌then◌else◌, refl}
+use Rattle.std.proofs.Common.{sym, ap, ◌∙◌, subst, arith}
 use Rattle.std.specs.Cow.{cow_str_bytes}
 use Rattle.std.specs.Option.{option_map}
 use Rattle.std.specs.Result.{OnOk}
@@ -18,7 +19,8 @@ use Rattle.snippet_titles.specs.Heading.{address_of, colon_of, heading_lines, is
 use Rattle.snippet_titles.specs.declared.style.HeadingRoles.{HeadingRoles}
 use Rattle.snippet_titles.proofs.SignLemmas.{chars-colon}
 use Rattle.snippet_text_form.specs.Form.{FormPiece, Break, Styled, bare, styled}
-use Rattle.snippet_text_form.specs.Heading.{before_id, before_name, colon_form, heading_form, id_form, id_label, label_form, label_of_id, heading_label, lines_form, link_for, id_text_form, text_roles_of}
+use Rattle.snippet_text_form.specs.Heading.{before_id, before_name, colon_form, heading_form, id_form, id_label, label_form, label_of_id, heading_label}
+use Rattle.snippet_text_form.specs.Heading.{lines_form, link_for, id_text_form, text_roles_of}
 use Rattle.snippet_text_form.specs.declared.heading.HeadingKind.{HeadingKind}
 use Rattle.snippet_text_form.proofs.AddedLemmas.{added-two, added-two-on_ok}
 use Rattle.snippet_text_form.proofs.FormSteps.{begun-chars}
@@ -37,7 +39,8 @@ colon-set role false id set = ap (styled role) chars-colon
 -- ---- the id
 
 -- an address for a text, which is none where the text is empty
-pub link-known : (empty : Bool) (bytes own text : List ℕ) (address given : Option (List ℕ)) → IsUtf8 bytes → bytes ≡ own → empty ≡ (length bytes == 0) → chars own ≡ text → (empty ≡ true → given ≡ None) → (empty ≡ false → given ≡ address) → given ≡ link_for address text
+pub link-known : (empty : Bool) (bytes own text : List ℕ) (address given : Option (List ℕ)) → IsUtf8 bytes → bytes ≡ own → empty ≡ (length bytes == 0)
+    → chars own ≡ text → (empty ≡ true → given ≡ None) → (empty ≡ false → given ≡ address) → given ≡ link_for address text
 link-known true bytes own text address given utf8 same is spelled none some =
     none refl ∙ ap (λ (b : Bool). if b then address else None) (begun-chars true bytes own utf8 same is ∙ ap (λ (cs : List ℕ). nat_lt 0 (length cs)) spelled)
 link-known false bytes own text address given utf8 same is spelled none some =
@@ -63,13 +66,15 @@ width_of-two : (xs ys : List ℕ) → width_of (xs ++ ys) ≡ width_of xs + widt
 width_of-two xs ys = sum_by-append char_width xs ys
 
 -- a name that isn't hidden is as wide as what stands before it and itself
-pub name-width : (hidden : Bool) (before text : List ℕ) (one two : ℕ) → hidden ≡ false → one ≡ width_of before → two ≡ width_of text → one + two ≡ (if hidden then 0 else width_of (before ++ norm text))
+pub name-width : (hidden : Bool) (before text : List ℕ) (one two : ℕ) → hidden ≡ false → one ≡ width_of before → two ≡ width_of text
+    → one + two ≡ (if hidden then 0 else width_of (before ++ norm text))
 name-width true before text one two is first second = cc
 name-width false before text one two is first second =
     omega (arith, first, second, width_of-two before (norm text), width_of-norm text)
 
 -- an id is as wide as what stands before it and itself
-pub id-width : (hidden : Bool) (id : Id) (before text : List ℕ) (one two : ℕ) → option_map cow_str_bytes id.id ≡ Some text → before ≡ before_id hidden → one ≡ width_of before → two ≡ width_of (chars text) → one + two ≡ width_of (label_of_id hidden (Some id))
+pub id-width : (hidden : Bool) (id : Id) (before text : List ℕ) (one two : ℕ) → option_map cow_str_bytes id.id ≡ Some text → before ≡ before_id hidden
+    → one ≡ width_of before → two ≡ width_of (chars text) → one + two ≡ width_of (label_of_id hidden (Some id))
 id-width hidden id before text one two is led first second =
     let whole : width_of (before_id hidden ++ norm (chars text)) ≡ width_of (label_of_id hidden (Some id)) = ap (λ t. width_of (id_label hidden t)) (sym is) in
     let lead : width_of before ≡ width_of (before_id hidden) = ap width_of led in

@@ -1,5 +1,6 @@
 -- What a text form links to.
-use Rattle.std.proofs.Common.{◌≡◌, ℕ, ◌&&◌, not, Bool, true, false, Option, None, Some, List, [], ◌∷◌, ◌++◌, Global, chars, codes, filter, replicate, if◌then◌else◌, refl, ap, ◌∙◌, arith}
+use Rattle.std.proofs.Common.{◌≡◌, ℕ, ◌&&◌, not, Bool, true, false, Option, None, Some, List, [], ◌∷◌, ◌++◌, Global, chars, codes, filter, replicate}
+use Rattle.std.proofs.Common.{if◌then◌else◌, refl, ap, ◌∙◌, arith}
 use Rattle.std.specs.Cow.{cow_str_bytes}
 use Rattle.std.specs.Fmt.{decimal}
 use Rattle.std.specs.List.{flat_map}
@@ -32,9 +33,11 @@ use Rattle.snippet_titles.specs.declared.style.HeadingRoles.{HeadingRoles}
 use Rattle.snippet_text_form.specs.Cause.{cause_form, is_labelled, named_spans, further_indent, span_form, span_text, spans_form}
 use Rattle.snippet_view.specs.Numbered.{numbered_source}
 use Rattle.snippet_text_form.specs.Form.{FormPiece, bare, form_links, styled}
-use Rattle.snippet_text_form.specs.Heading.{before_id, before_name, colon_form, further_line, heading_form, id_form, id_text_form, label_form, heading_label, link_for, linking, lines_form, name_form, text_roles_of}
+use Rattle.snippet_text_form.specs.Heading.{before_id, before_name, colon_form, further_line, heading_form, id_form, id_text_form, label_form, heading_label}
+use Rattle.snippet_text_form.specs.Heading.{link_for, linking, lines_form, name_form, text_roles_of}
 use Rattle.snippet_text_form.specs.Position.{place, place_in_file}
-use Rattle.snippet_text_form.specs.Suggestion.{added_form, edit_form, edit_indent, edit_place, named_path, option_form, origin_form, overwrites, suggestion_form}
+use Rattle.snippet_text_form.specs.Suggestion.{added_form, edit_form, edit_indent, edit_place, named_path, option_form, origin_form, overwrites}
+use Rattle.snippet_text_form.specs.Suggestion.{suggestion_form}
 use Rattle.snippet_text_form.specs.declared.heading.HeadingKind.{HeadingKind}
 use Rattle.snippet_text_form.specs.declared.suggestion.SuggestionContext.{SuggestionContext}
 
@@ -70,7 +73,8 @@ linking-links role address (c ∷ cs) =
     ap (λ a. option_to_list a ++ []) (link_for-some address c cs) ∙ append-nil (option_to_list address)
 
 -- so does an id
-id_text-links : (hidden : Bool) (role : ElementStyle) (address : Option (List ℕ)) (text : List ℕ) → form_links (id_text_form hidden role address (Some text)) ≡ text_links address (norm (chars text))
+id_text-links : (hidden : Bool) (role : ElementStyle) (address : Option (List ℕ)) (text : List ℕ)
+    → form_links (id_text_form hidden role address (Some text)) ≡ text_links address (norm (chars text))
 id_text-links hidden role address text =
     links-after (bare (before_id hidden)) (linking role address (norm (chars text))) (bare-links (before_id hidden)) ∙ linking-links role address (norm (chars text))
 
@@ -99,7 +103,8 @@ colon-links role hidden id = by_case (hidden && not (is_set id))
     by_case true = refl
     by_case false = refl
 
-label-links : (hyperlink : Bool) (kind : HeadingKind) (roles : HeadingRoles) (heading : Heading) → form_links (label_form hyperlink kind roles heading) ≡ id_links hyperlink heading.id
+label-links : (hyperlink : Bool) (kind : HeadingKind) (roles : HeadingRoles) (heading : Heading)
+    → form_links (label_form hyperlink kind roles heading) ≡ id_links hyperlink heading.id
 label-links hyperlink kind roles heading =
     let hidden : Bool = is_hidden heading.level.name in
     let id : List FormPiece = id_form hyperlink hidden roles.label heading.id in
@@ -112,7 +117,8 @@ lines-links role width (line ∷ lines) =
     each-links (further_line role width) (λ l. links-before (bare (10 ∷ replicate width 32)) (styled role l) refl ∙ bare-links (10 ∷ replicate width 32)) lines
 
 -- a heading links to the address of its id
-pub heading-links : (hyperlink : Bool) (kind : HeadingKind) (heading : Heading) → form_links (heading_form hyperlink kind heading) ≡ id_links hyperlink heading.id
+pub heading-links : (hyperlink : Bool) (kind : HeadingKind) (heading : Heading)
+    → form_links (heading_form hyperlink kind heading) ≡ id_links hyperlink heading.id
 unfolding heading_form
 heading-links hyperlink kind heading =
     let roles : HeadingRoles = text_roles_of kind heading.level.kind heading.allows_styling in
@@ -122,7 +128,8 @@ heading-links hyperlink kind heading =
     links-before label lines (lines-links roles.text width (heading_lines heading)) ∙ label-links hyperlink kind roles heading
 
 -- the other elements link to nothing
-spans-links : (anonymized : Bool) (source : Source) (path : Option (List ℕ)) (marks : List Annotation) → form_links (spans_form anonymized source path marks) ≡ []
+spans-links : (anonymized : Bool) (source : Source) (path : Option (List ℕ)) (marks : List Annotation)
+    → form_links (spans_form anonymized source path marks) ≡ []
 spans-links anonymized source path [] = bare-links (codes " " ++ place anonymized path source.first None)
 spans-links anonymized source path (a ∷ marks) =
     let first : List FormPiece = span_form anonymized source (codes " ") path a in
@@ -150,7 +157,8 @@ added-links source e = of_blank (is_blank e.text) refl
     of_blank false is =
         rw is (links-before (bare sign) (styled Addition (norm (chars (without_final_line_feeds e.text)))) refl ∙ bare-links sign)
 
-edit-links : (anonymized : Bool) (source : Source) (indent : List ℕ) (path : Option (List ℕ)) (e : Edit) → form_links (edit_form anonymized source indent path e) ≡ []
+edit-links : (anonymized : Bool) (source : Source) (indent : List ℕ) (path : Option (List ℕ)) (e : Edit)
+    → form_links (edit_form anonymized source indent path e) ≡ []
 edit-links anonymized source indent path e =
     let at = locations_of source e.start e.end in
     let front : List ℕ = indent ++ edit_place anonymized source path e at.0 at.1 in

@@ -1,5 +1,6 @@
 -- Which texts stand in a text form, one after the other.
-use Rattle.std.proofs.Common.{◌≡◌, ℕ, nat_lt, ◌==◌, Bool, true, false, Option, None, List, [], ◌∷◌, ◌++◌, codes, filter, length, map, refl, sym, ap, subst, ◌∙◌, arith, append_assoc}
+use Rattle.std.proofs.Common.{◌≡◌, ℕ, nat_lt, ◌==◌, Bool, true, false, Option, None, List, [], ◌∷◌, ◌++◌, codes, filter, length, map, refl, sym, ap, subst, ◌∙◌}
+use Rattle.std.proofs.Common.{arith, append_assoc}
 use Rattle.std.specs.List.{flat_map, list_any}
 use Rattle.std.proofs.lemmas.Bool.Decides.{nat_tests}
 use Rattle.std.proofs.lemmas.List.{append-nil}
@@ -15,7 +16,8 @@ use Rattle.snippet_titles.specs.Heading.{shown_text, heading_lines}
 use Rattle.snippet_text.specs.Width.{width_of}
 use Rattle.snippet_titles.specs.declared.style.HeadingRoles.{HeadingRoles}
 use Rattle.snippet_titles.proofs.OriginFree.{each-fails}
-use Rattle.snippet_text_form.specs.Cause.{after_place, cause_form, is_labelled, label_characters, named_spans, further_indent, span_form, span_place, spans_form}
+use Rattle.snippet_text_form.specs.Cause.{after_place, cause_form, is_labelled, label_characters, named_spans, further_indent, span_form, span_place}
+use Rattle.snippet_text_form.specs.Cause.{spans_form}
 use Rattle.snippet_view.specs.Numbered.{numbered_source}
 use Rattle.snippet_text_form.specs.Form.{FormPiece, Char, Break, Styled, bare, begun_after, plain_from}
 use Rattle.snippet_text_form.specs.Heading.{heading_form, label_form, heading_label, lines_form, text_roles_of}
@@ -39,7 +41,8 @@ begun-append false (x ∷ xs) ys =
     begun-cons false x (xs ++ ys) ∙ sym (ap (λ t. begun_after t ys) (begun-cons false x xs))
 
 -- the plain characters of one text form after another
-pub plain-append : (begun : Bool) (a b : List FormPiece) → plain_from begun (a ++ b) ≡ plain_from begun a ++ plain_from (begun_after begun (plain_from begun a)) b
+pub plain-append : (begun : Bool) (a b : List FormPiece)
+    → plain_from begun (a ++ b) ≡ plain_from begun a ++ plain_from (begun_after begun (plain_from begun a)) b
 plain-append begun [] b = ap (λ t. plain_from t b) (sym (begun-nil begun))
 plain-append begun (Char ch ∷ a) b =
     ap (λ cs. ch ∷ cs) (plain-append true a b) ∙ ap (λ t. ch ∷ plain_from true a ++ plain_from t b) (sym (begun-cons begun ch (plain_from true a)))
@@ -86,7 +89,8 @@ holds-bare : (parts : List (List ℕ)) (text : List ℕ) → StandInOrder parts 
 holds-bare parts text stand begun = subst (StandInOrder parts) (sym (plain-bare begun text)) stand
 
 -- the text of a heading that has one line
-pub heading-holds : (begun hyperlink : Bool) (kind : HeadingKind) (heading : Heading) → list_any (λ c. c == 10) (shown_text heading) ≡ false → StandInOrder (shown_text heading ∷ []) (plain_from begun (heading_form hyperlink kind heading))
+pub heading-holds : (begun hyperlink : Bool) (kind : HeadingKind) (heading : Heading) → list_any (λ c. c == 10) (shown_text heading) ≡ false
+    → StandInOrder (shown_text heading ∷ []) (plain_from begun (heading_form hyperlink kind heading))
 unfolding heading_form
 heading-holds begun hyperlink kind heading one =
     let roles : HeadingRoles = text_roles_of kind heading.level.kind heading.allows_styling in
@@ -105,14 +109,16 @@ label-stands (c ∷ cs) front =
     stand-after ((c ∷ cs) ∷ []) front (after_place (c ∷ cs)) (subst (StandInOrder ((c ∷ cs) ∷ [])) (sym full) (stand-after ((c ∷ cs) ∷ []) (codes ": ") (c ∷ cs) (stand-alone (c ∷ cs))))
 
 -- the label of an annotation
-span-holds : (anonymized : Bool) (source : Source) (indent : List ℕ) (path : Option (List ℕ)) (a : Annotation) → Holds (label_characters a ∷ []) (span_form anonymized source indent path a)
+span-holds : (anonymized : Bool) (source : Source) (indent : List ℕ) (path : Option (List ℕ)) (a : Annotation)
+    → Holds (label_characters a ∷ []) (span_form anonymized source indent path a)
 span-holds anonymized source indent path a =
     let at = locations_of source a.span.start a.span.end in
     let front : List ℕ = indent ++ span_place anonymized source path at.0 at.1 in
     holds-after (label_characters a ∷ []) (Break ∷ []) (bare (front ++ after_place (label_characters a))) (holds-bare (label_characters a ∷ []) (front ++ after_place (label_characters a)) (label-stands (label_characters a) front))
 
 -- those of further annotations, of which only those with a label are named
-further-holds : (anonymized : Bool) (source : Source) (indent : List ℕ) (marks : List Annotation) → Holds (map label_characters marks) (flat_map (span_form anonymized source indent None) (filter is_labelled marks))
+further-holds : (anonymized : Bool) (source : Source) (indent : List ℕ) (marks : List Annotation)
+    → Holds (map label_characters marks) (flat_map (span_form anonymized source indent None) (filter is_labelled marks))
 further-holds anonymized source indent [] begun = tt
 further-holds anonymized source indent (a ∷ marks) begun =
     of_label (label_characters a) refl (further-holds anonymized source indent marks)
@@ -123,7 +129,8 @@ further-holds anonymized source indent (a ∷ marks) begun =
     rest : List Annotation
     rest = filter is_labelled marks
 
-    of_label : (label : List ℕ) → label_characters a ≡ label → Holds (map label_characters marks) (form rest) → StandInOrder (map label_characters (a ∷ marks)) (plain_from begun (form (filter is_labelled (a ∷ marks))))
+    of_label : (label : List ℕ) → label_characters a ≡ label → Holds (map label_characters marks) (form rest)
+        → StandInOrder (map label_characters (a ∷ marks)) (plain_from begun (form (filter is_labelled (a ∷ marks))))
     of_label [] is later =
         let none : is_labelled a ≡ false = ap (λ l. nat_lt 0 (length l)) is in
         let whole : List ℕ = plain_from begun (form rest) in
@@ -132,14 +139,16 @@ further-holds anonymized source indent (a ∷ marks) begun =
         let some : is_labelled a ≡ true = ap (λ l. nat_lt 0 (length l)) is ∙ begun-cons false c cs in
         rw some (holds-append (label_characters a ∷ []) (map label_characters marks) (span_form anonymized source indent None a) (form rest) (span-holds anonymized source indent None a) later begun)
 
-spans-hold : (anonymized : Bool) (source : Source) (path : Option (List ℕ)) (marks : List Annotation) → Holds (map label_characters marks) (spans_form anonymized source path marks)
+spans-hold : (anonymized : Bool) (source : Source) (path : Option (List ℕ)) (marks : List Annotation)
+    → Holds (map label_characters marks) (spans_form anonymized source path marks)
 spans-hold anonymized source path [] begun = tt
 spans-hold anonymized source path (a ∷ marks) begun =
     let indent : List ℕ = further_indent path in
     holds-append (label_characters a ∷ []) (map label_characters marks) (span_form anonymized source (codes " ") path a) (flat_map (span_form anonymized source indent None) (filter is_labelled marks)) (span-holds anonymized source (codes " ") path a) (further-holds anonymized source indent marks) begun
 
 -- the labels of a cause
-pub cause-holds : (begun anonymized : Bool) (s : Snippet Annotation) → StandInOrder (map label_characters (named_spans s.markers.items)) (plain_from begun (cause_form anonymized s))
+pub cause-holds : (begun anonymized : Bool) (s : Snippet Annotation)
+    → StandInOrder (map label_characters (named_spans s.markers.items)) (plain_from begun (cause_form anonymized s))
 unfolding cause_form
 cause-holds begun anonymized s =
     spans-hold anonymized (numbered_source s) (option_map cow_str_bytes s.path) (named_spans s.markers.items) begun

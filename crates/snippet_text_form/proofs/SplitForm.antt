@@ -1,5 +1,6 @@
 -- The lines of a heading's text, and what they add to a form.
-use Rattle.std.proofs.Common.{◌≡◌, ◌≢◌, ℕ, zero, suc, ◌+◌, ◌<◌, ◌==◌, Bool, true, false, List, [], ◌∷◌, ◌++◌, chars, length, map, replicate, if◌then◌else◌, refl, sym, ap, ◌∙◌, arith}
+use Rattle.std.proofs.Common.{◌≡◌, ◌≢◌, ℕ, zero, suc, ◌+◌, ◌<◌, ◌==◌, Bool, true, false, List, [], ◌∷◌, ◌++◌, chars, length, map, replicate, if◌then◌else◌}
+use Rattle.std.proofs.Common.{refl, sym, ap, ◌∙◌, arith}
 use Rattle.std.specs.Borrow.{Bor}
 use Rattle.std.specs.List.{enumerate_from, flat_map, onto_first}
 use Rattle.std.specs.Str.{IsUtf8}
@@ -22,13 +23,15 @@ use Rattle.snippet_text_form.specs.Heading.{before_line, further_line, lines_for
 list_any-shown_feed : (c : ℕ) → (c == 10) ≡ false → list_any (λ b. b == 10) (shown c) ≡ false
 list_any-shown_feed c other = grind (arith, nat_tests, other)
 
-norm-onto : (c : ℕ) (rest : List ℕ) (parts : List (List ℕ)) → (c == 10) ≡ false → lines_at (norm rest) ≡ map norm parts → 0 < length parts → lines_at (shown c ++ norm rest) ≡ map norm (onto_first c parts)
+norm-onto : (c : ℕ) (rest : List ℕ) (parts : List (List ℕ)) → (c == 10) ≡ false → lines_at (norm rest) ≡ map norm parts → 0 < length parts
+    → lines_at (shown c ++ norm rest) ≡ map norm (onto_first c parts)
 unfolding norm
 norm-onto c rest [] other is some = absurd (omega (arith, some))
 norm-onto c rest (part ∷ parts) other is some =
     lines_at-after (shown c) (norm rest) (norm part) (map norm parts) (All-from_none (λ b. b == 10) (shown c) (list_any-shown_feed c other)) is
 
-norm-step : (c : ℕ) (cs : List ℕ) (feed : Bool) → (c == 10) ≡ feed → lines_at (norm cs) ≡ map norm (lines_at cs) → lines_at (shown c ++ norm cs) ≡ map norm (lines_at (c ∷ cs))
+norm-step : (c : ℕ) (cs : List ℕ) (feed : Bool) → (c == 10) ≡ feed → lines_at (norm cs) ≡ map norm (lines_at cs)
+    → lines_at (shown c ++ norm cs) ≡ map norm (lines_at (c ∷ cs))
 unfolding norm
 norm-step c cs true is same =
     let feed : c ≡ 10 = grind (arith, nat_tests, is) in
@@ -59,12 +62,14 @@ abbrev pub shown_lines : Bool → List (ℕ × Bor (List ℕ)) → List (List �
 shown_lines trusted numbered = map (λ p. line_shown trusted (line_of p)) numbered
 
 -- all lines
-shown_lines-seen : (trusted : Bool) (numbered : List (ℕ × Bor (List ℕ))) → shown_lines trusted numbered ≡ map (λ (p : ℕ × List ℕ). line_shown trusted (chars p.1)) (map (λ (p : ℕ × Bor (List ℕ)). (p.0, p.1.now)) numbered)
+shown_lines-seen : (trusted : Bool) (numbered : List (ℕ × Bor (List ℕ)))
+    → shown_lines trusted numbered ≡ map (λ (p : ℕ × List ℕ). line_shown trusted (chars p.1)) (map (λ (p : ℕ × Bor (List ℕ)). (p.0, p.1.now)) numbered)
 shown_lines-seen trusted [] = refl
 shown_lines-seen trusted (p ∷ ps) =
     ap (λ (ls : List (List ℕ)). line_shown trusted (line_of p) ∷ ls) (shown_lines-seen trusted ps)
 
-shown_lines-numbered : (trusted : Bool) (n : ℕ) (lines : List (List ℕ)) → map (λ (p : ℕ × List ℕ). line_shown trusted (chars p.1)) (enumerate_from n lines) ≡ map (line_shown trusted) (map chars lines)
+shown_lines-numbered : (trusted : Bool) (n : ℕ) (lines : List (List ℕ))
+    → map (λ (p : ℕ × List ℕ). line_shown trusted (chars p.1)) (enumerate_from n lines) ≡ map (line_shown trusted) (map chars lines)
 shown_lines-numbered trusted n [] = refl
 shown_lines-numbered trusted n (line ∷ lines) =
     ap (λ (ls : List (List ℕ)). line_shown trusted (chars line) ∷ ls) (shown_lines-numbered trusted (n + 1) lines)
@@ -80,7 +85,8 @@ shown_lines-all styling trusted own text numbered trusts utf8 is all =
     ∙ ap (λ (bs : List ℕ). lines_at (if styling then chars bs else norm (chars bs))) is
 
 -- one line more
-lines_form-push : (role : ElementStyle) (width : ℕ) (lines : List (List ℕ)) (line : List ℕ) → lines_form role width (lines ++ line ∷ []) ≡ lines_form role width lines ++ (bare (before_line width (length lines)) ++ styled role line)
+lines_form-push : (role : ElementStyle) (width : ℕ) (lines : List (List ℕ)) (line : List ℕ)
+    → lines_form role width (lines ++ line ∷ []) ≡ lines_form role width lines ++ (bare (before_line width (length lines)) ++ styled role line)
 lines_form-push role width [] line = refl
 lines_form-push role width (first ∷ lines) line =
     ap (λ (ps : List FormPiece). styled role first ++ ps) (flat_map-append (further_line role width) lines (line ∷ []) ∙ ap (λ (ps : List FormPiece). flat_map (further_line role width) lines ++ ps) (append-nil (further_line role width line)))
@@ -90,7 +96,8 @@ abbrev pub with_lines : List FormPiece → ElementStyle → ℕ → Bool → Lis
 with_lines old role width trusted numbered = old ++ lines_form role width (shown_lines trusted numbered)
 
 -- once all lines are added the form is that of them all
-pub all_added : (old form : List FormPiece) (role : ElementStyle) (width : ℕ) (trusted : Bool) (numbered : List (ℕ × Bor (List ℕ))) (lines : List (List ℕ)) → form ≡ with_lines old role width trusted numbered → shown_lines trusted numbered ≡ lines → form ≡ old ++ lines_form role width lines
+pub all_added : (old form : List FormPiece) (role : ElementStyle) (width : ℕ) (trusted : Bool) (numbered : List (ℕ × Bor (List ℕ))) (lines : List (List ℕ))
+    → form ≡ with_lines old role width trusted numbered → shown_lines trusted numbered ≡ lines → form ≡ old ++ lines_form role width lines
 all_added old form role width trusted numbered lines so_far all =
     so_far ∙ ap (λ (ls : List (List ℕ)). old ++ lines_form role width ls) all
 

@@ -20,7 +20,8 @@ use Rattle.snippet_suggest.specs.declared.PreparedSuggestion.{PreparedSuggestion
 use Rattle.snippet_text_form.specs.Cause.{column_unless}
 use Rattle.snippet_text_form.specs.Form.{FormPiece, Break}
 use Rattle.snippet_text_form.specs.Position.{place}
-use Rattle.snippet_text_form.specs.Suggestion.{edit_form, edit_indent, edit_place, replaces_whole_line, named_path, option_form, overwrites, replaced_to, replaces, suggestion_form}
+use Rattle.snippet_text_form.specs.Suggestion.{edit_form, edit_indent, edit_place, replaces_whole_line, named_path, option_form, overwrites, replaced_to}
+use Rattle.snippet_text_form.specs.Suggestion.{replaces, suggestion_form}
 use Rattle.snippet_text_form.specs.declared.suggestion.SuggestionContext.{SuggestionContext}
 use Rattle.snippet_text_form.proofs.AddedLemmas.{added-two}
 
@@ -29,7 +30,8 @@ pub adds_line : (old mid new form : List FormPiece) → mid ≡ old ++ Break ∷
 adds_line old mid new form first last = added-two old mid new (Break ∷ []) form first last
 
 -- whether an edit stands over text that isn't blank, as it was asked of the source itself
-pub seen_over : (text source : List ℕ) (e : Edit) (over : Bool) → text ≡ source → IsSpan source e.start e.end → (IsSpan text e.start e.end → over ≡ overwrites text e) → over ≡ overwrites source e
+pub seen_over : (text source : List ℕ) (e : Edit) (over : Bool) → text ≡ source → IsSpan source e.start e.end
+    → (IsSpan text e.start e.end → over ≡ overwrites text e) → over ≡ overwrites source e
 seen_over text source e over same span asked =
     asked (subst (λ t. IsSpan t e.start e.end) (sym same) span) ∙ ap (λ t. overwrites t e) same
 
@@ -43,7 +45,8 @@ replaced_place anonymized source path e start end over given =
     (and_from (overwrites source.text e) (not (is_blank e.text)) over (ap not given))
 
 -- the place of an edit that doesn't replace text is where it starts
-pub other_place : (anonymized : Bool) (source : Source) (path : Option (List ℕ)) (e : Edit) (start end : Loc) → replaces source.text e ≡ false → edit_place anonymized source path e start end ≡ place anonymized path start.line (column_unless (replaces_whole_line source start end e) start)
+pub other_place : (anonymized : Bool) (source : Source) (path : Option (List ℕ)) (e : Edit) (start end : Loc) → replaces source.text e ≡ false
+    → edit_place anonymized source path e start end ≡ place anonymized path start.line (column_unless (replaces_whole_line source start end e) start)
 other_place anonymized source path e start end other =
     cond-false (replaces source.text e) (place anonymized path start.line (Some (start.char + 1)) ++ replaced_to anonymized start end) (place anonymized path start.line (column_unless (replaces_whole_line source start end e) start)) other
 

@@ -1,12 +1,14 @@
 //! Annotated snippets.
-ghost use Rattle.std.specs.Prelude.{◌≡◌, ◌==◌, ◌&&◌, ◌++◌, ◌^◌, ◌≤◌, [], ◌∷◌, All, None, Some, chars, filter, length, map, nat_lt, not, IfOk, OnOk};
+ghost use Rattle.std.specs.Prelude.{◌≡◌, ◌==◌, ◌&&◌, ◌++◌, ◌^◌, ◌≤◌, [], ◌∷◌, All, None, Some, chars, filter, length};
+ghost use Rattle.std.specs.Prelude.{map, nat_lt, not, IfOk, OnOk};
 ghost use Rattle.std.specs.Char.{is_whitespace};
 ghost use Rattle.std.specs.List.{flat_map};
 ghost use Rattle.std.specs.Cow.{cow_str_bytes};
 ghost use Rattle.std.specs.Option.{option_copied, option_map};
 ghost use Rattle.std.specs.Ordering.{nat_cmp, ordering_then};
 ghost use Rattle.snippet_lines.specs.Span.{IsSpan};
-ghost use Rattle.snippet_text_form.specs.Cause.{cause_form, end_in_file, end_on_line, is_labelled, kind_rank, span_form, span_place, spans_form};
+ghost use Rattle.snippet_text_form.specs.Cause.{cause_form, end_in_file, end_on_line, is_labelled, kind_rank};
+ghost use Rattle.snippet_text_form.specs.Cause.{span_form, span_place, spans_form};
 ghost use Rattle.snippet_view.specs.Numbered.{numbered_source};
 ghost use Rattle.snippet_text_form.specs.Cause as spec;
 ghost use Rattle.snippet_text_form.specs.Form.{bare};

@@ -10,7 +10,9 @@ ghost use Rattle.std.specs.Fmt.{decimal};
 ghost use Rattle.std.specs.List.{flat_map};
 ghost use Rattle.std.specs.Option.{option_copied};
 ghost use Rattle.snippet_grid.specs.Woven.{IsWoven, piece_text};
-ghost use Rattle.snippet_text_form.specs.Form.{Break, Styled, bare, begun_after, form_bytes, form_links, form_text, in_style, link_codes_before, link_codes_after, pieces_of_part, plain_from, role_style, woven_from};
+ghost use Rattle.snippet_text_form.specs.Form.{Break, Styled, bare, begun_after, form_bytes, form_links, form_text};
+ghost use Rattle.snippet_text_form.specs.Form.{in_style, link_codes_before, link_codes_after, pieces_of_part};
+ghost use Rattle.snippet_text_form.specs.Form.{plain_from, role_style, woven_from};
 
 use snippet_style::{ElementStyle, LevelInner, Style, Stylesheet, reset_code, write_opening};
 use snippet_text::CowStr;

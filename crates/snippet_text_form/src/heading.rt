@@ -10,7 +10,8 @@ ghost use Rattle.snippet_text.specs.Normalized.{norm};
 ghost use Rattle.snippet_text.specs.Width.{width_of};
 ghost use Rattle.snippet_titles.specs.Heading.{heading_lines};
 ghost use Rattle.snippet_text_form.specs.Form.{bare};
-ghost use Rattle.snippet_text_form.specs.Heading.{before_line, before_name, colon_form, heading_form, id_form, label_form, label_of_id, heading_label, lines_form, name_form};
+ghost use Rattle.snippet_text_form.specs.Heading.{before_line, before_name, colon_form, heading_form, id_form};
+ghost use Rattle.snippet_text_form.specs.Heading.{label_form, label_of_id, heading_label, lines_form, name_form};
 ghost use Rattle.snippet_text_form.specs.Heading as spec;
 
 use crate::form::TextForm;

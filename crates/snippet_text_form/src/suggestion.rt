@@ -8,7 +8,8 @@ ghost use Rattle.snippet_splice.specs.Edits.{trimmed_edit_of};
 ghost use Rattle.snippet_splice.specs.Shown.{without_final_line_feeds};
 ghost use Rattle.snippet_suggest.specs.Prepared.{IsPrepared};
 ghost use Rattle.snippet_text_form.specs.Form.{bare};
-ghost use Rattle.snippet_text_form.specs.Suggestion.{added_form, edit_form, edit_indent, edit_place, named_path, option_form, replaced_to, suggestion_form};
+ghost use Rattle.snippet_text_form.specs.Suggestion.{added_form, edit_form, edit_indent, edit_place, named_path};
+ghost use Rattle.snippet_text_form.specs.Suggestion.{option_form, replaced_to, suggestion_form};
 ghost use Rattle.snippet_text_form.specs.Suggestion as spec;
 
 use crate::cause::column_unless;

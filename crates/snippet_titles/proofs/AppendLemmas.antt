@@ -1,10 +1,12 @@
 -- What a grid becomes where cells are added after those of a row.
-use Rattle.std.proofs.Common.{◌≡◌, ◌≢◌, ℕ, ◌+◌, ◌-◌, ◌^◌, ◌<◌, ◌≤◌, max, map, set, List, [], ◌∷◌, ◌++◌, length, take, drop, get_or, Option, None, Some, refl, sym, ap, ◌∙◌, arith, inl, inr}
+use Rattle.std.proofs.Common.{◌≡◌, ◌≢◌, ℕ, ◌+◌, ◌-◌, ◌^◌, ◌<◌, ◌≤◌, max, map, set, List, [], ◌∷◌, ◌++◌, length, take, drop, get_or, Option, None, Some, refl}
+use Rattle.std.proofs.Common.{sym, ap, ◌∙◌, arith, inl, inr}
 use Rattle.std.specs.Str.{chars, IsUtf8}
 use Rattle.std.proofs.lemmas.Str.{chars-nil, encodes-chars}
 use Rattle.std.proofs.Math.Utf8.{encodes}
 use Rattle.std.proofs.lemmas.Bool.{cases_eq, cases_lt}
-use Rattle.std.proofs.lemmas.List.{append-nil, append_assoc, get_or-set_same, get_or-set_other, set-get_or, length-append, length-drop, length-set, places, same_lists, take_all}
+use Rattle.std.proofs.lemmas.List.{append-nil, append_assoc, get_or-set_same, get_or-set_other, set-get_or, length-append, length-drop, length-set, places}
+use Rattle.std.proofs.lemmas.List.{same_lists, take_all}
 use Rattle.std.proofs.Math.Seq.{take-append_seam, drop-append_seam}
 use Rattle.std.proofs.Math.ListN.{drop_of_length-le}
 use Rattle.snippet_grid.specs.Grid.{linked, row_at, cells_written, changed_within, cells_linked}
@@ -16,10 +18,13 @@ use Rattle.snippet_titles.specs.Appended.{appended, linked_from}
 use Rattle.snippet_titles.specs.Heading.{linked_to}
 
 -- a text, by its characters, after a row's cells
-pub appended_text : (old new : List (List Cell)) (row : ℕ) (role : ElementStyle) (text : List ℕ) → IsUtf8 text → (0 < length text → new ≡ cells_written old row (length (row_at old row)) (text_cells role (chars text))) → (text ≡ [] → new ≡ old) → new ≡ appended old row (text_cells role (chars text))
+pub appended_text : (old new : List (List Cell)) (row : ℕ) (role : ElementStyle) (text : List ℕ) → IsUtf8 text
+    → (0 < length text → new ≡ cells_written old row (length (row_at old row)) (text_cells role (chars text))) → (text ≡ [] → new ≡ old)
+    → new ≡ appended old row (text_cells role (chars text))
 appended_text old new row role text utf8 full empty = by text (chars text) refl utf8 full empty
   where
-    by : (t cs : List ℕ) → chars t ≡ cs → IsUtf8 t → (0 < length t → new ≡ cells_written old row (length (row_at old row)) (text_cells role (chars t))) → (t ≡ [] → new ≡ old) → new ≡ appended old row (text_cells role (chars t))
+    by : (t cs : List ℕ) → chars t ≡ cs → IsUtf8 t → (0 < length t → new ≡ cells_written old row (length (row_at old row)) (text_cells role (chars t)))
+        → (t ≡ [] → new ≡ old) → new ≡ appended old row (text_cells role (chars t))
     by t [] is spelled filled none =
         let nothing : t ≡ [] = sym (encodes-chars t spelled) ∙ ap encodes is in
         rw is (none nothing)
@@ -38,7 +43,8 @@ placed-twice rows row r s =
     same_lists _ _ (unfold written in grind (arith, places)) (λ k d h. unfold written in grind (arith, places))
 
 -- cells after those of a row put the longer row in its place
-pub appended-is : (rows : List (List Cell)) (row : ℕ) (cells : List Cell) → 0 < length cells → appended rows row cells ≡ written [] rows row ((row_at rows row ++ cells) ∷ [])
+pub appended-is : (rows : List (List Cell)) (row : ℕ) (cells : List Cell) → 0 < length cells
+    → appended rows row cells ≡ written [] rows row ((row_at rows row ++ cells) ∷ [])
 appended-is rows row [] some = absurd (omega (arith, some))
 appended-is rows row (cell ∷ cells) some =
     ap (λ (r : List Cell). written [] rows row (r ∷ [])) (written_end SPACE (row_at rows row) (cell ∷ cells))
@@ -69,7 +75,8 @@ appended-appended rows row (x ∷ xs) (y ∷ ys) =
     ∙ sym (appended-is rows row (x ∷ xs ++ y ∷ ys) (omega arith))
 
 -- a change of a list from one element on to its end
-changed_to_end : {X : Type 0} (f : X → X) (start end : ℕ) (xs : List X) → start ≤ end → length xs ≤ end → changed_within f start end xs ≡ take start xs ++ map f (drop start xs)
+changed_to_end : {X : Type 0} (f : X → X) (start end : ℕ) (xs : List X) → start ≤ end → length xs ≤ end
+    → changed_within f start end xs ≡ take start xs ++ map f (drop start xs)
 unfolding changed_within
 changed_to_end f start end xs before within =
     let part : take (end - start) (drop start xs) ≡ drop start xs = take_all (end - start) (drop start xs) (omega (arith, length-drop start xs)) in
@@ -81,7 +88,8 @@ changed_after f end xs ys within =
     changed_to_end f (length xs) end (xs ++ ys) (omega (arith, within)) (omega (arith, within, length-append xs ys)) ∙ ap (λ zs. zs ++ map f (drop (length xs) (xs ++ ys))) (take-append_seam xs ys) ∙ ap (λ zs. xs ++ map f zs) (drop-append_seam xs ys)
 
 -- the rows beside the one that was put in its place
-placed-other : (rows : List (List Cell)) (row : ℕ) (r s : List Cell) (k : ℕ) (d : List Cell) → k ≢ row → get_or (written [] rows row (r ∷ [])) k d ≡ get_or (written [] rows row (s ∷ [])) k d
+placed-other : (rows : List (List Cell)) (row : ℕ) (r s : List Cell) (k : ℕ) (d : List Cell) → k ≢ row
+    → get_or (written [] rows row (r ∷ [])) k d ≡ get_or (written [] rows row (s ∷ [])) k d
 unfolding written
 placed-other rows row r s k d other = grind (arith, places)
 
@@ -98,7 +106,8 @@ set_placed rows row r s =
     ])
 
 -- the cells that were added, linked
-linked_row : (rows : List (List Cell)) (row end : ℕ) (cells : List Cell) (url : List ℕ) → length (row_at rows row) + length cells ≤ end → cells_linked (appended rows row cells) row (length (row_at rows row)) end url ≡ appended rows row (map (linked url) cells)
+linked_row : (rows : List (List Cell)) (row end : ℕ) (cells : List Cell) (url : List ℕ) → length (row_at rows row) + length cells ≤ end
+    → cells_linked (appended rows row cells) row (length (row_at rows row)) end url ≡ appended rows row (map (linked url) cells)
 linked_row rows row end [] url within =
     let xs : List Cell = row_at rows row in
     elim (cases_lt row (length rows)) [
@@ -117,7 +126,8 @@ linked_row rows row end (cell ∷ cells) url within =
     ∙ sym (appended-is rows row (map (linked url) (cell ∷ cells)) (omega arith))
 
 -- cells that are appended and then linked are linked cells appended
-pub linked_from-appended : (rows : List (List Cell)) (row from : ℕ) (address : Option (List ℕ)) (cells : List Cell) → length (row_at rows row) ≡ from → from + length cells < 2 ^ 64 → linked_from address row from (appended rows row cells) ≡ appended rows row (linked_to address cells)
+pub linked_from-appended : (rows : List (List Cell)) (row from : ℕ) (address : Option (List ℕ)) (cells : List Cell) → length (row_at rows row) ≡ from
+    → from + length cells < 2 ^ 64 → linked_from address row from (appended rows row cells) ≡ appended rows row (linked_to address cells)
 linked_from-appended rows row from None cells size within = refl
 linked_from-appended rows row from (Some url) cells size within =
     ap (λ n. cells_linked (appended rows row cells) row n (2 ^ 64 - 1) url) (sym size) ∙ linked_row rows row (2 ^ 64 - 1) cells url (omega (arith, size, within))

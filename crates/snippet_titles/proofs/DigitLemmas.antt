@@ -12,7 +12,8 @@ digit_glyph-digit : (n : ℕ) → IsDigit (digit_glyph false (n % 10))
 digit_glyph-digit n = grind (arith, nat_tests)
 
 -- one more digit before others, and those before it, where there are any
-digit-more : (k n : ℕ) (others : List ℕ) (done : Bool) → (n / 10 == 0) ≡ done → All IsDigit (digit_glyph false (n % 10) ∷ others) → All IsDigit (digits_onto k 10 false (n / 10) (digit_glyph false (n % 10) ∷ others)) → All IsDigit (digits_onto (suc k) 10 false n others)
+digit-more : (k n : ℕ) (others : List ℕ) (done : Bool) → (n / 10 == 0) ≡ done → All IsDigit (digit_glyph false (n % 10) ∷ others)
+    → All IsDigit (digits_onto k 10 false (n / 10) (digit_glyph false (n % 10) ∷ others)) → All IsDigit (digits_onto (suc k) 10 false n others)
 digit-more k n others true is here all = rw is here
 digit-more k n others false is here all = rw is all
 

@@ -27,7 +27,8 @@ trimmed-full (row ∷ rows) cells some =
     ap (on_top row) (trimmed-full rows cells some) ∙ on_top-more row (rows ++ cells ∷ []) (omega (arith, length-append rows (cells ∷ [])))
 
 -- the rows that aren't there are empty
-on_top-refilled : (row : List Cell) (rows all : List (List Cell)) → rows ++ replicate (length all - length rows) [] ≡ all → length rows ≤ length all → (on_top row rows ++ replicate (suc (length all) - length (on_top row rows)) [] ≡ row ∷ all) × (length (on_top row rows) ≤ suc (length all))
+on_top-refilled : (row : List Cell) (rows all : List (List Cell)) → rows ++ replicate (length all - length rows) [] ≡ all → length rows ≤ length all
+    → (on_top row rows ++ replicate (suc (length all) - length (on_top row rows)) [] ≡ row ∷ all) × (length (on_top row rows) ≤ suc (length all))
 on_top-refilled [] [] all is within =
     let more : suc (length all) - 0 ≡ suc (length all - 0) = omega arith in
     let none : List Cell = [] in
@@ -70,12 +71,14 @@ row_at-trimmed rows k =
     sym (past_rows (trimmed rows) (length rows - length (trimmed rows)) k) ∙ ap (λ rs. row_at rs k) (refilled rows).0
 
 -- a row after those that were drawn below a grid, of which some at the end may not be there yet
-pub written_past : {X : Type 0} (blank : X) (xs new : List X) (at : ℕ) → length xs ≤ at → written blank xs at new ≡ xs ++ replicate (at - length xs) blank ++ new
+pub written_past : {X : Type 0} (blank : X) (xs new : List X) (at : ℕ) → length xs ≤ at
+    → written blank xs at new ≡ xs ++ replicate (at - length xs) blank ++ new
 written_past blank xs new at past =
     same_lists _ _ (unfold written in grind (arith, places)) (λ k d h. unfold written in grind (arith, places))
 
 -- cells that are appended in a row below those so far are one more row
-pub appended-further : (base done : List (List Cell)) (row : ℕ) (cells : List Cell) → row ≡ length base + length done → appended (base ++ trimmed done) row cells ≡ base ++ trimmed (done ++ cells ∷ [])
+pub appended-further : (base done : List (List Cell)) (row : ℕ) (cells : List Cell) → row ≡ length base + length done
+    → appended (base ++ trimmed done) row cells ≡ base ++ trimmed (done ++ cells ∷ [])
 appended-further base done row [] at = ap (λ rs. base ++ rs) (sym (trimmed-empty done))
 appended-further base done row (cell ∷ cells) at =
     let there : List (List Cell) = base ++ trimmed done in
@@ -96,7 +99,8 @@ appended_below rows row cells at =
     ap (λ rs. appended rs row cells) (sym (append-nil rows)) ∙ appended-further rows [] row cells (omega (arith, at))
 
 -- the row that stands there is the last one
-pub IsAtEnd-is : (base rows : List (List Cell)) (row : ℕ) (cells : List Cell) → row ≡ length base → rows ≡ base ++ trimmed (cells ∷ []) → (take row rows ≡ base) × (row_at rows row ≡ cells) × IsAtEnd row rows
+pub IsAtEnd-is : (base rows : List (List Cell)) (row : ℕ) (cells : List Cell) → row ≡ length base → rows ≡ base ++ trimmed (cells ∷ [])
+    → (take row rows ≡ base) × (row_at rows row ≡ cells) × IsAtEnd row rows
 IsAtEnd-is base rows row cells at is =
     let below : List (List Cell) = trimmed (cells ∷ []) in
     let front : take row rows ≡ base = ap (take row) is ∙ ap (λ n. take n (base ++ below)) at ∙ take-append_seam base below in
@@ -110,7 +114,8 @@ IsAtEnd-is base rows row cells at is =
     )
 
 -- cells after those of the last row
-pub appended-last : (rows : List (List Cell)) (row : ℕ) (cells : List Cell) → IsAtEnd row rows → appended rows row cells ≡ take row rows ++ trimmed ((row_at rows row ++ cells) ∷ [])
+pub appended-last : (rows : List (List Cell)) (row : ℕ) (cells : List Cell) → IsAtEnd row rows
+    → appended rows row cells ≡ take row rows ++ trimmed ((row_at rows row ++ cells) ∷ [])
 appended-last rows row cells end =
     let base : List (List Cell) = take row rows in
     let r : List Cell = row_at rows row in
@@ -118,11 +123,13 @@ appended-last rows row cells end =
     ap (λ rs. appended rs row cells) (end.last ∙ sym (appended_below base row r at)) ∙ appended-appended base row r cells ∙ appended_below base row (r ++ cells) at
 
 -- it stays the last one
-pub IsAtEnd-more : (rows new : List (List Cell)) (row : ℕ) (cells : List Cell) → IsAtEnd row rows → new ≡ appended rows row cells → (take row new ≡ take row rows) × (row_at new row ≡ row_at rows row ++ cells) × IsAtEnd row new
+pub IsAtEnd-more : (rows new : List (List Cell)) (row : ℕ) (cells : List Cell) → IsAtEnd row rows → new ≡ appended rows row cells
+    → (take row new ≡ take row rows) × (row_at new row ≡ row_at rows row ++ cells) × IsAtEnd row new
 IsAtEnd-more rows new row cells end is =
     IsAtEnd-is (take row rows) new row (row_at rows row ++ cells) (omega (arith, length-take row rows, end.within)) (is ∙ appended-last rows row cells end)
 
 -- cells that are appended in the first row below stand there, at the end
-pub IsAtEnd-begun : (rows new : List (List Cell)) (row : ℕ) (cells : List Cell) → row ≡ length rows → new ≡ appended rows row cells → (take row new ≡ rows) × (row_at new row ≡ cells) × IsAtEnd row new
+pub IsAtEnd-begun : (rows new : List (List Cell)) (row : ℕ) (cells : List Cell) → row ≡ length rows → new ≡ appended rows row cells
+    → (take row new ≡ rows) × (row_at new row ≡ cells) × IsAtEnd row new
 IsAtEnd-begun rows new row cells at is =
     IsAtEnd-is rows new row cells at (is ∙ appended_below rows row cells at)

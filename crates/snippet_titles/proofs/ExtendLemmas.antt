@@ -10,7 +10,8 @@ use Rattle.snippet_grid.proofs.GridLemmas.{cells_written_last}
 use Rattle.snippet_style.proofs.CellLemmas.{written_end}
 
 -- cells after the last row are added to it
-pub appended_last : (front : List (List Cell)) (row cells : List Cell) → cells_written (front ++ row ∷ []) (length front) (length row) cells ≡ front ++ (row ++ cells) ∷ []
+pub appended_last : (front : List (List Cell)) (row cells : List Cell)
+    → cells_written (front ++ row ∷ []) (length front) (length row) cells ≡ front ++ (row ++ cells) ∷ []
 appended_last front row cells =
     cells_written_last front row (length row) cells ∙ ap (λ (r : List Cell). front ++ r ∷ []) (written_end SPACE row cells)
 
@@ -20,7 +21,8 @@ last_split rows row size =
     sym (take_all (row + 1) rows (omega arith)) ∙ take_more rows row [] (omega arith)
 
 -- the same as an equation between the cells written and the last row extended
-extended_cells : (rows : List (List Cell)) (row : ℕ) (cells : List Cell) → length rows ≡ row + 1 → cells_written rows row (length (row_at rows row)) cells ≡ take row rows ++ (row_at rows row ++ cells) ∷ []
+extended_cells : (rows : List (List Cell)) (row : ℕ) (cells : List Cell) → length rows ≡ row + 1
+    → cells_written rows row (length (row_at rows row)) cells ≡ take row rows ++ (row_at rows row ++ cells) ∷ []
 extended_cells rows row cells size =
     let front : length (take row rows) ≡ row = omega (arith, length-take row rows) in
     ap (λ (all : List (List Cell)). cells_written all row (length (row_at rows row)) cells) (last_split rows row size) ∙ ap (λ r. cells_written (take row rows ++ row_at rows row ∷ []) r (length (row_at rows row)) cells) (sym front) ∙ appended_last (take row rows) (row_at rows row) cells
@@ -34,7 +36,8 @@ extended old new row role [] size full empty = empty refl ∙ last_split old row
 extended old new row role (b ∷ bs) size full empty = full (omega arith) ∙ extended_cells old row (text_cells role (chars (b ∷ bs))) size
 
 -- the same where the last row was just begun
-pub extended_from : (old now new : List (List Cell)) (row : ℕ) (cells more : List Cell) → row ≡ length old → now ≡ old ++ cells ∷ [] → new ≡ take row now ++ (row_at now row ++ more) ∷ [] → new ≡ old ++ (cells ++ more) ∷ []
+pub extended_from : (old now new : List (List Cell)) (row : ℕ) (cells more : List Cell) → row ≡ length old → now ≡ old ++ cells ∷ []
+    → new ≡ take row now ++ (row_at now row ++ more) ∷ [] → new ≡ old ++ (cells ++ more) ∷ []
 extended_from old now new row cells more at begun is =
     let front : take row now ≡ old = ap (λ (rows : List (List Cell)). take row rows) begun ∙ ap (λ r. take r (old ++ cells ∷ [])) at ∙ take-append_seam old (cells ∷ []) in
     let last : row_at now row ≡ cells = ap (λ (rows : List (List Cell)). row_at rows row) begun ∙ ap (λ r. row_at (old ++ cells ∷ []) r) at ∙ get_or-append_seam old cells [] [] in

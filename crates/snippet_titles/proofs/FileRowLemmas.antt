@@ -44,7 +44,8 @@ file_glyph-short Secondary Unicode = omega arith
 
 -- the row that leads to a file
 pub file_row-begun : (old new : List (List Cell)) (row : ℕ) (text : List ℕ) (layout : OriginLayout) (start : FileStart) → row ≡ length old
-    → chars text ≡ file_glyph start layout.frame.decor → (0 < length text → new ≡ cells_written old row layout.frame.gutter (text_cells LineNumber (chars text)))
+    → chars text ≡ file_glyph start layout.frame.decor
+    → (0 < length text → new ≡ cells_written old row layout.frame.gutter (text_cells LineNumber (chars text)))
     → new ≡ old ++ file_row layout start ∷ []
 unfolding file_row
 file_row-begun old new row text layout start below is writes =

@@ -1,5 +1,6 @@
 -- A heading's rows hold no listed character but those of a trusted text.
-use Rattle.std.proofs.Common.{◌≡◌, ℕ, ◌==◌, ◌+◌, ◌&&◌, if◌then◌else◌, not, codes, Bool, true, false, List, [], ◌∷◌, ◌++◌, map, replicate, chars, All, Option, None, Some, refl, sym, subst}
+use Rattle.std.proofs.Common.{◌≡◌, ℕ, ◌==◌, ◌+◌, ◌&&◌, if◌then◌else◌, not, codes, Bool, true, false, List, [], ◌∷◌, ◌++◌, map, replicate, chars, All, Option}
+use Rattle.std.proofs.Common.{None, Some, refl, sym, subst}
 use Rattle.std.specs.List.{slice_split, onto_first, Contains}
 use Rattle.std.proofs.lemmas.List.{get_or_default}
 use Rattle.std.proofs.lemmas.List.Elements.{All-nil, All-cons, All-head, All-tail, All-append, All-from_get_or, All-map, All-replicate, All-weaker}
@@ -20,7 +21,9 @@ use Rattle.snippet_model.specs.Level.{name_of}
 use Rattle.snippet_titles.specs.declared.style.HeadingRoles.{HeadingRoles}
 use Rattle.snippet_titles.specs.declared.style.TitleStyle.{TitleStyle}
 use Rattle.snippet_titles.specs.declared.style.TitleStyle.TheVariants.{Title, Short, Message}
-use Rattle.snippet_titles.specs.Heading.{bracketed_text, closing_bracket_of, colon_of, shown_text, heading_lines, heading_rows, id_text, indent_cells, is_set, label_cells, heading_label_text, label_width, lines_below, note_bar_of, on_top, opening_bracket_of, roles_of, sign_cells, trimmed}
+use Rattle.snippet_titles.specs.Heading.{bracketed_text, closing_bracket_of, colon_of, shown_text, heading_lines, heading_rows, id_text, indent_cells, is_set}
+use Rattle.snippet_titles.specs.Heading.{label_cells, heading_label_text, label_width, lines_below, note_bar_of, on_top, opening_bracket_of, roles_of}
+use Rattle.snippet_titles.specs.Heading.{sign_cells, trimmed}
 use Rattle.snippet_style.specs.Glyphs.{note_sign_of}
 use Rattle.snippet_titles.specs.Shown.{IsFreeButText}
 use Rattle.snippet_titles.proofs.TextLemmas.{row_text-append, row_text-after, row_text-label, row_text-spaces}
@@ -142,7 +145,8 @@ module _ (P : ℕ → Type 0) (free : (c : ℕ) → IsUnlisted c → P c) where
       subst (All P) (sym (row_text-after cells (row_text cells) r line refl)) (All-append P (row_text cells) line before all)
 
   -- what holds of what stands before lines and of the lines holds of their rows
-  pub lines-all : (first further : List Cell) (r : ElementStyle) (lines : List (List ℕ)) → All P (row_text first) → All P (row_text further) → All (All P) lines → All (λ row. All P (row_text row)) (lines_below first further r lines)
+  pub lines-all : (first further : List Cell) (r : ElementStyle) (lines : List (List ℕ)) → All P (row_text first) → All P (row_text further) → All (All P) lines
+      → All (λ row. All P (row_text row)) (lines_below first further r lines)
   lines-all first further r [] begun below all = All-nil (λ row. All P (row_text row))
   lines-all first further r (line ∷ lines) begun below all =
       All-cons (λ row. All P (row_text row)) (first ++ text_cells r line) (map (λ l. further ++ text_cells r l) lines)
@@ -152,7 +156,8 @@ module _ (P : ℕ → Type 0) (free : (c : ℕ) → IsUnlisted c → P c) where
       lines (All-tail (All P) line lines all)))
 
   -- what holds of each character of a heading that is shown holds of those of its rows
-  pub heading_rows-all : (hyperlink : Bool) (style : TitleStyle) (heading : Heading) → All P (shown_text heading) → All (λ row. All P (row_text row)) (heading_rows hyperlink style heading)
+  pub heading_rows-all : (hyperlink : Bool) (style : TitleStyle) (heading : Heading) → All P (shown_text heading)
+      → All (λ row. All P (row_text row)) (heading_rows hyperlink style heading)
   unfolding heading_rows
   heading_rows-all hyperlink style heading all =
       let roles : HeadingRoles = roles_of style heading.level.kind heading.allows_styling in
@@ -169,7 +174,8 @@ abbrev pub IsFreeText : List Cell → Type 0
 IsFreeText row = All IsUnlisted (row_text row)
 
 -- the rows of a heading whose text isn't trusted hold no listed character
-pub heading_rows-untrusted : (hyperlink : Bool) (style : TitleStyle) (heading : Heading) → heading.allows_styling ≡ false → All IsFreeText (heading_rows hyperlink style heading)
+pub heading_rows-untrusted : (hyperlink : Bool) (style : TitleStyle) (heading : Heading) → heading.allows_styling ≡ false
+    → All IsFreeText (heading_rows hyperlink style heading)
 heading_rows-untrusted hyperlink style heading untrusted =
     heading_rows-all IsUnlisted (λ c is. is) hyperlink style heading (rw untrusted (norm-free (chars heading.text)))
 

@@ -1,5 +1,6 @@
 -- What holds of each row that a snippet begins with, of the text in the row of a path, and of each row of a message.
-use Rattle.std.proofs.Common.{◌≡◌, ℕ, ◌+◌, ◌<◌, Bool, true, false, Option, None, Some, List, [], ◌∷◌, ◌++◌, All, length, map, drop, replicate, chars, refl, sym, ap, subst, ◌∙◌, arith}
+use Rattle.std.proofs.Common.{◌≡◌, ℕ, ◌+◌, ◌<◌, Bool, true, false, Option, None, Some, List, [], ◌∷◌, ◌++◌, All, length, map, drop, replicate, chars, refl, sym}
+use Rattle.std.proofs.Common.{ap, subst, ◌∙◌, arith}
 use Rattle.std.specs.Char.{is_ascii_alphanumeric}
 use Rattle.std.proofs.lemmas.List.{length-append, length-replicate, get_or_append_left}
 use Rattle.std.proofs.lemmas.List.Elements.{All-nil, All-cons, All-append, All-replicate, All-get_or}
@@ -21,7 +22,8 @@ use Rattle.snippet_titles.specs.declared.style.HeadingRoles.{HeadingRoles}
 use Rattle.snippet_titles.specs.declared.style.MessageContext.{MessageContext}
 use Rattle.snippet_titles.specs.declared.style.TitleStyle.{TitleStyle}
 use Rattle.snippet_titles.specs.declared.style.TitleStyle.TheVariants.{Message}
-use Rattle.snippet_titles.specs.Heading.{colon_of, heading_lines, heading_rows, id_cells, indent_cells, label_cells, label_width, lines_below, note_bar_of, roles_of, sign_cells}
+use Rattle.snippet_titles.specs.Heading.{colon_of, heading_lines, heading_rows, id_cells, indent_cells, label_cells, label_width, lines_below, note_bar_of}
+use Rattle.snippet_titles.specs.Heading.{roles_of, sign_cells}
 use Rattle.snippet_style.specs.Glyphs.{note_sign_of}
 use Rattle.snippet_titles.specs.Origin.{file_glyph, file_row, opening_head, opening_rows, origin_row, origin_text, snippet_head}
 use Rattle.snippet_style.specs.Separators.{separator_row}
@@ -54,12 +56,14 @@ module _ (P : List Cell → Type 0) (layout : OriginLayout) (separator : P (sepa
     snippet_head-each false first (Some path) = secondary_head-each P layout separator path place (origin path)
 
 -- so none of them holds a listed character or a link
-pub snippet_head-free : (layout : OriginLayout) (primary first : Bool) (path : Option (List ℕ)) (place : OriginLocation) → All IsFree (snippet_head layout primary first path place)
+pub snippet_head-free : (layout : OriginLayout) (primary first : Bool) (path : Option (List ℕ)) (place : OriginLocation)
+    → All IsFree (snippet_head layout primary first path place)
 snippet_head-free layout primary first path place =
     snippet_head-each IsFree layout (separator_row-free layout.frame.decor layout.frame.gutter) (file_row-free layout) place (λ path start. origin_row-free layout start path place) primary first path
 
 -- and none can be taken for a line's
-pub snippet_head-unnumbered : (layout : OriginLayout) (primary first : Bool) (path : Option (List ℕ)) (place : OriginLocation) → All (HasNoNumber layout.frame.gutter) (snippet_head layout primary first path place)
+pub snippet_head-unnumbered : (layout : OriginLayout) (primary first : Bool) (path : Option (List ℕ)) (place : OriginLocation)
+    → All (HasNoNumber layout.frame.gutter) (snippet_head layout primary first path place)
 snippet_head-unnumbered layout primary first path place =
     snippet_head-each (HasNoNumber layout.frame.gutter) layout (separator_row-unnumbered layout.frame.decor layout.frame.gutter) (file_row-unnumbered layout) place (λ path start. origin_row-unnumbered layout start path place) primary first path
 
@@ -75,7 +79,8 @@ glyph-width Secondary Ascii = refl
 glyph-width Secondary Unicode = refl
 
 -- after it the row of a path shows the path with its place
-pub origin_row-text : (layout : OriginLayout) (start : FileStart) (path : List ℕ) (place : OriginLocation) → row_text (drop (layout.frame.gutter + 4) (origin_row layout start path place)) ≡ origin_text layout.anonymized path place
+pub origin_row-text : (layout : OriginLayout) (start : FileStart) (path : List ℕ) (place : OriginLocation)
+    → row_text (drop (layout.frame.gutter + 4) (origin_row layout start path place)) ≡ origin_text layout.anonymized path place
 origin_row-text layout start path place =
     ap (λ n. row_text (drop (layout.frame.gutter + n) (origin_row layout start path place))) (sym (glyph-width start layout.frame.decor)) ∙ ap row_text (origin_row-after layout start path place) ∙ row_text-text_cells LineAndColumn (origin_text layout.anonymized path place)
 
@@ -106,7 +111,8 @@ led-more gutter front others led =
     (omega (arith, led.0, length-append front others), λ c within. ap (λ (cell : Cell). is_ascii_alphanumeric cell.ch) (get_or_append_left front others SPACE c (omega (arith, within, led.0))) ∙ led.1 c within)
 
 -- no row of a message can be taken for a line's
-pub message_rows-unnumbered : (hyperlink : Bool) (place : MessageContext) (heading : Heading) → All (HasNoNumber place.frame.gutter) (heading_rows hyperlink (Message place) heading)
+pub message_rows-unnumbered : (hyperlink : Bool) (place : MessageContext) (heading : Heading)
+    → All (HasNoNumber place.frame.gutter) (heading_rows hyperlink (Message place) heading)
 unfolding heading_rows
 message_rows-unnumbered hyperlink place heading =
     let roles : HeadingRoles = roles_of (Message place) heading.level.kind heading.allows_styling in
@@ -136,7 +142,8 @@ label-unlinked hyperlink roles heading none =
     All-append IsUnlinked (name ++ id) colon (All-append IsUnlinked name id (drawn_unlinked roles.label name_chars) bare) (drawn_unlinked roles.colon (colon_of hidden heading.id))
 
 -- nor does any row of a heading without one
-pub heading_rows-unlinked : (hyperlink : Bool) (style : TitleStyle) (heading : Heading) → heading.id ≡ None → All (All IsUnlinked) (heading_rows hyperlink style heading)
+pub heading_rows-unlinked : (hyperlink : Bool) (style : TitleStyle) (heading : Heading) → heading.id ≡ None
+    → All (All IsUnlinked) (heading_rows hyperlink style heading)
 unfolding heading_rows
 heading_rows-unlinked hyperlink style heading none =
     let roles : HeadingRoles = roles_of style heading.level.kind heading.allows_styling in
@@ -151,5 +158,6 @@ heading_rows-unlinked hyperlink style heading none =
     (drawn_unlinked roles.text line)) (heading_lines heading))
 
 -- no cell of a message's rows has a link where the message has no id
-pub message_rows-unlinked : (hyperlink : Bool) (place : MessageContext) (heading : Heading) → heading.id ≡ None → All (All (λ (cell : Cell). cell.link ≡ None)) (heading_rows hyperlink (Message place) heading)
+pub message_rows-unlinked : (hyperlink : Bool) (place : MessageContext) (heading : Heading) → heading.id ≡ None
+    → All (All (λ (cell : Cell). cell.link ≡ None)) (heading_rows hyperlink (Message place) heading)
 message_rows-unlinked hyperlink place heading none = heading_rows-unlinked hyperlink (Message place) heading none

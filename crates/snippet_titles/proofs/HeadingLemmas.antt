@@ -21,17 +21,20 @@ pub row_at-below : (rows : List (List Cell)) (row : ℕ) → row ≡ length rows
 row_at-below rows row at = get_or_past rows row [] (omega (arith, at))
 
 -- the row that a sign began
-pub sign_begun : (old one : List (List Cell)) (row start : ℕ) (sign : List Cell) → row ≡ length old → one ≡ appended old row sign → start ≡ length sign → length (row_at one row) ≡ start
+pub sign_begun : (old one : List (List Cell)) (row start : ℕ) (sign : List Cell) → row ≡ length old → one ≡ appended old row sign → start ≡ length sign
+    → length (row_at one row) ≡ start
 sign_begun old one row start sign at is size =
     ap (λ rs. length (row_at rs row)) is ∙ ap (λ (r : List Cell). length r) (row_at-appended old row sign) ∙ ap (λ (r : List Cell). length (r ++ sign)) (row_at-below old row at) ∙ sym size
 
 -- the row of the label is the last one
-pub label_begun : (old one two : List (List Cell)) (row : ℕ) (sign label : List Cell) → row ≡ length old → one ≡ appended old row sign → two ≡ appended one row label → (take row two ≡ old) × (row_at two row ≡ sign ++ label) × IsAtEnd row two
+pub label_begun : (old one two : List (List Cell)) (row : ℕ) (sign label : List Cell) → row ≡ length old → one ≡ appended old row sign
+    → two ≡ appended one row label → (take row two ≡ old) × (row_at two row ≡ sign ++ label) × IsAtEnd row two
 label_begun old one two row sign label at first second =
     IsAtEnd-begun old two row (sign ++ label) at (appended-two old one two row sign label first second)
 
 -- the roles of a heading's parts
-pub roles_known : (style : TitleStyle) (heading : Heading) (level : Level) (trusted : Bool) (roles : HeadingRoles) → level ≡ heading.level → trusted ≡ heading.allows_styling → roles ≡ roles_of style level.kind trusted → roles ≡ roles_of style heading.level.kind heading.allows_styling
+pub roles_known : (style : TitleStyle) (heading : Heading) (level : Level) (trusted : Bool) (roles : HeadingRoles) → level ≡ heading.level
+    → trusted ≡ heading.allows_styling → roles ≡ roles_of style level.kind trusted → roles ≡ roles_of style heading.level.kind heading.allows_styling
 roles_known style heading level trusted roles leveled trusts are =
     are ∙ ap (λ (l : Level). roles_of style l.kind trusted) leveled ∙ ap (roles_of style heading.level.kind) trusts
 

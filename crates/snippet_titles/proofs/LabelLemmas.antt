@@ -56,7 +56,8 @@ name_few level known shown same fits is =
     omega (arith, ap length is, length-norm (chars (name_of level)), length-chars_le (name_of level), size, fits)
 
 -- the cells of a row after which a name was drawn
-pub name_start : (old one : List (List Cell)) (row start count : ℕ) (role : ElementStyle) (name : List ℕ) → length (row_at old row) ≡ start → one ≡ appended old row (text_cells role name) → count ≡ length name → length (row_at one row) ≡ start + count
+pub name_start : (old one : List (List Cell)) (row start count : ℕ) (role : ElementStyle) (name : List ℕ) → length (row_at old row) ≡ start
+    → one ≡ appended old row (text_cells role name) → count ≡ length name → length (row_at one row) ≡ start + count
 name_start old one row start count role name size is counted =
     ap (λ rs. length (row_at rs row)) is ∙ ap (λ (r : List Cell). length r) (row_at-appended old row (text_cells role name)) ∙ omega (arith, size, counted, length-append (row_at old row) (text_cells role name), length-text_cells role name)
 
@@ -77,17 +78,20 @@ label_width-parts known level hidden owned id set name shown colon colons levele
     omega (arith, one, two, three, width_of-three (norm (chars (name_of known))) (id_text h owned) (colon_of h owned))
 
 -- an id takes the columns of its text, and in brackets two more
-pub width_of-id : (hidden : Bool) (id : Id) (text : List ℕ) → option_map cow_str_bytes id.id ≡ Some text → width_of (id_text hidden (Some id)) ≡ width_of (opening_bracket_of hidden) + width_of (chars text) + width_of (closing_bracket_of hidden)
+pub width_of-id : (hidden : Bool) (id : Id) (text : List ℕ) → option_map cow_str_bytes id.id ≡ Some text
+    → width_of (id_text hidden (Some id)) ≡ width_of (opening_bracket_of hidden) + width_of (chars text) + width_of (closing_bracket_of hidden)
 width_of-id hidden id text is =
     ap (λ t. width_of (bracketed_text hidden t)) is ∙ width_of-three (opening_bracket_of hidden) (norm (chars text)) (closing_bracket_of hidden) ∙ ap (λ n. width_of (opening_bracket_of hidden) + n + width_of (closing_bracket_of hidden)) (width_of-norm (chars text))
 
 -- an id without brackets is as wide as its text
-pub width_of-bare : (hidden : Bool) (id : Id) (text : List ℕ) (width : ℕ) → hidden ≡ true → option_map cow_str_bytes id.id ≡ Some text → width ≡ width_of (chars text) → width ≡ width_of (id_text hidden (Some id))
+pub width_of-bare : (hidden : Bool) (id : Id) (text : List ℕ) (width : ℕ) → hidden ≡ true → option_map cow_str_bytes id.id ≡ Some text
+    → width ≡ width_of (chars text) → width ≡ width_of (id_text hidden (Some id))
 width_of-bare true id text width hides is measured = omega (arith, width_of-id true id text is, measured)
 width_of-bare false id text width hides is measured = cc
 
 -- an id in brackets is two columns wider than its text
-pub width_of-bracketed : (hidden : Bool) (id : Id) (text : List ℕ) (width : ℕ) → hidden ≡ false → option_map cow_str_bytes id.id ≡ Some text → width ≡ width_of (chars text) → width + 2 ≡ width_of (id_text hidden (Some id))
+pub width_of-bracketed : (hidden : Bool) (id : Id) (text : List ℕ) (width : ℕ) → hidden ≡ false → option_map cow_str_bytes id.id ≡ Some text
+    → width ≡ width_of (chars text) → width + 2 ≡ width_of (id_text hidden (Some id))
 width_of-bracketed true id text width hides is measured = cc
 width_of-bracketed false id text width hides is measured =
     omega (arith, width_of-id false id text is, measured, width_of-opening, width_of-closing)

@@ -21,7 +21,8 @@ pub lines_at-one : (text : List ℕ) → ((i : ℕ) → i < length text → get_
 lines_at-one text none = slice_split_none (λ b. b == 10) text (All-from_get_or (λ b. (b == 10) ≡ false) text 0 (λ i within. let other : get_or text i 0 ≢ 10 = none i within in grind (arith, nat_tests)))
 
 -- a line feed ends the first line
-pub lines_at-first : (text first rest : List ℕ) → text ≡ first ++ (10 ∷ rest) → ((i : ℕ) → i < length first → get_or first i 0 ≢ 10) → lines_at text ≡ first ∷ lines_at rest
+pub lines_at-first : (text first rest : List ℕ) → text ≡ first ++ (10 ∷ rest) → ((i : ℕ) → i < length first → get_or first i 0 ≢ 10)
+    → lines_at text ≡ first ∷ lines_at rest
 lines_at-first text first rest whole none =
     ap lines_at whole ∙ slice_split_at (λ b. b == 10) first 10 rest (All-from_get_or (λ b. (b == 10) ≡ false) first 0 (λ i within. let other : get_or first i 0 ≢ 10 = none i within in grind (arith, nat_tests))) refl
 
@@ -42,7 +43,8 @@ abbrev pub further_rows : List Cell → ElementStyle → List (ℕ × Bor (List 
 further_rows further role numbered = map (λ l. further ++ text_cells role l) (map line_of numbered)
 
 -- the number of a line
-pub number_is : (lines : List (List ℕ)) (k index : ℕ) (line : List ℕ) → k < length (enumerate_from 0 lines) → ◌≡◌ {A = ℕ × List ℕ} (index, line) (get_or (enumerate_from 0 lines) k (index, line)) → index ≡ k
+pub number_is : (lines : List (List ℕ)) (k index : ℕ) (line : List ℕ) → k < length (enumerate_from 0 lines)
+    → ◌≡◌ {A = ℕ × List ℕ} (index, line) (get_or (enumerate_from 0 lines) k (index, line)) → index ≡ k
 number_is lines k index line within is =
     let same = ap {A = ℕ × List ℕ} {B = ℕ} (λ p. p.0) (is ∙ get_or-enumerate_from 0 lines k (index, line) (omega (arith, within, length-enumerate_from 0 lines))) in
     omega (arith, same)
@@ -78,7 +80,8 @@ chars-numbered : (n : ℕ) (lines : List (List ℕ)) → map (λ (p : ℕ × Lis
 chars-numbered n [] = refl
 chars-numbered n (line ∷ lines) = ap (λ ls. chars line ∷ ls) (chars-numbered (n + 1) lines)
 
-chars-seen : (numbered : List (ℕ × Bor (List ℕ))) → map line_of numbered ≡ map (λ (p : ℕ × List ℕ). chars p.1) (map (λ (p : ℕ × Bor (List ℕ)). (p.0, p.1.now)) numbered)
+chars-seen : (numbered : List (ℕ × Bor (List ℕ)))
+    → map line_of numbered ≡ map (λ (p : ℕ × List ℕ). chars p.1) (map (λ (p : ℕ × Bor (List ℕ)). (p.0, p.1.now)) numbered)
 chars-seen [] = refl
 chars-seen (line ∷ lines) = ap (λ ls. line_of line ∷ ls) (chars-seen lines)
 

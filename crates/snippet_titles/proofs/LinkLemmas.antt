@@ -1,5 +1,6 @@
 -- A heading's rows link to the address of its id, and to no other.
-use Rattle.std.proofs.Common.{◌≡◌, ℕ, ◌+◌, ◌<◌, ◌==◌, Bool, true, false, Option, None, Some, List, [], ◌∷◌, ◌++◌, map, length, replicate, chars, All, refl, ap, ◌∙◌, arith}
+use Rattle.std.proofs.Common.{◌≡◌, ℕ, ◌+◌, ◌<◌, ◌==◌, Bool, true, false, Option, None, Some, List, [], ◌∷◌, ◌++◌, map, length, replicate, chars, All, refl, ap}
+use Rattle.std.proofs.Common.{◌∙◌, arith}
 use Rattle.std.specs.Cow.{cow_str_bytes}
 use Rattle.std.specs.declared.alloc.Global.{Global}
 use Rattle.std.specs.declared.borrow.CowStr.{CowStr}
@@ -22,7 +23,9 @@ use Rattle.snippet_model.specs.Level.{name_of}
 use Rattle.snippet_titles.specs.declared.style.HeadingRoles.{HeadingRoles}
 use Rattle.snippet_titles.specs.declared.style.TitleStyle.{TitleStyle}
 use Rattle.snippet_titles.specs.declared.style.TitleStyle.TheVariants.{Title, Short, Message}
-use Rattle.snippet_titles.specs.Heading.{address_of, bracketed_cells, closing_bracket_of, colon_of, shown_text, heading_lines, heading_rows, id_cells, indent_cells, label_cells, label_width, lines_below, linked_to, note_bar_of, on_top, opening_bracket_of, roles_of, sign_cells, trimmed}
+use Rattle.snippet_titles.specs.Heading.{address_of, bracketed_cells, closing_bracket_of, colon_of, shown_text, heading_lines, heading_rows, id_cells}
+use Rattle.snippet_titles.specs.Heading.{indent_cells, label_cells, label_width, lines_below, linked_to, note_bar_of, on_top, opening_bracket_of, roles_of}
+use Rattle.snippet_titles.specs.Heading.{sign_cells, trimmed}
 use Rattle.snippet_style.specs.Glyphs.{note_sign_of}
 use Rattle.snippet_titles.specs.Title.{id_links, text_links, title_rows}
 
@@ -89,7 +92,8 @@ links-linked (Some url) r [] = refl
 links-linked (Some url) r (c ∷ cs) = ap (λ (urls : List (List ℕ)). url ∷ urls) (linked-links url r cs)
 
 -- an id's cells link to its address
-bracketed-links : (hidden : Bool) (r : ElementStyle) (address : Option (List ℕ)) (text : List ℕ) → links_after None (bracketed_cells hidden r address (Some text)) ≡ text_links address (norm (chars text))
+bracketed-links : (hidden : Bool) (r : ElementStyle) (address : Option (List ℕ)) (text : List ℕ)
+    → links_after None (bracketed_cells hidden r address (Some text)) ≡ text_links address (norm (chars text))
 bracketed-links hidden r address text =
     let shown : List Cell = linked_to address (text_cells r (norm (chars text))) in
     let opening : List Cell = text_cells r (opening_bracket_of hidden) in
@@ -105,7 +109,8 @@ id-links hyperlink hidden r (Some id) = of_text id.id refl
         rw (is, append-nil (norm (chars (cow_str_bytes text)))) (bracketed-links hidden r (address_of hyperlink id) (cow_str_bytes text))
 
 -- so does a label, and the row that begins with it
-pub label-links : (hyperlink : Bool) (roles : HeadingRoles) (heading : Heading) → links_after None (label_cells hyperlink roles heading) ≡ id_links hyperlink heading.id
+pub label-links : (hyperlink : Bool) (roles : HeadingRoles) (heading : Heading)
+    → links_after None (label_cells hyperlink roles heading) ≡ id_links hyperlink heading.id
 unfolding label_cells
 label-links hyperlink roles heading =
     let hidden : Bool = is_hidden heading.level.name in
@@ -120,13 +125,15 @@ unlinked_row : (cells : List Cell) (r : ElementStyle) (line : List ℕ) → All 
 unlinked_row cells r line none =
     links-after None [] (cells ++ text_cells r line) (All-append IsUnlinked cells (text_cells r line) none (drawn_unlinked r line))
 
-further-links : (further : List Cell) (r : ElementStyle) (lines : List (List ℕ)) → All IsUnlinked further → links_of (map (λ l. further ++ text_cells r l) lines) ≡ []
+further-links : (further : List Cell) (r : ElementStyle) (lines : List (List ℕ)) → All IsUnlinked further
+    → links_of (map (λ l. further ++ text_cells r l) lines) ≡ []
 further-links further r [] none = refl
 further-links further r (line ∷ lines) none =
     ap (λ (urls : List (List ℕ)). urls ++ links_of (map (λ l. further ++ text_cells r l) lines)) (unlinked_row further r line none) ∙ further-links further r lines none
 
 -- the links of lines are those of what stands before the first
-pub lines-links : (first further : List Cell) (r : ElementStyle) (lines : List (List ℕ)) → 0 < length lines → All IsUnlinked further → links_of (lines_below first further r lines) ≡ links_after None first
+pub lines-links : (first further : List Cell) (r : ElementStyle) (lines : List (List ℕ)) → 0 < length lines → All IsUnlinked further
+    → links_of (lines_below first further r lines) ≡ links_after None first
 lines-links first further r [] some none = absurd (omega (arith, some))
 lines-links first further r (line ∷ lines) some none =
     ap (λ (urls : List (List ℕ)). links_after None (first ++ text_cells r line) ++ urls) (further-links further r lines none) ∙ append-nil (links_after None (first ++ text_cells r line)) ∙ links-after None first (text_cells r line) (drawn_unlinked r line)
@@ -144,7 +151,8 @@ trimmed-links (row ∷ rows) =
     on_top-links row (trimmed rows) ∙ ap (λ urls. links_after None row ++ urls) (trimmed-links rows)
 
 -- the addresses that a heading's rows link to
-pub heading_rows-links : (hyperlink : Bool) (style : TitleStyle) (heading : Heading) → links_of (heading_rows hyperlink style heading) ≡ id_links hyperlink heading.id
+pub heading_rows-links : (hyperlink : Bool) (style : TitleStyle) (heading : Heading)
+    → links_of (heading_rows hyperlink style heading) ≡ id_links hyperlink heading.id
 unfolding heading_rows
 heading_rows-links hyperlink style heading =
     let roles : HeadingRoles = roles_of style heading.level.kind heading.allows_styling in

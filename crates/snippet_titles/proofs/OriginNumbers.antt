@@ -78,7 +78,8 @@ file_row-plain layout start =
     All-append IsPlain (replicate layout.frame.gutter SPACE) (text_cells LineNumber glyph) (spaces-plain layout.frame.gutter) (All-text_cells IsPlain LineNumber glyph (each-fails is_ascii_alphanumeric glyph (glyphs-unnumbered start layout.frame.decor)))
 
 -- the row of an origin has no number
-pub origin_row-unnumbered : (layout : OriginLayout) (start : FileStart) (path : List ℕ) (place : OriginLocation) → HasNoNumber layout.frame.gutter (origin_row layout start path place)
+pub origin_row-unnumbered : (layout : OriginLayout) (start : FileStart) (path : List ℕ) (place : OriginLocation)
+    → HasNoNumber layout.frame.gutter (origin_row layout start path place)
 unfolding origin_row
 origin_row-unnumbered layout start path place =
     front-unnumbered layout.frame.gutter (file_row layout start) (text_cells LineAndColumn (origin_text layout.anonymized path place)) (file_row-long layout start) (file_row-plain layout start)
@@ -89,11 +90,13 @@ file_row-unnumbered layout start c within =
     All-get_or IsPlain (file_row layout start) c SPACE (omega (arith, within, file_row-long layout start)) (file_row-plain layout start)
 
 -- nor in the heads of snippets
-pub primary_head-unnumbered : (layout : OriginLayout) (first : Bool) (path : List ℕ) (place : OriginLocation) → All (HasNoNumber layout.frame.gutter) (primary_head layout first path place)
+pub primary_head-unnumbered : (layout : OriginLayout) (first : Bool) (path : List ℕ) (place : OriginLocation)
+    → All (HasNoNumber layout.frame.gutter) (primary_head layout first path place)
 primary_head-unnumbered layout first path place =
     primary_head-each (HasNoNumber layout.frame.gutter) layout (separator_row-unnumbered layout.frame.decor layout.frame.gutter) path place (λ start. origin_row-unnumbered layout start path place) first
 
-pub secondary_head-unnumbered : (layout : OriginLayout) (path : List ℕ) (place : OriginLocation) → All (HasNoNumber layout.frame.gutter) (secondary_head layout path place)
+pub secondary_head-unnumbered : (layout : OriginLayout) (path : List ℕ) (place : OriginLocation)
+    → All (HasNoNumber layout.frame.gutter) (secondary_head layout path place)
 secondary_head-unnumbered layout path place =
     secondary_head-each (HasNoNumber layout.frame.gutter) layout (separator_row-unnumbered layout.frame.decor layout.frame.gutter) path place (λ start. origin_row-unnumbered layout start path place)
 

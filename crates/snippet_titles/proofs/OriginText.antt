@@ -38,7 +38,8 @@ place_text-chars anonymized place =
     chars-IsAscii (place_text anonymized place) (IsAscii-from_all (place_text anonymized place) (place_text-each (λ c. c < 128) (λ c is. omega (arith, is.1)) (omega arith) (omega arith) anonymized place))
 
 -- a normalised path, and the place added to it
-pub origin_text-added : (path before after : List ℕ) (anonymized : Bool) (place : OriginLocation) → IsUtf8 before → chars before ≡ norm (chars path) → after ≡ before ++ place_text anonymized place → chars after ≡ origin_text anonymized path place
+pub origin_text-added : (path before after : List ℕ) (anonymized : Bool) (place : OriginLocation) → IsUtf8 before → chars before ≡ norm (chars path)
+    → after ≡ before ++ place_text anonymized place → chars after ≡ origin_text anonymized path place
 unfolding origin_text
 origin_text-added path before after anonymized place utf8 shown added =
     ap chars added ∙ chars-append before (place_text anonymized place) utf8 ∙ ap (λ cs. cs ++ chars (place_text anonymized place)) shown ∙ ap (λ cs. norm (chars path) ++ cs) (place_text-chars anonymized place)

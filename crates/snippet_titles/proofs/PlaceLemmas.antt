@@ -1,5 +1,6 @@
 -- Which cells of a heading's rows link to its id's address.
-use Rattle.std.proofs.Common.{◌≡◌, ℕ, suc, ◌+◌, ◌-◌, ◌<◌, ◌≤◌, ◌==◌, ◌&&◌, nat_le, nat_lt, cond, Bool, true, false, Option, None, Some, List, [], ◌∷◌, ◌++◌, length, map, chars, get_or, All, refl, sym, ap, ◌∙◌, arith, inl, inr}
+use Rattle.std.proofs.Common.{◌≡◌, ℕ, suc, ◌+◌, ◌-◌, ◌<◌, ◌≤◌, ◌==◌, ◌&&◌, nat_le, nat_lt, cond, Bool, true, false, Option, None, Some, List, [], ◌∷◌, ◌++◌}
+use Rattle.std.proofs.Common.{length, map, chars, get_or, All, refl, sym, ap, ◌∙◌, arith, inl, inr}
 use Rattle.std.specs.Cow.{cow_str_bytes}
 use Rattle.std.specs.declared.alloc.Global.{Global}
 use Rattle.std.specs.declared.borrow.CowStr.{CowStr}
@@ -19,7 +20,8 @@ use Rattle.snippet_model.specs.Heading.{Heading, is_hidden}
 use Rattle.snippet_model.specs.Level.{name_of}
 use Rattle.snippet_titles.specs.declared.style.HeadingRoles.{HeadingRoles}
 use Rattle.snippet_titles.specs.declared.style.TitleStyle.{TitleStyle}
-use Rattle.snippet_titles.specs.Heading.{address_of, bracketed_cells, closing_bracket_of, colon_of, shown_text, heading_lines, heading_rows, id_cells, indent_cells, label_cells, label_width, lines_below, linked_to, opening_bracket_of, roles_of, sign_cells}
+use Rattle.snippet_titles.specs.Heading.{address_of, bracketed_cells, closing_bracket_of, colon_of, shown_text, heading_lines, heading_rows, id_cells}
+use Rattle.snippet_titles.specs.Heading.{indent_cells, label_cells, label_width, lines_below, linked_to, opening_bracket_of, roles_of, sign_cells}
 use Rattle.snippet_titles.specs.Shown.{LinksId, id_start, is_id_cell}
 use Rattle.snippet_titles.specs.Title.{id_address, id_chars}
 use Rattle.snippet_titles.proofs.EndLemmas.{row_at-trimmed}
@@ -34,7 +36,8 @@ unlinked_at row all c =
     ]
 
 -- in cells that link to an address each does
-linked_at : (address : Option (List ℕ)) (r : ElementStyle) (cs : List ℕ) (c : ℕ) → c < length cs → (get_or (linked_to address (text_cells r cs)) c SPACE).link ≡ address
+linked_at : (address : Option (List ℕ)) (r : ElementStyle) (cs : List ℕ) (c : ℕ) → c < length cs
+    → (get_or (linked_to address (text_cells r cs)) c SPACE).link ≡ address
 linked_at None r cs c within = unlinked_at (text_cells r cs) (drawn_unlinked r cs) c
 linked_at (Some url) r cs c within =
     ap (λ (cell : Cell). cell.link) (get_or-map (linked url) (text_cells r cs) c SPACE SPACE (omega (arith, within, length-text_cells r cs)))
@@ -48,7 +51,8 @@ module _ (xs ys zs : List Cell) where
   second_part : (c : ℕ) → c < length ys → get_or (xs ++ (ys ++ zs)) (length xs + c) SPACE ≡ get_or ys c SPACE
   second_part c within = grind (arith, places)
 
-  other_parts : All IsUnlinked xs → All IsUnlinked zs → (c : ℕ) → (length xs ≤ c → c < length xs + length ys → ⊥) → (get_or (xs ++ (ys ++ zs)) c SPACE).link ≡ None
+  other_parts : All IsUnlinked xs → All IsUnlinked zs → (c : ℕ) → (length xs ≤ c → c < length xs + length ys → ⊥)
+      → (get_or (xs ++ (ys ++ zs)) c SPACE).link ≡ None
   other_parts first third c outside =
       elim (cases_lt c (length xs)) [
         | inl left ↦ (let same : get_or (xs ++ (ys ++ zs)) c SPACE ≡ get_or xs c SPACE = grind (arith, places) in ap (λ (cell : Cell). cell.link) same ∙ unlinked_at xs first c)
@@ -169,10 +173,12 @@ module _ (hyperlink : Bool) (style : TitleStyle) (roles : HeadingRoles) (heading
           (λ c within. text_linked id bytes own given c (omega (arith, within, same)), λ c outside. others_unlinked id bytes own given c (λ from to. outside from (omega (arith, to, same))))
 
 -- the first row, and the others
-first_places : (hyperlink : Bool) (style : TitleStyle) (roles : HeadingRoles) (heading : Heading) (line : List ℕ) → LinksIn hyperlink style roles heading line heading.id
+first_places : (hyperlink : Bool) (style : TitleStyle) (roles : HeadingRoles) (heading : Heading) (line : List ℕ)
+    → LinksIn hyperlink style roles heading line heading.id
 first_places hyperlink style roles heading line = links_in hyperlink style roles heading line heading.id refl
 
-further_at : (further : List Cell) (r : ElementStyle) (lines : List (List ℕ)) (k c : ℕ) → All IsUnlinked further → (cell_at (map (λ l. further ++ text_cells r l) lines) k c).link ≡ None
+further_at : (further : List Cell) (r : ElementStyle) (lines : List (List ℕ)) (k c : ℕ) → All IsUnlinked further
+    → (cell_at (map (λ l. further ++ text_cells r l) lines) k c).link ≡ None
 further_at further r lines k c none =
     elim (cases_lt k (length lines)) [
       | inl within ↦ ap (λ (row : List Cell). (get_or row c SPACE).link) (get_or-map (λ l. further ++ text_cells r l) lines k [] [] within)
@@ -182,7 +188,8 @@ further_at further r lines k c none =
     ]
 
 -- what the test for a cell of the id says
-id_cell : (style : TitleStyle) (heading : Heading) (i c : ℕ) → is_id_cell style heading i c ≡ true → (i ≡ 0) × (id_start style heading ≤ c) × (c < id_start style heading + length (id_chars heading.id))
+id_cell : (style : TitleStyle) (heading : Heading) (i c : ℕ) → is_id_cell style heading i c ≡ true
+    → (i ≡ 0) × (id_start style heading ≤ c) × (c < id_start style heading + length (id_chars heading.id))
 id_cell style heading i c is =
     let start : ℕ = id_start style heading in
     let parts = and_parts (i == 0 && nat_le start c) (nat_lt c (start + length (id_chars heading.id))) is in
@@ -204,7 +211,8 @@ module _ (hyperlink : Bool) (style : TitleStyle) (roles : HeadingRoles) (heading
   abbrev address : Bool → Option (List ℕ)
   address inside = cond inside (id_address hyperlink heading.id) None
 
-  places_in : (line : List ℕ) (below : List (List Cell)) → ((k c : ℕ) → (cell_at below k c).link ≡ None) → LinksId hyperlink style heading ((label ++ text_cells roles.text line) ∷ below)
+  places_in : (line : List ℕ) (below : List (List Cell)) → ((k c : ℕ) → (cell_at below k c).link ≡ None)
+      → LinksId hyperlink style heading ((label ++ text_cells roles.text line) ∷ below)
   places_in line below none =
       let places = first_places hyperlink style roles heading line in
       let start : ℕ = id_start style heading in
@@ -223,7 +231,8 @@ module _ (hyperlink : Bool) (style : TitleStyle) (roles : HeadingRoles) (heading
         ]
       ]
 
-  lines_places : (further : List Cell) (lines : List (List ℕ)) → 0 < length lines → All IsUnlinked further → LinksId hyperlink style heading (lines_below label further roles.text lines)
+  lines_places : (further : List Cell) (lines : List (List ℕ)) → 0 < length lines → All IsUnlinked further
+      → LinksId hyperlink style heading (lines_below label further roles.text lines)
   lines_places further [] some none = absurd (omega (arith, some))
   lines_places further (line ∷ lines) some none =
       places_in line (map (λ l. further ++ text_cells roles.text l) lines) (λ k c. further_at further roles.text lines k c none)

@@ -1,5 +1,6 @@
 -- What a row becomes where signs, spaces, an id or a label are drawn into it.
-use Rattle.std.proofs.Common.{◌≡◌, ℕ, ◌+◌, ◌-◌, ◌^◌, ◌<◌, ◌≤◌, List, [], ◌∷◌, ◌++◌, length, replicate, Bool, true, false, Option, Some, refl, sym, ap, ◌∙◌, arith}
+use Rattle.std.proofs.Common.{◌≡◌, ℕ, ◌+◌, ◌-◌, ◌^◌, ◌<◌, ◌≤◌, List, [], ◌∷◌, ◌++◌, length, replicate, Bool, true, false, Option, Some, refl, sym, ap, ◌∙◌}
+use Rattle.std.proofs.Common.{arith}
 use Rattle.std.specs.Str.{chars}
 use Rattle.std.proofs.lemmas.List.{append_assoc, length-append, places, same_lists}
 use Rattle.std.specs.Cow.{cow_str_bytes}
@@ -21,7 +22,8 @@ use Rattle.snippet_titles.proofs.AppendLemmas.{appended-appended, appended-is, l
 use Rattle.snippet_titles.proofs.EndLemmas.{written_past}
 
 -- cells that are written past a row's end stand after it and spaces
-pub written-appended : (rows : List (List Cell)) (row at : ℕ) (cells : List Cell) → length (row_at rows row) ≤ at → 0 < length cells → cells_written rows row at cells ≡ appended rows row (replicate (at - length (row_at rows row)) SPACE ++ cells)
+pub written-appended : (rows : List (List Cell)) (row at : ℕ) (cells : List Cell) → length (row_at rows row) ≤ at → 0 < length cells
+    → cells_written rows row at cells ≡ appended rows row (replicate (at - length (row_at rows row)) SPACE ++ cells)
 written-appended rows row at cells past some =
     let r : List Cell = row_at rows row in
     let gap : List Cell = replicate (at - length r) SPACE in
@@ -32,32 +34,37 @@ replicate-more : (count : ℕ) → 0 < count → replicate (count - 1) SPACE ++ 
 replicate-more count some = same_lists _ _ (grind (arith, places)) (λ k d h. grind (arith, places))
 
 -- spaces up to a cell
-pub spaces_added : (old new : List (List Cell)) (row end count : ℕ) → length (row_at old row) ≡ end → 0 < count → new ≡ cells_written old row (end + count - 1) (SPACE ∷ []) → new ≡ appended old row (replicate count SPACE)
+pub spaces_added : (old new : List (List Cell)) (row end count : ℕ) → length (row_at old row) ≡ end → 0 < count
+    → new ≡ cells_written old row (end + count - 1) (SPACE ∷ []) → new ≡ appended old row (replicate count SPACE)
 spaces_added old new row end count size some is =
     let gap : end + count - 1 - length (row_at old row) ≡ count - 1 = omega (arith, size, some) in
     is ∙ written-appended old row (end + count - 1) (SPACE ∷ []) (omega (arith, size, some)) (omega arith) ∙ ap (λ n. appended old row (replicate n SPACE ++ SPACE ∷ [])) gap ∙ ap (appended old row) (replicate-more count some)
 
 -- cells after the gutter of an empty row
-pub after_gutter : (old new : List (List Cell)) (row at : ℕ) (cells : List Cell) → row_at old row ≡ [] → 0 < length cells → new ≡ cells_written old row at cells → new ≡ appended old row (replicate at SPACE ++ cells)
+pub after_gutter : (old new : List (List Cell)) (row at : ℕ) (cells : List Cell) → row_at old row ≡ [] → 0 < length cells → new ≡ cells_written old row at cells
+    → new ≡ appended old row (replicate at SPACE ++ cells)
 after_gutter old new row at cells none some is =
     let size : length (row_at old row) ≡ 0 = ap length none in
     let gap : at - length (row_at old row) ≡ at = omega (arith, size) in
     is ∙ written-appended old row at cells (omega (arith, size)) some ∙ ap (λ n. appended old row (replicate n SPACE ++ cells)) gap
 
 -- and spaces after them
-pub bar_drawn : (old mid new : List (List Cell)) (row at count : ℕ) (cell : Cell) → row_at old row ≡ [] → mid ≡ cells_written old row at (cell ∷ []) → new ≡ appended mid row (replicate count SPACE) → new ≡ appended old row (replicate at SPACE ++ cell ∷ replicate count SPACE)
+pub bar_drawn : (old mid new : List (List Cell)) (row at count : ℕ) (cell : Cell) → row_at old row ≡ [] → mid ≡ cells_written old row at (cell ∷ [])
+    → new ≡ appended mid row (replicate count SPACE) → new ≡ appended old row (replicate at SPACE ++ cell ∷ replicate count SPACE)
 bar_drawn old mid new row at count cell none written more =
     more ∙ ap (λ rs. appended rs row (replicate count SPACE)) (after_gutter old mid row at (cell ∷ []) none (omega arith) written)
     ∙ appended-appended old row (replicate at SPACE ++ cell ∷ []) (replicate count SPACE)
     ∙ ap (appended old row) (append_assoc (replicate at SPACE) (cell ∷ []) (replicate count SPACE))
 
 -- cells in two and in three parts
-pub appended-two : (old one new : List (List Cell)) (row : ℕ) (xs ys : List Cell) → one ≡ appended old row xs → new ≡ appended one row ys → new ≡ appended old row (xs ++ ys)
+pub appended-two : (old one new : List (List Cell)) (row : ℕ) (xs ys : List Cell) → one ≡ appended old row xs → new ≡ appended one row ys
+    → new ≡ appended old row (xs ++ ys)
 appended-two old one new row xs ys first second =
     second ∙ ap (λ rs. appended rs row ys) first ∙ appended-appended old row xs ys
 
 -- cells that are appended in three steps are appended at once
-pub appended-three : (old one two new : List (List Cell)) (row : ℕ) (xs ys zs : List Cell) → one ≡ appended old row xs → two ≡ appended one row ys → new ≡ appended two row zs → new ≡ appended old row (xs ++ ys ++ zs)
+pub appended-three : (old one two new : List (List Cell)) (row : ℕ) (xs ys zs : List Cell) → one ≡ appended old row xs → two ≡ appended one row ys
+    → new ≡ appended two row zs → new ≡ appended old row (xs ++ ys ++ zs)
 appended-three old one two new row xs ys zs first second third =
     appended-two old two new row (xs ++ ys) zs (appended-two old one two row xs ys first second) third
 
@@ -66,7 +73,8 @@ pub id_drawn : (old one two three new : List (List Cell)) (row start from : ℕ)
     (text opening shown closing : List ℕ) (address : Option (List ℕ)) → option_map cow_str_bytes id.id ≡ Some text → length text < 2 ^ 56
     → start < 2 ^ 60 → length (row_at old row) ≡ start → from ≡ start + length (opening_bracket_of hidden) → length (opening_bracket_of hidden) ≤ 1
     → opening ≡ opening_bracket_of hidden → shown ≡ norm (chars text) → closing ≡ closing_bracket_of hidden → address ≡ address_of hyperlink id
-    → one ≡ appended old row (text_cells role opening) → two ≡ appended one row (text_cells role shown) → three ≡ linked_from address row from two → new ≡ appended three row (text_cells role closing) → new ≡ appended old row (id_cells hyperlink hidden role (Some id))
+    → one ≡ appended old row (text_cells role opening) → two ≡ appended one row (text_cells role shown) → three ≡ linked_from address row from two
+    → new ≡ appended three row (text_cells role closing) → new ≡ appended old row (id_cells hyperlink hidden role (Some id))
 id_drawn old one two three new row start from hyperlink hidden role id text opening shown closing address given fits short size at narrow opens is closes to first second linked last =
     let front : length (row_at one row) ≡ from =
     ap (λ rs. length (row_at rs row)) first ∙ ap (λ (r : List Cell). length r) (row_at-appended old row (text_cells role opening))

@@ -18,13 +18,15 @@ use Rattle.snippet_titles.specs.Short.{short_rows, short_texts, with_end}
 use Rattle.snippet_titles.specs.Shown.{IsFreeButText}
 use Rattle.snippet_titles.specs.Title.{id_links}
 use Rattle.snippet_titles.proofs.EndLemmas.{row_at-trimmed}
-use Rattle.snippet_titles.proofs.FreeLemmas.{All-slice_split, All-trimmed, IsUnlisted, IsOwn, from_free, indent-all, label-all, lines-all, own_text, own_unlisted, row-all}
+use Rattle.snippet_titles.proofs.FreeLemmas.{All-slice_split, All-trimmed, IsUnlisted, IsOwn, from_free, indent-all, label-all, lines-all, own_text}
+use Rattle.snippet_titles.proofs.FreeLemmas.{own_unlisted, row-all}
 use Rattle.snippet_titles.proofs.LinkLemmas.{IsUnlinked, drawn_unlinked, indent_unlinked, label-links, lines-links, links-before, links-after, trimmed-links}
 use Rattle.snippet_titles.proofs.TextLemmas.{row_text-append, row_text-after, row_text-label, text_at, texts_of_lines}
 use Rattle.snippet_grid.proofs.RowLemmas.{row_text-text_cells}
 
 -- the row that a text and a label begin
-first_text : (hyperlink : Bool) (roles : HeadingRoles) (before : List ℕ) (heading : Heading) → row_text (text_cells LineAndColumn before ++ label_cells hyperlink roles heading) ≡ before ++ heading_label_text heading
+first_text : (hyperlink : Bool) (roles : HeadingRoles) (before : List ℕ) (heading : Heading)
+    → row_text (text_cells LineAndColumn before ++ label_cells hyperlink roles heading) ≡ before ++ heading_label_text heading
 first_text hyperlink roles before heading =
     let label : List Cell = label_cells hyperlink roles heading in
     row_text-append (text_cells LineAndColumn before) label ∙ ap (λ cs. cs ++ row_text label) (row_text-text_cells LineAndColumn before) ∙ ap (λ cs. before ++ cs) (row_text-label hyperlink roles heading)
@@ -36,7 +38,8 @@ with_end-texts after (row ∷ rows) =
     ap (λ t. t ∷ map row_text rows) (row_text-after row (row_text row) NoStyle after refl)
 
 -- the text of each row
-pub short-texts : (hyperlink : Bool) (before after : List ℕ) (heading : Heading) (i : ℕ) → row_text (row_at (short_rows hyperlink before after heading) i) ≡ slice_index_or (short_texts before after heading) i []
+pub short-texts : (hyperlink : Bool) (before after : List ℕ) (heading : Heading) (i : ℕ)
+    → row_text (row_at (short_rows hyperlink before after heading) i) ≡ slice_index_or (short_texts before after heading) i []
 unfolding short_rows
 short-texts hyperlink before after heading i =
     let roles : HeadingRoles = roles_of Short heading.level.kind heading.allows_styling in
@@ -53,7 +56,8 @@ with_end-links cells (row ∷ rows) none =
     ap (λ (urls : List (List ℕ)). urls ++ links_of rows) (links-after None row cells none)
 
 -- the addresses that the rows link to
-pub short-links : (hyperlink : Bool) (before after : List ℕ) (heading : Heading) → links_of (short_rows hyperlink before after heading) ≡ id_links hyperlink heading.id
+pub short-links : (hyperlink : Bool) (before after : List ℕ) (heading : Heading)
+    → links_of (short_rows hyperlink before after heading) ≡ id_links hyperlink heading.id
 unfolding short_rows
 short-links hyperlink before after heading =
     let roles : HeadingRoles = roles_of Short heading.level.kind heading.allows_styling in
@@ -70,13 +74,15 @@ short-links hyperlink before after heading =
 -- what holds of each character that isn't listed, and of those of the title's text, holds of those of each row, where no
 -- character of the texts before and after is listed
 module _ (P : ℕ → Type 0) (free : (c : ℕ) → IsUnlisted c → P c) where
-  with_end-all : (after : List ℕ) (rows : List (List Cell)) → All P after → All (λ row. All P (row_text row)) rows → All (λ row. All P (row_text row)) (with_end (text_cells NoStyle after) rows)
+  with_end-all : (after : List ℕ) (rows : List (List Cell)) → All P after → All (λ row. All P (row_text row)) rows
+      → All (λ row. All P (row_text row)) (with_end (text_cells NoStyle after) rows)
   with_end-all after [] more all =
       All-cons (λ row. All P (row_text row)) (text_cells NoStyle after) [] (row-all P free [] NoStyle (All-nil P) after more) (All-nil (λ row. All P (row_text row)))
   with_end-all after (row ∷ rows) more all =
       All-cons (λ r. All P (row_text r)) (row ++ text_cells NoStyle after) rows (row-all P free row NoStyle (All-head (λ r. All P (row_text r)) row rows all) after more) (All-tail (λ r. All P (row_text r)) row rows all)
 
-  short_rows-all : (hyperlink : Bool) (before after : List ℕ) (heading : Heading) → All IsUnlisted before → All IsUnlisted after → All P (shown_text heading) → All (λ row. All P (row_text row)) (short_rows hyperlink before after heading)
+  short_rows-all : (hyperlink : Bool) (before after : List ℕ) (heading : Heading) → All IsUnlisted before → All IsUnlisted after → All P (shown_text heading)
+      → All (λ row. All P (row_text row)) (short_rows hyperlink before after heading)
   unfolding short_rows
   short_rows-all hyperlink before after heading front back all =
       let roles : HeadingRoles = roles_of Short heading.level.kind heading.allows_styling in
@@ -89,6 +95,7 @@ module _ (P : ℕ → Type 0) (free : (c : ℕ) → IsUnlisted c → P c) where
       All-trimmed (λ row. All P (row_text row)) (with_end (text_cells NoStyle after) rows) (with_end-all after rows (from_free P free after back) below)
 
 -- each listed character of the rows stands in the title's text, and that is trusted
-pub short-free : (hyperlink : Bool) (before after : List ℕ) (heading : Heading) → All (λ c. is_listed c ≡ false) before → All (λ c. is_listed c ≡ false) after → All (IsFreeButText heading) (short_rows hyperlink before after heading)
+pub short-free : (hyperlink : Bool) (before after : List ℕ) (heading : Heading) → All (λ c. is_listed c ≡ false) before → All (λ c. is_listed c ≡ false) after
+    → All (IsFreeButText heading) (short_rows hyperlink before after heading)
 short-free hyperlink before after heading front back =
     short_rows-all (IsOwn heading) (own_unlisted heading) hyperlink before after heading front back (own_text heading heading.allows_styling refl)

@@ -16,7 +16,8 @@ use Rattle.snippet_titles.proofs.EndLemmas.{appended_below, get_or-append_seam, 
 use Rattle.snippet_titles.proofs.HeadingLemmas.{label_begun, roles_known}
 
 -- a row with cells in the place of the first of some rows, or where none of them is there
-first_written : (base : List (List Cell)) (row : List Cell) (rows : List (List Cell)) (new : List Cell) → written [] (base ++ on_top row rows) (length base) (new ∷ []) ≡ base ++ new ∷ rows
+first_written : (base : List (List Cell)) (row : List Cell) (rows : List (List Cell)) (new : List Cell)
+    → written [] (base ++ on_top row rows) (length base) (new ∷ []) ≡ base ++ new ∷ rows
 first_written base [] [] new =
     let none : length base - length base ≡ 0 = omega arith in
     ap (λ rs. written [] rs (length base) (new ∷ [])) (append-nil base) ∙ written_past [] base (new ∷ []) (length base) (omega arith) ∙ ap (λ n. base ++ replicate n [] ++ new ∷ []) none ∙ ap (λ (rs : List (List Cell)). rs ++ new ∷ []) (append-nil base)
@@ -30,7 +31,8 @@ on_top-full : (row : List Cell) (cell : Cell) (cells : List Cell) (rows : List (
 on_top-full [] cell cells rows = refl
 on_top-full (r ∷ row) cell cells rows = refl
 
-pub appended-first : (base rows : List (List Cell)) (row : ℕ) (cells : List Cell) → row ≡ length base → appended (base ++ trimmed rows) row cells ≡ base ++ trimmed (with_end cells rows)
+pub appended-first : (base rows : List (List Cell)) (row : ℕ) (cells : List Cell) → row ≡ length base
+    → appended (base ++ trimmed rows) row cells ≡ base ++ trimmed (with_end cells rows)
 appended-first base [] row cells at =
     ap (λ rs. appended rs row cells) (append-nil base) ∙ appended_below base row cells at
 appended-first base (r ∷ rows) row [] at =

@@ -1,5 +1,6 @@
 -- Cutting the bytes of a text at each line feed cuts its characters there.
-use Rattle.std.proofs.Common.{◌≡◌, ℕ, ◌<◌, ◌==◌, Bool, true, false, List, [], ◌∷◌, ◌++◌, length, map, All, refl, sym, ap, ◌∙◌, arith, encode_utf8, encode_utf8_all}
+use Rattle.std.proofs.Common.{◌≡◌, ℕ, ◌<◌, ◌==◌, Bool, true, false, List, [], ◌∷◌, ◌++◌, length, map, All, refl, sym, ap, ◌∙◌, arith, encode_utf8}
+use Rattle.std.proofs.Common.{encode_utf8_all}
 use Rattle.std.specs.List.{slice_split, onto_first}
 use Rattle.std.specs.Str.{chars, IsUtf8}
 use Rattle.std.specs.Char.{IsScalar}
@@ -20,13 +21,15 @@ encode-no_feed c other =
     All-from_get_or (λ b. (b == 10) ≡ false) (encode_utf8 c) 0 (λ i within. let at = inside_one c [] (encode_utf8 c) i (sym (append-nil (encode_utf8 c))) within in grind (arith, nat_tests, at))
 
 -- elements that are no line feeds stand at the front of the first part
-pub lines_at-after : (front rest part : List ℕ) (parts : List (List ℕ)) → All (λ b. (b == 10) ≡ false) front → lines_at rest ≡ part ∷ parts → lines_at (front ++ rest) ≡ (front ++ part) ∷ parts
+pub lines_at-after : (front rest part : List ℕ) (parts : List (List ℕ)) → All (λ b. (b == 10) ≡ false) front → lines_at rest ≡ part ∷ parts
+    → lines_at (front ++ rest) ≡ (front ++ part) ∷ parts
 lines_at-after [] rest part parts none is = is
 lines_at-after (b ∷ bs) rest part parts none is =
     slice_split-cons_no (λ c. c == 10) b (bs ++ rest) (All-head (λ c. (c == 10) ≡ false) b bs none) ∙ ap (onto_first b) (lines_at-after bs rest part parts (All-tail (λ c. (c == 10) ≡ false) b bs none) is)
 
 -- the bytes of one character that is no line feed, before bytes that are cut into these parts
-chars-onto : (c : ℕ) (rest : List ℕ) (parts : List (List ℕ)) → IsScalar c → (c == 10) ≡ false → lines_at rest ≡ parts → 0 < length parts → map chars (lines_at (encode_utf8 c ++ rest)) ≡ onto_first c (map chars parts)
+chars-onto : (c : ℕ) (rest : List ℕ) (parts : List (List ℕ)) → IsScalar c → (c == 10) ≡ false → lines_at rest ≡ parts → 0 < length parts
+    → map chars (lines_at (encode_utf8 c ++ rest)) ≡ onto_first c (map chars parts)
 chars-onto c rest [] scalar other is some = absurd (omega (arith, some))
 chars-onto c rest (part ∷ parts) scalar other is some =
     let one : chars (encode_utf8 c) ≡ c ∷ chars [] = chars_past_char (encode_utf8 c) [] c (IsUtf8-encode c scalar) (sym (append-nil (encode_utf8 c))) in
@@ -34,7 +37,8 @@ chars-onto c rest (part ∷ parts) scalar other is some =
     ap (map chars) (lines_at-after (encode_utf8 c) rest part parts (encode-no_feed c other) is) ∙ ap (λ cs. cs ∷ map chars parts) first
 
 -- one character before bytes whose parts hold these characters
-chars-step : (c : ℕ) (rest cs : List ℕ) (feed : Bool) → IsScalar c → (c == 10) ≡ feed → map chars (lines_at rest) ≡ lines_at cs → map chars (lines_at (encode_utf8 c ++ rest)) ≡ lines_at (c ∷ cs)
+chars-step : (c : ℕ) (rest cs : List ℕ) (feed : Bool) → IsScalar c → (c == 10) ≡ feed → map chars (lines_at rest) ≡ lines_at cs
+    → map chars (lines_at (encode_utf8 c ++ rest)) ≡ lines_at (c ∷ cs)
 chars-step c rest cs true scalar is same =
     let feed : c ≡ 10 = grind (arith, nat_tests, is) in
     ap (λ d. map chars (lines_at (encode_utf8 d ++ rest))) feed ∙ ap (λ bs. map chars (lines_at (bs ++ rest))) (encode_ascii 10 (omega arith)) ∙ ap (λ first. first ∷ map chars (lines_at rest)) chars-nil ∙ ap (λ parts. [] ∷ parts) same ∙ sym (slice_split-cons_yes (λ d. d == 10) c cs is)

@@ -1,5 +1,6 @@
 -- The characters of a heading's rows.
-use Rattle.std.proofs.Common.{◌≡◌, ◌≤◌, ℕ, zero, suc, Bool, Option, None, Some, List, [], ◌∷◌, ◌++◌, map, replicate, chars, get_or, length, refl, sym, ap, ◌∙◌, arith, inl, inr}
+use Rattle.std.proofs.Common.{◌≡◌, ◌≤◌, ℕ, zero, suc, Bool, Option, None, Some, List, [], ◌∷◌, ◌++◌, map, replicate, chars, get_or, length, refl, sym, ap, ◌∙◌}
+use Rattle.std.proofs.Common.{arith, inl, inr}
 use Rattle.std.specs.Cow.{cow_str_bytes}
 use Rattle.std.specs.Option.{option_map}
 use Rattle.std.proofs.lemmas.Bool.{cases_lt}
@@ -14,7 +15,9 @@ use Rattle.snippet_model.specs.Heading.{Heading, is_hidden}
 use Rattle.snippet_model.specs.Level.{name_of}
 use Rattle.snippet_titles.specs.declared.style.HeadingRoles.{HeadingRoles}
 use Rattle.snippet_titles.specs.declared.style.TitleStyle.{TitleStyle}
-use Rattle.snippet_titles.specs.Heading.{address_of, bracketed_cells, bracketed_text, closing_bracket_of, colon_of, heading_lines, heading_rows, id_cells, id_text, indent_cells, label_cells, heading_label_text, label_width, lines_below, linked_to, opening_bracket_of, roles_of, sign_cells}
+use Rattle.snippet_titles.specs.Heading.{address_of, bracketed_cells, bracketed_text, closing_bracket_of, colon_of, heading_lines, heading_rows, id_cells}
+use Rattle.snippet_titles.specs.Heading.{id_text, indent_cells, label_cells, heading_label_text, label_width, lines_below, linked_to, opening_bracket_of}
+use Rattle.snippet_titles.specs.Heading.{roles_of, sign_cells}
 use Rattle.snippet_titles.specs.Shown.{heading_texts, texts_below}
 use Rattle.snippet_titles.proofs.EndLemmas.{refilled, row_at-trimmed}
 use Rattle.snippet_grid.proofs.RowLemmas.{row_text-text_cells}
@@ -40,7 +43,8 @@ row_text-three xs ys zs a b c first second third =
     row_text-append (xs ++ ys) zs ∙ ap (λ cs. cs ++ row_text zs) (row_text-append xs ys) ∙ ap (λ cs. (cs ++ row_text ys) ++ row_text zs) first ∙ ap (λ cs. (a ++ cs) ++ row_text zs) second ∙ ap (λ cs. (a ++ b) ++ cs) third
 
 -- those of an id, and of a label
-row_text-bracketed : (hidden : Bool) (r : ElementStyle) (address text : Option (List ℕ)) → row_text (bracketed_cells hidden r address text) ≡ bracketed_text hidden text
+row_text-bracketed : (hidden : Bool) (r : ElementStyle) (address text : Option (List ℕ))
+    → row_text (bracketed_cells hidden r address text) ≡ bracketed_text hidden text
 row_text-bracketed hidden r address None = refl
 row_text-bracketed hidden r address (Some text) =
     row_text-three (text_cells r (opening_bracket_of hidden)) (linked_to address (text_cells r (norm (chars text)))) (text_cells r (closing_bracket_of hidden))
@@ -63,17 +67,20 @@ row_text-label hyperlink roles heading =
     (row_text-id hyperlink hidden roles.label heading.id) (row_text-text_cells roles.colon (colon_of hidden heading.id))
 
 -- the texts of the rows of lines
-pub row_text-after : (cells : List Cell) (text : List ℕ) (r : ElementStyle) (line : List ℕ) → row_text cells ≡ text → row_text (cells ++ text_cells r line) ≡ text ++ line
+pub row_text-after : (cells : List Cell) (text : List ℕ) (r : ElementStyle) (line : List ℕ) → row_text cells ≡ text
+    → row_text (cells ++ text_cells r line) ≡ text ++ line
 row_text-after cells text r line is =
     row_text-append cells (text_cells r line) ∙ ap (λ cs. cs ++ row_text (text_cells r line)) is ∙ ap (λ cs. text ++ cs) (row_text-text_cells r line)
 
-further_texts : (further : List Cell) (r : ElementStyle) (lines : List (List ℕ)) → map row_text (map (λ l. further ++ text_cells r l) lines) ≡ map (λ l. row_text further ++ l) lines
+further_texts : (further : List Cell) (r : ElementStyle) (lines : List (List ℕ))
+    → map row_text (map (λ l. further ++ text_cells r l) lines) ≡ map (λ l. row_text further ++ l) lines
 further_texts further r [] = refl
 further_texts further r (line ∷ lines) =
     ap (λ t. t ∷ map row_text (map (λ l. further ++ text_cells r l) lines)) (row_text-after further (row_text further) r line refl) ∙ ap (λ ts. (row_text further ++ line) ∷ ts) (further_texts further r lines)
 
 -- the texts of lines below are the lines, each after what stands before it
-pub texts_of_lines : (first further : List Cell) (text : List ℕ) (r : ElementStyle) (lines : List (List ℕ)) → row_text first ≡ text → map row_text (lines_below first further r lines) ≡ texts_below text (row_text further) lines
+pub texts_of_lines : (first further : List Cell) (text : List ℕ) (r : ElementStyle) (lines : List (List ℕ)) → row_text first ≡ text
+    → map row_text (lines_below first further r lines) ≡ texts_below text (row_text further) lines
 texts_of_lines first further text r [] is = refl
 texts_of_lines first further text r (line ∷ lines) is =
     ap (λ t. t ∷ map row_text (map (λ l. further ++ text_cells r l) lines)) (row_text-after first text r line is) ∙ ap (λ ts. (text ++ line) ∷ ts) (further_texts further r lines)
@@ -86,7 +93,8 @@ text_at rows k = elim (cases_lt k (length rows)) [
 ]
 
 -- the text of each row of a heading
-pub heading_rows-texts : (hyperlink : Bool) (style : TitleStyle) (heading : Heading) (k : ℕ) → row_text (row_at (heading_rows hyperlink style heading) k) ≡ get_or (heading_texts style heading) k []
+pub heading_rows-texts : (hyperlink : Bool) (style : TitleStyle) (heading : Heading) (k : ℕ)
+    → row_text (row_at (heading_rows hyperlink style heading) k) ≡ get_or (heading_texts style heading) k []
 unfolding heading_rows
 heading_rows-texts hyperlink style heading k =
     let roles : HeadingRoles = roles_of style heading.level.kind heading.allows_styling in
@@ -105,7 +113,8 @@ texts_count : (first further : List ℕ) (lines : List (List ℕ)) → length (t
 texts_count first further [] = refl
 texts_count first further (line ∷ lines) = ap suc (length-map lines (λ l. further ++ l))
 
-pub heading_rows-count : (hyperlink : Bool) (style : TitleStyle) (heading : Heading) → length (heading_rows hyperlink style heading) ≤ length (heading_texts style heading)
+pub heading_rows-count : (hyperlink : Bool) (style : TitleStyle) (heading : Heading)
+    → length (heading_rows hyperlink style heading) ≤ length (heading_texts style heading)
 unfolding heading_rows
 heading_rows-count hyperlink style heading =
     let roles : HeadingRoles = roles_of style heading.level.kind heading.allows_styling in

@@ -1,5 +1,6 @@
 -- What stands in a list, and that the least and the greatest number of a list follow from it alone.
-use Rattle.std.proofs.Common.{◌≡◌, ◌∙◌, ◌⊎◌, ℕ, zero, suc, ◌+◌, ◌<◌, ◌≤◌, Bool, true, ◌||◌, List, [], ◌∷◌, ◌++◌, All, Option, Some, None, map, fold, max, min, unwrap_or, refl, sym, ap, subst, inl, inr, arith}
+use Rattle.std.proofs.Common.{◌≡◌, ◌∙◌, ◌⊎◌, ℕ, zero, suc, ◌+◌, ◌<◌, ◌≤◌, Bool, true, ◌||◌, List, [], ◌∷◌, ◌++◌, All, Option, Some, None, map, fold, max, min}
+use Rattle.std.proofs.Common.{unwrap_or, refl, sym, ap, subst, inl, inr, arith}
 use Rattle.std.specs.List.{filter, flat_map, list_all, list_any, cons_option, filter_map, range_with_len}
 use Rattle.std.proofs.lemmas.Bool.{cases_Bool, cases_lt, cond-true, cond-false, or_left, or_right, and_parts}
 use Rattle.std.proofs.lemmas.List.Elements.{All-head, All-tail}

@@ -1,5 +1,6 @@
 -- The lines that are shown: those that are kept, and each single line between two of them.
-use Rattle.std.proofs.Common.{◌≡◌, ℕ, zero, suc, ◌+◌, ◌-◌, ◌<◌, ◌≤◌, Bool, true, false, ◌&&◌, ◌||◌, cond, not, eqb, leb, ltb, Option, Some, None, List, [], ◌∷◌, ◌++◌, map, length, inl, inr, refl, sym, ap, subst, ◌∙◌, arith}
+use Rattle.std.proofs.Common.{◌≡◌, ℕ, zero, suc, ◌+◌, ◌-◌, ◌<◌, ◌≤◌, Bool, true, false, ◌&&◌, ◌||◌, cond, not, eqb, leb, ltb, Option, Some, None, List, [], ◌∷◌}
+use Rattle.std.proofs.Common.{◌++◌, map, length, inl, inr, refl, sym, ap, subst, ◌∙◌, arith}
 use Rattle.std.specs.List.{All, filter, list_any, range_with_len}
 use Rattle.std.specs.Option.{option_map, option_to_list}
 use Rattle.std.proofs.lemmas.Bool.{cases_Bool, cases_eq, cond-true, cond-false, and_from, or_parts, eq-eqb, ne_eqb, le-leb, lt-ltb}
@@ -28,7 +29,8 @@ pub between-rest : (j : ℕ) (ks : List ℕ) → with_between (j ∷ ks) ≡ j �
 between-rest j [] = refl
 between-rest j (k ∷ ks) = ap (λ ls. cond (eqb k (j + 2)) (j ∷ (j + 1) ∷ ls) (j ∷ ls)) (between-rest k ks) ∙ both (eqb k (j + 2))
   where
-    both : (b : Bool) → cond b (j ∷ (j + 1) ∷ k ∷ rest_between k ks) (j ∷ k ∷ rest_between k ks) ≡ j ∷ cond b ((j + 1) ∷ k ∷ rest_between k ks) (k ∷ rest_between k ks)
+    both : (b : Bool)
+        → cond b (j ∷ (j + 1) ∷ k ∷ rest_between k ks) (j ∷ k ∷ rest_between k ks) ≡ j ∷ cond b ((j + 1) ∷ k ∷ rest_between k ks) (k ∷ rest_between k ks)
     both true = refl
     both false = refl
 
@@ -44,7 +46,8 @@ text-there s number k is within =
     let at : number - s.first ≡ k = omega arith in
     cond-true (leb s.first number && ltb (number - s.first) (length (source_lines s.text))) (Some (text_at (source_lines s.text) (number - s.first))) None there ∙ ap (λ i. Some (text_at (source_lines s.text) i)) at
 
-single-line : (s : Source) (marks : List Annotation) (j k : ℕ) → k ≡ j + 2 → k < length (source_lines s.text) → IsPlain s marks (j + 1) → lines_between s (Some (s.first + j)) (s.first + k) ≡ kept_line s marks (j + 1) ∷ []
+single-line : (s : Source) (marks : List Annotation) (j k : ℕ) → k ≡ j + 2 → k < length (source_lines s.text) → IsPlain s marks (j + 1)
+    → lines_between s (Some (s.first + j)) (s.first + k) ≡ kept_line s marks (j + 1) ∷ []
 single-line s marks j k next within plain =
     let at : s.first + j + 1 ≡ s.first + (j + 1) = omega arith in
     let line = λ (text : List ℕ). (let l : KeptLine = record { number = s.first + j + 1; text = text; parts = []; keep = false } in l) in
@@ -105,7 +108,8 @@ all-is s marks p plain a (suc n) within =
     ]
 
 -- the lines that are kept with each single line between two are those that are shown
-pub filled-shown : (fold : Bool) (s : Source) (marks : List Annotation) → All (λ a. IsSpan s.text a.span.start a.span.end) marks → filled s None (annotated_lines fold s marks) ≡ map (kept_line s marks) (shown_lines fold s.text marks)
+pub filled-shown : (fold : Bool) (s : Source) (marks : List Annotation) → All (λ a. IsSpan s.text a.span.start a.span.end) marks
+    → filled s None (annotated_lines fold s marks) ≡ map (kept_line s marks) (shown_lines fold s.text marks)
 filled-shown fold s marks spans =
     all-is s marks (λ k. not fold || list_any (keeps s.text k) marks)
     (λ k gone. let none : list_any (keeps s.text k) marks ≡ false = (or_parts (not fold) (list_any (keeps s.text k) marks) gone).1 in

@@ -1,12 +1,15 @@
 -- The depths of spans of several lines: how great they are, where they differ, and the longest chain.
-use Rattle.std.proofs.Common.{◌≡◌, ℕ, zero, suc, ◌+◌, ◌-◌, ◌<◌, ◌≤◌, Bool, true, false, ◌||◌, cond, leb, max, fold, take, drop, add-one, ◌++◌, List, [], ◌∷◌, map, length, get_or, set, inl, inr, refl, sym, ap, subst, ◌∙◌, arith}
+use Rattle.std.proofs.Common.{◌≡◌, ℕ, zero, suc, ◌+◌, ◌-◌, ◌<◌, ◌≤◌, Bool, true, false, ◌||◌, cond, leb, max, fold, take, drop, add-one, ◌++◌, List, [], ◌∷◌}
+use Rattle.std.proofs.Common.{map, length, get_or, set, inl, inr, refl, sym, ap, subst, ◌∙◌, arith}
 use Rattle.std.specs.List.{All, Contains, list_any}
 use Rattle.std.proofs.lemmas.Bool.{cases_Bool, cases_lt, and_from, and_parts, cond-true, cond-false, both_ways}
 use Rattle.std.proofs.lemmas.List.{take_at, length-map, get_or-map}
 use Rattle.snippet_view.specs.Measures.{greatest}
 use Rattle.snippet_view.specs.declared.depths.LongExtent.{LongExtent}
-use Rattle.snippet_view.specs.Depths.{same_place, share_line, places_of, raw_depth, raw_depth_among, greatest_raw_depth, greatest_depth, depth_among, SharesWithFirst, IsChainOf, IsLongestChain, raw_depths}
-use Rattle.snippet_view.proofs.RawDepthLemmas.{among-after, among-most, among-new, any-at, fold-max, greatest-bound, greatest-is, length-raw_depths, places-bound, raw_depths-are, same-true}
+use Rattle.snippet_view.specs.Depths.{same_place, share_line, places_of, raw_depth, raw_depth_among, greatest_raw_depth, greatest_depth, depth_among}
+use Rattle.snippet_view.specs.Depths.{SharesWithFirst, IsChainOf, IsLongestChain, raw_depths}
+use Rattle.snippet_view.proofs.RawDepthLemmas.{among-after, among-most, among-new, any-at, fold-max, greatest-bound, greatest-is, length-raw_depths}
+use Rattle.snippet_view.proofs.RawDepthLemmas.{places-bound, raw_depths-are, same-true}
 use Rattle.snippet_view.proofs.DepthSearchLemmas.{near_max-after, no_place, raw_depth-near, raw_depth-some}
 use Rattle.std.proofs.lemmas.Simd.{map-map}
 
@@ -53,7 +56,8 @@ share-swap p q share =
     let parts = and_parts (leb p.first q.last) (leb q.first p.last) share in and_from (leb q.first p.last) (leb p.first q.last) parts.1 parts.0
 
 -- spans that share a line and differ in place have different raw depths
-raw-apart : (ps : List LongExtent) (p q : LongExtent) → list_any (same_place p) ps ≡ true → list_any (same_place q) ps ≡ true → share_line p q ≡ true → raw_depth_among (places_of ps) p ≡ raw_depth_among (places_of ps) q → p ≡ q
+raw-apart : (ps : List LongExtent) (p q : LongExtent) → list_any (same_place p) ps ≡ true → list_any (same_place q) ps ≡ true → share_line p q ≡ true
+    → raw_depth_among (places_of ps) p ≡ raw_depth_among (places_of ps) q → p ≡ q
 raw-apart [] p q in-p in-q share same = cc
 raw-apart (r ∷ ps) p q in-p in-q share same =
     elim (cases_Bool (list_any (same_place p) ps)) [
@@ -81,11 +85,13 @@ any-contains : (ps : List LongExtent) (p : LongExtent) → Contains ps p → lis
 any-contains ps p among = subst (λ (q : LongExtent). list_any (same_place q) ps ≡ true) among.2 (any-at ps among.0 p among.1)
 
 -- the same of places that stand among those of the spans
-pub distinct-places : (ps : List LongExtent) (p q : LongExtent) → list_any (same_place p) ps ≡ true → list_any (same_place q) ps ≡ true → share_line p q ≡ true → depth_among ps p ≡ depth_among ps q → p ≡ q
+pub distinct-places : (ps : List LongExtent) (p q : LongExtent) → list_any (same_place p) ps ≡ true → list_any (same_place q) ps ≡ true → share_line p q ≡ true
+    → depth_among ps p ≡ depth_among ps q → p ≡ q
 distinct-places ps p q in-p in-q share same = raw-apart ps p q in-p in-q share (omega (arith, same, among-most (places_of ps) p, among-most (places_of ps) q))
 
 -- places that share a line and have the same depth are the same
-pub depths-distinct : (ps : List LongExtent) (p q : LongExtent) → Contains ps p → Contains ps q → share_line p q ≡ true → depth_among ps p ≡ depth_among ps q → p ≡ q
+pub depths-distinct : (ps : List LongExtent) (p q : LongExtent) → Contains ps p → Contains ps q → share_line p q ≡ true → depth_among ps p ≡ depth_among ps q
+    → p ≡ q
 depths-distinct ps p q among-p among-q share same =
     raw-apart ps p q (any-contains ps p among-p) (any-contains ps q among-q) share (omega (arith, same, among-most (places_of ps) p, among-most (places_of ps) q))
 
@@ -147,7 +153,8 @@ turn-at f [] i within = absurd (omega arith)
 turn-at f (x ∷ old) zero within = refl
 turn-at f (x ∷ old) (suc i) within = turn-at f old i (omega arith)
 
-turn-step : (f : ℕ → ℕ) (old : List ℕ) (i : ℕ) → i < length old → set (map f (take i old) ++ drop i old) i (f (get_or old i 0)) ≡ map f (take (suc i) old) ++ drop (suc i) old
+turn-step : (f : ℕ → ℕ) (old : List ℕ) (i : ℕ) → i < length old
+    → set (map f (take i old) ++ drop i old) i (f (get_or old i 0)) ≡ map f (take (suc i) old) ++ drop (suc i) old
 turn-step f [] i within = absurd (omega arith)
 turn-step f (x ∷ old) zero within = refl
 turn-step f (x ∷ old) (suc i) within = ap (λ xs. f x ∷ xs) (turn-step f old i (omega arith))
@@ -157,7 +164,8 @@ pub turn-read : (f : ℕ → ℕ) (old now : List ℕ) (i : ℕ) → now ≡ map
 turn-read f old now i is within = ap (λ xs. get_or xs i 0) is ∙ turn-at f old i within
 
 -- with one more number turned the numbers so far are turned
-pub turn-more : (f : ℕ → ℕ) (old now : List ℕ) (i : ℕ) → now ≡ map f (take i old) ++ drop i old → i < length old → set now i (f (get_or now i 0)) ≡ map f (take (i + 1) old) ++ drop (i + 1) old
+pub turn-more : (f : ℕ → ℕ) (old now : List ℕ) (i : ℕ) → now ≡ map f (take i old) ++ drop i old → i < length old
+    → set now i (f (get_or now i 0)) ≡ map f (take (i + 1) old) ++ drop (i + 1) old
 turn-more f old now i is within =
     ap (λ n. set now i (f n)) (turn-read f old now i is within) ∙ ap (λ xs. set xs i (f (get_or old i 0))) is ∙ turn-step f old i within ∙ ap (λ n. map f (take n old) ++ drop n old) (sym (add-one i))
 

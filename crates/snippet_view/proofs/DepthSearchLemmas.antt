@@ -1,8 +1,10 @@
 -- The search for the raw depth of a place, from the last place on.
-use Rattle.std.proofs.Common.{◌≡◌, ℕ, zero, suc, ◌+◌, ◌-◌, ◌<◌, ◌≤◌, Bool, true, false, ◌||◌, cond, leb, max, take, drop, List, [], ◌∷◌, length, get_or, set, inl, inr, refl, sym, ap, subst, ◌∙◌, arith}
+use Rattle.std.proofs.Common.{◌≡◌, ℕ, zero, suc, ◌+◌, ◌-◌, ◌<◌, ◌≤◌, Bool, true, false, ◌||◌, cond, leb, max, take, drop, List, [], ◌∷◌, length, get_or, set}
+use Rattle.std.proofs.Common.{inl, inr, refl, sym, ap, subst, ◌∙◌, arith}
 use Rattle.std.specs.List.{All, list_any}
 use Rattle.std.specs.List.Sorted.{IsNonDecreasingBy}
-use Rattle.std.proofs.lemmas.Bool.{cases_Bool, le-leb, lt-leb, and_from, and_right, or_left, or_right, or_cases, cond-true, cond-false, both_ways, false_from_ne_true}
+use Rattle.std.proofs.lemmas.Bool.{cases_Bool, le-leb, lt-leb, and_from, and_right, or_left, or_right, or_cases, cond-true, cond-false, both_ways}
+use Rattle.std.proofs.lemmas.Bool.{false_from_ne_true}
 use Rattle.std.proofs.lemmas.List.{drop_more, drop_all, get_or-take, get_or-drop, take_rest, drop-set, length-take-le, length-drop, get_or_default}
 use Rattle.snippet_view.specs.declared.depths.LongExtent.{LongExtent}
 use Rattle.snippet_view.specs.Depths.{same_place, share_line, places_of, raw_depth, raw_depth_among, raw_depths}
@@ -22,7 +24,8 @@ near_max p [] = 0
 near_max p (q ∷ ps) = max (cond (share_line p q) (raw_depth_among (places_of (q ∷ ps)) q) 0) (near_max p ps)
 
 -- a later place that shares a line is no deeper than the deepest near one
-pub near_max-after : (p q : LongExtent) (ps : List LongExtent) → share_line p q ≡ true → list_any (same_place q) ps ≡ true → raw_depth_among (places_of ps) q ≤ near_max p ps
+pub near_max-after : (p q : LongExtent) (ps : List LongExtent) → share_line p q ≡ true → list_any (same_place q) ps ≡ true
+    → raw_depth_among (places_of ps) q ≤ near_max p ps
 unfolding near_max
 near_max-after p q [] share again = cc
 near_max-after p q (r ∷ ps) share again =
@@ -97,7 +100,8 @@ search_from deepest p [] ns = deepest + 1
 search_from deepest p (q ∷ qs) [] = deepest + 1
 search_from deepest p (q ∷ qs) (n ∷ ns) = cond (same_place p q) n (search_from (max n deepest) p qs ns)
 
-search-same : (p : LongExtent) (k deepest : ℕ) (ps : List LongExtent) → share_line p p ≡ true → IsNearUpTo p k ps → list_any (same_place p) ps ≡ true → search_from deepest p (take k ps) (raw_depths ps) ≡ raw_depth_among (places_of ps) p
+search-same : (p : LongExtent) (k deepest : ℕ) (ps : List LongExtent) → share_line p p ≡ true → IsNearUpTo p k ps → list_any (same_place p) ps ≡ true
+    → search_from deepest p (take k ps) (raw_depths ps) ≡ raw_depth_among (places_of ps) p
 unfolding search_from IsNearUpTo
 search-same p zero deepest ps own near again = absurd (none ps near again)
   where
@@ -123,7 +127,8 @@ search-same p (suc k) deepest (q ∷ ps) own near again =
     there true b any fails = cc
     there false b any fails = any
 
-search-new : (p : LongExtent) (k deepest : ℕ) (ps : List LongExtent) → IsNearUpTo p k ps → list_any (same_place p) ps ≡ false → search_from deepest p (take k ps) (raw_depths ps) ≡ max deepest (near_max p ps) + 1
+search-new : (p : LongExtent) (k deepest : ℕ) (ps : List LongExtent) → IsNearUpTo p k ps → list_any (same_place p) ps ≡ false
+    → search_from deepest p (take k ps) (raw_depths ps) ≡ max deepest (near_max p ps) + 1
 unfolding search_from IsNearUpTo near_max
 search-new p zero deepest ps near new = let e : near_max p ps ≡ 0 = near_max-none p ps near in omega arith
 search-new p (suc k) deepest [] near new = absurd near
@@ -142,7 +147,8 @@ search-new p (suc k) deepest (q ∷ ps) near new =
     regroup n d m r e = omega arith
 
 -- the search finds the raw depth
-pub search-is : (p : LongExtent) (k : ℕ) (ps : List LongExtent) → p.first ≤ p.last → IsNearUpTo p k ps → search_from 0 p (take k ps) (raw_depths ps) ≡ raw_depth_among (places_of (p ∷ ps)) p
+pub search-is : (p : LongExtent) (k : ℕ) (ps : List LongExtent) → p.first ≤ p.last → IsNearUpTo p k ps
+    → search_from 0 p (take k ps) (raw_depths ps) ≡ raw_depth_among (places_of (p ∷ ps)) p
 search-is p k ps own near =
     elim (cases_Bool (list_any (same_place p) ps)) [
       | inl again ↦ search-same p k 0 ps (and_from (leb p.first p.last) (leb p.first p.last) (le-leb p.first p.last own) (le-leb p.first p.last own)) near again ∙ sym (among-after p p ps again)
@@ -185,7 +191,8 @@ search-more deepest p qs ns i d n in-qs in-ns is other =
     ∙ cond-false (same_place p (get_or qs i d)) (get_or ns i n) (search_from (max (get_or ns i n) deepest) p (drop (i + 1) qs) (drop (i + 1) ns))
     other ∙ ap (λ m. search_from (max m deepest) p (drop (i + 1) qs) (drop (i + 1) ns)) (sym is)
 
-pub search-found : (deepest : ℕ) (p : LongExtent) (qs : List LongExtent) (ns : List ℕ) (i : ℕ) (d : LongExtent) (n : ℕ) → i < length qs → i < length ns → n ≡ get_or ns i n → same_place p (get_or qs i d) ≡ true → search_from deepest p (drop i qs) (drop i ns) ≡ n
+pub search-found : (deepest : ℕ) (p : LongExtent) (qs : List LongExtent) (ns : List ℕ) (i : ℕ) (d : LongExtent) (n : ℕ) → i < length qs → i < length ns
+    → n ≡ get_or ns i n → same_place p (get_or qs i d) ≡ true → search_from deepest p (drop i qs) (drop i ns) ≡ n
 unfolding search_from
 search-found deepest p qs ns i d n in-qs in-ns is same =
     ap (λ x. search_from deepest p x (drop i ns)) (drop_more qs i d in-qs)
@@ -235,7 +242,8 @@ found_none p later raws near i deepest is within all own up_to before =
 -- ---- all raw depths, from the last on
 
 -- places after one in order start on its first line or below
-pub after_in : (ps : List LongExtent) (i m : ℕ) → IsNonDecreasingBy (λ p. p.first) ps → i < length ps → m ≡ i + 1 → All (λ q. (get_or ps i no_place).first ≤ q.first) (take (length ps - m) (drop m ps))
+pub after_in : (ps : List LongExtent) (i m : ℕ) → IsNonDecreasingBy (λ p. p.first) ps → i < length ps → m ≡ i + 1
+    → All (λ q. (get_or ps i no_place).first ≤ q.first) (take (length ps - m) (drop m ps))
 after_in ps i m ordered within is k d below =
     let e : take (length ps - m) (drop m ps) ≡ drop m ps = take_rest ps m in
     let f : get_or (take (length ps - m) (drop m ps)) k d ≡ get_or ps (m + k) d = ap (λ qs. get_or qs k d) e ∙ get_or-drop m ps k d in

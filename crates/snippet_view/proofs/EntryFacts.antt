@@ -1,10 +1,12 @@
 -- What is known of the entries of the lines that are kept or shown, for those who draw them.
-use Rattle.std.proofs.Common.{◌≡◌, ℕ, ◌+◌, ◌-◌, ◌*◌, ◌^◌, ◌<◌, ◌≤◌, Bool, true, false, ◌&&◌, cond, not, add-zero, eqb, leb, ltb, max, Option, Some, None, Bor, List, [], ◌∷◌, ◌++◌, map, length, get_or, inl, inr, refl, sym, ap, subst, ◌∙◌, arith}
+use Rattle.std.proofs.Common.{◌≡◌, ℕ, ◌+◌, ◌-◌, ◌*◌, ◌^◌, ◌<◌, ◌≤◌, Bool, true, false, ◌&&◌, cond, not, add-zero, eqb, leb, ltb, max, Option, Some, None, Bor}
+use Rattle.std.proofs.Common.{List, [], ◌∷◌, ◌++◌, map, length, get_or, inl, inr, refl, sym, ap, subst, ◌∙◌, arith}
 use Rattle.std.specs.List.{All, Contains, count_by, filter, list_all, list_any}
 use Rattle.std.specs.Option.{IfSome, option_copied, option_map}
 use Rattle.std.specs.Cow.{cow_str_bytes}
 use Rattle.std.proofs.Math.Nat.{zero-add}
-use Rattle.std.proofs.lemmas.Bool.{cases_Bool, cond-true, cond-false, or_cases, and_parts, and_from, and_right, le-leb, eqb-true, le-ltb, ne_eqb, not-true, both_ways}
+use Rattle.std.proofs.lemmas.Bool.{cases_Bool, cond-true, cond-false, or_cases, and_parts, and_from, and_right, le-leb, eqb-true, le-ltb, ne_eqb, not-true}
+use Rattle.std.proofs.lemmas.Bool.{both_ways}
 use Rattle.std.proofs.lemmas.List.{append-nil}
 use Rattle.std.proofs.lemmas.List.Elements.{All-nil, All-cons, All-head, All-tail, All-same, All-weaker, All-filter, All-contains, filter-append, filter_agree}
 use Rattle.std.proofs.lemmas.List.Folds.{list_all_at}
@@ -15,7 +17,8 @@ use Rattle.snippet_model.specs.Fits.{AnnotationFits, TextFits}
 use Rattle.snippet_view.specs.declared.depths.LongExtent.{LongExtent}
 use Rattle.snippet_view.specs.declared.entries.AnnotatedLineInfo.{AnnotatedLineInfo}
 use Rattle.snippet_lines.specs.declared.place.Loc.{Loc}
-use Rattle.snippet_view.specs.Annotated.{PartEntry, seen_part, KeptLine, seen_kept, kept_line, is_short, is_long, long_entry, long_place, long_places, long_spans, long_parts, depth_of, deepest, single_part, bar_lines, made_parts, parts_on}
+use Rattle.snippet_view.specs.Annotated.{PartEntry, seen_part, KeptLine, seen_kept, kept_line, is_short, is_long, long_entry, long_place, long_places}
+use Rattle.snippet_view.specs.Annotated.{long_spans, long_parts, depth_of, deepest, single_part, bar_lines, made_parts, parts_on}
 use Rattle.snippet_view.specs.Depths.{same_place, depth_among, greatest_depth}
 use Rattle.snippet_view.specs.Entries.{AllEntries, HasCharacterRoom, HasRoom, HasShortLabel, HasDepthWithin, is_untouched}
 use Rattle.snippet_lines.specs.Lines.{Source, source_lines}
@@ -36,7 +39,8 @@ use Rattle.snippet_view.proofs.ShownLemmas.{filter-map, place-among}
 -- ---- lines by what is seen of them
 
 -- what holds of each line that is seen as one of these lines of the source
-pub each-line : (Q : AnnotatedLineInfo → Type 0) (s : Source) (marks : List Annotation) (ks : List ℕ) (infos : List AnnotatedLineInfo) → map seen_kept infos ≡ map (kept_line s marks) ks → All (λ k. (info : AnnotatedLineInfo) → seen_kept info ≡ kept_line s marks k → Q info) ks → All Q infos
+pub each-line : (Q : AnnotatedLineInfo → Type 0) (s : Source) (marks : List Annotation) (ks : List ℕ) (infos : List AnnotatedLineInfo)
+    → map seen_kept infos ≡ map (kept_line s marks) ks → All (λ k. (info : AnnotatedLineInfo) → seen_kept info ≡ kept_line s marks k → Q info) ks → All Q infos
 each-line Q s marks ks [] same all = All-nil Q
 each-line Q s marks [] (info ∷ infos) same all = cc
 each-line Q s marks (k ∷ ks) (info ∷ infos) same all =
@@ -53,11 +57,13 @@ each-line Q s marks (k ∷ ks) (info ∷ infos) same all =
     tail-same x y xs ys same = cc
 
 -- the entries of a line that is seen as line k
-pub entries-on : (s : Source) (marks : List Annotation) (k : ℕ) (info : AnnotatedLineInfo) → seen_kept info ≡ kept_line s marks k → map seen_part info.annotations.items ≡ parts_on s marks k
+pub entries-on : (s : Source) (marks : List Annotation) (k : ℕ) (info : AnnotatedLineInfo) → seen_kept info ≡ kept_line s marks k
+    → map seen_part info.annotations.items ≡ parts_on s marks k
 entries-on s marks k info seen = ap (λ (l : KeptLine). l.parts) seen
 
 -- what holds of each entry that is made holds of those of these lines
-pub each-entry : (P : PartEntry → Type 0) (s : Source) (marks : List Annotation) (ks : List ℕ) (infos : List AnnotatedLineInfo) → map seen_kept infos ≡ map (kept_line s marks) ks → All P (made_parts s marks) → AllEntries (λ e. P (seen_part e)) infos
+pub each-entry : (P : PartEntry → Type 0) (s : Source) (marks : List Annotation) (ks : List ℕ) (infos : List AnnotatedLineInfo)
+    → map seen_kept infos ≡ map (kept_line s marks) ks → All P (made_parts s marks) → AllEntries (λ e. P (seen_part e)) infos
 each-entry P s marks ks infos same all =
     each-line (λ info. All (λ e. P (seen_part e)) info.annotations.items) s marks ks infos same (λ i d within info seen. let k : ℕ = get_or ks i d in
     let on : All P (parts_on s marks k) = All-filter (λ (p : PartEntry). eqb p.entry.start.line (s.first + k)) P (made_parts s marks) all in
@@ -66,7 +72,8 @@ each-entry P s marks ks infos same all =
 -- ---- places
 
 -- the entries of kept lines have room for their places, where the source fits
-pub places-fit : (s : Source) (marks : List Annotation) (ks : List ℕ) (infos : List AnnotatedLineInfo) → map seen_kept infos ≡ map (kept_line s marks) ks → length s.text < 2 ^ 56 → AllEntries HasRoom infos
+pub places-fit : (s : Source) (marks : List Annotation) (ks : List ℕ) (infos : List AnnotatedLineInfo) → map seen_kept infos ≡ map (kept_line s marks) ks
+    → length s.text < 2 ^ 56 → AllEntries HasRoom infos
 places-fit s marks ks infos same fits =
     each-entry Room s marks ks infos same (made-all Room s marks (λ a among is. short a) (λ a among is kind. long a kind))
   where
@@ -85,7 +92,8 @@ places-fit s marks ks infos same fits =
     }
 
 -- and the characters at which entries start leave room for one more
-pub characters-fit : (s : Source) (marks : List Annotation) (ks : List ℕ) (infos : List AnnotatedLineInfo) → map seen_kept infos ≡ map (kept_line s marks) ks → length s.text < 2 ^ 56 → AllEntries HasCharacterRoom infos
+pub characters-fit : (s : Source) (marks : List Annotation) (ks : List ℕ) (infos : List AnnotatedLineInfo) → map seen_kept infos ≡ map (kept_line s marks) ks
+    → length s.text < 2 ^ 56 → AllEntries HasCharacterRoom infos
 characters-fit s marks ks infos same fits =
     each-entry Room s marks ks infos same (made-all Room s marks (λ a among is. omega (arith, start-character-bound s a.span.start a.span.end)) (λ a among is kind. long a kind))
   where
@@ -103,7 +111,8 @@ characters-fit s marks ks infos same fits =
 -- ---- texts and numbers
 
 -- the texts of kept lines fit, where the source does
-pub texts-fit : (s : Source) (marks : List Annotation) (ks : List ℕ) (infos : List AnnotatedLineInfo) → map seen_kept infos ≡ map (kept_line s marks) ks → length s.text < 2 ^ 56 → All (λ info. length info.line.now < 2 ^ 56) infos
+pub texts-fit : (s : Source) (marks : List Annotation) (ks : List ℕ) (infos : List AnnotatedLineInfo) → map seen_kept infos ≡ map (kept_line s marks) ks
+    → length s.text < 2 ^ 56 → All (λ info. length info.line.now < 2 ^ 56) infos
 texts-fit s marks ks infos same fits =
     each-line (λ info. length info.line.now < 2 ^ 56) s marks ks infos same (λ i d within info seen. omega (arith, ap (λ (l : KeptLine). length l.text) seen, length-text_at-source s.text (get_or ks i d)))
 
@@ -117,7 +126,8 @@ numbers-within s marks ks infos same all =
 -- ---- labels
 
 -- the labels of the entries of kept lines are short, where the annotations fit
-pub labels-fit : (s : Source) (marks : List Annotation) (ks : List ℕ) (infos : List AnnotatedLineInfo) → map seen_kept infos ≡ map (kept_line s marks) ks → All AnnotationFits marks → AllEntries HasShortLabel infos
+pub labels-fit : (s : Source) (marks : List Annotation) (ks : List ℕ) (infos : List AnnotatedLineInfo) → map seen_kept infos ≡ map (kept_line s marks) ks
+    → All AnnotationFits marks → AllEntries HasShortLabel infos
 labels-fit s marks ks infos same fit =
     All-weaker (λ info. All (λ e. Short (seen_part e)) info.annotations.items) (λ info. All HasShortLabel info.annotations.items) (λ info all. All-weaker (λ e. Short (seen_part e)) HasShortLabel (λ e short. copied e.label short) info.annotations.items all) infos
     (each-entry Short s marks ks infos same (made-all Short s marks (λ a among is. mapped a among) (λ a among is kind. long a among kind)))
@@ -150,16 +160,19 @@ place-holds f P p (q ∷ ps) among all =
     ]
 
 -- the depth of a span of several lines
-pub depth-within : (s : Source) (marks : List Annotation) (a : Annotation) → Contains marks a → is_long s.text a ≡ true → (0 < depth_of s marks a) × (depth_of s marks a ≤ deepest s marks)
+pub depth-within : (s : Source) (marks : List Annotation) (a : Annotation) → Contains marks a → is_long s.text a ≡ true
+    → (0 < depth_of s marks a) × (depth_of s marks a ≤ deepest s marks)
 depth-within s marks a among long =
     place-holds (depth_among (long_places s marks)) (λ n. (1 ≤ n) × (n ≤ greatest_depth (long_places s marks))) (long_place (long_entry s a)) (long_places s marks) (place-among s marks a among long) (depths-within (long_places s marks))
 
 -- no entry of a kept line stands deeper than the deepest span
-pub depths-fit : (s : Source) (marks : List Annotation) (ks : List ℕ) (infos : List AnnotatedLineInfo) → map seen_kept infos ≡ map (kept_line s marks) ks → AllEntries (λ e. HasDepthWithin (deepest s marks) e.annotation_type) infos
+pub depths-fit : (s : Source) (marks : List Annotation) (ks : List ℕ) (infos : List AnnotatedLineInfo) → map seen_kept infos ≡ map (kept_line s marks) ks
+    → AllEntries (λ e. HasDepthWithin (deepest s marks) e.annotation_type) infos
 depths-fit s marks ks infos same =
     each-entry (λ p. HasDepthWithin (deepest s marks) p.part) s marks ks infos same (made-all (λ p. HasDepthWithin (deepest s marks) p.part) s marks (λ a among is. tt) (λ a among is kind. long a among is kind))
   where
-    long : (a : Annotation) → Contains marks a → is_long s.text a ≡ true → (kind : AnnotationKind) → HoldsOfSpan (λ p. HasDepthWithin (deepest s marks) p.part) s (depth_of s marks a) (record (long_entry s a) { kind = kind })
+    long : (a : Annotation) → Contains marks a → is_long s.text a ≡ true → (kind : AnnotationKind)
+        → HoldsOfSpan (λ p. HasDepthWithin (deepest s marks) p.part) s (depth_of s marks a) (record (long_entry s a) { kind = kind })
     long a among is kind =
         let within : (0 < depth_of s marks a) × (depth_of s marks a ≤ deepest s marks) = depth-within s marks a among is in
         record { start = within; bars = λ k d below. within; end = within; again = tt }
@@ -183,7 +196,8 @@ all-member p xs x all among =
     ]
 
 -- the entries on line k of spans on one line are those of the spans that are marked there
-pub singles-on : (s : Source) (marks : List Annotation) (k : ℕ) → filter (λ (p : PartEntry). eqb p.entry.start.line (s.first + k)) (map (single_part s) (filter (is_short s.text) marks)) ≡ map (single_part s) (filter (is_marked_on s.text k) marks)
+pub singles-on : (s : Source) (marks : List Annotation) (k : ℕ)
+    → filter (λ (p : PartEntry). eqb p.entry.start.line (s.first + k)) (map (single_part s) (filter (is_short s.text) marks)) ≡ map (single_part s) (filter (is_marked_on s.text k) marks)
 singles-on s marks k =
     filter-map (λ (p : PartEntry). eqb p.entry.start.line (s.first + k)) (single_part s) (filter (is_short s.text) marks)
     ∙ ap (map (single_part s))
@@ -192,7 +206,8 @@ singles-on s marks k =
     (λ a. ap (λ b. is_short s.text a && b) (eqb-shift s.first (first_line s.text a) k (entry_of s a).start.line (entry_of-line s a))) marks)
 
 -- no part of a span of several lines stands on a line that no span touches
-pub longs-off : (s : Source) (marks : List Annotation) (k : ℕ) → All (λ a. IsSpan s.text a.span.start a.span.end) marks → is_untouched s.text marks k ≡ true → filter (λ (p : PartEntry). eqb p.entry.start.line (s.first + k)) (long_parts s (long_places s marks) [] (long_spans s marks)) ≡ []
+pub longs-off : (s : Source) (marks : List Annotation) (k : ℕ) → All (λ a. IsSpan s.text a.span.start a.span.end) marks → is_untouched s.text marks k ≡ true
+    → filter (λ (p : PartEntry). eqb p.entry.start.line (s.first + k)) (long_parts s (long_places s marks) [] (long_spans s marks)) ≡ []
 longs-off s marks k spans untouched =
     filter-none (λ (p : PartEntry). eqb p.entry.start.line (s.first + k)) (long_parts s (long_places s marks) [] (long_spans s marks)) (longs-all Off s marks long)
   where
@@ -210,10 +225,12 @@ longs-off s marks k spans untouched =
         (all-member (λ (a : Annotation). not (is_marking a.kind && touches s.text a k && not (is_single_line s.text a))) marks a untouched among))
         touched
 
-    off : (a : Annotation) → Contains marks a → is_long s.text a ≡ true → (n m : ℕ) → n ≡ s.first + m → first_line s.text a ≤ m → m ≤ last_line s.text a → eqb n (s.first + k) ≡ false
+    off : (a : Annotation) → Contains marks a → is_long s.text a ≡ true → (n m : ℕ) → n ≡ s.first + m → first_line s.text a ≤ m → m ≤ last_line s.text a
+        → eqb n (s.first + k) ≡ false
     off a among long n m is from to = ne_eqb n (s.first + k) (λ here. away a among long (omega arith) (omega arith))
 
-    long : (a : Annotation) → Contains marks a → is_long s.text a ≡ true → (kind : AnnotationKind) → HoldsOfSpan Off s (depth_of s marks a) (record (long_entry s a) { kind = kind })
+    long : (a : Annotation) → Contains marks a → is_long s.text a ≡ true → (kind : AnnotationKind)
+        → HoldsOfSpan Off s (depth_of s marks a) (record (long_entry s a) { kind = kind })
     long a among is kind =
         let first : (long_entry s a).start.line ≡ s.first + first_line s.text a = start-line s a.span.start a.span.end in
         let last : (long_entry s a).end.line ≡ s.first + last_line s.text a = end-line s a.span.start a.span.end in
@@ -229,7 +246,8 @@ longs-off s marks k spans untouched =
         }
 
 -- on a line that no span of several lines touches the entries are those of the spans that are marked there
-pub untouched-parts : (s : Source) (marks : List Annotation) (k : ℕ) → All (λ a. IsSpan s.text a.span.start a.span.end) marks → is_untouched s.text marks k ≡ true → parts_on s marks k ≡ map (single_part s) (filter (is_marked_on s.text k) marks)
+pub untouched-parts : (s : Source) (marks : List Annotation) (k : ℕ) → All (λ a. IsSpan s.text a.span.start a.span.end) marks
+    → is_untouched s.text marks k ≡ true → parts_on s marks k ≡ map (single_part s) (filter (is_marked_on s.text k) marks)
 untouched-parts s marks k spans untouched =
     filter-append (λ (p : PartEntry). eqb p.entry.start.line (s.first + k)) (map (single_part s) (filter (is_short s.text) marks)) (long_parts s (long_places s marks) [] (long_spans s marks))
     ∙ ap (λ ps. filter (λ (p : PartEntry). eqb p.entry.start.line (s.first + k)) (map (single_part s) (filter (is_short s.text) marks)) ++ ps) (longs-off s marks k spans untouched)
@@ -275,7 +293,8 @@ is_wide_part room placeholder_width p =
     let width = p.entry.end.display - p.entry.start.display in
     is_single_part p.part && ltb (2 * room) width && ltb (10 + placeholder_width) width
 
-wide-single : (room placeholder_width : ℕ) (s : Source) (a : Annotation) → is_single_line s.text a ≡ true → is_wide_part room placeholder_width (single_part s a) ≡ is_wide room placeholder_width s.text a
+wide-single : (room placeholder_width : ℕ) (s : Source) (a : Annotation) → is_single_line s.text a ≡ true
+    → is_wide_part room placeholder_width (single_part s a) ≡ is_wide room placeholder_width s.text a
 unfolding is_wide_part
 wide-single room placeholder_width s a single =
     let at : Loc × Loc = locations_of s a.span.start a.span.end in
@@ -287,7 +306,8 @@ wide-single room placeholder_width s a single =
     let width : max at.1.display (at.0.display + 1) - at.0.display ≡ span_width s.text a = omega arith in
     ap (λ w. ltb (2 * room) w && ltb (10 + placeholder_width) w) width
 
-wide-marked : (room placeholder_width : ℕ) (s : Source) (k : ℕ) (a : Annotation) → (is_marked_on s.text k a && is_wide_part room placeholder_width (single_part s a)) ≡ (is_marked_on s.text k a && is_wide room placeholder_width s.text a)
+wide-marked : (room placeholder_width : ℕ) (s : Source) (k : ℕ) (a : Annotation)
+    → (is_marked_on s.text k a && is_wide_part room placeholder_width (single_part s a)) ≡ (is_marked_on s.text k a && is_wide room placeholder_width s.text a)
 wide-marked room placeholder_width s k a =
     elim (cases_Bool (is_marked_on s.text k a)) [
       | inl t ↦
@@ -298,7 +318,8 @@ wide-marked room placeholder_width s k a =
     ]
 
 -- the entries of spans of several lines are one column wide at most
-wide-long : (room placeholder_width : ℕ) (s : Source) (marks : List Annotation) → All (λ p. is_wide_part room placeholder_width p ≡ false) (long_parts s (long_places s marks) [] (long_spans s marks))
+wide-long : (room placeholder_width : ℕ) (s : Source) (marks : List Annotation)
+    → All (λ p. is_wide_part room placeholder_width p ≡ false) (long_parts s (long_places s marks) [] (long_spans s marks))
 unfolding is_wide_part
 wide-long room placeholder_width s marks =
     longs-all (λ p. is_wide_part room placeholder_width p ≡ false) s marks (λ a among is kind. record { start = refl; bars = λ k d within. refl; end = refl; again = narrow (long_entry s a).end.display })

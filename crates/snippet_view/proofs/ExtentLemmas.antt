@@ -1,5 +1,6 @@
 -- Lemmas on how far lines reach, line by line and entry by entry.
-use Rattle.std.proofs.Common.{◌≡◌, ℕ, ◌≤◌, min, max, Bool, true, false, not, List, [], ◌∷◌, ◌++◌, Option, Some, None, All, map, fold, chars, refl, sym, ap, subst, cond, ◌∙◌, arith, unwrap_or, inl, inr, append_assoc}
+use Rattle.std.proofs.Common.{◌≡◌, ℕ, ◌≤◌, min, max, Bool, true, false, not, List, [], ◌∷◌, ◌++◌, Option, Some, None, All, map, fold, chars, refl, sym, ap}
+use Rattle.std.proofs.Common.{subst, cond, ◌∙◌, arith, unwrap_or, inl, inr, append_assoc}
 use Rattle.std.specs.List.{flat_map, filter_map}
 use Rattle.std.specs.Option.{option_copied, option_map_or, option_to_list}
 use Rattle.std.proofs.lemmas.List.{map-append, map_push, append-nil}
@@ -27,7 +28,8 @@ pub greatest-push : (ns : List ℕ) (n : ℕ) → greatest (ns ++ n ∷ []) ≡ 
 greatest-push ns n = fold_push (λ m k. max m k) 0 ns n
 
 -- two more numbers
-pub least-push_two : (ns : List ℕ) (n m : ℕ) → least (ns ++ n ∷ m ∷ []) ≡ Some (option_map_or (λ k. min k m) (Some (option_map_or (λ k. min k n) (least ns) n)) m)
+pub least-push_two : (ns : List ℕ) (n m : ℕ)
+    → least (ns ++ n ∷ m ∷ []) ≡ Some (option_map_or (λ k. min k m) (Some (option_map_or (λ k. min k n) (least ns) n)) m)
 least-push_two ns n m =
     ap least (sym (append_assoc ns (n ∷ []) (m ∷ []))) ∙ least-push (ns ++ n ∷ []) m ∙ ap (λ (o : Option ℕ). Some (option_map_or (λ k. min k m) o m)) (least-push ns n)
 
@@ -36,15 +38,18 @@ greatest-push_two ns n m =
     ap greatest (sym (append_assoc ns (n ∷ []) (m ∷ []))) ∙ greatest-push (ns ++ n ∷ []) m ∙ ap (λ k. max k m) (greatest-push ns n)
 
 -- one more entry, by whether it is a bar
-with_columns-push : (es : List LineAnnotation) (e : LineAnnotation) (bar : Bool) → is_bar e.annotation_type ≡ bar → with_columns (es ++ e ∷ []) ≡ with_columns es ++ cond (not bar) (e ∷ []) []
+with_columns-push : (es : List LineAnnotation) (e : LineAnnotation) (bar : Bool) → is_bar e.annotation_type ≡ bar
+    → with_columns (es ++ e ∷ []) ≡ with_columns es ++ cond (not bar) (e ∷ []) []
 with_columns-push es e bar is =
     filter-append (λ (x : LineAnnotation). not (is_bar x.annotation_type)) es (e ∷ []) ∙ ap (λ b. with_columns es ++ cond (not b) (e ∷ []) []) is
 
-columns_of-push : (es : List LineAnnotation) (e : LineAnnotation) → is_bar e.annotation_type ≡ false → columns_of (es ++ e ∷ []) ≡ columns_of es ++ e.start.display ∷ e.end.display ∷ []
+columns_of-push : (es : List LineAnnotation) (e : LineAnnotation) → is_bar e.annotation_type ≡ false
+    → columns_of (es ++ e ∷ []) ≡ columns_of es ++ e.start.display ∷ e.end.display ∷ []
 columns_of-push es e not_bar =
     ap (flat_map (λ (x : LineAnnotation). x.start.display ∷ x.end.display ∷ [])) (with_columns-push es e false not_bar) ∙ flat_map-append (λ (x : LineAnnotation). x.start.display ∷ x.end.display ∷ []) (with_columns es) (e ∷ [])
 
-ends_of-push : (es : List LineAnnotation) (e : LineAnnotation) → is_bar e.annotation_type ≡ false → ends_of (es ++ e ∷ []) ≡ ends_of es ++ end_with e.end.display (option_copied e.label) ∷ []
+ends_of-push : (es : List LineAnnotation) (e : LineAnnotation) → is_bar e.annotation_type ≡ false
+    → ends_of (es ++ e ∷ []) ≡ ends_of es ++ end_with e.end.display (option_copied e.label) ∷ []
 ends_of-push es e not_bar =
     ap (map (λ (x : LineAnnotation). end_with x.end.display (option_copied x.label))) (with_columns-push es e false not_bar) ∙ map-append (λ (x : LineAnnotation). end_with x.end.display (option_copied x.label)) (with_columns es) (e ∷ [])
 
@@ -53,7 +58,8 @@ with_columns-push_bar : (es : List LineAnnotation) (e : LineAnnotation) → is_b
 with_columns-push_bar es e bar = with_columns-push es e true bar ∙ append-nil (with_columns es)
 
 -- a bar more doesn't change how far entries reach
-pub bar_added : (es : List LineAnnotation) (e : LineAnnotation) (x : Extent) → is_bar e.annotation_type ≡ true → ReachesEntries es x → ReachesEntries (es ++ e ∷ []) x
+pub bar_added : (es : List LineAnnotation) (e : LineAnnotation) (x : Extent) → is_bar e.annotation_type ≡ true → ReachesEntries es x
+    → ReachesEntries (es ++ e ∷ []) x
 bar_added es e x bar reaches =
     let same = sym (with_columns-push_bar es e bar) in
     record {
@@ -83,7 +89,8 @@ entries_of-push infos info =
     flat_map-append (λ (i : AnnotatedLineInfo). i.annotations.items) infos (info ∷ []) ∙ ap (λ es. entries_of infos ++ es) (append-nil info.annotations.items)
 
 -- the least width of leading whitespace, with that of one more line
-least-push_known : (ns : List ℕ) (o : Option ℕ) → least (ns ++ option_to_list o) ≡ option_map_or (λ n. Some (option_map_or (λ m. min m n) (least ns) n)) o (least ns)
+least-push_known : (ns : List ℕ) (o : Option ℕ)
+    → least (ns ++ option_to_list o) ≡ option_map_or (λ n. Some (option_map_or (λ m. min m n) (least ns) n)) o (least ns)
 least-push_known ns None = ap least (append-nil ns)
 least-push_known ns (Some n) = least-push ns n
 

@@ -86,7 +86,8 @@ keeps-bar source a k bar =
 abbrev pub StandsOnKept : Source → List Annotation → PartEntry → Type 0
 StandsOnKept s marks p = (k : ℕ) → p.entry.start.line ≡ s.first + k → list_any (keeps s.text k) marks ≡ true
 
-pub made-kept : (s : Source) (marks : List Annotation) → All (λ a. IsSpan s.text a.span.start a.span.end) marks → All (StandsOnKept s marks) (made_parts s marks)
+pub made-kept : (s : Source) (marks : List Annotation) → All (λ a. IsSpan s.text a.span.start a.span.end) marks
+    → All (StandsOnKept s marks) (made_parts s marks)
 made-kept s marks spans = made-all (StandsOnKept s marks) s marks short long
   where
     is-span : (a : Annotation) → Contains marks a → IsSpan s.text a.span.start a.span.end
@@ -104,14 +105,16 @@ made-kept s marks spans = made-all (StandsOnKept s marks) s marks short long
     at-last : (a : Annotation) → Contains marks a → (k : ℕ) → (long_entry s a).end.line ≡ s.first + k → list_any (keeps s.text k) marks ≡ true
     at-last a among k at = any-member (keeps s.text k) marks a among (keeps-last s.text a k (is-span a among) (omega (arith, last a)))
 
-    bar : (a : Annotation) → Contains marks a → (k n : ℕ) → IsBarLine s.text ((long_entry s a).start.line - s.first) ((long_entry s a).end.line - s.first) k → s.first + k ≡ s.first + n → list_any (keeps s.text n) marks ≡ true
+    bar : (a : Annotation) → Contains marks a → (k n : ℕ) → IsBarLine s.text ((long_entry s a).start.line - s.first) ((long_entry s a).end.line - s.first) k
+        → s.first + k ≡ s.first + n → list_any (keeps s.text n) marks ≡ true
     bar a among k n is at =
         let from : (long_entry s a).start.line - s.first ≡ first_line s.text a = omega (arith, first a) in
         let to : (long_entry s a).end.line - s.first ≡ last_line s.text a = omega (arith, last a) in
         let here : k ≡ n = omega arith in
         any-member (keeps s.text n) marks a among (keeps-bar s.text a n (subst (λ m. IsBarLine s.text (first_line s.text a) (last_line s.text a) m) here (subst (λ m. IsBarLine s.text (first_line s.text a) m k) to (subst (λ m. IsBarLine s.text m ((long_entry s a).end.line - s.first) k) from is))))
 
-    long : (a : Annotation) → Contains marks a → is_long s.text a ≡ true → (kind : AnnotationKind) → HoldsOfSpan (StandsOnKept s marks) s (depth_of s marks a) (record (long_entry s a) { kind = kind })
+    long : (a : Annotation) → Contains marks a → is_long s.text a ≡ true → (kind : AnnotationKind)
+        → HoldsOfSpan (StandsOnKept s marks) s (depth_of s marks a) (record (long_entry s a) { kind = kind })
     long a among is kind = record {
       start = λ k at. any-member (keeps s.text k) marks a among (keeps-first s.text a k (is-span a among) (omega (arith, first a)));
       bars = All-weaker (IsBarLine s.text ((long_entry s a).start.line - s.first) ((long_entry s a).end.line - s.first))
@@ -123,7 +126,8 @@ made-kept s marks spans = made-all (StandsOnKept s marks) s marks short long
     }
 
 -- no entry stands on a line that no span keeps
-pub none-unkept : (s : Source) (marks : List Annotation) (k : ℕ) → All (λ a. IsSpan s.text a.span.start a.span.end) marks → list_any (keeps s.text k) marks ≡ false → parts_on s marks k ≡ []
+pub none-unkept : (s : Source) (marks : List Annotation) (k : ℕ) → All (λ a. IsSpan s.text a.span.start a.span.end) marks
+    → list_any (keeps s.text k) marks ≡ false → parts_on s marks k ≡ []
 none-unkept s marks k spans none =
     filter-none (λ (p : PartEntry). eqb p.entry.start.line (s.first + k)) (made_parts s marks)
     (All-weaker (StandsOnKept s marks) (λ p. eqb p.entry.start.line (s.first + k) ≡ false)
@@ -131,7 +135,8 @@ none-unkept s marks k spans none =
     (made-kept s marks spans))
 
 -- and no span keeps it without marking it
-pub unseen-unkept : (s : Source) (marks : List Annotation) (k : ℕ) → list_any (keeps s.text k) marks ≡ false → list_any (λ a. not (is_marking a.kind) && touches s.text a k) marks ≡ false
+pub unseen-unkept : (s : Source) (marks : List Annotation) (k : ℕ) → list_any (keeps s.text k) marks ≡ false
+    → list_any (λ a. not (is_marking a.kind) && touches s.text a k) marks ≡ false
 unseen-unkept s marks k none =
     list_any_none (λ (a : Annotation). not (is_marking a.kind) && touches s.text a k) marks (All-weaker (Contains marks) (λ a. (not (is_marking a.kind) && touches s.text a k) ≡ false) (λ a among. false_from_ne_true (not (is_marking a.kind) && touches s.text a k) (λ t.
     let parts = and_parts (not (is_marking a.kind)) (touches s.text a k) t in

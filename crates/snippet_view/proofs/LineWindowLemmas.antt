@@ -1,5 +1,6 @@
 -- How the window of a line is found, character by character.
-use Rattle.std.proofs.Common.{◌≡◌, ◌^◌, Option, Some, None, IfSome, unwrap_or, ℕ, ◌+◌, ◌-◌, ◌<◌, ◌≤◌, cond, eqb, leb, true, false, List, [], ◌∷◌, ◌++◌, length, take, drop, refl, sym, ap, ◌∙◌, le_refl, arith, chars, encode_utf8, IsUtf8}
+use Rattle.std.proofs.Common.{◌≡◌, ◌^◌, Option, Some, None, IfSome, unwrap_or, ℕ, ◌+◌, ◌-◌, ◌<◌, ◌≤◌, cond, eqb, leb, true, false, List, [], ◌∷◌, ◌++◌, length}
+use Rattle.std.proofs.Common.{take, drop, refl, sym, ap, ◌∙◌, le_refl, arith, chars, encode_utf8, IsUtf8}
 use Rattle.std.proofs.lemmas.Str.{encodes-chars}
 use Rattle.std.proofs.lemmas.List.{drop_all, length-drop, length-take, take_all}
 use Rattle.std.proofs.lemmas.List.Sums.{sum_by-cons, fold_push}
@@ -8,7 +9,8 @@ use Rattle.std.proofs.lemmas.Bool.Decides.{nat_tests}
 use Rattle.snippet_text.specs.Width.{char_width, width_of}
 use Rattle.snippet_view.specs.Window.{reaching, fitting, reaching_last, uncovered_part}
 use Rattle.snippet_style.specs.Cell.{bytes_of}
-pub use Rattle.snippet_style.proofs.CutLemmas.{text_parts, cut_boundary, cut_front, cut_back, bytes-push, IsNext, take-next, drop-next, bytes_within, bytes_next}
+pub use Rattle.snippet_style.proofs.CutLemmas.{text_parts, cut_boundary, cut_front, cut_back, bytes-push, IsNext, take-next, drop-next, bytes_within}
+pub use Rattle.snippet_style.proofs.CutLemmas.{bytes_next}
 
 -- one more character
 pub width-cons : (c : ℕ) (cs : List ℕ) → width_of (c ∷ cs) ≡ char_width c + width_of cs
@@ -39,7 +41,8 @@ reaches_start columns cs =
     record { bytes = refl; width_is = refl; rest = omega arith }
 
 -- a character is passed where the column isn't reached yet
-pub reaches_next : (columns : ℕ) (cs : List ℕ) (n m at width c len w : ℕ) → IsNext cs n c → m ≡ n + 1 → width < columns → len ≡ length (encode_utf8 c) → w ≡ char_width c → ReachesSoFar columns cs n at width → ReachesSoFar columns cs m (at + len) (width + w)
+pub reaches_next : (columns : ℕ) (cs : List ℕ) (n m at width c len w : ℕ) → IsNext cs n c → m ≡ n + 1 → width < columns → len ≡ length (encode_utf8 c)
+    → w ≡ char_width c → ReachesSoFar columns cs n at width → ReachesSoFar columns cs m (at + len) (width + w)
 reaches_next columns cs n m at width c len w next one less is_len is_width so_far =
     let front = ap (λ k. take k cs) one ∙ take-next cs n c next in
     let left : (columns - width) - char_width c ≡ columns - (width + w) = omega arith in
@@ -83,7 +86,8 @@ pub fits_start : (columns : ℕ) (cs : List ℕ) → FitsSoFar columns cs 0 0 co
 fits_start columns cs = record { bytes = refl; width_is = omega arith; rest = omega arith }
 
 -- a character that fits is passed
-pub fits_next : (columns : ℕ) (cs : List ℕ) (n m at left c len w : ℕ) → IsNext cs n c → m ≡ n + 1 → w ≤ left → len ≡ length (encode_utf8 c) → w ≡ char_width c → FitsSoFar columns cs n at left → FitsSoFar columns cs m (at + len) (left - w)
+pub fits_next : (columns : ℕ) (cs : List ℕ) (n m at left c len w : ℕ) → IsNext cs n c → m ≡ n + 1 → w ≤ left → len ≡ length (encode_utf8 c) → w ≡ char_width c
+    → FitsSoFar columns cs n at left → FitsSoFar columns cs m (at + len) (left - w)
 fits_next columns cs n m at left c len w next one less is_len is_width so_far =
     let front = ap (λ k. take k cs) one ∙ take-next cs n c next in
     let same_left : left - char_width c ≡ left - w = omega arith in
@@ -96,7 +100,8 @@ fits_next columns cs n m at left c len w next one less is_len is_width so_far =
     }
 
 -- a character that doesn't fit ends what does
-pub fits_enough : (columns : ℕ) (cs : List ℕ) (n at left c w : ℕ) → IsNext cs n c → w ≡ char_width c → left < w → FitsSoFar columns cs n at left → fitting columns cs ≡ n
+pub fits_enough : (columns : ℕ) (cs : List ℕ) (n at left c w : ℕ) → IsNext cs n c → w ≡ char_width c → left < w → FitsSoFar columns cs n at left
+    → fitting columns cs ≡ n
 fits_enough columns cs n at left c w next is_width wide so_far =
     let stop : fitting left (drop n cs) ≡ 0 = ap (fitting left) (drop-next cs n c next) ∙ fitting-stop left c (drop (n + 1) cs) (omega arith) in
     omega (arith, so_far.rest, stop)
@@ -120,7 +125,8 @@ pub fitting_whole : (columns : ℕ) (cs : List ℕ) → width_of cs ≤ columns 
 fitting_whole columns cs fits = take_all (fitting columns cs) cs (omega (arith, fitting_all columns cs fits))
 
 -- the bytes of what fits are all, where the text is no wider than the columns
-pub whole_bytes : (columns : ℕ) (text : List ℕ) → IsUtf8 text → width_of (chars text) ≤ columns → length text ≡ bytes_of (take (fitting columns (chars text)) (chars text))
+pub whole_bytes : (columns : ℕ) (text : List ℕ) → IsUtf8 text → width_of (chars text) ≤ columns
+    → length text ≡ bytes_of (take (fitting columns (chars text)) (chars text))
 whole_bytes columns text utf8 fits =
     sym (ap bytes_of (fitting_whole columns (chars text) fits) ∙ ap length (encodes-chars text utf8))
 
@@ -161,7 +167,8 @@ width_after cs n c width w next is_width is =
     is ∙ ap width_of (drop-next cs n c next) ∙ width-cons c (drop (n + 1) cs) ∙ ap (λ k. k + width_of (drop (n + 1) cs)) (sym is_width)
 
 -- a character is passed where enough columns are left
-pub last_next : (columns : ℕ) (cs : List ℕ) (n m width count c w : ℕ) → IsNext cs n c → m ≡ n + 1 → w ≡ char_width c → columns ≤ width - w → LastSoFar columns cs n width count → LastSoFar columns cs m (width - w) (count - 1)
+pub last_next : (columns : ℕ) (cs : List ℕ) (n m width count c w : ℕ) → IsNext cs n c → m ≡ n + 1 → w ≡ char_width c → columns ≤ width - w
+    → LastSoFar columns cs n width count → LastSoFar columns cs m (width - w) (count - 1)
 last_next columns cs n m width count c w next one is_width more so_far =
     let after = width_after cs n c width w next is_width so_far.width_is in
     let same : drop m cs ≡ drop (n + 1) cs = ap (λ k. drop k cs) one in
@@ -172,7 +179,8 @@ last_next columns cs n m width count c w next one is_width more so_far =
     }
 
 -- a character whose passing would leave too few columns is the first of the last
-pub last_here : (columns : ℕ) (cs : List ℕ) (n width count c w : ℕ) → IsNext cs n c → w ≡ char_width c → width - w < columns → LastSoFar columns cs n width count → count ≡ reaching_last columns cs
+pub last_here : (columns : ℕ) (cs : List ℕ) (n width count c w : ℕ) → IsNext cs n c → w ≡ char_width c → width - w < columns
+    → LastSoFar columns cs n width count → count ≡ reaching_last columns cs
 last_here columns cs n width count c w next is_width few so_far =
     let after = width_after cs n c width w next is_width so_far.width_is in
     let here = so_far.rest ∙ ap (reaching_last columns) (drop-next cs n c next) ∙ reaching_last-here columns c (drop (n + 1) cs) (omega (arith, after, few)) in

@@ -1,5 +1,6 @@
 -- The place that the head of a primary snippet names, in words of its spans.
-use Rattle.std.proofs.Common.{◌≡◌, ℕ, suc, ◌+◌, ◌<◌, ◌≤◌, Bool, true, false, ◌&&◌, ◌||◌, cond, not, eqb, min, Option, Some, None, List, [], ◌∷◌, map, get_or, inl, inr, refl, sym, ap, subst, ◌∙◌, arith}
+use Rattle.std.proofs.Common.{◌≡◌, ℕ, suc, ◌+◌, ◌<◌, ◌≤◌, Bool, true, false, ◌&&◌, ◌||◌, cond, not, eqb, min, Option, Some, None, List, [], ◌∷◌, map, get_or}
+use Rattle.std.proofs.Common.{inl, inr, refl, sym, ap, subst, ◌∙◌, arith}
 use Rattle.std.specs.List.{All, Contains, filter, list_any}
 use Rattle.std.specs.Option.{IsSomeAnd, is_some, option_map, option_map_or, option_or}
 use Rattle.std.proofs.lemmas.Bool.{cases_Bool, cases_lt, cond-true, cond-false, and_from, and_left, and_parts, false_from_ne_true, both_ways, eq-eqb, eqb-true}
@@ -99,7 +100,8 @@ record IsFirst (place_on : KeptLine → Option Location) (line_at : ℕ → Kept
   pub none : (j : ℕ) → Contains ks j → j < k → place_on (line_at j) ≡ None
 
 -- the first of them has one
-first-here : (place_on : KeptLine → Option Location) (line_at : ℕ → KeptLine) (k : ℕ) (ks : List ℕ) (place : Location) → Ascends (k ∷ ks) → place_on (line_at k) ≡ Some place → IsFirst place_on line_at (k ∷ ks) k place
+first-here : (place_on : KeptLine → Option Location) (line_at : ℕ → KeptLine) (k : ℕ) (ks : List ℕ) (place : Location) → Ascends (k ∷ ks)
+    → place_on (line_at k) ≡ Some place → IsFirst place_on line_at (k ∷ ks) k place
 first-here place_on line_at k ks place rises has = record {
   among = contains-here k k ks refl;
   has = has;
@@ -108,7 +110,8 @@ first-here place_on line_at k ks place rises has = record {
 }
 
 -- it has none
-first-there : (place_on : KeptLine → Option Location) (line_at : ℕ → KeptLine) (k : ℕ) (ks : List ℕ) (n : ℕ) (place : Location) → place_on (line_at k) ≡ None → IsFirst place_on line_at ks n place → IsFirst place_on line_at (k ∷ ks) n place
+first-there : (place_on : KeptLine → Option Location) (line_at : ℕ → KeptLine) (k : ℕ) (ks : List ℕ) (n : ℕ) (place : Location) → place_on (line_at k) ≡ None
+    → IsFirst place_on line_at ks n place → IsFirst place_on line_at (k ∷ ks) n place
 first-there place_on line_at k ks n place missing first = record {
   among = contains-there n k ks first.among;
   has = first.has;
@@ -116,7 +119,8 @@ first-there place_on line_at k ks n place missing first = record {
   none = λ j found less. elim (contains-cases j k ks found) [ inl same ↦ ap (λ n. place_on (line_at n)) (sym same) ∙ missing | inr later ↦ first.none j later less ];
 }
 
-first-of : (place_on : KeptLine → Option Location) (line_at : ℕ → KeptLine) (ks : List ℕ) (some : ℕ) → Ascends ks → Contains ks some → is_some (place_on (line_at some)) ≡ true → (k : ℕ) × (place : Location) × IsFirst place_on line_at ks k place
+first-of : (place_on : KeptLine → Option Location) (line_at : ℕ → KeptLine) (ks : List ℕ) (some : ℕ) → Ascends ks → Contains ks some
+    → is_some (place_on (line_at some)) ≡ true → (k : ℕ) × (place : Location) × IsFirst place_on line_at ks k place
 first-of place_on line_at [] some rises among has = absurd (omega (arith, among.1))
 first-of place_on line_at (k ∷ ks) some rises among has =
     by (place_on (line_at k)) refl (λ later. first-of place_on line_at ks some (ascends-tail k ks rises) later has)
@@ -128,13 +132,15 @@ first-of place_on line_at (k ∷ ks) some rises among has =
           | inr later ↦ later
         ]
 
-    by : (o : Option Location) → place_on (line_at k) ≡ o → (Contains ks some → (n : ℕ) × (place : Location) × IsFirst place_on line_at ks n place) → (n : ℕ) × (place : Location) × IsFirst place_on line_at (k ∷ ks) n place
+    by : (o : Option Location) → place_on (line_at k) ≡ o → (Contains ks some → (n : ℕ) × (place : Location) × IsFirst place_on line_at ks n place)
+        → (n : ℕ) × (place : Location) × IsFirst place_on line_at (k ∷ ks) n place
     by None is rest =
         let found = rest (later-ones is) in (found.0, found.1, first-there place_on line_at k ks found.0 found.1 is found.2)
     by (Some place) is rest = (k, place, first-here place_on line_at k ks place rises is)
 
 -- where no line has a place there is none
-pub first-none : (place_on : KeptLine → Option Location) (line_at : ℕ → KeptLine) (ks : List ℕ) → ((k : ℕ) → place_on (line_at k) ≡ None) → first_place place_on (map line_at ks) ≡ None
+pub first-none : (place_on : KeptLine → Option Location) (line_at : ℕ → KeptLine) (ks : List ℕ) → ((k : ℕ) → place_on (line_at k) ≡ None)
+    → first_place place_on (map line_at ks) ≡ None
 first-none place_on line_at [] none = refl
 first-none place_on line_at (k ∷ ks) none =
     ap (λ o. option_or o (first_place place_on (map line_at ks))) (none k) ∙ first-none place_on line_at ks none
@@ -149,7 +155,8 @@ starting test s marks k = filter (λ a. test a && eqb (first_line s.text a) k) m
 record Chooses (choice : List PartEntry → List PartEntry) (test : Annotation → Bool) (s : Source) (marks : List Annotation) : Type 0 where
   pub parts : (k : ℕ) → choice (parts_on s marks k) ≡ map (single_part s) (starting test s marks k)
 
-starts-there : (test : Annotation → Bool) (s : Source) (marks : List Annotation) (k : ℕ) (a : Annotation) → Contains marks a → test a ≡ true → first_line s.text a ≡ k → Contains (starting test s marks k) a
+starts-there : (test : Annotation → Bool) (s : Source) (marks : List Annotation) (k : ℕ) (a : Annotation) → Contains marks a → test a ≡ true
+    → first_line s.text a ≡ k → Contains (starting test s marks k) a
 unfolding starting
 starts-there test s marks k a among passes on =
     contains-filter (λ (a : Annotation). test a && eqb (first_line s.text a) k) a marks (and_from (test a) (eqb (first_line s.text a) k) passes (eq-eqb (first_line s.text a) k on)) among
@@ -175,14 +182,16 @@ record IsPlaceBy (test : Annotation → Bool) (s : Source) (marks : List Annotat
   pub line : place.line ≡ s.first + first_line s.text span
   pub column : place.column ≡ Some (start_at s span)
   pub first : (other : Annotation) → Contains marks other → test other ≡ true → first_line s.text span ≤ first_line s.text other
-  pub lowest : (other : Annotation) → Contains marks other → test other ≡ true → first_line s.text other ≡ first_line s.text span → start_at s span ≤ start_at s other
+  pub lowest : (other : Annotation) → Contains marks other → test other ≡ true → first_line s.text other ≡ first_line s.text span
+      → start_at s span ≤ start_at s other
 
 -- the place of a column on line k
 at-column : Source → ℕ → ℕ → Location
 at-column s k column = record { line = s.first + k; column = Some column }
 
 -- a line on which such a span starts has a place
-has-place : (choice : List PartEntry → List PartEntry) (test : Annotation → Bool) (s : Source) (marks : List Annotation) (k : ℕ) (a : Annotation) → Chooses choice test s marks → Contains (starting test s marks k) a → is_some (least_place choice (kept_line s marks k)) ≡ true
+has-place : (choice : List PartEntry → List PartEntry) (test : Annotation → Bool) (s : Source) (marks : List Annotation) (k : ℕ) (a : Annotation)
+    → Chooses choice test s marks → Contains (starting test s marks k) a → is_some (least_place choice (kept_line s marks k)) ≡ true
 unfolding at-column
 has-place choice test s marks k a chooses there =
     let lowest = least-among (start_at s) (starting test s marks k) a there in
@@ -196,7 +205,9 @@ unfolding at-column
 place-is choice test s marks k place chooses has =
     by (starting test s marks k) refl (sym has ∙ place-on choice test s marks k chooses)
   where
-    by : (spans : List Annotation) → starting test s marks k ≡ spans → Some place ≡ option_map (at-column s k) (least (map (start_at s) (starting test s marks k))) → (a : Annotation) × IsLeast (start_at s) (starting test s marks k) a × (place ≡ at-column s k (start_at s a))
+    by : (spans : List Annotation) → starting test s marks k ≡ spans
+        → Some place ≡ option_map (at-column s k) (least (map (start_at s) (starting test s marks k)))
+        → (a : Annotation) × IsLeast (start_at s) (starting test s marks k) a × (place ≡ at-column s k (start_at s a))
     by [] is known =
         let none : Some place ≡ None = known ∙ ap (λ spans. option_map (at-column s k) (least (map (start_at s) spans))) is in cc
     by (a ∷ spans) is known =
@@ -263,18 +274,21 @@ marked-there s k a none = by (is_marking a.kind) (is_single_line s.text a) (eqb 
     by true false there none = cc
     by false single there none = refl
 
-parts-marked : (s : Source) (marks : List Annotation) (k : ℕ) → All (λ a. IsSpan s.text a.span.start a.span.end) marks → NoneLong s marks → parts_on s marks k ≡ map (single_part s) (starting (λ a. is_marking a.kind) s marks k)
+parts-marked : (s : Source) (marks : List Annotation) (k : ℕ) → All (λ a. IsSpan s.text a.span.start a.span.end) marks → NoneLong s marks
+    → parts_on s marks k ≡ map (single_part s) (starting (λ a. is_marking a.kind) s marks k)
 unfolding starting
 parts-marked s marks k spans none =
     untouched-parts s marks k spans (untouched s marks k none)
     ∙ ap (map (single_part s)) (filter-agree (is_marked_on s.text k) (λ (a : Annotation). is_marking a.kind && eqb (first_line s.text a) k) marks (λ i d within. marked-there s k (get_or marks i d) (none i d within)))
 
 -- the entries are those of the spans that are marked
-chooses-all : (s : Source) (marks : List Annotation) → All (λ a. IsSpan s.text a.span.start a.span.end) marks → NoneLong s marks → Chooses all_parts (λ a. is_marking a.kind) s marks
+chooses-all : (s : Source) (marks : List Annotation) → All (λ a. IsSpan s.text a.span.start a.span.end) marks → NoneLong s marks
+    → Chooses all_parts (λ a. is_marking a.kind) s marks
 chooses-all s marks spans none = record { parts = λ k. parts-marked s marks k spans none }
 
 -- and the primary ones those of the primary spans
-chooses-primary : (s : Source) (marks : List Annotation) → All (λ a. IsSpan s.text a.span.start a.span.end) marks → NoneLong s marks → Chooses primary_parts (λ a. is_primary a.kind) s marks
+chooses-primary : (s : Source) (marks : List Annotation) → All (λ a. IsSpan s.text a.span.start a.span.end) marks → NoneLong s marks
+    → Chooses primary_parts (λ a. is_primary a.kind) s marks
 unfolding starting
 chooses-primary s marks spans none = record { parts = on }
   where
@@ -298,7 +312,8 @@ chooses-primary s marks spans none = record { parts = on }
 -- ---- the kind that names
 
 -- where a span is primary, the primary ones name, and else the context ones
-named-primary : (s : Source) (marks : List Annotation) (place : Location) → list_any (λ a. is_primary a.kind) marks ≡ true → IsPlaceBy (λ a. is_primary a.kind) s marks place → IsLocation s marks place
+named-primary : (s : Source) (marks : List Annotation) (place : Location) → list_any (λ a. is_primary a.kind) marks ≡ true
+    → IsPlaceBy (λ a. is_primary a.kind) s marks place → IsLocation s marks place
 named-primary s marks place some by = record {
   span = by.span;
   naming = (by.among, primary by.span.kind by.passes ∙ sym kind);
@@ -316,7 +331,8 @@ named-primary s marks place some by = record {
     primary Context is = cc
     primary Visible is = cc
 
-named-context : (s : Source) (marks : List Annotation) (place : Location) → list_any (λ a. is_primary a.kind) marks ≡ false → IsPlaceBy (λ a. is_marking a.kind) s marks place → IsLocation s marks place
+named-context : (s : Source) (marks : List Annotation) (place : Location) → list_any (λ a. is_primary a.kind) marks ≡ false
+    → IsPlaceBy (λ a. is_marking a.kind) s marks place → IsLocation s marks place
 named-context s marks place none by = record {
   span = by.span;
   naming = (by.among, context by.span.kind by.passes (not-primary by.span by.among) ∙ sym kind);
@@ -338,7 +354,8 @@ named-context s marks place none by = record {
     context Visible marked other = cc
 
 -- without primary spans no line has a place of a primary entry
-no-primary : (s : Source) (marks : List Annotation) (fold : Bool) → All (λ a. IsSpan s.text a.span.start a.span.end) marks → NoneLong s marks → list_any (λ a. is_primary a.kind) marks ≡ false → first_place (least_place primary_parts) (annotated_lines fold s marks) ≡ None
+no-primary : (s : Source) (marks : List Annotation) (fold : Bool) → All (λ a. IsSpan s.text a.span.start a.span.end) marks → NoneLong s marks
+    → list_any (λ a. is_primary a.kind) marks ≡ false → first_place (least_place primary_parts) (annotated_lines fold s marks) ≡ None
 unfolding starting
 no-primary s marks fold spans none other =
     first-none (least_place primary_parts) (kept_line s marks) (kept_lines fold s.text marks)

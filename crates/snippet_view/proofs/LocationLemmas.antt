@@ -1,5 +1,6 @@
 -- The place that the head of a snippet names, line by line and entry by entry.
-use Rattle.std.proofs.Common.{◌≡◌, ℕ, ◌+◌, ◌<◌, ◌≤◌, Bool, true, false, min, Option, Some, None, List, [], ◌∷◌, ◌++◌, map, length, take, drop, get_or, refl, sym, ap, ◌∙◌}
+use Rattle.std.proofs.Common.{◌≡◌, ℕ, ◌+◌, ◌<◌, ◌≤◌, Bool, true, false, min, Option, Some, None, List, [], ◌∷◌, ◌++◌, map, length, take, drop, get_or, refl}
+use Rattle.std.proofs.Common.{sym, ap, ◌∙◌}
 use Rattle.std.specs.List.{filter}
 use Rattle.std.specs.Option.{option_map_or, option_or}
 use Rattle.std.proofs.lemmas.Bool.{cond-true, cond-false}
@@ -22,7 +23,8 @@ abbrev pub place_from : (KeptLine → Option Location) → List AnnotatedLineInf
 place_from place_on infos i = first_place place_on (map seen_kept (drop i infos))
 
 -- it is that of the i-th line, or else that from the next one on
-turn : (place_on : KeptLine → Option Location) (infos : List AnnotatedLineInfo) (i : ℕ) (x : AnnotatedLineInfo) → i < length infos → x ≡ get_or infos i x → place_from place_on infos i ≡ option_or (place_on (seen_kept x)) (place_from place_on infos (i + 1))
+turn : (place_on : KeptLine → Option Location) (infos : List AnnotatedLineInfo) (i : ℕ) (x : AnnotatedLineInfo) → i < length infos → x ≡ get_or infos i x
+    → place_from place_on infos i ≡ option_or (place_on (seen_kept x)) (place_from place_on infos (i + 1))
 turn place_on infos i x within is =
     at_drop_more (λ is. first_place place_on (map seen_kept is)) infos i x within ∙ ap (λ y. option_or (place_on (seen_kept y)) (place_from place_on infos (i + 1))) (sym is)
 
@@ -31,7 +33,8 @@ pub none-left : (place_on : KeptLine → Option Location) (infos : List Annotate
 none-left place_on infos i past = at_drop_all (λ is. first_place place_on (map seen_kept is)) infos i past
 
 -- so the first place so far is the one asked for
-pub first-left : (place_on other_on : KeptLine → Option Location) (infos : List AnnotatedLineInfo) (i : ℕ) (first all : Option Location) → length infos ≤ i → option_or (place_from place_on infos i) (option_or first (place_from other_on infos i)) ≡ all → first ≡ all
+pub first-left : (place_on other_on : KeptLine → Option Location) (infos : List AnnotatedLineInfo) (i : ℕ) (first all : Option Location) → length infos ≤ i
+    → option_or (place_from place_on infos i) (option_or first (place_from other_on infos i)) ≡ all → first ≡ all
 first-left place_on other_on infos i first all past before =
     sym (ap (λ o. option_or o (option_or first (place_from other_on infos i))) (none-left place_on infos i past) ∙ ap (option_or first) (none-left other_on infos i past) ∙ alone first) ∙ before
   where
@@ -49,12 +52,14 @@ place-found place_on infos i x place others all within is found before =
 -- ---- entries
 
 -- the least column of the entries of a choice, with one entry more: that of the new one where it is chosen
-column-pushed : (parts more : List PartEntry) (p : PartEntry) → more ≡ parts ++ p ∷ [] → least (start_columns more) ≡ Some (option_map_or (λ n. min n (p.entry.start.char + 1)) (least (start_columns parts)) (p.entry.start.char + 1))
+column-pushed : (parts more : List PartEntry) (p : PartEntry) → more ≡ parts ++ p ∷ []
+    → least (start_columns more) ≡ Some (option_map_or (λ n. min n (p.entry.start.char + 1)) (least (start_columns parts)) (p.entry.start.char + 1))
 column-pushed parts more p is =
     ap (λ ps. least (start_columns ps)) is ∙ ap least (map_push (λ (q : PartEntry). q.entry.start.char + 1) parts p) ∙ least-push (start_columns parts) (p.entry.start.char + 1)
 
 -- the entries up to the i-th, with the next
-parts-more : (es : List LineAnnotation) (i : ℕ) (d : LineAnnotation) → i < length es → map seen_part (take (i + 1) es) ≡ map seen_part (take i es) ++ seen_part (get_or es i d) ∷ []
+parts-more : (es : List LineAnnotation) (i : ℕ) (d : LineAnnotation) → i < length es
+    → map seen_part (take (i + 1) es) ≡ map seen_part (take i es) ++ seen_part (get_or es i d) ∷ []
 parts-more es i d within = map_more seen_part es i d within
 
 -- the least start column with one more entry is the lesser of that one and the least so far
@@ -67,7 +72,8 @@ column-more es i d before within known =
     ap (λ o. Some (option_map_or (λ n. min n (e.start.char + 1)) o (e.start.char + 1))) known ∙ sym (column-pushed (map seen_part (take i es)) (map seen_part (take (i + 1) es)) (seen_part e) (parts-more es i d within))
 
 -- the same of the primary ones
-primary-more : (es : List LineAnnotation) (i : ℕ) (d : LineAnnotation) → i < length es → primary_parts (map seen_part (take (i + 1) es)) ≡ primary_parts (map seen_part (take i es)) ++ primary_parts (seen_part (get_or es i d) ∷ [])
+primary-more : (es : List LineAnnotation) (i : ℕ) (d : LineAnnotation) → i < length es
+    → primary_parts (map seen_part (take (i + 1) es)) ≡ primary_parts (map seen_part (take i es)) ++ primary_parts (seen_part (get_or es i d) ∷ [])
 primary-more es i d within =
     ap primary_parts (parts-more es i d within) ∙ filter-append (λ (p : PartEntry). is_primary p.entry.kind) (map seen_part (take i es)) (seen_part (get_or es i d) ∷ [])
 
@@ -92,7 +98,8 @@ primary_column-same es i d before within other known =
 
 -- ---- the bytes at which spans start
 
-filter-more : {X : Type 0} (test : X → Bool) (xs : List X) (i : ℕ) (x : X) → i < length xs → x ≡ get_or xs i x → filter test (take (i + 1) xs) ≡ filter test (take i xs) ++ filter test (x ∷ [])
+filter-more : {X : Type 0} (test : X → Bool) (xs : List X) (i : ℕ) (x : X) → i < length xs → x ≡ get_or xs i x
+    → filter test (take (i + 1) xs) ≡ filter test (take i xs) ++ filter test (x ∷ [])
 filter-more test xs i x within is = ap (filter test) (take_more xs i x within) ∙ filter-append test (take i xs) (get_or xs i x ∷ []) ∙ ap (λ y. filter test (take i xs) ++ filter test (y ∷ [])) (sym is)
 
 -- the least byte of the spans up to the i-th that pass a test, with the next: with its start where it passes

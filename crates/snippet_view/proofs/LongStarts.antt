@@ -11,7 +11,8 @@ use Rattle.snippet_lines.specs.Lines.{Source}
 use Rattle.snippet_lines.specs.Place.{start_location}
 use Rattle.snippet_view.specs.declared.depths.LongExtent.{LongExtent}
 use Rattle.snippet_view.specs.declared.entries.LineAnnotationType.TheVariants.{Singleline, MultilineEnd}
-use Rattle.snippet_view.specs.Annotated.{PartEntry, long_place, long_parts, promoted, is_promoted, span_parts, stands_among, start_part, bar_part, end_part, bar_lines}
+use Rattle.snippet_view.specs.Annotated.{PartEntry, long_place, long_parts, promoted, is_promoted, span_parts, stands_among, start_part, bar_part, end_part}
+use Rattle.snippet_view.specs.Annotated.{bar_lines}
 use Rattle.snippet_view.specs.Depths.{depth_among, same_place}
 use Rattle.snippet_view.specs.Marked.{Entry}
 use Rattle.snippet_view.proofs.AmongLemmas.{Among, among_left, among_right, any_among, any_cases, append_cases}
@@ -70,7 +71,8 @@ promoted-primary before e place has at =
     (long_place d)) before has.span has.among
     (and_from (is_primary has.span.kind) (same_place (long_place e) (long_place has.span)) has.primary same))
 
-promoted-kind : (t : AnnotationKind → Bool) → IsChoice t → (before : List Entry) (e : Entry) (place : LongExtent) → (t e.kind ≡ true) ⊎ HasPrimary before place → long_place e ≡ place → t (promoted before e).kind ≡ true
+promoted-kind : (t : AnnotationKind → Bool) → IsChoice t → (before : List Entry) (e : Entry) (place : LongExtent) → (t e.kind ≡ true) ⊎ HasPrimary before place
+    → long_place e ≡ place → t (promoted before e).kind ≡ true
 promoted-kind t choice before e place why at =
     cond_both (is_promoted before e) (record e { kind = Primary }) e (λ (d : Entry). t d.kind ≡ true) (λ _. choice.primary) (λ no. elim why [
       | inl own ↦ own
@@ -101,7 +103,8 @@ pub record IsStarted (t : AnnotationKind → Bool) (parts : List PartEntry) (lat
   pub same : long_place span ≡ place
   pub stands : StandsAt t parts span.start
 
-later-started : (t : AnnotationKind → Bool) (first parts : List PartEntry) (e : Entry) (later : List Entry) (place : LongExtent) → IsStarted t parts later place → IsStarted t (first ++ parts) (e ∷ later) place
+later-started : (t : AnnotationKind → Bool) (first parts : List PartEntry) (e : Entry) (later : List Entry) (place : LongExtent) → IsStarted t parts later place
+    → IsStarted t (first ++ parts) (e ∷ later) place
 later-started t first parts e later place rest =
     record {
       span = rest.span;
@@ -182,7 +185,8 @@ record IsDrawnAs (t : AnnotationKind → Bool) (before later : List Entry) (e : 
   pub passes : t span.kind ≡ true
   pub start : span.start ≡ e.start
 
-drawn-as : (t : AnnotationKind → Bool) → IsChoice t → (s : Source) (before : List Entry) (e : Entry) (later : List Entry) → ((d : Entry) → Among before d → IsSeen s d) → IsSeen s e → t (promoted before e).kind ≡ true → IsDrawnAs t before (e ∷ later) e
+drawn-as : (t : AnnotationKind → Bool) → IsChoice t → (s : Source) (before : List Entry) (e : Entry) (later : List Entry)
+    → ((d : Entry) → Among before d → IsSeen s d) → IsSeen s e → t (promoted before e).kind ≡ true → IsDrawnAs t before (e ∷ later) e
 drawn-as t choice s before e later seen here passes =
     elim (cases_Bool (is_primary e.kind)) [
       | inl primary ↦ record { span = e; among = inr (inl refl); passes = primary-passes t choice e.kind primary; start = refl }
@@ -217,7 +221,8 @@ span-reached t choice s depth before e later seen here =
     line : (from : IsDrawnAs t before (e ∷ later) e) → from.span.start.line ≡ (promoted before e).start.line
     line from = ap (λ (l : Loc). l.line) (from.start ∙ sym (promoted-start before e))
 
-    reach : t (promoted before e).kind ≡ true → (p : PartEntry) → ((from : IsDrawnAs t before (e ∷ later) e) → IsBy from.span.start p.entry.start) → IsReached t before (e ∷ later) p
+    reach : t (promoted before e).kind ≡ true → (p : PartEntry) → ((from : IsDrawnAs t before (e ∷ later) e) → IsBy from.span.start p.entry.start)
+        → IsReached t before (e ∷ later) p
     reach passes p by =
         let from = drawn-as t choice s before e later seen here passes in
         record { span = from.span; among = from.among; passes = from.passes; by = by from }

@@ -1,5 +1,6 @@
 -- The bounds of a snippet's window follow from its spans, as they do from the entries of its lines.
-use Rattle.std.proofs.Common.{◌≡◌, ◌∙◌, ◌⊎◌, ℕ, ◌+◌, ◌-◌, ◌<◌, ◌≤◌, Bool, true, false, not, cond, eqb, leb, ◌&&◌, ◌||◌, List, [], ◌∷◌, ◌++◌, All, Option, None, map, chars, unwrap_or, refl, sym, ap, subst, inl, inr, arith, length}
+use Rattle.std.proofs.Common.{◌≡◌, ◌∙◌, ◌⊎◌, ℕ, ◌+◌, ◌-◌, ◌<◌, ◌≤◌, Bool, true, false, not, cond, eqb, leb, ◌&&◌, ◌||◌, List, [], ◌∷◌, ◌++◌, All, Option, None}
+use Rattle.std.proofs.Common.{map, chars, unwrap_or, refl, sym, ap, subst, inl, inr, arith, length}
 use Rattle.std.specs.List.{filter, flat_map, list_any, range_with_len}
 use Rattle.std.specs.Option.{option_copied}
 use Rattle.std.proofs.lemmas.Bool.{cases_Bool, cond-true, cond-false, or_right, and_parts, and_from, not-true, eq-eqb, eqb-true}
@@ -13,19 +14,24 @@ use Rattle.snippet_view.specs.declared.entries.LineAnnotation.{LineAnnotation}
 use Rattle.snippet_view.specs.declared.entries.LineAnnotationType.{LineAnnotationType}
 use Rattle.snippet_view.specs.declared.entries.LineAnnotationType.TheVariants.{Singleline, MultilineEnd}
 use Rattle.snippet_lines.specs.declared.place.Loc.{Loc}
-use Rattle.snippet_view.specs.Annotated.{PartEntry, seen_part, long_entry, long_place, is_long, is_short, stands_before, long_spans, long_places, bar_lines, bar_part, single_part}
-use Rattle.snippet_view.specs.Annotated.{start_part, end_part, span_parts, stands_among, promoted, is_promoted, long_parts, made_parts, parts_on, KeptLine, seen_kept, kept_line, annotated_lines}
+use Rattle.snippet_view.specs.Annotated.{PartEntry, seen_part, long_entry, long_place, is_long, is_short, stands_before, long_spans, long_places, bar_lines}
+use Rattle.snippet_view.specs.Annotated.{bar_part, single_part}
+use Rattle.snippet_view.specs.Annotated.{start_part, end_part, span_parts, stands_among, promoted, is_promoted, long_parts, made_parts, parts_on, KeptLine}
+use Rattle.snippet_view.specs.Annotated.{seen_kept, kept_line, annotated_lines}
 use Rattle.snippet_view.specs.Depths.{same_place, depth_among}
 use Rattle.snippet_view.specs.Kept.{keeps, kept_lines}
 use Rattle.snippet_lines.specs.Lines.{Source, source_lines}
 use Rattle.snippet_view.specs.Margin.{margin_bounds}
 use Rattle.snippet_view.specs.Mark.{is_marking, is_single_line}
 use Rattle.snippet_view.specs.Marked.{Entry, first_line, last_line}
-use Rattle.snippet_view.specs.Measures.{bounds_for, bounds_of_lines, columns_of, end_with, ends_of, entries_of, greatest, is_bar, least, margin_of, span_columns, span_ends, texts_of, whitespaces_of, widths_of, with_columns}
+use Rattle.snippet_view.specs.Measures.{bounds_for, bounds_of_lines, columns_of, end_with, ends_of, entries_of, greatest, is_bar, least, margin_of}
+use Rattle.snippet_view.specs.Measures.{span_columns, span_ends, texts_of, whitespaces_of, widths_of, with_columns}
 use Rattle.snippet_lines.specs.Place.{location_of, locations_of, start_location}
 use Rattle.snippet_lines.specs.Span.{IsSpan}
 use Rattle.snippet_view.specs.Window.{chars_at}
-use Rattle.snippet_view.proofs.AmongLemmas.{Among, all_among, among_left, among_right, append_cases, among_map, map_cases, among_filter, filter_cases, among_flat_map, flat_map_cases, among_in_order, in_order_cases, among_range, any_among, any_cases, least_same, greatest_same}
+use Rattle.snippet_view.proofs.AmongLemmas.{Among, all_among, among_left, among_right, append_cases, among_map, map_cases, among_filter, filter_cases}
+use Rattle.snippet_view.proofs.AmongLemmas.{among_flat_map, flat_map_cases, among_in_order, in_order_cases, among_range, any_among, any_cases, least_same}
+use Rattle.snippet_view.proofs.AmongLemmas.{greatest_same}
 use Rattle.snippet_view.proofs.MarkLemmas.{start-line, end-line, entry_of-line}
 use Rattle.snippet_lines.proofs.PlaceLemmas.{line_of-mono, line_of-within, locations_of-start}
 
@@ -53,7 +59,8 @@ measured_parts g ps = flat_map (measured g) (filter has_columns ps)
 
 -- ---- entries as they are seen
 
-measured_entries : (g : Measure) (es : List LineAnnotation) → flat_map (λ (e : LineAnnotation). g e.start e.end (option_copied e.label)) (with_columns es) ≡ measured_parts g (map seen_part es)
+measured_entries : (g : Measure) (es : List LineAnnotation)
+    → flat_map (λ (e : LineAnnotation). g e.start e.end (option_copied e.label)) (with_columns es) ≡ measured_parts g (map seen_part es)
 measured_entries g [] = refl
 measured_entries g (e ∷ es) =
     let here : List ℕ = g e.start e.end (option_copied e.label) in
@@ -115,7 +122,8 @@ drawn_start : (g : Measure) (before : List Entry) (e : Entry) (depth : ℕ) → 
 drawn_start g before e depth =
     elim (is_promoted before e) as (λ b. measured g (start_part (cond b (record e { kind = Primary }) e) depth) ≡ measured g (start_part e 0)) [ true ↦ refl | false ↦ refl ]
 
-drawn_end : (g : Measure) (before : List Entry) (e : Entry) (part : LineAnnotationType) → measured g (end_part (promoted before e) part) ≡ measured g (end_part e Singleline)
+drawn_end : (g : Measure) (before : List Entry) (e : Entry) (part : LineAnnotationType)
+    → measured g (end_part (promoted before e) part) ≡ measured g (end_part e Singleline)
 drawn_end g before e part =
     elim (is_promoted before e) as (λ b. measured g (end_part (cond b (record e { kind = Primary }) e) part) ≡ measured g (end_part e Singleline)) [ true ↦ refl | false ↦ refl ]
 
@@ -128,7 +136,8 @@ bars_none e depth first ks p here some =
     let none : has_columns p ≡ false = ap has_columns (sym bar.2) in
     absurd cc
 
-span_part : (g : Measure) (s : Source) (before : List Entry) (depth : ℕ) (again : Bool) (e : Entry) (p : PartEntry) (c : ℕ) → Among (span_parts s depth again (promoted before e)) p → has_columns p ≡ true → Among (measured g p) c → Among (measured_long g e) c
+span_part : (g : Measure) (s : Source) (before : List Entry) (depth : ℕ) (again : Bool) (e : Entry) (p : PartEntry) (c : ℕ)
+    → Among (span_parts s depth again (promoted before e)) p → has_columns p ≡ true → Among (measured g p) c → Among (measured_long g e) c
 span_part g s before depth true e p c (inl same) some inside =
     among_right (measured g (start_part e 0)) (measured g (end_part e Singleline)) c (subst (λ ns. Among ns c) (ap (measured g) (sym same) ∙ drawn_end g before e Singleline) inside)
 span_part g s before depth true e p c (inr later) some inside = elim later [ ]
@@ -146,7 +155,8 @@ span_part g s before depth false e p c (inr later) some inside =
     closing (inl same) = among_right (measured g (start_part e 0)) (measured g (end_part e Singleline)) c (subst (λ ns. Among ns c) (ap (measured g) (sym same) ∙ drawn_end g before e (MultilineEnd depth)) inside)
     closing (inr none) = absurd none
 
-long_part : (g : Measure) (s : Source) (places : List LongExtent) (before es : List Entry) (p : PartEntry) (c : ℕ) → Among (long_parts s places before es) p → has_columns p ≡ true → Among (measured g p) c → (e : Entry) × Among es e × Among (measured_long g e) c
+long_part : (g : Measure) (s : Source) (places : List LongExtent) (before es : List Entry) (p : PartEntry) (c : ℕ) → Among (long_parts s places before es) p
+    → has_columns p ≡ true → Among (measured g p) c → (e : Entry) × Among es e × Among (measured_long g e) c
 long_part g s places before [] p c here some inside = absurd here
 long_part g s places before (e ∷ later) p c here some inside =
     elim (append_cases (span_parts s (depth_among places (long_place e)) (stands_among e later) (promoted before e)) (long_parts s places (before ++ e ∷ []) later) p here) [
@@ -155,13 +165,15 @@ long_part g s places before (e ∷ later) p c here some inside =
     ]
 
 -- an entry among the spans of several lines stands for one of them
-long_among : (s : Source) (marks : List Annotation) (e : Entry) → Among (long_spans s marks) e → (a : Annotation) × Among marks a × (is_long s.text a ≡ true) × (long_entry s a ≡ e)
+long_among : (s : Source) (marks : List Annotation) (e : Entry) → Among (long_spans s marks) e
+    → (a : Annotation) × Among marks a × (is_long s.text a ≡ true) × (long_entry s a ≡ e)
 long_among s marks e here =
     let found = map_cases (long_entry s) (filter (is_long s.text) marks) e (in_order_cases stands_before (map (long_entry s) (filter (is_long s.text) marks)) e here) in
     let taken = filter_cases (is_long s.text) marks found.0 found.1 in
     (found.0, taken.0, taken.1, found.2)
 
-made_part : (g : Measure) (s : Source) (marks : List Annotation) (p : PartEntry) (c : ℕ) → Among (made_parts s marks) p → has_columns p ≡ true → Among (measured g p) c → Among (flat_map (measured_span g s) marks) c
+made_part : (g : Measure) (s : Source) (marks : List Annotation) (p : PartEntry) (c : ℕ) → Among (made_parts s marks) p → has_columns p ≡ true
+    → Among (measured g p) c → Among (flat_map (measured_span g s) marks) c
 made_part g s marks p c here some inside =
     elim (append_cases (map (single_part s) (filter (is_short s.text) marks)) (long_parts s (long_places s marks) [] (long_spans s marks)) p here) [
       | inl single ↦
@@ -185,7 +197,8 @@ kept_part fold s marks p here =
     let on : Among (parts_on s marks number.0) p = subst (λ (l : KeptLine). Among l.parts p) (sym number.2) line.2 in
     (filter_cases (λ (q : PartEntry). eqb q.entry.start.line (s.first + number.0)) (made_parts s marks) p on).0
 
-parts_there : (g : Measure) (fold : Bool) (s : Source) (marks : List Annotation) (c : ℕ) → Among (measured_parts g (kept_parts fold s marks)) c → Among (flat_map (measured_span g s) marks) c
+parts_there : (g : Measure) (fold : Bool) (s : Source) (marks : List Annotation) (c : ℕ) → Among (measured_parts g (kept_parts fold s marks)) c
+    → Among (flat_map (measured_span g s) marks) c
 parts_there g fold s marks c here =
     let part = flat_map_cases (measured g) (filter has_columns (kept_parts fold s marks)) c here in
     let taken = filter_cases has_columns (kept_parts fold s marks) part.0 part.1 in
@@ -207,7 +220,8 @@ Stands g ps line ns =
     (p : PartEntry) × Among ps p × (has_columns p ≡ true) × (p.entry.start.line ≡ line) × (measured g p ≡ ns)
 
 -- the end of a span has a part
-span_end : (g : Measure) (s : Source) (before : List Entry) (depth : ℕ) (again : Bool) (e : Entry) → Stands g (span_parts s depth again (promoted before e)) e.end.line (measured g (end_part e Singleline))
+span_end : (g : Measure) (s : Source) (before : List Entry) (depth : ℕ) (again : Bool) (e : Entry)
+    → Stands g (span_parts s depth again (promoted before e)) e.end.line (measured g (end_part e Singleline))
 span_end g s before depth true e =
     (end_part (promoted before e) Singleline, inl refl, refl, drawn_end_line before e, drawn_end g before e Singleline)
 span_end g s before depth false e =
@@ -216,7 +230,8 @@ span_end g s before depth false e =
     let p = end_part x (MultilineEnd depth) in
     (p, inr (among_right bars (p ∷ []) p (inl refl)), refl, drawn_end_line before e, drawn_end g before e (MultilineEnd depth))
 
-end_there : (g : Measure) (s : Source) (places : List LongExtent) (before es : List Entry) (e : Entry) → Among es e → Stands g (long_parts s places before es) e.end.line (measured g (end_part e Singleline))
+end_there : (g : Measure) (s : Source) (places : List LongExtent) (before es : List Entry) (e : Entry) → Among es e
+    → Stands g (long_parts s places before es) e.end.line (measured g (end_part e Singleline))
 end_there g s places before [] e here = absurd here
 end_there g s places before (d ∷ later) e (inl same) =
     let depth = depth_among places (long_place d) in
@@ -234,7 +249,8 @@ abbrev StandsSomewhere : Measure → Source → List LongExtent → List Entry �
 StandsSomewhere g s places before es e =
     (d : Entry) × Among es d × (d.start.byte ≡ e.start.byte) × Stands g (long_parts s places before es) d.start.line (measured g (start_part d 0))
 
-later_stands : (g : Measure) (s : Source) (places : List LongExtent) (before later : List Entry) (d e : Entry) → StandsSomewhere g s places (before ++ d ∷ []) later e → StandsSomewhere g s places before (d ∷ later) e
+later_stands : (g : Measure) (s : Source) (places : List LongExtent) (before later : List Entry) (d e : Entry)
+    → StandsSomewhere g s places (before ++ d ∷ []) later e → StandsSomewhere g s places before (d ∷ later) e
 later_stands g s places before later d e found =
     let first = span_parts s (depth_among places (long_place d)) (stands_among d later) (promoted before d) in
     let part = found.3 in
@@ -265,22 +281,26 @@ keeps_ends : (f l k : ℕ) (x y : Bool) → f ≤ l → (k ≡ f) ⊎ (k ≡ l) 
 keeps_ends f l k x y up (inl first) = grind (arith, nat_tests)
 keeps_ends f l k x y up (inr last) = grind (arith, nat_tests)
 
-line_kept : (fold : Bool) (source : List ℕ) (marks : List Annotation) (a : Annotation) (k : ℕ) → Among marks a → k < length (source_lines source) → keeps source k a ≡ true → Among (kept_lines fold source marks) k
+line_kept : (fold : Bool) (source : List ℕ) (marks : List Annotation) (a : Annotation) (k : ℕ) → Among marks a → k < length (source_lines source)
+    → keeps source k a ≡ true → Among (kept_lines fold source marks) k
 line_kept fold source marks a k here within keep =
     among_filter (λ j. not fold || list_any (keeps source j) marks) (range_with_len 0 (length (source_lines source))) k (among_range 0 (length (source_lines source)) k (omega arith) (omega arith)) (or_right (not fold) (list_any (keeps source k) marks) (any_among (keeps source k) marks a here keep))
 
-first_kept : (fold : Bool) (source : List ℕ) (marks : List Annotation) (a : Annotation) → a.span.start ≤ a.span.end → Among marks a → Among (kept_lines fold source marks) (first_line source a)
+first_kept : (fold : Bool) (source : List ℕ) (marks : List Annotation) (a : Annotation) → a.span.start ≤ a.span.end → Among marks a
+    → Among (kept_lines fold source marks) (first_line source a)
 first_kept fold source marks a ordered here =
     let up : first_line source a ≤ last_line source a = line_of-mono (source_lines source) a.span.start a.span.end (omega (arith, line_of-within source 0)) ordered in
     line_kept fold source marks a (first_line source a) here (line_of-within source a.span.start) (keeps_ends (first_line source a) (last_line source a) (first_line source a) _ _ up (inl refl))
 
-last_kept : (fold : Bool) (source : List ℕ) (marks : List Annotation) (a : Annotation) → a.span.start ≤ a.span.end → Among marks a → Among (kept_lines fold source marks) (last_line source a)
+last_kept : (fold : Bool) (source : List ℕ) (marks : List Annotation) (a : Annotation) → a.span.start ≤ a.span.end → Among marks a
+    → Among (kept_lines fold source marks) (last_line source a)
 last_kept fold source marks a ordered here =
     let up : first_line source a ≤ last_line source a = line_of-mono (source_lines source) a.span.start a.span.end (omega (arith, line_of-within source 0)) ordered in
     line_kept fold source marks a (last_line source a) here (line_of-within source a.span.end) (keeps_ends (first_line source a) (last_line source a) (last_line source a) _ _ up (inr refl))
 
 -- a part that stands on a kept line is measured
-part_measured : (g : Measure) (fold : Bool) (s : Source) (marks : List Annotation) (k c : ℕ) (ns : List ℕ) → Among (kept_lines fold s.text marks) k → Stands g (made_parts s marks) (s.first + k) ns → Among ns c → Among (measured_parts g (kept_parts fold s marks)) c
+part_measured : (g : Measure) (fold : Bool) (s : Source) (marks : List Annotation) (k c : ℕ) (ns : List ℕ) → Among (kept_lines fold s.text marks) k
+    → Stands g (made_parts s marks) (s.first + k) ns → Among ns c → Among (measured_parts g (kept_parts fold s marks)) c
 part_measured g fold s marks k c ns kept found inside =
     let p = found.0 in
     let on : Among (parts_on s marks k) p = among_filter (λ (q : PartEntry). eqb q.entry.start.line (s.first + k)) (made_parts s marks) p found.1 (eq-eqb p.entry.start.line (s.first + k) found.3) in
@@ -300,11 +320,13 @@ long_there : (s : Source) (marks : List Annotation) (a : Annotation) → Among m
 long_there s marks a here long =
     among_in_order stands_before (map (long_entry s) (filter (is_long s.text) marks)) (long_entry s a) (among_map (long_entry s) (filter (is_long s.text) marks) a (among_filter (is_long s.text) marks a here long))
 
-made_long : (g : Measure) (s : Source) (marks : List Annotation) (line : ℕ) (ns : List ℕ) → Stands g (long_parts s (long_places s marks) [] (long_spans s marks)) line ns → Stands g (made_parts s marks) line ns
+made_long : (g : Measure) (s : Source) (marks : List Annotation) (line : ℕ) (ns : List ℕ)
+    → Stands g (long_parts s (long_places s marks) [] (long_spans s marks)) line ns → Stands g (made_parts s marks) line ns
 made_long g s marks line ns found =
     (found.0, among_right (map (single_part s) (filter (is_short s.text) marks)) (long_parts s (long_places s marks) [] (long_spans s marks)) found.0 found.1, found.2, found.3, found.4)
 
-short_back : (g : Measure) (fold : Bool) (s : Source) (marks : List Annotation) (a : Annotation) (c : ℕ) → a.span.start ≤ a.span.end → Among marks a → is_short s.text a ≡ true → Among (measured g (single_part s a)) c → Among (measured_parts g (kept_parts fold s marks)) c
+short_back : (g : Measure) (fold : Bool) (s : Source) (marks : List Annotation) (a : Annotation) (c : ℕ) → a.span.start ≤ a.span.end → Among marks a
+    → is_short s.text a ≡ true → Among (measured g (single_part s a)) c → Among (measured_parts g (kept_parts fold s marks)) c
 short_back g fold s marks a c ordered here short inside =
     let p = single_part s a in
     let made : Among (made_parts s marks) p = among_left (map (single_part s) (filter (is_short s.text) marks)) (long_parts s (long_places s marks) [] (long_spans s marks)) p (among_map (single_part s) (filter (is_short s.text) marks) a (among_filter (is_short s.text) marks a here short)) in
@@ -328,7 +350,8 @@ start_back g fold s marks a c spans here long inside =
     (made_long g s marks (s.first + first_line s.text b) (measured g (start_part (long_entry s a) 0))
     (part.0, part.1, part.2, part.3 ∙ line, part.4 ∙ ap read start)) inside
 
-end_back : (g : Measure) (fold : Bool) (s : Source) (marks : List Annotation) (a : Annotation) (c : ℕ) → a.span.start ≤ a.span.end → Among marks a → is_long s.text a ≡ true → Among (measured g (end_part (long_entry s a) Singleline)) c → Among (measured_parts g (kept_parts fold s marks)) c
+end_back : (g : Measure) (fold : Bool) (s : Source) (marks : List Annotation) (a : Annotation) (c : ℕ) → a.span.start ≤ a.span.end → Among marks a
+    → is_long s.text a ≡ true → Among (measured g (end_part (long_entry s a) Singleline)) c → Among (measured_parts g (kept_parts fold s marks)) c
 end_back g fold s marks a c ordered here long inside =
     let part = end_there g s (long_places s marks) [] (long_spans s marks) (long_entry s a) (long_there s marks a here long) in
     part_measured g fold s marks (last_line s.text a) c (measured g (end_part (long_entry s a) Singleline))
@@ -336,7 +359,8 @@ end_back g fold s marks a c ordered here long inside =
     (made_long g s marks (s.first + last_line s.text a) (measured g (end_part (long_entry s a) Singleline))
     (part.0, part.1, part.2, part.3 ∙ end-line s a.span.start a.span.end, part.4)) inside
 
-parts_back : (g : Measure) (fold : Bool) (s : Source) (marks : List Annotation) (c : ℕ) → All (λ (b : Annotation). IsSpan s.text b.span.start b.span.end) marks → Among (flat_map (measured_span g s) marks) c → Among (measured_parts g (kept_parts fold s marks)) c
+parts_back : (g : Measure) (fold : Bool) (s : Source) (marks : List Annotation) (c : ℕ) → All (λ (b : Annotation). IsSpan s.text b.span.start b.span.end) marks
+    → Among (flat_map (measured_span g s) marks) c → Among (measured_parts g (kept_parts fold s marks)) c
 parts_back g fold s marks c spans here =
     let found = flat_map_cases (measured_span g s) marks c here in
     let a = found.0 in

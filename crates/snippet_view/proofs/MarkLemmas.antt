@@ -20,7 +20,8 @@ end-line s start end =
     (λ _. end_location-line s start end)
 
 -- on one line it ends at the column of its end's place
-end-column : (s : Source) (start end : ℕ) → line_of (source_lines s.text) start ≡ line_of (source_lines s.text) end → (locations_of s start end).1.display ≡ (place_of s.text end).column
+end-column : (s : Source) (start end : ℕ) → line_of (source_lines s.text) start ≡ line_of (source_lines s.text) end
+    → (locations_of s start end).1.display ≡ (place_of s.text end).column
 unfolding locations_of
 end-column s start end one =
     cond_both (eqb start end) (start_location s start) (end_location s start end) (λ (l : Loc). l.display ≡ (place_of s.text end).column)
@@ -33,7 +34,8 @@ unfolding locations_of
 start-line s start end = start_location-line s start
 
 -- the column where a span's first location stands is that of its start
-pub start_column-from : (s : Source) (a : Annotation) (at : Loc × Loc) → at ≡ locations_of s a.span.start a.span.end → at.0.display ≡ (place_of s.text a.span.start).column
+pub start_column-from : (s : Source) (a : Annotation) (at : Loc × Loc) → at ≡ locations_of s a.span.start a.span.end
+    → at.0.display ≡ (place_of s.text a.span.start).column
 unfolding locations_of
 start_column-from s a at is = ap (λ (l : Loc × Loc). l.0.display) is ∙ start_location-column s a.span.start
 
@@ -45,7 +47,8 @@ last-from : (s : Source) (a : Annotation) (at : Loc × Loc) → at ≡ locations
 last-from s a at is = ap (λ (l : Loc × Loc). l.1.line) is ∙ end-line s a.span.start a.span.end
 
 -- the column where a span of one line ends is that of its end
-pub end_column-from : (s : Source) (a : Annotation) (at : Loc × Loc) (line : ℕ) → at ≡ locations_of s a.span.start a.span.end → at.0.line ≡ line → at.1.line ≡ line → at.1.display ≡ (place_of s.text a.span.end).column
+pub end_column-from : (s : Source) (a : Annotation) (at : Loc × Loc) (line : ℕ) → at ≡ locations_of s a.span.start a.span.end → at.0.line ≡ line
+    → at.1.line ≡ line → at.1.display ≡ (place_of s.text a.span.end).column
 end_column-from s a at line is first last =
     ap (λ (l : Loc × Loc). l.1.display) is ∙ end-column s a.span.start a.span.end (omega (arith, first, last, first-from s a at is, last-from s a at is))
 
@@ -74,14 +77,16 @@ pub record IsOnLine (s : Source) (a : Annotation) (at : Loc × Loc) (line : ℕ)
   pub last : at.1.line ≡ line
 
 -- an annotation whose locations put it on a line is marked on that line
-pub marked-from : (s : Source) (a : Annotation) (at : Loc × Loc) (line k : ℕ) → at ≡ locations_of s a.span.start a.span.end → line ≡ s.first + k → IsOnLine s a at line → is_marked_on s.text k a ≡ true
+pub marked-from : (s : Source) (a : Annotation) (at : Loc × Loc) (line k : ℕ) → at ≡ locations_of s a.span.start a.span.end → line ≡ s.first + k
+    → IsOnLine s a at line → is_marked_on s.text k a ≡ true
 marked-from s a at line k is here on =
     let single = eq-eqb (last_line s.text a) (first_line s.text a) (omega (arith, on.first, on.last, first-from s a at is, last-from s a at is)) in
     let there = eq-eqb (first_line s.text a) k (omega (arith, on.first, first-from s a at is)) in
     and_from (is_marking a.kind && eqb (last_line s.text a) (first_line s.text a)) (eqb (first_line s.text a) k) (and_from (is_marking a.kind) (eqb (last_line s.text a) (first_line s.text a)) on.marking single) there
 
 -- an annotation whose locations don't put it on a line isn't marked on that line
-pub unmarked-from : (s : Source) (a : Annotation) (at : Loc × Loc) (line k : ℕ) → at ≡ locations_of s a.span.start a.span.end → line ≡ s.first + k → (IsOnLine s a at line → ⊥) → is_marked_on s.text k a ≡ false
+pub unmarked-from : (s : Source) (a : Annotation) (at : Loc × Loc) (line k : ℕ) → at ≡ locations_of s a.span.start a.span.end → line ≡ s.first + k
+    → (IsOnLine s a at line → ⊥) → is_marked_on s.text k a ≡ false
 unmarked-from s a at line k is here off =
     false_from_ne_true (is_marked_on s.text k a) (λ marked.
     let parts = and_parts (is_marking a.kind && eqb (last_line s.text a) (first_line s.text a)) (eqb (first_line s.text a) k) marked in

@@ -1,5 +1,6 @@
 -- The place that the head of a primary snippet names is that of a byte: the first one at which a span starts that names it.
-use Rattle.std.proofs.Common.{◌≡◌, ℕ, ◌+◌, ◌-◌, ◌<◌, ◌≤◌, Bool, true, false, cond, not, eqb, ltb, min, Option, Some, None, List, [], ◌∷◌, ◌++◌, map, length, take, drop, chars, ◌⊎◌, inl, inr, refl, sym, ap, subst, ◌∙◌, arith}
+use Rattle.std.proofs.Common.{◌≡◌, ℕ, ◌+◌, ◌-◌, ◌<◌, ◌≤◌, Bool, true, false, cond, not, eqb, ltb, min, Option, Some, None, List, [], ◌∷◌, ◌++◌, map, length}
+use Rattle.std.proofs.Common.{take, drop, chars, ◌⊎◌, inl, inr, refl, sym, ap, subst, ◌∙◌, arith}
 use Rattle.std.specs.List.{All, Contains, filter}
 use Rattle.std.specs.Option.{IfSome, option_map, option_map_or, option_or}
 use Rattle.std.specs.Str.{IsUtf8}
@@ -18,14 +19,17 @@ use Rattle.snippet_lines.specs.Span.{IsSpan, IsSpanBorder}
 use Rattle.snippet_lines.proofs.LinesLemmas.{IsUtf8-text_at}
 use Rattle.snippet_lines.proofs.PlaceLemmas.{IsCharBoundary-prefix, line_of-mono, line_of-within, locations_of-start, place_of-character, start_location-line}
 use Rattle.snippet_view.specs.declared.location.Location.{Location}
-use Rattle.snippet_view.specs.Annotated.{PartEntry, KeptLine, annotated_lines, is_long, is_short, kept_line, long_entry, long_parts, long_place, long_places, long_spans, made_parts, parts_on, single_part, stands_before}
+use Rattle.snippet_view.specs.Annotated.{PartEntry, KeptLine, annotated_lines, is_long, is_short, kept_line, long_entry, long_parts, long_place, long_places}
+use Rattle.snippet_view.specs.Annotated.{long_spans, made_parts, parts_on, single_part, stands_before}
 use Rattle.snippet_view.specs.Kept.{kept_lines}
 use Rattle.snippet_view.specs.Entries.{Ascends}
-use Rattle.snippet_view.specs.Location.{all_parts, first_place, least_place, marked_starts, naming_start, place_at, primary_place, primary_starts, start_columns}
+use Rattle.snippet_view.specs.Location.{all_parts, first_place, least_place, marked_starts, naming_start, place_at, primary_place, primary_starts}
+use Rattle.snippet_view.specs.Location.{start_columns}
 use Rattle.snippet_view.specs.Mark.{is_marking, is_single_line}
 use Rattle.snippet_view.specs.Marked.{Entry, first_line, last_line}
 use Rattle.snippet_view.specs.Measures.{least}
-use Rattle.snippet_view.proofs.AmongLemmas.{Among, all_among, among_filter, among_in_order, among_left, among_map, among_right, append_cases, filter_cases, in_order_cases, least_among, least_le, map_cases}
+use Rattle.snippet_view.proofs.AmongLemmas.{Among, all_among, among_filter, among_in_order, among_left, among_map, among_right, append_cases, filter_cases}
+use Rattle.snippet_view.proofs.AmongLemmas.{in_order_cases, least_among, least_le, map_cases}
 use Rattle.snippet_view.proofs.KeptPartLemmas.{lines-ordered}
 use Rattle.snippet_view.proofs.LocationLaws.{ascends-head, ascends-tail, first-none, least-first}
 use Rattle.snippet_view.proofs.LongStarts.{IsBy, IsChoice, IsReached, IsSeen, StandsAt, by-same, reached, same-start, started}
@@ -58,7 +62,8 @@ least-is (m ∷ ns) n here low =
     ap Some same
 
 -- the first line that has a place, where no line above has one
-first-is : (place_on : KeptLine → Option Location) (line_at : ℕ → KeptLine) (ks : List ℕ) (k : ℕ) (place : Location) → Ascends ks → Contains ks k → place_on (line_at k) ≡ Some place → ((j : ℕ) → j < k → place_on (line_at j) ≡ None) → first_place place_on (map line_at ks) ≡ Some place
+first-is : (place_on : KeptLine → Option Location) (line_at : ℕ → KeptLine) (ks : List ℕ) (k : ℕ) (place : Location) → Ascends ks → Contains ks k
+    → place_on (line_at k) ≡ Some place → ((j : ℕ) → j < k → place_on (line_at j) ≡ None) → first_place place_on (map line_at ks) ≡ Some place
 first-is place_on line_at [] k place rises among has none = absurd (omega (arith, among.1))
 first-is place_on line_at (j ∷ ks) k place rises among has none =
     elim (contains-cases k j ks among) [
@@ -96,7 +101,8 @@ start-char : (s : Source) (b : ℕ) → (start_location s b).char ≡ (place_of 
 unfolding start_location location_of
 start-char s b = refl
 
-steps-are : (source : List ℕ) (b k : ℕ) → line_of (source_lines source) b ≡ k → steps_after_text source b ≡ step (ltb (start_of (source_lines source) k + length (text_at (source_lines source) k)) b)
+steps-are : (source : List ℕ) (b k : ℕ) → line_of (source_lines source) b ≡ k
+    → steps_after_text source b ≡ step (ltb (start_of (source_lines source) k + length (text_at (source_lines source) k)) b)
 unfolding steps_after_text
 steps-are source b k on = ap (λ n. step (ltb (start_of (source_lines source) n + length (text_at (source_lines source) n)) b)) on
 
@@ -160,7 +166,8 @@ of-span s marks e among =
     let span = filter_cases (is_long s.text) marks given.0 given.1 in
     record { span = given.0; among = span.0; long = span.1; is = given.2 }
 
-all-seen : (s : Source) (marks : List Annotation) → ((a : Annotation) → Among marks a → IsSpan s.text a.span.start a.span.end) → (e : Entry) → Among (long_spans s marks) e → IsSeen s e
+all-seen : (s : Source) (marks : List Annotation) → ((a : Annotation) → Among marks a → IsSpan s.text a.span.start a.span.end) → (e : Entry)
+    → Among (long_spans s marks) e → IsSeen s e
 all-seen s marks spans e among =
     let of = of-span s marks e among in
     subst (IsSeen s) of.is (long-seen s of.span (spans of.span of.among) of.long)
@@ -204,7 +211,9 @@ record IsAfterStart (t : AnnotationKind → Bool) (s : Source) (marks : List Ann
   pub passes : t span.kind ≡ true
   pub by : IsBy (start_location s span.span.start) p.entry.start
 
-part-after : (t : AnnotationKind → Bool) → IsChoice t → (s : Source) (marks : List Annotation) → ((a : Annotation) → Among marks a → IsSpan s.text a.span.start a.span.end) → (p : PartEntry) → Among (made_parts s marks) p → t p.entry.kind ≡ true → IsAfterStart t s marks p
+part-after : (t : AnnotationKind → Bool) → IsChoice t → (s : Source) (marks : List Annotation)
+    → ((a : Annotation) → Among marks a → IsSpan s.text a.span.start a.span.end) → (p : PartEntry) → Among (made_parts s marks) p → t p.entry.kind ≡ true
+    → IsAfterStart t s marks p
 part-after t choice s marks spans p among passes =
     elim (append_cases (map (single_part s) (filter (is_short s.text) marks)) (long_parts s (long_places s marks) [] (long_spans s marks)) p among) [
       | inl single ↦
@@ -247,17 +256,21 @@ record IsFirstStart (t : AnnotationKind → Bool) (s : Source) (marks : List Ann
   pub among : Among marks a
   pub marked : is_marking a.kind ≡ true
   pub passes : t a.kind ≡ true
-  pub first : (b : Annotation) → Among marks b → is_marking b.kind ≡ true → t b.kind ≡ true → IsBy (start_location s a.span.start) (start_location s b.span.start)
+  pub first : (b : Annotation) → Among marks b → is_marking b.kind ≡ true → t b.kind ≡ true
+      → IsBy (start_location s a.span.start) (start_location s b.span.start)
 
 -- the entries of a choice on a line, one by one
-on-line : (t : AnnotationKind → Bool) (s : Source) (marks : List Annotation) (k : ℕ) (p : PartEntry) → Among (chosen t (parts_on s marks k)) p → Among (made_parts s marks) p × (p.entry.start.line ≡ s.first + k) × (t p.entry.kind ≡ true)
+on-line : (t : AnnotationKind → Bool) (s : Source) (marks : List Annotation) (k : ℕ) (p : PartEntry) → Among (chosen t (parts_on s marks k)) p
+    → Among (made_parts s marks) p × (p.entry.start.line ≡ s.first + k) × (t p.entry.kind ≡ true)
 on-line t s marks k p among =
     let outer = filter_cases (λ (q : PartEntry). t q.entry.kind) (parts_on s marks k) p among in
     let inner = filter_cases (λ (q : PartEntry). eqb q.entry.start.line (s.first + k)) (made_parts s marks) p outer.0 in
     (inner.0, eqb-true p.entry.start.line (s.first + k) inner.1, outer.1)
 
 -- above the line of the first span there is no entry of the choice
-none-above : (t : AnnotationKind → Bool) → IsChoice t → (s : Source) (marks : List Annotation) → ((a : Annotation) → Among marks a → IsSpan s.text a.span.start a.span.end) → (a : Annotation) → IsFirstStart t s marks a → (j : ℕ) → j < first_line s.text a → chosen t (parts_on s marks j) ≡ []
+none-above : (t : AnnotationKind → Bool) → IsChoice t → (s : Source) (marks : List Annotation)
+    → ((a : Annotation) → Among marks a → IsSpan s.text a.span.start a.span.end) → (a : Annotation) → IsFirstStart t s marks a → (j : ℕ)
+    → j < first_line s.text a → chosen t (parts_on s marks j) ≡ []
 none-above t choice s marks spans a least j above =
     none-among (chosen t (parts_on s marks j)) (λ p among.
     let on = on-line t s marks j p among in
@@ -337,7 +350,8 @@ start-named test t is choice fold s marks utf8 spans = by (filter test marks) re
     start : Annotation → ℕ
     start a = a.span.start
 
-    found : (a : Annotation) (others : List Annotation) → filter test marks ≡ a ∷ others → first_place (least_place (chosen t)) (annotated_lines fold s marks) ≡ option_map (place_at s) (least (map (λ (a : Annotation). a.span.start) (filter test marks)))
+    found : (a : Annotation) (others : List Annotation) → filter test marks ≡ a ∷ others
+        → first_place (least_place (chosen t)) (annotated_lines fold s marks) ≡ option_map (place_at s) (least (map (λ (a : Annotation). a.span.start) (filter test marks)))
     found a others are =
         let low = least-first (λ (a : Annotation). a.span.start) a others in
         let given = filter_cases test marks low.0 (subst (λ xs. Among xs low.0) (sym are) (contains-among (a ∷ others) low.0 low.1.among)) in
@@ -350,7 +364,8 @@ start-named test t is choice fold s marks utf8 spans = by (filter test marks) re
         first-start t choice fold s marks spans low.0 first
         ∙ sym (ap (λ xs. option_map (place_at s) (least (map (λ (a : Annotation). a.span.start) xs))) are ∙ ap (option_map (place_at s)) low.1.is)
 
-    by : (xs : List Annotation) → filter test marks ≡ xs → first_place (least_place (chosen t)) (annotated_lines fold s marks) ≡ option_map (place_at s) (least (map (λ (a : Annotation). a.span.start) (filter test marks)))
+    by : (xs : List Annotation) → filter test marks ≡ xs
+        → first_place (least_place (chosen t)) (annotated_lines fold s marks) ≡ option_map (place_at s) (least (map (λ (a : Annotation). a.span.start) (filter test marks)))
     by [] are =
         no-start t choice fold s marks spans (λ a among marked passes. subst (λ xs. Among xs a) are (among_filter test marks a among (is.all a marked passes)))
         ∙ sym (ap (λ xs. option_map (place_at s) (least (map (λ (a : Annotation). a.span.start) xs))) are)
@@ -383,7 +398,8 @@ all-places (line ∷ lines) =
     ap (λ ps. option_or (option_map (λ column. record { line = line.number; column = Some column }) (least (start_columns ps))) (first_place (least_place all_parts) lines)) (sym (all-chosen line.parts)) ∙ ap (option_or (least_place (chosen (λ k. true)) line)) (all-places lines)
 
 -- the place that the head of a primary snippet names is that of the first byte at which a span starts that names it
-pub naming-place : (marks : List Annotation) (start : Option ℕ) → start ≡ naming_start marks → (fold : Bool) (s : Source) → IsUtf8 s.text → All (λ a. IsSpan s.text a.span.start a.span.end) marks → primary_place (annotated_lines fold s marks) ≡ option_map (place_at s) start
+pub naming-place : (marks : List Annotation) (start : Option ℕ) → start ≡ naming_start marks → (fold : Bool) (s : Source) → IsUtf8 s.text
+    → All (λ a. IsSpan s.text a.span.start a.span.end) marks → primary_place (annotated_lines fold s marks) ≡ option_map (place_at s) start
 naming-place marks start is fold s utf8 all =
     ap (λ o. option_or o (first_place (least_place all_parts) (annotated_lines fold s marks))) (start-named (λ a. is_primary a.kind) is_primary primary-test primary-choice fold s marks utf8 spans)
     ∙ ap (option_or (option_map (place_at s) (least (primary_starts marks)))) (all-places (annotated_lines fold s marks) ∙ start-named (λ a. is_marking a.kind) (λ k. true) any-test any-choice fold s marks utf8 spans)
@@ -399,7 +415,9 @@ naming-place marks start is fold s utf8 all =
 
 -- ---- a span of no bytes may stand at this byte
 
-start-border : (test : Annotation → Bool) (source : List ℕ) (marks : List Annotation) → ((a : Annotation) → Among marks a → IsSpan source a.span.start a.span.end) → IfSome (least (map (λ (a : Annotation). a.span.start) (filter test marks))) (λ b. IsSpan source b b)
+start-border : (test : Annotation → Bool) (source : List ℕ) (marks : List Annotation)
+    → ((a : Annotation) → Among marks a → IsSpan source a.span.start a.span.end)
+    → IfSome (least (map (λ (a : Annotation). a.span.start) (filter test marks))) (λ b. IsSpan source b b)
 start-border test source marks spans = by (filter test marks) refl
   where
     empty : (a : Annotation) → IsSpan source a.span.start a.span.end → IsSpan source a.span.start a.span.start
@@ -413,7 +431,8 @@ start-border test source marks spans = by (filter test marks) refl
         subst (λ xs. IfSome (least (map (λ (b : Annotation). b.span.start) xs)) (λ b. IsSpan source b b)) (sym are) (subst (λ o. IfSome o (λ b. IsSpan source b b)) (sym low.1.is) (empty low.0 (spans low.0 given.0)))
 
 -- the start that names a snippet is a border of characters
-pub naming-border : (marks : List Annotation) (start : Option ℕ) → start ≡ naming_start marks → (source : List ℕ) → All (λ a. IsSpan source a.span.start a.span.end) marks → IfSome start (λ b. IsSpan source b b)
+pub naming-border : (marks : List Annotation) (start : Option ℕ) → start ≡ naming_start marks → (source : List ℕ)
+    → All (λ a. IsSpan source a.span.start a.span.end) marks → IfSome start (λ b. IsSpan source b b)
 naming-border marks start is source all =
     subst (λ o. IfSome o (λ b. IsSpan source b b)) (sym is) (either (least (primary_starts marks)) (least (marked_starts marks)) (start-border (λ a. is_primary a.kind) source marks spans) (start-border (λ a. is_marking a.kind) source marks spans))
   where

@@ -1,5 +1,6 @@
 -- The window of a line is found in a part of the line that is sure to hold it.
-use Rattle.std.proofs.Common.{◌≡◌, ℕ, suc, ◌+◌, ◌-◌, ◌<◌, ◌≤◌, inl, inr, Option, Some, None, unwrap_or, cond, nat_le, nat_lt, true, false, min, List, [], ◌∷◌, ◌++◌, length, take, drop, sym, ap, ◌∙◌, subst, arith}
+use Rattle.std.proofs.Common.{◌≡◌, ℕ, suc, ◌+◌, ◌-◌, ◌<◌, ◌≤◌, inl, inr, Option, Some, None, unwrap_or, cond, nat_le, nat_lt, true, false, min, List, [], ◌∷◌}
+use Rattle.std.proofs.Common.{◌++◌, length, take, drop, sym, ap, ◌∙◌, subst, arith}
 use Rattle.std.proofs.Math.Seq.{take-append-add, drop-append-add}
 use Rattle.std.proofs.lemmas.List.{take-append-drop, take-append-le, drop-append-le, append-nil}
 use Rattle.std.proofs.lemmas.List.Sums.{sum_by-append}
@@ -9,7 +10,8 @@ use Rattle.snippet_text.specs.Normalized.{norm, shown}
 use Rattle.snippet_text.specs.Width.{char_width, width_of}
 use Rattle.snippet_text.proofs.NormLemmas.{width_of-norm}
 use Rattle.std.proofs.lemmas.Bool.Decides.{nat_tests}
-use Rattle.snippet_view.specs.Window.{reaching, fitting, reaching_last, window_left, window_right, dropped_part, inner_part, covered_columns, uncovered_part, covered_end}
+use Rattle.snippet_view.specs.Window.{reaching, fitting, reaching_last, window_left, window_right, dropped_part, inner_part, covered_columns, uncovered_part}
+use Rattle.snippet_view.specs.Window.{covered_end}
 use Rattle.snippet_view.specs.declared.margin.Margin.{Margin}
 use Rattle.snippet_view.specs.Margin.{bounds_of}
 use Rattle.snippet_view.specs.NearPart.{HoldsWindow, IsPartOf, falling_short, window_columns}
@@ -120,7 +122,8 @@ by_after P [] none some = none
 by_after P (c ∷ cs) none some = some (omega arith)
 
 -- what stands before a part ends left of this column, and the part reaches it
-pub near_reaching : (left skipped : ℕ) (before part after : List ℕ) → skipped ≡ width_of before → (0 < length before → skipped < left) → (0 < length after → left - skipped ≤ width_of part) → reaching left (before ++ (part ++ after)) ≡ length before + reaching (left - skipped) part
+pub near_reaching : (left skipped : ℕ) (before part after : List ℕ) → skipped ≡ width_of before → (0 < length before → skipped < left)
+    → (0 < length after → left - skipped ≤ width_of part) → reaching left (before ++ (part ++ after)) ≡ length before + reaching (left - skipped) part
 near_reaching left skipped before part after is starts reaches =
     let within : reaching (left - skipped) (part ++ after) ≡ reaching (left - skipped) part =
     by_after (λ b. reaching (left - skipped) (part ++ b) ≡ reaching (left - skipped) part) after (ap (reaching (left - skipped)) (append-nil part)) (λ some. reaching_within (left - skipped) part after (reaches some)) in
@@ -146,7 +149,9 @@ near_rest left skipped before part after is starts reaches =
     ap (λ k. drop k all) (near_reaching left skipped before part after is starts reaches) ∙ drop-append-add before (part ++ after) n ∙ drop-append-le n part after (reaching_length (left - skipped) part)
 
 -- the characters that fit after it are found in the part, if it is wider than they are
-pub near_inner : (columns reached : ℕ) (part after rest : List ℕ) → rest ≡ drop reached part ++ after → (0 < length after → columns + width_of (take reached part) < width_of part) → take (fitting columns rest) rest ≡ take (fitting columns (drop reached part)) (drop reached part)
+pub near_inner : (columns reached : ℕ) (part after rest : List ℕ) → rest ≡ drop reached part ++ after
+    → (0 < length after → columns + width_of (take reached part) < width_of part)
+    → take (fitting columns rest) rest ≡ take (fitting columns (drop reached part)) (drop reached part)
 near_inner columns reached part after rest is enough =
     let near = drop reached part in
     let wide : width_of part ≡ width_of (take reached part) + width_of near = ap width_of (sym (take-append-drop reached part)) ∙ sum_by-append char_width (take reached part) near in
@@ -158,7 +163,8 @@ near_inner columns reached part after rest is enough =
     ap (λ cs. take (fitting columns cs) cs) is ∙ found
 
 -- the columns of the characters after some
-pub width_left : (n skipped width : ℕ) (cs rest : List ℕ) → width ≡ width_of cs → skipped ≡ width_of (take n cs) → rest ≡ drop n cs → width - skipped ≡ width_of rest
+pub width_left : (n skipped width : ℕ) (cs rest : List ℕ) → width ≡ width_of cs → skipped ≡ width_of (take n cs) → rest ≡ drop n cs
+    → width - skipped ≡ width_of rest
 width_left n skipped width cs rest is is_skipped is_rest =
     let both : width_of cs ≡ width_of (take n cs) + width_of (drop n cs) = ap width_of (sym (take-append-drop n cs)) ∙ sum_by-append char_width (take n cs) (drop n cs) in
     omega (arith, is, is_skipped, ap width_of is_rest, both)
@@ -181,13 +187,15 @@ near_holds room left right skipped columns cs rest part is_skipped is_rest is_co
     }
 
 -- the columns at which a line's window begins and ends, as a margin gives them
-pub right_is : (room left right width result : ℕ) (line : List ℕ) → width ≡ width_of line → result ≡ cond (nat_le (width - left) room) width (min width right) → result ≡ window_right room left right line
+pub right_is : (room left right width result : ℕ) (line : List ℕ) → width ≡ width_of line → result ≡ cond (nat_le (width - left) room) width (min width right)
+    → result ≡ window_right room left right line
 right_is room left right width result line is value =
     let same : width_of line - left ≡ width_of line - window_left left line = omega arith in
     value ∙ ap (λ w. cond (nat_le (w - left) room) w (min w right)) is ∙ ap (λ k. cond (nat_le k room) (width_of line) (min (width_of line) right)) same
 
 -- what is dropped left of the window, and what stands in it
-pub window_dropped : (room left right skipped l : ℕ) (line part : List ℕ) → HoldsWindow room left right line skipped part → l ≡ window_left left line → skipped + width_of (take (reaching (l - skipped) part) part) ≡ width_of (dropped_part left line)
+pub window_dropped : (room left right skipped l : ℕ) (line part : List ℕ) → HoldsWindow room left right line skipped part → l ≡ window_left left line
+    → skipped + width_of (take (reaching (l - skipped) part) part) ≡ width_of (dropped_part left line)
 window_dropped room left right skipped l line part holds is =
     let from = window_left left line in
     let found = ap (λ xs. width_of (take (reaching from xs) xs)) holds.text_is ∙ near_dropped from skipped holds.before part holds.after holds.skipped_is holds.starts (λ some. omega (arith, holds.reaches some)) in
@@ -219,7 +227,8 @@ end_some room left right end start placeholder line inner shown is_inner cut is_
     ap Some value ∙ sym (ap (λ b. cond b (Some (at (inner_part room left right line))) None) cut_off)
 
 -- a line that ends within the window isn't covered at its end
-pub end_none : (room left right : ℕ) (placeholder line : List ℕ) → width_of line ≤ window_right room left right line → None ≡ covered_end room left right placeholder line
+pub end_none : (room left right : ℕ) (placeholder line : List ℕ) → width_of line ≤ window_right room left right line
+    → None ≡ covered_end room left right placeholder line
 end_none room left right placeholder line uncut =
     let at : List ℕ → ℕ = λ i. (unwrap_or (covered_columns left placeholder i) 0 + length (uncovered_part left placeholder i)) - reaching_last (width_of placeholder) i in
     let whole : nat_lt (window_right room left right line) (width_of line) ≡ false = grind (arith, nat_tests, uncut) in
@@ -243,7 +252,8 @@ same_columns : (room left right : ℕ) (line : List ℕ) → window_columns room
 same_columns room left right line =
     ap (λ w. cond (nat_le (w - min left w) room) w (min w right) - min left w) (width_of-norm line)
 
-holds_norm : (room left right skipped : ℕ) (line part : List ℕ) → HoldsWindow room left right line skipped part → HoldsWindow room left right (norm line) skipped (norm part)
+holds_norm : (room left right skipped : ℕ) (line part : List ℕ) → HoldsWindow room left right line skipped part
+    → HoldsWindow room left right (norm line) skipped (norm part)
 holds_norm room left right skipped line part holds =
     let from : window_left left (norm line) ≡ window_left left line = ap (min left) (width_of-norm line) in
     record {
@@ -256,7 +266,8 @@ holds_norm room left right skipped line part holds =
     }
 
 -- the normalised near text is the part of the line that its window needs
-pub part_of_norm : (margin : Margin) (width skipped : ℕ) (line near part : List ℕ) → width ≡ width_of line → part ≡ norm near → HoldsWindow margin.term_width (bounds_of margin).left (bounds_of margin).right line skipped near → IsPartOf margin (norm line) width skipped part
+pub part_of_norm : (margin : Margin) (width skipped : ℕ) (line near part : List ℕ) → width ≡ width_of line → part ≡ norm near
+    → HoldsWindow margin.term_width (bounds_of margin).left (bounds_of margin).right line skipped near → IsPartOf margin (norm line) width skipped part
 part_of_norm margin width skipped line near part is_width is_part holds =
     let bounds = bounds_of margin in
     let all = holds_norm margin.term_width bounds.left bounds.right skipped line near holds in

@@ -1,5 +1,6 @@
 -- What holds of each entry that is made: of those of each span.
-use Rattle.std.proofs.Common.{◌≡◌, ℕ, ◌+◌, ◌-◌, ◌<◌, ◌≤◌, Bool, true, false, ◌&&◌, cond, not, ltb, min, List, [], ◌∷◌, ◌++◌, map, get_or, ◌⊎◌, inl, inr, ◌||◌, refl, ap, arith}
+use Rattle.std.proofs.Common.{◌≡◌, ℕ, ◌+◌, ◌-◌, ◌<◌, ◌≤◌, Bool, true, false, ◌&&◌, cond, not, ltb, min, List, [], ◌∷◌, ◌++◌, map, get_or, ◌⊎◌, inl, inr, ◌||◌}
+use Rattle.std.proofs.Common.{refl, ap, arith}
 use Rattle.std.specs.List.{All, Contains, filter, list_any, range_with_len}
 use Rattle.std.proofs.lemmas.Bool.{cond_both, and_parts, ltb-true}
 use Rattle.std.proofs.lemmas.List.Elements.{All-nil, All-cons, All-head, All-tail, All-append, All-map, All-weaker, All-contains_itself}
@@ -9,7 +10,8 @@ use Rattle.snippet_model.specs.declared.snippet.AnnotationKind.{AnnotationKind}
 use Rattle.snippet_model.specs.declared.snippet.AnnotationKind.TheVariants.{Primary}
 use Rattle.snippet_view.specs.declared.depths.LongExtent.{LongExtent}
 use Rattle.snippet_view.specs.declared.entries.LineAnnotationType.TheVariants.{Singleline, MultilineEnd}
-use Rattle.snippet_view.specs.Annotated.{PartEntry, is_short, is_long, long_entry, long_place, long_places, long_spans, stands_before, depth_of, single_part, start_part, bar_part, end_part, bar_lines, span_parts, long_parts, made_parts, promoted, is_promoted}
+use Rattle.snippet_view.specs.Annotated.{PartEntry, is_short, is_long, long_entry, long_place, long_places, long_spans, stands_before, depth_of, single_part}
+use Rattle.snippet_view.specs.Annotated.{start_part, bar_part, end_part, bar_lines, span_parts, long_parts, made_parts, promoted, is_promoted}
 use Rattle.snippet_lines.specs.Order.{ordered_by}
 use Rattle.snippet_view.specs.Depths.{depth_among, same_place}
 use Rattle.snippet_view.specs.Kept.{is_trivial_line}
@@ -90,11 +92,14 @@ span-all P s depth false e holds =
     (All-cons P (end_part e (MultilineEnd depth)) [] holds.end (All-nil P)))
 
 -- a span as it is drawn has another kind at most
-drawn-all : (P : PartEntry → Type 0) (s : Source) (depth : ℕ) (before : List Entry) (e : Entry) → ((kind : AnnotationKind) → HoldsOfSpan P s depth (record e { kind = kind })) → HoldsOfSpan P s depth (promoted before e)
+drawn-all : (P : PartEntry → Type 0) (s : Source) (depth : ℕ) (before : List Entry) (e : Entry)
+    → ((kind : AnnotationKind) → HoldsOfSpan P s depth (record e { kind = kind })) → HoldsOfSpan P s depth (promoted before e)
 drawn-all P s depth before e holds =
     cond_both (is_promoted before e) (record e { kind = Primary }) e (HoldsOfSpan P s depth) (λ _. holds Primary) (λ _. holds e.kind)
 
-long-all : (P : PartEntry → Type 0) (s : Source) (places : List LongExtent) (before es : List Entry) → All (λ e. (kind : AnnotationKind) → HoldsOfSpan P s (depth_among places (long_place e)) (record e { kind = kind })) es → All P (long_parts s places before es)
+long-all : (P : PartEntry → Type 0) (s : Source) (places : List LongExtent) (before es : List Entry)
+    → All (λ e. (kind : AnnotationKind) → HoldsOfSpan P s (depth_among places (long_place e)) (record e { kind = kind })) es
+    → All P (long_parts s places before es)
 long-all P s places before [] all = All-nil P
 long-all P s places before (e ∷ later) all =
     let Q = λ (e : Entry). (kind : AnnotationKind) → HoldsOfSpan P s (depth_among places (long_place e)) (record e { kind = kind }) in

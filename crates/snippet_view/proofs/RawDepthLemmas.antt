@@ -1,5 +1,6 @@
 -- Places of spans of several lines, and their raw depths.
-use Rattle.std.proofs.Common.{◌≡◌, ℕ, zero, suc, ◌+◌, ◌<◌, ◌≤◌, true, false, ◌&&◌, cond, eqb, max, fold, drop, List, [], ◌∷◌, map, length, get_or, inl, inr, refl, sym, ap, subst, ◌∙◌, arith}
+use Rattle.std.proofs.Common.{◌≡◌, ℕ, zero, suc, ◌+◌, ◌<◌, ◌≤◌, true, false, ◌&&◌, cond, eqb, max, fold, drop, List, [], ◌∷◌, map, length, get_or, inl, inr}
+use Rattle.std.proofs.Common.{refl, sym, ap, subst, ◌∙◌, arith}
 use Rattle.std.specs.List.{list_any}
 use Rattle.std.proofs.lemmas.Bool.{cases_Bool, eqb-true, eq-eqb, and_from, and_parts, or_left, or_right, cond-true, cond-false, both_ways, false_from_ne_true}
 use Rattle.snippet_view.specs.Measures.{greatest}
@@ -8,7 +9,8 @@ use Rattle.snippet_view.specs.Depths.{same_place, share_line, places_of, raw_dep
 
 -- ---- places
 
-same_fields : (a b c d a' b' c' d' : ℕ) → a ≡ a' → b ≡ b' → c ≡ c' → d ≡ d' → ◌≡◌ {A = LongExtent} (record { from = a; to = b; first = c; last = d }) (record { from = a'; to = b'; first = c'; last = d' })
+same_fields : (a b c d a' b' c' d' : ℕ) → a ≡ a' → b ≡ b' → c ≡ c' → d ≡ d'
+    → ◌≡◌ {A = LongExtent} (record { from = a; to = b; first = c; last = d }) (record { from = a'; to = b'; first = c'; last = d' })
 same_fields a b c d a' b' c' d' e f g h = cc
 
 -- places that the test calls the same are the same
@@ -41,7 +43,8 @@ among-past : (p q : LongExtent) (later : List LongExtent) → same_place p q ≡
 among-past p q later fails = cond-false (same_place p q) (raw_depth q later) (raw_depth_among later p) fails
 
 -- a place that stands again has the depth that it has there
-pub among-after : (q p : LongExtent) (ps : List LongExtent) → list_any (same_place p) ps ≡ true → raw_depth_among (places_of (q ∷ ps)) p ≡ raw_depth_among (places_of ps) p
+pub among-after : (q p : LongExtent) (ps : List LongExtent) → list_any (same_place p) ps ≡ true
+    → raw_depth_among (places_of (q ∷ ps)) p ≡ raw_depth_among (places_of ps) p
 among-after q p ps again =
     elim (cases_Bool (list_any (same_place q) ps)) [
       | inl holds ↦ ap (λ qs. raw_depth_among qs p) (places-again q ps holds)
@@ -49,7 +52,8 @@ among-after q p ps again =
     ]
 
 -- a place that doesn't stand again has the raw depth that the later places give it
-pub among-new : (p : LongExtent) (ps : List LongExtent) → list_any (same_place p) ps ≡ false → raw_depth_among (places_of (p ∷ ps)) p ≡ raw_depth p (places_of ps)
+pub among-new : (p : LongExtent) (ps : List LongExtent) → list_any (same_place p) ps ≡ false
+    → raw_depth_among (places_of (p ∷ ps)) p ≡ raw_depth p (places_of ps)
 among-new p ps fails = ap (λ qs. raw_depth_among qs p) (places-new p ps fails) ∙ among-here p (places_of ps)
 
 -- ---- raw depths

@@ -1,5 +1,6 @@
 -- What is known of the lines that are kept, and of those that are shown: their order, and which are among them.
-use Rattle.std.proofs.Common.{◌≡◌, ℕ, zero, suc, ◌+◌, ◌-◌, ◌<◌, ◌≤◌, Bool, true, ◌||◌, not, eqb, List, [], ◌∷◌, length, get_or, ◌⊎◌, inl, inr, refl, sym, ap, subst, ◌∙◌, arith}
+use Rattle.std.proofs.Common.{◌≡◌, ℕ, zero, suc, ◌+◌, ◌-◌, ◌<◌, ◌≤◌, Bool, true, ◌||◌, not, eqb, List, [], ◌∷◌, length, get_or, ◌⊎◌, inl, inr, refl, sym, ap}
+use Rattle.std.proofs.Common.{subst, ◌∙◌, arith}
 use Rattle.std.specs.List.{All, Contains, filter, list_any, range_with_len}
 use Rattle.std.proofs.lemmas.Bool.{cond-true, cond_both, eqb-true, or_right}
 use Rattle.std.proofs.lemmas.List.FromFn.{length-range_with_len, get_or-range_with_len}
@@ -131,30 +132,36 @@ contains-between x (k ∷ ks) among =
     ])
 
 -- each line that is kept is shown
-pub kept-shown : (fold : Bool) (source : List ℕ) (marks : List Annotation) (k : ℕ) → Contains (kept_lines fold source marks) k → Contains (shown_lines fold source marks) k
+pub kept-shown : (fold : Bool) (source : List ℕ) (marks : List Annotation) (k : ℕ) → Contains (kept_lines fold source marks) k
+    → Contains (shown_lines fold source marks) k
 kept-shown fold source marks k among = contains-between k (kept_lines fold source marks) among
 
 -- a line that a span keeps is kept
-pub span-kept : (fold : Bool) (source : List ℕ) (marks : List Annotation) (a : Annotation) (k : ℕ) → Contains marks a → k < length (source_lines source) → keeps source k a ≡ true → Contains (kept_lines fold source marks) k
+pub span-kept : (fold : Bool) (source : List ℕ) (marks : List Annotation) (a : Annotation) (k : ℕ) → Contains marks a → k < length (source_lines source)
+    → keeps source k a ≡ true → Contains (kept_lines fold source marks) k
 span-kept fold source marks a k among within kept =
     contains-filter (λ k. not fold || list_any (keeps source k) marks) k (range_with_len 0 (length (source_lines source)))
     (or_right (not fold) (list_any (keeps source k) marks) (any-member (keeps source k) marks a among kept))
     (contains-range 0 (length (source_lines source)) k (omega arith) (omega arith))
 
 -- the first and the last line of each span are kept
-pub first-kept : (fold : Bool) (source : List ℕ) (marks : List Annotation) (a : Annotation) → Contains marks a → IsSpan source a.span.start a.span.end → Contains (kept_lines fold source marks) (first_line source a)
+pub first-kept : (fold : Bool) (source : List ℕ) (marks : List Annotation) (a : Annotation) → Contains marks a → IsSpan source a.span.start a.span.end
+    → Contains (kept_lines fold source marks) (first_line source a)
 first-kept fold source marks a among span =
     span-kept fold source marks a (first_line source a) among (line_of-within source a.span.start) (keeps-first source a (first_line source a) span refl)
 
 -- the line on which a span ends is kept
-pub last-kept : (fold : Bool) (source : List ℕ) (marks : List Annotation) (a : Annotation) → Contains marks a → IsSpan source a.span.start a.span.end → Contains (kept_lines fold source marks) (last_line source a)
+pub last-kept : (fold : Bool) (source : List ℕ) (marks : List Annotation) (a : Annotation) → Contains marks a → IsSpan source a.span.start a.span.end
+    → Contains (kept_lines fold source marks) (last_line source a)
 last-kept fold source marks a among span =
     span-kept fold source marks a (last_line source a) among (line_of-within source a.span.end) (keeps-last source a (last_line source a) span refl)
 
 -- so they are shown
-pub first-shown : (fold : Bool) (source : List ℕ) (marks : List Annotation) (a : Annotation) → Contains marks a → IsSpan source a.span.start a.span.end → Contains (shown_lines fold source marks) (first_line source a)
+pub first-shown : (fold : Bool) (source : List ℕ) (marks : List Annotation) (a : Annotation) → Contains marks a → IsSpan source a.span.start a.span.end
+    → Contains (shown_lines fold source marks) (first_line source a)
 first-shown fold source marks a among span = kept-shown fold source marks (first_line source a) (first-kept fold source marks a among span)
 
 -- the line on which a span ends is shown
-pub last-shown : (fold : Bool) (source : List ℕ) (marks : List Annotation) (a : Annotation) → Contains marks a → IsSpan source a.span.start a.span.end → Contains (shown_lines fold source marks) (last_line source a)
+pub last-shown : (fold : Bool) (source : List ℕ) (marks : List Annotation) (a : Annotation) → Contains marks a → IsSpan source a.span.start a.span.end
+    → Contains (shown_lines fold source marks) (last_line source a)
 last-shown fold source marks a among span = kept-shown fold source marks (last_line source a) (last-kept fold source marks a among span)

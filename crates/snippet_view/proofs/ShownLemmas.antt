@@ -1,5 +1,6 @@
 -- The lines that are kept, each with its entries.
-use Rattle.std.proofs.Common.{None, ◌≡◌, ℕ, zero, suc, ◌+◌, ◌-◌, ◌<◌, ◌≤◌, Bool, true, false, ◌&&◌, ◌||◌, cond, not, eqb, List, [], ◌∷◌, ◌++◌, map, length, take, drop, get_or, inl, inr, refl, sym, ap, ◌∙◌, arith}
+use Rattle.std.proofs.Common.{None, ◌≡◌, ℕ, zero, suc, ◌+◌, ◌-◌, ◌<◌, ◌≤◌, Bool, true, false, ◌&&◌, ◌||◌, cond, not, eqb, List, [], ◌∷◌, ◌++◌, map, length}
+use Rattle.std.proofs.Common.{take, drop, get_or, inl, inr, refl, sym, ap, ◌∙◌, arith}
 use Rattle.std.specs.List.{Contains, filter, list_any, range_with_len}
 use Rattle.std.specs.List.Sorted.{IsStableByKey, ties}
 use Rattle.std.specs.Ordering.{is_lt, nat_cmp}
@@ -13,7 +14,8 @@ use Rattle.snippet_model.specs.declared.snippet.AnnotationKind.TheVariants.{Prim
 use Rattle.snippet_view.specs.declared.entries.AnnotatedLineInfo.{AnnotatedLineInfo}
 use Rattle.snippet_view.specs.declared.entries.LineAnnotation.{LineAnnotation}
 use Rattle.snippet_view.specs.declared.entries.LineAnnotationType.TheVariants.{Singleline}
-use Rattle.snippet_view.specs.Annotated.{is_long, long_entry, long_place, long_places, long_spans, stands_before, depth_of, PartEntry, seen_part, KeptLine, seen_kept}
+use Rattle.snippet_view.specs.Annotated.{is_long, long_entry, long_place, long_places, long_spans, stands_before, depth_of, PartEntry, seen_part, KeptLine}
+use Rattle.snippet_view.specs.Annotated.{seen_kept}
 use Rattle.snippet_lines.specs.Order.{put_in, ordered_by}
 use Rattle.snippet_lines.specs.Lines.{Source}
 use Rattle.snippet_view.specs.Depths.{same_place, share_line}
@@ -61,7 +63,8 @@ pub at-line : ℕ → LineAnnotation
 at-line n = record { start = record { line = n; char = 0; display = 0; byte = 0 }; end = record { line = n; char = 0; display = 0; byte = 0 }; kind = Primary; label = None; annotation_type = Singleline; highlight_source = false }
 
 -- a stable sort by lines leaves the entries of one line in the order in which they were made
-pub stable-on-line : (made sorted : List LineAnnotation) (n : ℕ) → IsStableByKey (λ (e : LineAnnotation). e.start.line) nat_cmp made sorted → filter (λ (p : PartEntry). eqb p.entry.start.line n) (map seen_part sorted) ≡ filter (λ (p : PartEntry). eqb p.entry.start.line n) (map seen_part made)
+pub stable-on-line : (made sorted : List LineAnnotation) (n : ℕ) → IsStableByKey (λ (e : LineAnnotation). e.start.line) nat_cmp made sorted
+    → filter (λ (p : PartEntry). eqb p.entry.start.line n) (map seen_part sorted) ≡ filter (λ (p : PartEntry). eqb p.entry.start.line n) (map seen_part made)
 unfolding at-line
 stable-on-line made sorted n stable =
     filter-map (λ (p : PartEntry). eqb p.entry.start.line n) seen_part sorted
@@ -84,7 +87,8 @@ lines-shown p f i now new info there pushed is before =
     ap (map seen_kept) pushed ∙ map_push seen_kept now info ∙ ap (λ ls. ls ++ seen_kept info ∷ []) before ∙ ap (λ l. map f (filter p (range_with_len 0 i)) ++ l ∷ []) is
     ∙ sym (ap (λ ks. map f (filter p ks)) (range-more i) ∙ ap (map f) (filter-append p (range_with_len 0 i) (i ∷ []) ∙ ap (λ b. filter p (range_with_len 0 i) ++ cond b (i ∷ []) []) there) ∙ map-append f (filter p (range_with_len 0 i)) (i ∷ []))
 
-pub lines-left : (p : ℕ → Bool) (f : ℕ → KeptLine) (i : ℕ) (now : List AnnotatedLineInfo) → p i ≡ false → map seen_kept now ≡ map f (filter p (range_with_len 0 i)) → map seen_kept now ≡ map f (filter p (range_with_len 0 (i + 1)))
+pub lines-left : (p : ℕ → Bool) (f : ℕ → KeptLine) (i : ℕ) (now : List AnnotatedLineInfo) → p i ≡ false
+    → map seen_kept now ≡ map f (filter p (range_with_len 0 i)) → map seen_kept now ≡ map f (filter p (range_with_len 0 (i + 1)))
 lines-left p f i now none before =
     before ∙ sym (ap (λ ks. map f (filter p ks)) (range-more i) ∙ ap (map f) (filter-append p (range_with_len 0 i) (i ∷ []) ∙ ap (λ b. filter p (range_with_len 0 i) ++ cond b (i ∷ []) []) none ∙ append-nil (filter p (range_with_len 0 i))))
 
@@ -95,7 +99,9 @@ pub same-kept : (number number' : ℕ) (text text' : List ℕ) (parts parts' : L
 same-kept number number' text text' parts parts' keep keep' a b c d = cc
 
 -- where lines before a stretch are too low and those after it too high, it doesn't end before it starts
-pub from-to : {X : Type 0} (line : X → ℕ) (none : X) (xs : List X) (n from to : ℕ) → from ≤ length xs → ((j : ℕ) (d : X) → j < from → j < length xs → line (get_or xs j d) < n) → ((j : ℕ) (d : X) → to ≤ j → j < length xs → n < line (get_or xs j d)) → from ≤ to
+pub from-to : {X : Type 0} (line : X → ℕ) (none : X) (xs : List X) (n from to : ℕ) → from ≤ length xs
+    → ((j : ℕ) (d : X) → j < from → j < length xs → line (get_or xs j d) < n) → ((j : ℕ) (d : X) → to ≤ j → j < length xs → n < line (get_or xs j d))
+    → from ≤ to
 from-to line none xs n from to within below after =
     elim (cases_lt to from) [
       | inr le ↦ le
@@ -122,7 +128,8 @@ any-order : {X : Type 0} (before : X → X → Bool) (q : X → Bool) (xs : List
 any-order before q [] = refl
 any-order before q (x ∷ xs) = any-put before q x (ordered_by before xs) ∙ ap (λ b. q x || b) (any-order before q xs)
 
-any-filter : {X : Type 0} (q p : X → Bool) (xs : List X) (k : ℕ) (d : X) → k < length xs → p (get_or xs k d) ≡ true → q (get_or xs k d) ≡ true → list_any q (filter p xs) ≡ true
+any-filter : {X : Type 0} (q p : X → Bool) (xs : List X) (k : ℕ) (d : X) → k < length xs → p (get_or xs k d) ≡ true → q (get_or xs k d) ≡ true
+    → list_any q (filter p xs) ≡ true
 any-filter q p [] k d within pass hit = absurd (omega arith)
 any-filter q p (x ∷ xs) zero d within pass hit = ap (list_any q) (cond-true (p x) (x ∷ filter p xs) (filter p xs) pass) ∙ or_left (q x) (list_any q (filter p xs)) hit
 any-filter q p (x ∷ xs) (suc k) d within pass hit =
@@ -132,7 +139,8 @@ any-filter q p (x ∷ xs) (suc k) d within pass hit =
     ]
 
 -- the place of a span of several lines stands among the places
-pub place-among : (s : Source) (marks : List Annotation) (a : Annotation) → Contains marks a → is_long s.text a ≡ true → list_any (same_place (long_place (long_entry s a))) (long_places s marks) ≡ true
+pub place-among : (s : Source) (marks : List Annotation) (a : Annotation) → Contains marks a → is_long s.text a ≡ true
+    → list_any (same_place (long_place (long_entry s a))) (long_places s marks) ≡ true
 place-among s marks a among long =
     list_any-map (same_place (long_place (long_entry s a))) long_place (long_spans s marks)
     ∙ any-order stands_before (λ e. same_place (long_place (long_entry s a)) (long_place e)) (map (long_entry s) (filter (is_long s.text) marks))

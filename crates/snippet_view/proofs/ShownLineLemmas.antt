@@ -11,7 +11,8 @@ use Rattle.snippet_view.specs.ShownLines.{infos_of, kept_of}
 pub infos_of-push : (lines : List ShownLine) (line : ShownLine) → infos_of (lines ++ line ∷ []) ≡ infos_of lines ++ line.info ∷ []
 infos_of-push lines line = map_push (λ (l : ShownLine). l.info) lines line
 
-kept_of-either : (lines : List ShownLine) (line : ShownLine) (between : Bool) → line.between ≡ between → kept_of (lines ++ line ∷ []) ≡ kept_of lines ++ infos_of (cond (not between) (line ∷ []) [])
+kept_of-either : (lines : List ShownLine) (line : ShownLine) (between : Bool) → line.between ≡ between
+    → kept_of (lines ++ line ∷ []) ≡ kept_of lines ++ infos_of (cond (not between) (line ∷ []) [])
 kept_of-either lines line between is =
     let test : ShownLine → Bool = λ l. not l.between in
     ap infos_of (filter-append test lines (line ∷ [])) ∙ map-append (λ (l : ShownLine). l.info) (filter test lines) (filter test (line ∷ [])) ∙ ap (λ b. kept_of lines ++ infos_of (cond (not b) (line ∷ []) [])) is
@@ -24,17 +25,20 @@ kept_of-kept lines line kept = kept_of-either lines line false kept
 pub kept_of-between : (lines : List ShownLine) (line : ShownLine) → line.between ≡ true → kept_of (lines ++ line ∷ []) ≡ kept_of lines
 kept_of-between lines line between = kept_of-either lines line true between ∙ append-nil (kept_of lines)
 
-kept_of-taken : (lines : List ShownLine) (i : ℕ) (line : ShownLine) → i < length lines → line ≡ get_or lines i line → kept_of (take (i + 1) lines) ≡ kept_of (take i lines ++ line ∷ [])
+kept_of-taken : (lines : List ShownLine) (i : ℕ) (line : ShownLine) → i < length lines → line ≡ get_or lines i line
+    → kept_of (take (i + 1) lines) ≡ kept_of (take i lines ++ line ∷ [])
 kept_of-taken lines i line within is =
     ap kept_of (take_more lines i line within ∙ ap (λ (l : ShownLine). take i lines ++ l ∷ []) (sym is))
 
 -- the lines up to the next one, which is kept
-pub kept_of-next : (lines : List ShownLine) (i : ℕ) (line : ShownLine) → i < length lines → line ≡ get_or lines i line → line.between ≡ false → kept_of (take (i + 1) lines) ≡ kept_of (take i lines) ++ line.info ∷ []
+pub kept_of-next : (lines : List ShownLine) (i : ℕ) (line : ShownLine) → i < length lines → line ≡ get_or lines i line → line.between ≡ false
+    → kept_of (take (i + 1) lines) ≡ kept_of (take i lines) ++ line.info ∷ []
 kept_of-next lines i line within is kept =
     kept_of-taken lines i line within is ∙ kept_of-kept (take i lines) line kept
 
 -- the lines up to the next one, which isn't
-pub kept_of-past : (lines : List ShownLine) (i : ℕ) (line : ShownLine) → i < length lines → line ≡ get_or lines i line → line.between ≡ true → kept_of (take (i + 1) lines) ≡ kept_of (take i lines)
+pub kept_of-past : (lines : List ShownLine) (i : ℕ) (line : ShownLine) → i < length lines → line ≡ get_or lines i line → line.between ≡ true
+    → kept_of (take (i + 1) lines) ≡ kept_of (take i lines)
 kept_of-past lines i line within is between =
     kept_of-taken lines i line within is ∙ kept_of-between (take i lines) line between
 
@@ -45,7 +49,8 @@ infos_all P (line ∷ lines) all =
     All-cons (λ (l : ShownLine). P l.info) line lines (All-head P line.info (infos_of lines) all) (infos_all P lines (All-tail P line.info (infos_of lines) all))
 
 -- the line at a place
-pub infos_of-at : (lines : List ShownLine) (i : ℕ) (line : ShownLine) → i < length lines → line ≡ get_or lines i line → (i < length (infos_of lines)) × (line.info ≡ get_or (infos_of lines) i line.info)
+pub infos_of-at : (lines : List ShownLine) (i : ℕ) (line : ShownLine) → i < length lines → line ≡ get_or lines i line
+    → (i < length (infos_of lines)) × (line.info ≡ get_or (infos_of lines) i line.info)
 infos_of-at lines i line within is = (
   omega (arith, length-map lines (λ (l : ShownLine). l.info)),
   ap (λ (l : ShownLine). l.info) is ∙ sym (get_or-map (λ (l : ShownLine). l.info) lines i line line.info within),

@@ -1,5 +1,6 @@
 -- Why a line needn't be read further to know whether it says little.
-use Rattle.std.proofs.Common.{◌≡◌, ℕ, suc, ◌+◌, ◌<◌, Bool, true, false, ◌&&◌, ◌||◌, cond, not, eqb, List, [], ◌∷◌, ◌++◌, length, drop, get_or, reverse, inl, inr, ◌⊎◌, refl, sym, ap, subst, ◌∙◌, arith}
+use Rattle.std.proofs.Common.{◌≡◌, ℕ, suc, ◌+◌, ◌<◌, Bool, true, false, ◌&&◌, ◌||◌, cond, not, eqb, List, [], ◌∷◌, ◌++◌, length, drop, get_or, reverse, inl}
+use Rattle.std.proofs.Common.{inr, ◌⊎◌, refl, sym, ap, subst, ◌∙◌, arith}
 use Rattle.std.specs.Char.{is_whitespace}
 use Rattle.std.proofs.lemmas.Bool.{cases_Bool, or_cases, cond-true, cond-false, eqb-true, ne_eqb}
 use Rattle.std.proofs.lemmas.List.{drop_more, drop_all, reverse-append}
@@ -55,7 +56,8 @@ tail-more c cs =
     ∙ ap (λ b. reverse (cond b (without_indent (c ∷ [])) (without_indent (reverse cs) ++ c ∷ []))) (blank-reverse cs)
     ∙ parts (is_blank cs)
   where
-    parts : (b : Bool) → reverse (cond b (without_indent (c ∷ [])) (without_indent (reverse cs) ++ c ∷ [])) ≡ cond b (reverse (without_indent (c ∷ []))) (c ∷ reverse (without_indent (reverse cs)))
+    parts : (b : Bool)
+        → reverse (cond b (without_indent (c ∷ [])) (without_indent (reverse cs) ++ c ∷ [])) ≡ cond b (reverse (without_indent (c ∷ []))) (c ∷ reverse (without_indent (reverse cs)))
     parts true = refl
     parts false = reverse-append (without_indent (reverse cs)) (c ∷ [])
 

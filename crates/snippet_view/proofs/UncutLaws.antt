@@ -1,5 +1,6 @@
 -- Where a snippet stands whole, nothing of its lines is cut on the left.
-use Rattle.std.proofs.Common.{◌≡◌, ◌∙◌, ℕ, ◌+◌, ◌-◌, ◌≤◌, Bool, true, false, not, cond, eqb, leb, ltb, max, min, ◌&&◌, ◌||◌, List, [], ◌∷◌, ◌++◌, Option, Some, None, map, chars, unwrap_or, refl, sym, ap, subst, inl, inr, arith}
+use Rattle.std.proofs.Common.{◌≡◌, ◌∙◌, ℕ, ◌+◌, ◌-◌, ◌≤◌, Bool, true, false, not, cond, eqb, leb, ltb, max, min, ◌&&◌, ◌||◌, List, [], ◌∷◌, ◌++◌, Option, Some}
+use Rattle.std.proofs.Common.{None, map, chars, unwrap_or, refl, sym, ap, subst, inl, inr, arith}
 use Rattle.std.specs.List.{cons_option, flat_map, list_all, list_any}
 use Rattle.std.specs.Option.{is_none}
 use Rattle.std.proofs.lemmas.Bool.{cases_Bool, cond-true, cond-false, and_parts, and_from, not-true, eqb-false, leb-true, or_cases}
@@ -37,7 +38,8 @@ near_some None near = absurd cc
 near_some (Some n) near = (n, refl, leb-true n 26 near)
 
 -- spans that aren't marked have no columns
-unmarked_none : (s : Source) (marks : List Annotation) → list_all (λ (a : Annotation). not (is_marking a.kind)) marks ≡ true → flat_map (span_columns s) marks ≡ []
+unmarked_none : (s : Source) (marks : List Annotation) → list_all (λ (a : Annotation). not (is_marking a.kind)) marks ≡ true
+    → flat_map (span_columns s) marks ≡ []
 unmarked_none s [] all = refl
 unmarked_none s (a ∷ marks) all =
     let both = and_parts (not (is_marking a.kind)) (list_all (λ (b : Annotation). not (is_marking b.kind)) marks) all in
@@ -86,13 +88,15 @@ near_span s marks any =
           omega (arith, leb-true (end_mark_column s.text a) 26 parts.1, least_le all (end_mark_column s.text a) (among_flat_map (span_columns s) marks a (end_mark_column s.text a) found.1 (end_among s a both.0 (not-true (is_single_line s.text a) parts.0))))
     ]
 
-near_line : (source ks : List ℕ) → list_any (λ k. is_near (leading_whitespace (chars_at source k))) ks ≡ true → unwrap_or (least (whitespaces_of (map (chars_at source) ks))) 0 ≤ 26
+near_line : (source ks : List ℕ) → list_any (λ k. is_near (leading_whitespace (chars_at source k))) ks ≡ true
+    → unwrap_or (least (whitespaces_of (map (chars_at source) ks))) 0 ≤ 26
 near_line source ks any =
     let found = any_cases (λ k. is_near (leading_whitespace (chars_at source k))) ks any in
     let near = near_some (leading_whitespace (chars_at source found.0)) found.2 in
     omega (arith, near.2, least_le (whitespaces_of (map (chars_at source) ks)) near.0 (among_filter_map leading_whitespace (map (chars_at source) ks) (chars_at source found.0) near.0 (among_map (chars_at source) ks found.0 found.1) near.1))
 
-near_left : (s : Source) (marks : List Annotation) (ks : List ℕ) → is_near_left s.text ks marks ≡ true → min (unwrap_or (least (whitespaces_of (map (chars_at s.text) ks))) 0) (unwrap_or (least (flat_map (span_columns s) marks)) 0) ≤ 26
+near_left : (s : Source) (marks : List Annotation) (ks : List ℕ) → is_near_left s.text ks marks ≡ true
+    → min (unwrap_or (least (whitespaces_of (map (chars_at s.text) ks))) 0) (unwrap_or (least (flat_map (span_columns s) marks)) 0) ≤ 26
 near_left s marks ks near =
     let blank : Bool = list_all (λ k. is_none (leading_whitespace (chars_at s.text k))) ks in
     let line : Bool = list_any (λ k. is_near (leading_whitespace (chars_at s.text k))) ks in
@@ -110,19 +114,22 @@ near_left s marks ks near =
     ]
 
 -- lines that fit the room, of which little is blank on the left, aren't cut
-uncut_left : (left room widest : ℕ) (rest : Bounds) → left ≡ 0 → widest ≤ room → (cond (leb (max widest left - left) room) (record { left = left; right = max widest left }) rest).left ≡ 0
+uncut_left : (left room widest : ℕ) (rest : Bounds) → left ≡ 0 → widest ≤ room
+    → (cond (leb (max widest left - left) room) (record { left = left; right = max widest left }) rest).left ≡ 0
 uncut_left left room widest rest none fits =
     let here : leb (max widest left - left) room ≡ true = grind (arith, nat_tests) in
     let kept : Bounds = record { left = left; right = max widest left } in
     ap (λ (b : Bounds). b.left) (cond-true (leb (max widest left - left) room) kept rest here) ∙ none
 
-margin_near : (whitespace first last after room widest : ℕ) → min whitespace first ≤ 26 → widest ≤ room → (margin_bounds whitespace first last after room widest).left ≡ 0
+margin_near : (whitespace first last after room widest : ℕ) → min whitespace first ≤ 26 → widest ≤ room
+    → (margin_bounds whitespace first last after room widest).left ≡ 0
 margin_near whitespace first last after room widest near fits =
     let blank : ℕ = min whitespace first - 6 in
     uncut_left (cond (ltb 20 blank) (blank - 16) 0) room widest _ (cond-false (ltb 20 blank) (blank - 16) 0 (grind (arith, nat_tests))) fits
 
 -- where a line stands whole, nothing is cut on the left
-pub margin_whole : (room placeholder_width : ℕ) (fold : Bool) (s : Source) (marks : List Annotation) (k : ℕ) → stands_whole room placeholder_width fold s.text marks k ≡ true → (margin_of room fold s marks).left ≡ 0
+pub margin_whole : (room placeholder_width : ℕ) (fold : Bool) (s : Source) (marks : List Annotation) (k : ℕ)
+    → stands_whole room placeholder_width fold s.text marks k ≡ true → (margin_of room fold s marks).left ≡ 0
 margin_whole room placeholder_width fold s marks k whole =
     let kept = kept_lines fold s.text marks in
     let here : Bool = leb (width_of (chars_at s.text k)) room in
@@ -136,7 +143,8 @@ margin_whole room placeholder_width fold s marks k whole =
     let widest : greatest (widths_of texts) ≤ room = greatest_most (widths_of texts) room (each fits.1) in
     margin_near _ _ (greatest (flat_map (span_columns s) marks)) (greatest (flat_map (span_ends s) marks)) room (greatest (widths_of texts)) (near_left s marks kept known.1) widest
   where
-    each : list_all (λ j. leb (width_of (chars_at s.text j)) room) (kept_lines fold s.text marks) ≡ true → (n : ℕ) → Among (widths_of (map (chars_at s.text) (kept_lines fold s.text marks))) n → n ≤ room
+    each : list_all (λ j. leb (width_of (chars_at s.text j)) room) (kept_lines fold s.text marks) ≡ true → (n : ℕ)
+        → Among (widths_of (map (chars_at s.text) (kept_lines fold s.text marks))) n → n ≤ room
     each all n among =
         let text = map_cases width_of (map (chars_at s.text) (kept_lines fold s.text marks)) n among in
         let line = map_cases (chars_at s.text) (kept_lines fold s.text marks) text.0 text.1 in

@@ -66,4 +66,5 @@ pub record IsMarkOf (source : List ℕ) (marks : List Annotation) (k p : ℕ) (k
   pub covers : IsMarkedAt source k p span
   pub is : span.kind ≡ kind
   pub least : (other : Annotation) → Contains marks other → IsMarkedAt source k p other → span_width source span ≤ span_width source other
-  pub primary_wins : kind ≡ Context → (other : Annotation) → Contains marks other → IsMarkedAt source k p other → other.kind ≡ Primary → span_width source span < span_width source other
+  pub primary_wins : kind ≡ Context → (other : Annotation) → Contains marks other → IsMarkedAt source k p other → other.kind ≡ Primary
+      → span_width source span < span_width source other

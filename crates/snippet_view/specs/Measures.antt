@@ -1,5 +1,6 @@
 -- What a snippet's window is computed from: how far its lines reach, with their spans and labels.
-use Rattle.std.specs.Prelude.{◌≡◌, ℕ, ◌+◌, ◌-◌, ◌*◌, ◌<◌, ◌≤◌, ◌&&◌, nat_lt, min, max, Bool, true, false, not, List, [], ◌∷◌, Option, Some, None, map, filter, fold, chars, unwrap_or, if◌then◌else◌}
+use Rattle.std.specs.Prelude.{◌≡◌, ℕ, ◌+◌, ◌-◌, ◌*◌, ◌<◌, ◌≤◌, ◌&&◌, nat_lt, min, max, Bool, true, false, not, List, [], ◌∷◌, Option, Some, None, map, filter}
+use Rattle.std.specs.Prelude.{fold, chars, unwrap_or, if◌then◌else◌}
 use Rattle.std.specs.List.{flat_map, filter_map}
 use Rattle.std.specs.Option.{option_copied, option_map, option_map_or}
 use Rattle.std.specs.Cow.{cow_str_bytes}

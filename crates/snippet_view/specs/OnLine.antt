@@ -42,4 +42,5 @@ pub record AreEntriesOn (s : Source) (marks : List Annotation) (k : ℕ) (parts 
   pub none_untouched : is_untouched s.text marks k ≡ true → others ≡ []
   pub begun : (a : Annotation) → Contains marks a → is_long s.text a ≡ true → first_line s.text a ≡ k → (p : PartEntry) × Contains others p × Begins s marks a p
   pub closed : (a : Annotation) → Contains marks a → is_long s.text a ≡ true → last_line s.text a ≡ k → (p : PartEntry) × Contains others p × Closes s marks a p
-  pub labelled : (a : Annotation) → Contains marks a → is_long s.text a ≡ true → last_line s.text a ≡ k → (p : PartEntry) × Contains others p × Labels s marks a p
+  pub labelled : (a : Annotation) → Contains marks a → is_long s.text a ≡ true → last_line s.text a ≡ k
+      → (p : PartEntry) × Contains others p × Labels s marks a p

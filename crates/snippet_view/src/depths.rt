@@ -1,5 +1,6 @@
 //! How far right the bar of each span of several lines stands, so that spans that share a line stay apart.
-ghost use Rattle.std.specs.Prelude.{◌≡◌, ◌+◌, ◌-◌, ◌^◌, ◌≤◌, ◌<◌, true, All, Contains, ◌∷◌, length, map, fold, max, IfOk};
+ghost use Rattle.std.specs.Prelude.{◌≡◌, ◌+◌, ◌-◌, ◌^◌, ◌≤◌, ◌<◌, true, All, Contains, ◌∷◌, length, map, fold, max};
+ghost use Rattle.std.specs.Prelude.{IfOk};
 ghost use Rattle.std.specs.List.{AllWithin};
 ghost use Rattle.std.specs.List.Sorted.{IsNonDecreasingBy};
 ghost use Rattle.snippet_view.specs.declared.depths.LongExtent.{LongExtent};

@@ -3,7 +3,8 @@ ghost use Rattle.std.specs.Prelude.{◌≡◌, ◌+◌, ◌-◌, ◌^◌, ◌<�
 ghost use Rattle.snippet_text.specs.Width.{width_of};
 ghost use Rattle.snippet_view.specs.Margin.{bounds_of};
 ghost use Rattle.snippet_view.specs.NearPart.{IsPartOf};
-ghost use Rattle.snippet_view.specs.Window.{reaching, fitting, reaching_last, dropped_part, inner_part, covered_columns, uncovered_part, covered_end};
+ghost use Rattle.snippet_view.specs.Window.{reaching, fitting, reaching_last, dropped_part, inner_part};
+ghost use Rattle.snippet_view.specs.Window.{covered_columns, uncovered_part, covered_end};
 ghost use Rattle.snippet_style.specs.Cell.{bytes_of};
 
 use crate::margin::Margin;

@@ -1,5 +1,6 @@
 -- Where a final line feed is missing.
-use Rattle.std.proofs.Common.{◌≡◌, ◌≢◌, ◌≤◌, ◌<◌, ◌⊎◌, ℕ, zero, suc, arith, refl, ◌&&◌, ◌==◌, not, nat_lt, Some, None, List, [], ◌∷◌, length, slice_index_or, ◌+◌, ◌-◌, inl, inr, subst, ap, ◌∙◌, if◌then◌else◌}
+use Rattle.std.proofs.Common.{◌≡◌, ◌≢◌, ◌≤◌, ◌<◌, ◌⊎◌, ℕ, zero, suc, arith, refl, ◌&&◌, ◌==◌, not, nat_lt, Some, None, List, [], ◌∷◌, length, slice_index_or}
+use Rattle.std.proofs.Common.{◌+◌, ◌-◌, inl, inr, subst, ap, ◌∙◌, if◌then◌else◌}
 use Rattle.std.proofs.lemmas.Bool.{eq-eqb, lt-ltb, le-ltb}
 use Rattle.std.proofs.Math.Bool.{and-false}
 use Rattle.std.proofs.lemmas.Bool.Decides.{eqb_tells}

@@ -1,5 +1,6 @@
 -- How a run ends.
-use Rattle.std.proofs.Common.{Bor, String, Global, chars, encode_utf8_all, string_bytes, ◌≡◌, ◌⊎◌, ℕ, List, [], ◌∷◌, Option, Some, None, IfSome, IsSomeAnd, MatchOption, length, inl, inr, refl, sym, ap, ◌∙◌, subst}
+use Rattle.std.proofs.Common.{Bor, String, Global, chars, encode_utf8_all, string_bytes, ◌≡◌, ◌⊎◌, ℕ, List, [], ◌∷◌, Option, Some, None, IfSome, IsSomeAnd}
+use Rattle.std.proofs.Common.{MatchOption, length, inl, inr, refl, sym, ap, ◌∙◌, subst}
 use Rattle.std.specs.Option.{option_to_list}
 use Rattle.std.proofs.lemmas.Slice.Zip.{AllZip-long}
 use Rattle.std.proofs.lemmas.Str.{IsUtf8-string_bytes, encodes-chars}
@@ -7,19 +8,22 @@ use Rattle.annotate_snippets.specs.Fits.{TextFits}
 use Rattle.annotate_snippets.specs.Normalized.{norm}
 use Rattle.program.specs.Stream.{Output, Silent, Whole, CutShort, Told as Tells}
 use Rattle.tidy_run.specs.Report.{Told}
-use Rattle.tidy_run.specs.Run.{AreGiven, AreKept, AreTextsOf, End, Ends, Failed, Fails, Found, IsReport, IsSource, MayEnd, Misused, Reads, ShowsTold, Unlogged, Unprinted, all_logged, err_of, log_of, message, out_of, sheets_for, shown_name, status_of, usage}
+use Rattle.tidy_run.specs.Run.{AreGiven, AreKept, AreTextsOf, End, Ends, Failed, Fails, Found, IsReport, IsSource, MayEnd, Misused, Reads, ShowsTold, Unlogged}
+use Rattle.tidy_run.specs.Run.{Unprinted, all_logged, err_of, log_of, message, out_of, sheets_for, shown_name, status_of, usage}
 use Rattle.tidy_run.specs.Words.{Line, Word, line_of}
 use Rattle.tidy_run.specs.declared.run.Failure.{Failure}
 use Rattle.tidy_run.specs.declared.run.Failure.TheVariants.{Memory, Unwritable}
 
 -- where FILE holds this source and its name fits, it is read
-pub reads_file : (line : Line) (file : Option (List ℕ)) (source : List ℕ) (N : Type 0) → MatchOption file N (λ bytes. IsSource bytes × (source ≡ bytes)) → (N → ⊥) → TextFits line.file
+pub reads_file : (line : Line) (file : Option (List ℕ)) (source : List ℕ) (N : Type 0) → MatchOption file N (λ bytes. IsSource bytes × (source ≡ bytes))
+    → (N → ⊥) → TextFits line.file
     → IsSomeAnd file (Reads line file)
 reads_file line None source N value some fits = absurd (some value)
 reads_file line (Some bytes) source N value some fits = record { file_is = refl; source_is = value.0; name_fits = fits }
 
 -- where it holds none, it isn't read
-pub reads_none : (line : Line) (file : Option (List ℕ)) (N : Type 0) → MatchOption file N (λ bytes. IsSource bytes → ⊥) → (source : List ℕ) → Reads line file source → ⊥
+pub reads_none : (line : Line) (file : Option (List ℕ)) (N : Type 0) → MatchOption file N (λ bytes. IsSource bytes → ⊥) → (source : List ℕ)
+    → Reads line file source → ⊥
 reads_none line None N value source reads = let never : None ≡ Some source = reads.file_is in cc
 reads_none line (Some bytes) N value source reads =
     let same : bytes ≡ source = cc reads.file_is in
@@ -31,19 +35,22 @@ sheets_some None none = cc
 sheets_some (Some log) none = cc
 
 -- where there are no texts, nothing is told
-none_told : (path source : List ℕ) (told : List Told) (log : Option Word) (texts : List (List ℕ)) → AreTextsOf path source told (sheets_for log) texts → texts ≡ [] → told ≡ []
+none_told : (path source : List ℕ) (told : List Told) (log : Option Word) (texts : List (List ℕ)) → AreTextsOf path source told (sheets_for log) texts
+    → texts ≡ [] → told ≡ []
 none_told path source [] log texts are none = refl
 none_told path source (t ∷ ts) log texts are none =
     absurd (sheets_some log (sym (AllZip-long _ (sheets_for log) texts are.shows.printed) ∙ ap length none))
 
 pub clean_of_texts : (line : Line) (file : Option (List ℕ)) (tells : List ℕ → List Told) (texts : List (List ℕ)) → IsSomeAnd file (Reads line file)
-    → IfSome file (λ source. AreTextsOf line.file source (tells source) (sheets_for line.log) texts) → texts ≡ [] → (source : List ℕ) × Reads line file source × (tells source ≡ [])
+    → IfSome file (λ source. AreTextsOf line.file source (tells source) (sheets_for line.log) texts) → texts ≡ []
+    → (source : List ℕ) × Reads line file source × (tells source ≡ [])
 clean_of_texts line None tells texts reads are none = absurd reads
 clean_of_texts line (Some source) tells texts reads are none = (source, reads, none_told line.file source (tells source) line.log texts are none)
 
 -- texts that there are tell something
 told_by : (line : Line) (file : Option (List ℕ)) (tells : List ℕ → List Told) (source : List ℕ) (told : List Told) (texts : List (List ℕ)) (shown : List ℕ) (logged : Option (List ℕ))
-    → tells source ≡ told → AreTextsOf line.file source told (sheets_for line.log) texts → texts ≡ shown ∷ option_to_list logged → Reads line file source → IsReport line file tells shown logged
+    → tells source ≡ told → AreTextsOf line.file source told (sheets_for line.log) texts → texts ≡ shown ∷ option_to_list logged → Reads line file source
+    → IsReport line file tells shown logged
 told_by line file tells source [] texts shown logged same none is reads =
     let never : [] ≡ shown ∷ option_to_list logged = sym none ∙ is in
     cc
@@ -57,8 +64,10 @@ told_by line file tells source (t ∷ ts) texts shown logged same shows is reads
           (subst (λ told. ShowsTold line.file source told (sheets_for line.log) texts) (sym same) shows);
     }
 
-pub report_of_texts : (line : Line) (file : Option (List ℕ)) (tells : List ℕ → List Told) (texts : List (List ℕ)) (shown : List ℕ) (logged : Option (List ℕ)) → IsSomeAnd file (Reads line file)
-    → IfSome file (λ source. AreTextsOf line.file source (tells source) (sheets_for line.log) texts) → texts ≡ shown ∷ option_to_list logged → IsReport line file tells shown logged
+pub report_of_texts : (line : Line) (file : Option (List ℕ)) (tells : List ℕ → List Told) (texts : List (List ℕ)) (shown : List ℕ) (logged : Option (List ℕ))
+    → IsSomeAnd file (Reads line file)
+    → IfSome file (λ source. AreTextsOf line.file source (tells source) (sheets_for line.log) texts) → texts ≡ shown ∷ option_to_list logged
+    → IsReport line file tells shown logged
 report_of_texts line None tells texts shown logged reads are is = absurd reads
 report_of_texts line (Some source) tells texts shown logged reads are is =
     told_by line (Some source) tells source (tells source) texts shown logged refl are is reads
@@ -98,15 +107,18 @@ module _ (words : List Word) (file : Option (List ℕ)) (tells : List ℕ → Li
   of_line : (end : End) → MayEnd line file tells end → MatchOption (line_of words) (end ≡ Misused) (λ l. MayEnd l file tells end)
   of_line end may = subst (λ o. MatchOption o (end ≡ Misused) (λ l. MayEnd l file tells end)) is may
 
-  pub ends_as : (end : End) → MayEnd line file tells end → Out (out_of end) → Err (err_of end) → Log (log_of end) → Ends words file tells (status_of end) Out Err Log
+  pub ends_as : (end : End) → MayEnd line file tells end → Out (out_of end) → Err (err_of end) → Log (log_of end)
+      → Ends words file tells (status_of end) Out Err Log
   ends_as end may out err log = record { end = end; may = of_line end may; status_is = refl; out = out; err = err; log = log }
 
   -- a failure is told, or that there was no memory for that
-  pub ends_failed : (failure : Failure) → Fails line file failure → Out Silent → Err (Tells (message failure)) ⊎ Err (Tells (message Memory)) → Log Silent → Ends words file tells 2 Out Err Log
+  pub ends_failed : (failure : Failure) → Fails line file failure → Out Silent → Err (Tells (message failure)) ⊎ Err (Tells (message Memory)) → Log Silent
+      → Ends words file tells 2 Out Err Log
   ends_failed failure fails out (inl told) log = ends_as (Failed failure) fails out told log
   ends_failed failure fails out (inr told) log = ends_as (Failed Memory) tt out told log
 
-  pub ends_unlogged : (name : Bor Word) (read texts : List (List ℕ)) → read ≡ texts → IsSomeAnd file (Reads line file) → IfSome file (λ source. AreTextsOf line.file source (tells source) (sheets_for line.log) texts)
+  pub ends_unlogged : (name : Bor Word) (read texts : List (List ℕ)) → read ≡ texts → IsSomeAnd file (Reads line file)
+      → IfSome file (λ source. AreTextsOf line.file source (tells source) (sheets_for line.log) texts)
       → AreKept line.log name.now Out Log read → Err (Tells (message (Unwritable name))) ⊎ Err (Tells (message Memory)) → Ends words file tells 2 Out Err Log
   ends_unlogged name read texts same_texts reads are kept (inl told) =
       let (shown, plain, same, log_is, out, log) = kept_texts line.log name.now Out Log texts (subst (AreKept line.log name.now Out Log) same_texts kept) in
@@ -115,13 +127,15 @@ module _ (words : List Word) (file : Option (List ℕ)) (tells : List ℕ → Li
       let (shown, plain, same, log_is, out, log) = kept_texts line.log name.now Out Log texts (subst (AreKept line.log name.now Out Log) same_texts kept) in
       ends_as (Unlogged shown plain Memory) (report_of_texts line file tells texts shown (Some plain) reads are same, tt) out told log
 
-  pub ends_found : (read texts : List (List ℕ)) → read ≡ texts → IsSomeAnd file (Reads line file) → IfSome file (λ source. AreTextsOf line.file source (tells source) (sheets_for line.log) texts)
+  pub ends_found : (read texts : List (List ℕ)) → read ≡ texts → IsSomeAnd file (Reads line file)
+      → IfSome file (λ source. AreTextsOf line.file source (tells source) (sheets_for line.log) texts)
       → AreGiven line.log (λ shown. Out (Whole shown)) Log read → Err Silent → Ends words file tells 1 Out Err Log
   ends_found read texts same_texts reads are given err =
       let (shown, logged, same, out, log) = given_texts line.log (λ shown. Out (Whole shown)) Log texts (subst (AreGiven line.log (λ shown. Out (Whole shown)) Log) same_texts given) in
       ends_as (Found shown logged) (report_of_texts line file tells texts shown logged reads are same) out err log
 
-  pub ends_unprinted : (read texts : List (List ℕ)) → read ≡ texts → IsSomeAnd file (Reads line file) → IfSome file (λ source. AreTextsOf line.file source (tells source) (sheets_for line.log) texts)
+  pub ends_unprinted : (read texts : List (List ℕ)) → read ≡ texts → IsSomeAnd file (Reads line file)
+      → IfSome file (λ source. AreTextsOf line.file source (tells source) (sheets_for line.log) texts)
       → AreGiven line.log (λ shown. Out (CutShort shown)) Log read → Err Silent → Ends words file tells 2 Out Err Log
   ends_unprinted read texts same_texts reads are given err =
       let (shown, logged, same, out, log) = given_texts line.log (λ shown. Out (CutShort shown)) Log texts (subst (AreGiven line.log (λ shown. Out (CutShort shown)) Log) same_texts given) in

@@ -42,11 +42,13 @@ unfolding findings_of first_from
 nothing-after-a-final-line-feed = refl
 
 -- the last finding dropped: of the two tabs of that source the first alone
-last_finding_dropped : record { start = 0; end = 1; text = codes "    " } ∷ [] ≡ findings_of (first_from tab_at (9 ∷ 121 ∷ 9 ∷ 10 ∷ [])) (9 ∷ 121 ∷ 9 ∷ 10 ∷ []) → ⊥
+last_finding_dropped : record { start = 0; end = 1; text = codes "    " } ∷ [] ≡ findings_of (first_from tab_at (9 ∷ 121 ∷ 9 ∷ 10 ∷ [])) (9 ∷ 121 ∷ 9 ∷ 10 ∷ [])
+    → ⊥
 last_finding_dropped same = absurd (omega (arith, ap length (same ∙ two-tabs)))
 
 -- a help without patches, where a rule found something
-report_without_patches : (path source : List ℕ) (f : Finding) (group : Group) (s : Snippet Patch) → group.elements.items ≡ Suggestion s ∷ [] → s.markers.items ≡ [] → IsHelp path source (f ∷ []) group → ⊥
+report_without_patches : (path source : List ℕ) (f : Finding) (group : Group) (s : Snippet Patch) → group.elements.items ≡ Suggestion s ∷ []
+    → s.markers.items ≡ [] → IsHelp path source (f ∷ []) group → ⊥
 report_without_patches path source f group s holds none help =
     let same : help.snippet ≡ s = cc (holds, help.is.elements) in
     let patches : [] ≡ f ∷ [] = ap (map mended_by) (sym none) ∙ ap (λ (t : Snippet Patch). map mended_by t.markers.items) (sym same) ∙ help.patches in

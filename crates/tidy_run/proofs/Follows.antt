@@ -4,7 +4,8 @@ use Rattle.std.specs.Option.{option_to_list}
 use Rattle.std.proofs.lemmas.Slice.Zip.{AllZip-long}
 use Rattle.program.specs.Stream.{Output, Silent, Whole}
 use Rattle.tidy_run.specs.Report.{Told}
-use Rattle.tidy_run.specs.Run.{AreGiven, Clean, End, Ends, Failed, Found, IsReport, IsSource, MayEnd, Misused, ShowsTold, Unlogged, Unprinted, all_logged, err_of, log_of, out_of, sheets_for, status_of}
+use Rattle.tidy_run.specs.Run.{AreGiven, Clean, End, Ends, Failed, Found, IsReport, IsSource, MayEnd, Misused, ShowsTold, Unlogged, Unprinted, all_logged}
+use Rattle.tidy_run.specs.Run.{err_of, log_of, out_of, sheets_for, status_of}
 use Rattle.tidy_run.specs.Words.{Line, Word, line_of}
 
 -- what holds of the source that FILE holds

@@ -1,5 +1,6 @@
 -- How a report is put together, group by group.
-use Rattle.std.proofs.Common.{◌≡◌, ℕ, suc, arith, ◌+◌, ◌<◌, Bool, List, [], ◌∷◌, ◌++◌, Some, None, Ok, Err, Result, IfOk, length, slice_index_or, take, refl, sym, ap, ◌∙◌, subst, append_assoc}
+use Rattle.std.proofs.Common.{◌≡◌, ℕ, suc, arith, ◌+◌, ◌<◌, Bool, List, [], ◌∷◌, ◌++◌, Some, None, Ok, Err, Result, IfOk, length, slice_index_or, take, refl}
+use Rattle.std.proofs.Common.{sym, ap, ◌∙◌, subst, append_assoc}
 use Rattle.std.specs.declared.alloc.AllocError.{AllocError}
 use Rattle.std.specs.Cow.{cow_str_bytes}
 use Rattle.std.specs.List.{flat_map}
@@ -35,7 +36,8 @@ flat_map-join f [] ys = refl
 flat_map-join f (x ∷ xs) ys = ap (λ l. f x ++ l) (flat_map-join f xs ys) ∙ sym (append_assoc (f x) (flat_map f xs) (flat_map f ys))
 
 -- one report after another
-pub report-join : (path source : List ℕ) (told more : List Told) (groups others : List Group) → IsReportOf path source told groups → IsReportOf path source more others → IsReportOf path source (told ++ more) (groups ++ others)
+pub report-join : (path source : List ℕ) (told more : List Told) (groups others : List Group) → IsReportOf path source told groups
+    → IsReportOf path source more others → IsReportOf path source (told ++ more) (groups ++ others)
 report-join path source [] more [] others is are = are
 report-join path source [] more (g ∷ groups) others is are = absurd is
 report-join path source (t ∷ told) more [] others is are = absurd is

@@ -1,5 +1,6 @@
 -- The groups that tell of findings are within the library's bounds.
-use Rattle.std.proofs.Common.{true, false, Global, ◌≡◌, ℕ, zero, suc, ◌+◌, ◌*◌, ◌^◌, ◌<◌, ◌≤◌, ◌++◌, Bool, List, [], ◌∷◌, Option, Some, None, All, IfSome, length, map, nat_lt, sym, ap, ◌∙◌, subst, arith, lit<, codes, if◌then◌else◌}
+use Rattle.std.proofs.Common.{true, false, Global, ◌≡◌, ℕ, zero, suc, ◌+◌, ◌*◌, ◌^◌, ◌<◌, ◌≤◌, ◌++◌, Bool, List, [], ◌∷◌, Option, Some, None, All, IfSome}
+use Rattle.std.proofs.Common.{length, map, nat_lt, sym, ap, ◌∙◌, subst, arith, lit<, codes, if◌then◌else◌}
 use Rattle.std.specs.Cow.{cow_str_bytes}
 use Rattle.std.specs.declared.borrow.CowStr.{CowStr}
 use Rattle.std.specs.List.{sum_by}
@@ -83,13 +84,15 @@ source-fits : {T : Type 0} (path source : List ℕ) (s : Snippet T) → IsOfFile
 source-fits path source s of fits = subst TextFits (sym of.source_is) fits
 
 -- a title of a level whose name fits, without an id
-title-fits : (level : Level) (text : List ℕ) (trusted : Bool) (element : Element) (g : Group) → IsGroupOf level text trusted element g → LevelFits level → TextFits text → IfSome g.title TitleFits
+title-fits : (level : Level) (text : List ℕ) (trusted : Bool) (element : Element) (g : Group) → IsGroupOf level text trusted element g → LevelFits level
+    → TextFits text → IfSome g.title TitleFits
 title-fits level text trusted element g of name fits =
     subst (λ t. IfSome t TitleFits) (sym of.titled)
     (subst LevelFits (sym of.level_is) name, subst TextFits (sym of.text_is) fits, subst (λ i. IfSome i IdFits) (sym of.id) tt)
 
 -- a group of a title that fits, and one element that fits and has no fault
-group-within : (level : Level) (text : List ℕ) (trusted : Bool) (element : Element) (g : Group) → IsGroupOf level text trusted element g → LevelFits level → TextFits text
+group-within : (level : Level) (text : List ℕ) (trusted : Bool) (element : Element) (g : Group) → IsGroupOf level text trusted element g → LevelFits level
+    → TextFits text
     → ElementFits element → ((n : ℕ) → element_faults n 0 element ≡ []) → IsGroupWithinBounds g
 group-within level text trusted element g of name fits element_fits clear =
     record {
@@ -98,7 +101,8 @@ group-within level text trusted element g of name fits element_fits clear =
     }
 
 -- a warning is within bounds
-warning-within : (path source title : List ℕ) (found : List Finding) (g : Group) → IsWarning path source title found g → IsTitle title → IsToldOf path source found → IsGroupWithinBounds g
+warning-within : (path source title : List ℕ) (found : List Finding) (g : Group) → IsWarning path source title found g → IsTitle title
+    → IsToldOf path source found → IsGroupWithinBounds g
 warning-within path source title found g is titled of =
     let s : Snippet Annotation = is.snippet in
     let Clear : List ℕ → Annotation → Type 0 = λ text a. span_fault text a.span.start a.span.end ≡ None in
@@ -143,7 +147,8 @@ help-within path source found g is of =
     (λ n. suggestion-clear n 0 s spans (patches-apart source 0 ps inside) numbers)
 
 -- what tells of a rule's findings is
-pub told-within : (path source title : List ℕ) (found : List Finding) (groups : List Group) → IsReportOf path source (told_of title found) groups → IsTitle title → IsToldOf path source found → All IsGroupWithinBounds groups
+pub told-within : (path source title : List ℕ) (found : List Finding) (groups : List Group) → IsReportOf path source (told_of title found) groups
+    → IsTitle title → IsToldOf path source found → All IsGroupWithinBounds groups
 told-within path source title [] [] is titled of = All-nil IsGroupWithinBounds
 told-within path source title [] (g ∷ groups) is titled of = absurd is
 told-within path source title (f ∷ fs) [] is titled of = absurd is

@@ -1,5 +1,6 @@
 -- The texts of a run: one for each sheet, if any, and what is written of them is what shows the findings.
-use Rattle.std.proofs.Common.{◌≡◌, ◌≢◌, ℕ, Vec, refl, List, [], ◌∷◌, Option, None, Some, IfSome, IsSomeAnd, String, Global, inl, inr, ◌⊎◌, length, map, ap, string_bytes, sym, ◌∙◌}
+use Rattle.std.proofs.Common.{◌≡◌, ◌≢◌, ℕ, Vec, refl, List, [], ◌∷◌, Option, None, Some, IfSome, IsSomeAnd, String, Global, inl, inr, ◌⊎◌, length, map, ap}
+use Rattle.std.proofs.Common.{string_bytes, sym, ◌∙◌}
 use Rattle.std.specs.Prelude.{IfOk}
 use Rattle.std.specs.declared.alloc.AllocError.{AllocError}
 use Rattle.std.specs.declared.result.Result.{Result}
@@ -14,7 +15,8 @@ use Rattle.tidy_run.specs.Report.{IsReportOf, Told}
 use Rattle.tidy_run.specs.Run.{AreTextsOf, ShowsTold}
 
 -- there is no text of a report, or one for each sheet
-counted : (path source : List ℕ) (told : List Told) (sheets : List Stylesheet) (texts : List (List ℕ)) → AreTextsOf path source told sheets texts → (texts ≡ []) ⊎ (length texts ≡ length sheets)
+counted : (path source : List ℕ) (told : List Told) (sheets : List Stylesheet) (texts : List (List ℕ)) → AreTextsOf path source told sheets texts
+    → (texts ≡ []) ⊎ (length texts ≡ length sheets)
 counted path source [] sheets texts none = inl none
 counted path source (t ∷ ts) sheets texts shown = inr (AllZip-long _ sheets texts shown.shows.printed)
 

@@ -1,5 +1,6 @@
 //! A run of the program, over the bytes of a file and three writers.
-ghost use Rattle.std.specs.Prelude.{◌≡◌, ◌≢◌, ◌≤◌, ◌⊎◌, [], ◌++◌, None, IsOk, IsNone, IfErr, IfOk, IfSome, IsSomeAnd, MatchOption, SomeIff, codes, length, map, string_bytes};
+ghost use Rattle.std.specs.Prelude.{◌≡◌, ◌≢◌, ◌≤◌, ◌⊎◌, [], ◌++◌, None, IsOk, IsNone, IfErr, IfOk, IfSome, IsSomeAnd};
+ghost use Rattle.std.specs.Prelude.{MatchOption, SomeIff, codes, length, map, string_bytes};
 ghost use Rattle.std.specs.List.{flat_map};
 ghost use Rattle.std.specs.Option.{option_copied};
 ghost use Rattle.annotate_snippets.specs.Fault.{IsWithinBounds};
@@ -9,7 +10,8 @@ ghost use Rattle.annotate_snippets.specs.Settings.{plain_settings};
 ghost use Rattle.program.specs.Stream.{Receives, Told};
 ghost use Rattle.tidy_run.specs.Findings.{findings_of};
 ghost use Rattle.tidy_run.specs.Report.{told_of};
-ghost use Rattle.tidy_run.specs.Run.{AreTextsOf, Becomes, Ends, Fails, IsSource, Reads, message, sheets_for, shown_name};
+ghost use Rattle.tidy_run.specs.Run.{AreTextsOf, Becomes, Ends, Fails, IsSource, Reads, message, sheets_for};
+ghost use Rattle.tidy_run.specs.Run.{shown_name};
 ghost use Rattle.tidy_run.specs.Words.{line_of, said, words_at};
 
 use crate::lint::lint;

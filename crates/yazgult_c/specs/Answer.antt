@@ -37,13 +37,7 @@ renderer_of s =
 -- a refusal as an answer; that there was no memory is no refusal
 abbrev pub answer_of_refusal : RenderError → Answer
 answer_of_refusal (refusal.Memory refused) = Memory
-answer_of_refusal refusal.NoGroup = Refused refusal.NoGroup
-answer_of_refusal refusal.NoTitle = Refused refusal.NoTitle
-answer_of_refusal (refusal.SpanReversed group element marker) = Refused (refusal.SpanReversed group element marker)
-answer_of_refusal (refusal.SpanPastEnd group element marker) = Refused (refusal.SpanPastEnd group element marker)
-answer_of_refusal (refusal.SpanOffBoundary group element marker) = Refused (refusal.SpanOffBoundary group element marker)
-answer_of_refusal (refusal.PatchesOverlap group element first second) = Refused (refusal.PatchesOverlap group element first second)
-answer_of_refusal (refusal.LineNumberTooLarge group element) = Refused (refusal.LineNumberTooLarge group element)
+answer_of_refusal other = Refused other
 
 -- what was drawn, or not, as an answer
 abbrev pub answer_of : Result (Vec (String Global) Global) RenderError → Answer

@@ -61,49 +61,7 @@ fn refused(refusal: RenderError) -> Answer
 {
     match refusal {
         RenderError::Memory(_) => Answer::Memory,
-        RenderError::NoGroup => Answer::Refused(RenderError::NoGroup),
-        RenderError::NoTitle => Answer::Refused(RenderError::NoTitle),
-        RenderError::SpanReversed {
-            group,
-            element,
-            marker,
-        } => Answer::Refused(RenderError::SpanReversed {
-            group,
-            element,
-            marker,
-        }),
-        RenderError::SpanPastEnd {
-            group,
-            element,
-            marker,
-        } => Answer::Refused(RenderError::SpanPastEnd {
-            group,
-            element,
-            marker,
-        }),
-        RenderError::SpanOffBoundary {
-            group,
-            element,
-            marker,
-        } => Answer::Refused(RenderError::SpanOffBoundary {
-            group,
-            element,
-            marker,
-        }),
-        RenderError::PatchesOverlap {
-            group,
-            element,
-            first,
-            second,
-        } => Answer::Refused(RenderError::PatchesOverlap {
-            group,
-            element,
-            first,
-            second,
-        }),
-        RenderError::LineNumberTooLarge { group, element } => {
-            Answer::Refused(RenderError::LineNumberTooLarge { group, element })
-        }
+        other => Answer::Refused(other),
     }
 }
 

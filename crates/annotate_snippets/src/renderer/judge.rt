@@ -2,7 +2,8 @@
 ghost use Rattle.std.specs.Prelude.{◌≡◌, ◌+◌, ◌<◌, ◌≤◌, ◌^◌, IfSome};
 ghost use Rattle.std.specs.Option.{SomeIff};
 ghost use Rattle.snippet_model.specs.declared.snippet.Element.TheVariants.{Cause, Suggestion};
-ghost use Rattle.annotate_snippets.specs.Fault.{refusal_of, span_faults, number_after_lines, added_lines, element_faults, end_faults, faults_from, first_of, number_faults};
+ghost use Rattle.annotate_snippets.specs.Fault.{refusal_of, span_faults, number_after_lines, added_lines};
+ghost use Rattle.annotate_snippets.specs.Fault.{element_faults, end_faults, faults_from, first_of, number_faults};
 ghost use Rattle.annotate_snippets.specs.Fault as spec;
 
 use crate::renderer::error::RenderError;

@@ -4,7 +4,8 @@
 //! ```text
 //! src/main.rs:1:5: error: unused: here
 //! ```
-ghost use Rattle.std.specs.Prelude.{◌≡◌, ◌<◌, ◌^◌, ℕ, Bool, true, List, ◌++◌, ◌∷◌, [], chars, length, All, Some, IfOk, IfSome, OnOk, string_bytes};
+ghost use Rattle.std.specs.Prelude.{◌≡◌, ◌<◌, ◌^◌, ℕ, Bool, true, List, ◌++◌, ◌∷◌, [], chars, length, All, Some, IfOk};
+ghost use Rattle.std.specs.Prelude.{IfSome, OnOk, string_bytes};
 ghost use Rattle.std.specs.Option.{option_copied};
 ghost use Rattle.std.specs.Str.{IsUtf8};
 ghost use Rattle.snippet_lines.specs.Span.{IsSpan};

@@ -4,7 +4,8 @@
 //! error: unused
 //!  at src/main.rs:1:5: here
 //! ```
-ghost use Rattle.std.specs.Prelude.{◌≡◌, ◌≢◌, ◌+◌, ◌^◌, ◌<◌, ◌++◌, [], All, List, None, IfOk, IfSome, OnOk, filter, map, true};
+ghost use Rattle.std.specs.Prelude.{◌≡◌, ◌≢◌, ◌+◌, ◌^◌, ◌<◌, ◌++◌, [], All, List, None, IfOk, IfSome, OnOk, filter};
+ghost use Rattle.std.specs.Prelude.{map, true};
 ghost use Rattle.std.specs.Option.{option_copied};
 ghost use Rattle.annotate_snippets.specs.Around as around;
 ghost use Rattle.annotate_snippets.specs.Prepared.{IsDrawable, IsElementDrawable, IsGroupDrawable};

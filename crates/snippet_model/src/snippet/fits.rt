@@ -2,7 +2,8 @@
 
 ghost use Rattle.std.specs.Prelude.{◌↔◌, IsTrue, IfSome};
 ghost use Rattle.std.specs.Cow.{cow_str_bytes};
-ghost use Rattle.snippet_model.specs.Fits.{AnnotationFits, ElementFits, GroupFits, IdFits, LevelFits, PatchFits, ReportFits, SnippetFits, TextFits, TitleFits};
+ghost use Rattle.snippet_model.specs.Fits.{AnnotationFits, ElementFits, GroupFits, IdFits, LevelFits, PatchFits};
+ghost use Rattle.snippet_model.specs.Fits.{ReportFits, SnippetFits, TextFits, TitleFits};
 
 use super::{Annotation, Element, Group, Id, Message, Patch, Snippet, Title};
 use crate::level::Level;

@@ -20,7 +20,8 @@ references_fit : (ws : List (Bor Word)) → All TextFits (words_at ws) → All F
 references_fit ws all k d within =
     subst TextFits (get_or-map (λ (w : Bor Word). w.now) ws k d d.now within) (all k d.now (omega (arith, length-map ws (λ (w : Bor Word). w.now))))
 
-words_fit : (ws : List (Bor Word)) (r : Bool) → MatchBool r (AllWithin Fits ws 0 (length ws)) ((k : ℕ) × (k < length ws) × HoldsAt Exceeds ws k) → IsTrue r → All TextFits (words_at ws)
+words_fit : (ws : List (Bor Word)) (r : Bool) → MatchBool r (AllWithin Fits ws 0 (length ws)) ((k : ℕ) × (k < length ws) × HoldsAt Exceeds ws k) → IsTrue r
+    → All TextFits (words_at ws)
 words_fit ws true all h = All-map TextFits (λ (w : Bor Word). w.now) ws (All-from_all_within Fits ws all)
 words_fit ws false some h = absurd (false≢true h)
 

@@ -1,11 +1,13 @@
-use Rattle.std.proofs.Common.{◌≡◌, ℕ, ◌+◌, ◌-◌, ◌≤◌, List, ◌++◌, Bor, Option, Some, None, IsSome, IfSome, IsSomeAnd, length, take, drop, refl, sym, ap, ◌∙◌, subst, arith}
+use Rattle.std.proofs.Common.{◌≡◌, ℕ, ◌+◌, ◌-◌, ◌≤◌, List, ◌++◌, Bor, Option, Some, None, IsSome, IfSome, IsSomeAnd, length, take, drop, refl, sym, ap, ◌∙◌}
+use Rattle.std.proofs.Common.{subst, arith}
 use Rattle.std.proofs.lemmas.List.{take_all, length-drop}
 use Rattle.std.proofs.lemmas.List.Elements.{All-nil}
 use Rattle.std.proofs.lemmas.Grind.{common_steps}
 use Rattle.report_options.specs.declared.options.Options.{Options}
 use Rattle.snip_run.specs.declared.words.Command.{Command}
 use Rattle.snip_run.specs.declared.words.Operands.{Operands}
-use Rattle.snip_run.specs.Words.{Word, words_at, words_of, no_options, Line, operands_of, line_of, HasOperands, AreLine, IsSound, IsCommandOf, TakesOption, Says}
+use Rattle.snip_run.specs.Words.{Word, words_at, words_of, no_options, Line, operands_of, line_of, HasOperands, AreLine, IsSound, IsCommandOf, TakesOption}
+use Rattle.snip_run.specs.Words.{Says}
 use Rattle.snip_run.proofs.Reading.{Continues, BeginsNone, continues_more, continues_all, only_operands}
 use Rattle.snip_run.proofs.words.command_of.Goals as goal
 
@@ -17,13 +19,15 @@ drop-drop : (at count : ℕ) (ws : List (Bor Word)) → drop count (drop at ws) 
 drop-drop at count ws = grind (arith, common_steps)
 
 -- an option at `at` is followed by words within the list
-within : (ws : List (Bor Word)) (at count : ℕ) (old new : Options) → at ≤ length ws → TakesOption (take (length ws - at) (drop at ws)) old new count → at + count ≤ length ws
+within : (ws : List (Bor Word)) (at count : ℕ) (old new : Options) → at ≤ length ws → TakesOption (take (length ws - at) (drop at ws)) old new count
+    → at + count ≤ length ws
 within ws at count old new inside taken =
     let t = subst (λ (rest : List (Bor Word)). TakesOption rest old new count) (sliced ws at) taken in
     omega (arith, t.within, length-drop at ws)
 
 -- what the loop keeps goes on after an option
-after : (ws : List (Bor Word)) (at count : ℕ) (old new : Options) → Continues (words_at ws) (words_at (drop at ws)) old → TakesOption (take (length ws - at) (drop at ws)) old new count → Continues (words_at ws) (words_at (drop (at + count) ws)) new
+after : (ws : List (Bor Word)) (at count : ℕ) (old new : Options) → Continues (words_at ws) (words_at (drop at ws)) old
+    → TakesOption (take (length ws - at) (drop at ws)) old new count → Continues (words_at ws) (words_at (drop (at + count) ws)) new
 after ws at count old new so_far taken =
     let t = subst (λ (rest : List (Bor Word)). TakesOption rest old new count) (sliced ws at) taken in
     let begins = t.begins ∙ ap (λ (rest : List (Bor Word)). words_of t.setting ++ words_at rest) (drop-drop at count ws) in

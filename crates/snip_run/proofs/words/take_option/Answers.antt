@@ -4,7 +4,8 @@ use Rattle.snip_run.specs.Words.{Word, words_at, Width}
 use Rattle.snip_run.proofs.words.take_option.Goals as goal
 
 -- two words, of which the first is known, and those after them
-two_words : (ws : List (Bor Word)) (d : Bor Word) (name : Word) → 2 ≤ length ws → (get_or ws 0 d).now ≡ name → words_at ws ≡ name ∷ (get_or ws 1 d).now ∷ words_at (drop 2 ws)
+two_words : (ws : List (Bor Word)) (d : Bor Word) (name : Word) → 2 ≤ length ws → (get_or ws 0 d).now ≡ name
+    → words_at ws ≡ name ∷ (get_or ws 1 d).now ∷ words_at (drop 2 ws)
 two_words [] d name h is = absurd (omega arith)
 two_words (a ∷ []) d name h is = absurd (omega arith)
 two_words (a ∷ b ∷ ws) d name h is = ap (λ (w : Word). w ∷ b.now ∷ words_at ws) is

@@ -1,4 +1,5 @@
-use Rattle.std.proofs.Common.{◌≡◌, ◌∙◌, ◌++◌, ◌+◌, ◌-◌, ◌*◌, ◌<◌, ◌≤◌, ◌^◌, ap, arith, refl, sym, subst, min, string_bytes, get_or, length, take, drop, List, ℕ, All}
+use Rattle.std.proofs.Common.{◌≡◌, ◌∙◌, ◌++◌, ◌+◌, ◌-◌, ◌*◌, ◌<◌, ◌≤◌, ◌^◌, ap, arith, refl, sym, subst, min, string_bytes, get_or, length, take, drop, List, ℕ}
+use Rattle.std.proofs.Common.{All}
 use Rattle.std.proofs.lemmas.Result.{on_ok_weaker, on_err_weaker}
 use Rattle.snippet_grid.proofs.ChangeLemmas.{cells_changed_none}
 use Rattle.snippet_grid.proofs.GridChanged.{IsExchanged, IsGrid-put, FitIn-put, grid_changed}

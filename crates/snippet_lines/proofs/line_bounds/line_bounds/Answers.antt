@@ -5,7 +5,8 @@ use Rattle.snippet_lines.proofs.PlaceLemmas.{HoldsByte-source, line_of-is}
 use Rattle.snippet_lines.proofs.BoundsLemmas.{bounds-around, same_line}
 use Rattle.snippet_lines.proofs.line_bounds.line_bounds.Goals as goal
 
-bounds : (c : goal.After-line_end) → (c.line_start.result ≡ start_of (source_lines c.args.source.now) (line_of (source_lines c.args.source.now) c.args.byte)) × (c.line_end.result ≡ start_of (source_lines c.args.source.now) (line_of (source_lines c.args.source.now) c.args.byte + 1))
+bounds : (c : goal.After-line_end)
+    → (c.line_start.result ≡ start_of (source_lines c.args.source.now) (line_of (source_lines c.args.source.now) c.args.byte)) × (c.line_end.result ≡ start_of (source_lines c.args.source.now) (line_of (source_lines c.args.source.now) c.args.byte + 1))
 bounds c =
     let start : ℕ = c.line_start.result in
     let end : ℕ = c.line_end.result in

@@ -13,7 +13,8 @@ use Rattle.snippet_parts.specs.Stretches.{is_seen}
 use Rattle.snippet_parts.proofs.annotated_lines.located_lines.Goals as goal
 
 -- one more line
-more : (f : ℕ → KeptLine) (ks : List ℕ) (i : ℕ) (now new : List AnnotatedLineInfo) (info : AnnotatedLineInfo) → i < length ks → new ≡ now ++ info ∷ [] → seen_kept info ≡ f (get_or ks i 0) → map seen_kept now ≡ map f (take i ks) → map seen_kept new ≡ map f (take (i + 1) ks)
+more : (f : ℕ → KeptLine) (ks : List ℕ) (i : ℕ) (now new : List AnnotatedLineInfo) (info : AnnotatedLineInfo) → i < length ks → new ≡ now ++ info ∷ []
+    → seen_kept info ≡ f (get_or ks i 0) → map seen_kept now ≡ map f (take i ks) → map seen_kept new ≡ map f (take (i + 1) ks)
 more f ks i now new info within pushed is before =
     ap (map seen_kept) pushed ∙ map_push seen_kept now info ∙ ap (λ ls. ls ++ seen_kept info ∷ []) before ∙ ap (λ l. map f (take i ks) ++ l ∷ []) is ∙ sym (map_more f ks i 0 within)
 

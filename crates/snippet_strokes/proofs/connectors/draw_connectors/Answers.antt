@@ -12,7 +12,8 @@ use Rattle.snippet_marks.proofs.WriteLemmas.{painted_more}
 use Rattle.snippet_strokes.proofs.connectors.draw_connectors.Goals as goal
 
 -- lines to bars add no row
-count_kept : (layout : Layout) (row i : ℕ) (es : List PlacedEntry) (old mid : List (List Cell)) → mid ≡ painted (connectors_of layout row (take i es)) old → All (HasRows row (length old)) es → length mid ≡ length old
+count_kept : (layout : Layout) (row i : ℕ) (es : List PlacedEntry) (old mid : List (List Cell)) → mid ≡ painted (connectors_of layout row (take i es)) old
+    → All (HasRows row (length old)) es → length mid ≡ length old
 count_kept layout row i es old mid so_far rows =
     ap length so_far ∙ (DrawsFrom-connectors layout row (take i es) old (All-take (HasRows row (length old)) i es rows)).count
 

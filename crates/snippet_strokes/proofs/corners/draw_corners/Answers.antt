@@ -13,7 +13,9 @@ use Rattle.snippet_marks.proofs.WriteLemmas.{painted_more}
 use Rattle.snippet_strokes.proofs.corners.draw_corners.Goals as goal
 
 -- bars add no row
-count_kept : (layout : Layout) (row i : ℕ) (es : List PlacedEntry) (old mid : List (List Cell)) → mid ≡ painted (corners_of layout row (length old) (take i es)) old → All (λ (e : PlacedEntry). HasBarCell layout e.entry) es → All (HasRows (row + 1) (length old)) es → length mid ≡ length old
+count_kept : (layout : Layout) (row i : ℕ) (es : List PlacedEntry) (old mid : List (List Cell))
+    → mid ≡ painted (corners_of layout row (length old) (take i es)) old → All (λ (e : PlacedEntry). HasBarCell layout e.entry) es
+    → All (HasRows (row + 1) (length old)) es → length mid ≡ length old
 count_kept layout row i es old mid so_far bar_cells rows =
     let n = length old in
     ap length so_far ∙ (DrawsBarCells-corners layout row (take i es) old (All-take (λ (e : PlacedEntry). HasBarCell layout e.entry) i es bar_cells) (All-take (HasRows (row + 1) n) i es rows)).draws.count

@@ -13,7 +13,8 @@ use Rattle.snippet_marks.proofs.WriteLemmas.{painted_more}
 use Rattle.snippet_strokes.proofs.labels.draw_labels.Goals as goal
 
 -- labels add no row
-count_kept : (layout : Layout) (row i : ℕ) (es : List PlacedEntry) (old mid : List (List Cell)) → mid ≡ painted (labels_of layout row (take i es)) old → All (λ e. HasPlace e.entry) es → All (HasRows row (length old)) es → length mid ≡ length old
+count_kept : (layout : Layout) (row i : ℕ) (es : List PlacedEntry) (old mid : List (List Cell)) → mid ≡ painted (labels_of layout row (take i es)) old
+    → All (λ e. HasPlace e.entry) es → All (HasRows row (length old)) es → length mid ≡ length old
 count_kept layout row i es old mid so_far places rows =
     ap length so_far ∙ (DrawsFrom-labels layout row 0 (take i es) old (All-take (λ (e : PlacedEntry). HasPlace e.entry) i es places) (All-take (HasRows row (length old)) i es rows) (λ k d within. omega arith)).count
 

@@ -1,5 +1,6 @@
 use mir.Val.{bool_byte}
-use Rattle.std.proofs.Common.{◌≡◌, ℕ, ◌-◌, ◌<◌, List, ap, append_assoc, arith, chars, length, refl, take, Bool, [], ◌∷◌, ◌++◌, OnOk, false, true, inl, inr, subst, sym, ◌∙◌}
+use Rattle.std.proofs.Common.{◌≡◌, ℕ, ◌-◌, ◌<◌, List, ap, append_assoc, arith, chars, length, refl, take, Bool, [], ◌∷◌, ◌++◌, OnOk, false, true, inl, inr}
+use Rattle.std.proofs.Common.{subst, sym, ◌∙◌}
 use Rattle.std.proofs.lemmas.Bool.{cases_Bool}
 use Rattle.std.proofs.lemmas.Result.{on_ok_weaker}
 use Rattle.std.specs.Str.{bytes_eq}

@@ -12,5 +12,6 @@ invariant-loop-column l = record {
       → IsStrokeRow l.layout.frame.decor l.layout.frame.gutter left last → IsMarkOrSpace l.layout.frame.decor l.mark
       → AddsRow (IsStrokeRow l.layout.frame.decor l.layout.frame.gutter left) above l.buffer;
   within : l.column ≤ max l.start l.column-end;
-  cells : (above : List (List Cell)) (last : List Cell) → l.row ≡ length above → l.initial.buffer ≡ above ++ last ∷ [] → l.buffer ≡ above ++ put Addition (replicate (l.column - l.start) l.mark) (l.layout.frame.gutter + 3 + l.start) last ∷ [];
+  cells : (above : List (List Cell)) (last : List Cell) → l.row ≡ length above → l.initial.buffer ≡ above ++ last ∷ []
+      → l.buffer ≡ above ++ put Addition (replicate (l.column - l.start) l.mark) (l.layout.frame.gutter + 3 + l.start) last ∷ [];
 }

@@ -1,5 +1,6 @@
 use denote.Enum.Bare.{same_true, true_same}
-use Rattle.std.proofs.Common.{◌≡◌, ◌≢◌, ℕ, ◌+◌, ◌<◌, ◌∷◌, ◌++◌, ◌∙◌, [], All, List, ap, append_assoc, arith, if◌then◌else◌, length, map, replicate, rules, subst, sym}
+use Rattle.std.proofs.Common.{◌≡◌, ◌≢◌, ℕ, ◌+◌, ◌<◌, ◌∷◌, ◌++◌, ◌∙◌, [], All, List, ap, append_assoc, arith, if◌then◌else◌, length, map, replicate, rules}
+use Rattle.std.proofs.Common.{subst, sym}
 use Rattle.std.proofs.lemmas.List.{append-nil, length-map}
 use Rattle.snippet_grid.specs.Grid.{row_at}
 use Rattle.snippet_style.specs.Cell.{Cell}

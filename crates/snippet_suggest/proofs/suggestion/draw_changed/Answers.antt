@@ -17,7 +17,8 @@ use Rattle.snippet_suggest.specs.Cells.{begin_cells, diff_cells}
 use Rattle.snippet_suggest.specs.Suggested.{new_on, replaced_on}
 use Rattle.snippet_suggest.proofs.KnownDiff.{IsDiff, known_diff, known_diff_rows}
 use Rattle.snippet_suggest.proofs.SuggestedRows.{body_diff, body_untouched}
-use Rattle.snippet_suggest.specs.Given.{shown_kind, given_lines, given_ranges, is_left_out, last_reached, last_removed, removed_lines, texts_at, trimmed_of, unless_stays}
+use Rattle.snippet_suggest.specs.Given.{shown_kind, given_lines, given_ranges, is_left_out, last_reached, last_removed, removed_lines, texts_at, trimmed_of}
+use Rattle.snippet_suggest.specs.Given.{unless_stays}
 use Rattle.snippet_suggest.specs.Order.{Begins, SuggestionRow, changed_rows, counted_from, removed_from, removed_row, rows_of_suggestion}
 use Rattle.snippet_suggest.specs.Rows.{AddsRows}
 use Rattle.snippet_suggest.specs.Shown.{is_touched}

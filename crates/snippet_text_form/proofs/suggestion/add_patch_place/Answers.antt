@@ -11,7 +11,8 @@ use Rattle.snippet_text_form.specs.Suggestion.{replaces_whole_line, overwrites, 
 use Rattle.snippet_text_form.proofs.AddedLemmas.{text-two}
 use Rattle.snippet_text_form.proofs.SuggestionLemmas.{other_place, replaced_place, seen_over}
 use Rattle.snippet_text_form.proofs.suggestion.add_patch_place.Goals as goal
-use Rattle.snippet_text_form.proofs.suggestion.add_patch_place.Goals.{else-overwrites-via-then-overwrites+else-not-is_blank, else-overwrites-via-else-overwrites}
+use Rattle.snippet_text_form.proofs.suggestion.add_patch_place.Goals.{else-overwrites-via-then-overwrites+else-not-is_blank}
+use Rattle.snippet_text_form.proofs.suggestion.add_patch_place.Goals.{else-overwrites-via-else-overwrites}
 
 pub returns-in_ok-add_place : goal.returns-in_ok-add_place
 returns-in_ok-add_place c =

@@ -105,7 +105,8 @@ draw_snippet-requires-clause-columns c =
     infos_all (λ info. All HasPlace info.annotations.items) lines (lines_places (numbered_source s) s.markers.items drawable.spans (shown_lines s.fold (cow_str_bytes s.source) s.markers.items) (infos_of lines) (shown_is c) drawable.source)
 
 -- the lines that are kept, as the margin sees them
-kept_is : (c : After-deref-2) → map seen_kept (kept_of c.deref.result.now) ≡ annotated_lines c.args.cause.snippet.now.fold (numbered_source c.args.cause.snippet.now) c.args.cause.snippet.now.markers.items
+kept_is : (c : After-deref-2)
+    → map seen_kept (kept_of c.deref.result.now) ≡ annotated_lines c.args.cause.snippet.now.fold (numbered_source c.args.cause.snippet.now) c.args.cause.snippet.now.markers.items
 kept_is c =
     ap (map seen_kept) (ap kept_of c.deref.ensures.value ∙ c.in_ok-lines.ensures.kept_are) ∙ c.requires.prepared.kept_are
 

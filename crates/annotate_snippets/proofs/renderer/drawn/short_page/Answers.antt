@@ -3,7 +3,8 @@ use Rattle.std.specs.Option.{option_copied}
 use Rattle.annotate_snippets.specs.declared.renderer.graphic.GroupGrid.{GroupGrid}
 use Rattle.annotate_snippets.proofs.FaultLemmas.{first-there, title-there}
 use Rattle.annotate_snippets.proofs.renderer.drawn.short_page.Goals as goal
-use Rattle.annotate_snippets.proofs.renderer.drawn.short_page.Goals.{in-Some+in-Some-title+in_ok-short_grid+in_ok-push, in_default, in_default-via-in-None-1, in_default-via-in-Some+in-None-1}
+use Rattle.annotate_snippets.proofs.renderer.drawn.short_page.Goals.{in-Some+in-Some-title+in_ok-short_grid+in_ok-push, in_default, in_default-via-in-None-1}
+use Rattle.annotate_snippets.proofs.renderer.drawn.short_page.Goals.{in_default-via-in-Some+in-None-1}
 
 pub returns : goal.returns
 returns c =

@@ -7,7 +7,8 @@ use Rattle.snippet_grid.proofs.WovenLemmas.{Prints-from_adds, IsWoven-from_print
 use Rattle.snippet_grid.proofs.grid.StyledBuffer.render.Goals as goal
 
 -- what is added to no text prints the rows
-printed : (c : goal.After-array_drop-codes-inside) (new : List ℕ) → AddsRows c.new-codes.result c.args.level c.args.self.now (string_bytes c.new.result) new → Prints c.args.sheet.now c.args.level c.args.self.now new
+printed : (c : goal.After-array_drop-codes-inside) (new : List ℕ) → AddsRows c.new-codes.result c.args.level c.args.self.now (string_bytes c.new.result) new
+    → Prints c.args.sheet.now c.args.level c.args.self.now new
 printed c new adds =
     let under : AddsRows c.args.sheet.now c.args.level c.args.self.now (string_bytes c.new.result) new = subst (λ sheet. AddsRows sheet c.args.level c.args.self.now (string_bytes c.new.result) new) c.new-codes.ensures.sheet adds in
     Prints-from_adds c.args.sheet.now c.args.level c.args.self.now _ _ _ refl c.new.ensures.bytes under

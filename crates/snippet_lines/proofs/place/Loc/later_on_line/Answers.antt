@@ -9,7 +9,8 @@ use Rattle.snippet_lines.proofs.PlaceLemmas.{chars-later}
 use Rattle.snippet_lines.proofs.place.Loc.later_on_line.Goals as goal
 
 -- what stands before the byte is what stands before the earlier one, and what is walked
-walked : (c : goal.After-struct_known-3-1) → chars (take (c.args.byte - c.args.start) c.args.text.now) ≡ chars (take (c.args.self.byte - c.args.start) c.args.text.now) ++ chars c.range-between.result.now
+walked : (c : goal.After-struct_known-3-1)
+    → chars (take (c.args.byte - c.args.start) c.args.text.now) ≡ chars (take (c.args.self.byte - c.args.start) c.args.text.now) ++ chars c.range-between.result.now
 walked c =
     let order : c.args.self.byte - c.args.start ≤ c.args.byte - c.args.start = omega (arith, c.requires.later) in
     chars-later c.args.text.now c.range-between.result.now (c.args.self.byte - c.args.start) (c.args.byte - c.args.start) c.min-from.result c.min-to.result c.utf8.text c.requires.here_border order c.min-from.ensures c.min-to.ensures c.range-between.ensures.value

@@ -9,7 +9,8 @@ text_of_line-requires c =
     let same : length (source_lines m.source.now) ≡ length (source_lines c.args.self.now.text) = ap (λ (s : Source). length (source_lines s.text)) c.self.view_is in
     record { within = omega (arith, same, length-table m.source.now m.starts.items c.self.invariant.starts_are, m.starts.ok.0, c.if-index-len.true, c.len.ensures) }
 
-found : (c : goal.After-t13-1) → (Some c.text_of_line.result.now ≡ line_at c.args.self.now c.args.number) × StandsAt c.args.self.now.text c.text_of_line.result.now (start_of (source_lines c.args.self.now.text) (c.args.number - c.args.self.now.first))
+found : (c : goal.After-t13-1)
+    → (Some c.text_of_line.result.now ≡ line_at c.args.self.now c.args.number) × StandsAt c.args.self.now.text c.text_of_line.result.now (start_of (source_lines c.args.self.now.text) (c.args.number - c.args.self.now.first))
 found c =
     let m = c.self.inside in
     let same : length (source_lines m.source.now) ≡ length (source_lines c.args.self.now.text) = ap (λ (s : Source). length (source_lines s.text)) c.self.view_is in

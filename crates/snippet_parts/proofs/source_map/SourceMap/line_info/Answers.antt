@@ -43,7 +43,9 @@ range-requires-clause-end_boundary c =
     subst (IsCharBoundary c.self.inside.source.now) (sym (ends c)) (IsCharBoundary-start_of c.self.inside.source.now (c.args.index + 1) c.self.invariant.utf8)
 
 -- the bytes of the line
-bytes : (source : List ℕ) (k start end : ℕ) (slice : List ℕ) → k < length (source_lines source) → start ≡ start_of (source_lines source) k → end ≡ start_of (source_lines source) (k + 1) → slice ≡ take (end - start) (drop start source) → slice ≡ line_bytes (get_or (source_lines source) k ([], Eof))
+bytes : (source : List ℕ) (k start end : ℕ) (slice : List ℕ) → k < length (source_lines source) → start ≡ start_of (source_lines source) k
+    → end ≡ start_of (source_lines source) (k + 1) → slice ≡ take (end - start) (drop start source)
+    → slice ≡ line_bytes (get_or (source_lines source) k ([], Eof))
 bytes source k start end slice within start_is end_is is =
     is ∙ ap (λ n. take (n - start) (drop start source)) end_is ∙ ap (λ n. take (start_of (source_lines source) (k + 1) - n) (drop n source)) start_is ∙ line_bytes-slice source k within
 

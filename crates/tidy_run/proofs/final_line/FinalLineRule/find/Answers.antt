@@ -2,7 +2,8 @@ use Rattle.std.proofs.Common.{◌≡◌, ◌≢◌, ◌<◌, ◌≤◌, ◌-◌,
 use Rattle.tidy_run.proofs.EndLemmas.{end-ended, end-found, end-past, missing_end}
 use Rattle.tidy_run.specs.Rules.{first_from, missing_end_at}
 use Rattle.tidy_run.proofs.final_line.FinalLineRule.find.Goals as goal
-use Rattle.tidy_run.proofs.final_line.FinalLineRule.find.Goals.{then-end-eq0-via-then-end-eq0, then-end-eq0-via-else-end-eq0+then-end-from, then-end-eq0-via-else-end-eq0+else-end-from+then-bytes-end-eq10}
+use Rattle.tidy_run.proofs.final_line.FinalLineRule.find.Goals.{then-end-eq0-via-then-end-eq0, then-end-eq0-via-else-end-eq0+then-end-from}
+use Rattle.tidy_run.proofs.final_line.FinalLineRule.find.Goals.{then-end-eq0-via-else-end-eq0+else-end-from+then-bytes-end-eq10}
 
 pub returns-then-end-eq0-clause-value : goal.returns-then-end-eq0-clause-value
 returns-then-end-eq0-clause-value c =
