@@ -75,37 +75,38 @@ free_named [] free = All-nil (λ (row : NamedRow). IsFree row.cells)
 free_named (row ∷ part) free =
     All-cons (λ (r : NamedRow). IsFree r.cells) row part (All-head IsFree row.cells (cells_of part) free) (free_named part (All-tail IsFree row.cells (cells_of part) free))
 
-module _ (r : Renderer) (frame : Layout) (around : ElementContext) (s : Snippet Annotation) where
+module _ (r : Renderer) (layout : Layout) (around : ElementContext) (s : Snippet Annotation) where
   -- no row that stands below the lines holds a listed character, or a link
-  after_free : All IsFree (rows_after_cause r frame around)
+  after_free : All IsFree (rows_after_cause r layout around)
   after_free = either (is_first_group around.place && is_before_message around.next) (closes_after around)
     where
       one : (row : List Cell) → IsFree row → All IsFree (row ∷ [])
       one row free = All-cons IsFree row [] free (All-nil IsFree)
 
-      either : (sets_off closes : Bool) → All IsFree (cond sets_off (separator_rows r frame) (cond closes (closing_rows r frame) []))
-      either true closes = one _ (separator_row-free frame.decor frame.gutter)
-      either false true = one _ (closing_row-free frame.decor frame.gutter)
+      either : (sets_off closes : Bool) → All IsFree (cond sets_off (separator_rows r layout) (cond closes (closing_rows r layout) []))
+      either true closes = one _ (separator_row-free layout.decor layout.gutter)
+      either false true = one _ (closing_row-free layout.decor layout.gutter)
       either false false = All-nil IsFree
 
-  head_free : All IsFree (cause_head r frame around s)
+  head_free : All IsFree (cause_head r layout around s)
   head_free =
-      snippet_head-free (origin_layout r frame) around.primary around.first (path_bytes s.path) (place_named around.primary (annotated_lines s.fold (numbered_source s) s.markers.items))
+      snippet_head-free (origin_layout r layout) around.primary around.first (path_bytes s.path) (place_named around.primary (annotated_lines s.fold (numbered_source s) s.markers.items))
 
   -- the first row names the first place of the snippet's spans
   names_place : All (λ a. IsSpan (cow_str_bytes s.source) a.span.start a.span.end) s.markers.items → (more : List NamedRow) → around.primary ≡ true
       → (path : List ℕ) → path_bytes s.path ≡ Some path → list_any (λ a. is_marking a.kind) s.markers.items ≡ true
       → All (λ a. is_long (cow_str_bytes s.source) a ≡ false) s.markers.items
-      → NamesLocation r frame s path (row_at (cells_of (others (cause_head r frame around s) ++ more)) 0)
+      → NamesLocation r layout s path (row_at (cells_of (others (cause_head r layout around s) ++ more)) 0)
   names_place spans more primary path has some none =
       let lines : List KeptLine = annotated_lines s.fold (numbered_source s) s.markers.items in
       let found = place_known (primary_place lines) (IsLocation (numbered_source s) s.markers.items) (place-named s.fold (numbered_source s) s.markers.items lines spans refl some none) in
       let named : place_named around.primary lines ≡ place_found (Some found.0) = place_of_primary around.primary lines primary ∙ ap place_found found.1 in
-      let first = path_first (origin_layout r frame) around.primary around.first (path_bytes s.path) (place_named around.primary lines) more path primary has in
+      let first = path_first (origin_layout r layout) around.primary around.first (path_bytes s.path)
+      (place_named around.primary lines) more path primary has in
       record {
         place = found.0;
         is = found.2;
-        text = ap (λ row. row_text (drop (frame.gutter + 4) row)) first ∙ origin_row-text (origin_layout r frame) (primary_start around.first) path (place_named around.primary lines) ∙ ap (origin_text r.anonymized_origin_line_numbers path) named;
+        text = ap (λ row. row_text (drop (layout.gutter + 4) row)) first ∙ origin_row-text (origin_layout r layout) (primary_start around.first) path (place_named around.primary lines) ∙ ap (origin_text r.anonymized_origin_line_numbers path) named;
       }
 
 -- code stands right of the gutter, the separator and a space
@@ -117,24 +118,24 @@ code_right gutter depth = either (depth == 0)
     either false = omega arith
 
 -- the rows of a snippet, with their names, show it
-pub cause_shown : (r : Renderer) (frame : Layout) (around : ElementContext) (found : List Cell) (s : Snippet Annotation) (rows : List (List Cell))
-    → IsDrawable s → HasRoomFor r frame (Cause s) → IsCauseDrawn r frame around s rows → ElementShown r frame around found (Cause s) rows
-cause_shown r frame around found s rows drawable room drawn =
+pub cause_shown : (r : Renderer) (layout : Layout) (around : ElementContext) (found : List Cell) (s : Snippet Annotation) (rows : List (List Cell))
+    → IsDrawable s → HasRoomFor r layout (Cause s) → IsCauseDrawn r layout around s rows → ElementShown r layout around found (Cause s) rows
+cause_shown r layout around found s rows drawable room drawn =
     let src = numbered_source s in
-    let are : AreCauseRows r frame (closes_with around) s drawn.lines = drawn.are in
+    let are : AreCauseRows r layout (closes_with around) s drawn.lines = drawn.are in
     let ks : List ℕ = shown_lines s.fold (cow_str_bytes s.source) s.markers.items in
-    let fit : All (λ (info : AnnotatedLineInfo). length (shown_number (line_numbers r s.line_numbering) frame.gutter info.line_index) ≤ frame.gutter + 1) are.infos = numbers_fit r frame s are.infos room drawable are.lines in
-    let place : frame.gutter + 3 ≤ frame.code = omega (arith, room.bars, code_right frame.gutter (depth_of_element (Cause s))) in
-    let named = named_lines r frame s drawable.spans are.margin are.room are.bounds are.ordered place (closes_with around) [] ks are.infos drawn.lines (shown_within src s.markers.items drawable.spans s.fold) are.lines fit are.shown in
-    let head : List (List Cell) = cause_head r frame around s in
-    let tail : List (List Cell) = rows_after_cause r frame around in
+    let fit : All (λ (info : AnnotatedLineInfo). length (shown_number (line_numbers r s.line_numbering) layout.gutter info.line_index) ≤ layout.gutter + 1) are.infos = numbers_fit r layout s are.infos room drawable are.lines in
+    let place : layout.gutter + 3 ≤ layout.code = omega (arith, room.bars, code_right layout.gutter (depth_of_element (Cause s))) in
+    let named = named_lines r layout s drawable.spans are.margin are.room are.bounds are.ordered place (closes_with around) [] ks are.infos drawn.lines (shown_within src s.markers.items drawable.spans s.fold) are.lines fit are.shown in
+    let head : List (List Cell) = cause_head r layout around s in
+    let tail : List (List Cell) = rows_after_cause r layout around in
     let part : List NamedRow = others head ++ (named.part ++ others tail) in
     let cells : cells_of part ≡ rows = cells_of-append (others head) (named.part ++ others tail)
     ∙ ap (λ rs. rs ++ cells_of (named.part ++ others tail)) (cells_of-others head)
     ∙ ap (λ rs. head ++ rs) (cells_of-append named.part (others tail) ∙ ap (λ rs. rs ++ cells_of (others tail)) named.cells
     ∙ ap (λ rs. drawn.lines ++ rs) (cells_of-others tail)) ∙ sym drawn.rows_are in
-    let lines_free : All IsFree drawn.lines = free_from_AreLinesShown frame are.margin (line_numbers r s.line_numbering) (closes_with around) [] are.infos drawn.lines are.shown in
-    let all_free : All IsFree (head ++ (drawn.lines ++ tail)) = All-append IsFree head (drawn.lines ++ tail) (head_free r frame around s) (All-append IsFree drawn.lines tail lines_free (after_free r frame around s)) in
+    let lines_free : All IsFree drawn.lines = free_from_AreLinesShown layout are.margin (line_numbers r s.line_numbering) (closes_with around) [] are.infos drawn.lines are.shown in
+    let all_free : All IsFree (head ++ (drawn.lines ++ tail)) = All-append IsFree head (drawn.lines ++ tail) (head_free r layout around s) (All-append IsFree drawn.lines tail lines_free (after_free r layout around s)) in
     let text : List ℕ = cow_str_bytes s.source in
     let Ends : List ℕ → Type 0 = λ js. All (λ a. Contains js (first_line text a) × Contains js (last_line text a)) s.markers.items in
     let ends : Ends (lines_named named.part) = subst Ends (sym named.lines) (ends_shown src s.markers.items drawable.spans s.fold) in
@@ -146,7 +147,7 @@ cause_shown r frame around found s rows drawable room drawn =
       shows = record {
         after = named.part;
         rows_are = refl;
-        origin = names_place r frame around s drawable.spans (named.part ++ others tail);
+        origin = names_place r layout around s drawable.spans (named.part ++ others tail);
         lines = named.lines;
         elided = named.names;
         ends = ends;
@@ -154,11 +155,11 @@ cause_shown r frame around found s rows drawable room drawn =
         named = named.are;
         drawn = named.drawn;
         begins = named.begins;
-        bars = bars_shown r frame (closes_with around) s drawable.spans named.part named.are named.drawn named.begins ordered ends room.bars;
+        bars = bars_shown r layout (closes_with around) s drawable.spans named.part named.are named.drawn named.begins ordered ends room.bars;
       };
       free = free_named part (subst (All IsFree) (sym (cells ∙ drawn.rows_are)) all_free);
       one_line = λ plain.
-          let lines : All HasNoFeed drawn.lines = subst (All HasNoFeed) named.cells (lines_one_line r frame (closes_with around) s named.part named.are named.drawn named.begins are.utf8 plain.1) in
-          let below : All HasNoFeed (drawn.lines ++ tail) = All-append HasNoFeed drawn.lines tail lines (after_one_line r frame around) in
-          subst (All HasNoFeed) (sym drawn.rows_are) (All-append HasNoFeed head (drawn.lines ++ tail) (head_one_line r frame around s plain.0) below);
+          let lines : All HasNoFeed drawn.lines = subst (All HasNoFeed) named.cells (lines_one_line r layout (closes_with around) s named.part named.are named.drawn named.begins are.utf8 plain.1) in
+          let below : All HasNoFeed (drawn.lines ++ tail) = All-append HasNoFeed drawn.lines tail lines (after_one_line r layout around) in
+          subst (All HasNoFeed) (sym drawn.rows_are) (All-append HasNoFeed head (drawn.lines ++ tail) (head_one_line r layout around s plain.0) below);
     }

@@ -38,23 +38,22 @@ pub bars_seen : (s : Snippet Annotation) (k : ℕ) (es : List LineAnnotation) �
 bars_seen s k es are =
     bars_of_parts es ∙ ap (filter_map (λ (p : PartEntry). bar_at p.part (is_primary p.entry.kind))) are
 
-module _ (r : Renderer) (frame : Layout) (s : Snippet Annotation) (margin : Margin) (room : margin.term_width ≡ room_of r frame) (bounds : bounds_of margin ≡ bounds_in r frame s) where
+module _ (r : Renderer) (layout : Layout) (s : Snippet Annotation) (margin : Margin) (room : margin.term_width ≡ room_of r layout) (bounds : bounds_of margin ≡ bounds_in r layout s) where
   abbrev numbers : LineNumbers
   numbers = line_numbers r s.line_numbering
 
   abbrev Shows : Bool → List Bar → AnnotatedLineInfo → List (List Cell) → Type 0
   Shows closes open_bars info rows =
-      strokes.ShowsLine frame margin numbers closes open_bars info rows
+      strokes.ShowsLine layout margin numbers closes open_bars info rows
 
   -- the rows that show a kept line are its source row and what is drawn below
   pub line_drawn : (closes : Bool) (open_bars : List Bar) (k : ℕ) (info : AnnotatedLineInfo) (rows : List (List Cell))
       → seen_kept info ≡ kept_line (numbered_source s) s.markers.items k → (shows : Shows closes open_bars info rows)
-      → IsLineDrawn r frame closes s open_bars k (shows.source ∷ shows.below)
+      → IsLineDrawn r layout closes s open_bars k (shows.source ∷ shows.below)
   line_drawn closes open_bars k info rows seen shows =
-      let layout = frame in
       let text : List ℕ = norm (chars info.line.now) in
       let es : List LineAnnotation = info.annotations.items in
-      let number : shown_number numbers frame.gutter info.line_index ≡ number_text r s.line_numbering frame.gutter (s.line_start + k) = ap (λ n. shown_number numbers frame.gutter n) (ap (λ (l : KeptLine). l.number) seen) in
+      let number : shown_number numbers layout.gutter info.line_index ≡ number_text r s.line_numbering layout.gutter (s.line_start + k) = ap (λ n. shown_number numbers layout.gutter n) (ap (λ (l : KeptLine). l.number) seen) in
       let Drawn : List (List Cell) → Type 0 = λ rs. AreLineRows layout margin.term_width closes text shows.dropped open_bars es shows.highlighted rs in
       record {
         entries = es;
@@ -67,23 +66,23 @@ module _ (r : Renderer) (frame : Layout) (s : Snippet Annotation) (margin : Marg
         dropped = shows.dropped;
         dropped_is = shows.dropped_is;
         plain = shows.plain;
-        shows = subst (λ shown. IsSourceRow layout shown (window_cells frame.decor margin text) shows.plain) number shows.shows;
+        shows = subst (λ shown. IsSourceRow layout shown (window_cells layout.decor margin text) shows.plain) number shows.shows;
         highlighted = shows.highlighted;
         highlights = shows.highlights;
         drawn = subst Drawn shows.rows_are shows.drawn;
       }
 
-module _ (r : Renderer) (frame : Layout) (closes : Bool) (s : Snippet Annotation) (open_bars : List Bar) (k : ℕ) where
+module _ (r : Renderer) (layout : Layout) (closes : Bool) (s : Snippet Annotation) (open_bars : List Bar) (k : ℕ) where
   -- the bars that go on past line k
   abbrev past : List Bar
   past = bars_apart open_bars (bars_on s k)
 
   -- one of them whose depth no other has stands beside each row of the line, in the cell of its depth
-  pub bar_shown : (rows : List (List Cell)) → IsLineDrawn r frame closes s open_bars k rows → (bar : Bar) → Contains past bar → HasOwnDepth bar past
-      → (i : ℕ) → i < length rows → cell_at rows i (frame.gutter + 2 + bar.depth) ≡ unlinked_cell (underline_role bar.primary)
-      (strokes_of frame.decor bar.primary).bar
+  pub bar_shown : (rows : List (List Cell)) → IsLineDrawn r layout closes s open_bars k rows → (bar : Bar) → Contains past bar → HasOwnDepth bar past
+      → (i : ℕ) → i < length rows → cell_at rows i (layout.gutter + 2 + bar.depth) ≡ unlinked_cell (underline_role bar.primary)
+      (strokes_of layout.decor bar.primary).bar
   bar_shown rows line bar among alone i within =
       let ends : ends_of_bars line.entries ≡ bars_on s k = bars_seen s k line.entries line.are in
       let own : Contains (bars_apart open_bars (ends_of_bars line.entries)) bar = subst (λ bs. Contains (bars_apart open_bars bs) bar) (sym ends) among in
       let only : HasOwnDepth bar (bars_apart open_bars (ends_of_bars line.entries)) = subst (λ bs. HasOwnDepth bar (bars_apart open_bars bs)) (sym ends) alone in
-      bar_past frame line.margin.term_width closes line.text line.dropped open_bars line.entries line.highlighted rows line.drawn bar own only i within
+      bar_past layout line.margin.term_width closes line.text line.dropped open_bars line.entries line.highlighted rows line.drawn bar own only i within

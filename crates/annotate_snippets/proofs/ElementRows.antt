@@ -22,20 +22,20 @@ use Rattle.annotate_snippets.proofs.AroundLaws.{begins_is, can_stand, shared_goe
 
 -- the rows of the first so many of these elements stand below some rows, and nothing else, but the row in which the next one begins,
 -- where it shares that
-pub record DrawnSoFar (r : Renderer) (frame : Layout) (place : GroupPosition) (file : Option (List ℕ)) (es : List Element) (n : ℕ) (old new : List (List Cell)) : Type 0 where
+pub record DrawnSoFar (r : Renderer) (layout : Layout) (place : GroupPosition) (file : Option (List ℕ)) (es : List Element) (n : ℕ) (old new : List (List Cell)) : Type 0 where
   pub parts : List (List (List Cell))
   pub tail : List (List Cell)
   pub added : new ≡ (old ++ flat_map (λ part. part) parts) ++ tail
   pub count : length parts ≡ n
   pub each : (i : ℕ) (e : Element) → i < n → slice_get es i ≡ Some e
-      → IsElementDrawn r frame (context_at place file es i e) (found_at r frame es i) e (slice_index_or parts i [])
-  pub ends : IsTail frame.decor frame.gutter (shares_before es n) tail
-  pub last : shares_before es n ≡ true → tail ≡ found_at r frame es n ∷ []
+      → IsElementDrawn r layout (context_at place file es i e) (found_at r layout es i) e (slice_index_or parts i [])
+  pub ends : IsTail layout.decor layout.gutter (shares_before es n) tail
+  pub last : shares_before es n ≡ true → tail ≡ found_at r layout es n ∷ []
 
 -- before the first element nothing is drawn
-pub drawn_none : (r : Renderer) (frame : Layout) (place : GroupPosition) (file : Option (List ℕ)) (es : List Element) (old : List (List Cell))
-    → DrawnSoFar r frame place file es 0 old old
-drawn_none r frame place file es old =
+pub drawn_none : (r : Renderer) (layout : Layout) (place : GroupPosition) (file : Option (List ℕ)) (es : List Element) (old : List (List Cell))
+    → DrawnSoFar r layout place file es 0 old old
+drawn_none r layout place file es old =
     record {
       parts = [];
       tail = [];
@@ -47,14 +47,14 @@ drawn_none r frame place file es old =
     }
 
 -- one more
-pub drawn_more : (r : Renderer) (frame : Layout) (place : GroupPosition) (file : Option (List ℕ)) (es : List Element) (n : ℕ) (e : Element)
-    (old mid new : List (List Cell)) (before : DrawnSoFar r frame place file es n old mid) → slice_get es n ≡ Some e
-    → AddsElement r frame (context_at place file es n e) (found_at r frame es n) e (old ++ flat_map (λ part. part) before.parts) new
-    → DrawnSoFar r frame place file es (n + 1) old new
-drawn_more r frame place file es n e old mid new before here adds =
+pub drawn_more : (r : Renderer) (layout : Layout) (place : GroupPosition) (file : Option (List ℕ)) (es : List Element) (n : ℕ) (e : Element)
+    (old mid new : List (List Cell)) (before : DrawnSoFar r layout place file es n old mid) → slice_get es n ≡ Some e
+    → AddsElement r layout (context_at place file es n e) (found_at r layout es n) e (old ++ flat_map (λ part. part) before.parts) new
+    → DrawnSoFar r layout place file es (n + 1) old new
+drawn_more r layout place file es n e old mid new before here adds =
     let Part : Type 0 = List (List Cell) in
     let parts : List Part = before.parts ++ adds.rows ∷ [] in
-    let Holds : ℕ → Element → Type 0 = λ j y. IsElementDrawn r frame (context_at place file es j y) (found_at r frame es j) y (slice_index_or parts j []) in
+    let Holds : ℕ → Element → Type 0 = λ j y. IsElementDrawn r layout (context_at place file es j y) (found_at r layout es j) y (slice_index_or parts j []) in
     let joined : flat_map (λ (part : Part). part) parts ≡ flat_map (λ (part : Part). part) before.parts ++ adds.rows = flat_map-append (λ (part : Part). part) before.parts (adds.rows ∷ []) ∙ ap (λ rows. flat_map (λ (part : Part). part) before.parts ++ rows) (append-nil adds.rows) in
     let last : slice_index_or parts n [] ≡ adds.rows = last_part before.parts adds.rows n before.count in
     record {
@@ -64,16 +64,16 @@ drawn_more r frame place file es n e old mid new before here adds =
       count = omega (arith, length-append before.parts (adds.rows ∷ []), before.count);
       each = λ i x within is.
           elim (cases_lt i n) [
-            | inl below ↦ subst (λ part. IsElementDrawn r frame (context_at place file es i x) (found_at r frame es i) x part) (sym (early_part before.parts adds.rows i (omega (arith, below, before.count)))) (before.each i x below is)
+            | inl below ↦ subst (λ part. IsElementDrawn r layout (context_at place file es i x) (found_at r layout es i) x part) (sym (early_part before.parts adds.rows i (omega (arith, below, before.count)))) (before.each i x below is)
             | inr past ↦
                 let at : n ≡ i = omega (arith, past, within) in
                 let same : e ≡ x = same_element es n i e x at here is in
-                subst (λ j. Holds j x) at (subst (λ y. Holds n y) same (subst (λ part. IsElementDrawn r frame (context_at place file es n e) (found_at r frame es n) e part) (sym last) adds.is))
+                subst (λ j. Holds j x) at (subst (λ y. Holds n y) same (subst (λ part. IsElementDrawn r layout (context_at place file es n e) (found_at r layout es n) e part) (sym last) adds.is))
           ];
-      ends = subst (λ b. IsTail frame.decor frame.gutter b adds.tail) (sym (shares_after es n)) adds.ends;
+      ends = subst (λ b. IsTail layout.decor layout.gutter b adds.tail) (sym (shares_after es n)) adds.ends;
       last = λ shares.
           let shared : first_two_share (drop n es) ≡ true = sym (shares_after es n) ∙ shares in
-          adds.last shared ∙ ap (λ ends. last_row r frame (not ends) (Some e) ∷ []) (shared_goes_on es n shared) ∙ ap (λ x. last_row r frame true x ∷ []) (sym here ∙ ap (slice_get es) (one_back n));
+          adds.last shared ∙ ap (λ ends. last_row r layout (not ends) (Some e) ∷ []) (shared_goes_on es n shared) ∙ ap (λ x. last_row r layout true x ∷ []) (sym here ∙ ap (slice_get es) (one_back n));
     }
   where
     one_back : (n : ℕ) → n ≡ n + 1 - 1
@@ -92,10 +92,10 @@ drawn_more r frame place file es n e old mid new before here adds =
         cc
 
 -- all of them
-pub drawn_all : (r : Renderer) (frame : Layout) (place : GroupPosition) (file : Option (List ℕ)) (es : List Element) (n : ℕ) (old new : List (List Cell))
-    → n ≡ length es → DrawnSoFar r frame place file es n old new → AddsElements r frame place file es old new
-drawn_all r frame place file es n old new all drawn =
-    let none : drawn.tail ≡ [] = subst (λ b. IsTail frame.decor frame.gutter b drawn.tail) (ap (shares_before es) all ∙ shares_end es) drawn.ends in
+pub drawn_all : (r : Renderer) (layout : Layout) (place : GroupPosition) (file : Option (List ℕ)) (es : List Element) (n : ℕ) (old new : List (List Cell))
+    → n ≡ length es → DrawnSoFar r layout place file es n old new → AddsElements r layout place file es old new
+drawn_all r layout place file es n old new all drawn =
+    let none : drawn.tail ≡ [] = subst (λ b. IsTail layout.decor layout.gutter b drawn.tail) (ap (shares_before es) all ∙ shares_end es) drawn.ends in
     record {
       parts = drawn.parts;
       added = drawn.added ∙ ap (λ rows. (old ++ flat_map (λ part. part) drawn.parts) ++ rows) none ∙ append-nil (old ++ flat_map (λ part. part) drawn.parts);
@@ -148,26 +148,26 @@ turn_stands place file ps around n i p at are turn is =
     subst (λ a. CanStandIn a (element_of p)) (sym (turn_around place file ps around n i p at are turn is)) (can_stand place file (map element_of ps) n (element_of p) (get-mapped element_of ps n p item.1))
 
 -- its rows stand below those before it
-pub turn_drawn : (r : Renderer) (frame : Layout) (place : GroupPosition) (file : Option (List ℕ)) (ps : List PreparedElement)
+pub turn_drawn : (r : Renderer) (layout : Layout) (place : GroupPosition) (file : Option (List ℕ)) (ps : List PreparedElement)
     (around : List ElementContext) (n m i : ℕ) (p : PreparedElement) (at : ElementContext) (old mid new : List (List Cell))
     → AreAround place file (map element_of ps) around → (n < length (enumerate_from 0 ps)) × ((i, p) ≡ get_or (enumerate_from 0 ps) n (i, p))
-    → at ≡ slice_index_or around i at → m ≡ n + 1 → DrawnSoFar r frame place file (map element_of ps) n old mid
+    → at ≡ slice_index_or around i at → m ≡ n + 1 → DrawnSoFar r layout place file (map element_of ps) n old mid
     → ((above tail : List (List Cell)) (found : List Cell) → mid ≡ above ++ tail
-    → IsTail frame.decor frame.gutter (begins_in_row_above at) tail → (begins_in_row_above at ≡ true → tail ≡ found ∷ [])
-    → AddsElement r frame at found (element_of p) above new) → DrawnSoFar r frame place file (map element_of ps) m old new
-turn_drawn r frame place file ps around n m i p at old mid new are turn is next before adds =
+    → IsTail layout.decor layout.gutter (begins_in_row_above at) tail → (begins_in_row_above at ≡ true → tail ≡ found ∷ [])
+    → AddsElement r layout at found (element_of p) above new) → DrawnSoFar r layout place file (map element_of ps) m old new
+turn_drawn r layout place file ps around n m i p at old mid new are turn is next before adds =
     let es : List Element = map element_of ps in
     let e : Element = element_of p in
     let here : slice_get es n ≡ Some e = get-mapped element_of ps n p (turn_item ps n i p turn).1 in
     let at_is : at ≡ context_at place file es n e = turn_around place file ps around n i p at are turn is in
     let begins : begins_in_row_above at ≡ shares_before es n = ap begins_in_row_above at_is ∙ begins_is place file es n e here in
     let above : List (List Cell) = old ++ flat_map (λ part. part) before.parts in
-    let added : AddsElement r frame at (found_at r frame es n) e above new = adds above before.tail (found_at r frame es n) before.added (subst (λ b. IsTail frame.decor frame.gutter b before.tail) (sym begins) before.ends) (λ starts. before.last (sym begins ∙ starts)) in
-    subst (λ k. DrawnSoFar r frame place file es k old new) (sym next) (drawn_more r frame place file es n e old mid new before here (subst (λ a. AddsElement r frame a (found_at r frame es n) e above new) at_is added))
+    let added : AddsElement r layout at (found_at r layout es n) e above new = adds above before.tail (found_at r layout es n) before.added (subst (λ b. IsTail layout.decor layout.gutter b before.tail) (sym begins) before.ends) (λ starts. before.last (sym begins ∙ starts)) in
+    subst (λ k. DrawnSoFar r layout place file es k old new) (sym next) (drawn_more r layout place file es n e old mid new before here (subst (λ a. AddsElement r layout a (found_at r layout es n) e above new) at_is added))
 
 -- after the last all are drawn
-pub turns_all : (r : Renderer) (frame : Layout) (place : GroupPosition) (file : Option (List ℕ)) (ps : List PreparedElement) (n : ℕ)
-    (old new : List (List Cell)) → n ≡ length (enumerate_from 0 ps) → DrawnSoFar r frame place file (map element_of ps) n old new
-    → AddsElements r frame place file (map element_of ps) old new
-turns_all r frame place file ps n old new all drawn =
-    drawn_all r frame place file (map element_of ps) n old new (omega (arith, all, length-enumerate_from 0 ps, length-map ps element_of)) drawn
+pub turns_all : (r : Renderer) (layout : Layout) (place : GroupPosition) (file : Option (List ℕ)) (ps : List PreparedElement) (n : ℕ)
+    (old new : List (List Cell)) → n ≡ length (enumerate_from 0 ps) → DrawnSoFar r layout place file (map element_of ps) n old new
+    → AddsElements r layout place file (map element_of ps) old new
+turns_all r layout place file ps n old new all drawn =
+    drawn_all r layout place file (map element_of ps) n old new (omega (arith, all, length-enumerate_from 0 ps, length-map ps element_of)) drawn

@@ -12,10 +12,10 @@ use Rattle.annotate_snippets.specs.declared.renderer.element_context.ElementCont
 
 -- rows that show an element once they have names, with which they are those of its value; and they hold no listed character but a message's own; and no line feed, where its texts
 -- bring none
-pub record ElementShown (r : Renderer) (frame : Layout) (around : ElementContext) (found : List Cell) (e : Element) (rows : List (List Cell)) : Type 0 where
+pub record ElementShown (r : Renderer) (layout : Layout) (around : ElementContext) (found : List Cell) (e : Element) (rows : List (List Cell)) : Type 0 where
   pub part : List NamedRow
-  pub value : part ≡ element_rows r frame around found e
+  pub value : part ≡ element_rows r layout around found e
   pub cells : cells_of part ≡ rows
-  pub shows : ShowsElement r frame around found e part
+  pub shows : ShowsElement r layout around found e part
   pub free : IsFreeElement e part
   pub one_line : IsOneLineElement e → All HasNoFeed rows

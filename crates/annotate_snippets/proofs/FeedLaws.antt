@@ -79,9 +79,9 @@ bare_elision Unicode gutter =
     after_spaces (gutter + 1) (text_cells LineNumber (elision_of Unicode)) (cells_plain LineNumber (elision_of Unicode) (each-fails (λ c. c == 10) (elision_of Unicode) refl))
 
 -- a row in place of lines that are left out holds none
-pub elided : (decor : DecorStyle) (frame : Layout) (row : List Cell) → IsElided decor frame row → HasNoFeed row
-elided decor frame row shown =
-    All-from_get_or HoldsNoFeed row SPACE (λ c within. elim (cases_lt c (frame.gutter + 3)) [
-      | inl left ↦ subst HoldsNoFeed (sym (shown.is.left c left)) (at_any (bare_elision_row decor frame.gutter) (bare_elision decor frame.gutter) c)
+pub elided : (decor : DecorStyle) (layout : Layout) (row : List Cell) → IsElided decor layout row → HasNoFeed row
+elided decor layout row shown =
+    All-from_get_or HoldsNoFeed row SPACE (λ c within. elim (cases_lt c (layout.gutter + 3)) [
+      | inl left ↦ subst HoldsNoFeed (sym (shown.is.left c left)) (at_any (bare_elision_row decor layout.gutter) (bare_elision decor layout.gutter) c)
       | inr after ↦ bar_cell decor (get_or row c SPACE) (shown.is.bar_cells c (omega (arith, after)) (omega (arith, within, shown.is.ends)))
     ])

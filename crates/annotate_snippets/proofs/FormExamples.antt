@@ -20,7 +20,7 @@ use Rattle.annotate_snippets.specs.GraphicForm.{rows_of_lines}
 use Rattle.annotate_snippets.specs.Numbers.{begins_with_number}
 use Rattle.annotate_snippets.specs.Page.{Elision, NamedRow, Other, RowName, SourceRow}
 use Rattle.annotate_snippets.specs.Settings.{plain_settings}
-use Rattle.annotate_snippets.proofs.NotShown.{frame, labelled_span, span_of}
+use Rattle.annotate_snippets.proofs.NotShown.{layout, labelled_span, span_of}
 
 -- a source with these spans, whose first line has number 1
 abbrev marked : Vec Annotation Global → List ℕ → (marks : List Annotation) → length marks < 2 ^ 63 → Snippet Annotation
@@ -52,7 +52,7 @@ labelled label kind start end = labelled_span (Some (text_of (label ∷ []))) ki
 --       | |
 --       | x
 two_labels : (v : Vec Annotation Global)
-    → texts_of (rows_of_lines plain_settings frame false (marked v (codes "ab cd") (labelled 120 Context 0 2 ∷ labelled 121 Primary 3 5 ∷ []) (omega arith)) [] (0 ∷ [])) ≡ codes "1 | ab cd" ∷ codes "  | -- ^^ y" ∷ codes "  | |" ∷ codes "  | x" ∷ []
+    → texts_of (rows_of_lines plain_settings layout false (marked v (codes "ab cd") (labelled 120 Context 0 2 ∷ labelled 121 Primary 3 5 ∷ []) (omega arith)) [] (0 ∷ [])) ≡ codes "1 | ab cd" ∷ codes "  | -- ^^ y" ∷ codes "  | |" ∷ codes "  | x" ∷ []
 unfolding place_of line_of start_of chars char_width unicode_width norm locations_of start_location location_of end_location steps_after_text written digits
 two_labels v = refl
 
@@ -67,16 +67,16 @@ abbrev four_lines : Vec Annotation Global → Snippet Annotation
 four_lines v = marked v (codes "a\nb\nc\nd") (span_of Primary 0 1 ∷ span_of Primary 6 7 ∷ []) (omega arith)
 
 lines_left_out : (v : Vec Annotation Global)
-    → texts_of (rows_of_lines plain_settings frame false (four_lines v) [] (0 ∷ 3 ∷ [])) ≡ codes "1 | a" ∷ codes "  | ^" ∷ codes "..." ∷ codes "4 | d" ∷ codes "  | ^" ∷ []
+    → texts_of (rows_of_lines plain_settings layout false (four_lines v) [] (0 ∷ 3 ∷ [])) ≡ codes "1 | a" ∷ codes "  | ^" ∷ codes "..." ∷ codes "4 | d" ∷ codes "  | ^" ∷ []
 unfolding place_of line_of start_of chars char_width unicode_width norm locations_of start_location location_of end_location steps_after_text written digits
 lines_left_out v = refl
 
 names_of_rows : (v : Vec Annotation Global)
-    → names_of (rows_of_lines plain_settings frame false (four_lines v) [] (0 ∷ 3 ∷ [])) ≡ SourceRow 0 ∷ Other ∷ Elision ∷ SourceRow 3 ∷ Other ∷ []
+    → names_of (rows_of_lines plain_settings layout false (four_lines v) [] (0 ∷ 3 ∷ [])) ≡ SourceRow 0 ∷ Other ∷ Elision ∷ SourceRow 3 ∷ Other ∷ []
 unfolding place_of line_of start_of chars char_width unicode_width norm locations_of start_location location_of end_location steps_after_text written digits
 names_of_rows v = refl
 
--- `a`, `b` and `c`, all of which is one span, and in the gutter's frame room for its bar:
+-- `a`, `b` and `c`, all of which is one span, and in the gutter's layout room for its bar:
 --
 --     1 | / a
 --     2 | | b

@@ -12,7 +12,7 @@ use Rattle.snippet_view.proofs.PartLemmas.{All-unmapped}
 use Rattle.snippet_style.specs.declared.glyphs.DecorStyle.{DecorStyle}
 use Rattle.annotate_snippets.specs.Around.{drawn_elements, file_of_group, place_at}
 use Rattle.annotate_snippets.specs.Drawn.{AreGridsOf, HasRoomFor, IsGroupGrid}
-use Rattle.annotate_snippets.specs.Gutter.{code_after, depth_of_group, frame_of, gutter_of_report}
+use Rattle.annotate_snippets.specs.Gutter.{code_after, depth_of_group, layout_of_group, gutter_of_report}
 use Rattle.annotate_snippets.specs.Prepared.{IsGroupDrawable, IsGroupPrepared, element_of}
 use Rattle.annotate_snippets.specs.declared.renderer.Renderer.{Renderer}
 use Rattle.snippet_grid.specs.Layout.{Layout}
@@ -28,7 +28,7 @@ pub record GridsSoFar (r : Renderer) (groups : List Group) (n : ℕ) (grids : Li
   pub count : length grids ≡ n
   pub levels : map (λ (grid : GroupGrid). grid.level) grids ≡ map (λ (g : Group). g.level) (take n groups)
   pub each : (i : ℕ) (g : Group) (grid : GroupGrid) → slice_get groups i ≡ Some g → slice_get grids i ≡ Some grid
-      → IsGroupGrid r (frame_of r groups g) (place_at (length groups) i) (file_of_group groups g) g grid.buffer
+      → IsGroupGrid r (layout_of_group r groups g) (place_at (length groups) i) (file_of_group groups g) g grid.buffer
 
 -- no grid stands for the first none of the groups
 pub grids_none : (r : Renderer) (groups : List Group) (grids : List GroupGrid) → grids ≡ [] → GridsSoFar r groups 0 grids
@@ -47,18 +47,19 @@ pub copied_or : (a b : Option (Bor (List ℕ))) → option_copied (option_or a b
 copied_or None b = refl
 copied_or (Some x) b = refl
 
--- a frame, by its parts
-abbrev framed : ℕ → ℕ → DecorStyle → Layout
-framed gutter code decor = record { gutter = gutter; code = code; decor = decor }
+-- a layout, by its parts
+abbrev laid_out : ℕ → ℕ → DecorStyle → Layout
+laid_out gutter code decor = record { gutter = gutter; code = code; decor = decor }
 
--- the frame is the one that the report gives the group
-pub frame_is : (r : Renderer) (groups gs : List Group) (g : Group) (frame : Layout) (gutter depth : ℕ) → gs ≡ groups → gutter ≡ gutter_of_report r gs
-    → depth ≡ depth_of_group g → frame.gutter ≡ gutter → frame.code ≡ code_after gutter depth → frame.decor ≡ r.decor_style → frame ≡ frame_of r groups g
-frame_is r groups gs g frame gutter depth same wide deep left code decor =
+-- the layout is the one that the report gives the group
+pub layout_is : (r : Renderer) (groups gs : List Group) (g : Group) (layout : Layout) (gutter depth : ℕ) → gs ≡ groups → gutter ≡ gutter_of_report r gs
+    → depth ≡ depth_of_group g → layout.gutter ≡ gutter → layout.code ≡ code_after gutter depth → layout.decor ≡ r.decor_style
+    → layout ≡ layout_of_group r groups g
+layout_is r groups gs g layout gutter depth same wide deep left code decor =
     let wanted : gutter ≡ gutter_of_report r groups = wide ∙ ap (gutter_of_report r) same in
-    let after : frame.code ≡ code_after (gutter_of_report r groups) (depth_of_group g) = code ∙ ap (λ w. code_after w depth) wanted ∙ ap (code_after (gutter_of_report r groups)) deep in
-    let first : ◌≡◌ {A = Layout} frame (record { gutter = gutter_of_report r groups; code = frame.code; decor = frame.decor }) = ap (λ w. framed w frame.code frame.decor) (left ∙ wanted) in
-    first ∙ ap (λ c. framed (gutter_of_report r groups) c frame.decor) after ∙ ap (framed (gutter_of_report r groups) (code_after (gutter_of_report r groups) (depth_of_group g))) decor
+    let after : layout.code ≡ code_after (gutter_of_report r groups) (depth_of_group g) = code ∙ ap (λ w. code_after w depth) wanted ∙ ap (code_after (gutter_of_report r groups)) deep in
+    let first : ◌≡◌ {A = Layout} layout (record { gutter = gutter_of_report r groups; code = layout.code; decor = layout.decor }) = ap (λ w. laid_out w layout.code layout.decor) (left ∙ wanted) in
+    first ∙ ap (λ c. laid_out (gutter_of_report r groups) c layout.decor) after ∙ ap (laid_out (gutter_of_report r groups) (code_after (gutter_of_report r groups) (depth_of_group g))) decor
 
 -- an iteration's group is the next of the report
 pub turn_group : (groups : List Group) (ps : List PreparedGroup) (n i : ℕ) (p : PreparedGroup) → map group_of ps ≡ groups
@@ -76,22 +77,22 @@ turn_prepared ps n i p all turn =
     let is : get_or ps n p ≡ p = cc in
     subst IsGroupPrepared is (all n p within)
 
--- the frame has room for its elements
-pub turn_room : (r : Renderer) (groups : List Group) (ps : List PreparedGroup) (n i : ℕ) (p : PreparedGroup) (frame : Layout)
+-- the layout has room for its elements
+pub turn_room : (r : Renderer) (groups : List Group) (ps : List PreparedGroup) (n i : ℕ) (p : PreparedGroup) (layout : Layout)
     → All IsGroupDrawable groups → IsGroupPrepared p → map group_of ps ≡ groups
-    → (n < length (enumerate_from 0 ps)) × ((i, p) ≡ get_or (enumerate_from 0 ps) n (i, p)) → frame ≡ frame_of r groups p.group.now
-    → All (λ e. HasRoomFor r frame (element_of e)) p.elements.items
-turn_room r groups ps n i p frame drawable prepared same turn is =
-    All-unmapped (HasRoomFor r frame) element_of p.elements.items (subst (λ es. All (HasRoomFor r frame) es) (sym prepared.elements_are) (subst (λ f. All (HasRoomFor r f) (drawn_elements p.group.now)) (sym is) (room_in_report r groups drawable n p.group.now (turn_group groups ps n i p same turn))))
+    → (n < length (enumerate_from 0 ps)) × ((i, p) ≡ get_or (enumerate_from 0 ps) n (i, p)) → layout ≡ layout_of_group r groups p.group.now
+    → All (λ e. HasRoomFor r layout (element_of e)) p.elements.items
+turn_room r groups ps n i p layout drawable prepared same turn is =
+    All-unmapped (HasRoomFor r layout) element_of p.elements.items (subst (λ es. All (HasRoomFor r layout) es) (sym prepared.elements_are) (subst (λ f. All (HasRoomFor r f) (drawn_elements p.group.now)) (sym is) (room_in_report r groups drawable n p.group.now (turn_group groups ps n i p same turn))))
 
 -- one more grid
-pub turn_grid : (r : Renderer) (groups : List Group) (ps : List PreparedGroup) (n m i : ℕ) (p : PreparedGroup) (frame : Layout) (place : GroupPosition)
+pub turn_grid : (r : Renderer) (groups : List Group) (ps : List PreparedGroup) (n m i : ℕ) (p : PreparedGroup) (layout : Layout) (place : GroupPosition)
     (file : Option (List ℕ)) (grid : GroupGrid) (grids new : List GroupGrid) → map group_of ps ≡ groups
-    → (n < length (enumerate_from 0 ps)) × ((i, p) ≡ get_or (enumerate_from 0 ps) n (i, p)) → frame ≡ frame_of r groups p.group.now
+    → (n < length (enumerate_from 0 ps)) × ((i, p) ≡ get_or (enumerate_from 0 ps) n (i, p)) → layout ≡ layout_of_group r groups p.group.now
     → place ≡ place_at (length groups) i → file ≡ file_of_group groups p.group.now → grid.level ≡ p.group.now.level
-    → IsGroupGrid r frame place file p.group.now grid.buffer → new ≡ grids ++ grid ∷ [] → m ≡ n + 1 → GridsSoFar r groups n grids
+    → IsGroupGrid r layout place file p.group.now grid.buffer → new ≡ grids ++ grid ∷ [] → m ≡ n + 1 → GridsSoFar r groups n grids
     → GridsSoFar r groups m new
-turn_grid r groups ps n m i p frame place file grid grids new same turn frame_here place_here file_here level drawn pushed next before =
+turn_grid r groups ps n m i p layout place file grid grids new same turn layout_here place_here file_here level drawn pushed next before =
     let g : Group = p.group.now in
     let at : i ≡ n = (turn_item ps n i p turn).0 in
     let here : slice_get groups n ≡ Some g = turn_group groups ps n i p same turn in
@@ -99,10 +100,10 @@ turn_grid r groups ps n m i p frame place file grid grids new same turn frame_he
     let found : Some (get_or groups n g) ≡ Some g = sym (slice_get-get_or groups n g within) ∙ here in
     let is : get_or groups n g ≡ g = cc in
     let taken : take m groups ≡ take n groups ++ g ∷ [] = ap (λ k. take k groups) next ∙ take_more groups n g within ∙ ap (λ x. take n groups ++ x ∷ []) is in
-    let whole : IsGroupGrid r (frame_of r groups g) (place_at (length groups) n) (file_of_group groups g) g grid.buffer =
+    let whole : IsGroupGrid r (layout_of_group r groups g) (place_at (length groups) n) (file_of_group groups g) g grid.buffer =
     subst (λ f. IsGroupGrid r f (place_at (length groups) n) (file_of_group groups g) g grid.buffer)
-    frame_here (subst (λ at_place. IsGroupGrid r frame at_place (file_of_group groups g) g grid.buffer)
-    (place_here ∙ ap (place_at (length groups)) at) (subst (λ path. IsGroupGrid r frame place path g grid.buffer) file_here drawn)) in
+    layout_here (subst (λ at_place. IsGroupGrid r layout at_place (file_of_group groups g) g grid.buffer)
+    (place_here ∙ ap (place_at (length groups)) at) (subst (λ path. IsGroupGrid r layout place path g grid.buffer) file_here drawn)) in
     record {
       count = ap length pushed ∙ omega (arith, length-append grids (grid ∷ []), before.count, next);
       levels = ap (map (λ (d : GroupGrid). d.level)) pushed ∙ map-append (λ (d : GroupGrid). d.level) grids (grid ∷ [])
@@ -118,9 +119,9 @@ turn_grid r groups ps n m i p frame place file grid grids new same turn frame_he
                 let group_same : Some g ≡ Some h = sym here ∙ ap (slice_get groups) equal ∙ is_group in
                 let grid_same : grid ≡ d = last grids grid d j (before.count ∙ equal) put in
                 let g_is : g ≡ h = cc in
-                subst (λ k. IsGroupGrid r (frame_of r groups h) (place_at (length groups) k) (file_of_group groups h) h d.buffer)
-                equal (subst (λ x. IsGroupGrid r (frame_of r groups h) (place_at (length groups) n) (file_of_group groups h) h x.buffer)
-                grid_same (subst (λ y. IsGroupGrid r (frame_of r groups y) (place_at (length groups) n) (file_of_group groups y) y grid.buffer)
+                subst (λ k. IsGroupGrid r (layout_of_group r groups h) (place_at (length groups) k) (file_of_group groups h) h d.buffer)
+                equal (subst (λ x. IsGroupGrid r (layout_of_group r groups h) (place_at (length groups) n) (file_of_group groups h) h x.buffer)
+                grid_same (subst (λ y. IsGroupGrid r (layout_of_group r groups y) (place_at (length groups) n) (file_of_group groups y) y grid.buffer)
                 g_is whole))
           ];
     }

@@ -48,18 +48,18 @@ use Rattle.annotate_snippets.proofs.SuggestionShown.{suggestion_shown}
 use Rattle.annotate_snippets.proofs.TrustedLemmas.{AreTextsAmong, IsFreeRow, after_title-free, element-free, free_text, texts_among, title_part-free}
 
 -- the rows of an element that is drawn show it
-pub element_shown : (r : Renderer) (frame : Layout) (around : ElementContext) (found : List Cell) (e : Element) (rows : List (List Cell)) → IsElementDrawable e
-    → is_drawn e ≡ true → HasRoomFor r frame e → IsElementDrawn r frame around found e rows → ElementShown r frame around found e rows
-element_shown r frame around found (Message message) rows drawable drawn room is = message_shown r frame around found message rows is
-element_shown r frame around found (Cause snippet) rows drawable drawn room is = cause_shown r frame around found snippet rows drawable room is
-element_shown r frame around found (Suggestion snippet) rows drawable drawn room is =
-    suggestion_shown r frame around found snippet rows drawable (some snippet.markers.items drawn) room is
+pub element_shown : (r : Renderer) (layout : Layout) (around : ElementContext) (found : List Cell) (e : Element) (rows : List (List Cell)) → IsElementDrawable e
+    → is_drawn e ≡ true → HasRoomFor r layout e → IsElementDrawn r layout around found e rows → ElementShown r layout around found e rows
+element_shown r layout around found (Message message) rows drawable drawn room is = message_shown r layout around found message rows is
+element_shown r layout around found (Cause snippet) rows drawable drawn room is = cause_shown r layout around found snippet rows drawable room is
+element_shown r layout around found (Suggestion snippet) rows drawable drawn room is =
+    suggestion_shown r layout around found snippet rows drawable (some snippet.markers.items drawn) room is
   where
     some : (patches : List Patch) → not (length patches == 0) ≡ true → patches ≢ []
     some [] given empty = cc
     some (p ∷ ps) given empty = cc
-element_shown r frame around found (Origin origin) rows drawable drawn room is = origin_shown r frame around found origin rows is
-element_shown r frame around found (Padding padding) rows drawable drawn room is = padding_shown r frame around found padding rows is
+element_shown r layout around found (Origin origin) rows drawable drawn room is = origin_shown r layout around found origin rows is
+element_shown r layout around found (Padding padding) rows drawable drawn room is = padding_shown r layout around found padding rows is
 
 -- where there is a value for each item of a list, by its index, there is a list of them
 chosen : {X Y : Type 0} (R : ℕ → X → Y → Type 0) (d : Y) (xs : List X) → ((i : ℕ) (x : X) → slice_get xs i ≡ Some x → (y : Y) × R i x y)
@@ -106,17 +106,17 @@ no_links rows none =
         ]
 
 -- the rows of an element link to nothing
-element-unlinked : (r : Renderer) (frame : Layout) (around : ElementContext) (found : List Cell) (e : Element) (part : List NamedRow)
-    → ShowsElement r frame around found e part → IsFreeElement e part → All IsUnlinked (cells_of part)
-element-unlinked r frame around found (Message message) part shows free =
-    subst (All IsUnlinked) (sym shows.shows.rows_are) (message_rows-unlinked r.hyperlink (record { frame = frame; followed = not (is_end around.next) }) (heading_of_message message) refl)
-element-unlinked r frame around found (Cause snippet) part shows free =
+element-unlinked : (r : Renderer) (layout : Layout) (around : ElementContext) (found : List Cell) (e : Element) (part : List NamedRow)
+    → ShowsElement r layout around found e part → IsFreeElement e part → All IsUnlinked (cells_of part)
+element-unlinked r layout around found (Message message) part shows free =
+    subst (All IsUnlinked) (sym shows.shows.rows_are) (message_rows-unlinked r.hyperlink (record { layout = layout; followed = not (is_end around.next) }) (heading_of_message message) refl)
+element-unlinked r layout around found (Cause snippet) part shows free =
     free_unlinked (cells_of part) (All-map IsFree (λ (row : NamedRow). row.cells) part free)
-element-unlinked r frame around found (Suggestion snippet) part shows free =
+element-unlinked r layout around found (Suggestion snippet) part shows free =
     free_unlinked (cells_of part) (All-map IsFree (λ (row : NamedRow). row.cells) part free)
-element-unlinked r frame around found (Origin origin) part shows free =
+element-unlinked r layout around found (Origin origin) part shows free =
     free_unlinked (cells_of part) (All-map IsFree (λ (row : NamedRow). row.cells) part free)
-element-unlinked r frame around found (Padding padding) part shows free =
+element-unlinked r layout around found (Padding padding) part shows free =
     free_unlinked (cells_of part) (All-map IsFree (λ (row : NamedRow). row.cells) part free)
 
 -- what stands below rows that link to nothing doesn't link
@@ -125,19 +125,19 @@ links-append xs ys none =
     flat_map-append (λ row. links_after None row) xs ys ∙ ap (λ urls. links_of xs ++ urls) (no_links ys none) ∙ append-nil (links_of xs)
 
 -- a title's part of a group links to what the title's id links to
-title_part-links : (r : Renderer) (frame : Layout) (place : GroupPosition) (follows : Next) (title : Option Title)
-    → links_of (title_part r frame place follows title) ≡ flat_map (λ (t : Title). id_links r.hyperlink t.id) (option_to_list title)
-title_part-links r frame place follows None = refl
-title_part-links r frame place follows (Some title) =
-    let after : List (List Cell) = rows_after_title r frame place follows title.allows_styling in
-    links-append (title_rows r.hyperlink title) after (free_unlinked after (after_title-free r frame place follows title.allows_styling)) ∙ title_rows-links r.hyperlink title ∙ sym (append-nil (id_links r.hyperlink title.id))
+title_part-links : (r : Renderer) (layout : Layout) (place : GroupPosition) (follows : Next) (title : Option Title)
+    → links_of (title_part r layout place follows title) ≡ flat_map (λ (t : Title). id_links r.hyperlink t.id) (option_to_list title)
+title_part-links r layout place follows None = refl
+title_part-links r layout place follows (Some title) =
+    let after : List (List Cell) = rows_after_title r layout place follows title.allows_styling in
+    links-append (title_rows r.hyperlink title) after (free_unlinked after (after_title-free r layout place follows title.allows_styling)) ∙ title_rows-links r.hyperlink title ∙ sym (append-nil (id_links r.hyperlink title.id))
 
-module _ (r : Renderer) (frame : Layout) (place : GroupPosition) (file : Option (List ℕ)) (es : List Element) (parts : List (List (List Cell))) where
+module _ (r : Renderer) (layout : Layout) (place : GroupPosition) (file : Option (List ℕ)) (es : List Element) (parts : List (List (List Cell))) where
   -- rows with names that show element i, and are part i without them
   record IsPartShown (i : ℕ) (e : Element) (part : List NamedRow) : Type 0 where
-    value : part ≡ element_rows r frame (context_at place file es i e) (found_at r frame es i) e
+    value : part ≡ element_rows r layout (context_at place file es i e) (found_at r layout es i) e
     cells : cells_of part ≡ get_or parts i []
-    shows : ShowsElement r frame (context_at place file es i e) (found_at r frame es i) e part
+    shows : ShowsElement r layout (context_at place file es i e) (found_at r layout es i) e part
     free : IsFreeElement e part
     one_line : IsOneLineElement e → All HasNoFeed (cells_of part)
 
@@ -147,16 +147,16 @@ module _ (r : Renderer) (frame : Layout) (place : GroupPosition) (file : Option 
     count : length named ≡ length es
     each : (i : ℕ) (e : Element) → slice_get es i ≡ Some e → IsPartShown i e (get_or named i [])
 
-  module _ (drawable : All IsElementDrawable es) (drawn : All (λ e. is_drawn e ≡ true) es) (room : All (HasRoomFor r frame) es) (are : AreElementsDrawn r frame place file es parts) where
+  module _ (drawable : All IsElementDrawable es) (drawn : All (λ e. is_drawn e ≡ true) es) (room : All (HasRoomFor r layout) es) (are : AreElementsDrawn r layout place file es parts) where
     -- each part shows its element, with names
     part_shown : (i : ℕ) (e : Element) → slice_get es i ≡ Some e → (part : List NamedRow) × IsPartShown i e part
     part_shown i e is =
         let within : i < length es = slice_get_within es i e is in
         let own : get_or es i e ≡ e = get_or_from_slice_get es i e e is in
-        let shown = element_shown r frame (context_at place file es i e) (found_at r frame es i) e (get_or parts i [])
+        let shown = element_shown r layout (context_at place file es i e) (found_at r layout es i) e (get_or parts i [])
         (subst IsElementDrawable own (All-get_or IsElementDrawable es i e within drawable))
         (subst (λ x. is_drawn x ≡ true) own (All-get_or (λ x. is_drawn x ≡ true) es i e within drawn))
-        (subst (HasRoomFor r frame) own (All-get_or (HasRoomFor r frame) es i e within room)) (are.each i e is) in
+        (subst (HasRoomFor r layout) own (All-get_or (HasRoomFor r layout) es i e within room)) (are.each i e is) in
         (shown.part, record { value = shown.value; cells = shown.cells; shows = shown.shows; free = shown.free; one_line = λ plain. subst (All HasNoFeed) (sym shown.cells) (shown.one_line plain) })
 
     named_parts : AreNamed
@@ -173,12 +173,12 @@ module _ (r : Renderer) (frame : Layout) (place : GroupPosition) (file : Option 
       ]
 
   -- the parts with names are those of the group's page
-  parts_value : (names : AreNamed) → names.named ≡ rows_of_elements r frame place file es
+  parts_value : (names : AreNamed) → names.named ≡ rows_of_elements r layout place file es
   parts_value names =
       ext_get_or [] names.named (map rows_of (enumerate_from 0 es)) (names.count ∙ sym (length-enumerate_from 0 es) ∙ sym (length-map (enumerate_from 0 es) rows_of)) same
     where
       rows_of : ℕ × Element → List NamedRow
-      rows_of pair = element_rows r frame (context_at place file es pair.0 pair.1) (found_at r frame es pair.0) pair.1
+      rows_of pair = element_rows r layout (context_at place file es pair.0 pair.1) (found_at r layout es pair.0) pair.1
 
       same : (i : ℕ) → i < length names.named → get_or names.named i [] ≡ get_or (map rows_of (enumerate_from 0 es)) i []
       same i within =
@@ -208,7 +208,7 @@ module _ (r : Renderer) (frame : Layout) (place : GroupPosition) (file : Option 
       each i within =
           let e = element_at names i within in
           let part = names.each i e.0 e.1 in
-          element-unlinked r frame (context_at place file es i e.0) (found_at r frame es i) e.0 (get_or names.named i []) part.shows part.free
+          element-unlinked r layout (context_at place file es i e.0) (found_at r layout es i) e.0 (get_or names.named i []) part.shows part.free
 
   -- and hold no listed character but those of trusted texts
   parts-free : (trusted : List (List ℕ)) → All (λ e. AreTextsAmong trusted (trusted_of_element e)) es → (names : AreNamed)
@@ -233,29 +233,29 @@ module _ (r : Renderer) (frame : Layout) (place : GroupPosition) (file : Option 
           (names.each i e.0 e.1).one_line (subst IsOneLineElement own (All-get_or IsOneLineElement es i e.0 (slice_get_within es i e.0 e.1) plain))
 
 -- the rows of a group show it: each part that is drawn shows its element
-pub group_shown : (r : Renderer) (frame : Layout) (place : GroupPosition) (file : Option (List ℕ)) (g : Group) (rows : List (List Cell)) → IsGroupDrawable g
-    → All (HasRoomFor r frame) (drawn_elements g) → IsGroupGrid r frame place file g rows → GroupShown r frame place file g rows
-group_shown r frame place file g rows drawable room grid =
+pub group_shown : (r : Renderer) (layout : Layout) (place : GroupPosition) (file : Option (List ℕ)) (g : Group) (rows : List (List Cell)) → IsGroupDrawable g
+    → All (HasRoomFor r layout) (drawn_elements g) → IsGroupGrid r layout place file g rows → GroupShown r layout place file g rows
+group_shown r layout place file g rows drawable room grid =
     let es : List Element = drawn_elements g in
     let parts : List (List (List Cell)) = grid.parts in
-    let names = named_parts r frame place file es parts (All-filter is_drawn IsElementDrawable g.elements.items drawable.1) (filter_passes is_drawn g.elements.items) room grid.are in
-    let title : List (List Cell) = title_part r frame place (next_of es) g.title in
+    let names = named_parts r layout place file es parts (All-filter is_drawn IsElementDrawable g.elements.items drawable.1) (filter_passes is_drawn g.elements.items) room grid.are in
+    let title : List (List Cell) = title_part r layout place (next_of es) g.title in
     let below : List (List Cell) = flat_map cells_of names.named in
-    let rows_are : rows ≡ title ++ below = grid.rows_are ∙ ap (λ rs. title ++ rs) (sym (parts_are r frame place file es parts names grid.are.count)) in
+    let rows_are : rows ≡ title ++ below = grid.rows_are ∙ ap (λ rs. title ++ rs) (sym (parts_are r layout place file es parts names grid.are.count)) in
     let titles : List (List ℕ) = flat_map trusted_of_title (option_to_list g.title) in
     let texts : List (List ℕ) = flat_map trusted_of_element g.elements.items in
     let among : All (λ e. AreTextsAmong (titles ++ texts) (trusted_of_element e)) es = All-filter is_drawn (λ e. AreTextsAmong (titles ++ texts) (trusted_of_element e)) g.elements.items (texts_among titles g.elements.items) in
-    let free : All (IsFreeRow (titles ++ texts)) (title ++ below) = All-append (IsFreeRow (titles ++ texts)) title below (title_part-free r frame place (next_of es) g.title texts) (parts-free r frame place file es parts (titles ++ texts) among names) in
+    let free : All (IsFreeRow (titles ++ texts)) (title ++ below) = All-append (IsFreeRow (titles ++ texts)) title below (title_part-free r layout place (next_of es) g.title texts) (parts-free r layout place file es parts (titles ++ texts) among names) in
     record {
       page = record { title = title; elements = names.named };
-      value = ap (λ (els : List (List NamedRow)). record { title = title; elements = els }) (parts_value r frame place file es parts names);
+      value = ap (λ (els : List (List NamedRow)). record { title = title; elements = els }) (parts_value r layout place file es parts names);
       rows_are = rows_are;
       shows = record {
-        title = title_shown r frame place (next_of es) g.title;
+        title = title_shown r layout place (next_of es) g.title;
         elements = record { count = names.count; each = λ i e is. (names.each i e is).shows; free = λ i e is. (names.each i e is).free };
       };
-      links = ap links_of rows_are ∙ links-append title below (parts-unlinked r frame place file es parts names) ∙ title_part-links r frame place (next_of es) g.title;
+      links = ap links_of rows_are ∙ links-append title below (parts-unlinked r layout place file es parts names) ∙ title_part-links r layout place (next_of es) g.title;
       free = subst (λ ts. IsFreeBut ts (plain_text rows)) (sym (append-nil (titles ++ texts))) (free_text (titles ++ texts) rows (subst (All (IsFreeRow (titles ++ texts))) (sym rows_are) free));
-      one_line = λ plain. All-append HasNoFeed title below (title_part-one_line r frame place (next_of es) g.title plain.0)
-          (parts-one_line r frame place file es parts names (All-filter is_drawn IsOneLineElement g.elements.items plain.1));
+      one_line = λ plain. All-append HasNoFeed title below (title_part-one_line r layout place (next_of es) g.title plain.0)
+          (parts-one_line r layout place file es parts names (All-filter is_drawn IsOneLineElement g.elements.items plain.1));
     }

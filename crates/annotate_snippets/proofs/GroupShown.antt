@@ -19,11 +19,11 @@ use Rattle.annotate_snippets.specs.declared.renderer.element_context.GroupPositi
 
 -- rows that show a group once they have names, with which they are its page: they link to what its title links to, and each listed character of them is one of
 -- its trusted texts; and they hold no line feed, where its texts bring none
-pub record GroupShown (r : Renderer) (frame : Layout) (place : GroupPosition) (file : Option (List ℕ)) (g : Group) (rows : List (List Cell)) : Type 0 where
+pub record GroupShown (r : Renderer) (layout : Layout) (place : GroupPosition) (file : Option (List ℕ)) (g : Group) (rows : List (List Cell)) : Type 0 where
   pub page : GroupPage
-  pub value : page ≡ group_page r frame place file g
+  pub value : page ≡ group_page r layout place file g
   pub rows_are : rows ≡ group_rows page
-  pub shows : ShowsGroup r frame place file g page
+  pub shows : ShowsGroup r layout place file g page
   pub links : links_of rows ≡ flat_map (λ (t : Title). id_links r.hyperlink t.id) (option_to_list g.title)
   pub free : IsFreeBut (trusted_texts (g ∷ [])) (plain_text rows)
   pub one_line : IsOneLineGroup g → HasOneLineRows page

@@ -206,13 +206,13 @@ length-shown Anonymized gutter number fits =
     omega (arith, length-append {A = ℕ} (replicate (gutter - 2) 32) letters, length-replicate {A = ℕ} (gutter - 2) 32)
 length-shown Hidden gutter number fits = omega (arith, length-replicate {A = ℕ} gutter 32)
 
--- a frame with room for a snippet has it for the number counted
-pub counted-width : (r : Renderer) (frame : Layout) (s : Snippet Annotation) → HasRoomFor r frame (Cause s)
-    → number_width (line_numbers r s.line_numbering) (counted_number s) ≤ frame.gutter
-counted-width r frame s room = by_cases s.line_numbering refl r.anonymized_snippet_line_numbers refl
+-- a layout with room for a snippet has it for the number counted
+pub counted-width : (r : Renderer) (layout : Layout) (s : Snippet Annotation) → HasRoomFor r layout (Cause s)
+    → number_width (line_numbers r s.line_numbering) (counted_number s) ≤ layout.gutter
+counted-width r layout s room = by_cases s.line_numbering refl r.anonymized_snippet_line_numbers refl
   where
     by_cases : (numbered : Bool) → s.line_numbering ≡ numbered → (anonymized : Bool) → r.anonymized_snippet_line_numbers ≡ anonymized
-        → number_width (cond numbered (cond anonymized Anonymized Shown) Hidden) (counted_number s) ≤ frame.gutter
+        → number_width (cond numbered (cond anonymized Anonymized Shown) Hidden) (counted_number s) ≤ layout.gutter
     by_cases true on true hidden = room.anonymized hidden
     by_cases true on false seen =
         let wide : gutter_of s ≡ length (decimal (counted_number s)) = ap (λ b. cond b (length (decimal (counted_number s))) 0) on in
@@ -228,11 +228,11 @@ counted-small s fits =
     omega (arith, length-source_lines source)
 
 -- what the gutter shows beside the lines of a snippet takes at most one cell more than the gutter has
-pub numbers_fit : (r : Renderer) (frame : Layout) (s : Snippet Annotation) (infos : List AnnotatedLineInfo) → HasRoomFor r frame (Cause s)
+pub numbers_fit : (r : Renderer) (layout : Layout) (s : Snippet Annotation) (infos : List AnnotatedLineInfo) → HasRoomFor r layout (Cause s)
     → IsDrawable s → map seen_kept infos ≡ map (kept_line (numbered_source s) s.markers.items)
     (shown_lines s.fold (cow_str_bytes s.source) s.markers.items)
-    → All (λ info. length (shown_number (line_numbers r s.line_numbering) frame.gutter info.line_index) ≤ frame.gutter + 1) infos
-numbers_fit r frame s infos room drawable lines =
+    → All (λ info. length (shown_number (line_numbers r s.line_numbering) layout.gutter info.line_index) ≤ layout.gutter + 1) infos
+numbers_fit r layout s infos room drawable lines =
     let source : List ℕ = cow_str_bytes s.source in
     let numbers : LineNumbers = line_numbers r s.line_numbering in
     let Counted : KeptLine → Type 0 = λ l. l.number ≤ counted_number s + 1 in
@@ -243,7 +243,7 @@ numbers_fit r frame s infos room drawable lines =
     let inside = shown_within (numbered_source s) s.markers.items drawable.spans s.fold in
     let small : All (λ info. Small (seen_kept info)) infos = All-of_lines Small (kept_line (numbered_source s) s.markers.items) ks infos lines (λ i d within. omega (arith, inside i d within, drawable.numbers)) in
     let fits : counted_number s < 2 ^ 64 = counted-small s drawable.numbers in
-    let wide : number_width numbers (counted_number s) ≤ frame.gutter = counted-width r frame s room in
+    let wide : number_width numbers (counted_number s) ≤ layout.gutter = counted-width r layout s room in
     λ i d within.
     let number : ℕ = (get_or infos i d).line_index in
-    length-shown numbers frame.gutter number (omega (arith, wide, number_width-step numbers number (counted_number s) (counted i d within) (small i d within) fits))
+    length-shown numbers layout.gutter number (omega (arith, wide, number_width-step numbers number (counted_number s) (counted i d within) (small i d within) fits))

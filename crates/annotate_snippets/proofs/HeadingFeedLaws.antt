@@ -91,8 +91,8 @@ sign_plain : (style : TitleStyle) → HasNoFeed (sign_cells style)
 sign_plain Title = All-nil HoldsNoFeed
 sign_plain Short = All-nil HoldsNoFeed
 sign_plain (Message place) =
-    let sign : List ℕ = note_sign_of place.frame.decor place.followed in
-    after_spaces (place.frame.gutter + 1) (text_cells LineNumber sign) (cells_plain LineNumber sign (by_decor place.frame.decor place.followed))
+    let sign : List ℕ = note_sign_of place.layout.decor place.followed in
+    after_spaces (place.layout.gutter + 1) (text_cells LineNumber sign) (cells_plain LineNumber sign (by_decor place.layout.decor place.followed))
   where
     by_decor : (decor : DecorStyle) (followed : Bool) → All IsNoFeed (note_sign_of decor followed)
     by_decor Ascii followed = each-fails (λ c. c == 10) (note_sign_of Ascii followed) refl
@@ -103,8 +103,8 @@ indent_plain : (style : TitleStyle) (width : ℕ) → HasNoFeed (indent_cells st
 indent_plain Title width = blank width
 indent_plain Short width = blank width
 indent_plain (Message place) width =
-    let bar : Cell = note_bar_of place.frame.decor place.followed in
-    after_spaces (place.frame.gutter + 1) (bar ∷ replicate (width + 1) SPACE) (All-cons HoldsNoFeed bar (replicate (width + 1) SPACE) (by_decor place.frame.decor place.followed) (blank (width + 1)))
+    let bar : Cell = note_bar_of place.layout.decor place.followed in
+    after_spaces (place.layout.gutter + 1) (bar ∷ replicate (width + 1) SPACE) (All-cons HoldsNoFeed bar (replicate (width + 1) SPACE) (by_decor place.layout.decor place.followed) (blank (width + 1)))
   where
     by_decor : (decor : DecorStyle) (followed : Bool) → HoldsNoFeed (note_bar_of decor followed)
     by_decor Ascii followed = refl
@@ -156,14 +156,14 @@ heading_one_line hyperlink style heading plain =
     All-trimmed HasNoFeed (lines_below (sign ++ label) indent roles.text (heading_lines heading)) (lines_plain (sign ++ label) indent roles.text (heading_lines heading) begun (indent_plain style (label_width heading)) (parts_plain (shown_text heading)))
 
 -- so no row of a group's title does, and none below it
-pub title_part-one_line : (r : Renderer) (frame : Layout) (place : GroupPosition) (follows : NextElement) (title : Option TitleGiven)
-    → IfSome title IsOneLineTitle → All HasNoFeed (title_part r frame place follows title)
-title_part-one_line r frame place follows None plain = All-nil HasNoFeed
-title_part-one_line r frame place follows (Some title) plain =
+pub title_part-one_line : (r : Renderer) (layout : Layout) (place : GroupPosition) (follows : NextElement) (title : Option TitleGiven)
+    → IfSome title IsOneLineTitle → All HasNoFeed (title_part r layout place follows title)
+title_part-one_line r layout place follows None plain = All-nil HasNoFeed
+title_part-one_line r layout place follows (Some title) plain =
     let own : List (List Cell) = title_rows r.hyperlink title in
-    let after : List (List Cell) = rows_after_title r frame place follows title.allows_styling in
+    let after : List (List Cell) = rows_after_title r layout place follows title.allows_styling in
     All-append HasNoFeed own after (heading_one_line r.hyperlink Title (heading_of_title title) plain) (below (is_before_message follows) _)
   where
-    below : (before closes : Bool) → All HasNoFeed (cond before (separator_rows r frame) (cond closes (closing_rows r frame) []))
-    below true closes = All-cons HasNoFeed _ [] (bare_plain frame.decor frame.gutter false) (All-nil HasNoFeed)
-    below false closes = closing_rows-plain r frame closes
+    below : (before closes : Bool) → All HasNoFeed (cond before (separator_rows r layout) (cond closes (closing_rows r layout) []))
+    below true closes = All-cons HasNoFeed _ [] (bare_plain layout.decor layout.gutter false) (All-nil HasNoFeed)
+    below false closes = closing_rows-plain r layout closes

@@ -56,67 +56,67 @@ heading_shown hyperlink place heading =
     }
 
 -- so do those of a message
-pub message_shown : (r : Renderer) (frame : Layout) (around : ElementContext) (found : List Cell) (message : the_message.Message) (rows : List (List Cell))
-    → rows ≡ message_rows r frame around message → ElementShown r frame around found (Message message) rows
-message_shown r frame around found message rows are =
+pub message_shown : (r : Renderer) (layout : Layout) (around : ElementContext) (found : List Cell) (message : the_message.Message) (rows : List (List Cell))
+    → rows ≡ message_rows r layout around message → ElementShown r layout around found (Message message) rows
+message_shown r layout around found message rows are =
     let heading : Heading = heading_of_message message in
-    let shows : ShowsHeading r.hyperlink (message_style r frame around) heading rows = subst (ShowsHeading r.hyperlink (message_style r frame around) heading) (sym are) (heading_shown r.hyperlink (message_style r frame around) heading) in
+    let shows : ShowsHeading r.hyperlink (message_style r layout around) heading rows = subst (ShowsHeading r.hyperlink (message_style r layout around) heading) (sym are) (heading_shown r.hyperlink (message_style r layout around) heading) in
     record {
       part = others rows;
       value = ap others are;
       cells = cells_of-others rows;
       shows = record {
         named = ap others (sym (cells_of-others rows));
-        shows = subst (ShowsHeading r.hyperlink (message_style r frame around) heading) (sym (cells_of-others rows)) shows;
+        shows = subst (ShowsHeading r.hyperlink (message_style r layout around) heading) (sym (cells_of-others rows)) shows;
       };
       free = others-each (IsFreeButText heading) rows shows.free;
-      one_line = λ plain. subst (All HasNoFeed) (sym are) (heading_one_line r.hyperlink (message_style r frame around) heading (plain, tt));
+      one_line = λ plain. subst (All HasNoFeed) (sym are) (heading_one_line r.hyperlink (message_style r layout around) heading (plain, tt));
     }
 
 -- those of an origin
-closing-free : (r : Renderer) (frame : Layout) (closes : Bool) → All IsFree (if closes then closing_rows r frame else [])
-closing-free r frame true = All-cons IsFree _ [] (closing_row-free frame.decor frame.gutter) (All-nil IsFree)
-closing-free r frame false = All-nil IsFree
+closing-free : (r : Renderer) (layout : Layout) (closes : Bool) → All IsFree (if closes then closing_rows r layout else [])
+closing-free r layout true = All-cons IsFree _ [] (closing_row-free layout.decor layout.gutter) (All-nil IsFree)
+closing-free r layout false = All-nil IsFree
 
 -- the rows of an origin show it
-pub origin_shown : (r : Renderer) (frame : Layout) (around : ElementContext) (found : List Cell) (origin : the_origin.Origin) (rows : List (List Cell))
-    → rows ≡ origin_rows r frame around origin → ElementShown r frame around found (Origin origin) rows
-origin_shown r frame around found origin rows are =
+pub origin_shown : (r : Renderer) (layout : Layout) (around : ElementContext) (found : List Cell) (origin : the_origin.Origin) (rows : List (List Cell))
+    → rows ≡ origin_rows r layout around origin → ElementShown r layout around found (Origin origin) rows
+origin_shown r layout around found origin rows are =
     let path : List ℕ = cow_str_bytes origin.path in
-    let row : List Cell = origin_row (origin_layout r frame) (origin_start around) path (place_given origin) in
-    let free : All IsFree (origin_rows r frame around origin) = All-cons IsFree row _ (origin_row-free (origin_layout r frame) (origin_start around) path (place_given origin)) (closing-free r frame (closes_after around)) in
+    let row : List Cell = origin_row (origin_layout r layout) (origin_start around) path (place_given origin) in
+    let free : All IsFree (origin_rows r layout around origin) = All-cons IsFree row _ (origin_row-free (origin_layout r layout) (origin_start around) path (place_given origin)) (closing-free r layout (closes_after around)) in
     record {
       part = others rows;
       value = ap others are;
       cells = cells_of-others rows;
       shows = record {
         rows_are = ap others are;
-        text = ap (λ (rs : List (List Cell)). row_text (drop (frame.gutter + 4) (row_at (cells_of (others rs)) 0))) are ∙ origin_row-text (origin_layout r frame) (origin_start around) path (place_given origin);
+        text = ap (λ (rs : List (List Cell)). row_text (drop (layout.gutter + 4) (row_at (cells_of (others rs)) 0))) are ∙ origin_row-text (origin_layout r layout) (origin_start around) path (place_given origin);
       };
       free = others-each IsFree rows (subst (All IsFree) (sym are) free);
-      one_line = λ plain. subst (All HasNoFeed) (sym are) (origin_one_line r frame around origin plain);
+      one_line = λ plain. subst (All HasNoFeed) (sym are) (origin_one_line r layout around origin plain);
     }
 
 -- and that of a padding
-pub padding_shown : (r : Renderer) (frame : Layout) (around : ElementContext) (found : List Cell) (padding : the_padding.Padding) (rows : List (List Cell))
-    → rows ≡ padding_row frame.decor frame.gutter (is_end around.next) ∷ [] → ElementShown r frame around found (Padding padding) rows
-padding_shown r frame around found padding rows are =
-    let row : List Cell = padding_row frame.decor frame.gutter (is_end around.next) in
-    let free : All IsFree (row ∷ []) = All-cons IsFree row [] (padding_row-free frame.decor frame.gutter (is_end around.next)) (All-nil IsFree) in
+pub padding_shown : (r : Renderer) (layout : Layout) (around : ElementContext) (found : List Cell) (padding : the_padding.Padding) (rows : List (List Cell))
+    → rows ≡ padding_row layout.decor layout.gutter (is_end around.next) ∷ [] → ElementShown r layout around found (Padding padding) rows
+padding_shown r layout around found padding rows are =
+    let row : List Cell = padding_row layout.decor layout.gutter (is_end around.next) in
+    let free : All IsFree (row ∷ []) = All-cons IsFree row [] (padding_row-free layout.decor layout.gutter (is_end around.next)) (All-nil IsFree) in
     record {
       part = others rows;
       value = ap others are;
       cells = cells_of-others rows;
       shows = ap others are;
       free = others-each IsFree rows (subst (All IsFree) (sym are) free);
-      one_line = λ plain. subst (All HasNoFeed) (sym are) (padding_one_line r frame (is_end around.next));
+      one_line = λ plain. subst (All HasNoFeed) (sym are) (padding_one_line r layout (is_end around.next));
     }
 
 -- the title's part of a group shows the title
-pub title_shown : (r : Renderer) (frame : Layout) (place : GroupPosition) (follows : Next) (title : Option Title)
-    → ShowsTitlePart r frame place follows title (title_part r frame place follows title)
-title_shown r frame place follows None = refl
-title_shown r frame place follows (Some title) =
+pub title_shown : (r : Renderer) (layout : Layout) (place : GroupPosition) (follows : Next) (title : Option Title)
+    → ShowsTitlePart r layout place follows title (title_part r layout place follows title)
+title_shown r layout place follows None = refl
+title_shown r layout place follows (Some title) =
     record {
       own = title_rows r.hyperlink title;
       rows_are = refl;

@@ -111,15 +111,15 @@ labels_are (e ∷ es) (l ∷ ls) long =
     both true rest = ap (λ xs. label_of_part (seen_part e) ∷ xs) rest
     both false rest = rest
 
-module _ (dropped : ℕ) (frame : Layout) (layout : Layout) (code : layout.code ≡ frame.code) (rows : List (List Cell)) where
+module _ (dropped : ℕ) (layout : Layout) (rows_layout : Layout) (code : rows_layout.code ≡ layout.code) (rows : List (List Cell)) where
   abbrev IsClear : LineAnnotation → Type 0
   IsClear e = is_bar e.annotation_type ≡ false → dropped ≤ e.start.display
 
   abbrev Stands : PlacedLabel → Type 0
-  Stands l = 0 < length (label_text l.entry) → StandsIn layout rows l
+  Stands l = 0 < length (label_text l.entry) → StandsIn rows_layout rows l
 
   abbrev Shows : ShownLabel → Type 0
-  Shows l = 0 < length l.label.text → ShowsLabel frame dropped rows l
+  Shows l = 0 < length l.label.text → ShowsLabel layout dropped rows l
 
   text_is : (e : LineAnnotation) (l : PlacedLabel) → l.entry ≡ shifted dropped e → label_text l.entry ≡ normalized_chars (seen_part e).entry.label
   text_is e l entry = ap label_text entry ∙ label_is e.label
@@ -128,7 +128,7 @@ module _ (dropped : ℕ) (frame : Layout) (layout : Layout) (code : layout.code 
       → Shows (shown_at e l)
   one_label e l entry clear ends stands some =
       let text = text_is e l entry in
-      let there : StandsIn layout rows l = stands (omega (arith, ap length text, some)) in
+      let there : StandsIn rows_layout rows l = stands (omega (arith, ap length text, some)) in
       let right : dropped ≤ e.start.display = clear (no_bar (is_start_part e.annotation_type) (is_bar e.annotation_type) ends) in
       let start : l.entry.start.display ≡ e.start.display - dropped = ap (λ (x : LineAnnotation). x.start.display) entry in
       let end : l.entry.end.display ≡ e.end.display - dropped = ap (λ (x : LineAnnotation). x.end.display) entry in
@@ -136,7 +136,7 @@ module _ (dropped : ℕ) (frame : Layout) (layout : Layout) (code : layout.code 
       record {
         whole = λ n within. there.whole n (omega (arith, within, ap length text)) ∙ ap (λ (x : AnnotationKind). unlinked_cell (label_role x) (get_or (label_text l.entry) n 0)) kind ∙ ap (λ (cs : List ℕ). unlinked_cell (label_role e.kind) (get_or cs n 0)) text;
         place = elim there.place [
-          | inl at ↦ inl (at.0, at.1 ∙ ap (λ m. layout.code + max m 1 + 1) end ∙ ap (λ m. m + max (e.end.display - dropped) 1 + 1) code)
+          | inl at ↦ inl (at.0, at.1 ∙ ap (λ m. rows_layout.code + max m 1 + 1) end ∙ ap (λ m. m + max (e.end.display - dropped) 1 + 1) code)
           | inr at ↦ inr (at.0, omega (arith, at.1, start, right, code))
         ];
       }
@@ -163,10 +163,10 @@ module _ (dropped : ℕ) (frame : Layout) (layout : Layout) (code : layout.code 
 
   -- a stem leads to one of some labels, where no label of all these has the cell
   abbrev Led : List PlacedLabel → PlacedLabel → Type 0
-  Led all l = 0 < length (label_text l.entry) → IsLedTo layout.decor all rows l
+  Led all l = 0 < length (label_text l.entry) → IsLedTo rows_layout.decor all rows l
 
   abbrev Stemmed : List ShownLabel → ShownLabel → Type 0
-  Stemmed shown l = 0 < length l.label.text → HasStem layout.decor shown rows l
+  Stemmed shown l = 0 < length l.label.text → HasStem rows_layout.decor shown rows l
 
   all_led : (all : List PlacedLabel) (shown : List ShownLabel) → ((r c : ℕ) → count_by (is_in_label r c) shown ≡ 0 → count_by (is_cell_of r c) all ≡ 0)
       → (es : List LineAnnotation) (ls : List PlacedLabel) → map (λ (l : PlacedLabel). l.entry) ls ≡ map (shifted dropped) es → All (Led all) ls
@@ -312,11 +312,11 @@ single_labels s k (a ∷ marked) own =
 -- ---- the labels of a line
 
 -- the labels of the spans that end on line k stand below it, whatever other entries the line has
-pub labels_shown : (sn : Snippet Annotation) (k dropped : ℕ) (frame : Layout) (layout : Layout) (es : List LineAnnotation) (rows : List (List Cell))
-    → layout.code ≡ frame.code → map seen_part es ≡ parts_on (numbered_source sn) sn.markers.items k
-    → All (λ e. is_bar e.annotation_type ≡ false → dropped ≤ e.start.display) es → LabelsStand layout (map (shifted dropped) es) rows
-    → ShowsLabels layout.decor frame sn k dropped rows
-labels_shown sn k dropped frame layout es rows code same clear stand =
+pub labels_shown : (sn : Snippet Annotation) (k dropped : ℕ) (layout : Layout) (rows_layout : Layout) (es : List LineAnnotation) (rows : List (List Cell))
+    → rows_layout.code ≡ layout.code → map seen_part es ≡ parts_on (numbered_source sn) sn.markers.items k
+    → All (λ e. is_bar e.annotation_type ≡ false → dropped ≤ e.start.display) es → LabelsStand rows_layout (map (shifted dropped) es) rows
+    → ShowsLabels rows_layout.decor layout sn k dropped rows
+labels_shown sn k dropped layout rows_layout es rows code same clear stand =
     let s : Source = numbered_source sn in
     let marks : List Annotation = sn.markers.items in
     let on_line : PartEntry → Bool = λ (p : PartEntry). p.entry.start.line == s.first + k in
@@ -325,7 +325,7 @@ labels_shown sn k dropped frame layout es rows code same clear stand =
     let longs : List PartEntry = filter on_line (long_parts s (long_places s marks) [] (long_spans s marks)) in
     let parts : map seen_part es ≡ singles ++ longs = same ∙ filter-append on_line (map (single_part s) (filter (is_short s.text) marks)) (long_parts s (long_places s marks) [] (long_spans s marks)) ∙ ap (λ ps. ps ++ longs) (singles-on s marks k) in
     let none_kept : (r c : ℕ) → count_by (is_in_label r c) (shown_labels es stand.labels) ≡ 0 → count_by (is_cell_of r c) stand.labels ≡ 0 = λ r c none.
-    omega (arith, none, cells_all dropped frame layout code rows r c es stand.labels stand.are (labelled_at_end s marks k dropped es same)) in
+    omega (arith, none, cells_all dropped layout rows_layout code rows r c es stand.labels stand.are (labelled_at_end s marks k dropped es same)) in
     let long : length stand.labels ≡ length es = sym (length-map stand.labels (λ (l : PlacedLabel). l.entry)) ∙ ap length stand.are ∙ length-map es (shifted dropped) in
     record {
       labels = shown_labels es stand.labels;
@@ -334,9 +334,9 @@ labels_shown sn k dropped frame layout es rows code same clear stand =
           ∙ map-append label_of_part (filter ends_here singles) (filter ends_here longs)
           ∙ ap (λ xs. xs ++ map label_of_part (filter ends_here longs)) (single_labels s k marked (filter_passes (is_marked_on s.text k) marks))
           ∙ ap (λ xs. map (label_of_span s.text) marked ++ xs) (long_ends s k (long_places s marks) [] (long_spans s marks));
-      stand = all_shown dropped frame layout code rows es stand.labels stand.are clear stand.stand;
-      led = all_led dropped frame layout code rows stand.labels (shown_labels es stand.labels) none_kept es stand.labels stand.are stand.led;
-      apart = λ r c. omega (arith, cells_few dropped frame layout code rows r c es stand.labels stand.are, stand.apart r c);
+      stand = all_shown dropped layout rows_layout code rows es stand.labels stand.are clear stand.stand;
+      led = all_led dropped layout rows_layout code rows stand.labels (shown_labels es stand.labels) none_kept es stand.labels stand.are stand.led;
+      apart = λ r c. omega (arith, cells_few dropped layout rows_layout code rows r c es stand.labels stand.are, stand.apart r c);
       others = λ r c right none.
           stand.others r c (omega (arith, right, code)) (none_kept r c none);
     }

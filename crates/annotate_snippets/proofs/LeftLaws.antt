@@ -107,10 +107,10 @@ module _ (layout : Layout) (shown : List ℕ) (cells plain row : List Cell) (fit
       same (layout.gutter + 2) (omega arith) ∙ is.blank (layout.gutter + 2) (omega (arith, fits)) (λ at. omega (arith, at)) (omega (arith, place))
 
 -- no row below a line holds a letter or digit in the gutter
-pub unnumbered_below : (decor : DecorStyle) (frame : Layout) (closes : Bool) (row : List Cell) → IsRowBelow decor frame closes row
-    → HasNoNumber frame.gutter row
-unnumbered_below decor frame closes row is c left =
-    ap (λ (cell : Cell). is_ascii_alphanumeric cell.ch) (is.left c (omega (arith, left)) ∙ bare_row_left decor frame.gutter closes c left)
+pub unnumbered_below : (decor : DecorStyle) (layout : Layout) (closes : Bool) (row : List Cell) → IsRowBelow decor layout closes row
+    → HasNoNumber layout.gutter row
+unnumbered_below decor layout closes row is c left =
+    ap (λ (cell : Cell). is_ascii_alphanumeric cell.ch) (is.left c (omega (arith, left)) ∙ bare_row_left decor layout.gutter closes c left)
 
 -- nor does a row in place of lines that are left out
 bare_unnumbered : (decor : DecorStyle) (gutter c : ℕ) → c ≤ gutter → is_ascii_alphanumeric (get_or (bare_elision_row decor gutter) c SPACE).ch ≡ false
@@ -122,9 +122,9 @@ bare_unnumbered Unicode gutter c left =
     ap (λ (cell : Cell). is_ascii_alphanumeric cell.ch) (get_or_append_left (replicate (gutter + 1) SPACE) (text_cells LineNumber (elision_of Unicode)) SPACE c (omega (arith, left, length-replicate (gutter + 1) SPACE)) ∙ get_or-replicate (gutter + 1) c SPACE SPACE (omega (arith, left)))
 
 -- the row for lines that are left out has no number
-pub unnumbered_elided : (decor : DecorStyle) (frame : Layout) (row : List Cell) → IsElided decor frame row → HasNoNumber frame.gutter row
-unnumbered_elided decor frame row shown c left =
-    ap (λ (cell : Cell). is_ascii_alphanumeric cell.ch) (shown.is.left c (omega (arith, left))) ∙ bare_unnumbered decor frame.gutter c left
+pub unnumbered_elided : (decor : DecorStyle) (layout : Layout) (row : List Cell) → IsElided decor layout row → HasNoNumber layout.gutter row
+unnumbered_elided decor layout row shown c left =
+    ap (λ (cell : Cell). is_ascii_alphanumeric cell.ch) (shown.is.left c (omega (arith, left))) ∙ bare_unnumbered decor layout.gutter c left
 
 -- ---- computed on small inputs
 

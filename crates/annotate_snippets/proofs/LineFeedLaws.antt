@@ -45,10 +45,10 @@ use Rattle.snippet_marks.specs.Painting.{first_glyph, mark_end, painting_order, 
 use Rattle.snippet_strokes.specs.Drawing.{row_count}
 use Rattle.snippet_marks.specs.Positions.{has_label}
 use Rattle.snippet_marks.specs.SourceRows.{bare_row}
-use Rattle.snippet_strokes.specs.Strokes.{StrokesPainted, bar_cell as bar_column, bar_of, begun_rows, connector_of, connectors_of, corner_by, corner_of}
+use Rattle.snippet_strokes.specs.Strokes.{StrokesPainted, bar_of, begun_rows, connector_of, connectors_of, corner_by, corner_of}
 use Rattle.snippet_strokes.specs.Strokes.{corners_of, label_of, label_write, labels_of, stem_write, stems_of, line_strokes, column_of}
 use Rattle.snippet_marks.specs.Writes.{Write, glyph_at, painted, stretch_of}
-use Rattle.snippet_grid.specs.Layout.{Layout}
+use Rattle.snippet_grid.specs.Layout.{Layout, bar_cell as bar_column}
 use Rattle.snippet_strokes.proofs.BarWrites.{All-connector_of, All-stretch_of}
 use Rattle.snippet_strokes.proofs.LabelWrites.{All-label_of}
 use Rattle.snippet_marks.proofs.PlacedLemmas.{entries_all}
@@ -363,25 +363,25 @@ entries_plain s k es are plain =
 abbrev IsRowOfText : NamedRow → Type 0
 IsRowOfText row = HasNoFeed row.cells
 
-module _ (r : Renderer) (frame : Layout) (closes : Bool) (s : Snippet Annotation) (utf8 : IsUtf8 (cow_str_bytes s.source)) (plain : All IsOneLineLabel s.markers.items) where
-  line_below : (open_bars : List Bar) (k : ℕ) (row : List Cell) (below : List (List Cell)) (ends : Bool) → IsLineDrawn r frame ends s open_bars k (row ∷ below)
+module _ (r : Renderer) (layout : Layout) (closes : Bool) (s : Snippet Annotation) (utf8 : IsUtf8 (cow_str_bytes s.source)) (plain : All IsOneLineLabel s.markers.items) where
+  line_below : (open_bars : List Bar) (k : ℕ) (row : List Cell) (below : List (List Cell)) (ends : Bool) → IsLineDrawn r layout ends s open_bars k (row ∷ below)
       → All HasNoFeed below
   line_below open_bars k row below ends drawn =
-      below_plain frame drawn.margin.term_width ends drawn.text drawn.dropped open_bars drawn.entries drawn.highlighted row below drawn.drawn (entries_plain s k drawn.entries drawn.are plain)
+      below_plain layout drawn.margin.term_width ends drawn.text drawn.dropped open_bars drawn.entries drawn.highlighted row below drawn.drawn (entries_plain s k drawn.entries drawn.are plain)
 
-  one_row : (open_bars : List Bar) (name : RowName) (cells : List Cell) (rows : List NamedRow) → IsRowOf r frame closes s name cells rows
-      → IsRowDrawn r frame closes s open_bars name cells rows → All HasNoFeed (rows_below (record { name = name; cells = cells } ∷ rows))
+  one_row : (open_bars : List Bar) (name : RowName) (cells : List Cell) (rows : List NamedRow) → IsRowOf r layout closes s name cells rows
+      → IsRowDrawn r layout closes s open_bars name cells rows → All HasNoFeed (rows_below (record { name = name; cells = cells } ∷ rows))
       → HasNoFeed cells × All HasNoFeed (rows_below rows)
   one_row open_bars (SourceRow k) cells rows shows drawn below =
-      (source_one_line r frame s k shows.dropped cells shows.line (line_plain (cow_str_bytes s.source) k utf8), line_below open_bars k cells (rows_below rows) _ drawn)
+      (source_one_line r layout s k shows.dropped cells shows.line (line_plain (cow_str_bytes s.source) k utf8), line_below open_bars k cells (rows_below rows) _ drawn)
   one_row open_bars Elision cells rows shows drawn below =
-      (elided frame.decor frame cells shows, subst (All HasNoFeed) (sym drawn.1) (All-nil HasNoFeed))
+      (elided layout.decor layout cells shows, subst (All HasNoFeed) (sym drawn.1) (All-nil HasNoFeed))
   one_row open_bars (OfferedLine j) cells rows shows drawn below = absurd shows
   one_row open_bars (RemovedLine i) cells rows shows drawn below = absurd shows
   one_row open_bars Other cells rows shows drawn below =
       (All-head HasNoFeed cells (rows_below rows) below, All-tail HasNoFeed cells (rows_below rows) below)
 
-  all_rows : (open_bars : List Bar) (rows : List NamedRow) → AreRowsOf r frame closes s rows → AreRowsDrawn r frame closes s open_bars rows
+  all_rows : (open_bars : List Bar) (rows : List NamedRow) → AreRowsOf r layout closes s rows → AreRowsDrawn r layout closes s open_bars rows
       → All HasNoFeed (rows_below rows) → All IsRowOfText rows
   all_rows open_bars [] shows drawn below = All-nil IsRowOfText
   all_rows open_bars (row ∷ rows) shows drawn below =
@@ -389,9 +389,9 @@ module _ (r : Renderer) (frame : Layout) (closes : Bool) (s : Snippet Annotation
       All-cons IsRowOfText row rows own.0 (all_rows (open_after s row.name open_bars) rows shows.1 drawn.1 own.1)
 
 -- where no label holds a line feed, no row of a snippet's lines holds one: each is one line of the text
-pub lines_one_line : (r : Renderer) (frame : Layout) (closes : Bool) (s : Snippet Annotation) (rows : List NamedRow)
-    → AreRowsOf r frame closes s rows → AreRowsDrawn r frame closes s [] rows → rows_below rows ≡ []
+pub lines_one_line : (r : Renderer) (layout : Layout) (closes : Bool) (s : Snippet Annotation) (rows : List NamedRow)
+    → AreRowsOf r layout closes s rows → AreRowsDrawn r layout closes s [] rows → rows_below rows ≡ []
     → IsUtf8 (cow_str_bytes s.source) → All IsOneLineLabel s.markers.items → All HasNoFeed (cells_of rows)
-lines_one_line r frame closes s rows shows drawn begins utf8 plain =
-    let all = all_rows r frame closes s utf8 plain [] rows shows drawn (subst (All HasNoFeed) (sym begins) (All-nil HasNoFeed)) in
+lines_one_line r layout closes s rows shows drawn begins utf8 plain =
+    let all = all_rows r layout closes s utf8 plain [] rows shows drawn (subst (All HasNoFeed) (sym begins) (All-nil HasNoFeed)) in
     All-map HasNoFeed (λ (row : NamedRow). row.cells) rows all

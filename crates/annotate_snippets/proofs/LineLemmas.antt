@@ -53,10 +53,10 @@ use Rattle.annotate_snippets.proofs.WindowLemmas.{dropped-none}
 use Rattle.snippet_grid.proofs.RowLemmas.{row_text-text_cells}
 
 -- a row that is as a bare one left of the bars is a row below a line
-pub row_below : (decor : DecorStyle) (frame : Layout) (closes plain : Bool) (es : List LineAnnotation) (rows : List (List Cell)) (i : ℕ)
-    → IsStrokeRow (record { gutter = frame.gutter; code = frame.code; decor = decor }) plain es (closes && i + 1 == length rows) (row_at rows i)
-    → IsRowBelow decor frame (closes && i + 1 == length rows) (row_at rows i)
-row_below decor frame closes plain es rows i is =
+pub row_below : (decor : DecorStyle) (layout : Layout) (closes plain : Bool) (es : List LineAnnotation) (rows : List (List Cell)) (i : ℕ)
+    → IsStrokeRow (record { gutter = layout.gutter; code = layout.code; decor = decor }) plain es (closes && i + 1 == length rows) (row_at rows i)
+    → IsRowBelow decor layout (closes && i + 1 == length rows) (row_at rows i)
+row_below decor layout closes plain es rows i is =
     record { left = is.left; bars = is.bar_cells }
 
 -- a wide entry stays one, however many columns are dropped left of it
@@ -149,126 +149,127 @@ single_columns dropped es all clear = λ i d within.
     no_bar (MultilineEnd depth) is = refl
     no_bar (MultilineLine depth) is = cc
 
-module _ (r : Renderer) (frame : Layout) (s : Snippet Annotation)
+module _ (r : Renderer) (layout : Layout) (s : Snippet Annotation)
     (spans : All (λ a. IsSpan (cow_str_bytes s.source) a.span.start a.span.end) s.markers.items) (margin : Margin)
-    (room : margin.term_width ≡ room_of r frame) (bounds : bounds_of margin ≡ bounds_in r frame s)
+    (room : margin.term_width ≡ room_of r layout) (bounds : bounds_of margin ≡ bounds_in r layout s)
     (ordered : (bounds_of margin).left ≤ (bounds_of margin).right) where
   abbrev row_shows : Bool → List Bar → AnnotatedLineInfo → List (List Cell) → Type 0
-  row_shows closes open_bars info rows = strokes.ShowsLine frame margin (line_numbers r s.line_numbering) closes open_bars info rows
+  row_shows closes open_bars info rows = strokes.ShowsLine layout margin (line_numbers r s.line_numbering) closes open_bars info rows
 
   abbrev placeholder_width : ℕ
-  placeholder_width = length (placeholder_of frame.decor)
+  placeholder_width = length (placeholder_of layout.decor)
 
   module _ (closes : Bool) (open_bars : List Bar) (k : ℕ) (info : AnnotatedLineInfo) (rows : List (List Cell))
       (within : k < length (source_lines (cow_str_bytes s.source))) (seen : seen_kept info ≡ kept_line (numbered_source s) s.markers.items k)
-      (fits : length (shown_number (line_numbers r s.line_numbering) frame.gutter info.line_index) ≤ frame.gutter + 1)
+      (fits : length (shown_number (line_numbers r s.line_numbering) layout.gutter info.line_index) ≤ layout.gutter + 1)
       (shows : row_shows closes open_bars info rows) where
     abbrev text : List ℕ
     text = norm (chars_at (cow_str_bytes s.source) k)
 
     abbrev shown : List ℕ
-    shown = shown_number (line_numbers r s.line_numbering) frame.gutter info.line_index
+    shown = shown_number (line_numbers r s.line_numbering) layout.gutter info.line_index
 
     abbrev es : List LineAnnotation
     es = info.annotations.items
 
-    same_number : shown ≡ number_text r s.line_numbering frame.gutter (s.line_start + k)
-    same_number = ap (λ n. shown_number (line_numbers r s.line_numbering) frame.gutter n) (ap (λ (l : KeptLine). l.number) seen)
+    same_number : shown ≡ number_text r s.line_numbering layout.gutter (s.line_start + k)
+    same_number = ap (λ n. shown_number (line_numbers r s.line_numbering) layout.gutter n) (ap (λ (l : KeptLine). l.number) seen)
 
     line_text : norm (chars info.line.now) ≡ text
     line_text = ap (λ bytes. norm (chars bytes)) (ap (λ (l : KeptLine). l.text) seen)
 
     -- as many entries are wide as spans
-    wide_is : wide_entries margin.term_width frame.decor (map (shifted shows.dropped) es) ≡ wide_spans (room_of r frame) placeholder_width s k
-    wide_is = wide-shifted shows.dropped margin.term_width placeholder_width es shows.clear ∙ ap (λ n. count_by (is_wide_entry n placeholder_width) es) room ∙ wide_on_line (numbered_source s) s.markers.items spans k info (room_of r frame) placeholder_width seen
+    wide_is : wide_entries margin.term_width layout.decor (map (shifted shows.dropped) es) ≡ wide_spans (room_of r layout) placeholder_width s k
+    wide_is = wide-shifted shows.dropped margin.term_width placeholder_width es shows.clear ∙ ap (λ n. count_by (is_wide_entry n placeholder_width) es) room ∙ wide_on_line (numbered_source s) s.markers.items spans k info (room_of r layout) placeholder_width seen
 
     -- left of the bars the row is as drawn, whatever is highlighted
-    left_cell : (c : ℕ) → c < frame.gutter + 3 → c < frame.code → get_or shows.source c SPACE ≡ get_or shows.plain c SPACE
+    left_cell : (c : ℕ) → c < layout.gutter + 3 → c < layout.code → get_or shows.source c SPACE ≡ get_or shows.plain c SPACE
     left_cell c beside left =
-        kept ∙ highlighted_left frame.code shows.dropped _ shows.plain shows.highlighted shows.highlights c left
+        kept ∙ highlighted_left layout.code shows.dropped _ shows.plain shows.highlighted shows.highlights c left
       where
         kept : get_or shows.source c SPACE ≡ get_or shows.highlighted c SPACE
         kept =
-            elim (cases_lt c (frame.gutter + 2)) [
-              | inl front ↦ sym (get_or-take (frame.gutter + 2) shows.source c SPACE front) ∙ ap (λ cs. get_or cs c SPACE) shows.beside.front ∙ get_or-take (frame.gutter + 2) shows.highlighted c SPACE front
+            elim (cases_lt c (layout.gutter + 2)) [
+              | inl front ↦ sym (get_or-take (layout.gutter + 2) shows.source c SPACE front) ∙ ap (λ cs. get_or cs c SPACE) shows.beside.front ∙ get_or-take (layout.gutter + 2) shows.highlighted c SPACE front
               | inr after ↦
-                  let at : c ≡ frame.gutter + 2 = omega (arith, after, beside) in
+                  let at : c ≡ layout.gutter + 2 = omega (arith, after, beside) in
                   ap (λ n. get_or shows.source n SPACE) at ∙ shows.beside.gap ∙ ap (λ n. get_or shows.highlighted n SPACE) (sym at)
             ]
 
     -- the text of the line before it is cut where spans are wide
-    window_text : row_text (drop frame.code shows.highlighted) ≡ window (placeholder_of frame.decor) (room_of r frame) (bounds_in r frame s).left (bounds_in r frame s).right text
+    window_text : row_text (drop layout.code shows.highlighted) ≡ window (placeholder_of layout.decor) (room_of r layout) (bounds_in r layout s).left (bounds_in r layout s).right text
     window_text =
-        sym (drop-map (λ (cell : Cell). cell.ch) frame.code shows.highlighted)
-        ∙ ap (drop frame.code) (highlighted_text frame.code shows.dropped _ shows.plain shows.highlighted shows.highlights)
-        ∙ drop-map (λ (cell : Cell). cell.ch) frame.code shows.plain ∙ shows.text
-        ∙ ap (λ n. window (placeholder_of frame.decor) n (bounds_of margin).left (bounds_of margin).right (norm (chars info.line.now))) room
-        ∙ ap (λ (b : Bounds). window (placeholder_of frame.decor) (room_of r frame) b.left b.right (norm (chars info.line.now))) bounds
-        ∙ ap (λ cs. window (placeholder_of frame.decor) (room_of r frame) (bounds_in r frame s).left (bounds_in r frame s).right cs) line_text
+        sym (drop-map (λ (cell : Cell). cell.ch) layout.code shows.highlighted)
+        ∙ ap (drop layout.code) (highlighted_text layout.code shows.dropped _ shows.plain shows.highlighted shows.highlights)
+        ∙ drop-map (λ (cell : Cell). cell.ch) layout.code shows.plain ∙ shows.text
+        ∙ ap (λ n. window (placeholder_of layout.decor) n (bounds_of margin).left (bounds_of margin).right (norm (chars info.line.now))) room
+        ∙ ap (λ (b : Bounds). window (placeholder_of layout.decor) (room_of r layout) b.left b.right (norm (chars info.line.now))) bounds
+        ∙ ap (λ cs. window (placeholder_of layout.decor) (room_of r layout) (bounds_in r layout s).left (bounds_in r layout s).right cs) line_text
 
-    dropped_here : shows.dropped ≡ width_of (dropped_part (bounds_in r frame s).left text)
+    dropped_here : shows.dropped ≡ width_of (dropped_part (bounds_in r layout s).left text)
     dropped_here =
-        shows.dropped_is ∙ ap (λ (b : Bounds). width_of (dropped_part b.left (norm (chars info.line.now)))) bounds ∙ ap (λ cs. width_of (dropped_part (bounds_in r frame s).left cs)) line_text
+        shows.dropped_is ∙ ap (λ (b : Bounds). width_of (dropped_part b.left (norm (chars info.line.now)))) bounds ∙ ap (λ cs. width_of (dropped_part (bounds_in r layout s).left cs)) line_text
 
     -- where the line stands whole, nothing is dropped and nothing is cut
-    whole_text : stands_whole (room_of r frame) placeholder_width s.fold (cow_str_bytes s.source) s.markers.items k ≡ true
-        → (shows.dropped ≡ 0) × (row_text (drop frame.code shows.source) ≡ text)
+    whole_text : stands_whole (room_of r layout) placeholder_width s.fold (cow_str_bytes s.source) s.markers.items k ≡ true
+        → (shows.dropped ≡ 0) × (row_text (drop layout.code shows.source) ≡ text)
     whole_text stands =
-        let left : (bounds_in r frame s).left ≡ 0 = stands_left (numbered_source s) s.markers.items spans (room_of r frame) placeholder_width s.fold k stands in
+        let left : (bounds_in r layout s).left ≡ 0 = stands_left (numbered_source s) s.markers.items spans
+        (room_of r layout) placeholder_width s.fold k stands in
         let parts = and_parts _ _ stands in
-        let narrow : list_all (λ a. not (is_marked_on (cow_str_bytes s.source) k a && is_wide (room_of r frame) placeholder_width (cow_str_bytes s.source) a)) s.markers.items ≡ true = parts.1 in
-        let none : wide_spans (room_of r frame) placeholder_width s k ≡ 0 = count-none (λ a. is_marked_on (cow_str_bytes s.source) k a && is_wide (room_of r frame) placeholder_width (cow_str_bytes s.source) a) s.markers.items narrow in
-        let own_fits : width_of (chars_at (cow_str_bytes s.source) k) ≤ room_of r frame = le_of _ _ (and_parts _ _ (and_parts _ _ parts.0).0).0 in
+        let narrow : list_all (λ a. not (is_marked_on (cow_str_bytes s.source) k a && is_wide (room_of r layout) placeholder_width (cow_str_bytes s.source) a)) s.markers.items ≡ true = parts.1 in
+        let none : wide_spans (room_of r layout) placeholder_width s k ≡ 0 = count-none (λ a. is_marked_on (cow_str_bytes s.source) k a && is_wide (room_of r layout) placeholder_width (cow_str_bytes s.source) a) s.markers.items narrow in
+        let own_fits : width_of (chars_at (cow_str_bytes s.source) k) ≤ room_of r layout = le_of _ _ (and_parts _ _ (and_parts _ _ parts.0).0).0 in
         let at_left : (bounds_of margin).left ≡ 0 = ap (λ (b : Bounds). b.left) bounds ∙ left in
-        let uncut : drop frame.code shows.source ≡ drop frame.code shows.highlighted = shows.beside.uncut (wide_is ∙ none) in
+        let uncut : drop layout.code shows.source ≡ drop layout.code shows.highlighted = shows.beside.uncut (wide_is ∙ none) in
         let narrow_text : width_of (norm (chars info.line.now)) ≤ margin.term_width = omega (arith, room, own_fits, ap width_of line_text, width_of-norm (chars_at (cow_str_bytes s.source) k)) in
-        let all : row_text (drop frame.code shows.plain) ≡ text = ap row_text (shows.whole at_left narrow_text) ∙ row_text-text_cells Quotation (norm (chars info.line.now)) ∙ line_text in (
+        let all : row_text (drop layout.code shows.plain) ≡ text = ap row_text (shows.whole at_left narrow_text) ∙ row_text-text_cells Quotation (norm (chars info.line.now)) ∙ line_text in (
           dropped_here ∙ ap (λ n. width_of
               (dropped_part n text)) left ∙ dropped-none text,
           ap row_text uncut
-              ∙ sym (drop-map (λ (cell : Cell). cell.ch) frame.code shows.highlighted)
-              ∙ ap (drop frame.code) (highlighted_text frame.code shows.dropped _ shows.plain shows.highlighted shows.highlights)
-              ∙ drop-map (λ (cell : Cell). cell.ch) frame.code shows.plain ∙ all,
+              ∙ sym (drop-map (λ (cell : Cell). cell.ch) layout.code shows.highlighted)
+              ∙ ap (drop layout.code) (highlighted_text layout.code shows.dropped _ shows.plain shows.highlighted shows.highlights)
+              ∙ drop-map (λ (cell : Cell). cell.ch) layout.code shows.plain ∙ all,
         )
 
     -- the source row shows its line
-    pub source_line : frame.gutter + 3 ≤ frame.code → ShowsSourceLine r frame s k shows.dropped shows.source
+    pub source_line : layout.gutter + 3 ≤ layout.code → ShowsSourceLine r layout s k shows.dropped shows.source
     source_line place =
-        let layout : Layout = frame in
-        let cells : List Cell = window_cells frame.decor margin (norm (chars info.line.now)) in
-        let same : (c : ℕ) → c < frame.gutter + 3 → get_or shows.source c SPACE ≡ get_or shows.plain c SPACE = λ c beside. left_cell c beside (omega (arith, beside, place)) in
+        let cells : List Cell = window_cells layout.decor margin (norm (chars info.line.now)) in
+        let same : (c : ℕ) → c < layout.gutter + 3 → get_or shows.source c SPACE ≡ get_or shows.plain c SPACE = λ c beside. left_cell c beside (omega (arith, beside, place)) in
         record {
           within = within;
-          left = left_of_source layout shown cells shows.plain shows.source fits place shows.shows same ∙ ap (cells_left frame.decor frame.gutter) same_number;
+          left = left_of_source layout shown cells shows.plain shows.source fits place shows.shows same
+              ∙ ap (cells_left layout.decor layout.gutter) same_number;
           space = space_of_source layout shown cells shows.plain shows.source fits place shows.shows same;
           bars = shows.beside.bar_cells;
           window = record {
             ordered = omega (arith, ordered, ap (λ (b : Bounds). b.left) bounds, ap (λ (b : Bounds). b.right) bounds);
             dropped_is = dropped_here;
-            shown_is = subst (λ n. AreReplaced (placeholder_of frame.decor)
-                n (window (placeholder_of frame.decor) (room_of r frame) (bounds_in r frame s).left (bounds_in r frame s).right text)
-                (row_text (drop frame.code shows.source)))
-                wide_is (subst (λ before. AreReplaced (placeholder_of frame.decor)
-                (wide_entries margin.term_width frame.decor (map (shifted shows.dropped) es)) before (row_text (drop frame.code shows.source)))
+            shown_is = subst (λ n. AreReplaced (placeholder_of layout.decor)
+                n (window (placeholder_of layout.decor) (room_of r layout) (bounds_in r layout s).left (bounds_in r layout s).right text)
+                (row_text (drop layout.code shows.source)))
+                wide_is (subst (λ before. AreReplaced (placeholder_of layout.decor)
+                (wide_entries margin.term_width layout.decor (map (shifted shows.dropped) es)) before (row_text (drop layout.code shows.source)))
                 window_text shows.beside.text);
           };
           whole = whole_text;
         }
 
     -- no label of the spans that end on the line is lost, where none of its spans is cut
-    pub labels_of_line : wide_spans (room_of r frame) placeholder_width s k ≡ 0 → ShowsLabels frame.decor frame s k shows.dropped shows.below
+    pub labels_of_line : wide_spans (room_of r layout) placeholder_width s k ≡ 0 → ShowsLabels layout.decor layout s k shows.dropped shows.below
     labels_of_line uncut =
         let parts : map seen_part es ≡ parts_on (numbered_source s) s.markers.items k = ap (λ (l : KeptLine). l.parts) seen in
         let stand = shows.strokes.labels (wide_is ∙ uncut) (labelled_at_end (numbered_source s) s.markers.items k shows.dropped es parts) in
-        labels_shown s k shows.dropped frame frame es shows.below refl parts shows.clear stand
+        labels_shown s k shows.dropped layout layout es shows.below refl parts shows.clear stand
 
     -- where the line qualifies, its strokes are those of whole spans
-    module _ (qualifies : qualifies_for_marks (room_of r frame) placeholder_width (cow_str_bytes s.source) s.markers.items k ≡ true) where
+    module _ (qualifies : qualifies_for_marks (room_of r layout) placeholder_width (cow_str_bytes s.source) s.markers.items k ≡ true) where
       abbrev moved : List LineAnnotation
       moved = map (shifted shows.dropped) es
 
       qualified_parts : (list_any (is_marked_on (cow_str_bytes s.source) k) s.markers.items ≡ true)
-          × (list_all (λ a. not (is_marked_on (cow_str_bytes s.source) k a && is_wide (room_of r frame) placeholder_width (cow_str_bytes s.source) a))
+          × (list_all (λ a. not (is_marked_on (cow_str_bytes s.source) k a && is_wide (room_of r layout) placeholder_width (cow_str_bytes s.source) a))
           s.markers.items ≡ true) × (list_all
           (λ a. not (is_marking a.kind && touches (cow_str_bytes s.source) a k && not (is_single_line (cow_str_bytes s.source) a)))
           s.markers.items ≡ true)
@@ -298,11 +299,11 @@ module _ (r : Renderer) (frame : Layout) (s : Snippet Annotation)
           let is : IsEntryOf (numbered_source s) k own.0 e = own.2 in
           lt-ltb (e.start.display - shows.dropped) (e.end.display - shows.dropped) (omega (arith, clear i d inside, is.start, is.end))))
 
-      plain : are_plain margin.term_width frame.decor moved ≡ true
+      plain : are_plain margin.term_width layout.decor moved ≡ true
       plain =
-          let none : wide_spans (room_of r frame) placeholder_width s k ≡ 0 = count-none (λ a. is_marked_on (cow_str_bytes s.source) k a && is_wide (room_of r frame) placeholder_width (cow_str_bytes s.source) a) s.markers.items qualified_parts.1 in
-          let narrow : (wide_entries margin.term_width frame.decor moved == 0) ≡ true = eq-eqb (wide_entries margin.term_width frame.decor moved) 0 (wide_is ∙ none) in
-          and_from (list_all is_single moved) (list_all has_column moved && wide_entries margin.term_width frame.decor moved == 0) (single-shifted shows.dropped es single) (and_from (list_all has_column moved) (wide_entries margin.term_width frame.decor moved == 0) columns narrow)
+          let none : wide_spans (room_of r layout) placeholder_width s k ≡ 0 = count-none (λ a. is_marked_on (cow_str_bytes s.source) k a && is_wide (room_of r layout) placeholder_width (cow_str_bytes s.source) a) s.markers.items qualified_parts.1 in
+          let narrow : (wide_entries margin.term_width layout.decor moved == 0) ≡ true = eq-eqb (wide_entries margin.term_width layout.decor moved) 0 (wide_is ∙ none) in
+          and_from (list_all is_single moved) (list_all has_column moved && wide_entries margin.term_width layout.decor moved == 0) (single-shifted shows.dropped es single) (and_from (list_all has_column moved) (wide_entries margin.term_width layout.decor moved == 0) columns narrow)
 
       -- there is a row below
       pub marks_there : 0 < length shows.below
@@ -311,21 +312,21 @@ module _ (r : Renderer) (frame : Layout) (s : Snippet Annotation)
           shows.strokes.some plain (omega (arith, some, length-map es (shifted shows.dropped)))
 
       -- and it has the marks of the line
-      pub marks_of_line : ShowsMarksOf frame.decor frame s k shows.dropped (row_at shows.below 0)
+      pub marks_of_line : ShowsMarksOf layout.decor layout s k shows.dropped (row_at shows.below 0)
       marks_of_line =
           let row : List Cell = row_at shows.below 0 in
           let d : ℕ = shows.dropped in
-          let marks_are : ShowsMarks frame.decor frame.code moved row = shows.strokes.marks plain in
+          let marks_are : ShowsMarks layout.decor layout.code moved row = shows.strokes.marks plain in
           let strokes_row = shows.strokes.are 0 marks_there in
           record {
             marks = λ p kind mark.
                 let own : IsEntryMark es p kind = mark_of_entries (numbered_source s) s.markers.items k es same p kind mark in
                 let right : d ≤ p = omega (arith, All-contains (λ (e : LineAnnotation). d ≤ e.start.display) es own.entry clear own.among, own.covers.0) in
-                subst (λ c. IsMarkCell frame.decor kind (get_or row c SPACE)) (omega (arith, right)) (marks_are.marks (p - d) kind (shifted_mark d es clear p kind own));
+                subst (λ c. IsMarkCell layout.decor kind (get_or row c SPACE)) (omega (arith, right)) (marks_are.marks (p - d) kind (shifted_mark d es clear p kind own));
             unmarked = λ p right none. subst (λ c. has_mark_role (get_or row c SPACE) ≡ false) (omega (arith, right)) (marks_are.unmarked (p - d) (shifted_unmarked d es clear p right (unmarked_by_entries (numbered_source s) s.markers.items k es same p none)));
             before = λ p right left. subst (λ c. get_or row c SPACE ≡ SPACE) (omega (arith, right))
-                (strokes_row.before plain (frame.code + (p - d)) (frame.code + (p - d) + 1) (omega arith) (omega arith)
-                (shifted_after d es clear frame.code p right (entries_after (numbered_source s) s.markers.items k es same frame.code p left)));
+                (strokes_row.before plain (layout.code + (p - d)) (layout.code + (p - d) + 1) (omega arith) (omega arith)
+                (shifted_after d es clear layout.code p right (entries_after (numbered_source s) s.markers.items k es same layout.code p left)));
             spaces = λ unlabelled p right none. subst (λ c. get_or row c SPACE ≡ SPACE) (omega (arith, right))
                 (marks_are.spaces (All-map (λ (e : LineAnnotation). label_text e ≡ []) (shifted d) es (unlabelled_entries (numbered_source s)
                 s.markers.items k es same unlabelled)) (p - d)
@@ -337,7 +338,7 @@ module _ (r : Renderer) (frame : Layout) (s : Snippet Annotation)
                 let right : d ≤ e.start.display = All-head (λ (x : LineAnnotation). d ≤ x.start.display) e [] (subst (All (λ (x : LineAnnotation). d ≤ x.start.display)) own.1 clear) in
                 let after = marks_are.lone (shifted d e) (ap (map (shifted d)) own.1) (omega (arith, is.start, is.end, right)) (omega (arith, label, ap length is.label)) in
                 subst (λ c. row_text (drop c row) ≡ 32 ∷ shown_label a)
-                (let at : frame.code + (e.end.display - d) ≡ frame.code + end_column (cow_str_bytes s.source) a - d = omega (
+                (let at : layout.code + (e.end.display - d) ≡ layout.code + end_column (cow_str_bytes s.source) a - d = omega (
                   arith,
                   is.end,
                   is.start,

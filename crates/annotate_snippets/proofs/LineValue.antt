@@ -47,7 +47,7 @@ one_margin : (m : Margin) (room : ℕ) (bounds : Bounds) → m.term_width ≡ ro
 one_margin m room bounds room_is bounds_are =
     ap (margin_at m.term_width) bounds_are ∙ ap (λ w. margin_at w bounds) room_is
 
-module _ (r : Renderer) (frame : Layout) (closes : Bool) (s : Snippet Annotation) (open_bars : List Bar) (k : ℕ) where
+module _ (r : Renderer) (layout : Layout) (closes : Bool) (s : Snippet Annotation) (open_bars : List Bar) (k : ℕ) where
   -- whether an entry highlights the source
   abbrev colours : LineAnnotation → Bool
   colours e = not (is_end_part e.annotation_type)
@@ -55,32 +55,31 @@ module _ (r : Renderer) (frame : Layout) (closes : Bool) (s : Snippet Annotation
   -- the rows that entries make of a text in a margin, of which so many columns are dropped
   abbrev made : Margin → List ℕ → ℕ → List LineAnnotation → List (List Cell)
   made margin text dropped es =
-      line_rows frame margin.term_width closes text dropped open_bars es
-      (highlighted_row frame.code dropped (filter colours es)
-      (source_row frame (number_text r s.line_numbering frame.gutter (s.line_start + k)) (window_cells frame.decor margin text)))
+      line_rows layout margin.term_width closes text dropped open_bars es
+      (highlighted_row layout.code dropped (filter colours es)
+      (source_row layout (number_text r s.line_numbering layout.gutter (s.line_start + k)) (window_cells layout.decor margin text)))
 
   -- they don't depend on where labels stand in memory
   made_plain : (margin : Margin) (text : List ℕ) (dropped : ℕ) (es : List LineAnnotation)
       → made margin text dropped (map plain_entry es) ≡ made margin text dropped es
   made_plain margin text dropped es =
-      let source : List Cell = source_row frame (number_text r s.line_numbering frame.gutter (s.line_start + k)) (window_cells frame.decor margin text) in
-      let Rows : List LineAnnotation → List Cell → List (List Cell) = λ xs row. line_rows frame margin.term_width closes text dropped open_bars xs row in
-      ap (λ xs. Rows (map plain_entry es) (highlighted_row frame.code dropped xs source)) (filter-map colours plain_entry es)
-      ∙ ap (Rows (map plain_entry es)) (highlighted_row-plain frame.code dropped (filter colours es) source)
-      ∙ line_rows-plain frame margin.term_width closes text dropped open_bars es (highlighted_row frame.code dropped (filter colours es) source)
+      let source : List Cell = source_row layout (number_text r s.line_numbering layout.gutter (s.line_start + k)) (window_cells layout.decor margin text) in
+      let Rows : List LineAnnotation → List Cell → List (List Cell) = λ xs row. line_rows layout margin.term_width closes text dropped open_bars xs row in
+      ap (λ xs. Rows (map plain_entry es) (highlighted_row layout.code dropped xs source)) (filter-map colours plain_entry es)
+      ∙ ap (Rows (map plain_entry es)) (highlighted_row-plain layout.code dropped (filter colours es) source)
+      ∙ line_rows-plain layout margin.term_width closes text dropped open_bars es (highlighted_row layout.code dropped (filter colours es) source)
 
   -- the columns that are dropped from a text in a margin
   abbrev dropped_in : Margin → List ℕ → ℕ
   dropped_in margin text = width_of (dropped_part (bounds_of margin).left text)
 
   -- rows that are drawn for a line are the form's
-  pub line_value : (rows : List (List Cell)) → IsLineDrawn r frame closes s open_bars k rows → rows ≡ rows_of_line r frame closes s open_bars k
+  pub line_value : (rows : List (List Cell)) → IsLineDrawn r layout closes s open_bars k rows → rows ≡ rows_of_line r layout closes s open_bars k
   line_value rows line =
-      let layout = frame in
       let entries : List LineAnnotation = map line_entry (entries_on s k) in
       let entries_are : map plain_entry line.entries ≡ entries = sym (plain_parts line.entries) ∙ ap (map line_entry) line.are in
-      let margin_is : line.margin ≡ margin_in r frame s = one_margin line.margin (room_of r frame) (bounds_in r frame s) line.room line.bounds in
-      let source_is = highlighted_is frame.code line.dropped (filter colours line.entries) line.plain line.highlighted line.highlights ∙ ap (highlighted_row frame.code line.dropped (filter colours line.entries)) line.shows.is in
+      let margin_is : line.margin ≡ margin_in r layout s = one_margin line.margin (room_of r layout) (bounds_in r layout s) line.room line.bounds in
+      let source_is = highlighted_is layout.code line.dropped (filter colours line.entries) line.plain line.highlighted line.highlights ∙ ap (highlighted_row layout.code line.dropped (filter colours line.entries)) line.shows.is in
       line_rows_are layout line.margin.term_width closes line.text line.dropped open_bars line.entries line.highlighted rows line.drawn
       ∙ ap (line_rows layout line.margin.term_width closes line.text line.dropped open_bars line.entries) source_is
       ∙ sym (made_plain line.margin line.text line.dropped line.entries)

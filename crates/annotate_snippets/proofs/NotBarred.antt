@@ -63,7 +63,7 @@ no_line layout bar primary same =
     by_kind Unicode false true is = omega (arith, is)
     by_kind Unicode false false is = omega (arith, is)
 
-module _ (r : Renderer) (frame : Layout) (s : Snippet Annotation) (rows : List NamedRow) (shown : ShowsBars r frame s rows) (above : List NamedRow) (row : NamedRow) (below : List NamedRow) (is : rows ≡ above ++ row ∷ below) where
+module _ (r : Renderer) (layout : Layout) (s : Snippet Annotation) (rows : List NamedRow) (shown : ShowsBars r layout s rows) (above : List NamedRow) (row : NamedRow) (below : List NamedRow) (is : rows ≡ above ++ row ∷ below) where
   -- the row stands between the lines of a span of several lines
   record GoesPast (a : Annotation) : Type 0 where
     among : Contains s.markers.items a
@@ -71,10 +71,10 @@ module _ (r : Renderer) (frame : Layout) (s : Snippet Annotation) (rows : List N
     first : first_line (cow_str_bytes s.source) a < line_beside above row.name
     last : line_beside above row.name < last_line (cow_str_bytes s.source) a
 
-  has_bar : (a : Annotation) → GoesPast a → slice_index_or row.cells (bar_cell_of frame s a) SPACE ≡ SPACE → ⊥
+  has_bar : (a : Annotation) → GoesPast a → slice_index_or row.cells (bar_cell_of layout s a) SPACE ≡ SPACE → ⊥
   has_bar a past empty =
       let bar = shown.stand a past.among past.long above row below is past.first past.last in
-      no_space frame row.name (bar_of_span s a) (sym bar ∙ empty)
+      no_space layout row.name (bar_of_span s a) (sym bar ∙ empty)
 
   -- a space in the cell of a bar, beside a line between the first and the last of its span:
   --
@@ -85,32 +85,32 @@ module _ (r : Renderer) (frame : Layout) (s : Snippet Annotation) (rows : List N
   --       | |_^
   pub bar_left_out : (a : Annotation) → Contains s.markers.items a → is_long (cow_str_bytes s.source) a ≡ true
       → first_line (cow_str_bytes s.source) a < line_beside above row.name → line_beside above row.name < last_line (cow_str_bytes s.source) a
-      → slice_index_or row.cells (bar_cell_of frame s a) SPACE ≡ SPACE → ⊥
+      → slice_index_or row.cells (bar_cell_of layout s a) SPACE ≡ SPACE → ⊥
   bar_left_out a among long first last empty = has_bar a (record { among = among; long = long; first = first; last = last }) empty
 
   -- a bar of no span, beside a line or lines that are left out, in a snippet that has no span of several lines:
   --
   --     2 ┃ b
-  pub bar_of_no_span : All (λ a. is_long (cow_str_bytes s.source) a ≡ false) s.markers.items → shows_lines row.name ≡ true → (c : ℕ) → frame.gutter + 3 ≤ c
-      → c < frame.code → (slice_index_or row.cells c SPACE ≡ SPACE → ⊥) → ⊥
+  pub bar_of_no_span : All (λ a. is_long (cow_str_bytes s.source) a ≡ false) s.markers.items → shows_lines row.name ≡ true → (c : ℕ) → layout.gutter + 3 ≤ c
+      → c < layout.code → (slice_index_or row.cells c SPACE ≡ SPACE → ⊥) → ⊥
   bar_of_no_span none shows c from to filled =
       filled (shown.spaces above row below is shows c from to (All-weaker (λ (a : Annotation). is_long (cow_str_bytes s.source) a ≡ false)
-      (λ a. is_long (cow_str_bytes s.source) a ≡ true → touches (cow_str_bytes s.source) a (line_beside above row.name) ≡ true → bar_cell_of frame s a ≢ c) (λ a short long touched same. both_ways (is_long (cow_str_bytes s.source) a) short long) s.markers.items none))
+      (λ a. is_long (cow_str_bytes s.source) a ≡ true → touches (cow_str_bytes s.source) a (line_beside above row.name) ≡ true → bar_cell_of layout s a ≢ c) (λ a short long touched same. both_ways (is_long (cow_str_bytes s.source) a) short long) s.markers.items none))
 
   -- nor below a line, whatever bar that is:
   --
   --     2 | b
   --       ┃ ^
   pub bar_of_no_span_below : All (λ a. is_long (cow_str_bytes s.source) a ≡ false) s.markers.items → (bar : Bar)
-      → frame.gutter + 3 ≤ frame.gutter + 2 + bar.depth → frame.gutter + 2 + bar.depth < frame.code
-      → slice_index_or row.cells (frame.gutter + 2 + bar.depth) SPACE ≡ solid_bar frame bar → ⊥
+      → layout.gutter + 3 ≤ layout.gutter + 2 + bar.depth → layout.gutter + 2 + bar.depth < layout.code
+      → slice_index_or row.cells (layout.gutter + 2 + bar.depth) SPACE ≡ solid_bar layout bar → ⊥
   bar_of_no_span_below none bar from to there =
-      let c : ℕ = frame.gutter + 2 + bar.depth in
+      let c : ℕ = layout.gutter + 2 + bar.depth in
       let clear = shown.others above row below is c from to (All-weaker (λ (a : Annotation). is_long (cow_str_bytes s.source) a ≡ false)
-      (λ a. is_long (cow_str_bytes s.source) a ≡ true → touches (cow_str_bytes s.source) a (line_beside above row.name) ≡ true → bar_cell_of frame s a ≢ c) (λ a short long touched same. both_ways (is_long (cow_str_bytes s.source) a) short long) s.markers.items none) in
+      (λ a. is_long (cow_str_bytes s.source) a ≡ true → touches (cow_str_bytes s.source) a (line_beside above row.name) ≡ true → bar_cell_of layout s a ≢ c) (λ a short long touched same. both_ways (is_long (cow_str_bytes s.source) a) short long) s.markers.items none) in
       elim clear [
-        | inl space ↦ no_space frame Other bar (sym there ∙ space)
-        | inr line ↦ no_line frame bar line.0 (sym there ∙ line.1)
+        | inl space ↦ no_space layout Other bar (sym there ∙ space)
+        | inr line ↦ no_line layout bar line.0 (sym there ∙ line.1)
       ]
 
   -- a space in the cell of a bar, beside the last line of its span:
@@ -120,10 +120,10 @@ module _ (r : Renderer) (frame : Layout) (s : Snippet Annotation) (rows : List N
   --     2 |   }
   --       | |_^
   pub bar_left_out_at_its_end : (a : Annotation) → Contains s.markers.items a → is_long (cow_str_bytes s.source) a ≡ true
-      → row.name ≡ SourceRow (last_line (cow_str_bytes s.source) a) → slice_index_or row.cells (bar_cell_of frame s a) SPACE ≡ SPACE → ⊥
+      → row.name ≡ SourceRow (last_line (cow_str_bytes s.source) a) → slice_index_or row.cells (bar_cell_of layout s a) SPACE ≡ SPACE → ⊥
   bar_left_out_at_its_end a among long last empty =
       let ends = shown.end a among long above row below is last in
-      no_space frame Other (bar_of_span s a) (sym (ends.beside 0 ends.below) ∙ empty)
+      no_space layout Other (bar_of_span s a) (sym (ends.beside 0 ends.below) ∙ empty)
 
   -- no corner at which the bar ends, in any row of the last line of its span:
   --
@@ -131,7 +131,7 @@ module _ (r : Renderer) (frame : Layout) (s : Snippet Annotation) (rows : List N
   --       ┃━━━┛
   pub corner_left_out : (a : Annotation) → Contains s.markers.items a → is_long (cow_str_bytes s.source) a ≡ true
       → row.name ≡ SourceRow (last_line (cow_str_bytes s.source) a)
-      → ((i : ℕ) → cell_at (row.cells ∷ rows_below below) i (bar_cell_of frame s a) ≡ end_corner frame (bar_of_span s a) → ⊥) → ⊥
+      → ((i : ℕ) → cell_at (row.cells ∷ rows_below below) i (bar_cell_of layout s a) ≡ end_corner layout (bar_of_span s a) → ⊥) → ⊥
   corner_left_out a among long last none =
       let ends = shown.end a among long above row below is last in
       none ends.corner ends.corner_is
@@ -149,17 +149,17 @@ module _ (r : Renderer) (frame : Layout) (s : Snippet Annotation) (rows : List N
       → first_line (cow_str_bytes s.source) a < line_beside above row.name → line_beside above row.name < last_line (cow_str_bytes s.source) a
       → first_line (cow_str_bytes s.source) b < line_beside above row.name → line_beside above row.name < last_line (cow_str_bytes s.source) b
       → (a.span.start ≡ b.span.start → a.span.end ≡ b.span.end → ⊥)
-      → (column : ℕ) → ((c : ℕ) → frame.gutter + 3 ≤ c → c < frame.code → (c ≡ column → ⊥) → slice_index_or row.cells c SPACE ≡ SPACE) → ⊥
+      → (column : ℕ) → ((c : ℕ) → layout.gutter + 3 ≤ c → c < layout.code → (c ≡ column → ⊥) → slice_index_or row.cells c SPACE ≡ SPACE) → ⊥
   bars_all_in_one_column a b among-a among-b long-a long-b first-a last-a first-b last-b differ column spaces =
-      let at-a : bar_cell_of frame s a ≡ column = in_column a (record { among = among-a; long = long-a; first = first-a; last = last-a }) in
-      let at-b : bar_cell_of frame s b ≡ column = in_column b (record { among = among-b; long = long-b; first = first-b; last = last-b }) in
+      let at-a : bar_cell_of layout s a ≡ column = in_column a (record { among = among-a; long = long-a; first = first-a; last = last-a }) in
+      let at-b : bar_cell_of layout s b ≡ column = in_column b (record { among = among-b; long = long-b; first = first-b; last = last-b }) in
       let same = shown.apart a b among-a among-b long-a long-b (omega (arith, first-a, last-b)) (omega (arith, first-b, last-a)) (at-a ∙ sym at-b) in
       differ same.0 same.1
     where
-      in_column : (x : Annotation) → GoesPast x → bar_cell_of frame s x ≡ column
+      in_column : (x : Annotation) → GoesPast x → bar_cell_of layout s x ≡ column
       in_column x past =
           let within = shown.within x past.among past.long in
-          elim (cases_eq (bar_cell_of frame s x) column) [
+          elim (cases_eq (bar_cell_of layout s x) column) [
             | inl same ↦ same
-            | inr apart ↦ absurd (has_bar x past (spaces (bar_cell_of frame s x) within.0 (omega (arith, within.1)) apart))
+            | inr apart ↦ absurd (has_bar x past (spaces (bar_cell_of layout s x) within.0 (omega (arith, within.1)) apart))
           ]

@@ -29,7 +29,7 @@ use Rattle.annotate_snippets.specs.Rows.{cause_head, rows_after_cause}
 use Rattle.annotate_snippets.specs.Settings.{plain_settings}
 use Rattle.annotate_snippets.specs.Shown.{AreRowsOf, IsRowBelow, IsRowOf, ShowsSnippet, ShowsSourceLine}
 use Rattle.annotate_snippets.proofs.DrawnLines.{bars_seen}
-use Rattle.annotate_snippets.proofs.NotShown.{frame, span_of}
+use Rattle.annotate_snippets.proofs.NotShown.{layout, span_of}
 use Rattle.annotate_snippets.proofs.NotWhole.{IsLineA, unnamed}
 
 -- two rows below a line on which one entry stands:
@@ -37,22 +37,22 @@ use Rattle.annotate_snippets.proofs.NotWhole.{IsLineA, unnamed}
 --     1 | ab cd
 --       | ^^
 --       |
-pub row_doubled : (r : Renderer) (frame : Layout) (closes : Bool) (s : Snippet Annotation) (open_bars : List Bar) (k : ℕ) (rows : List (List Cell))
-    → IsLineDrawn r frame closes s open_bars k rows → length (entries_on s k) ≡ 1 → 2 < length rows → ⊥
-row_doubled r frame closes s open_bars k rows line lone many =
+pub row_doubled : (r : Renderer) (layout : Layout) (closes : Bool) (s : Snippet Annotation) (open_bars : List Bar) (k : ℕ) (rows : List (List Cell))
+    → IsLineDrawn r layout closes s open_bars k rows → length (entries_on s k) ≡ 1 → 2 < length rows → ⊥
+row_doubled r layout closes s open_bars k rows line lone many =
     let one : length line.entries ≡ 1 = sym (length-map line.entries seen_part) ∙ ap length line.are ∙ lone in
-    omega (arith, many, lone_rows frame line.margin.term_width closes line.text line.dropped line.highlighted rows open_bars line.entries line.drawn one)
+    omega (arith, many, lone_rows layout line.margin.term_width closes line.text line.dropped line.highlighted rows open_bars line.entries line.drawn one)
 
 -- beside a line on which no bar begins or ends, and above which one is open, a cell at its depth in another role than that of the
 -- bar's kind, be it of the other kind or a space:
 --
 --     2 ┃ b         where the span is for context
-pub bar_of_other_kind : (r : Renderer) (frame : Layout) (closes : Bool) (s : Snippet Annotation) (bar : Bar) (k : ℕ) (rows : List (List Cell))
-    → IsLineDrawn r frame closes s (bar ∷ []) k rows → bars_on s k ≡ [] → (i : ℕ) → i < length rows
-    → ((cell_at rows i (frame.gutter + 2 + bar.depth)).role ≡ underline_role bar.primary → ⊥) → ⊥
-bar_of_other_kind r frame closes s bar k rows line none i within other =
+pub bar_of_other_kind : (r : Renderer) (layout : Layout) (closes : Bool) (s : Snippet Annotation) (bar : Bar) (k : ℕ) (rows : List (List Cell))
+    → IsLineDrawn r layout closes s (bar ∷ []) k rows → bars_on s k ≡ [] → (i : ℕ) → i < length rows
+    → ((cell_at rows i (layout.gutter + 2 + bar.depth)).role ≡ underline_role bar.primary → ⊥) → ⊥
+bar_of_other_kind r layout closes s bar k rows line none i within other =
     let ends = bars_seen s k line.entries line.are ∙ none in
-    other (ap (λ (cell : Cell). cell.role) (bar_beside frame line.margin.term_width closes line.text line.dropped line.highlighted rows bar line.entries line.drawn ends i within))
+    other (ap (λ (cell : Cell). cell.role) (bar_beside layout line.margin.term_width closes line.text line.dropped line.highlighted rows bar line.entries line.drawn ends i within))
 
 -- ---- rows that no line has
 
@@ -65,7 +65,7 @@ one_line false = refl
 -- rows between those that a snippet begins with and those below its lines
 abbrev page_of : Snippet Annotation → ElementContext → List NamedRow → List NamedRow
 page_of s around rows =
-    others (cause_head plain_settings frame around s) ++ (rows ++ others (rows_after_cause plain_settings frame around))
+    others (cause_head plain_settings layout around s) ++ (rows ++ others (rows_after_cause plain_settings layout around))
 
 -- a row above the first line of a snippet that isn't its, here below the separator row that the snippet begins with, whatever it
 -- is named:
@@ -75,12 +75,12 @@ page_of s around rows =
 --     1 | a
 --       | ^
 pub row_above_the_first_line : (s : Snippet Annotation) → IsLineA s → (around : ElementContext) (row : NamedRow) (more : List NamedRow)
-    → HasNoNumber 1 row.cells → ShowsSnippet plain_settings frame around s (page_of s around (row ∷ more)) → ⊥
+    → HasNoNumber 1 row.cells → ShowsSnippet plain_settings layout around s (page_of s around (row ∷ more)) → ⊥
 row_above_the_first_line s is around row more none shown =
     let closes : Bool = closes_with around in
-    let tail : List NamedRow = others (rows_after_cause plain_settings frame around) in
-    let same : shown.after ≡ row ∷ more = append_cancel_right shown.after (row ∷ more) tail (sym (append_cancel_left (others (cause_head plain_settings frame around s)) ((row ∷ more) ++ tail) (shown.after ++ tail) shown.rows_are)) in
-    let named : IsRowOf plain_settings frame closes s row.name row.cells more = (subst (AreRowsOf plain_settings frame closes s) same shown.named).0 in
+    let tail : List NamedRow = others (rows_after_cause plain_settings layout around) in
+    let same : shown.after ≡ row ∷ more = append_cancel_right shown.after (row ∷ more) tail (sym (append_cancel_left (others (cause_head plain_settings layout around s)) ((row ∷ more) ++ tail) (shown.after ++ tail) shown.rows_are)) in
+    let named : IsRowOf plain_settings layout closes s row.name row.cells more = (subst (AreRowsOf plain_settings layout closes s) same shown.named).0 in
     let names : names_in (row ∷ more) ≡ SourceRow 0 ∷ [] = ap names_in (sym same) ∙ shown.elided ∙ ap (λ source. names_of_lines (shown_lines s.fold source s.markers.items)) is.is.source_is ∙ ap (λ marks. names_of_lines (shown_lines s.fold (codes "a") marks)) is.is.marks_are ∙ one_line s.fold in
     by_name row.name (unnamed closes s is row.name row.cells more none named) (subst (λ rows. rows_below rows ≡ []) same shown.begins) names
   where
@@ -98,9 +98,9 @@ row_above_the_first_line s is around row more none shown =
 --     ...
 --       |
 --     9 | b
-pub row_below_an_elision : (r : Renderer) (frame : Layout) (closes : Bool) (s : Snippet Annotation) (open_bars : List Bar) (above row : NamedRow) (more : List NamedRow) → above.name ≡ Elision → shows_lines row.name ≡ false → AreRowsDrawn r frame closes s open_bars (above ∷ row ∷ more) → ⊥
-row_below_an_elision r frame closes s open_bars above row more elided other drawn =
-    let own : IsRowDrawn r frame closes s open_bars Elision above.cells (row ∷ more) = subst (λ name. IsRowDrawn r frame closes s open_bars name above.cells (row ∷ more)) elided drawn.0 in
+pub row_below_an_elision : (r : Renderer) (layout : Layout) (closes : Bool) (s : Snippet Annotation) (open_bars : List Bar) (above row : NamedRow) (more : List NamedRow) → above.name ≡ Elision → shows_lines row.name ≡ false → AreRowsDrawn r layout closes s open_bars (above ∷ row ∷ more) → ⊥
+row_below_an_elision r layout closes s open_bars above row more elided other drawn =
+    let own : IsRowDrawn r layout closes s open_bars Elision above.cells (row ∷ more) = subst (λ name. IsRowDrawn r layout closes s open_bars name above.cells (row ∷ more)) elided drawn.0 in
     let one : row.cells ∷ rows_below more ≡ [] = sym (ap (λ b. cond b [] (row.cells ∷ rows_below more)) other) ∙ own.1 in
     absurd (omega (arith, ap length one))
 
@@ -110,7 +110,7 @@ row_below_an_elision r frame closes s open_bars above row more elided other draw
 --
 --     1 |:ab
 pub punctuation_left_of_the_code : (s : Snippet Annotation) (k dropped : ℕ)
-    → ShowsSourceLine plain_settings frame s k dropped (text_cells LineNumber (codes "1") ++ SPACE ∷ text_cells LineNumber (codes "|:") ++ text_cells Quotation (codes "ab")) → ⊥
+    → ShowsSourceLine plain_settings layout s k dropped (text_cells LineNumber (codes "1") ++ SPACE ∷ text_cells LineNumber (codes "|:") ++ text_cells Quotation (codes "ab")) → ⊥
 punctuation_left_of_the_code s k dropped shown =
     let letter : ◌≡◌ {A = ℕ} 58 32 = ap (λ (cell : Cell). cell.ch) shown.space in
     absurd (omega (arith, letter))
@@ -119,7 +119,7 @@ punctuation_left_of_the_code s k dropped shown =
 --
 --     . | ^^
 pub punctuation_in_the_gutter : (closes : Bool) (cells : List Cell)
-    → IsRowBelow Ascii frame closes (text_cells LineNumber (codes ".") ++ SPACE ∷ text_cells LineNumber (codes "|") ++ cells) → ⊥
+    → IsRowBelow Ascii layout closes (text_cells LineNumber (codes ".") ++ SPACE ∷ text_cells LineNumber (codes "|") ++ cells) → ⊥
 punctuation_in_the_gutter closes cells shown =
     let letter : ◌≡◌ {A = ℕ} 46 32 = ap (λ (cell : Cell). cell.ch) (shown.left 0 (omega arith) ∙ bare_row_left Ascii 1 closes 0 (omega arith)) in
     absurd (omega (arith, letter))

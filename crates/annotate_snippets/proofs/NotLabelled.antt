@@ -35,9 +35,9 @@ label_role_is Context = refl
 label_role_is Visible = refl
 
 -- a label that stands begins with a cell in such a role
-begins : (frame : Layout) (dropped : ℕ) (rows : List (List Cell)) (l : ShownLabel) → 0 < length l.label.text → ShowsLabel frame dropped rows l
+begins : (layout : Layout) (dropped : ℕ) (rows : List (List Cell)) (l : ShownLabel) → 0 < length l.label.text → ShowsLabel layout dropped rows l
     → is_label_role (cell_at rows l.row l.cell).role ≡ true
-begins frame dropped rows l some shows =
+begins layout dropped rows l some shows =
     let first : l.cell + 0 ≡ l.cell = omega arith in
     ap (λ c. is_label_role (cell_at rows l.row c).role) (sym first) ∙ ap (λ (cell : Cell). is_label_role cell.role) (shows.whole 0 some) ∙ label_role_is l.label.kind
 
@@ -45,35 +45,35 @@ begins frame dropped rows l some shows =
 --
 --     1 | ab cd
 --       | ^^ --
-pub label_left_out : (decor : DecorStyle) (frame : Layout) (s : Snippet Annotation) (k dropped : ℕ) (rows : List (List Cell))
-    → ShowsLabels decor frame s k dropped rows → (a : SpanLabel) → Contains (labels_ending_on s k) a → 0 < length a.text
+pub label_left_out : (decor : DecorStyle) (layout : Layout) (s : Snippet Annotation) (k dropped : ℕ) (rows : List (List Cell))
+    → ShowsLabels decor layout s k dropped rows → (a : SpanLabel) → Contains (labels_ending_on s k) a → 0 < length a.text
     → ((r c : ℕ) → is_label_role (cell_at rows r c).role ≡ false) → ⊥
-label_left_out decor frame s k dropped rows shows a among some none =
-    let P : ShownLabel → Type 0 = λ l. 0 < length l.label.text → ShowsLabel frame dropped rows l in
+label_left_out decor layout s k dropped rows shows a among some none =
+    let P : ShownLabel → Type 0 = λ l. 0 < length l.label.text → ShowsLabel layout dropped rows l in
     let found = from_map (λ (l : ShownLabel). l.label) shows.labels a (subst (λ spans. Contains spans a) (sym shows.spans) among) in
     let l : ShownLabel = found.0 in
     let own : 0 < length l.label.text = omega (arith, some, ap (λ (x : SpanLabel). length x.text) found.2) in
-    false≢true (sym (none l.row l.cell) ∙ begins frame dropped rows l own (All-contains P shows.labels l shows.stand found.1 own))
+    false≢true (sym (none l.row l.cell) ∙ begins layout dropped rows l own (All-contains P shows.labels l shows.stand found.1 own))
 
 -- the label stands, if it has anything to show
 abbrev Stands : Layout → ℕ → List (List Cell) → ShownLabel → Type 0
-Stands frame dropped rows l = 0 < length l.label.text → ShowsLabel frame dropped rows l
+Stands layout dropped rows l = 0 < length l.label.text → ShowsLabel layout dropped rows l
 
 -- rows with one such cell alone, below a line on which two spans end that have a label, be it the same one: the labels stand over one
 -- another:
 --
 --     1 | ab cd
 --       | ^^ -- x
-pub label_over_another : (decor : DecorStyle) (frame : Layout) (s : Snippet Annotation) (k dropped : ℕ) (rows : List (List Cell))
-    → ShowsLabels decor frame s k dropped rows → (a b : SpanLabel) → labels_ending_on s k ≡ a ∷ b ∷ [] → 0 < length a.text → 0 < length b.text
+pub label_over_another : (decor : DecorStyle) (layout : Layout) (s : Snippet Annotation) (k dropped : ℕ) (rows : List (List Cell))
+    → ShowsLabels decor layout s k dropped rows → (a b : SpanLabel) → labels_ending_on s k ≡ a ∷ b ∷ [] → 0 < length a.text → 0 < length b.text
     → (row cell : ℕ) → ((r c : ℕ) → is_label_role (cell_at rows r c).role ≡ true → (r ≡ row) × (c ≡ cell)) → ⊥
-label_over_another decor frame s k dropped rows shows a b spans some_a some_b row cell alone =
+label_over_another decor layout s k dropped rows shows a b spans some_a some_b row cell alone =
     over shows.labels (shows.spans ∙ spans) shows.stand (shows.apart row cell)
   where
     -- each of the two holds that cell
-    holds : (l : ShownLabel) → 0 < length l.label.text → Stands frame dropped rows l → is_in_label row cell l ≡ true
+    holds : (l : ShownLabel) → 0 < length l.label.text → Stands layout dropped rows l → is_in_label row cell l ≡ true
     holds l some stands =
-        let at = alone l.row l.cell (begins frame dropped rows l some (stands some)) in
+        let at = alone l.row l.cell (begins layout dropped rows l some (stands some)) in
         inside l.row l.cell row cell (length l.label.text) at.0 at.1 some
       where
         inside : (r c row cell n : ℕ) → r ≡ row → c ≡ cell → 0 < n → (r == row && (nat_le c cell && nat_lt cell (c + n))) ≡ true
@@ -85,7 +85,7 @@ label_over_another decor frame s k dropped rows shows a b spans some_a some_b ro
         let other : ◌≡◌ {A = ℕ} (cond q 1 0) 1 = ap (λ x. cond x 1 0) second in
         omega (arith, few, one, other)
 
-    over : (labels : List ShownLabel) → map (λ (l : ShownLabel). l.label) labels ≡ a ∷ b ∷ [] → All (Stands frame dropped rows) labels
+    over : (labels : List ShownLabel) → map (λ (l : ShownLabel). l.label) labels ≡ a ∷ b ∷ [] → All (Stands layout dropped rows) labels
         → count_by (is_in_label row cell) labels ≤ 1 → ⊥
     over [] are stand few = cc are
     over (l ∷ []) are stand few = cc are
@@ -95,7 +95,7 @@ label_over_another decor frame s k dropped rows shows a b spans some_a some_b ro
         let own : 0 < length l.label.text = omega (arith, some_a, ap (λ (x : SpanLabel). length x.text) first) in
         let its : 0 < length m.label.text = omega (arith, some_b, ap (λ (x : SpanLabel). length x.text) second) in
         let f : ShownLabel → ℕ = λ x. cond (is_in_label row cell x) 1 0 in
-        let P : ShownLabel → Type 0 = Stands frame dropped rows in
+        let P : ShownLabel → Type 0 = Stands layout dropped rows in
         two (is_in_label row cell l) (is_in_label row cell m) (holds l own (All-head P l (m ∷ []) stand)) (holds m its (All-head P m [] (All-tail P l (m ∷ []) stand))) (omega (arith, few, sum_by-cons f l (m ∷ []), sum_by-cons f m []))
     over (l ∷ m ∷ n ∷ labels) are stand few = cc are
 
@@ -105,10 +105,10 @@ label_over_another decor frame s k dropped rows shows a b spans some_a some_b ro
 --       | -- ^^ y
 --       |
 --       | x
-pub stem_left_out : (decor : DecorStyle) (frame : Layout) (s : Snippet Annotation) (k dropped : ℕ) (rows : List (List Cell))
-    → (shows : ShowsLabels decor frame s k dropped rows) → (l : ShownLabel) → Contains shows.labels l → 0 < length l.label.text → (r : ℕ) → 0 < r
+pub stem_left_out : (decor : DecorStyle) (layout : Layout) (s : Snippet Annotation) (k dropped : ℕ) (rows : List (List Cell))
+    → (shows : ShowsLabels decor layout s k dropped rows) → (l : ShownLabel) → Contains shows.labels l → 0 < length l.label.text → (r : ℕ) → 0 < r
     → r < l.row → count_by (is_in_label r l.cell) shows.labels ≡ 0 → cell_at rows r l.cell ≡ SPACE → ⊥
-stem_left_out decor frame s k dropped rows shows l among some r below above none blank =
+stem_left_out decor layout s k dropped rows shows l among some r below above none blank =
     let P : ShownLabel → Type 0 = λ x. 0 < length x.label.text → HasStem decor shows.labels rows x in
     let stem : IsStemCell decor (cell_at rows r l.cell) = All-contains P shows.labels l shows.led among some r below above none in
     false≢true (sym (ap has_mark_role blank) ∙ stem.1)
@@ -121,9 +121,9 @@ HasNoLabel s k = All (λ (l : SpanLabel). l.text ≡ []) (labels_ending_on s k)
 --
 --     1 | ab
 --       | ^^ x
-pub stray_word_below_a_line : (decor : DecorStyle) (frame : Layout) (s : Snippet Annotation) (k dropped : ℕ) (rows : List (List Cell))
-    → ShowsLabels decor frame s k dropped rows → HasNoLabel s k → (r c : ℕ) → frame.code ≤ c → is_label_role (cell_at rows r c).role ≡ true → ⊥
-stray_word_below_a_line decor frame s k dropped rows shows none r c right label =
+pub stray_word_below_a_line : (decor : DecorStyle) (layout : Layout) (s : Snippet Annotation) (k dropped : ℕ) (rows : List (List Cell))
+    → ShowsLabels decor layout s k dropped rows → HasNoLabel s k → (r c : ℕ) → layout.code ≤ c → is_label_role (cell_at rows r c).role ≡ true → ⊥
+stray_word_below_a_line decor layout s k dropped rows shows none r c right label =
     elim (shows.others r c right (no_cells shows.labels (subst (All (λ (l : SpanLabel). l.text ≡ [])) (sym shows.spans) none))) [
       | inl space ↦ false≢true (sym (ap (λ (cell : Cell). is_label_role cell.role) space) ∙ label)
       | inr stroke ↦ other_role (cell_at rows r c).role label stroke.1

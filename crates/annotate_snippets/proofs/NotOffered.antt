@@ -143,31 +143,32 @@ old_row_named s is Other cells same shows =
 --
 --     1 - ab
 --     1 + ab
-suggestion_repeats_old_lines : {found : List Cell} (s : Snippet Patch) → IsSnippetOf s (codes "ab") one_edit → (frame : Layout) → frame.gutter ≡ 1
-    → frame.decor ≡ Ascii
+suggestion_repeats_old_lines : {found : List Cell} (s : Snippet Patch) → IsSnippetOf s (codes "ab") one_edit → (layout : Layout) → layout.gutter ≡ 1
+    → layout.decor ≡ Ascii
     → (around : ElementContext) (row : NamedRow) (before after : List NamedRow) → row.cells ≡ offering_row (codes "ab")
-    → ShowsSuggestion plain_settings frame around found s (others (suggestion_head plain_settings frame around s) ++ (before ++ (row ∷ after))) → ⊥
-suggestion_repeats_old_lines s is frame narrow ascii around row before after row_is shown =
+    → ShowsSuggestion plain_settings layout around found s (others (suggestion_head plain_settings layout around s) ++ (before ++ (row ∷ after))) → ⊥
+suggestion_repeats_old_lines s is layout narrow ascii around row before after row_is shown =
     let rows : List NamedRow = before ++ (row ∷ after) in
-    let same : shown.after ≡ rows = append_cancel_left (others (suggestion_head plain_settings frame around s)) shown.after rows (sym shown.rows_are) in
+    let same : shown.after ≡ rows = append_cancel_left (others (suggestion_head plain_settings layout around s)) shown.after rows (sym shown.rows_are) in
     let named : All (λ r. IsSuggestionRow plain_settings Ascii 1 s r.name r.cells) rows = subst (λ gutter. All (λ r. IsSuggestionRow plain_settings Ascii gutter s r.name r.cells) rows) narrow (subst (λ decor. All
-    (λ r. IsSuggestionRow plain_settings decor frame.gutter s r.name r.cells) rows) ascii (subst (All (λ r. IsSuggestionRow plain_settings frame.decor frame.gutter s r.name r.cells)) same shown.named)) in
+    (λ r. IsSuggestionRow plain_settings decor layout.gutter s r.name r.cells) rows) ascii (subst (All (λ r. IsSuggestionRow plain_settings layout.decor layout.gutter s r.name r.cells)) same shown.named)) in
     old_row_named s is row.name row.cells row_is (row_named s before row after named).0
 
 -- so no rows that offer it twice show the suggestion, after the row of its path, where that is named:
 --
 --     1 + ac
 --     1 + ac
-second_copy_offered : {found : List Cell} (s : Snippet Patch) → IsSnippetOf s (codes "ab") one_edit → (frame : Layout) → frame.gutter ≡ 1 → frame.decor ≡ Ascii
+second_copy_offered : {found : List Cell} (s : Snippet Patch) → IsSnippetOf s (codes "ab") one_edit → (layout : Layout) → layout.gutter ≡ 1
+    → layout.decor ≡ Ascii
     → (around : ElementContext) (row copy : NamedRow) (before between after : List NamedRow) → row.cells ≡ offering_row (codes "ac")
     → copy.cells ≡ offering_row (codes "ac")
-    → ShowsSuggestion plain_settings frame around found s
-    (others (suggestion_head plain_settings frame around s) ++ (before ++ (row ∷ (between ++ (copy ∷ after))))) → ⊥
-second_copy_offered s is frame narrow ascii around row copy before between after row_is copy_is shown =
+    → ShowsSuggestion plain_settings layout around found s
+    (others (suggestion_head plain_settings layout around s) ++ (before ++ (row ∷ (between ++ (copy ∷ after))))) → ⊥
+second_copy_offered s is layout narrow ascii around row copy before between after row_is copy_is shown =
     let rows : List NamedRow = before ++ (row ∷ (between ++ (copy ∷ after))) in
-    let same : shown.after ≡ rows = append_cancel_left (others (suggestion_head plain_settings frame around s)) shown.after rows (sym shown.rows_are) in
+    let same : shown.after ≡ rows = append_cancel_left (others (suggestion_head plain_settings layout around s)) shown.after rows (sym shown.rows_are) in
     let named : All (λ r. IsSuggestionRow plain_settings Ascii 1 s r.name r.cells) rows = subst (λ gutter. All (λ r. IsSuggestionRow plain_settings Ascii gutter s r.name r.cells) rows) narrow (subst (λ decor. All
-    (λ r. IsSuggestionRow plain_settings decor frame.gutter s r.name r.cells) rows) ascii (subst (All (λ r. IsSuggestionRow plain_settings frame.decor frame.gutter s r.name r.cells)) same shown.named)) in
+    (λ r. IsSuggestionRow plain_settings decor layout.gutter s r.name r.cells) rows) ascii (subst (All (λ r. IsSuggestionRow plain_settings layout.decor layout.gutter s r.name r.cells)) same shown.named)) in
     let ordered : IsAscending (lines_offered rows) = subst (λ all. IsAscending (lines_offered all)) same shown.ordered in
     let first = row_named s before row (between ++ (copy ∷ after)) named in
     let second = row_named s between copy after first.1 in
@@ -235,11 +236,11 @@ two_spliced false = refl
 --
 --     1 ~ x
 touched_left_out : {found : List Cell} (s : Snippet Patch) → IsSnippetOf s two_lines two_edits
-    → (frame : Layout) (around : ElementContext) (rows : List NamedRow)
+    → (layout : Layout) (around : ElementContext) (rows : List NamedRow)
     → (Contains (lines_offered rows) 1 → ⊥)
-    → ShowsSuggestion plain_settings frame around found s (others (suggestion_head plain_settings frame around s) ++ rows) → ⊥
-touched_left_out s is frame around rows out shown =
-    let same : shown.after ≡ rows = append_cancel_left (others (suggestion_head plain_settings frame around s)) shown.after rows (sym shown.rows_are) in
+    → ShowsSuggestion plain_settings layout around found s (others (suggestion_head plain_settings layout around s) ++ rows) → ⊥
+touched_left_out s is layout around rows out shown =
+    let same : shown.after ≡ rows = append_cancel_left (others (suggestion_head plain_settings layout around s)) shown.after rows (sym shown.rows_are) in
     let touched : IsTouched (cow_str_bytes s.source) (edits_of s) 1 = subst (λ text. IsTouched text (edits_of s) 1) (sym is.source_is) (subst (λ es. IsTouched two_lines es 1) (sym is.edits_are) second_touched) in
     let visible : is_blank (text_at (source_lines (patched (cow_str_bytes s.source) (edits_of s))) 1) ≡ false =
     ap (λ text. is_blank (text_at (source_lines (patched text (edits_of s))) 1)) is.source_is
@@ -298,11 +299,11 @@ rest_spliced false = refl
 --
 --     1 ~ xa
 cut_at_any_line_feed : {found : List Cell} (s : Snippet Patch) → IsSnippetOf s lines_of_three put_in_and_deleted
-    → (frame : Layout) (around : ElementContext) (rows : List NamedRow)
-    → (Contains (lines_offered rows) 1 → ⊥) → ShowsSuggestion plain_settings frame around found s
-    (others (suggestion_head plain_settings frame around s) ++ rows) → ⊥
-cut_at_any_line_feed s is frame around rows out shown =
-    let same : shown.after ≡ rows = append_cancel_left (others (suggestion_head plain_settings frame around s)) shown.after rows (sym shown.rows_are) in
+    → (layout : Layout) (around : ElementContext) (rows : List NamedRow)
+    → (Contains (lines_offered rows) 1 → ⊥) → ShowsSuggestion plain_settings layout around found s
+    (others (suggestion_head plain_settings layout around s) ++ rows) → ⊥
+cut_at_any_line_feed s is layout around rows out shown =
+    let same : shown.after ≡ rows = append_cancel_left (others (suggestion_head plain_settings layout around s)) shown.after rows (sym shown.rows_are) in
     let touched : IsTouched (cow_str_bytes s.source) (edits_of s) 1 = subst (λ text. IsTouched text (edits_of s) 1) (sym is.source_is) (subst (λ es. IsTouched lines_of_three es 1) (sym is.edits_are) rest_touched) in
     let visible : is_blank (text_at (source_lines (patched (cow_str_bytes s.source) (edits_of s))) 1) ≡ false =
     ap (λ text. is_blank (text_at (source_lines (patched text (edits_of s))) 1)) is.source_is
@@ -376,7 +377,7 @@ foo_number v = refl
 --     1 - foo
 --     1 + bar
 --       |
-module _ (v : Vec Patch Global) (frame : Layout) (narrow : frame.gutter ≡ 1) (around : ElementContext) (opens : around.start ≡ Opening) where
+module _ (v : Vec Patch Global) (layout : Layout) (narrow : layout.gutter ≡ 1) (around : ElementContext) (opens : around.start ≡ Opening) where
   abbrev foo : Snippet Patch
   foo = one_word v
 
@@ -390,14 +391,14 @@ module _ (v : Vec Patch Global) (frame : Layout) (narrow : frame.gutter ≡ 1) (
       ap (λ rows. rows ++ (if around.shared then [] else Ends (not (is_end around.next)) ∷ [])) (ap (λ at. rows_of_suggestion at foo) opens ∙ (one_word_gives v).rows_are)
 
   -- rows that show it, after the row of its path: the second is that of the removed line, whatever it holds
-  second_removed : {found : List Cell} → frame.decor ≡ Ascii → (first row : NamedRow) (rest : List NamedRow)
-      → ShowsSuggestion plain_settings frame around found foo (others (suggestion_head plain_settings frame around foo) ++ (first ∷ row ∷ rest))
+  second_removed : {found : List Cell} → layout.decor ≡ Ascii → (first row : NamedRow) (rest : List NamedRow)
+      → ShowsSuggestion plain_settings layout around found foo (others (suggestion_head plain_settings layout around foo) ++ (first ∷ row ∷ rest))
       → IsSuggestionRow plain_settings Ascii 1 foo (RemovedLine 0) row.cells
   second_removed ascii first row rest shown =
       let rows : List NamedRow = first ∷ row ∷ rest in
-      let same : shown.after ≡ rows = append_cancel_left (others (suggestion_head plain_settings frame around foo)) shown.after rows (sym shown.rows_are) in
+      let same : shown.after ≡ rows = append_cancel_left (others (suggestion_head plain_settings layout around foo)) shown.after rows (sym shown.rows_are) in
       let Named : DecorStyle → ℕ → NamedRow → Type 0 = λ decor gutter r. IsSuggestionRow plain_settings decor gutter foo r.name r.cells in
-      let named : All (Named Ascii 1) rows = subst (λ gutter. All (Named Ascii gutter) rows) narrow (subst (λ decor. All (Named decor frame.gutter) rows) ascii (subst (All (Named frame.decor frame.gutter)) same shown.named)) in
+      let named : All (Named Ascii 1) rows = subst (λ gutter. All (Named Ascii gutter) rows) narrow (subst (λ decor. All (Named decor layout.gutter) rows) ascii (subst (All (Named layout.decor layout.gutter)) same shown.named)) in
       let names : map (λ (r : NamedRow). r.name) rows ≡ map (name_of_row foo) foo_rows = ap (map (λ (r : NamedRow). r.name)) (sym same) ∙ shown.order ∙ ap (map (name_of_row foo)) foo_rows_are in
       let name : row.name ≡ RemovedLine 0 = ap (λ (ns : List RowName). get_or ns 1 Other) names in
       subst (λ n. IsSuggestionRow plain_settings Ascii 1 foo n row.cells) name (All-head (Named Ascii 1) row rest (All-tail (Named Ascii 1) first (row ∷ rest) named))
@@ -408,8 +409,8 @@ module _ (v : Vec Patch Global) (frame : Layout) (narrow : frame.gutter ≡ 1) (
   --     1 + bar
   --     1 - foo
   --       |
-  new_line_above_removed : {found : List Cell} → frame.decor ≡ Ascii → (first row : NamedRow) (rest : List NamedRow) → row.cells ≡ offering_row (codes "bar")
-      → ShowsSuggestion plain_settings frame around found foo (others (suggestion_head plain_settings frame around foo) ++ (first ∷ row ∷ rest)) → ⊥
+  new_line_above_removed : {found : List Cell} → layout.decor ≡ Ascii → (first row : NamedRow) (rest : List NamedRow) → row.cells ≡ offering_row (codes "bar")
+      → ShowsSuggestion plain_settings layout around found foo (others (suggestion_head plain_settings layout around foo) ++ (first ∷ row ∷ rest)) → ⊥
   new_line_above_removed ascii first row rest is shown =
       let P : List Cell → Type 0 = λ cells. (get_or cells 2 SPACE).ch ≡ 45 in
       let minus : ◌≡◌ {A = ℕ} 43 45 = subst P is (second_removed ascii first row rest shown).minus in
@@ -421,9 +422,9 @@ module _ (v : Vec Patch Global) (frame : Layout) (narrow : frame.gutter ≡ 1) (
   --     2 - foo
   --     1 + bar
   --       |
-  removed_number_wrong : {found : List Cell} → frame.decor ≡ Ascii → (first row : NamedRow) (rest : List NamedRow)
+  removed_number_wrong : {found : List Cell} → layout.decor ≡ Ascii → (first row : NamedRow) (rest : List NamedRow)
       → row.cells ≡ text_cells LineNumber (codes "2") ++ SPACE ∷ text_cells Removal (codes "- ") ++ text_cells Quotation (codes "foo")
-      → ShowsSuggestion plain_settings frame around found foo (others (suggestion_head plain_settings frame around foo) ++ (first ∷ row ∷ rest)) → ⊥
+      → ShowsSuggestion plain_settings layout around found foo (others (suggestion_head plain_settings layout around foo) ++ (first ∷ row ∷ rest)) → ⊥
   removed_number_wrong ascii first row rest is shown =
       let one : number_text plain_settings true 1 1 ≡ codes "1" = ap (set_right 1) (decimal_digit 1 (omega arith)) in
       let number : number_text plain_settings true 1 (removed_number foo 0) ≡ codes "1" = ap (number_text plain_settings true 1) (foo_number v) ∙ one in
@@ -434,12 +435,12 @@ module _ (v : Vec Patch Global) (frame : Layout) (narrow : frame.gutter ≡ 1) (
 
   -- the first is that which it begins with
   first_begins : {found : List Cell} (r : Renderer) (first : NamedRow) (rest : List NamedRow)
-      → ShowsSuggestion r frame around found foo (others (suggestion_head r frame around foo) ++ (first ∷ rest))
-      → HasStrokes frame.decor 1 (Begins Opening) first.cells
+      → ShowsSuggestion r layout around found foo (others (suggestion_head r layout around foo) ++ (first ∷ rest))
+      → HasStrokes layout.decor 1 (Begins Opening) first.cells
   first_begins r first rest shown =
-      let same : shown.after ≡ first ∷ rest = append_cancel_left (others (suggestion_head r frame around foo)) shown.after (first ∷ rest) (sym shown.rows_are) in
-      let Strokes : ℕ → SuggestionRow → List Cell → Type 0 = HasStrokes frame.decor in
-      let strokes : AllZip (Strokes frame.gutter) foo_rows (cells_of (first ∷ rest)) = subst (λ rows. AllZip (Strokes frame.gutter) rows (cells_of (first ∷ rest))) foo_rows_are (subst (λ rows. AllZip (Strokes frame.gutter) (suggestion_rows around foo) (cells_of rows)) same shown.strokes) in
+      let same : shown.after ≡ first ∷ rest = append_cancel_left (others (suggestion_head r layout around foo)) shown.after (first ∷ rest) (sym shown.rows_are) in
+      let Strokes : ℕ → SuggestionRow → List Cell → Type 0 = HasStrokes layout.decor in
+      let strokes : AllZip (Strokes layout.gutter) foo_rows (cells_of (first ∷ rest)) = subst (λ rows. AllZip (Strokes layout.gutter) rows (cells_of (first ∷ rest))) foo_rows_are (subst (λ rows. AllZip (Strokes layout.gutter) (suggestion_rows around foo) (cells_of rows)) same shown.strokes) in
       subst (λ gutter. Strokes gutter (Begins Opening) first.cells) narrow strokes.0
 
   -- so nothing stands over it, as what stands for lines that are left out:
@@ -448,9 +449,9 @@ module _ (v : Vec Patch Global) (frame : Layout) (narrow : frame.gutter ≡ 1) (
   --     1 - foo
   --     1 + bar
   --       |
-  gap_row_over_separator : {found : List Cell} → frame.decor ≡ Ascii → (first : NamedRow) (rest : List NamedRow)
+  gap_row_over_separator : {found : List Cell} → layout.decor ≡ Ascii → (first : NamedRow) (rest : List NamedRow)
       → first.cells ≡ text_cells LineNumber (codes "...")
-      → ShowsSuggestion plain_settings frame around found foo (others (suggestion_head plain_settings frame around foo) ++ (first ∷ rest)) → ⊥
+      → ShowsSuggestion plain_settings layout around found foo (others (suggestion_head plain_settings layout around foo) ++ (first ∷ rest)) → ⊥
   gap_row_over_separator ascii first rest is shown =
       let P : List Cell → Type 0 = λ cells. (get_or cells 2 SPACE).ch ≡ 124 in
       let dot : ◌≡◌ {A = ℕ} 46 124 = subst P is (subst (λ d. HasStrokes d 1 (Begins Opening) first.cells) ascii (first_begins plain_settings first rest shown) 2 (omega arith)) in
@@ -462,9 +463,9 @@ module _ (v : Vec Patch Global) (frame : Layout) (narrow : frame.gutter ≡ 1) (
   --     1 - foo
   --     1 + bar
   --       ╰╴
-  suggestion_closes_the_wrong_way : {found : List Cell} (r : Renderer) → frame.decor ≡ Unicode → (first : NamedRow) (rest : List NamedRow)
+  suggestion_closes_the_wrong_way : {found : List Cell} (r : Renderer) → layout.decor ≡ Unicode → (first : NamedRow) (rest : List NamedRow)
       → first.cells ≡ SPACE ∷ SPACE ∷ text_cells LineNumber (codes "╰╴")
-      → ShowsSuggestion r frame around found foo (others (suggestion_head r frame around foo) ++ (first ∷ rest)) → ⊥
+      → ShowsSuggestion r layout around found foo (others (suggestion_head r layout around foo) ++ (first ∷ rest)) → ⊥
   suggestion_closes_the_wrong_way r decor first rest is shown =
       let Begun : DecorStyle → Type 0 = λ d. HasStrokes d 1 (Begins Opening) first.cells in
       let P : List Cell → Type 0 = λ cells. (get_or cells 2 SPACE).ch ≡ char_of (codes "╭") in

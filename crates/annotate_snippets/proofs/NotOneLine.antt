@@ -13,7 +13,7 @@ use Rattle.snippet_style.specs.declared.role.ElementStyle.TheVariants.{LabelPrim
 use Rattle.snippet_style.specs.declared.stylesheet.Stylesheet.{Stylesheet}
 use Rattle.annotate_snippets.specs.declared.renderer.Renderer.{Renderer}
 use Rattle.annotate_snippets.specs.Feeds.{HasNoFeed, HasOneLineRows, HasOneLineTexts, text_lines}
-use Rattle.annotate_snippets.specs.Gutter.{frame_of}
+use Rattle.annotate_snippets.specs.Gutter.{layout_of_group}
 use Rattle.annotate_snippets.specs.Numbers.{IsNumberedAsLine}
 use Rattle.annotate_snippets.specs.Page.{GroupPage, NamedRow, Other, group_rows}
 use Rattle.annotate_snippets.specs.Shown.{SheetsShown}
@@ -58,7 +58,7 @@ numbered_row = record { name = Other; cells = text_cells NoStyle (codes "2 | let
 pub number_without_a_line : (r : Renderer) (groups : List Group) (sheets : List Stylesheet) (texts : List (List ℕ)) (shown : SheetsShown r groups sheets texts) (i : ℕ) (g : Group) (part : GroupPage)
     → slice_get groups i ≡ Some g → slice_get shown.page i ≡ Some part → (rows : List NamedRow) → Contains part.elements rows → Contains rows numbered_row → ⊥
 number_without_a_line r groups sheets texts shown i g part at there rows of_part among =
-    let gutter : ℕ = (frame_of r groups g).gutter in
+    let gutter : ℕ = (layout_of_group r groups g).gutter in
     let all : All (IsNumberedAsLine gutter) rows = All-contains (λ (some : List NamedRow). All (IsNumberedAsLine gutter) some) part.elements rows (shown.numbers i g part at there) of_part in
     let row : IsNumberedAsLine gutter numbered_row = All-contains (IsNumberedAsLine gutter) rows numbered_row all among in
     false≢true (sym (row refl 0 (omega arith)))

@@ -45,8 +45,8 @@ use Rattle.annotate_snippets.proofs.ListLemmas.{Contains-head, Contains-tail, Co
 -- ---- small reports, and their rows
 
 -- where their rows have their parts: one digit in the gutter, and the code from cell 4 on, as in `1 | code`
-abbrev pub frame : Layout
-frame = record { gutter = 1; code = 4; decor = Ascii }
+abbrev pub layout : Layout
+layout = record { gutter = 1; code = 4; decor = Ascii }
 
 -- a source row of line 1, with this code
 abbrev source_row : List ℕ → List Cell
@@ -74,11 +74,11 @@ pub record IsSnippetOf (s : Snippet Annotation) (source : List ℕ) (marks : Lis
 -- marks there
 abbrev is_whole : Bool → List ℕ → List Annotation → Bool
 is_whole fold source marks =
-    stands_whole (room_of plain_settings frame) (length (placeholder_of Ascii)) fold source marks 0
+    stands_whole (room_of plain_settings layout) (length (placeholder_of Ascii)) fold source marks 0
 
 abbrev qualifies : List ℕ → List Annotation → Bool
 qualifies source marks =
-    qualifies_for_marks (room_of plain_settings frame) (length (placeholder_of Ascii)) source marks 0
+    qualifies_for_marks (room_of plain_settings layout) (length (placeholder_of Ascii)) source marks 0
 
 -- it does both, with lines folded or not
 record IsPlainLine (source : List ℕ) (marks : List Annotation) : Type 0 where
@@ -89,9 +89,9 @@ record IsPlainLine (source : List ℕ) (marks : List Annotation) : Type 0 where
 -- these cells aren't the marks of the first line of a snippet: a row that has them below the code hasn't the line's marks,
 -- and so no source row with this row below it shows the line
 record AreOtherMarks (source : List ℕ) (marks : List Annotation) (cells : List Cell) : Type 0 where
-  below : (s : Snippet Annotation) → IsSnippetOf s source marks → ShowsMarksOf Ascii frame s 0 0 (row_below cells) → ⊥
+  below : (s : Snippet Annotation) → IsSnippetOf s source marks → ShowsMarksOf Ascii layout s 0 0 (row_below cells) → ⊥
   above : (s : Snippet Annotation) → IsSnippetOf s source marks → (row : List Cell) (rows : List (List Cell))
-      → ShowsLineAndMarks plain_settings frame s 0 row (row_below cells) rows → ⊥
+      → ShowsLineAndMarks plain_settings layout s 0 row (row_below cells) rows → ⊥
 
 -- ---- lines that stand whole
 
@@ -107,14 +107,14 @@ whole_line s source marks is plain =
 
 -- then no column is dropped, and the row below has to have the line's marks
 other_marks : (source : List ℕ) (marks : List Annotation) (cells : List Cell) → IsPlainLine source marks
-    → ((s : Snippet Annotation) → IsSnippetOf s source marks → ShowsMarksOf Ascii frame s 0 0 (row_below cells) → ⊥) → AreOtherMarks source marks cells
+    → ((s : Snippet Annotation) → IsSnippetOf s source marks → ShowsMarksOf Ascii layout s 0 0 (row_below cells) → ⊥) → AreOtherMarks source marks cells
 other_marks source marks cells plain wrong =
     record {
       below = wrong;
       above = λ s is row rows shown.
           let promised : qualifies (cow_str_bytes s.source) s.markers.items ≡ true = subst (λ text. qualifies text s.markers.items ≡ true) (sym is.source_is) (subst (λ spans. qualifies source spans ≡ true) (sym is.marks_are) plain.qualified) in
           let none : shown.dropped ≡ 0 = (shown.line.whole (whole_line s source marks is plain)).0 in
-          wrong s is (subst (λ dropped. ShowsMarksOf Ascii frame s 0 dropped (row_below cells)) none (shown.marks promised));
+          wrong s is (subst (λ dropped. ShowsMarksOf Ascii layout s 0 dropped (row_below cells)) none (shown.marks promised));
     }
 
 -- ---- marks
@@ -171,24 +171,24 @@ caret ch (inl is) = is
 caret ch (inr is) = is
 
 -- what holds of a row that has the marks of such a snippet's first line, in terms of the snippet's source and spans
-module _ {s : Snippet Annotation} {source : List ℕ} {marks : List Annotation} {row : List Cell} (is : IsSnippetOf s source marks) (shown : ShowsMarksOf Ascii frame s 0 0 row) where
+module _ {s : Snippet Annotation} {source : List ℕ} {marks : List Annotation} {row : List Cell} (is : IsSnippetOf s source marks) (shown : ShowsMarksOf Ascii layout s 0 0 row) where
   -- below a column that has a primary mark stands nothing but '^'
-  primary_missing : (p : ℕ) → IsMarkOf source marks 0 p Primary → ((slice_index_or row (cell_of frame 0 p) SPACE).ch == char_of (codes "^")) ≡ false → ⊥
+  primary_missing : (p : ℕ) → IsMarkOf source marks 0 p Primary → ((slice_index_or row (cell_of layout 0 p) SPACE).ch == char_of (codes "^")) ≡ false → ⊥
   primary_missing p mark other =
-      let cell : IsMarkCell Ascii Primary (slice_index_or row (cell_of frame 0 p) SPACE) = shown.marks p Primary (subst (λ text. IsMarkOf text s.markers.items 0 p Primary) (sym is.source_is) (subst (λ spans. IsMarkOf source spans 0 p Primary) (sym is.marks_are) mark)) in
-      let same : ((slice_index_or row (cell_of frame 0 p) SPACE).ch == char_of (codes "^")) ≡ true = eq-eqb _ _ (caret _ cell.0) in
+      let cell : IsMarkCell Ascii Primary (slice_index_or row (cell_of layout 0 p) SPACE) = shown.marks p Primary (subst (λ text. IsMarkOf text s.markers.items 0 p Primary) (sym is.source_is) (subst (λ spans. IsMarkOf source spans 0 p Primary) (sym is.marks_are) mark)) in
+      let same : ((slice_index_or row (cell_of layout 0 p) SPACE).ch == char_of (codes "^")) ≡ true = eq-eqb _ _ (caret _ cell.0) in
       cc
 
   -- below a column that no span covers no cell is in the role of marks
-  no_mark_role : (p : ℕ) → All (λ a. IsMarkedAt source 0 p a → ⊥) marks → has_mark_role (slice_index_or row (cell_of frame 0 p) SPACE) ≡ false
+  no_mark_role : (p : ℕ) → All (λ a. IsMarkedAt source 0 p a → ⊥) marks → has_mark_role (slice_index_or row (cell_of layout 0 p) SPACE) ≡ false
   no_mark_role p none =
       shown.unmarked p (omega arith) (subst (λ text. All (λ a. IsMarkedAt text 0 p a → ⊥) s.markers.items) (sym is.source_is) (subst (All (λ a. IsMarkedAt source 0 p a → ⊥)) (sym is.marks_are) none))
 
   -- after the mark of a lone span stands its label
   label_after : (a : Annotation) → filter (is_marked_on source 0) marks ≡ a ∷ [] → 0 < length (shown_label a)
-      → row_text (drop (cell_of frame 0 (end_column source a)) row) ≡ 32 ∷ shown_label a
+      → row_text (drop (cell_of layout 0 (end_column source a)) row) ≡ 32 ∷ shown_label a
   label_after a alone some =
-      subst (λ text. row_text (drop (cell_of frame 0 (end_column text a)) row) ≡ 32 ∷ shown_label a)
+      subst (λ text. row_text (drop (cell_of layout 0 (end_column text a)) row) ≡ 32 ∷ shown_label a)
       is.source_is (shown.lone a
       (subst (λ text. filter (is_marked_on text 0) s.markers.items ≡ a ∷ []) (sym is.source_is)
       (subst (λ spans. filter (is_marked_on source 0) spans ≡ a ∷ []) (sym is.marks_are) alone)) some)
@@ -218,14 +218,14 @@ two_of_one k (j ∷ before) between after ascending =
 -- ---- rows and their names
 
 -- rows after others are what their names say, if all are
-rows_after : (closes : Bool) (s : Snippet Annotation) (rows more : List NamedRow) → AreRowsOf plain_settings frame closes s (rows ++ more)
-    → AreRowsOf plain_settings frame closes s more
+rows_after : (closes : Bool) (s : Snippet Annotation) (rows more : List NamedRow) → AreRowsOf plain_settings layout closes s (rows ++ more)
+    → AreRowsOf plain_settings layout closes s more
 rows_after closes s [] more named = named
 rows_after closes s (row ∷ rows) more named = rows_after closes s rows more named.1
 
 -- a row `1 | a` can only be named as that of the first line of `a`
 named_first : (closes : Bool) (s : Snippet Annotation) → cow_str_bytes s.source ≡ codes "a" → (name : RowName) (cells : List Cell) (rows : List NamedRow)
-    → cells ≡ source_row (codes "a") → IsRowOf plain_settings frame closes s name cells rows → name ≡ SourceRow 0
+    → cells ≡ source_row (codes "a") → IsRowOf plain_settings layout closes s name cells rows → name ≡ SourceRow 0
 named_first closes s is (SourceRow k) cells rows same shows =
     let within : k < 1 = subst (λ source. k < length (source_lines source)) is shows.line.within in
     let first : k ≡ 0 = omega arith in
@@ -233,10 +233,10 @@ named_first closes s is (SourceRow k) cells rows same shows =
 named_first closes s is (OfferedLine j) cells rows same shows = absurd shows
 named_first closes s is (RemovedLine i) cells rows same shows = absurd shows
 named_first closes s is Elision cells rows same shows =
-    let digit : true ≡ false = subst (λ row. is_ascii_alphanumeric (slice_index_or row 0 SPACE).ch ≡ false) same (unnumbered_elided Ascii frame cells shows 0 (omega arith)) in
+    let digit : true ≡ false = subst (λ row. is_ascii_alphanumeric (slice_index_or row 0 SPACE).ch ≡ false) same (unnumbered_elided Ascii layout cells shows 0 (omega arith)) in
     cc
 named_first closes s is Other cells rows same shows =
-    let digit : true ≡ false = subst (λ row. is_ascii_alphanumeric (slice_index_or row 0 SPACE).ch ≡ false) same (unnumbered_below Ascii frame (closes && length rows == 0) cells shows 0 (omega arith)) in
+    let digit : true ≡ false = subst (λ row. is_ascii_alphanumeric (slice_index_or row 0 SPACE).ch ≡ false) same (unnumbered_below Ascii layout (closes && length rows == 0) cells shows 0 (omega arith)) in
     cc
 
 -- ---- the laws
@@ -245,7 +245,7 @@ named_first closes s is Other cells rows same shows =
 --
 --     1 | ...
 source_row_elided : (s : Snippet Annotation) → IsSnippetOf s (codes "ab") (span_of Primary 0 1 ∷ []) → (dropped : ℕ)
-    → ShowsSourceLine plain_settings frame s 0 dropped (source_row (codes "...")) → ⊥
+    → ShowsSourceLine plain_settings layout s 0 dropped (source_row (codes "...")) → ⊥
 unfolding place_of line_of start_of chars char_width unicode_width norm
 source_row_elided s is dropped shown =
     let whole = whole_line s (codes "ab") (span_of Primary 0 1 ∷ []) is (record { folded = refl; unfolded = refl; qualified = refl }) in
@@ -254,7 +254,7 @@ source_row_elided s is dropped shown =
 
 -- a separator in the role of marks, as a highlight that begins left of the code would leave it
 coloured_separator : (s : Snippet Annotation) (k dropped : ℕ)
-    → ShowsSourceLine plain_settings frame s k dropped (text_cells LineNumber (codes "1") ++ SPACE ∷ text_cells UnderlinePrimary (codes "|") ++ SPACE ∷ text_cells Quotation (codes "ab")) → ⊥
+    → ShowsSourceLine plain_settings layout s k dropped (text_cells LineNumber (codes "1") ++ SPACE ∷ text_cells UnderlinePrimary (codes "|") ++ SPACE ∷ text_cells Quotation (codes "ab")) → ⊥
 coloured_separator s k dropped shown =
     let shown_there : List ℕ = number_text plain_settings s.line_numbering 1 (s.line_start + k) in
     let marked : true ≡ false = ap has_mark_role (separator_of_left Ascii 1 shown_there (text_cells LineNumber (codes "1") ++ SPACE ∷ text_cells UnderlinePrimary (codes "|") ++ SPACE ∷ text_cells Quotation (codes "ab")) shown.left) in
@@ -266,24 +266,24 @@ coloured_separator s k dropped shown =
 --     1 | a
 --     1 | a
 second_copy : (k : ℕ) (row copy : NamedRow) (before between after : List NamedRow) (closes : Bool) → row.name ≡ SourceRow k → copy.name ≡ SourceRow k
-    → (IsAscending (lines_named (before ++ (row ∷ (between ++ (copy ∷ after))))) → ⊥) × (IsRowBelow Ascii frame closes (source_row (codes "a")) → ⊥)
+    → (IsAscending (lines_named (before ++ (row ∷ (between ++ (copy ∷ after))))) → ⊥) × (IsRowBelow Ascii layout closes (source_row (codes "a")) → ⊥)
 second_copy k row copy before between after closes row_is copy_is =
-    (λ ascending. two_of_one k (lines_named before) (lines_named between) (lines_named after) (simp (filter_map-append, row_is, copy_is) at ascending), λ below. let digit : true ≡ false = unnumbered_below Ascii frame closes (source_row (codes "a")) below 0 (omega arith) in cc)
+    (λ ascending. two_of_one k (lines_named before) (lines_named between) (lines_named after) (simp (filter_map-append, row_is, copy_is) at ascending), λ below. let digit : true ≡ false = unnumbered_below Ascii layout closes (source_row (codes "a")) below 0 (omega arith) in cc)
 
 -- so no rows in which it stands twice show the snippet, wherever that stands: neither after those that it begins with nor
 -- before those below its lines
 second_copy_of_a_line : (s : Snippet Annotation) → cow_str_bytes s.source ≡ codes "a"
     → (around : ElementContext) (row copy : NamedRow) (before between after : List NamedRow) → row.cells ≡ source_row (codes "a")
-    → copy.cells ≡ source_row (codes "a") → ShowsSnippet plain_settings frame around s
-    (others (cause_head plain_settings frame around s)
-    ++ ((before ++ (row ∷ (between ++ (copy ∷ after)))) ++ others (rows_after_cause plain_settings frame around))) → ⊥
+    → copy.cells ≡ source_row (codes "a") → ShowsSnippet plain_settings layout around s
+    (others (cause_head plain_settings layout around s)
+    ++ ((before ++ (row ∷ (between ++ (copy ∷ after)))) ++ others (rows_after_cause plain_settings layout around))) → ⊥
 second_copy_of_a_line s is around row copy before between after row_is copy_is shown =
     let rows : List NamedRow = before ++ (row ∷ (between ++ (copy ∷ after))) in
-    let tail : List NamedRow = others (rows_after_cause plain_settings frame around) in
+    let tail : List NamedRow = others (rows_after_cause plain_settings layout around) in
     let closes : Bool = closes_with around in
-    let same : shown.after ≡ rows = append_cancel_right shown.after rows tail (sym (append_cancel_left (others (cause_head plain_settings frame around s)) (rows ++ tail) (shown.after ++ tail) shown.rows_are)) in
-    let from_row : AreRowsOf plain_settings frame closes s (row ∷ (between ++ (copy ∷ after))) = rows_after closes s before (row ∷ (between ++ (copy ∷ after))) (subst (AreRowsOf plain_settings frame closes s) same shown.named) in
-    let from_copy : AreRowsOf plain_settings frame closes s (copy ∷ after) = rows_after closes s between (copy ∷ after) from_row.1 in
+    let same : shown.after ≡ rows = append_cancel_right shown.after rows tail (sym (append_cancel_left (others (cause_head plain_settings layout around s)) (rows ++ tail) (shown.after ++ tail) shown.rows_are)) in
+    let from_row : AreRowsOf plain_settings layout closes s (row ∷ (between ++ (copy ∷ after))) = rows_after closes s before (row ∷ (between ++ (copy ∷ after))) (subst (AreRowsOf plain_settings layout closes s) same shown.named) in
+    let from_copy : AreRowsOf plain_settings layout closes s (copy ∷ after) = rows_after closes s between (copy ∷ after) from_row.1 in
     let row_named : row.name ≡ SourceRow 0 = named_first closes s is row.name row.cells (between ++ (copy ∷ after)) row_is from_row.0 in
     let copy_named : copy.name ≡ SourceRow 0 = named_first closes s is copy.name copy.cells after copy_is from_copy.0 in
     (second_copy 0 row copy before between after closes row_named copy_named).0 (subst (λ all. IsAscending (lines_named all)) same shown.ordered)
@@ -406,7 +406,7 @@ label_drawn_raw label label_is =
 --     1 | ...
 --       |   ^
 marks_not_shifted : (s : Snippet Annotation) → IsSnippetOf s (codes "abcd") (span_of Primary 2 3 ∷ [])
-    → ShowsMarksOf Ascii frame s 0 2 (row_below (SPACE ∷ SPACE ∷ text_cells UnderlinePrimary (codes "^"))) → ⊥
+    → ShowsMarksOf Ascii layout s 0 2 (row_below (SPACE ∷ SPACE ∷ text_cells UnderlinePrimary (codes "^"))) → ⊥
 unfolding place_of line_of start_of chars char_width unicode_width
 marks_not_shifted s is shown =
     let source : List ℕ = codes "abcd" in
@@ -434,7 +434,7 @@ first_whole false = refl
 
 -- so that row can only be named as that of the second line
 named_second : (closes : Bool) (s : Snippet Annotation) → IsSnippetOf s two_lines (span_of Primary 0 1 ∷ [])
-    → (name : RowName) (cells : List Cell) (rows : List NamedRow) → cells ≡ row_of_second → IsRowOf plain_settings frame closes s name cells rows
+    → (name : RowName) (cells : List Cell) (rows : List NamedRow) → cells ≡ row_of_second → IsRowOf plain_settings layout closes s name cells rows
     → name ≡ SourceRow 1
 unfolding chars norm
 named_second closes s is (SourceRow zero) cells rows same shows =
@@ -449,10 +449,10 @@ named_second closes s is (SourceRow (suc k)) cells rows same shows =
 named_second closes s is (OfferedLine j) cells rows same shows = absurd shows
 named_second closes s is (RemovedLine i) cells rows same shows = absurd shows
 named_second closes s is Elision cells rows same shows =
-    let digit : true ≡ false = subst (λ row. is_ascii_alphanumeric (slice_index_or row 0 SPACE).ch ≡ false) same (unnumbered_elided Ascii frame cells shows 0 (omega arith)) in
+    let digit : true ≡ false = subst (λ row. is_ascii_alphanumeric (slice_index_or row 0 SPACE).ch ≡ false) same (unnumbered_elided Ascii layout cells shows 0 (omega arith)) in
     cc
 named_second closes s is Other cells rows same shows =
-    let digit : true ≡ false = subst (λ row. is_ascii_alphanumeric (slice_index_or row 0 SPACE).ch ≡ false) same (unnumbered_below Ascii frame (closes && length rows == 0) cells shows 0 (omega arith)) in
+    let digit : true ≡ false = subst (λ row. is_ascii_alphanumeric (slice_index_or row 0 SPACE).ch ≡ false) same (unnumbered_below Ascii layout (closes && length rows == 0) cells shows 0 (omega arith)) in
     cc
 
 -- a list of one number holds no other
@@ -475,14 +475,14 @@ first_alone = refl
 --     2 | b
 fold_ignored : (s : Snippet Annotation) → IsSnippetOf s two_lines (span_of Primary 0 1 ∷ []) → s.fold ≡ true
     → (around : ElementContext) (row : NamedRow) (before after : List NamedRow) → row.cells ≡ row_of_second
-    → ShowsSnippet plain_settings frame around s
-    (others (cause_head plain_settings frame around s) ++ ((before ++ (row ∷ after)) ++ others (rows_after_cause plain_settings frame around))) → ⊥
+    → ShowsSnippet plain_settings layout around s
+    (others (cause_head plain_settings layout around s) ++ ((before ++ (row ∷ after)) ++ others (rows_after_cause plain_settings layout around))) → ⊥
 fold_ignored s is folds around row before after row_is shown =
     let rows : List NamedRow = before ++ (row ∷ after) in
-    let tail : List NamedRow = others (rows_after_cause plain_settings frame around) in
+    let tail : List NamedRow = others (rows_after_cause plain_settings layout around) in
     let closes : Bool = closes_with around in
-    let same : shown.after ≡ rows = append_cancel_right shown.after rows tail (sym (append_cancel_left (others (cause_head plain_settings frame around s)) (rows ++ tail) (shown.after ++ tail) shown.rows_are)) in
-    let from_row : AreRowsOf plain_settings frame closes s (row ∷ after) = rows_after closes s before (row ∷ after) (subst (AreRowsOf plain_settings frame closes s) same shown.named) in
+    let same : shown.after ≡ rows = append_cancel_right shown.after rows tail (sym (append_cancel_left (others (cause_head plain_settings layout around s)) (rows ++ tail) (shown.after ++ tail) shown.rows_are)) in
+    let from_row : AreRowsOf plain_settings layout closes s (row ∷ after) = rows_after closes s before (row ∷ after) (subst (AreRowsOf plain_settings layout closes s) same shown.named) in
     let named : row.name ≡ SourceRow 1 = named_second closes s is row.name row.cells after row_is from_row.0 in
     let kept : lines_named rows ≡ 0 ∷ [] = ap lines_named (sym same) ∙ shown.lines ∙ ap (λ fold. shown_lines fold (cow_str_bytes s.source) s.markers.items) folds ∙ ap (λ text. shown_lines true text s.markers.items) is.source_is ∙ ap (shown_lines true two_lines) is.marks_are ∙ first_alone in
     other_number (lines_named before) (lines_named after) (simp (filter_map-append, named) at kept)

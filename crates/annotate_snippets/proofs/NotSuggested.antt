@@ -31,25 +31,25 @@ record StandsAlone (around : ElementContext) : Type 0 where
   own : around.shared ≡ false
 
 -- its rows are those of its value, over nothing
-rows_alone : (frame : Layout) (around : ElementContext) (found : List Cell) (s : Snippet Patch) (lines : List (List Cell))
-    → suggestion_layout plain_settings frame s ≡ ascii frame.code → StandsAlone around → lines ≡ suggestion_lines plain_settings frame around found s
-    → lines ≡ suggestion_cells (ascii frame.code) Opening (not (is_end around.next)) s []
+rows_alone : (layout : Layout) (around : ElementContext) (found : List Cell) (s : Snippet Patch) (lines : List (List Cell))
+    → suggestion_layout plain_settings layout s ≡ ascii layout.code → StandsAlone around → lines ≡ suggestion_lines plain_settings layout around found s
+    → lines ≡ suggestion_cells (ascii layout.code) Opening (not (is_end around.next)) s []
 unfolding suggestion_cells
-rows_alone frame around found s lines layout_is alone shown =
+rows_alone layout around found s lines layout_is alone shown =
     let next : Bool = not (is_end around.next) in
-    let under : under_of plain_settings frame around.start found ≡ [] = ap (λ at. under_of plain_settings frame at found) alone.start in
-    let Rows : SuggestionLayout → SuggestionStart → List Cell → Bool → List (List Cell) = λ layout at row shared. body_cells layout at s row ++ (if shared then [] else row_cells layout s [] (Ends next) ∷ []) in
-    let layout : SuggestionLayout = suggestion_layout plain_settings frame s in
-    let below : List Cell = under_of plain_settings frame around.start found in
-    shown ∙ ap (λ l. Rows l around.start below around.shared) layout_is ∙ ap (λ at. Rows (ascii frame.code) at below around.shared) alone.start ∙ ap (λ row. Rows (ascii frame.code) Opening row around.shared) under ∙ ap (Rows (ascii frame.code) Opening []) alone.own
+    let under : under_of plain_settings layout around.start found ≡ [] = ap (λ at. under_of plain_settings layout at found) alone.start in
+    let Rows : SuggestionLayout → SuggestionStart → List Cell → Bool → List (List Cell) = λ suggested at row shared. body_cells suggested at s row ++ (if shared then [] else row_cells suggested s [] (Ends next) ∷ []) in
+    let suggested : SuggestionLayout = suggestion_layout plain_settings layout s in
+    let below : List Cell = under_of plain_settings layout around.start found in
+    shown ∙ ap (λ l. Rows l around.start below around.shared) layout_is ∙ ap (λ at. Rows (ascii layout.code) at below around.shared) alone.start ∙ ap (λ row. Rows (ascii layout.code) Opening row around.shared) under ∙ ap (Rows (ascii layout.code) Opening []) alone.own
 
 -- with a gutter of one cell its rows stand as in ASCII
-narrow_layout : (frame : Layout) (s : Snippet Patch) → frame.gutter ≡ 1 → frame.decor ≡ Ascii → s.line_numbering ≡ true
-    → suggestion_layout plain_settings frame s ≡ ascii frame.code
-narrow_layout frame s narrow plain numbered =
-    ap (λ (d : DecorStyle). record { frame = record { gutter = frame.gutter; code = frame.code; decor = d }; numbers = line_numbers plain_settings s.line_numbering }) plain
-    ∙ ap (λ (g : ℕ). record { frame = record { gutter = g; code = frame.code; decor = Ascii }; numbers = line_numbers plain_settings s.line_numbering }) narrow
-    ∙ ap (λ (b : Bool). record { frame = record { gutter = 1; code = frame.code; decor = Ascii }; numbers = line_numbers plain_settings b }) numbered
+narrow_layout : (layout : Layout) (s : Snippet Patch) → layout.gutter ≡ 1 → layout.decor ≡ Ascii → s.line_numbering ≡ true
+    → suggestion_layout plain_settings layout s ≡ ascii layout.code
+narrow_layout layout s narrow plain numbered =
+    ap (λ (d : DecorStyle). record { base = record { gutter = layout.gutter; code = layout.code; decor = d }; numbers = line_numbers plain_settings s.line_numbering }) plain
+    ∙ ap (λ (g : ℕ). record { base = record { gutter = g; code = layout.code; decor = Ascii }; numbers = line_numbers plain_settings s.line_numbering }) narrow
+    ∙ ap (λ (b : Bool). record { base = record { gutter = 1; code = layout.code; decor = Ascii }; numbers = line_numbers plain_settings b }) numbered
 
 -- ---- a mark beside what it belongs to
 
@@ -57,13 +57,13 @@ narrow_layout frame s narrow plain numbered =
 --
 --     1 | foo(x)
 --       |      +
-marks_one_right : (v : Vec Patch Global) (frame : Layout) (around : ElementContext) (found : List Cell) (rows : List NamedRow) → frame.gutter ≡ 1
-    → frame.decor ≡ Ascii → StandsAlone around
-    → (shown : ShowsSuggestion plain_settings frame around found (text_put_in v) rows)
+marks_one_right : (v : Vec Patch Global) (layout : Layout) (around : ElementContext) (found : List Cell) (rows : List NamedRow) → layout.gutter ≡ 1
+    → layout.decor ≡ Ascii → StandsAlone around
+    → (shown : ShowsSuggestion plain_settings layout around found (text_put_in v) rows)
     → row_at (cells_of shown.after) 2 ≡ stroke ++ replicate 6 SPACE ++ text_cells Addition (codes "+") → ⊥
-marks_one_right v frame around found rows narrow plain alone shown wrong =
+marks_one_right v layout around found rows narrow plain alone shown wrong =
     let s : Snippet Patch = text_put_in v in
-    let all = rows_alone frame around found s (cells_of shown.after) (narrow_layout frame s narrow plain refl) alone shown.cells ∙ put_in_cells frame.code v (not (is_end around.next)) in
+    let all = rows_alone layout around found s (cells_of shown.after) (narrow_layout layout s narrow plain refl) alone shown.cells ∙ put_in_cells layout.code v (not (is_end around.next)) in
     let At : List Cell → ℕ = λ row. (get_or row 8 SPACE).ch in
     let mark : ◌≡◌ {A = ℕ} 32 43 = sym (ap At wrong) ∙ ap (λ (rs : List (List Cell)). At (row_at rs 2)) all in
     absurd (omega (arith, mark))
@@ -75,14 +75,14 @@ marks_one_right v frame around found rows narrow plain alone shown wrong =
 --     1 ~ a
 --     2 | b
 --     3 + x
-kept_shown_as_changed : (v : Vec Patch Global) (frame : Layout) (around : ElementContext) (found : List Cell) (rows : List NamedRow) → frame.gutter ≡ 1
-    → frame.decor ≡ Ascii
-    → StandsAlone around → (shown : ShowsSuggestion plain_settings frame around found (third_unfolded v) rows)
+kept_shown_as_changed : (v : Vec Patch Global) (layout : Layout) (around : ElementContext) (found : List Cell) (rows : List NamedRow) → layout.gutter ≡ 1
+    → layout.decor ≡ Ascii
+    → StandsAlone around → (shown : ShowsSuggestion plain_settings layout around found (third_unfolded v) rows)
     → row_at (cells_of shown.after) 1 ≡ text_cells LineNumber (codes "1") ++ SPACE ∷ text_cells Addition (codes "~ ")
     ++ text_cells NoStyle (codes "a") → ⊥
-kept_shown_as_changed v frame around found rows narrow plain alone shown wrong =
+kept_shown_as_changed v layout around found rows narrow plain alone shown wrong =
     let s : Snippet Patch = third_unfolded v in
-    let all = rows_alone frame around found s (cells_of shown.after) (narrow_layout frame s narrow plain refl) alone shown.cells ∙ unfolded_cells frame.code v (not (is_end around.next)) in
+    let all = rows_alone layout around found s (cells_of shown.after) (narrow_layout layout s narrow plain refl) alone shown.cells ∙ unfolded_cells layout.code v (not (is_end around.next)) in
     let At : List Cell → ℕ = λ row. (get_or row 2 SPACE).ch in
     let sign : ◌≡◌ {A = ℕ} 126 124 = sym (ap At wrong) ∙ ap (λ (rs : List (List Cell)). At (row_at rs 1)) all in
     absurd (omega (arith, sign))
@@ -90,13 +90,13 @@ kept_shown_as_changed v frame around found rows narrow plain alone shown wrong =
 -- nor in another role: what is put in place of `c` isn't shown as removed
 --
 --     3 + x
-removal_for_addition : (v : Vec Patch Global) (frame : Layout) (around : ElementContext) (found : List Cell) (rows : List NamedRow) → frame.gutter ≡ 1
-    → frame.decor ≡ Ascii → StandsAlone around
-    → (shown : ShowsSuggestion plain_settings frame around found (third_unfolded v) rows)
+removal_for_addition : (v : Vec Patch Global) (layout : Layout) (around : ElementContext) (found : List Cell) (rows : List NamedRow) → layout.gutter ≡ 1
+    → layout.decor ≡ Ascii → StandsAlone around
+    → (shown : ShowsSuggestion plain_settings layout around found (third_unfolded v) rows)
     → (get_or (row_at (cells_of shown.after) 3) 4 SPACE).role ≡ Removal → ⊥
-removal_for_addition v frame around found rows narrow plain alone shown wrong =
+removal_for_addition v layout around found rows narrow plain alone shown wrong =
     let s : Snippet Patch = third_unfolded v in
-    let all = rows_alone frame around found s (cells_of shown.after) (narrow_layout frame s narrow plain refl) alone shown.cells ∙ unfolded_cells frame.code v (not (is_end around.next)) in
+    let all = rows_alone layout around found s (cells_of shown.after) (narrow_layout layout s narrow plain refl) alone shown.cells ∙ unfolded_cells layout.code v (not (is_end around.next)) in
     let Role : List (List Cell) → ElementStyle = λ rs. (get_or (row_at rs 3) 4 SPACE).role in
     let role : Removal ≡ Addition = sym wrong ∙ ap Role all in
     cc

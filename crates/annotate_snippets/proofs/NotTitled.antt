@@ -26,18 +26,18 @@ use Rattle.annotate_snippets.specs.declared.renderer.Renderer.{Renderer}
 use Rattle.annotate_snippets.specs.declared.renderer.element_context.ElementContext.{ElementContext}
 use Rattle.annotate_snippets.specs.declared.renderer.element_context.GroupPosition.{GroupPosition}
 use Rattle.annotate_snippets.specs.declared.renderer.element_context.Next.{Next}
-use Rattle.annotate_snippets.proofs.NotShown.{frame}
+use Rattle.annotate_snippets.proofs.NotShown.{layout}
 use Rattle.annotate_snippets.proofs.SmallReports.{error_title}
 
 -- ---- titles and messages that are left out
 
 -- a title without its rows, here `error: e`: what sets it off or closes its group stands there alone
 titles_left_out : (place : GroupPosition) (follows : Next) (rows : List (List Cell))
-    → rows ≡ rows_after_title plain_settings frame place follows false
-    → ShowsTitle plain_settings frame place follows (error_title None (codes "e")) rows → ⊥
+    → rows ≡ rows_after_title plain_settings layout place follows false
+    → ShowsTitle plain_settings layout place follows (error_title None (codes "e")) rows → ⊥
 unfolding chars norm
 titles_left_out place follows rows alone shown =
-    let after : List (List Cell) = rows_after_title plain_settings frame place follows false in
+    let after : List (List Cell) = rows_after_title plain_settings layout place follows false in
     let none : length shown.own ≡ 0 = omega (arith, length-append shown.own after, ap length (sym shown.rows_are ∙ alone)) in
     no_row shown.own none (shown.shows.texts 0)
   where
@@ -46,11 +46,11 @@ titles_left_out place follows rows alone shown =
     no_row (row ∷ own) none text = absurd (omega (arith, none))
 
 -- a message without its rows, here `note: m`
-messages_left_out : (r : Renderer) (frame : Layout) (around : ElementContext)
-    → ShowsMessage r frame around (record { level = record { name = Standard; kind = Note }; text = text_of (codes "m") }) [] → ⊥
+messages_left_out : (r : Renderer) (layout : Layout) (around : ElementContext)
+    → ShowsMessage r layout around (record { level = record { name = Standard; kind = Note }; text = text_of (codes "m") }) [] → ⊥
 unfolding chars norm
-messages_left_out r frame around shown =
-    let sign : List ℕ = row_text (sign_cells (message_style r frame around)) in
+messages_left_out r layout around shown =
+    let sign : List ℕ = row_text (sign_cells (message_style r layout around)) in
     let text : [] ≡ (sign ++ codes "note: ") ++ codes "m" = shown.shows.texts 0 in
     absurd (omega (arith, ap length text, length-append (sign ++ codes "note: ") (codes "m")))
 
@@ -60,11 +60,11 @@ messages_left_out r frame around shown =
 --
 --     error[<U+001B>]: e
 id_drawn_raw : (place : GroupPosition) (follows : Next) (rows : List (List Cell)) → row_text (row_at rows 0) ≡ codes "error[" ++ 27 ∷ codes "]: e"
-    → ShowsTitle plain_settings frame place follows (error_title (Some (record { id = Some (text_of (27 ∷ [])); url = None })) (codes "e")) rows → ⊥
+    → ShowsTitle plain_settings layout place follows (error_title (Some (record { id = Some (text_of (27 ∷ [])); url = None })) (codes "e")) rows → ⊥
 unfolding chars norm
 id_drawn_raw place follows rows wrong shown = in_own shown.own shown.rows_are (shown.shows.texts 0)
   where
-    in_own : (own : List (List Cell)) → rows ≡ own ++ rows_after_title plain_settings frame place follows false
+    in_own : (own : List (List Cell)) → rows ≡ own ++ rows_after_title plain_settings layout place follows false
         → row_text (row_at own 0) ≡ codes "error[" ++ 0x241B ∷ codes "]: e" → ⊥
     in_own [] same right = cc
     in_own (row ∷ own) same right =
@@ -77,7 +77,7 @@ id_drawn_raw place follows rows wrong shown = in_own shown.own shown.rows_are (s
 --
 --      --> <U+001B>
 path_drawn_raw : (around : ElementContext) (o : origin.Origin) → cow_str_bytes o.path ≡ 27 ∷ [] → o.line ≡ None → (rows : List NamedRow)
-    → row_text (drop 5 (row_at (cells_of rows) 0)) ≡ 27 ∷ [] → ShowsOrigin plain_settings frame around o rows → ⊥
+    → row_text (drop 5 (row_at (cells_of rows) 0)) ≡ 27 ∷ [] → ShowsOrigin plain_settings layout around o rows → ⊥
 unfolding chars norm origin_text
 path_drawn_raw around o path_is no_line rows wrong shown =
     let text : ◌≡◌ {A = List ℕ} (27 ∷ []) (0x241B ∷ []) = sym wrong ∙ shown.text
@@ -90,7 +90,7 @@ path_drawn_raw around o path_is no_line rows wrong shown =
 --
 --      --> <U+001B>:1:1
 path_of_snippet_drawn_raw : (s : Snippet Annotation) (row : List Cell) → slice_index_or (row_text (drop 5 row)) 0 0 ≡ 27
-    → NamesLocation plain_settings frame s (27 ∷ []) row → ⊥
+    → NamesLocation plain_settings layout s (27 ∷ []) row → ⊥
 unfolding chars norm origin_text
 path_of_snippet_drawn_raw s row wrong named =
     let letter : ◌≡◌ {A = ℕ} 27 0x241B = sym wrong ∙ ap (λ (cs : List ℕ). slice_index_or cs 0 0) named.text in

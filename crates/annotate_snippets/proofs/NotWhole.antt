@@ -52,7 +52,7 @@ use Rattle.annotate_snippets.specs.declared.renderer.element_context.Next.TheVar
 use Rattle.annotate_snippets.specs.declared.renderer.element_context.ElementContext.{ElementContext}
 use Rattle.annotate_snippets.proofs.LeftLaws.{number_of_left}
 use Rattle.annotate_snippets.proofs.ListLemmas.{Contains-head, Contains-tail, Contains-cons_cases, Contains-nil}
-use Rattle.annotate_snippets.proofs.NotShown.{IsSnippetOf, frame, row_below, span_of}
+use Rattle.annotate_snippets.proofs.NotShown.{IsSnippetOf, layout, row_below, span_of}
 
 -- ---- a message where the snippet should stand
 
@@ -82,7 +82,7 @@ digit_left_out (c ∷ cs) none text =
 
 -- so it isn't named as the row of a line
 pub unnamed : (closes : Bool) (s : Snippet Annotation) → IsLineA s → (name : RowName) (cells : List Cell) (rows : List NamedRow) → HasNoNumber 1 cells
-    → IsRowOf plain_settings frame closes s name cells rows → line_named name ≡ None
+    → IsRowOf plain_settings layout closes s name cells rows → line_named name ≡ None
 unfolding digits
 unnamed closes s is (SourceRow k) cells rows none shows =
     let within : k < 1 = subst (λ source. k < length (source_lines source)) is.is.source_is shows.line.within in
@@ -98,7 +98,7 @@ unnamed closes s is Other cells rows none shows = refl
 
 -- and no row of several is
 none_named : (closes : Bool) (s : Snippet Annotation) → IsLineA s → (rows : List NamedRow) → All (λ row. HasNoNumber 1 row.cells) rows
-    → AreRowsOf plain_settings frame closes s rows → lines_named rows ≡ []
+    → AreRowsOf plain_settings layout closes s rows → lines_named rows ≡ []
 none_named closes s is [] none named = refl
 none_named closes s is (row ∷ rows) none named =
     let IsUnnumbered : NamedRow → Type 0 = λ r. HasNoNumber 1 r.cells in
@@ -119,11 +119,11 @@ unnumbered_before (row ∷ rows) more all =
 
 -- so rows without a number show no snippet of a line that has one, whatever they are named
 line_left_out : (s : Snippet Annotation) → IsLineA s → (around : ElementContext) (rows : List NamedRow) → All (λ row. HasNoNumber 1 row.cells) rows
-    → ShowsSnippet plain_settings frame around s rows → ⊥
+    → ShowsSnippet plain_settings layout around s rows → ⊥
 unfolding line_of start_of
 line_left_out s is around rows none shown =
-    let tail : List NamedRow = others (rows_after_cause plain_settings frame around) in
-    let after : All (λ row. HasNoNumber 1 row.cells) shown.after = unnumbered_before shown.after tail (unnumbered_after (others (cause_head plain_settings frame around s)) (shown.after ++ tail) (subst (All (λ row. HasNoNumber 1 row.cells)) shown.rows_are none)) in
+    let tail : List NamedRow = others (rows_after_cause plain_settings layout around) in
+    let after : All (λ row. HasNoNumber 1 row.cells) shown.after = unnumbered_before shown.after tail (unnumbered_after (others (cause_head plain_settings layout around s)) (shown.after ++ tail) (subst (All (λ row. HasNoNumber 1 row.cells)) shown.rows_are none)) in
     let empty : lines_named shown.after ≡ [] = none_named (closes_with around) s is shown.after after shown.named in
     let one : shown_lines s.fold (codes "a") (span_of Primary 0 1 ∷ []) ≡ [] = ap (λ marks. shown_lines s.fold (codes "a") marks) (sym is.is.marks_are) ∙ ap (λ source. shown_lines s.fold source s.markers.items) (sym is.is.source_is) ∙ sym shown.lines ∙ empty in
     some s.fold one
@@ -139,7 +139,7 @@ line_left_out s is around rows none shown =
 --       | ^
 exchanged : (s : Snippet Annotation) → IsLineA s
     → (m : message.Message) (place : GroupPosition) (file : Option (List ℕ)) (rows : List NamedRow) (parts : List (List NamedRow))
-    → cells_of rows ≡ note_row ∷ [] → AreElementsShown plain_settings frame place file (element.Cause s ∷ element.Message m ∷ []) (rows ∷ parts) → ⊥
+    → cells_of rows ≡ note_row ∷ [] → AreElementsShown plain_settings layout place file (element.Cause s ∷ element.Message m ∷ []) (rows ∷ parts) → ⊥
 exchanged s is m place file rows parts cells shown =
     line_left_out s is (context_at place file (element.Cause s ∷ element.Message m ∷ []) 0 (element.Cause s))
     rows (All-unmapped (HasNoNumber 1) (λ row. row.cells)
@@ -156,12 +156,12 @@ trusted_title text = record { level = error_level; id = None; text = text; allow
 --
 --     error: ␛[1mx
 normalised_away : (text : CowStr Global)
-    → cow_str_bytes text ≡ 27 ∷ codes "[1mx" → (place : GroupPosition) (follows : Next) (rows : List (List Cell)) → row_text (row_at rows 0) ≡ codes "error: " ++ 9243 ∷ codes "[1mx" → ShowsTitle plain_settings frame place follows (trusted_title text) rows → ⊥
+    → cow_str_bytes text ≡ 27 ∷ codes "[1mx" → (place : GroupPosition) (follows : Next) (rows : List (List Cell)) → row_text (row_at rows 0) ≡ codes "error: " ++ 9243 ∷ codes "[1mx" → ShowsTitle plain_settings layout place follows (trusted_title text) rows → ⊥
 unfolding chars norm
 normalised_away text is place follows rows wrong shown =
     in_own shown.own shown.rows_are (shown.shows.texts 0 ∙ ap (λ bytes. slice_index_or (heading_texts style.Title (record { level = error_level; id = None; text = bytes; allows_styling = true })) 0 []) is)
   where
-    in_own : (own : List (List Cell)) → rows ≡ own ++ rows_after_title plain_settings frame place follows true
+    in_own : (own : List (List Cell)) → rows ≡ own ++ rows_after_title plain_settings layout place follows true
         → row_text (row_at own 0) ≡ codes "error: " ++ 27 ∷ codes "[1mx" → ⊥
     in_own [] same right = cc
     in_own (row ∷ own) same right =
@@ -177,7 +177,7 @@ normalised_away text is place follows rows wrong shown =
 --     ^ links
 linked_elsewhere : (r : Renderer) (text : CowStr Global) (id : Option Id) (trusted : Bool) (place : GroupPosition) (follows : Next)
     (rows : List (List Cell)) (url : List ℕ) → (cell_at rows 0 0).link ≡ Some url
-    → ShowsTitle r frame place follows (record { level = error_level; id = id; text = text; allows_styling = trusted }) rows → ⊥
+    → ShowsTitle r layout place follows (record { level = error_level; id = id; text = text; allows_styling = trusted }) rows → ⊥
 unfolding chars norm
 linked_elsewhere r text id trusted place follows rows url wrong shown =
     in_own shown.own shown.rows_are (shown.shows.links 0 0)
@@ -188,9 +188,9 @@ linked_elsewhere r text id trusted place follows rows url wrong shown =
     below decor false true = refl
     below decor false false = refl
 
-    in_own : (own : List (List Cell)) → rows ≡ own ++ rows_after_title r frame place follows trusted → (cell_at own 0 0).link ≡ None → ⊥
+    in_own : (own : List (List Cell)) → rows ≡ own ++ rows_after_title r layout place follows trusted → (cell_at own 0 0).link ≡ None → ⊥
     in_own [] same none =
-        let both : ◌≡◌ {A = Option (List ℕ)} (Some url) None = sym wrong ∙ ap (λ all. (cell_at all 0 0).link) same ∙ below frame.decor (is_before_message follows) (is_end follows && is_first_of_several place && not trusted) in
+        let both : ◌≡◌ {A = Option (List ℕ)} (Some url) None = sym wrong ∙ ap (λ all. (cell_at all 0 0).link) same ∙ below layout.decor (is_before_message follows) (is_end follows && is_first_of_several place && not trusted) in
         cc
     in_own (row ∷ own) same none =
         let both : ◌≡◌ {A = Option (List ℕ)} (Some url) None = sym wrong ∙ ap (λ all. (cell_at all 0 0).link) same ∙ none in
@@ -236,7 +236,7 @@ at_first place is =
     by_first (inr rest) = absurd (Contains-nil is.span rest)
 
 origin_of_first_given_span : (s : Snippet Annotation) → IsSnippetOf s (codes "ab") both_spans → s.line_start ≡ 1 → (row : List Cell)
-    → row_text (drop 5 row) ≡ codes "f:1:2" → NamesLocation plain_settings frame s (codes "f") row → ⊥
+    → row_text (drop 5 row) ≡ codes "f:1:2" → NamesLocation plain_settings layout s (codes "f") row → ⊥
 unfolding origin_text digits norm chars
 origin_of_first_given_span s is first row wrong named =
     let Names : List ℕ → ℕ → List Annotation → Type 0 = λ text line marks. IsLocation (record { text = text; first = line }) marks named.place in
@@ -266,7 +266,7 @@ at_second place is =
     ]
 
 origin_by_byte : (s : Snippet Annotation) → IsSnippetOf s (encode_utf8_all (codes "éb")) (second_span ∷ []) → s.line_start ≡ 1 → (row : List Cell)
-    → row_text (drop 5 row) ≡ codes "f:1:3" → NamesLocation plain_settings frame s (codes "f") row → ⊥
+    → row_text (drop 5 row) ≡ codes "f:1:3" → NamesLocation plain_settings layout s (codes "f") row → ⊥
 unfolding origin_text digits norm chars
 origin_by_byte s is first row wrong named =
     let Names : List ℕ → ℕ → List Annotation → Type 0 = λ text line marks. IsLocation (record { text = text; first = line }) marks named.place in
@@ -285,12 +285,12 @@ origin_by_byte s is first row wrong named =
 first_line_left_out : (s : Snippet Annotation) → IsSnippetOf s (codes "a\nb") (span_of Primary 0 3 ∷ span_of Primary 0 3 ∷ [])
     → (around : ElementContext) (rows : List NamedRow)
     → (Contains (lines_named rows) 0 → ⊥)
-    → ShowsSnippet plain_settings frame around s
-    (others (cause_head plain_settings frame around s) ++ (rows ++ others (rows_after_cause plain_settings frame around))) → ⊥
+    → ShowsSnippet plain_settings layout around s
+    (others (cause_head plain_settings layout around s) ++ (rows ++ others (rows_after_cause plain_settings layout around))) → ⊥
 unfolding line_of start_of
 first_line_left_out s is around rows out shown =
-    let tail : List NamedRow = others (rows_after_cause plain_settings frame around) in
-    let same : shown.after ≡ rows = append_cancel_right shown.after rows tail (sym (append_cancel_left (others (cause_head plain_settings frame around s)) (rows ++ tail) (shown.after ++ tail) shown.rows_are)) in
+    let tail : List NamedRow = others (rows_after_cause plain_settings layout around) in
+    let same : shown.after ≡ rows = append_cancel_right shown.after rows tail (sym (append_cancel_left (others (cause_head plain_settings layout around s)) (rows ++ tail) (shown.after ++ tail) shown.rows_are)) in
     let Begins : List Annotation → Type 0 = λ marks. All (λ a. Contains (lines_named shown.after) (first_line (cow_str_bytes s.source) a) × Contains (lines_named shown.after) (last_line (cow_str_bytes s.source) a)) marks in
     let ends : Begins (span_of Primary 0 3 ∷ span_of Primary 0 3 ∷ []) = subst Begins is.marks_are shown.ends in
     let first : Contains (lines_named shown.after) (first_line (cow_str_bytes s.source) (span_of Primary 0 3)) = (All-head (λ a. Contains (lines_named shown.after) (first_line (cow_str_bytes s.source) a) × Contains (lines_named shown.after) (last_line (cow_str_bytes s.source) a)) (span_of Primary 0 3) (span_of Primary 0 3 ∷ []) ends).0 in
@@ -313,11 +313,11 @@ last_row (r ∷ rows) (m ∷ more) row other same = last_row rows more row other
 --     note: n
 closing_left_out : (s : Snippet Annotation) (around : ElementContext) → around.place ≡ place.First → around.next ≡ next.Nothing
     → (rows : List NamedRow) (row : NamedRow) → row.cells ≡ row_below (text_cells UnderlinePrimary (codes "^"))
-    → ShowsSnippet plain_settings frame around s (rows ++ row ∷ []) → ⊥
+    → ShowsSnippet plain_settings layout around s (rows ++ row ∷ []) → ⊥
 closing_left_out s around first last rows row cells shown =
     let closing : NamedRow = record { name = Other; cells = closing_row Ascii 1 } in
-    let head : List NamedRow = others (cause_head plain_settings frame around s) in
-    let closes : rows_after_cause plain_settings frame around ≡ closing_row Ascii 1 ∷ [] = ap (λ p. rows_after_cause plain_settings frame (record around { place = p })) first ∙ ap (λ n. rows_after_cause plain_settings frame (record around { place = place.First; next = n })) last in
+    let head : List NamedRow = others (cause_head plain_settings layout around s) in
+    let closes : rows_after_cause plain_settings layout around ≡ closing_row Ascii 1 ∷ [] = ap (λ p. rows_after_cause plain_settings layout (record around { place = p })) first ∙ ap (λ n. rows_after_cause plain_settings layout (record around { place = place.First; next = n })) last in
     let same : rows ++ row ∷ [] ≡ (head ++ shown.after) ++ closing ∷ [] = shown.rows_are ∙ ap (λ tail. head ++ (shown.after ++ others tail)) closes ∙ sym (append_assoc head shown.after (closing ∷ [])) in
     let is : row.cells ≡ closing_row Ascii 1 = ap (λ (r : NamedRow). r.cells) (last_row rows (head ++ shown.after) row closing same) in
     absurd (omega (arith, ap length (sym cells ∙ is)))

@@ -87,31 +87,32 @@ others_numbered gutter (row ∷ rows) none =
 one_row : (gutter : ℕ) (row : List Cell) → HasNoNumber gutter row → All (HasNoNumber gutter) (row ∷ [])
 one_row gutter row none = All-cons (HasNoNumber gutter) row [] none (All-nil (HasNoNumber gutter))
 
-closing_unnumbered : (r : Renderer) (frame : Layout) (closes : Bool) → All (HasNoNumber frame.gutter) (cond closes (closing_rows r frame) [])
-closing_unnumbered r frame true = one_row frame.gutter _ (closing_row-unnumbered frame.decor frame.gutter)
-closing_unnumbered r frame false = All-nil (HasNoNumber frame.gutter)
+closing_unnumbered : (r : Renderer) (layout : Layout) (closes : Bool) → All (HasNoNumber layout.gutter) (cond closes (closing_rows r layout) [])
+closing_unnumbered r layout true = one_row layout.gutter _ (closing_row-unnumbered layout.decor layout.gutter)
+closing_unnumbered r layout false = All-nil (HasNoNumber layout.gutter)
 
-after_unnumbered : (r : Renderer) (frame : Layout) (separates closes : Bool)
-    → All (HasNoNumber frame.gutter) (cond separates (separator_rows r frame) (cond closes (closing_rows r frame) []))
-after_unnumbered r frame true closes = one_row frame.gutter _ (separator_row-unnumbered frame.decor frame.gutter)
-after_unnumbered r frame false closes = closing_unnumbered r frame closes
+after_unnumbered : (r : Renderer) (layout : Layout) (separates closes : Bool)
+    → All (HasNoNumber layout.gutter) (cond separates (separator_rows r layout) (cond closes (closing_rows r layout) []))
+after_unnumbered r layout true closes = one_row layout.gutter _ (separator_row-unnumbered layout.decor layout.gutter)
+after_unnumbered r layout false closes = closing_unnumbered r layout closes
 
 -- ---- snippets
 
-row_numbered : (r : Renderer) (frame : Layout) (closes : Bool) (s : Snippet Annotation) (name : RowName) (cells : List Cell) (rows : List NamedRow)
-    → IsRowOf r frame closes s name cells rows → shows_a_line name ≡ false → HasNoNumber frame.gutter cells
-row_numbered r frame closes s (SourceRow k) cells rows is none = absurd (false≢true (sym none))
-row_numbered r frame closes s Elision cells rows is none = unnumbered_elided frame.decor frame cells is
-row_numbered r frame closes s (OfferedLine j) cells rows is none = absurd is
-row_numbered r frame closes s (RemovedLine i) cells rows is none = absurd is
-row_numbered r frame closes s Other cells rows is none =
-    unnumbered_below frame.decor frame (closes && length rows == 0) cells is
+row_numbered : (r : Renderer) (layout : Layout) (closes : Bool) (s : Snippet Annotation) (name : RowName) (cells : List Cell) (rows : List NamedRow)
+    → IsRowOf r layout closes s name cells rows → shows_a_line name ≡ false → HasNoNumber layout.gutter cells
+row_numbered r layout closes s (SourceRow k) cells rows is none = absurd (false≢true (sym none))
+row_numbered r layout closes s Elision cells rows is none = unnumbered_elided layout.decor layout cells is
+row_numbered r layout closes s (OfferedLine j) cells rows is none = absurd is
+row_numbered r layout closes s (RemovedLine i) cells rows is none = absurd is
+row_numbered r layout closes s Other cells rows is none =
+    unnumbered_below layout.decor layout (closes && length rows == 0) cells is
 
-rows_numbered : (r : Renderer) (frame : Layout) (closes : Bool) (s : Snippet Annotation) (rows : List NamedRow) → AreRowsOf r frame closes s rows
-    → All (IsNumberedAsLine frame.gutter) rows
-rows_numbered r frame closes s [] are = All-nil (IsNumberedAsLine frame.gutter)
-rows_numbered r frame closes s (row ∷ rows) are =
-    All-cons (IsNumberedAsLine frame.gutter) row rows (row_numbered r frame closes s row.name row.cells rows are.0) (rows_numbered r frame closes s rows are.1)
+rows_numbered : (r : Renderer) (layout : Layout) (closes : Bool) (s : Snippet Annotation) (rows : List NamedRow) → AreRowsOf r layout closes s rows
+    → All (IsNumberedAsLine layout.gutter) rows
+rows_numbered r layout closes s [] are = All-nil (IsNumberedAsLine layout.gutter)
+rows_numbered r layout closes s (row ∷ rows) are =
+    All-cons (IsNumberedAsLine layout.gutter) row rows (row_numbered r layout closes s row.name row.cells rows are.0)
+    (rows_numbered r layout closes s rows are.1)
 
 -- ---- suggestions
 
@@ -124,57 +125,57 @@ suggested_numbered r decor gutter s (RemovedLine i) cells is none = absurd (fals
 suggested_numbered r decor gutter s Other cells is none =
     λ c left. stroke_unnumbered decor (get_or cells c SPACE).ch (is.strokes c (omega (arith, left)))
 
-path_unnumbered : (r : Renderer) (frame : Layout) (first : Bool) (s : Snippet Patch) (path : Option (List ℕ))
-    → All (HasNoNumber frame.gutter) (path_row r frame first s path)
-path_unnumbered r frame first s None = All-nil (HasNoNumber frame.gutter)
-path_unnumbered r frame first s (Some path) =
-    one_row frame.gutter _ (origin_row-unnumbered (origin_layout r frame) (primary_start first) path (patch_place s))
+path_unnumbered : (r : Renderer) (layout : Layout) (first : Bool) (s : Snippet Patch) (path : Option (List ℕ))
+    → All (HasNoNumber layout.gutter) (path_row r layout first s path)
+path_unnumbered r layout first s None = All-nil (HasNoNumber layout.gutter)
+path_unnumbered r layout first s (Some path) =
+    one_row layout.gutter _ (origin_row-unnumbered (origin_layout r layout) (primary_start first) path (patch_place s))
 
-head_unnumbered : (begins : SuggestionStart) (r : Renderer) (frame : Layout) (first : Bool) (s : Snippet Patch)
-    → All (HasNoNumber frame.gutter) (suggestion_head_at begins r frame first s)
-head_unnumbered start.Opening r frame first s = All-nil (HasNoNumber frame.gutter)
-head_unnumbered start.Next r frame first s = All-nil (HasNoNumber frame.gutter)
-head_unnumbered start.Path r frame first s = path_unnumbered r frame first s (path_bytes s.path)
+head_unnumbered : (begins : SuggestionStart) (r : Renderer) (layout : Layout) (first : Bool) (s : Snippet Patch)
+    → All (HasNoNumber layout.gutter) (suggestion_head_at begins r layout first s)
+head_unnumbered start.Opening r layout first s = All-nil (HasNoNumber layout.gutter)
+head_unnumbered start.Next r layout first s = All-nil (HasNoNumber layout.gutter)
+head_unnumbered start.Path r layout first s = path_unnumbered r layout first s (path_bytes s.path)
 
 -- ---- elements
 
-element_numbered : (r : Renderer) (frame : Layout) (around : ElementContext) (found : List Cell) (e : Element) (rows : List NamedRow)
-    → ShowsElement r frame around found e rows → All (IsNumberedAsLine frame.gutter) rows
-element_numbered r frame around found (element.Message message) rows shown =
-    let place : MessageContext = record { frame = frame; followed = not (is_end around.next) } in
-    let none : All (HasNoNumber frame.gutter) (cells_of rows) = subst (All (HasNoNumber frame.gutter)) (sym shown.shows.rows_are) (message_rows-unnumbered r.hyperlink place (heading_of_message message)) in
-    subst (All (IsNumberedAsLine frame.gutter)) (sym shown.named) (others_numbered frame.gutter (cells_of rows) none)
-element_numbered r frame around found (element.Cause s) rows shown =
-    let P : NamedRow → Type 0 = IsNumberedAsLine frame.gutter in
-    let head : List (List Cell) = cause_head r frame around s in
-    let tail : List (List Cell) = rows_after_cause r frame around in
-    let above : All P (others head) = others_numbered frame.gutter head (snippet_head-unnumbered (origin_layout r frame) around.primary around.first (path_bytes s.path) _) in
-    let below : All P (others tail) = others_numbered frame.gutter tail (after_unnumbered r frame (is_first_group around.place && is_before_message around.next) (closes_after around)) in
-    let lines : All P shown.after = rows_numbered r frame (closes_with around) s shown.after shown.named in
+element_numbered : (r : Renderer) (layout : Layout) (around : ElementContext) (found : List Cell) (e : Element) (rows : List NamedRow)
+    → ShowsElement r layout around found e rows → All (IsNumberedAsLine layout.gutter) rows
+element_numbered r layout around found (element.Message message) rows shown =
+    let place : MessageContext = record { layout = layout; followed = not (is_end around.next) } in
+    let none : All (HasNoNumber layout.gutter) (cells_of rows) = subst (All (HasNoNumber layout.gutter)) (sym shown.shows.rows_are) (message_rows-unnumbered r.hyperlink place (heading_of_message message)) in
+    subst (All (IsNumberedAsLine layout.gutter)) (sym shown.named) (others_numbered layout.gutter (cells_of rows) none)
+element_numbered r layout around found (element.Cause s) rows shown =
+    let P : NamedRow → Type 0 = IsNumberedAsLine layout.gutter in
+    let head : List (List Cell) = cause_head r layout around s in
+    let tail : List (List Cell) = rows_after_cause r layout around in
+    let above : All P (others head) = others_numbered layout.gutter head (snippet_head-unnumbered (origin_layout r layout) around.primary around.first (path_bytes s.path) _) in
+    let below : All P (others tail) = others_numbered layout.gutter tail (after_unnumbered r layout (is_first_group around.place && is_before_message around.next) (closes_after around)) in
+    let lines : All P shown.after = rows_numbered r layout (closes_with around) s shown.after shown.named in
     subst (All P) (sym shown.rows_are) (All-append P (others head) (shown.after ++ others tail) above (All-append P shown.after (others tail) lines below))
-element_numbered r frame around found (element.Suggestion s) rows shown =
-    let P : NamedRow → Type 0 = IsNumberedAsLine frame.gutter in
-    let head : List (List Cell) = suggestion_head r frame around s in
-    let above : All P (others head) = others_numbered frame.gutter head (head_unnumbered around.start r frame around.first s) in
-    let lines : All P shown.after = All-weaker (λ row. IsSuggestionRow r frame.decor frame.gutter s row.name row.cells) P (λ row is. suggested_numbered r frame.decor frame.gutter s row.name row.cells is) shown.after shown.named in
+element_numbered r layout around found (element.Suggestion s) rows shown =
+    let P : NamedRow → Type 0 = IsNumberedAsLine layout.gutter in
+    let head : List (List Cell) = suggestion_head r layout around s in
+    let above : All P (others head) = others_numbered layout.gutter head (head_unnumbered around.start r layout around.first s) in
+    let lines : All P shown.after = All-weaker (λ row. IsSuggestionRow r layout.decor layout.gutter s row.name row.cells) P (λ row is. suggested_numbered r layout.decor layout.gutter s row.name row.cells is) shown.after shown.named in
     subst (All P) (sym shown.rows_are) (All-append P (others head) shown.after above lines)
-element_numbered r frame around found (element.Origin origin) rows shown =
-    let P : List Cell → Type 0 = HasNoNumber frame.gutter in
-    let none : All P (origin_rows r frame around origin) = All-cons P _ _ (origin_row-unnumbered (origin_layout r frame) (origin_start around) (cow_str_bytes origin.path) (place_given origin)) (closing_unnumbered r frame (closes_after around)) in
-    subst (All (IsNumberedAsLine frame.gutter)) (sym shown.rows_are) (others_numbered frame.gutter (origin_rows r frame around origin) none)
-element_numbered r frame around found (element.Padding padding) rows shown =
-    let row : List Cell = padding_row frame.decor frame.gutter (is_end around.next) in
-    subst (All (IsNumberedAsLine frame.gutter)) (sym shown) (others_numbered frame.gutter (row ∷ []) (one_row frame.gutter row (padding_row-unnumbered frame.decor frame.gutter (is_end around.next))))
+element_numbered r layout around found (element.Origin origin) rows shown =
+    let P : List Cell → Type 0 = HasNoNumber layout.gutter in
+    let none : All P (origin_rows r layout around origin) = All-cons P _ _ (origin_row-unnumbered (origin_layout r layout) (origin_start around) (cow_str_bytes origin.path) (place_given origin)) (closing_unnumbered r layout (closes_after around)) in
+    subst (All (IsNumberedAsLine layout.gutter)) (sym shown.rows_are) (others_numbered layout.gutter (origin_rows r layout around origin) none)
+element_numbered r layout around found (element.Padding padding) rows shown =
+    let row : List Cell = padding_row layout.decor layout.gutter (is_end around.next) in
+    subst (All (IsNumberedAsLine layout.gutter)) (sym shown) (others_numbered layout.gutter (row ∷ []) (one_row layout.gutter row (padding_row-unnumbered layout.decor layout.gutter (is_end around.next))))
 
 -- a group's elements have numbers beside lines alone
-pub group_numbered : (r : Renderer) (frame : Layout) (place : GroupPosition) (file : Option (List ℕ)) (es : List Element) (g : GroupPage)
-    → AreElementsShown r frame place file es g.elements → HasNumbersOfLines frame.gutter g
-group_numbered r frame place file es g shown =
-    All-from_get_or (λ rows. All (IsNumberedAsLine frame.gutter) rows) g.elements [] each
+pub group_numbered : (r : Renderer) (layout : Layout) (place : GroupPosition) (file : Option (List ℕ)) (es : List Element) (g : GroupPage)
+    → AreElementsShown r layout place file es g.elements → HasNumbersOfLines layout.gutter g
+group_numbered r layout place file es g shown =
+    All-from_get_or (λ rows. All (IsNumberedAsLine layout.gutter) rows) g.elements [] each
   where
-    each : (k : ℕ) → k < length g.elements → All (IsNumberedAsLine frame.gutter) (get_or g.elements k [])
+    each : (k : ℕ) → k < length g.elements → All (IsNumberedAsLine layout.gutter) (get_or g.elements k [])
     each k within =
         elim (slice_get_cases es k).1 [
-          | inl there ↦ element_numbered r frame (context_at place file es k there.0) (found_at r frame es k) there.0 (get_or g.elements k []) (shown.each k there.0 there.2)
+          | inl there ↦ element_numbered r layout (context_at place file es k there.0) (found_at r layout es k) there.0 (get_or g.elements k []) (shown.each k there.0 there.2)
           | inr past ↦ absurd (omega (arith, within, past.0, shown.count))
         ]

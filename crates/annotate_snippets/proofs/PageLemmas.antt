@@ -64,10 +64,10 @@ names_in-others (row ∷ rows) more = names_in-others rows more
 some_more : (m n : ℕ) → (suc m == 0) ≡ (suc n == 0)
 some_more m n = grind (arith, nat_tests)
 
-module _ (r : Renderer) (frame : Layout) (s : Snippet Annotation)
+module _ (r : Renderer) (layout : Layout) (s : Snippet Annotation)
     (spans : All (λ a. IsSpan (cow_str_bytes s.source) a.span.start a.span.end) s.markers.items) (margin : Margin)
-    (room : margin.term_width ≡ room_of r frame) (bounds : bounds_of margin ≡ bounds_in r frame s)
-    (ordered : (bounds_of margin).left ≤ (bounds_of margin).right) (place : frame.gutter + 3 ≤ frame.code) (closes : Bool) where
+    (room : margin.term_width ≡ room_of r layout) (bounds : bounds_of margin ≡ bounds_in r layout s)
+    (ordered : (bounds_of margin).left ≤ (bounds_of margin).right) (place : layout.gutter + 3 ≤ layout.code) (closes : Bool) where
   abbrev own_lines : ℕ
   own_lines = length (source_lines (cow_str_bytes s.source))
 
@@ -75,35 +75,35 @@ module _ (r : Renderer) (frame : Layout) (s : Snippet Annotation)
   line_of_snippet k = kept_line (numbered_source s) s.markers.items k
 
   abbrev NumberFits : AnnotatedLineInfo → Type 0
-  NumberFits info = length (shown_number (line_numbers r s.line_numbering) frame.gutter info.line_index) ≤ frame.gutter + 1
+  NumberFits info = length (shown_number (line_numbers r s.line_numbering) layout.gutter info.line_index) ≤ layout.gutter + 1
 
   -- the rows of a line show it, with the marks below
   line_and_marks : (last : Bool) (open_bars : List Bar) (k : ℕ) (info : AnnotatedLineInfo) (rows : List (List Cell)) (more : List NamedRow)
       → k < own_lines → seen_kept info ≡ line_of_snippet k → NumberFits info
-      → (shows : strokes.ShowsLine frame margin (line_numbers r s.line_numbering) last open_bars info rows) → rows_below more ≡ []
-      → ShowsLineAndMarks r frame s k shows.source (cells_below (others shows.below ++ more)) (rows_below (others shows.below ++ more))
+      → (shows : strokes.ShowsLine layout margin (line_numbers r s.line_numbering) last open_bars info rows) → rows_below more ≡ []
+      → ShowsLineAndMarks r layout s k shows.source (cells_below (others shows.below ++ more)) (rows_below (others shows.below ++ more))
   line_and_marks last open_bars k info rows more within seen fits shows ends =
       record {
         dropped = shows.dropped;
-        line = source_line r frame s spans margin room bounds ordered last open_bars k info rows within seen fits shows place;
-        marks = λ qualifies. subst (λ row. ShowsMarksOf frame.decor frame s k shows.dropped row)
+        line = source_line r layout s spans margin room bounds ordered last open_bars k info rows within seen fits shows place;
+        marks = λ qualifies. subst (λ row. ShowsMarksOf layout.decor layout s k shows.dropped row)
             (sym (below-first shows.below more
-            (marks_there r frame s spans margin room bounds ordered last open_bars k info rows within seen fits shows qualifies)))
-            (marks_of_line r frame s spans margin room bounds ordered last open_bars k info rows within seen fits shows qualifies);
-        labels = λ uncut. subst (λ lower. ShowsLabels frame.decor frame s k shows.dropped lower) (sym (below-own shows.below more ends)) (labels_of_line r frame s spans margin room bounds ordered last open_bars k info rows within seen fits shows uncut);
+            (marks_there r layout s spans margin room bounds ordered last open_bars k info rows within seen fits shows qualifies)))
+            (marks_of_line r layout s spans margin room bounds ordered last open_bars k info rows within seen fits shows qualifies);
+        labels = λ uncut. subst (λ lower. ShowsLabels layout.decor layout s k shows.dropped lower) (sym (below-own shows.below more ends)) (labels_of_line r layout s spans margin room bounds ordered last open_bars k info rows within seen fits shows uncut);
       }
 
   -- rows below a line, with the last of which the window closes where no row stands after
   others_are : (last : Bool) (rows : List (List Cell)) (more : List NamedRow) → (length more == 0) ≡ last
-      → ((i : ℕ) → i < length rows → IsRowBelow frame.decor frame ((closes && last) && i + 1 == length rows) (row_at rows i))
-      → AreRowsOf r frame closes s more → AreRowsOf r frame closes s (others rows ++ more)
+      → ((i : ℕ) → i < length rows → IsRowBelow layout.decor layout ((closes && last) && i + 1 == length rows) (row_at rows i))
+      → AreRowsOf r layout closes s more → AreRowsOf r layout closes s (others rows ++ more)
   others_are last [] more ends below are = are
   others_are last (row ∷ rows) more ends below are =
-      let own : IsRowBelow frame.decor frame ((closes && last) && 0 + 1 == length (row ∷ rows)) row = below 0 (omega arith) in
-      let further : (i : ℕ) → i < length rows → IsRowBelow frame.decor frame ((closes && last) && i + 1 == length rows) (row_at rows i) =
-      λ i within. subst (λ b. IsRowBelow frame.decor frame ((closes && last) && b) (row_at rows i)) (shifted i (length rows))
+      let own : IsRowBelow layout.decor layout ((closes && last) && 0 + 1 == length (row ∷ rows)) row = below 0 (omega arith) in
+      let further : (i : ℕ) → i < length rows → IsRowBelow layout.decor layout ((closes && last) && i + 1 == length rows) (row_at rows i) =
+      λ i within. subst (λ b. IsRowBelow layout.decor layout ((closes && last) && b) (row_at rows i)) (shifted i (length rows))
       (below (suc i) (omega (arith, within))) in
-      (subst (λ b. IsRowBelow frame.decor frame b row) (with_last rows) own, others_are last rows more ends further are)
+      (subst (λ b. IsRowBelow layout.decor layout b row) (with_last rows) own, others_are last rows more ends further are)
     where
       shifted : (i n : ℕ) → (suc i + 1 == suc n) ≡ (i + 1 == n)
       shifted i n = grind (arith, nat_tests)
@@ -123,11 +123,11 @@ module _ (r : Renderer) (frame : Layout) (s : Snippet Annotation)
     pub cells : cells_of part ≡ rows
     pub lines : lines_named part ≡ ks
     pub names : names_in part ≡ names_of_lines ks
-    pub are : AreRowsOf r frame closes s part
+    pub are : AreRowsOf r layout closes s part
     pub ends : (length part == 0) ≡ (length ks == 0)
     pub begins : rows_below part ≡ []
-    pub drawn : AreRowsDrawn r frame closes s open_bars part
-    pub value : part ≡ rows_of_lines r frame closes s open_bars ks
+    pub drawn : AreRowsDrawn r layout closes s open_bars part
+    pub value : part ≡ rows_of_lines r layout closes s open_bars ks
 
   -- the rows between a line and the next: one where lines are left out
   pub record IsGapNamed (open_bars : List Bar) (j : ℕ) (ks : List ℕ) (rows : List (List Cell)) : Type 0 where
@@ -135,12 +135,12 @@ module _ (r : Renderer) (frame : Layout) (s : Snippet Annotation)
     pub cells : cells_of gap ≡ rows
     pub lines : (more : List NamedRow) → lines_named (gap ++ more) ≡ lines_named more
     pub names : (more : List NamedRow) → names_in more ≡ names_of_lines ks → SourceRow j ∷ names_in (gap ++ more) ≡ names_of_lines (j ∷ ks)
-    pub are : (more : List NamedRow) → AreRowsOf r frame closes s more → AreRowsOf r frame closes s (gap ++ more)
+    pub are : (more : List NamedRow) → AreRowsOf r layout closes s more → AreRowsOf r layout closes s (gap ++ more)
     pub ends : (more : List NamedRow) → (length more == 0) ≡ (length ks == 0) → (length (gap ++ more) == 0) ≡ (length ks == 0)
     pub begins : (more : List NamedRow) → rows_below more ≡ [] → rows_below (gap ++ more) ≡ []
-    pub drawn : (more : List NamedRow) → rows_below more ≡ [] → AreRowsDrawn r frame closes s open_bars more
-        → AreRowsDrawn r frame closes s open_bars (gap ++ more)
-    pub value : gap ≡ gap_below r frame open_bars j ks
+    pub drawn : (more : List NamedRow) → rows_below more ≡ [] → AreRowsDrawn r layout closes s open_bars more
+        → AreRowsDrawn r layout closes s open_bars (gap ++ more)
+    pub value : gap ≡ gap_below r layout open_bars j ks
 
   -- a row in place of lines
   abbrev gap_of : List Cell → List NamedRow
@@ -148,7 +148,7 @@ module _ (r : Renderer) (frame : Layout) (s : Snippet Annotation)
 
   gap_named : (open_bars : List Bar) (j : ℕ) (ks : List ℕ) (info : AnnotatedLineInfo) (infos : List AnnotatedLineInfo) (rows : List (List Cell))
       → seen_kept info ≡ line_of_snippet j → map seen_kept infos ≡ map line_of_snippet ks
-      → strokes.IsGap frame open_bars info.line_index infos rows → IsGapNamed open_bars j ks rows
+      → strokes.IsGap layout open_bars info.line_index infos rows → IsGapNamed open_bars j ks rows
   gap_named open_bars j [] info [] rows here lines gap =
       record { gap = []; cells = sym gap; lines = λ more. refl; names = λ more none. ap (λ names. SourceRow j ∷ names) none; are = λ more are. are; ends = λ more same. same; begins = λ more none. none; drawn = λ more none drawn. drawn; value = refl }
   gap_named open_bars j [] info (next ∷ infos) rows here lines gap = cc
@@ -170,7 +170,7 @@ module _ (r : Renderer) (frame : Layout) (s : Snippet Annotation)
               ends = λ more same. some_more (length more) (length ks);
               begins = λ more none. refl;
               drawn = λ more none drawn. ((left_out.4, none), drawn);
-              value = ap gap_of left_out.4 ∙ sym (ap (λ b. cond b (gap_of (gap_row frame open_bars)) []) far);
+              value = ap gap_of left_out.4 ∙ sym (ap (λ b. cond b (gap_of (gap_row layout open_bars)) []) far);
             }
         | inr next_to ↦
             let near : ltb (j + 1) k ≡ false = le-ltb (j + 1) k (omega (arith, own, its, next_to.0)) in
@@ -183,7 +183,7 @@ module _ (r : Renderer) (frame : Layout) (s : Snippet Annotation)
               ends = λ more same. same;
               begins = λ more none. none;
               drawn = λ more none drawn. drawn;
-              value = sym (ap (λ b. cond b (gap_of (gap_row frame open_bars)) []) near);
+              value = sym (ap (λ b. cond b (gap_of (gap_row layout open_bars)) []) near);
             }
       ]
 
@@ -194,8 +194,8 @@ module _ (r : Renderer) (frame : Layout) (s : Snippet Annotation)
       ap (open_past open_bars) (bars_seen s k info.annotations.items (ap (λ (l : KeptLine). l.parts) seen))
 
   -- rows below a line are drawn with it
-  others_drawn : (open_bars : List Bar) (rows : List (List Cell)) (more : List NamedRow) → AreRowsDrawn r frame closes s open_bars more
-      → AreRowsDrawn r frame closes s open_bars (others rows ++ more)
+  others_drawn : (open_bars : List Bar) (rows : List (List Cell)) (more : List NamedRow) → AreRowsDrawn r layout closes s open_bars more
+      → AreRowsDrawn r layout closes s open_bars (others rows ++ more)
   others_drawn open_bars [] more drawn = drawn
   others_drawn open_bars (row ∷ rows) more drawn = (tt, others_drawn open_bars rows more drawn)
 
@@ -216,7 +216,7 @@ module _ (r : Renderer) (frame : Layout) (s : Snippet Annotation)
   -- the rows of kept lines have the names of their lines
   pub named_lines : (open_bars : List Bar) (ks : List ℕ) (infos : List AnnotatedLineInfo) (rows : List (List Cell)) → All (λ k. k < own_lines) ks
       → map seen_kept infos ≡ map line_of_snippet ks → All NumberFits infos
-      → strokes.AreLinesShown frame margin (line_numbers r s.line_numbering) closes open_bars infos rows → AreNamed open_bars ks rows
+      → strokes.AreLinesShown layout margin (line_numbers r s.line_numbering) closes open_bars infos rows → AreNamed open_bars ks rows
   named_lines open_bars [] [] rows within lines fit shown = record { part = []; cells = sym shown; lines = refl; names = refl; are = tt; ends = refl; begins = refl; drawn = tt; value = refl }
   named_lines open_bars [] (info ∷ infos) rows within lines fit shown = cc
   named_lines open_bars (k ∷ ks) [] rows within lines fit shown = cc
@@ -226,13 +226,13 @@ module _ (r : Renderer) (frame : Layout) (s : Snippet Annotation)
       let open_now : List Bar = open_below open_bars info.annotations.items in
       let rest : AreNamed open_now ks shown.2 = named_lines open_now ks infos shown.2 (All-tail (λ j. j < own_lines) k ks within) further (All-tail NumberFits info infos fit) shown.6 in
       let last : Bool = length infos == 0 in
-      let shows : strokes.ShowsLine frame margin (line_numbers r s.line_numbering) (closes && last) open_bars info shown.0 = shown.4 in
+      let shows : strokes.ShowsLine layout margin (line_numbers r s.line_numbering) (closes && last) open_bars info shown.0 = shown.4 in
       let source_row : NamedRow = record { name = SourceRow k; cells = shows.source } in
       let between : IsGapNamed open_now k ks shown.1 = gap_named open_now k ks info infos shown.1 here further shown.5 in
       let after : List NamedRow = between.gap ++ rest.part in
       let ends : (length after == 0) ≡ last = between.ends rest.part rest.ends ∙ none_left ks infos further in
-      let line : IsLineDrawn r frame (closes && last) s open_bars k (shows.source ∷ shows.below) = line_drawn r frame s margin room bounds (closes && last) open_bars k info shown.0 here shows in
-      let own : shows.source ∷ shows.below ≡ rows_of_line r frame (closes && length ks == 0) s open_bars k = line_value r frame (closes && last) s open_bars k (shows.source ∷ shows.below) line ∙ ap (λ b. rows_of_line r frame (closes && b) s open_bars k) (sym (none_left ks infos further)) in
+      let line : IsLineDrawn r layout (closes && last) s open_bars k (shows.source ∷ shows.below) = line_drawn r layout s margin room bounds (closes && last) open_bars k info shown.0 here shows in
+      let own : shows.source ∷ shows.below ≡ rows_of_line r layout (closes && length ks == 0) s open_bars k = line_value r layout (closes && last) s open_bars k (shows.source ∷ shows.below) line ∙ ap (λ b. rows_of_line r layout (closes && b) s open_bars k) (sym (none_left ks infos further)) in
       record {
         part = source_row ∷ (others shows.below ++ after);
         cells = ap (λ rs. shows.source ∷ rs)
@@ -246,19 +246,19 @@ module _ (r : Renderer) (frame : Layout) (s : Snippet Annotation)
           line_and_marks (closes && last) open_bars k info shown.0 after (All-head (λ j. j < own_lines) k ks within)
               here (All-head NumberFits info infos fit) shows (between.begins rest.part rest.begins),
           others_are last shows.below after ends
-              (λ i inside. row_below frame.decor frame (closes && last) _ _ shows.below i (shows.strokes.are i inside))
+              (λ i inside. row_below layout.decor layout (closes && last) _ _ shows.below i (shows.strokes.are i inside))
               (between.are rest.part rest.are),
         );
         ends = some_more (length (others shows.below ++ after)) (length ks);
         begins = refl;
         drawn = (
-          subst (λ below. IsLineDrawn r frame (closes && length below == length (others shows.below ++ after)) s open_bars k (shows.source ∷ below))
+          subst (λ below. IsLineDrawn r layout (closes && length below == length (others shows.below ++ after)) s open_bars k (shows.source ∷ below))
               (sym (below-own shows.below after (between.begins rest.part rest.begins)))
-              (subst (λ b. IsLineDrawn r frame b s open_bars k (shows.source ∷ shows.below)) (sym (last_is shows.below after last ends))
+              (subst (λ b. IsLineDrawn r layout b s open_bars k (shows.source ∷ shows.below)) (sym (last_is shows.below after last ends))
               line),
-          subst (λ bs. AreRowsDrawn r frame closes s bs (others shows.below ++ after)) (open_seen open_bars k info here) (others_drawn open_now shows.below after (between.drawn rest.part rest.begins rest.drawn)),
+          subst (λ bs. AreRowsDrawn r layout closes s bs (others shows.below ++ after)) (open_seen open_bars k info here) (others_drawn open_now shows.below after (between.drawn rest.part rest.begins rest.drawn)),
         );
-        value = ap (λ rs. named_line k rs ++ after) own ∙ ap (λ rs. named_line k (rows_of_line r frame (closes && length ks == 0) s open_bars k) ++ rs)
-            (ap (λ gap. gap ++ rest.part) between.value ∙ ap (λ rs. gap_below r frame open_now k ks ++ rs) rest.value
-            ∙ ap (λ bs. gap_below r frame bs k ks ++ rows_of_lines r frame closes s bs ks) (open_seen open_bars k info here));
+        value = ap (λ rs. named_line k rs ++ after) own ∙ ap (λ rs. named_line k (rows_of_line r layout (closes && length ks == 0) s open_bars k) ++ rs)
+            (ap (λ gap. gap ++ rest.part) between.value ∙ ap (λ rs. gap_below r layout open_now k ks ++ rs) rest.value
+            ∙ ap (λ bs. gap_below r layout bs k ks ++ rows_of_lines r layout closes s bs ks) (open_seen open_bars k info here));
       }

@@ -69,31 +69,31 @@ none_not : {A : Type 0} (xs : List A) → xs ≢ [] → nat_eq (length xs) 0 ≡
 none_not [] some = absurd (some refl)
 none_not (x ∷ xs) some = grind (arith, nat_tests)
 
-pub gutter_room : (r : Renderer) (frame : Layout) (s : Snippet Patch) → s.markers.items ≢ [] → HasRoomFor r frame (Suggestion s)
-    → HasGutter (suggestion_layout r frame s) s
-gutter_room r frame s some room =
-    wide_enough s.line_numbering r.anonymized_snippet_line_numbers (nat_eq (length s.markers.items) 0) 0 frame.gutter (counted_line s) (none_not s.markers.items some) room.anonymized room.numbers
+pub gutter_room : (r : Renderer) (layout : Layout) (s : Snippet Patch) → s.markers.items ≢ [] → HasRoomFor r layout (Suggestion s)
+    → HasGutter (suggestion_layout r layout s) s
+gutter_room r layout s some room =
+    wide_enough s.line_numbering r.anonymized_snippet_line_numbers (nat_eq (length s.markers.items) 0) 0 layout.gutter (counted_line s) (none_not s.markers.items some) room.anonymized room.numbers
 
 -- the row of a path with the separator row below it
-path_head_is : (r : Renderer) (frame : Layout) (first : Bool) (s : Snippet Patch) (path : Option (List ℕ)) → is_some path ≡ true
-    → flat_map (λ path. path_row r frame first s (Some path) ++ separator_rows r frame) (option_to_list path) ≡ path_row r frame first s path ++ separator_rows r frame
-path_head_is r frame first s None some = absurd (cc)
-path_head_is r frame first s (Some path) some = refl
+path_head_is : (r : Renderer) (layout : Layout) (first : Bool) (s : Snippet Patch) (path : Option (List ℕ)) → is_some path ≡ true
+    → flat_map (λ path. path_row r layout first s (Some path) ++ separator_rows r layout) (option_to_list path) ≡ path_row r layout first s path ++ separator_rows r layout
+path_head_is r layout first s None some = absurd (cc)
+path_head_is r layout first s (Some path) some = refl
 
 -- what stands below some rows where a suggestion begins: the row in which it begins, if it shares that
-pub record Begun (r : Renderer) (frame : Layout) (at : SuggestionStart) (layout : SuggestionLayout) (found : List Cell) (rows mid : List (List Cell)) : Type 0 where
+pub record Begun (r : Renderer) (layout : Layout) (at : SuggestionStart) (suggested : SuggestionLayout) (found : List Cell) (rows mid : List (List Cell)) : Type 0 where
   pub end : List (List Cell)
   pub is : mid ≡ rows ++ end
-  pub start : IsStart layout at end
+  pub start : IsStart suggested at end
   pub count : length end ≡ rows_shared at
-  pub under : row_at end 0 ≡ under_of r frame at found
+  pub under : row_at end 0 ≡ under_of r layout at found
 
 -- so stand its head, and that row
-pub begun_below : (r : Renderer) (frame : Layout) (at : SuggestionStart) (first : Bool) (s : Snippet Patch) (found : List Cell) (above tail old mid : List (List Cell))
-    → old ≡ above ++ tail → IsTail frame.decor frame.gutter (is_next_start at) tail → (is_next_start at ≡ true → tail ≡ found ∷ []) → HasPathFor at s
-    → (at ≡ Path → mid ≡ old ++ path_head r frame first s) → ((at ≡ Path → ⊥) → mid ≡ old)
-    → Begun r frame at (suggestion_layout r frame s) found (above ++ suggestion_head_at at r frame first s) mid
-begun_below r frame Opening first s found above tail old mid is tail_is found_is path headed same =
+pub begun_below : (r : Renderer) (layout : Layout) (at : SuggestionStart) (first : Bool) (s : Snippet Patch) (found : List Cell) (above tail old mid : List (List Cell))
+    → old ≡ above ++ tail → IsTail layout.decor layout.gutter (is_next_start at) tail → (is_next_start at ≡ true → tail ≡ found ∷ []) → HasPathFor at s
+    → (at ≡ Path → mid ≡ old ++ path_head r layout first s) → ((at ≡ Path → ⊥) → mid ≡ old)
+    → Begun r layout at (suggestion_layout r layout s) found (above ++ suggestion_head_at at r layout first s) mid
+begun_below r layout Opening first s found above tail old mid is tail_is found_is path headed same =
     record {
       end = tail;
       is = same (λ is. absurd (cc)) ∙ is ∙ ap (λ rows. rows ++ tail) (sym (append-nil above));
@@ -101,7 +101,7 @@ begun_below r frame Opening first s found above tail old mid is tail_is found_is
       count = ap length tail_is;
       under = ap (λ rows. row_at rows 0) tail_is;
     }
-begun_below r frame Next first s found above tail old mid is tail_is found_is path headed same =
+begun_below r layout Next first s found above tail old mid is tail_is found_is path headed same =
     record {
       end = tail;
       is = same (λ is. absurd (cc)) ∙ is ∙ ap (λ rows. rows ++ tail) (sym (append-nil above));
@@ -109,14 +109,14 @@ begun_below r frame Next first s found above tail old mid is tail_is found_is pa
       count = ap length tail_is.2;
       under = ap (λ rows. row_at rows 0) (found_is refl);
     }
-begun_below r frame Path first s found above tail old mid is tail_is found_is path headed same =
-    let head : List (List Cell) = path_row r frame first s (path_bytes s.path) in
+begun_below r layout Path first s found above tail old mid is tail_is found_is path headed same =
+    let head : List (List Cell) = path_row r layout first s (path_bytes s.path) in
     let old_is : old ≡ above = is ∙ ap (λ rows. above ++ rows) tail_is ∙ append-nil above in
-    let head_is : path_head r frame first s ≡ head ++ separator_rows r frame = path_head_is r frame first s (path_bytes s.path) (path refl) in
+    let head_is : path_head r layout first s ≡ head ++ separator_rows r layout = path_head_is r layout first s (path_bytes s.path) (path refl) in
     record {
-      end = separator_rows r frame;
-      is = headed refl ∙ ap (λ rows. rows ++ path_head r frame first s) old_is ∙ ap (λ rows. above ++ rows) head_is ∙ sym (append_assoc above head (separator_rows r frame));
-      start = (separator_row frame.decor frame.gutter, refl, separator_stroke frame.decor frame.gutter);
+      end = separator_rows r layout;
+      is = headed refl ∙ ap (λ rows. rows ++ path_head r layout first s) old_is ∙ ap (λ rows. above ++ rows) head_is ∙ sym (append_assoc above head (separator_rows r layout));
+      start = (separator_row layout.decor layout.gutter, refl, separator_stroke layout.decor layout.gutter);
       count = refl;
       under = refl;
     }
@@ -126,10 +126,10 @@ abbrev pub follows : ElementContext → Bool
 follows around = not (is_end around.next)
 
 -- the rows of a suggestion are all but the last, and that one
-whole : (layout : SuggestionLayout) (at : SuggestionStart) (next : Bool) (s : Snippet Patch) (under : List Cell)
-    → suggestion_cells layout at next s under ≡ body_cells layout at s under ++ row_cells layout s [] (Ends next) ∷ []
+whole : (suggested : SuggestionLayout) (at : SuggestionStart) (next : Bool) (s : Snippet Patch) (under : List Cell)
+    → suggestion_cells suggested at next s under ≡ body_cells suggested at s under ++ row_cells suggested s [] (Ends next) ∷ []
 unfolding suggestion_cells
-whole layout at next s under = refl
+whole suggested at next s under = refl
 
 -- rows that end with one, and are these
 snoc_parts : (xs ys : List (List Cell)) (x y : List Cell) → xs ++ x ∷ [] ≡ ys ++ y ∷ [] → (xs ≡ ys) × (x ≡ y)
@@ -145,34 +145,34 @@ snoc_parts (a ∷ xs) (b ∷ ys) x y same =
     (ap (λ r. r ∷ xs) first ∙ ap (λ rs. b ∷ rs) later.0, later.1)
 
 -- the rows of a suggestion below those that it begins with are the element's: its last row is its own, or the next one begins in it
-pub suggestion_added : (r : Renderer) (frame : Layout) (around : ElementContext) (s : Snippet Patch) (found under : List Cell) (above new : List (List Cell))
-    → IsUtf8 (cow_str_bytes s.source) → IsUtf8 (given_text s) → under ≡ under_of r frame around.start found
-    → AddsSuggestion (suggestion_layout r frame s) around.start (follows around) s (above ++ suggestion_head r frame around s) new
-    → new ≡ (above ++ suggestion_head r frame around s) ++ suggestion_cells (suggestion_layout r frame s) around.start (follows around) s under
-    → AddsElement r frame around found (Suggestion s) above new
-suggestion_added r frame around s found under above new utf8 given_utf8 under_is adds drawn = at around.shared refl
+pub suggestion_added : (r : Renderer) (layout : Layout) (around : ElementContext) (s : Snippet Patch) (found under : List Cell) (above new : List (List Cell))
+    → IsUtf8 (cow_str_bytes s.source) → IsUtf8 (given_text s) → under ≡ under_of r layout around.start found
+    → AddsSuggestion (suggestion_layout r layout s) around.start (follows around) s (above ++ suggestion_head r layout around s) new
+    → new ≡ (above ++ suggestion_head r layout around s) ++ suggestion_cells (suggestion_layout r layout s) around.start (follows around) s under
+    → AddsElement r layout around found (Suggestion s) above new
+suggestion_added r layout around s found under above new utf8 given_utf8 under_is adds drawn = at around.shared refl
   where
     -- the rows are those of its value
-    parts : (adds.rows ≡ body_cells (suggestion_layout r frame s) around.start s under) × (adds.last ≡ row_cells (suggestion_layout r frame s) s [] (Ends (follows around)))
+    parts : (adds.rows ≡ body_cells (suggestion_layout r layout s) around.start s under) × (adds.last ≡ row_cells (suggestion_layout r layout s) s [] (Ends (follows around)))
     parts =
-        snoc_parts adds.rows (body_cells (suggestion_layout r frame s) around.start s under)
-        adds.last (row_cells (suggestion_layout r frame s) s [] (Ends (follows around)))
-        (append_cancel_left (above ++ suggestion_head r frame around s) (adds.rows ++ adds.last ∷ [])
-        _ (sym adds.added ∙ drawn ∙ ap (λ rows. (above ++ suggestion_head r frame around s) ++ rows)
-        (whole (suggestion_layout r frame s) around.start (follows around) s under)))
+        snoc_parts adds.rows (body_cells (suggestion_layout r layout s) around.start s under)
+        adds.last (row_cells (suggestion_layout r layout s) s [] (Ends (follows around)))
+        (append_cancel_left (above ++ suggestion_head r layout around s) (adds.rows ++ adds.last ∷ [])
+        _ (sym adds.added ∙ drawn ∙ ap (λ rows. (above ++ suggestion_head r layout around s) ++ rows)
+        (whole (suggestion_layout r layout s) around.start (follows around) s under)))
 
     -- over what the suggestion finds there
-    over : body_cells (suggestion_layout r frame s) around.start s under ++ (if around.shared then [] else row_cells (suggestion_layout r frame s) s [] (Ends (follows around)) ∷ []) ≡ suggestion_lines r frame around found s
+    over : body_cells (suggestion_layout r layout s) around.start s under ++ (if around.shared then [] else row_cells (suggestion_layout r layout s) s [] (Ends (follows around)) ∷ []) ≡ suggestion_lines r layout around found s
     over =
-        ap (λ cells. body_cells (suggestion_layout r frame s) around.start s cells ++ (if around.shared then [] else row_cells (suggestion_layout r frame s) s [] (Ends (follows around)) ∷ [])) under_is
+        ap (λ cells. body_cells (suggestion_layout r layout s) around.start s cells ++ (if around.shared then [] else row_cells (suggestion_layout r layout s) s [] (Ends (follows around)) ∷ [])) under_is
 
-    at : (b : Bool) → around.shared ≡ b → AddsElement r frame around found (Suggestion s) above new
+    at : (b : Bool) → around.shared ≡ b → AddsElement r layout around found (Suggestion s) above new
     at true shares =
-        let IsShown : SuggestionRow → List Cell → Type 0 = Shows (suggestion_layout r frame s) (s.line_start + first_given s) (given_lines s) in
+        let IsShown : SuggestionRow → List Cell → Type 0 = Shows (suggestion_layout r layout s) (s.line_start + first_given s) (given_lines s) in
         let ends : Bool → List SuggestionRow = λ b. rows_of_suggestion around.start s ++ (if b then [] else Ends (follows around) ∷ []) in
-        let head : List (List Cell) = suggestion_head r frame around s in
-        let body : List (List Cell) = body_cells (suggestion_layout r frame s) around.start s under in
-        let last : List Cell = row_cells (suggestion_layout r frame s) s [] (Ends (follows around)) in
+        let head : List (List Cell) = suggestion_head r layout around s in
+        let body : List (List Cell) = body_cells (suggestion_layout r layout s) around.start s under in
+        let last : List Cell = row_cells (suggestion_layout r layout s) s [] (Ends (follows around)) in
         record {
           rows = head ++ adds.rows;
           tail = adds.last ∷ [];
@@ -185,16 +185,16 @@ suggestion_added r frame around s found under above new utf8 given_utf8 under_is
             are = subst (λ shown. AllZip IsShown shown adds.rows) (sym (ap ends shares ∙ append-nil (rows_of_suggestion around.start s))) adds.are;
             cells = parts.0 ∙ sym (append-nil body) ∙ ap (λ (b : Bool). body ++ (if b then [] else last ∷ [])) (sym shares) ∙ over;
           };
-          ends = subst (λ b. IsTail frame.decor frame.gutter b (adds.last ∷ [])) (sym shares) (adds.last, follows around, refl, adds.last_is);
+          ends = subst (λ b. IsTail layout.decor layout.gutter b (adds.last ∷ [])) (sym shares) (adds.last, follows around, refl, adds.last_is);
           last = λ shared. ap (λ (row : List Cell). row ∷ []) parts.1;
         }
     at false shares =
-        let IsShown : SuggestionRow → List Cell → Type 0 = Shows (suggestion_layout r frame s) (s.line_start + first_given s) (given_lines s) in
+        let IsShown : SuggestionRow → List Cell → Type 0 = Shows (suggestion_layout r layout s) (s.line_start + first_given s) (given_lines s) in
         let ends : Bool → List SuggestionRow = λ b. rows_of_suggestion around.start s ++ (if b then [] else Ends (follows around) ∷ []) in
-        let head : List (List Cell) = suggestion_head r frame around s in
+        let head : List (List Cell) = suggestion_head r layout around s in
         let lines : List (List Cell) = adds.rows ++ adds.last ∷ [] in
-        let body : List (List Cell) = body_cells (suggestion_layout r frame s) around.start s under in
-        let last : List Cell = row_cells (suggestion_layout r frame s) s [] (Ends (follows around)) in
+        let body : List (List Cell) = body_cells (suggestion_layout r layout s) around.start s under in
+        let last : List Cell = row_cells (suggestion_layout r layout s) s [] (Ends (follows around)) in
         record {
           rows = head ++ lines;
           tail = [];
@@ -207,37 +207,37 @@ suggestion_added r frame around s found under above new utf8 given_utf8 under_is
             are = subst (λ shown. AllZip IsShown shown lines) (sym (ap ends shares)) (zip_push IsShown (rows_of_suggestion around.start s) adds.rows (Ends (follows around)) adds.last adds.are adds.last_is);
             cells = ap (λ rows. rows ++ adds.last ∷ []) parts.0 ∙ ap (λ (row : List Cell). body ++ row ∷ []) parts.1 ∙ ap (λ (b : Bool). body ++ (if b then [] else last ∷ [])) (sym shares) ∙ over;
           };
-          ends = subst (λ b. IsTail frame.decor frame.gutter b []) (sym shares) refl;
+          ends = subst (λ b. IsTail layout.decor layout.gutter b []) (sym shares) refl;
           last = λ shared. let never : ◌≡◌ {A = Bool} true false = sym shared ∙ shares in cc;
         }
 
--- the layout, where this stands in the gutter
+-- the suggested, where this stands in the gutter
 abbrev pub layout_with : Renderer → Layout → LineNumbers → SuggestionLayout
-layout_with r frame numbers = record { frame = frame; numbers = numbers }
+layout_with r layout numbers = record { base = layout; numbers = numbers }
 
--- what drawing a suggestion adds in a layout, if it succeeds
+-- what drawing a suggestion adds in a suggested, if it succeeds
 abbrev pub DrawsBelow : Snippet Patch → SuggestionStart → Bool → List (List Cell) → List (List Cell) → Result (Unit {0}) AllocError → SuggestionLayout → Type 0
-DrawsBelow s at next mid new result layout =
-    HasGutter layout s → (above tail : List (List Cell)) → mid ≡ above ++ tail → IsStart layout at tail → OnOk result (AddsSuggestion layout at next s above new)
+DrawsBelow s at next mid new result suggested =
+    HasGutter suggested s → (above tail : List (List Cell)) → mid ≡ above ++ tail → IsStart suggested at tail → OnOk result (AddsSuggestion suggested at next s above new)
 
 -- the rows that it adds are a value
 abbrev pub DrawsCells : Snippet Patch → SuggestionStart → Bool → List (List Cell) → List (List Cell) → Result (Unit {0}) AllocError → SuggestionLayout → Type 0
-DrawsCells s at next mid new result layout =
-    (above tail : List (List Cell)) → mid ≡ above ++ tail → length tail ≡ rows_shared at → OnOk result (new ≡ above ++ suggestion_cells layout at next s (row_at tail 0))
+DrawsCells s at next mid new result suggested =
+    (above tail : List (List Cell)) → mid ≡ above ++ tail → length tail ≡ rows_shared at → OnOk result (new ≡ above ++ suggestion_cells suggested at next s (row_at tail 0))
 
 -- the rows of a suggestion stand below what is there
-pub patches_added : (r : Renderer) (frame : Layout) (around : ElementContext) (s : Snippet Patch) (found : List Cell) (above tail old mid new : List (List Cell))
+pub patches_added : (r : Renderer) (layout : Layout) (around : ElementContext) (s : Snippet Patch) (found : List Cell) (above tail old mid new : List (List Cell))
     (numbers : LineNumbers) (next : Bool) (result : Result (Unit {0}) AllocError) → numbers ≡ line_numbers r s.line_numbering → next ≡ follows around
-    → s.markers.items ≢ [] → IsUtf8 (cow_str_bytes s.source) → IsUtf8 (given_text s) → HasRoomFor r frame (Suggestion s) → old ≡ above ++ tail
-    → IsTail frame.decor frame.gutter (begins_in_row_above around) tail → (begins_in_row_above around ≡ true → tail ≡ found ∷ []) → HasPathFor around.start s
-    → (around.start ≡ Path → mid ≡ old ++ path_head r frame around.first s) → ((around.start ≡ Path → ⊥) → mid ≡ old)
-    → DrawsBelow s around.start next mid new result (layout_with r frame numbers)
-    → DrawsCells s around.start next mid new result (layout_with r frame numbers) → OnOk result (AddsElement r frame around found (Suggestion s) above new)
-patches_added r frame around s found above tail old mid new numbers next result numbers_are next_is some utf8 given_utf8 room is tail_is found_is path headed same draws draws_cells =
-    let begun = begun_below r frame around.start around.first s found above tail old mid is tail_is found_is path headed same in
-    let Draws : Bool → SuggestionLayout → Type 0 = λ b layout. DrawsBelow s around.start b mid new result layout in
-    let drawn : Draws (follows around) (suggestion_layout r frame s) = subst (λ b. Draws b (suggestion_layout r frame s)) next_is (subst (λ n. Draws next (layout_with r frame n)) numbers_are draws) in
-    let Cells : Bool → SuggestionLayout → Type 0 = λ b layout. DrawsCells s around.start b mid new result layout in
-    let cells : Cells (follows around) (suggestion_layout r frame s) = subst (λ b. Cells b (suggestion_layout r frame s)) next_is (subst (λ n. Cells next (layout_with r frame n)) numbers_are draws_cells) in
-    let added = suggestion_added r frame around s found (row_at begun.end 0) above new utf8 given_utf8 begun.under in
-    on_ok_two result added (drawn (gutter_room r frame s some room) (above ++ suggestion_head r frame around s) begun.end begun.is begun.start) (cells (above ++ suggestion_head r frame around s) begun.end begun.is begun.count)
+    → s.markers.items ≢ [] → IsUtf8 (cow_str_bytes s.source) → IsUtf8 (given_text s) → HasRoomFor r layout (Suggestion s) → old ≡ above ++ tail
+    → IsTail layout.decor layout.gutter (begins_in_row_above around) tail → (begins_in_row_above around ≡ true → tail ≡ found ∷ []) → HasPathFor around.start s
+    → (around.start ≡ Path → mid ≡ old ++ path_head r layout around.first s) → ((around.start ≡ Path → ⊥) → mid ≡ old)
+    → DrawsBelow s around.start next mid new result (layout_with r layout numbers)
+    → DrawsCells s around.start next mid new result (layout_with r layout numbers) → OnOk result (AddsElement r layout around found (Suggestion s) above new)
+patches_added r layout around s found above tail old mid new numbers next result numbers_are next_is some utf8 given_utf8 room is tail_is found_is path headed same draws draws_cells =
+    let begun = begun_below r layout around.start around.first s found above tail old mid is tail_is found_is path headed same in
+    let Draws : Bool → SuggestionLayout → Type 0 = λ b suggested. DrawsBelow s around.start b mid new result suggested in
+    let drawn : Draws (follows around) (suggestion_layout r layout s) = subst (λ b. Draws b (suggestion_layout r layout s)) next_is (subst (λ n. Draws next (layout_with r layout n)) numbers_are draws) in
+    let Cells : Bool → SuggestionLayout → Type 0 = λ b suggested. DrawsCells s around.start b mid new result suggested in
+    let cells : Cells (follows around) (suggestion_layout r layout s) = subst (λ b. Cells b (suggestion_layout r layout s)) next_is (subst (λ n. Cells next (layout_with r layout n)) numbers_are draws_cells) in
+    let added = suggestion_added r layout around s found (row_at begun.end 0) above new utf8 given_utf8 begun.under in
+    on_ok_two result added (drawn (gutter_room r layout s some room) (above ++ suggestion_head r layout around s) begun.end begun.is begun.start) (cells (above ++ suggestion_head r layout around s) begun.end begun.is begun.count)

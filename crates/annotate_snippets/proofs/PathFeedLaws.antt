@@ -83,8 +83,8 @@ glyphs_plain Secondary Unicode = refl
 file_plain : (layout : OriginLayout) (start : FileStart) → HasNoFeed (file_row layout start)
 unfolding file_row
 file_plain layout start =
-    let glyph : List ℕ = file_glyph start layout.frame.decor in
-    after_spaces layout.frame.gutter (text_cells LineNumber glyph) (cells_plain LineNumber glyph (each-fails (λ c. c == 10) glyph (glyphs_plain start layout.frame.decor)))
+    let glyph : List ℕ = file_glyph start layout.base.decor in
+    after_spaces layout.base.gutter (text_cells LineNumber glyph) (cells_plain LineNumber glyph (each-fails (λ c. c == 10) glyph (glyphs_plain start layout.base.decor)))
 
 text_plain : (anonymized : Bool) (path : List ℕ) (place : OriginLocation) → All IsNoFeed (chars path) → All IsNoFeed (origin_text anonymized path place)
 unfolding origin_text
@@ -102,45 +102,45 @@ row_plain layout start path place plain =
 head_plain : (layout : OriginLayout) (primary first : Bool) (named : Option (List ℕ)) (place : OriginLocation) → IsOneLineText named
     → All HasNoFeed (snippet_head layout primary first named place)
 head_plain layout true first None place plain =
-    opening_head-each HasNoFeed layout (bare_plain layout.frame.decor layout.frame.gutter false) (file_plain layout) first
+    opening_head-each HasNoFeed layout (bare_plain layout.base.decor layout.base.gutter false) (file_plain layout) first
 head_plain layout true first (Some path) place plain =
-    primary_head-each HasNoFeed layout (bare_plain layout.frame.decor layout.frame.gutter false) path place (λ start. row_plain layout start path place plain) first
+    primary_head-each HasNoFeed layout (bare_plain layout.base.decor layout.base.gutter false) path place (λ start. row_plain layout start path place plain) first
 head_plain layout false first None place plain =
-    nameless_head-each HasNoFeed layout (bare_plain layout.frame.decor layout.frame.gutter false) (file_plain layout Secondary)
+    nameless_head-each HasNoFeed layout (bare_plain layout.base.decor layout.base.gutter false) (file_plain layout Secondary)
 head_plain layout false first (Some path) place plain =
-    secondary_head-each HasNoFeed layout (bare_plain layout.frame.decor layout.frame.gutter false) path place (λ start. row_plain layout start path place plain)
+    secondary_head-each HasNoFeed layout (bare_plain layout.base.decor layout.base.gutter false) path place (λ start. row_plain layout start path place plain)
 
 one : (row : List Cell) → HasNoFeed row → All HasNoFeed (row ∷ [])
 one row plain = All-cons HasNoFeed row [] plain (All-nil HasNoFeed)
 
 -- nor does a row that closes a group's window hold one
-pub closing_plain : (r : Renderer) (frame : Layout) (closes : Bool) → All HasNoFeed (cond closes (closing_rows r frame) [])
-closing_plain r frame true = one _ (bare_plain frame.decor frame.gutter true)
-closing_plain r frame false = All-nil HasNoFeed
+pub closing_plain : (r : Renderer) (layout : Layout) (closes : Bool) → All HasNoFeed (cond closes (closing_rows r layout) [])
+closing_plain r layout true = one _ (bare_plain layout.decor layout.gutter true)
+closing_plain r layout false = All-nil HasNoFeed
 
 -- so the rows that a snippet begins with hold none where its path holds none, and those below its lines never do
-pub head_one_line : (r : Renderer) (frame : Layout) (around : ElementContext) (s : Snippet Annotation) → IsOneLineText (path_bytes s.path)
-    → All HasNoFeed (cause_head r frame around s)
-head_one_line r frame around s plain =
-    head_plain (origin_layout r frame) around.primary around.first (path_bytes s.path) (place_named around.primary (annotated_lines s.fold (numbered_source s) s.markers.items)) plain
+pub head_one_line : (r : Renderer) (layout : Layout) (around : ElementContext) (s : Snippet Annotation) → IsOneLineText (path_bytes s.path)
+    → All HasNoFeed (cause_head r layout around s)
+head_one_line r layout around s plain =
+    head_plain (origin_layout r layout) around.primary around.first (path_bytes s.path) (place_named around.primary (annotated_lines s.fold (numbered_source s) s.markers.items)) plain
 
 -- nor do the rows below a snippet's lines hold one, whatever follows
-pub after_one_line : (r : Renderer) (frame : Layout) (around : ElementContext) → All HasNoFeed (rows_after_cause r frame around)
-after_one_line r frame around =
+pub after_one_line : (r : Renderer) (layout : Layout) (around : ElementContext) → All HasNoFeed (rows_after_cause r layout around)
+after_one_line r layout around =
     either (is_first_group around.place && is_before_message around.next)
   where
-    either : (sets_off : Bool) → All HasNoFeed (cond sets_off (separator_rows r frame) (cond (closes_after around) (closing_rows r frame) []))
-    either true = one _ (bare_plain frame.decor frame.gutter false)
-    either false = closing_plain r frame (closes_after around)
+    either : (sets_off : Bool) → All HasNoFeed (cond sets_off (separator_rows r layout) (cond (closes_after around) (closing_rows r layout) []))
+    either true = one _ (bare_plain layout.decor layout.gutter false)
+    either false = closing_plain r layout (closes_after around)
 
 -- nor does that of a padding
-pub padding_one_line : (r : Renderer) (frame : Layout) (last : Bool) → All HasNoFeed (padding_row frame.decor frame.gutter last ∷ [])
-padding_one_line r frame true = one _ (bare_plain frame.decor frame.gutter true)
-padding_one_line r frame false = one _ (bare_plain frame.decor frame.gutter false)
+pub padding_one_line : (r : Renderer) (layout : Layout) (last : Bool) → All HasNoFeed (padding_row layout.decor layout.gutter last ∷ [])
+padding_one_line r layout true = one _ (bare_plain layout.decor layout.gutter true)
+padding_one_line r layout false = one _ (bare_plain layout.decor layout.gutter false)
 
 -- nor do the rows of an origin whose path holds none
-pub origin_one_line : (r : Renderer) (frame : Layout) (around : ElementContext) (o : origin.Origin) → All IsNoFeed (chars (cow_str_bytes o.path))
-    → All HasNoFeed (origin_rows r frame around o)
-origin_one_line r frame around o plain =
-    let row : List Cell = origin_row (origin_layout r frame) (origin_start around) (cow_str_bytes o.path) (place_given o) in
-    All-cons HasNoFeed row (cond (closes_after around) (closing_rows r frame) []) (row_plain (origin_layout r frame) (origin_start around) (cow_str_bytes o.path) (place_given o) plain) (closing_plain r frame (closes_after around))
+pub origin_one_line : (r : Renderer) (layout : Layout) (around : ElementContext) (o : origin.Origin) → All IsNoFeed (chars (cow_str_bytes o.path))
+    → All HasNoFeed (origin_rows r layout around o)
+origin_one_line r layout around o plain =
+    let row : List Cell = origin_row (origin_layout r layout) (origin_start around) (cow_str_bytes o.path) (place_given o) in
+    All-cons HasNoFeed row (cond (closes_after around) (closing_rows r layout) []) (row_plain (origin_layout r layout) (origin_start around) (cow_str_bytes o.path) (place_given o) plain) (closing_plain r layout (closes_after around))

@@ -13,20 +13,20 @@ use Rattle.snippet_grid.specs.Layout.{Layout}
 use Rattle.annotate_snippets.specs.declared.renderer.element_context.ElementContext.{ElementContext}
 
 -- the rows of such an element stand below what is there
-pub plain_added : (r : Renderer) (frame : Layout) (around : ElementContext) (found : List Cell) (p : PreparedElement) (e : Element)
+pub plain_added : (r : Renderer) (layout : Layout) (around : ElementContext) (found : List Cell) (p : PreparedElement) (e : Element)
     (above tail old new rows : List (List Cell)) → element_of p ≡ e → CanStandIn around (element_of p)
     → (CanStandIn around e → (begins_in_row_above around ≡ false) × (around.shared ≡ false)) → old ≡ above ++ tail
-    → IsTail frame.decor frame.gutter (begins_in_row_above around) tail → new ≡ old ++ rows → IsElementDrawn r frame around found e rows
-    → AddsElement r frame around found (element_of p) above new
-plain_added r frame around found p e above tail old new rows of stands plain old_is tail_is added is =
+    → IsTail layout.decor layout.gutter (begins_in_row_above around) tail → new ≡ old ++ rows → IsElementDrawn r layout around found e rows
+    → AddsElement r layout around found (element_of p) above new
+plain_added r layout around found p e above tail old new rows of stands plain old_is tail_is added is =
     let alone = plain (subst (CanStandIn around) of stands) in
-    let none : tail ≡ [] = subst (λ b. IsTail frame.decor frame.gutter b tail) alone.0 tail_is in
+    let none : tail ≡ [] = subst (λ b. IsTail layout.decor layout.gutter b tail) alone.0 tail_is in
     let same : old ≡ above = old_is ∙ ap (λ end. above ++ end) none ∙ append-nil above in
     record {
       rows = rows;
       tail = [];
       added = added ∙ ap (λ start. start ++ rows) same ∙ ap (λ end. above ++ end) (sym (append-nil rows));
-      is = subst (λ x. IsElementDrawn r frame around found x rows) (sym of) is;
-      ends = subst (λ b. IsTail frame.decor frame.gutter b []) (sym alone.1) refl;
+      is = subst (λ x. IsElementDrawn r layout around found x rows) (sym of) is;
+      ends = subst (λ b. IsTail layout.decor layout.gutter b []) (sym alone.1) refl;
       last = λ shares. let never : ◌≡◌ {A = Bool} true false = sym shares ∙ alone.1 in cc;
     }

@@ -1,4 +1,4 @@
--- The frames of a report have room for each element that is drawn in them.
+-- The layouts of a report have room for each element that is drawn in them.
 use Rattle.std.proofs.Common.{◌≡◌, ℕ, zero, suc, ◌+◌, ◌<◌, ◌≤◌, ◌^◌, ◌&&◌, ◌==◌, not, fold, All, Bool, true, false, cond, List, [], ◌∷◌, Some, length, refl}
 use Rattle.std.proofs.Common.{sym, ap, subst, arith}
 use Rattle.std.specs.Cow.{cow_str_bytes}
@@ -23,7 +23,7 @@ use Rattle.snippet_suggest.specs.Prepared.{IsSuggestible}
 use Rattle.snippet_suggest.proofs.PreparedLemmas.{last-fits}
 use Rattle.annotate_snippets.specs.Around.{drawn_elements, is_drawn}
 use Rattle.annotate_snippets.specs.Drawn.{HasRoomFor}
-use Rattle.annotate_snippets.specs.Gutter.{code_after, depth_of_element, depth_of_group, frame_of, greatest_wanted, gutter_of_report, width_wanted}
+use Rattle.annotate_snippets.specs.Gutter.{code_after, depth_of_element, depth_of_group, layout_of_group, greatest_wanted, gutter_of_report, width_wanted}
 use Rattle.annotate_snippets.specs.Prepared.{IsElementDrawable, IsGroupDrawable}
 use Rattle.annotate_snippets.specs.declared.renderer.Renderer.{Renderer}
 use Rattle.annotate_snippets.proofs.GutterLemmas.{counted-small}
@@ -107,7 +107,7 @@ gutter-small r groups drawable =
     let each : All (λ (g : Group). All Low g.elements.items) groups = All-weaker IsGroupDrawable (λ (g : Group). All Low g.elements.items) (λ g can. All-weaker IsElementDrawable Low wanted-low g.elements.items can.1) groups drawable in
     cond_both r.anonymized_snippet_line_numbers 2 (greatest_wanted (flat_map elements_of groups)) (λ n. n ≤ 20) (λ _. omega arith) (λ _. widest-low width_wanted 0 20 (flat_map elements_of groups) (omega arith) (all_elements Low groups each))
 
--- ---- and the frame has room
+-- ---- and the layout has room
 
 -- more bars push the code no less far
 code-monotone : (gutter depth more : ℕ) → depth ≤ more → code_after gutter depth ≤ code_after gutter more
@@ -120,14 +120,14 @@ code-monotone gutter depth more low = by (depth == 0) (more == 0) refl refl
     by false true d m = grind (arith, nat_tests, low)
     by false false d m = omega (arith, low)
 
--- each element that a group of a report draws has room in the group's frame
+-- each element that a group of a report draws has room in the group's layout
 pub room_in_report : (r : Renderer) (groups : List Group) → All IsGroupDrawable groups → (i : ℕ) (g : Group) → slice_get groups i ≡ Some g
-    → All (HasRoomFor r (frame_of r groups g)) (drawn_elements g)
+    → All (HasRoomFor r (layout_of_group r groups g)) (drawn_elements g)
 room_in_report r groups drawable i g is =
     let widest : ℕ = greatest_wanted (flat_map elements_of groups) in
     let each : All (λ e. width_wanted e ≤ widest) g.elements.items = widest-group width_wanted 0 groups i g is in
     let deep : All (λ e. depth_of_element e ≤ depth_of_group g) g.elements.items = widest-each depth_of_element 0 g.elements.items in
-    All-filter is_drawn (HasRoomFor r (frame_of r groups g)) g.elements.items (λ k d within. record {
+    All-filter is_drawn (HasRoomFor r (layout_of_group r groups g)) g.elements.items (λ k d within. record {
       small = gutter-small r groups drawable;
       anonymized = λ on. omega (arith, ap (λ b. cond b 2 widest) on);
       numbers = λ off. omega (arith, ap (λ b. cond b 2 widest) off, each k d within);

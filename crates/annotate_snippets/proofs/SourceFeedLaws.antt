@@ -131,29 +131,29 @@ code_plain code row plain c right within =
 
 -- a source row holds no line feed where the characters of its line hold none, and that is so where stretches gave their place to a
 -- placeholder too
-pub source_one_line : (r : Renderer) (frame : Layout) (s : Snippet Annotation) (k dropped : ℕ) (row : List Cell) → ShowsSourceLine r frame s k dropped row
+pub source_one_line : (r : Renderer) (layout : Layout) (s : Snippet Annotation) (k dropped : ℕ) (row : List Cell) → ShowsSourceLine r layout s k dropped row
     → All IsNoFeed (chars_at (cow_str_bytes s.source) k) → HasNoFeed row
-source_one_line r frame s k dropped row shows plain =
-    let placeholder : List ℕ = placeholder_of frame.decor in
-    let room : ℕ = room_of r frame in
-    let bounds : Bounds = bounds_in r frame s in
+source_one_line r layout s k dropped row shows plain =
+    let placeholder : List ℕ = placeholder_of layout.decor in
+    let room : ℕ = room_of r layout in
+    let bounds : Bounds = bounds_in r layout s in
     let line : List ℕ = norm (chars_at (cow_str_bytes s.source) k) in
-    let shown : List ℕ = row_text (drop frame.code row) in
-    let own : All IsNoFeed placeholder = placeholder_plain frame.decor in
+    let shown : List ℕ = row_text (drop layout.code row) in
+    let own : All IsNoFeed placeholder = placeholder_plain layout.decor in
     let windowed : All IsNoFeed (window placeholder room bounds.left bounds.right line) = window_plain placeholder room bounds.left bounds.right line own (norm_plain (chars_at (cow_str_bytes s.source) k) plain) in
     let text : All IsNoFeed shown = replaced_plain placeholder (wide_spans room (length placeholder) s k) (window placeholder room bounds.left bounds.right line) shown own shows.window.shown_is windowed in
-    let number : List ℕ = number_text r s.line_numbering frame.gutter (s.line_start + k) in
-    let left : HasNoFeed (cells_left frame.decor frame.gutter number) = left_plain frame.decor frame.gutter number (number_plain (line_numbers r s.line_numbering) frame.gutter (s.line_start + k)) in
-    All-from_get_or HoldsNoFeed row SPACE (λ c within. elim (cases_lt c (frame.gutter + 2)) [
-      | inl before ↦ subst HoldsNoFeed (ap (λ cells. get_or cells c SPACE) (sym shows.left) ∙ get_or-take (frame.gutter + 2) row c SPACE before) (at_any (cells_left frame.decor frame.gutter number) left c)
-      | inr after ↦ elim (cases_lt c frame.code) [
-        | inr right ↦ code_plain frame.code row text c (omega (arith, right)) within
-        | inl bars ↦ elim (cases_lt c (frame.gutter + 3)) [
+    let number : List ℕ = number_text r s.line_numbering layout.gutter (s.line_start + k) in
+    let left : HasNoFeed (cells_left layout.decor layout.gutter number) = left_plain layout.decor layout.gutter number (number_plain (line_numbers r s.line_numbering) layout.gutter (s.line_start + k)) in
+    All-from_get_or HoldsNoFeed row SPACE (λ c within. elim (cases_lt c (layout.gutter + 2)) [
+      | inl before ↦ subst HoldsNoFeed (ap (λ cells. get_or cells c SPACE) (sym shows.left) ∙ get_or-take (layout.gutter + 2) row c SPACE before) (at_any (cells_left layout.decor layout.gutter number) left c)
+      | inr after ↦ elim (cases_lt c layout.code) [
+        | inr right ↦ code_plain layout.code row text c (omega (arith, right)) within
+        | inl bars ↦ elim (cases_lt c (layout.gutter + 3)) [
           | inl gap ↦ subst HoldsNoFeed (sym (ap (λ n. get_or row n SPACE) (at_gap c (omega (arith, after)) gap) ∙ shows.space)) refl
-          | inr past ↦ bar_cell frame.decor (get_or row c SPACE) (shows.bars c (omega (arith, past)) bars)
+          | inr past ↦ bar_cell layout.decor (get_or row c SPACE) (shows.bars c (omega (arith, past)) bars)
         ]
       ]
     ])
   where
-    at_gap : (c : ℕ) → frame.gutter + 2 ≤ c → c < frame.gutter + 3 → c ≡ frame.gutter + 2
+    at_gap : (c : ℕ) → layout.gutter + 2 ≤ c → c < layout.gutter + 3 → c ≡ layout.gutter + 2
     at_gap c from to = omega (arith, from, to)

@@ -174,15 +174,15 @@ stretches_plain role gutter line (s ∷ ss) row plain =
     let to : ℕ = stretch_cell gutter line s.end in
     stretches_plain role gutter line ss (changed_within (restyled role true) from to row) (restyled_plain role from to row plain)
 
-line_row_plain : (layout : SuggestionLayout) (glyph : SuggestionGlyph) (number : ℕ) (line : List ℕ) → All IsNoFeed (chars line)
-    → HasNoFeed (line_cells layout glyph number line)
+line_row_plain : (suggested : SuggestionLayout) (glyph : SuggestionGlyph) (number : ℕ) (line : List ℕ) → All IsNoFeed (chars line)
+    → HasNoFeed (line_cells suggested glyph number line)
 unfolding line_cells
-line_row_plain layout glyph number line plain =
-    let g : ℕ = layout.frame.gutter in
-    let signed : List Cell = put (suggestion_role_of glyph) (suggestion_glyph_of layout.frame.decor glyph) (g + 1) [] in
-    let digits : List ℕ = shown_number layout.numbers g number in
-    let signed_plain : HasNoFeed signed = put_plain (suggestion_role_of glyph) (suggestion_glyph_of layout.frame.decor glyph) (g + 1) [] (All-nil HoldsNoFeed) (glyph_plain layout.frame.decor glyph) in
-    let numbered_plain = put_plain LineNumber digits 0 signed signed_plain (number_plain layout.numbers g number) in
+line_row_plain suggested glyph number line plain =
+    let g : ℕ = suggested.base.gutter in
+    let signed : List Cell = put (suggestion_role_of glyph) (suggestion_glyph_of suggested.base.decor glyph) (g + 1) [] in
+    let digits : List ℕ = shown_number suggested.numbers g number in
+    let signed_plain : HasNoFeed signed = put_plain (suggestion_role_of glyph) (suggestion_glyph_of suggested.base.decor glyph) (g + 1) [] (All-nil HoldsNoFeed) (glyph_plain suggested.base.decor glyph) in
+    let numbered_plain = put_plain LineNumber digits 0 signed signed_plain (number_plain suggested.numbers g number) in
     put_plain NoStyle (norm (chars line)) (g + 3) (put LineNumber digits 0 signed) numbered_plain (norm_plain (chars line) plain)
 
 -- a row that offers a line holds none
@@ -206,25 +206,25 @@ text_line_plain [] k utf8 = line_plain [] 1 utf8
 text_line_plain (b ∷ bs) k utf8 =
     subst (λ line. All IsNoFeed (chars line)) (sym (given_line (lines_of (b ∷ bs)) k)) (line_plain (b ∷ bs) k utf8)
 
-module _ (layout : SuggestionLayout) (s : Snippet Patch) (utf8 : IsUtf8 (given_text s)) where
-  offer_plain : (under : List Cell) (shown : SuggestionRow) → IsPlainOffer shown (row_cells layout s under shown)
+module _ (suggested : SuggestionLayout) (s : Snippet Patch) (utf8 : IsUtf8 (given_text s)) where
+  offer_plain : (under : List Cell) (shown : SuggestionRow) → IsPlainOffer shown (row_cells suggested s under shown)
   unfolding row_cells offered_cells
   offer_plain under (Begins at) = tt
   offer_plain under (Offers k) =
       let line : List ℕ = slice_index_or (given_lines s) k [] in
       let glyph : SuggestionGlyph = sign_of (shown_kind s) (length (given_lines s)) line (new_on s k) in
       let number : ℕ = number_after (s.line_start + first_given s) k in
-      stretches_plain Addition layout.frame.gutter (chars line) (new_on s k) (line_cells layout glyph number line) (line_row_plain layout glyph number line (text_line_plain (given_text s) k utf8))
+      stretches_plain Addition suggested.base.gutter (chars line) (new_on s k) (line_cells suggested glyph number line) (line_row_plain suggested glyph number line (text_line_plain (given_text s) k utf8))
   offer_plain under Skips = tt
   offer_plain under (Removes i number text) = tt
   offer_plain under Empty = tt
   offer_plain under (Ends follows) = tt
 
-  offers_later : (rows : List SuggestionRow) → AllZip IsPlainOffer rows (map (row_cells layout s []) rows)
+  offers_later : (rows : List SuggestionRow) → AllZip IsPlainOffer rows (map (row_cells suggested s []) rows)
   offers_later [] = tt
   offers_later (row ∷ rows) = (offer_plain [] row, offers_later rows)
 
-  offers_over : (under : List Cell) (rows : List SuggestionRow) → AllZip IsPlainOffer rows (cells_over (row_cells layout s) under rows)
+  offers_over : (under : List Cell) (rows : List SuggestionRow) → AllZip IsPlainOffer rows (cells_over (row_cells suggested s) under rows)
   offers_over under [] = tt
   offers_over under (row ∷ rows) = (offer_plain under row, offers_later rows)
 
@@ -248,36 +248,36 @@ module _ (layout : SuggestionLayout) (s : Snippet Patch) (utf8 : IsUtf8 (given_t
   offers_last f keeps (x ∷ shown) (row ∷ next ∷ rows) plain = (plain.0, offers_last f keeps shown (next ∷ rows) plain.1)
 
   offers_left_out : (lines : List (List ℕ)) (shown : List SuggestionRow) (rows : List (List Cell)) → AllZip IsPlainOffer shown rows
-      → AllZip IsPlainOffer shown (with_left_out layout s lines rows)
+      → AllZip IsPlainOffer shown (with_left_out suggested s lines rows)
   offers_left_out [] shown rows plain = plain
   offers_left_out (line ∷ lines) shown rows plain =
       let gone : List SubstitutionHighlight = cond (bytes_eq line (last_reached s)) (replaced_on s (last_line_reached (cow_str_bytes s.source) (edits_of s) - first_given s)) [] in
-      let f : List Cell → List Cell = left_out_cells layout.frame.gutter line gone (new_on s 0) in
+      let f : List Cell → List Cell = left_out_cells suggested.base.gutter line gone (new_on s 0) in
       let keeps : (row : List Cell) → HasNoFeed row → HasNoFeed (f row) =
-      λ row own. stretches_plain Addition layout.frame.gutter (chars line) (new_on s 0) (with_stretches Removal layout.frame.gutter (chars line) gone row) (stretches_plain Removal layout.frame.gutter (chars line) gone row own) in
+      λ row own. stretches_plain Addition suggested.base.gutter (chars line) (new_on s 0) (with_stretches Removal suggested.base.gutter (chars line) gone row) (stretches_plain Removal suggested.base.gutter (chars line) gone row own) in
       let test : Bool = is_diff (shown_kind s) && is_touched s.fold (given_ranges s) 0 && is_left_out (shown_kind s) (line ∷ lines) (last_reached s) in
       elim test as (λ b. AllZip IsPlainOffer shown (cond b (on_last f rows) rows)) [
         | true ↦ offers_last f keeps shown rows plain
         | false ↦ plain
       ]
 
-  offers_body : (at : SuggestionStart) (under : List Cell) → AllZip IsPlainOffer (rows_of_suggestion at s) (body_cells layout at s under)
+  offers_body : (at : SuggestionStart) (under : List Cell) → AllZip IsPlainOffer (rows_of_suggestion at s) (body_cells suggested at s under)
   unfolding body_cells
   offers_body at under =
-      offers_left_out (given_lines s) (rows_of_suggestion at s) (cells_over (row_cells layout s) under (rows_of_suggestion at s)) (offers_over under (rows_of_suggestion at s))
+      offers_left_out (given_lines s) (rows_of_suggestion at s) (cells_over (row_cells suggested s) under (rows_of_suggestion at s)) (offers_over under (rows_of_suggestion at s))
 
 -- ---- all rows
 
-module _ (r : Renderer) (frame : Layout) (around : ElementContext) (found : List Cell) (s : Snippet Patch) where
+module _ (r : Renderer) (layout : Layout) (around : ElementContext) (found : List Cell) (s : Snippet Patch) where
   abbrev own_layout : SuggestionLayout
-  own_layout = suggestion_layout r frame s
+  own_layout = suggestion_layout r layout s
 
-  offers_drawn : (lines : List (List Cell)) → IsUtf8 (given_text s) → lines ≡ suggestion_lines r frame around found s
+  offers_drawn : (lines : List (List Cell)) → IsUtf8 (given_text s) → lines ≡ suggestion_lines r layout around found s
       → AllZip IsPlainOffer (suggestion_rows around s) lines
   offers_drawn lines utf8 drawn =
       let next : Bool = not (is_end around.next) in
       let shown : List SuggestionRow = rows_of_suggestion around.start s in
-      let under : List Cell = under_of r frame around.start found in
+      let under : List Cell = under_of r layout around.start found in
       let body : List (List Cell) = body_cells own_layout around.start s under in
       let last : List (List Cell) = cond around.shared [] (row_cells own_layout s [] (Ends next) ∷ []) in
       subst (AllZip IsPlainOffer (suggestion_rows around s)) (sym drawn)
@@ -292,14 +292,14 @@ module _ (r : Renderer) (frame : Layout) (around : ElementContext) (found : List
 
   one_row : (shown : SuggestionRow) (row : List Cell) → IsUtf8 (cow_str_bytes s.source) → IsShown shown row → IsPlainOffer shown row → IsRowOf s shown
       → HasNoFeed row
-  one_row (Begins at) row utf8 is offer own = bare_one_line own_layout.frame.decor own_layout.frame.gutter row is.bare
+  one_row (Begins at) row utf8 is offer own = bare_one_line own_layout.base.decor own_layout.base.gutter row is.bare
   one_row (Offers k) row utf8 is offer own = offer
-  one_row Skips row utf8 is offer own = bare_one_line own_layout.frame.decor own_layout.frame.gutter row is.bare
+  one_row Skips row utf8 is offer own = bare_one_line own_layout.base.decor own_layout.base.gutter row is.bare
   one_row (Removes i number text) row utf8 is offer own =
       let plain : All IsNoFeed (chars text) = subst (λ t. All IsNoFeed (chars t)) (sym own.1) (line_plain (cow_str_bytes s.source) i utf8) in
-      removed_one_line own_layout.numbers own_layout.frame.decor own_layout.frame.gutter (shown_number own_layout.numbers own_layout.frame.gutter number) (norm (chars text)) row is (norm_plain (chars text) plain)
-  one_row Empty row utf8 is offer own = bare_one_line own_layout.frame.decor own_layout.frame.gutter row is.bare
-  one_row (Ends follows) row utf8 is offer own = bare_one_line own_layout.frame.decor own_layout.frame.gutter row is.bare
+      removed_one_line own_layout.numbers own_layout.base.decor own_layout.base.gutter (shown_number own_layout.numbers own_layout.base.gutter number) (norm (chars text)) row is (norm_plain (chars text) plain)
+  one_row Empty row utf8 is offer own = bare_one_line own_layout.base.decor own_layout.base.gutter row is.bare
+  one_row (Ends follows) row utf8 is offer own = bare_one_line own_layout.base.decor own_layout.base.gutter row is.bare
 
   all_rows : (shown : List SuggestionRow) (rows : List (List Cell)) → IsUtf8 (cow_str_bytes s.source) → AllZip IsShown shown rows
       → AllZip IsPlainOffer shown rows → All (IsRowOf s) shown → All HasNoFeed rows
@@ -309,20 +309,20 @@ module _ (r : Renderer) (frame : Layout) (around : ElementContext) (found : List
   all_rows (x ∷ shown) (row ∷ rows) utf8 are offers own =
       All-cons HasNoFeed row rows (one_row x row utf8 are.0 offers.0 (All-head (IsRowOf s) x shown own)) (all_rows shown rows utf8 are.1 offers.1 (All-tail (IsRowOf s) x shown own))
 
-  path_plain : (first : Bool) (path : Option (List ℕ)) → IsOneLineText path → All HasNoFeed (path_row r frame first s path)
+  path_plain : (first : Bool) (path : Option (List ℕ)) → IsOneLineText path → All HasNoFeed (path_row r layout first s path)
   path_plain first None plain = All-nil HasNoFeed
   path_plain first (Some path) plain =
-      All-cons HasNoFeed _ [] (row_plain (origin_layout r frame) (primary_start first) path (patch_place s) plain) (All-nil HasNoFeed)
+      All-cons HasNoFeed _ [] (row_plain (origin_layout r layout) (primary_start first) path (patch_place s) plain) (All-nil HasNoFeed)
 
-  head_plain : (at : SuggestionStart) (first : Bool) → IsOneLineText (path_bytes s.path) → All HasNoFeed (suggestion_head_at at r frame first s)
+  head_plain : (at : SuggestionStart) (first : Bool) → IsOneLineText (path_bytes s.path) → All HasNoFeed (suggestion_head_at at r layout first s)
   head_plain start.Opening first plain = All-nil HasNoFeed
   head_plain start.Next first plain = All-nil HasNoFeed
   head_plain start.Path first plain = path_plain first (path_bytes s.path) plain
 
   -- where its path holds no line feed, no row of a suggestion holds one
-  pub suggestion_one_line : (rows : List (List Cell)) → IsSuggestionDrawn r frame around found s rows → All (IsRowOf s) (suggestion_rows around s)
+  pub suggestion_one_line : (rows : List (List Cell)) → IsSuggestionDrawn r layout around found s rows → All (IsRowOf s) (suggestion_rows around s)
       → IsOneLineText (path_bytes s.path) → All HasNoFeed rows
   suggestion_one_line rows drawn own plain =
-      let head : List (List Cell) = suggestion_head r frame around s in
+      let head : List (List Cell) = suggestion_head r layout around s in
       let lines : All HasNoFeed drawn.lines = all_rows (suggestion_rows around s) drawn.lines drawn.utf8 drawn.are (offers_drawn drawn.lines drawn.given_utf8 drawn.cells) own in
       subst (All HasNoFeed) (sym drawn.rows_are) (All-append HasNoFeed head drawn.lines (head_plain around.start around.first plain) lines)

@@ -78,11 +78,11 @@ lines_removed-named P s (Removes i number text ∷ shown) (row ∷ part) are =
 lines_removed-named P s (Empty ∷ shown) (row ∷ part) are = lines_removed-named P s shown part are.1
 lines_removed-named P s (Ends follows ∷ shown) (row ∷ part) are = lines_removed-named P s shown part are.1
 
-module _ (r : Renderer) (frame : Layout) (s : Snippet Patch) where
+module _ (r : Renderer) (layout : Layout) (s : Snippet Patch) where
   -- the rows of a suggestion, each of which shows this
   abbrev pub AreShown : List SuggestionRow → List (List Cell) → Type 0
   AreShown shown rows =
-      AllZip (Shows (suggestion_layout r frame s) (s.line_start + first_given s) (given_lines s)) shown rows
+      AllZip (Shows (suggestion_layout r layout s) (s.line_start + first_given s) (given_lines s)) shown rows
 
   -- hold no listed character and no link
   pub lines_free : (shown : List SuggestionRow) (part : List (List Cell)) → AreShown shown part → All IsFree part
@@ -91,7 +91,7 @@ module _ (r : Renderer) (frame : Layout) (s : Snippet Patch) where
   lines_free (row_is ∷ shown) [] are = absurd are
   lines_free (shows ∷ shown) (row ∷ part) are = All-cons IsFree row part (free_of shows row are.0) (lines_free shown part are.1)
     where
-      free_of : (shows : SuggestionRow) (row : List Cell) → Shows (suggestion_layout r frame s) (s.line_start + first_given s) (given_lines s) shows row
+      free_of : (shows : SuggestionRow) (row : List Cell) → Shows (suggestion_layout r layout s) (s.line_start + first_given s) (given_lines s) shows row
           → IsFree row
       free_of (Begins start) row is = is.bare.free
       free_of (Offers k) row is = is.free
@@ -101,14 +101,14 @@ module _ (r : Renderer) (frame : Layout) (s : Snippet Patch) where
       free_of (Ends follows) row is = is.bare.free
 
   -- and have left of the lines what they are to have there
-  pub strokes_shown : (shown : List SuggestionRow) (part : List (List Cell)) → AreShown shown part → AllZip (HasStrokes frame.decor frame.gutter) shown part
+  pub strokes_shown : (shown : List SuggestionRow) (part : List (List Cell)) → AreShown shown part → AllZip (HasStrokes layout.decor layout.gutter) shown part
   strokes_shown [] [] are = tt
   strokes_shown [] (row ∷ part) are = absurd are
   strokes_shown (shows ∷ shown) [] are = absurd are
   strokes_shown (shows ∷ shown) (row ∷ part) are = (stroke_of shows row are.0, strokes_shown shown part are.1)
     where
-      stroke_of : (shows : SuggestionRow) (row : List Cell) → Shows (suggestion_layout r frame s) (s.line_start + first_given s) (given_lines s) shows row
-          → HasStrokes frame.decor frame.gutter shows row
+      stroke_of : (shows : SuggestionRow) (row : List Cell) → Shows (suggestion_layout r layout s) (s.line_start + first_given s) (given_lines s) shows row
+          → HasStrokes layout.decor layout.gutter shows row
       stroke_of (Begins start) row is = is.left_is
       stroke_of (Offers k) row is = tt
       stroke_of Skips row is = is.left_is
@@ -119,15 +119,15 @@ module _ (r : Renderer) (frame : Layout) (s : Snippet Patch) where
   module _ (suggestible : IsSuggestible s) (some : s.markers.items ≢ []) where
     -- there is a number for each line that is given, and it is shown
     number_is : (k : ℕ) → k < length (given_lines s)
-        → shown_number (line_numbers r s.line_numbering) frame.gutter (number_after (s.line_start + first_given s) k) ≡ number_text r s.line_numbering frame.gutter (s.line_start + (first_given s + k))
+        → shown_number (line_numbers r s.line_numbering) layout.gutter (number_after (s.line_start + first_given s) k) ≡ number_text r s.line_numbering layout.gutter (s.line_start + (first_given s + k))
     number_is k within =
         let same : number_after (s.line_start + first_given s) k ≡ s.line_start + (first_given s + k) = omega (arith, suggestible.numbers) in
-        ap (shown_number (line_numbers r s.line_numbering) frame.gutter) same
+        ap (shown_number (line_numbers r s.line_numbering) layout.gutter) same
 
     -- the row of a line that is given offers it
     offered_row : (k : ℕ) (row : List Cell) → k < length (given_lines s)
-        → Shows (suggestion_layout r frame s) (s.line_start + first_given s) (given_lines s) (Offers k) row
-        → IsOfferedRow r frame.decor frame.gutter s (first_given s + k) row
+        → Shows (suggestion_layout r layout s) (s.line_start + first_given s) (given_lines s) (Offers k) row
+        → IsOfferedRow r layout.decor layout.gutter s (first_given s + k) row
     offered_row k row within shows =
         let number = number_is k within in
         let back : first_given s + k - first_given s ≡ k = omega arith in
@@ -145,15 +145,15 @@ module _ (r : Renderer) (frame : Layout) (s : Snippet Patch) where
         }
 
     abbrev IsNamed : NamedRow → Type 0
-    IsNamed row = IsSuggestionRow r frame.decor frame.gutter s row.name row.cells
+    IsNamed row = IsSuggestionRow r layout.decor layout.gutter s row.name row.cells
 
     -- that of a line that is removed shows it
     removed_row_shown : (i number : ℕ) (text : List ℕ) (row : List Cell) → IsRowOf s (Removes i number text)
-        → Shows (suggestion_layout r frame s) (s.line_start + first_given s) (given_lines s) (Removes i number text) row
-        → IsSuggestionRow r frame.decor frame.gutter s (RemovedLine i) row
+        → Shows (suggestion_layout r layout s) (s.line_start + first_given s) (given_lines s) (Removes i number text) row
+        → IsSuggestionRow r layout.decor layout.gutter s (RemovedLine i) row
     removed_row_shown i number text row of shows =
         let numbers = line_numbers r s.line_numbering in
-        let Is : ℕ → List ℕ → Type 0 = λ n t. IsRemovedRow numbers frame.decor frame.gutter (shown_number numbers frame.gutter n) (norm (chars t)) row in
+        let Is : ℕ → List ℕ → Type 0 = λ n t. IsRemovedRow numbers layout.decor layout.gutter (shown_number numbers layout.gutter n) (norm (chars t)) row in
         subst (Is (removed_number s i)) of.1 (subst (λ (n : ℕ). Is n text) of.0 shows)
 
     -- so each row is what its name says

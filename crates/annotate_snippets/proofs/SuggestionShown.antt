@@ -42,16 +42,16 @@ use Rattle.annotate_snippets.proofs.SuggestionLemmas.{cells_of-named, lines_free
 use Rattle.annotate_snippets.proofs.SuggestionLemmas.{rows_named, strokes_shown}
 
 -- the row of its path holds no listed character and no link
-path_row-free : (r : Renderer) (frame : Layout) (first : Bool) (s : Snippet Patch) (path : Option (List ℕ)) → All IsFree (path_row r frame first s path)
-path_row-free r frame first s None = All-nil IsFree
-path_row-free r frame first s (Some path) =
-    All-cons IsFree _ [] (origin_row-free (origin_layout r frame) (primary_start first) path (patch_place s)) (All-nil IsFree)
+path_row-free : (r : Renderer) (layout : Layout) (first : Bool) (s : Snippet Patch) (path : Option (List ℕ)) → All IsFree (path_row r layout first s path)
+path_row-free r layout first s None = All-nil IsFree
+path_row-free r layout first s (Some path) =
+    All-cons IsFree _ [] (origin_row-free (origin_layout r layout) (primary_start first) path (patch_place s)) (All-nil IsFree)
 
-suggestion_head-free : (r : Renderer) (frame : Layout) (begins : SuggestionStart) (first : Bool) (s : Snippet Patch)
-    → All IsFree (suggestion_head_at begins r frame first s)
-suggestion_head-free r frame start.Opening first s = All-nil IsFree
-suggestion_head-free r frame start.Next first s = All-nil IsFree
-suggestion_head-free r frame start.Path first s = path_row-free r frame first s (path_bytes s.path)
+suggestion_head-free : (r : Renderer) (layout : Layout) (begins : SuggestionStart) (first : Bool) (s : Snippet Patch)
+    → All IsFree (suggestion_head_at begins r layout first s)
+suggestion_head-free r layout start.Opening first s = All-nil IsFree
+suggestion_head-free r layout start.Next first s = All-nil IsFree
+suggestion_head-free r layout start.Path first s = path_row-free r layout first s (path_bytes s.path)
 
 -- the rows that a suggestion has offer just the lines that it offers, show as removed those that it removes, and are its own
 module _ (around : ElementContext) (s : Snippet Patch) where
@@ -85,37 +85,37 @@ module _ (around : ElementContext) (s : Snippet Patch) where
   all_own = All-append (IsRowOf s) rows (ends around.shared) (rows-own around.start s) (ends_own around.shared)
 
 -- the rows of a suggestion have the signs of their lines
-ends_sign : (layout : SuggestionLayout) (s : Snippet Patch) (next shared : Bool)
-    → AllZip (HasSign layout s) (if shared then [] else Ends next ∷ []) (if shared then [] else row_cells layout s [] (Ends next) ∷ [])
-ends_sign layout s next true = tt
-ends_sign layout s next false = (tt, tt)
+ends_sign : (suggested : SuggestionLayout) (s : Snippet Patch) (next shared : Bool)
+    → AllZip (HasSign suggested s) (if shared then [] else Ends next ∷ []) (if shared then [] else row_cells suggested s [] (Ends next) ∷ [])
+ends_sign suggested s next true = tt
+ends_sign suggested s next false = (tt, tt)
 
-signs_shown : (r : Renderer) (frame : Layout) (around : ElementContext) (found : List Cell) (s : Snippet Patch) (lines : List (List Cell))
-    → lines ≡ suggestion_lines r frame around found s → AllZip (HasSign (suggestion_layout r frame s) s) (suggestion_rows around s) lines
-signs_shown r frame around found s lines shown =
-    let under : List Cell = under_of r frame around.start found in
-    let layout : SuggestionLayout = suggestion_layout r frame s in
+signs_shown : (r : Renderer) (layout : Layout) (around : ElementContext) (found : List Cell) (s : Snippet Patch) (lines : List (List Cell))
+    → lines ≡ suggestion_lines r layout around found s → AllZip (HasSign (suggestion_layout r layout s) s) (suggestion_rows around s) lines
+signs_shown r layout around found s lines shown =
+    let under : List Cell = under_of r layout around.start found in
+    let suggested : SuggestionLayout = suggestion_layout r layout s in
     let next : Bool = not (is_end around.next) in
-    subst (AllZip (HasSign layout s) (suggestion_rows around s)) (sym shown)
-    (zip_append (HasSign layout s) (rows_of_suggestion around.start s) (if around.shared then [] else Ends next ∷ [])
-    (body_cells layout around.start s under) (if around.shared then [] else row_cells layout s [] (Ends next) ∷ [])
-    (body_signs layout around.start s under) (ends_sign layout s next around.shared))
+    subst (AllZip (HasSign suggested s) (suggestion_rows around s)) (sym shown)
+    (zip_append (HasSign suggested s) (rows_of_suggestion around.start s) (if around.shared then [] else Ends next ∷ [])
+    (body_cells suggested around.start s under) (if around.shared then [] else row_cells suggested s [] (Ends next) ∷ [])
+    (body_signs suggested around.start s under) (ends_sign suggested s next around.shared))
 
 -- the rows of a suggestion show it, once they have names: after the row of its path those of its lines
-pub suggestion_shown : (r : Renderer) (frame : Layout) (around : ElementContext) (found : List Cell) (s : Snippet Patch) (rows : List (List Cell))
-    → IsSuggestible s → s.markers.items ≢ [] → HasRoomFor r frame (Suggestion s) → IsSuggestionDrawn r frame around found s rows
-    → ElementShown r frame around found (Suggestion s) rows
-suggestion_shown r frame around found s rows suggestible some room drawn =
-    let IsShown : SuggestionRow → List Cell → Type 0 = Shows (suggestion_layout r frame s) (s.line_start + first_given s) (given_lines s) in
+pub suggestion_shown : (r : Renderer) (layout : Layout) (around : ElementContext) (found : List Cell) (s : Snippet Patch) (rows : List (List Cell))
+    → IsSuggestible s → s.markers.items ≢ [] → HasRoomFor r layout (Suggestion s) → IsSuggestionDrawn r layout around found s rows
+    → ElementShown r layout around found (Suggestion s) rows
+suggestion_shown r layout around found s rows suggestible some room drawn =
+    let IsShown : SuggestionRow → List Cell → Type 0 = Shows (suggestion_layout r layout s) (s.line_start + first_given s) (given_lines s) in
     let shown : List SuggestionRow = suggestion_rows around s in
-    let head : List (List Cell) = suggestion_head r frame around s in
+    let head : List (List Cell) = suggestion_head r layout around s in
     let after : List NamedRow = named_rows s shown drawn.lines in
     let same : map (λ k. first_given s + k) (numbers_offered shown) ≡ offered_lines s = ap (map (λ k. first_given s + k)) (all_offer around s) in
     let lines : lines_offered after ≡ offered_lines s = lines_offered-named IsShown s shown drawn.lines drawn.are ∙ same in
     let end : ℕ = first_given s + length (given_lines s) in
     let cells : cells_of (others head ++ after) ≡ rows = map-append (λ (row : NamedRow). row.cells) (others head) after ∙ ap (λ rs. rs ++ cells_of after) (cells_of-others head) ∙ ap (λ rs. head ++ rs) (cells_of-named IsShown s shown drawn.lines drawn.are) ∙ sym drawn.rows_are in
-    let free : All IsFree rows = subst (All IsFree) (sym drawn.rows_are) (All-append IsFree head drawn.lines (suggestion_head-free r frame around.start around.first s) (lines_free r frame s shown drawn.lines drawn.are)) in
-    let shows : ShowsSuggestion r frame around found s (others head ++ after) = record {
+    let free : All IsFree rows = subst (All IsFree) (sym drawn.rows_are) (All-append IsFree head drawn.lines (suggestion_head-free r layout around.start around.first s) (lines_free r layout s shown drawn.lines drawn.are)) in
+    let shows : ShowsSuggestion r layout around found s (others head ++ after) = record {
       after = after;
       rows_are = refl;
       offered = λ offerable j touched visible. elim (touched-offered s suggestible.spans suggestible.disjoint offerable j touched visible) [
@@ -126,10 +126,10 @@ suggestion_shown r frame around found s rows suggestible some room drawn =
       lines = lines;
       order = names_of-named IsShown s shown drawn.lines drawn.are;
       cells = cells_of-named IsShown s shown drawn.lines drawn.are ∙ drawn.cells;
-      signs = subst (AllZip (HasSign (suggestion_layout r frame s) s) shown) (sym (cells_of-named IsShown s shown drawn.lines drawn.are)) (signs_shown r frame around found s drawn.lines drawn.cells);
-      strokes = subst (AllZip (HasStrokes frame.decor frame.gutter) shown) (sym (cells_of-named IsShown s shown drawn.lines drawn.are)) (strokes_shown r frame s shown drawn.lines drawn.are);
+      signs = subst (AllZip (HasSign (suggestion_layout r layout s) s) shown) (sym (cells_of-named IsShown s shown drawn.lines drawn.are)) (signs_shown r layout around found s drawn.lines drawn.cells);
+      strokes = subst (AllZip (HasStrokes layout.decor layout.gutter) shown) (sym (cells_of-named IsShown s shown drawn.lines drawn.are)) (strokes_shown r layout s shown drawn.lines drawn.are);
       removed = lines_removed-named IsShown s shown drawn.lines drawn.are ∙ all_take around s;
-      named = rows_named r frame s suggestible some (first_given s) shown drawn.lines (subst (AreRising (first_given s) end) (sym same) (offered-ascends s)) (all_own around s) drawn.are;
+      named = rows_named r layout s suggestible some (first_given s) shown drawn.lines (subst (AreRising (first_given s) end) (sym same) (offered-ascends s)) (all_own around s) drawn.are;
     } in
     record {
       part = others head ++ after;
@@ -137,5 +137,5 @@ suggestion_shown r frame around found s rows suggestible some room drawn =
       cells = cells;
       shows = shows;
       free = All-unmapped IsFree (λ (row : NamedRow). row.cells) (others head ++ after) (subst (All IsFree) (sym cells) free);
-      one_line = suggestion_one_line r frame around found s rows drawn (all_own around s);
+      one_line = suggestion_one_line r layout around found s rows drawn (all_own around s);
     }

@@ -62,11 +62,11 @@ unnumbered : (gutter : ℕ) (row : List Cell) → HasNoNumber gutter row → IsU
 unnumbered gutter row none = unnumbered_row (gutter + 1) row (λ c within. none c (omega (arith, within)))
 
 -- the rows below a title
-after_title : (r : Renderer) (frame : Layout) (sets_off closes : Bool)
-    → All (IsUnnumbered frame.gutter) (cond sets_off (separator_rows r frame) (cond closes (closing_rows r frame) []))
-after_title r frame true closes = All-cons (IsUnnumbered frame.gutter) _ [] (unnumbered frame.gutter _ (separator_row-unnumbered frame.decor frame.gutter)) (All-nil (IsUnnumbered frame.gutter))
-after_title r frame false true = All-cons (IsUnnumbered frame.gutter) _ [] (unnumbered frame.gutter _ (closing_row-unnumbered frame.decor frame.gutter)) (All-nil (IsUnnumbered frame.gutter))
-after_title r frame false false = All-nil (IsUnnumbered frame.gutter)
+after_title : (r : Renderer) (layout : Layout) (sets_off closes : Bool)
+    → All (IsUnnumbered layout.gutter) (cond sets_off (separator_rows r layout) (cond closes (closing_rows r layout) []))
+after_title r layout true closes = All-cons (IsUnnumbered layout.gutter) _ [] (unnumbered layout.gutter _ (separator_row-unnumbered layout.decor layout.gutter)) (All-nil (IsUnnumbered layout.gutter))
+after_title r layout false true = All-cons (IsUnnumbered layout.gutter) _ [] (unnumbered layout.gutter _ (closing_row-unnumbered layout.decor layout.gutter)) (All-nil (IsUnnumbered layout.gutter))
+after_title r layout false false = All-nil (IsUnnumbered layout.gutter)
 
 -- each text of a title's rows begins with its level's name, or with as many spaces as what stands before its text is wide
 module _ (n : ℕ) (name more : List ℕ) (width : ℕ) (word : begins_with_word name ≡ true) (wide : n ≤ width) where
@@ -87,21 +87,21 @@ module _ (n : ℕ) (name more : List ℕ) (width : ℕ) (word : begins_with_word
   text_of_row (line ∷ lines) (suc i) = text_further lines i
 
 -- no row of such a title begins with a number
-pub title_unnumbered : (r : Renderer) (frame : Layout) (place : GroupPosition) (follows : Next) (title : Title) (rows : List (List Cell))
-    → ShowsTitlePart r frame place follows (Some title) rows → IsTitleOfWords frame.gutter title → All (IsUnnumbered frame.gutter) rows
-title_unnumbered r frame place follows title rows shown words =
+pub title_unnumbered : (r : Renderer) (layout : Layout) (place : GroupPosition) (follows : Next) (title : Title) (rows : List (List Cell))
+    → ShowsTitlePart r layout place follows (Some title) rows → IsTitleOfWords layout.gutter title → All (IsUnnumbered layout.gutter) rows
+title_unnumbered r layout place follows title rows shown words =
     let heading : Heading = heading_of_title title in
     let hidden : Bool = is_hidden title.level.name in
     let after_name : List ℕ = id_text hidden title.id ++ colon_of hidden title.id in
     let label : heading_label_text heading ≡ norm (chars (name_of title.level)) ++ after_name = append_assoc (norm (chars (name_of title.level))) (id_text hidden title.id) (colon_of hidden title.id) in
     let text_at : List ℕ → ℕ → List ℕ = λ first i. slice_index_or (texts_below first (row_text (replicate (label_width heading) SPACE)) (heading_lines heading)) i [] in
-    let each : (i : ℕ) → i < length shown.own → IsUnnumbered frame.gutter (get_or shown.own i []) =
-    λ i within. ap (λ text. begins_with_number (take (frame.gutter + 1) text)) (shown.shows.texts i ∙ ap (λ first. text_at first i) label)
-    ∙ text_of_row (frame.gutter + 1) (norm (chars (name_of title.level))) after_name (label_width heading) words.word (omega (arith, words.wide)) (heading_lines heading) i in
-    subst (All (IsUnnumbered frame.gutter)) (sym shown.rows_are) (All-append (IsUnnumbered frame.gutter) shown.own (rows_after_title r frame place follows title.allows_styling) (All-from_get_or (IsUnnumbered frame.gutter) shown.own [] each) (after_title r frame _ _))
+    let each : (i : ℕ) → i < length shown.own → IsUnnumbered layout.gutter (get_or shown.own i []) =
+    λ i within. ap (λ text. begins_with_number (take (layout.gutter + 1) text)) (shown.shows.texts i ∙ ap (λ first. text_at first i) label)
+    ∙ text_of_row (layout.gutter + 1) (norm (chars (name_of title.level))) after_name (label_width heading) words.word (omega (arith, words.wide)) (heading_lines heading) i in
+    subst (All (IsUnnumbered layout.gutter)) (sym shown.rows_are) (All-append (IsUnnumbered layout.gutter) shown.own (rows_after_title r layout place follows title.allows_styling) (All-from_get_or (IsUnnumbered layout.gutter) shown.own [] each) (after_title r layout _ _))
 
 -- the same of the title that a group has
-pub group_title_unnumbered : (r : Renderer) (frame : Layout) (place : GroupPosition) (follows : Next) (own : Option Title) (title : Title) (rows : List (List Cell))
-    → ShowsTitlePart r frame place follows own rows → own ≡ Some title → IsTitleOfWords frame.gutter title → All (IsUnnumbered frame.gutter) rows
-group_title_unnumbered r frame place follows own title rows shown is words =
-    title_unnumbered r frame place follows title rows (subst (λ t. ShowsTitlePart r frame place follows t rows) is shown) words
+pub group_title_unnumbered : (r : Renderer) (layout : Layout) (place : GroupPosition) (follows : Next) (own : Option Title) (title : Title) (rows : List (List Cell))
+    → ShowsTitlePart r layout place follows own rows → own ≡ Some title → IsTitleOfWords layout.gutter title → All (IsUnnumbered layout.gutter) rows
+group_title_unnumbered r layout place follows own title rows shown is words =
+    title_unnumbered r layout place follows title rows (subst (λ t. ShowsTitlePart r layout place follows t rows) is shown) words

@@ -97,30 +97,30 @@ pub message_among : (trusted : List (List ℕ)) (message : MessageGiven) → Are
 message_among trusted message among c is = among c (Contains-append_left (chars (cow_str_bytes message.text)) [] c is)
 
 -- the rows below a title
-pub after_title-free : (r : Renderer) (frame : Layout) (place : GroupPosition) (follows : Next) (trusted : Bool)
-    → All IsFree (rows_after_title r frame place follows trusted)
-after_title-free r frame place follows trusted = by (is_before_message follows) _
+pub after_title-free : (r : Renderer) (layout : Layout) (place : GroupPosition) (follows : Next) (trusted : Bool)
+    → All IsFree (rows_after_title r layout place follows trusted)
+after_title-free r layout place follows trusted = by (is_before_message follows) _
   where
-    closing : (closes : Bool) → All IsFree (if closes then closing_rows r frame else [])
-    closing true = All-cons IsFree _ [] (closing_row-free frame.decor frame.gutter) (All-nil IsFree)
+    closing : (closes : Bool) → All IsFree (if closes then closing_rows r layout else [])
+    closing true = All-cons IsFree _ [] (closing_row-free layout.decor layout.gutter) (All-nil IsFree)
     closing false = All-nil IsFree
 
-    by : (before closes : Bool) → All IsFree (if before then separator_rows r frame else (if closes then closing_rows r frame else []))
-    by true closes = All-cons IsFree _ [] (separator_row-free frame.decor frame.gutter) (All-nil IsFree)
+    by : (before closes : Bool) → All IsFree (if before then separator_rows r layout else (if closes then closing_rows r layout else []))
+    by true closes = All-cons IsFree _ [] (separator_row-free layout.decor layout.gutter) (All-nil IsFree)
     by false closes = closing closes
 
 -- the listed characters of a title's part of a group are of its trusted text
-pub title_part-free : (r : Renderer) (frame : Layout) (place : GroupPosition) (follows : Next) (title : Option Title) (more : List (List ℕ))
-    → All (IsFreeRow (flat_map trusted_of_title (option_to_list title) ++ more)) (title_part r frame place follows title)
-title_part-free r frame place follows None more = All-nil (IsFreeRow more)
-title_part-free r frame place follows (Some title) more =
+pub title_part-free : (r : Renderer) (layout : Layout) (place : GroupPosition) (follows : Next) (title : Option Title) (more : List (List ℕ))
+    → All (IsFreeRow (flat_map trusted_of_title (option_to_list title) ++ more)) (title_part r layout place follows title)
+title_part-free r layout place follows None more = All-nil (IsFreeRow more)
+title_part-free r layout place follows (Some title) more =
     let trusted : List (List ℕ) = flat_map trusted_of_title (title ∷ []) ++ more in
     let own : List (List Cell) = title_rows r.hyperlink title in
-    let after : List (List Cell) = rows_after_title r frame place follows title.allows_styling in
+    let after : List (List Cell) = rows_after_title r layout place follows title.allows_styling in
     All-append (IsFreeRow trusted) own after
     (All-weaker (IsFreeButText (heading_of_title title)) (IsFreeRow trusted) (own_row trusted (heading_of_title title) (title_among title more))
     own (heading_rows-free r.hyperlink style.Title (heading_of_title title)))
-    (free_rows trusted after (after_title-free r frame place follows title.allows_styling))
+    (free_rows trusted after (after_title-free r layout place follows title.allows_styling))
 
 -- so are those of the rows of an element whose trusted texts are among these
 pub element-free : (trusted : List (List ℕ)) (e : Element) (part : List NamedRow) → AreTextsAmong trusted (trusted_of_element e) → IsFreeElement e part

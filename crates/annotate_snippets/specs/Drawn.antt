@@ -32,7 +32,7 @@ use Rattle.annotate_snippets.specs.declared.renderer.graphic.GroupGrid.{GroupGri
 use Rattle.annotate_snippets.specs.declared.renderer.element_context.GroupPosition.{GroupPosition}
 use Rattle.annotate_snippets.specs.declared.renderer.element_context.ElementContext.{ElementContext}
 use Rattle.annotate_snippets.specs.Around.{closes_with, drawn_elements, file_of_group, is_end, next_of, place_at, context_at, suggestion_rows}
-use Rattle.annotate_snippets.specs.Gutter.{code_after, depth_of_element, frame_of, line_numbers, numbered_source, width_wanted}
+use Rattle.annotate_snippets.specs.Gutter.{code_after, depth_of_element, layout_of_group, line_numbers, numbered_source, width_wanted}
 use Rattle.annotate_snippets.specs.Rows.{cause_head, message_rows, origin_rows, rows_after_cause, suggestion_head, title_part}
 use Rattle.snippet_model.specs.declared.snippet.Title.{Title}
 use Rattle.snippet_grid.specs.Woven.{IsWoven}
@@ -49,125 +49,126 @@ use Rattle.annotate_snippets.specs.declared.renderer.form.Form.TheVariants.{Grap
 
 -- the rows of an annotated snippet's lines, whose source is UTF-8: the lines that are shown, each with its entries, between the bounds
 -- for those that are kept, in a room of what is left of the width. The group's window may close with the last of them
-pub record AreCauseRows (r : Renderer) (frame : Layout) (closes : Bool) (s : Snippet Annotation) (rows : List (List Cell)) : Type 0 where
+pub record AreCauseRows (r : Renderer) (layout : Layout) (closes : Bool) (s : Snippet Annotation) (rows : List (List Cell)) : Type 0 where
   pub utf8 : IsUtf8 (cow_str_bytes s.source)
   pub infos : List AnnotatedLineInfo
   pub lines : map seen_kept infos ≡ map (kept_line (numbered_source s) s.markers.items) (shown_lines s.fold (cow_str_bytes s.source) s.markers.items)
   pub margin : Margin
-  pub room : margin.term_width ≡ r.term_width - frame.code
-  pub bounds : bounds_of margin ≡ margin_of (r.term_width - frame.code) s.fold (numbered_source s) s.markers.items
+  pub room : margin.term_width ≡ r.term_width - layout.code
+  pub bounds : bounds_of margin ≡ margin_of (r.term_width - layout.code) s.fold (numbered_source s) s.markers.items
   pub ordered : (bounds_of margin).left ≤ (bounds_of margin).right
-  pub shown : AreLinesShown frame margin (line_numbers r s.line_numbering) closes [] infos rows
+  pub shown : AreLinesShown layout margin (line_numbers r s.line_numbering) closes [] infos rows
 
 -- such rows were added below those that are there
-pub record AddsCauseLines (r : Renderer) (frame : Layout) (closes : Bool) (s : Snippet Annotation) (old new : List (List Cell)) : Type 0 where
+pub record AddsCauseLines (r : Renderer) (layout : Layout) (closes : Bool) (s : Snippet Annotation) (old new : List (List Cell)) : Type 0 where
   pub rows : List (List Cell)
   pub added : new ≡ old ++ rows
-  pub are : AreCauseRows r frame closes s rows
+  pub are : AreCauseRows r layout closes s rows
 
 -- the rows of an annotated snippet: those that it begins with, those of its lines, and what stands below
-pub record IsCauseDrawn (r : Renderer) (frame : Layout) (around : ElementContext) (s : Snippet Annotation) (rows : List (List Cell)) : Type 0 where
+pub record IsCauseDrawn (r : Renderer) (layout : Layout) (around : ElementContext) (s : Snippet Annotation) (rows : List (List Cell)) : Type 0 where
   pub lines : List (List Cell)
-  pub rows_are : rows ≡ cause_head r frame around s ++ (lines ++ rows_after_cause r frame around)
-  pub are : AreCauseRows r frame (closes_with around) s lines
+  pub rows_are : rows ≡ cause_head r layout around s ++ (lines ++ rows_after_cause r layout around)
+  pub are : AreCauseRows r layout (closes_with around) s lines
 
 -- such rows were added below those that are there
-pub record AddsCause (r : Renderer) (frame : Layout) (around : ElementContext) (s : Snippet Annotation) (old new : List (List Cell)) : Type 0 where
+pub record AddsCause (r : Renderer) (layout : Layout) (around : ElementContext) (s : Snippet Annotation) (old new : List (List Cell)) : Type 0 where
   pub rows : List (List Cell)
   pub added : new ≡ old ++ rows
-  pub is : IsCauseDrawn r frame around s rows
+  pub is : IsCauseDrawn r layout around s rows
 
 -- where the parts of a suggestion's rows stand
 abbrev pub suggestion_layout : Renderer → Layout → Snippet Patch → SuggestionLayout
-suggestion_layout r frame s =
-    record { frame = frame; numbers = line_numbers r s.line_numbering }
+suggestion_layout r layout s =
+    record { base = layout; numbers = line_numbers r s.line_numbering }
 
 -- the row that an element ends with, before a further one or not, in which a suggestion after it may begin: a suggestion has one
 abbrev pub last_row : Renderer → Layout → Bool → Option Element → List Cell
-last_row r frame follows None = []
-last_row r frame follows (Some (Message message)) = []
-last_row r frame follows (Some (Cause snippet)) = []
-last_row r frame follows (Some (Suggestion snippet)) = row_cells (suggestion_layout r frame snippet) snippet [] (Ends follows)
-last_row r frame follows (Some (Origin origin)) = []
-last_row r frame follows (Some (Padding padding)) = []
+last_row r layout follows None = []
+last_row r layout follows (Some (Message message)) = []
+last_row r layout follows (Some (Cause snippet)) = []
+last_row r layout follows (Some (Suggestion snippet)) = row_cells (suggestion_layout r layout snippet) snippet [] (Ends follows)
+last_row r layout follows (Some (Origin origin)) = []
+last_row r layout follows (Some (Padding padding)) = []
 
 -- what element i of a group finds in the row that the one before it ends with, if it begins there
 abbrev pub found_at : Renderer → Layout → List Element → ℕ → List Cell
-found_at r frame es i = last_row r frame true (slice_get es (i - 1))
+found_at r layout es i = last_row r layout true (slice_get es (i - 1))
 
 -- what a suggestion finds in the row that it begins with: nothing in a row of its own, below its path a separator row, and in the
 -- last row of the suggestion before what that holds
 abbrev pub under_of : Renderer → Layout → SuggestionStart → List Cell → List Cell
-under_of r frame start.Opening found = []
-under_of r frame start.Next found = found
-under_of r frame start.Path found = separator_row frame.decor frame.gutter
+under_of r layout start.Opening found = []
+under_of r layout start.Next found = found
+under_of r layout start.Path found = separator_row layout.decor layout.gutter
 
 -- the rows of a suggestion's lines, over what the row in which the element before ends holds, if it begins there; the last of them is the
 -- next one's, where that begins in it
 abbrev pub suggestion_lines : Renderer → Layout → ElementContext → List Cell → Snippet Patch → List (List Cell)
-suggestion_lines r frame around found s =
-    let layout = suggestion_layout r frame s in
-    body_cells layout around.start s (under_of r frame around.start found) ++ (if around.shared then [] else row_cells layout s [] (Ends (not (is_end around.next))) ∷ [])
+suggestion_lines r layout around found s =
+    let suggested = suggestion_layout r layout s in
+    body_cells suggested around.start s (under_of r layout around.start found)
+    ++ (if around.shared then [] else row_cells suggested s [] (Ends (not (is_end around.next))) ∷ [])
 
 -- the rows of a suggestion, whose source and whose lines are UTF-8: that of its path, where it names that, and those of its lines, each
 -- of which shows what the suggestion has there
-pub record IsSuggestionDrawn (r : Renderer) (frame : Layout) (around : ElementContext) (found : List Cell) (s : Snippet Patch) (rows : List (List Cell)) : Type 0 where
+pub record IsSuggestionDrawn (r : Renderer) (layout : Layout) (around : ElementContext) (found : List Cell) (s : Snippet Patch) (rows : List (List Cell)) : Type 0 where
   pub utf8 : IsUtf8 (cow_str_bytes s.source)
   pub given_utf8 : IsUtf8 (given_text s)
   pub lines : List (List Cell)
-  pub rows_are : rows ≡ suggestion_head r frame around s ++ lines
-  pub are : AllZip (Shows (suggestion_layout r frame s) (s.line_start + first_given s) (given_lines s)) (suggestion_rows around s) lines
-  pub cells : lines ≡ suggestion_lines r frame around found s
+  pub rows_are : rows ≡ suggestion_head r layout around s ++ lines
+  pub are : AllZip (Shows (suggestion_layout r layout s) (s.line_start + first_given s) (given_lines s)) (suggestion_rows around s) lines
+  pub cells : lines ≡ suggestion_lines r layout around found s
 
 -- the rows of an element, where this stands in the row in which the one before it ends
 abbrev pub IsElementDrawn : Renderer → Layout → ElementContext → List Cell → Element → List (List Cell) → Type 0
-IsElementDrawn r frame around found (Message message) rows = rows ≡ message_rows r frame around message
-IsElementDrawn r frame around found (Cause snippet) rows = IsCauseDrawn r frame around snippet rows
-IsElementDrawn r frame around found (Suggestion snippet) rows = IsSuggestionDrawn r frame around found snippet rows
-IsElementDrawn r frame around found (Origin origin) rows = rows ≡ origin_rows r frame around origin
-IsElementDrawn r frame around found (Padding padding) rows =
-    rows ≡ padding_row frame.decor frame.gutter (is_end around.next) ∷ []
+IsElementDrawn r layout around found (Message message) rows = rows ≡ message_rows r layout around message
+IsElementDrawn r layout around found (Cause snippet) rows = IsCauseDrawn r layout around snippet rows
+IsElementDrawn r layout around found (Suggestion snippet) rows = IsSuggestionDrawn r layout around found snippet rows
+IsElementDrawn r layout around found (Origin origin) rows = rows ≡ origin_rows r layout around origin
+IsElementDrawn r layout around found (Padding padding) rows =
+    rows ≡ padding_row layout.decor layout.gutter (is_end around.next) ∷ []
 
 -- the rows of an element stand below some rows, and nothing else, but the row in which the next one begins, where it shares that: the
 -- one that the element ends with
-pub record AddsElement (r : Renderer) (frame : Layout) (around : ElementContext) (found : List Cell) (e : Element) (above new : List (List Cell)) : Type 0 where
+pub record AddsElement (r : Renderer) (layout : Layout) (around : ElementContext) (found : List Cell) (e : Element) (above new : List (List Cell)) : Type 0 where
   pub rows : List (List Cell)
   pub tail : List (List Cell)
   pub added : new ≡ above ++ (rows ++ tail)
-  pub is : IsElementDrawn r frame around found e rows
-  pub ends : IsTail frame.decor frame.gutter around.shared tail
-  pub last : around.shared ≡ true → tail ≡ last_row r frame (not (is_end around.next)) (Some e) ∷ []
+  pub is : IsElementDrawn r layout around found e rows
+  pub ends : IsTail layout.decor layout.gutter around.shared tail
+  pub last : around.shared ≡ true → tail ≡ last_row r layout (not (is_end around.next)) (Some e) ∷ []
 
 -- each of these parts is the rows of one of these elements, which are all that a group draws, in order
-pub record AreElementsDrawn (r : Renderer) (frame : Layout) (place : GroupPosition) (file : Option (List ℕ)) (es : List Element) (parts : List (List (List Cell))) : Type 0 where
+pub record AreElementsDrawn (r : Renderer) (layout : Layout) (place : GroupPosition) (file : Option (List ℕ)) (es : List Element) (parts : List (List (List Cell))) : Type 0 where
   pub count : length parts ≡ length es
   pub each : (i : ℕ) (e : Element) → slice_get es i ≡ Some e
-      → IsElementDrawn r frame (context_at place file es i e) (found_at r frame es i) e (slice_index_or parts i [])
+      → IsElementDrawn r layout (context_at place file es i e) (found_at r layout es i) e (slice_index_or parts i [])
 
 -- the rows of these elements stand below some rows, and nothing else
-pub record AddsElements (r : Renderer) (frame : Layout) (place : GroupPosition) (file : Option (List ℕ)) (es : List Element) (old new : List (List Cell)) : Type 0 where
+pub record AddsElements (r : Renderer) (layout : Layout) (place : GroupPosition) (file : Option (List ℕ)) (es : List Element) (old new : List (List Cell)) : Type 0 where
   pub parts : List (List (List Cell))
   pub added : new ≡ old ++ flat_map (λ part. part) parts
-  pub are : AreElementsDrawn r frame place file es parts
+  pub are : AreElementsDrawn r layout place file es parts
 
--- the frame has room for an element: its gutter for the number that it counts, and the part after the gutter for its bars
-pub record HasRoomFor (r : Renderer) (frame : Layout) (e : Element) : Type 0 where
-  pub small : frame.gutter ≤ 20
-  pub anonymized : r.anonymized_snippet_line_numbers ≡ true → 2 ≤ frame.gutter
-  pub numbers : r.anonymized_snippet_line_numbers ≡ false → width_wanted e ≤ frame.gutter
-  pub bars : code_after frame.gutter (depth_of_element e) ≤ frame.code
+-- the layout has room for an element: its gutter for the number that it counts, and the part after the gutter for its bars
+pub record HasRoomFor (r : Renderer) (layout : Layout) (e : Element) : Type 0 where
+  pub small : layout.gutter ≤ 20
+  pub anonymized : r.anonymized_snippet_line_numbers ≡ true → 2 ≤ layout.gutter
+  pub numbers : r.anonymized_snippet_line_numbers ≡ false → width_wanted e ≤ layout.gutter
+  pub bars : code_after layout.gutter (depth_of_element e) ≤ layout.code
 
 -- the grid of a group: its title, and its elements below it
-pub record IsGroupGrid (r : Renderer) (frame : Layout) (place : GroupPosition) (file : Option (List ℕ)) (g : Group) (rows : List (List Cell)) : Type 0 where
+pub record IsGroupGrid (r : Renderer) (layout : Layout) (place : GroupPosition) (file : Option (List ℕ)) (g : Group) (rows : List (List Cell)) : Type 0 where
   pub parts : List (List (List Cell))
-  pub rows_are : rows ≡ title_part r frame place (next_of (drawn_elements g)) g.title ++ flat_map (λ part. part) parts
-  pub are : AreElementsDrawn r frame place file (drawn_elements g) parts
+  pub rows_are : rows ≡ title_part r layout place (next_of (drawn_elements g)) g.title ++ flat_map (λ part. part) parts
+  pub are : AreElementsDrawn r layout place file (drawn_elements g) parts
 
 -- each grid is that of a group, in order, and is printed in the group's level
 pub record AreGridsOf (r : Renderer) (groups : List Group) (grids : List GroupGrid) : Type 0 where
   pub levels : map (λ grid. grid.level) grids ≡ map (λ g. g.level) groups
   pub each : (i : ℕ) (g : Group) (grid : GroupGrid) → slice_get groups i ≡ Some g → slice_get grids i ≡ Some grid
-      → IsGroupGrid r (frame_of r groups g) (place_at (length groups) i) (file_of_group groups g) g grid.buffer
+      → IsGroupGrid r (layout_of_group r groups g) (place_at (length groups) i) (file_of_group groups g) g grid.buffer
 
 -- the one grid of the short form is that of the first group, which has a title
 pub record IsShortPage (r : Renderer) (groups : List Group) (grids : List GroupGrid) : Type 0 where

@@ -35,7 +35,7 @@ use Rattle.annotate_snippets.specs.declared.renderer.element_context.GroupPositi
 use Rattle.annotate_snippets.specs.declared.renderer.element_context.ElementContext.{ElementContext}
 use Rattle.annotate_snippets.specs.Around.{closes_with, context_at, drawn_elements, file_of_group, is_end, next_of, place_at, suggestion_rows}
 use Rattle.annotate_snippets.specs.Drawn.{found_at, suggestion_lines}
-use Rattle.annotate_snippets.specs.Gutter.{frame_of, number_text, numbered_source}
+use Rattle.annotate_snippets.specs.Gutter.{layout_of_group, number_text, numbered_source}
 use Rattle.annotate_snippets.specs.LineRows.{bars_on, entries_on}
 use Rattle.annotate_snippets.specs.Page.{Elision, GroupPage, NamedRow, OfferedLine, Other, Page, RemovedLine, RowName, SourceRow, others}
 use Rattle.annotate_snippets.specs.Rows.{cause_head, message_rows, origin_rows, rows_after_cause, suggestion_head, title_part}
@@ -44,8 +44,8 @@ use Rattle.annotate_snippets.specs.Rows.{cause_head, message_rows, origin_rows, 
 
 -- the bounds between which a snippet's lines are shown, in a room of what is left of the width
 abbrev pub margin_in : Renderer → Layout → Snippet Annotation → Margin
-margin_in r frame s =
-    let room = r.term_width - frame.code in
+margin_in r layout s =
+    let room = r.term_width - layout.code in
     let bounds = margin_of room s.fold (numbered_source s) s.markers.items in
     record { computed_left = bounds.left; computed_right = bounds.right; term_width = room }
 
@@ -61,14 +61,13 @@ line_entry p =
 -- the rows of line k of a snippet, where these bars are open above it: what its entries make of the row that holds its number, the
 -- separator and its window, with the roles that entries highlight. The group's window may close with the line
 abbrev pub rows_of_line : Renderer → Layout → Bool → Snippet Annotation → List Bar → ℕ → List (List Cell)
-rows_of_line r frame closes s open_bars k =
-    let layout = frame in
-    let margin = margin_in r frame s in
+rows_of_line r layout closes s open_bars k =
+    let margin = margin_in r layout s in
     let text = norm (chars_at (cow_str_bytes s.source) k) in
     let dropped = width_of (dropped_part (bounds_of margin).left text) in
     let entries = map line_entry (entries_on s k) in
-    let plain = source_row layout (number_text r s.line_numbering frame.gutter (s.line_start + k)) (window_cells frame.decor margin text) in
-    line_rows layout margin.term_width closes text dropped open_bars entries (highlighted_row frame.code dropped (filter (λ e. not (is_end_part e.annotation_type)) entries) plain)
+    let plain = source_row layout (number_text r s.line_numbering layout.gutter (s.line_start + k)) (window_cells layout.decor margin text) in
+    line_rows layout margin.term_width closes text dropped open_bars entries (highlighted_row layout.code dropped (filter (λ e. not (is_end_part e.annotation_type)) entries) plain)
 
 -- the rows of line k with their names: the first shows the line
 abbrev pub named_line : ℕ → List (List Cell) → List NamedRow
@@ -78,23 +77,23 @@ named_line k (row ∷ below) = record { name = SourceRow k; cells = row } ∷ ot
 -- what stands between the rows of line j and those of the next of these lines: where lines are left out, one row, with the bars that run
 -- past them
 abbrev pub gap_below : Renderer → Layout → List Bar → ℕ → List ℕ → List NamedRow
-gap_below r frame open_bars j [] = []
-gap_below r frame open_bars j (k ∷ ks) =
-    if nat_lt (j + 1) k then record { name = Elision; cells = gap_row frame open_bars } ∷ [] else []
+gap_below r layout open_bars j [] = []
+gap_below r layout open_bars j (k ∷ ks) =
+    if nat_lt (j + 1) k then record { name = Elision; cells = gap_row layout open_bars } ∷ [] else []
 
 -- the rows of these lines of a snippet, above the first of which these bars are open. The group's window may close with the last
 abbrev pub rows_of_lines : Renderer → Layout → Bool → Snippet Annotation → List Bar → List ℕ → List NamedRow
-rows_of_lines r frame closes s open_bars [] = []
-rows_of_lines r frame closes s open_bars (k ∷ ks) =
+rows_of_lines r layout closes s open_bars [] = []
+rows_of_lines r layout closes s open_bars (k ∷ ks) =
     let below = open_past open_bars (bars_on s k) in
-    named_line k (rows_of_line r frame (closes && length ks == 0) s open_bars k) ++ (gap_below r frame below k ks ++ rows_of_lines r frame closes s below ks)
+    named_line k (rows_of_line r layout (closes && length ks == 0) s open_bars k) ++ (gap_below r layout below k ks ++ rows_of_lines r layout closes s below ks)
 
 -- ---- elements
 
 -- the rows of an annotated snippet: those that it begins with, those of the lines that are shown, and what stands below
 abbrev pub snippet_rows : Renderer → Layout → ElementContext → Snippet Annotation → List NamedRow
-snippet_rows r frame around s =
-    others (cause_head r frame around s) ++ (rows_of_lines r frame (closes_with around) s [] (shown_lines s.fold (cow_str_bytes s.source) s.markers.items) ++ others (rows_after_cause r frame around))
+snippet_rows r layout around s =
+    others (cause_head r layout around s) ++ (rows_of_lines r layout (closes_with around) s [] (shown_lines s.fold (cow_str_bytes s.source) s.markers.items) ++ others (rows_after_cause r layout around))
 
 -- what the row of a suggestion is named by
 abbrev pub name_of_row : Snippet Patch → SuggestionRow → RowName
@@ -115,32 +114,33 @@ named_rows s (shows ∷ shown) (row ∷ rows) =
 -- the rows of a suggestion: that of its path, where it names that, and those of its lines, where this stands in the row in which the
 -- element before ends
 abbrev pub patch_rows : Renderer → Layout → ElementContext → List Cell → Snippet Patch → List NamedRow
-patch_rows r frame around found s =
-    others (suggestion_head r frame around s) ++ named_rows s (suggestion_rows around s) (suggestion_lines r frame around found s)
+patch_rows r layout around found s =
+    others (suggestion_head r layout around s) ++ named_rows s (suggestion_rows around s) (suggestion_lines r layout around found s)
 
 -- the rows of an element
 abbrev pub element_rows : Renderer → Layout → ElementContext → List Cell → Element → List NamedRow
-element_rows r frame around found (element.Message message) = others (message_rows r frame around message)
-element_rows r frame around found (element.Cause snippet) = snippet_rows r frame around snippet
-element_rows r frame around found (element.Suggestion snippet) = patch_rows r frame around found snippet
-element_rows r frame around found (element.Origin origin) = others (origin_rows r frame around origin)
-element_rows r frame around found (element.Padding padding) =
-    others (padding_row frame.decor frame.gutter (is_end around.next) ∷ [])
+element_rows r layout around found (element.Message message) = others (message_rows r layout around message)
+element_rows r layout around found (element.Cause snippet) = snippet_rows r layout around snippet
+element_rows r layout around found (element.Suggestion snippet) = patch_rows r layout around found snippet
+element_rows r layout around found (element.Origin origin) = others (origin_rows r layout around origin)
+element_rows r layout around found (element.Padding padding) =
+    others (padding_row layout.decor layout.gutter (is_end around.next) ∷ [])
 
 -- ---- groups
 
 -- the rows of each of these elements of a group, which are all that it draws
 abbrev pub rows_of_elements : Renderer → Layout → GroupPosition → Option (List ℕ) → List Element → List (List NamedRow)
-rows_of_elements r frame place file es =
-    map (λ pair. element_rows r frame (context_at place file es pair.0 pair.1) (found_at r frame es pair.0) pair.1) (enumerate_from 0 es)
+rows_of_elements r layout place file es =
+    map (λ pair. element_rows r layout (context_at place file es pair.0 pair.1) (found_at r layout es pair.0) pair.1) (enumerate_from 0 es)
 
 -- the page of a group that stands at this place: the rows of its title, and those of each element that is drawn
 abbrev pub group_page : Renderer → Layout → GroupPosition → Option (List ℕ) → Group → GroupPage
-group_page r frame place file g =
+group_page r layout place file g =
     let es = drawn_elements g in
-    record { title = title_part r frame place (next_of es) g.title; elements = rows_of_elements r frame place file es }
+    record { title = title_part r layout place (next_of es) g.title; elements = rows_of_elements r layout place file es }
 
 -- the page of a report
 abbrev pub graphic_form : Renderer → List Group → Page
 graphic_form r groups =
-    map (λ pair. group_page r (frame_of r groups pair.1) (place_at (length groups) pair.0) (file_of_group groups pair.1) pair.1) (enumerate_from 0 groups)
+    map (λ pair. group_page r (layout_of_group r groups pair.1) (place_at (length groups) pair.0) (file_of_group groups pair.1) pair.1)
+    (enumerate_from 0 groups)

@@ -69,7 +69,7 @@ depth_of_group g = fold (λ depth e. max (depth_of_element e) depth) 0 g.element
 abbrev pub code_after : ℕ → ℕ → ℕ
 code_after gutter depth = if depth == 0 then gutter + 3 else gutter + 3 + depth + 1
 
--- the frame of a group: the gutter is the report's, and the glyphs are those of the settings
-abbrev pub frame_of : Renderer → List Group → Group → Layout
-frame_of r groups g =
+-- the layout of a group: the gutter is the report's, and the glyphs are those of the settings
+abbrev pub layout_of_group : Renderer → List Group → Group → Layout
+layout_of_group r groups g =
     record { gutter = gutter_of_report r groups; code = code_after (gutter_of_report r groups) (depth_of_group g); decor = r.decor_style }

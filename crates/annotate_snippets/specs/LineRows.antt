@@ -44,36 +44,36 @@ open_after s Other open_bars = open_bars
 -- the rows are those of line k, the source row and all below it, where these bars are open above it: what its entries and those
 -- bars make of the row that holds the number, the separator and the window of the line between the snippet's bounds alone, with
 -- the roles that entries highlight. The group's window may close with the line
-pub record IsLineDrawn (r : Renderer) (frame : Layout) (closes : Bool) (s : Snippet Annotation) (open_bars : List Bar) (k : ℕ) (rows : List (List Cell)) : Type 0 where
+pub record IsLineDrawn (r : Renderer) (layout : Layout) (closes : Bool) (s : Snippet Annotation) (open_bars : List Bar) (k : ℕ) (rows : List (List Cell)) : Type 0 where
   pub entries : List LineAnnotation
   pub are : map seen_part entries ≡ entries_on s k
   pub margin : Margin
-  pub room : margin.term_width ≡ r.term_width - frame.code
-  pub bounds : bounds_of margin ≡ margin_of (r.term_width - frame.code) s.fold (numbered_source s) s.markers.items
+  pub room : margin.term_width ≡ r.term_width - layout.code
+  pub bounds : bounds_of margin ≡ margin_of (r.term_width - layout.code) s.fold (numbered_source s) s.markers.items
   pub text : List ℕ
   pub text_is : text ≡ norm (chars_at (cow_str_bytes s.source) k)
   pub dropped : ℕ
   pub dropped_is : dropped ≡ width_of (dropped_part (bounds_of margin).left text)
   pub plain : List Cell
-  pub shows : IsSourceRow frame (number_text r s.line_numbering frame.gutter (s.line_start + k)) (window_cells frame.decor margin text) plain
+  pub shows : IsSourceRow layout (number_text r s.line_numbering layout.gutter (s.line_start + k)) (window_cells layout.decor margin text) plain
   pub highlighted : List Cell
-  pub highlights : IsHighlighted frame.code dropped (filter (λ e. not (is_end_part e.annotation_type)) entries) plain highlighted
-  pub drawn : AreLineRows frame margin.term_width closes text dropped open_bars entries highlighted rows
+  pub highlights : IsHighlighted layout.code dropped (filter (λ e. not (is_end_part e.annotation_type)) entries) plain highlighted
+  pub drawn : AreLineRows layout margin.term_width closes text dropped open_bars entries highlighted rows
 
 -- a row of a snippet's lines, with the rows after it, where these bars are open above it: the rows of a line; or the one in place of
 -- lines that are left out, with the bars that run past these, and no row that belongs to it below. A row below a line is one of that
 -- line's
 abbrev pub IsRowDrawn : Renderer → Layout → Bool → Snippet Annotation → List Bar → RowName → List Cell → List NamedRow → Type 0
-IsRowDrawn r frame closes s open_bars (SourceRow k) row rows =
-    IsLineDrawn r frame (closes && length (rows_below rows) == length rows) s open_bars k (row ∷ rows_below rows)
-IsRowDrawn r frame closes s open_bars Elision row rows =
-    (row ≡ gap_row frame open_bars) × (rows_below rows ≡ [])
-IsRowDrawn r frame closes s open_bars (OfferedLine j) row rows = Unit {0}
-IsRowDrawn r frame closes s open_bars (RemovedLine i) row rows = Unit {0}
-IsRowDrawn r frame closes s open_bars Other row rows = Unit {0}
+IsRowDrawn r layout closes s open_bars (SourceRow k) row rows =
+    IsLineDrawn r layout (closes && length (rows_below rows) == length rows) s open_bars k (row ∷ rows_below rows)
+IsRowDrawn r layout closes s open_bars Elision row rows =
+    (row ≡ gap_row layout open_bars) × (rows_below rows ≡ [])
+IsRowDrawn r layout closes s open_bars (OfferedLine j) row rows = Unit {0}
+IsRowDrawn r layout closes s open_bars (RemovedLine i) row rows = Unit {0}
+IsRowDrawn r layout closes s open_bars Other row rows = Unit {0}
 
 -- each row is, where these bars are open above the first
 abbrev pub AreRowsDrawn : Renderer → Layout → Bool → Snippet Annotation → List Bar → List NamedRow → Type 0
-AreRowsDrawn r frame closes s open_bars [] = Unit {0}
-AreRowsDrawn r frame closes s open_bars (row ∷ rows) =
-    IsRowDrawn r frame closes s open_bars row.name row.cells rows × AreRowsDrawn r frame closes s (open_after s row.name open_bars) rows
+AreRowsDrawn r layout closes s open_bars [] = Unit {0}
+AreRowsDrawn r layout closes s open_bars (row ∷ rows) =
+    IsRowDrawn r layout closes s open_bars row.name row.cells rows × AreRowsDrawn r layout closes s (open_after s row.name open_bars) rows

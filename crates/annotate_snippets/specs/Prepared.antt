@@ -1,5 +1,5 @@
 -- What is known of a report before any row is drawn.
-use Rattle.std.specs.Prelude.{◌≡◌, ℕ, ◌+◌, ◌<◌, ◌^◌, All, length, map, List, Option, Some}
+use Rattle.std.specs.Prelude.{◌≡◌, ℕ, ◌+◌, All, length, map, List, Option, Some}
 use Rattle.std.specs.Cow.{cow_str_bytes}
 use Rattle.std.specs.List.{slice_get}
 use Rattle.std.specs.Str.{IsUtf8}
@@ -21,11 +21,13 @@ use Rattle.annotate_snippets.specs.declared.renderer.element_context.GroupPositi
 use Rattle.annotate_snippets.specs.declared.renderer.element_context.ElementContext.{ElementContext}
 use Rattle.annotate_snippets.specs.Around.{drawn_elements, context_at}
 use Rattle.annotate_snippets.specs.Gutter.{numbered_source}
+use Rattle.snippet_text.specs.Bounds.{TextFits}
+use Rattle.snippet_style.specs.Bounds.{IsCount, IsUsize}
 
 -- what drawing a snippet asks of it: that its texts and its line numbers fit, and that each of its spans is one
 pub record IsDrawable (s : Snippet Annotation) : Type 0 where
-  pub source : length (cow_str_bytes s.source) < 2 ^ 56
-  pub numbers : s.line_start + length (source_lines (cow_str_bytes s.source)) < 2 ^ 64
+  pub source : TextFits (cow_str_bytes s.source)
+  pub numbers : IsUsize (s.line_start + length (source_lines (cow_str_bytes s.source)))
   pub spans : All (λ a. IsSpan (cow_str_bytes s.source) a.span.start a.span.end) s.markers.items
   pub labels : All AnnotationFits s.markers.items
 
@@ -54,7 +56,7 @@ element_of (Padding padding) = element.Padding padding.now
 pub record IsCausePrepared (c : PreparedCause) : Type 0 where
   pub drawable : IsDrawable c.snippet.now
   pub utf8 : IsUtf8 (cow_str_bytes c.snippet.now.source)
-  pub few : length c.snippet.now.markers.items < 2 ^ 63
+  pub few : IsCount (length c.snippet.now.markers.items)
   pub map_is : c.map ≡ numbered_source c.snippet.now
   pub kept_are : map seen_kept c.kept.items ≡ annotated_lines c.snippet.now.fold (numbered_source c.snippet.now) c.snippet.now.markers.items
   pub depth_is : c.depth ≡ deepest (numbered_source c.snippet.now) c.snippet.now.markers.items

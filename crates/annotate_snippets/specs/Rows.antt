@@ -37,42 +37,42 @@ use Rattle.annotate_snippets.specs.declared.renderer.element_context.GroupPositi
 use Rattle.annotate_snippets.specs.declared.renderer.element_context.Next.{Next}
 use Rattle.annotate_snippets.specs.declared.renderer.element_context.ElementContext.{ElementContext}
 
--- the rows that set off and close, where they stand in this frame
+-- the rows that set off and close, where they stand in this layout
 abbrev pub separator_rows : Renderer → Layout → List (List Cell)
-separator_rows r frame = separator_row frame.decor frame.gutter ∷ []
+separator_rows r layout = separator_row layout.decor layout.gutter ∷ []
 
 -- the row that closes, alone
 abbrev pub closing_rows : Renderer → Layout → List (List Cell)
-closing_rows r frame = closing_row frame.decor frame.gutter ∷ []
+closing_rows r layout = closing_row layout.decor layout.gutter ∷ []
 
 -- what stands below a title: a separator row before a message; and a closing row where nothing follows in the first of several
 -- groups, but not below a trusted title
 abbrev pub rows_after_title : Renderer → Layout → GroupPosition → Next → Bool → List (List Cell)
-rows_after_title r frame place next trusted =
-    if is_before_message next then separator_rows r frame
-    else (if is_end next && is_first_of_several place && not trusted then closing_rows r frame else [])
+rows_after_title r layout place next trusted =
+    if is_before_message next then separator_rows r layout
+    else (if is_end next && is_first_of_several place && not trusted then closing_rows r layout else [])
 
 -- what stands below the lines of an annotated snippet: in the first group a separator row before a message, and a closing row
 -- where nothing follows in the first of several groups
 abbrev pub rows_after_cause : Renderer → Layout → ElementContext → List (List Cell)
-rows_after_cause r frame around =
-    if is_first_group around.place && is_before_message around.next then separator_rows r frame
-    else (if closes_after around then closing_rows r frame else [])
+rows_after_cause r layout around =
+    if is_first_group around.place && is_before_message around.next then separator_rows r layout
+    else (if closes_after around then closing_rows r layout else [])
 
 -- where a message stands, and its rows
 abbrev pub message_style : Renderer → Layout → ElementContext → TitleStyle
-message_style r frame around =
-    style.Message (record { frame = frame; followed = not (is_end around.next) })
+message_style r layout around =
+    style.Message (record { layout = layout; followed = not (is_end around.next) })
 
 -- the rows of a message
 abbrev pub message_rows : Renderer → Layout → ElementContext → Message → List (List Cell)
-message_rows r frame around message =
-    heading_rows r.hyperlink (message_style r frame around) (heading_of_message message)
+message_rows r layout around message =
+    heading_rows r.hyperlink (message_style r layout around) (heading_of_message message)
 
 -- where the rows of paths stand
 abbrev pub origin_layout : Renderer → Layout → OriginLayout
-origin_layout r frame =
-    record { frame = frame; anonymized = r.anonymized_origin_line_numbers }
+origin_layout r layout =
+    record { base = layout; anonymized = r.anonymized_origin_line_numbers }
 
 -- what leads to the path of an origin: whether it is all that the group shows, or of the group's first element, or a later one,
 -- or of another file than the primary one
@@ -86,8 +86,8 @@ place_given origin = record { line = origin.line; column = origin.char_column }
 
 -- its rows: that of its path, and a closing row where nothing follows in the first of several groups
 abbrev pub origin_rows : Renderer → Layout → ElementContext → Origin → List (List Cell)
-origin_rows r frame around origin =
-    origin_row (origin_layout r frame) (origin_start around) (cow_str_bytes origin.path) (place_given origin) ∷ (if closes_after around then closing_rows r frame else [])
+origin_rows r layout around origin =
+    origin_row (origin_layout r layout) (origin_start around) (cow_str_bytes origin.path) (place_given origin) ∷ (if closes_after around then closing_rows r layout else [])
 
 -- a place that is found in a source
 abbrev pub place_found : Option Location → OriginLocation
@@ -100,8 +100,8 @@ place_named primary lines = place_found (if primary then primary_place lines els
 
 -- what an annotated snippet begins with
 abbrev pub cause_head : Renderer → Layout → ElementContext → Snippet Annotation → List (List Cell)
-cause_head r frame around s =
-    snippet_head (origin_layout r frame) around.primary around.first (path_bytes s.path) (place_named around.primary (annotated_lines s.fold (numbered_source s) s.markers.items))
+cause_head r layout around s =
+    snippet_head (origin_layout r layout) around.primary around.first (path_bytes s.path) (place_named around.primary (annotated_lines s.fold (numbered_source s) s.markers.items))
 
 -- the place at which the first patch of a snippet starts, trimmed as it is
 abbrev pub patch_place : Snippet Patch → OriginLocation
@@ -111,28 +111,28 @@ patch_place s =
 
 -- the row of a suggestion's path
 abbrev pub path_row : Renderer → Layout → Bool → Snippet Patch → Option (List ℕ) → List (List Cell)
-path_row r frame first s None = []
-path_row r frame first s (Some path) =
-    origin_row (origin_layout r frame) (primary_start first) path (patch_place s) ∷ []
+path_row r layout first s None = []
+path_row r layout first s (Some path) =
+    origin_row (origin_layout r layout) (primary_start first) path (patch_place s) ∷ []
 
 -- what a suggestion begins with that names its path: the row of the path. In the separator row below it its lines may begin, so
 -- that one is the first of its own rows
 abbrev pub suggestion_head_at : SuggestionStart → Renderer → Layout → Bool → Snippet Patch → List (List Cell)
-suggestion_head_at start.Opening r frame first s = []
-suggestion_head_at start.Next r frame first s = []
-suggestion_head_at start.Path r frame first s = path_row r frame first s (path_bytes s.path)
+suggestion_head_at start.Opening r layout first s = []
+suggestion_head_at start.Next r layout first s = []
+suggestion_head_at start.Path r layout first s = path_row r layout first s (path_bytes s.path)
 
 -- the same, by what stands around the suggestion
 abbrev pub suggestion_head : Renderer → Layout → ElementContext → Snippet Patch → List (List Cell)
-suggestion_head r frame around s = suggestion_head_at around.start r frame around.first s
+suggestion_head r layout around s = suggestion_head_at around.start r layout around.first s
 
 -- the row of its path, and the separator row below it
 abbrev pub path_head : Renderer → Layout → Bool → Snippet Patch → List (List Cell)
-path_head r frame first s =
-    flat_map (λ path. path_row r frame first s (Some path) ++ separator_rows r frame) (option_to_list (path_bytes s.path))
+path_head r layout first s =
+    flat_map (λ path. path_row r layout first s (Some path) ++ separator_rows r layout) (option_to_list (path_bytes s.path))
 
 -- the rows of a group's title, and what stands below them, given what follows; none where there is no title
 abbrev pub title_part : Renderer → Layout → GroupPosition → Next → Option Title → List (List Cell)
-title_part r frame place next None = []
-title_part r frame place next (Some title) =
-    title_rows r.hyperlink title ++ rows_after_title r frame place next title.allows_styling
+title_part r layout place next None = []
+title_part r layout place next (Some title) =
+    title_rows r.hyperlink title ++ rows_after_title r layout place next title.allows_styling

@@ -58,7 +58,7 @@ use Rattle.snippet_titles.specs.Title.{id_links}
 use Rattle.snippet_titles.specs.declared.style.TitleStyle.{TitleStyle}
 use Rattle.snippet_titles.specs.declared.style.TitleStyle.TheVariants as style
 use Rattle.annotate_snippets.specs.declared.renderer.Renderer.{Renderer}
-use Rattle.snippet_grid.specs.Layout.{Layout}
+use Rattle.snippet_grid.specs.Layout.{Layout, code_cell, inner_cell}
 use Rattle.annotate_snippets.specs.declared.renderer.element_context.GroupPosition.{GroupPosition}
 use Rattle.annotate_snippets.specs.declared.renderer.element_context.Next.{Next}
 use Rattle.annotate_snippets.specs.declared.renderer.element_context.ElementContext.{ElementContext}
@@ -67,7 +67,7 @@ use Rattle.annotate_snippets.specs.Drawn.{found_at, suggestion_layout, suggestio
 use Rattle.annotate_snippets.specs.Feeds.{HasOneLineRows, HasOneLineTexts, page_lines, text_lines}
 pub use Rattle.annotate_snippets.specs.GraphicForm.{name_of_row}
 use Rattle.annotate_snippets.specs.GraphicForm.{graphic_form}
-use Rattle.annotate_snippets.specs.Gutter.{frame_of, line_numbers, number_text, numbered_source}
+use Rattle.annotate_snippets.specs.Gutter.{layout_of_group, line_numbers, number_text, numbered_source}
 use Rattle.annotate_snippets.specs.LineRows.{AreRowsDrawn}
 use Rattle.annotate_snippets.specs.Numbers.{HasNumbersOfLines, IsTitleOfWords, IsUnnumbered}
 use Rattle.annotate_snippets.specs.Page.{RowName, SourceRow, Elision, OfferedLine, RemovedLine, Other, NamedRow, lines_named, lines_offered, lines_removed}
@@ -88,34 +88,34 @@ pub record ShowsHeading (hyperlink : Bool) (place : TitleStyle) (heading : Headi
 
 -- the rows show a group's title, if it has one: after its own rows stands what sets off a message that follows, or closes the
 -- group
-pub record ShowsTitle (r : Renderer) (frame : Layout) (place : GroupPosition) (follows : Next) (title : Title) (rows : List (List Cell)) : Type 0 where
+pub record ShowsTitle (r : Renderer) (layout : Layout) (place : GroupPosition) (follows : Next) (title : Title) (rows : List (List Cell)) : Type 0 where
   pub own : List (List Cell)
-  pub rows_are : rows ≡ own ++ rows_after_title r frame place follows title.allows_styling
+  pub rows_are : rows ≡ own ++ rows_after_title r layout place follows title.allows_styling
   pub shows : ShowsHeading r.hyperlink style.Title (heading_of_title title) own
 
 -- the same, where there may be no title: then there are no rows
 abbrev pub ShowsTitlePart : Renderer → Layout → GroupPosition → Next → Option Title → List (List Cell) → Type 0
-ShowsTitlePart r frame place follows None rows = rows ≡ []
-ShowsTitlePart r frame place follows (Some title) rows = ShowsTitle r frame place follows title rows
+ShowsTitlePart r layout place follows None rows = rows ≡ []
+ShowsTitlePart r layout place follows (Some title) rows = ShowsTitle r layout place follows title rows
 
 -- the rows show a message
-pub record ShowsMessage (r : Renderer) (frame : Layout) (around : ElementContext) (m : message.Message) (rows : List NamedRow) : Type 0 where
+pub record ShowsMessage (r : Renderer) (layout : Layout) (around : ElementContext) (m : message.Message) (rows : List NamedRow) : Type 0 where
   pub named : rows ≡ others (cells_of rows)
-  pub shows : ShowsHeading r.hyperlink (message_style r frame around) (heading_of_message m) (cells_of rows)
+  pub shows : ShowsHeading r.hyperlink (message_style r layout around) (heading_of_message m) (cells_of rows)
 
 -- the rows show an origin: they are its rows, cell by cell; so the first of them holds, four cells after the gutter, its path,
 -- normalised, and the place that it gives
-pub record ShowsOrigin (r : Renderer) (frame : Layout) (around : ElementContext) (o : origin.Origin) (rows : List NamedRow) : Type 0 where
-  pub rows_are : rows ≡ others (origin_rows r frame around o)
-  pub text : row_text (drop (frame.gutter + 4) (row_at (cells_of rows) 0)) ≡ origin_text r.anonymized_origin_line_numbers (cow_str_bytes o.path) (place_given o)
+pub record ShowsOrigin (r : Renderer) (layout : Layout) (around : ElementContext) (o : origin.Origin) (rows : List NamedRow) : Type 0 where
+  pub rows_are : rows ≡ others (origin_rows r layout around o)
+  pub text : row_text (drop (layout.gutter + 4) (row_at (cells_of rows) 0)) ≡ origin_text r.anonymized_origin_line_numbers (cow_str_bytes o.path) (place_given o)
 
 -- the columns that code has
 abbrev pub room_of : Renderer → Layout → ℕ
-room_of r frame = r.term_width - frame.code
+room_of r layout = r.term_width - layout.code
 
 -- the bounds between which a snippet's lines are shown: those for the lines that are kept, and for its spans
 abbrev pub bounds_in : Renderer → Layout → Snippet Annotation → Bounds
-bounds_in r frame s = margin_of (room_of r frame) s.fold (numbered_source s) s.markers.items
+bounds_in r layout s = margin_of (room_of r layout) s.fold (numbered_source s) s.markers.items
 
 -- how many spans that are marked below line k are wide
 abbrev pub wide_spans : ℕ → ℕ → Snippet Annotation → ℕ → ℕ
@@ -129,12 +129,12 @@ shown_label a = normalized_chars (option_map cow_str_bytes a.label)
 -- the cell of a column of the code, where so many columns are dropped from the line. No column that is marked is dropped, and
 -- the clauses below speak of columns that aren't: so the difference never stops at 0
 abbrev pub cell_of : Layout → ℕ → ℕ → ℕ
-cell_of frame dropped p = frame.code + p - dropped
+cell_of layout dropped p = code_cell layout p - dropped
 
 -- after the separator and the space after it, the cells of a row left of the code hold nothing but bars and their corners
 abbrev pub HasBarsAlone : DecorStyle → Layout → List Cell → Type 0
-HasBarsAlone decor frame row =
-    (c : ℕ) → frame.gutter + 3 ≤ c → c < frame.code → IsBarCell decor (slice_index_or row c SPACE)
+HasBarsAlone decor layout row =
+    (c : ℕ) → inner_cell layout ≤ c → c < layout.code → IsBarCell decor (slice_index_or row c SPACE)
 
 -- what stands left of the bars beside a line: what the gutter shows there, spaces up to the separator, and the separator
 abbrev pub cells_left : DecorStyle → ℕ → List ℕ → List Cell
@@ -145,31 +145,31 @@ cells_left decor gutter shown =
 -- the number is what is read, and no cell there is in the role of marks but a bar's. From the code's cell to its end stands the window
 -- of the line's normalised text between the snippet's bounds, left of which so many columns are dropped; where the line stands
 -- whole, all of it
-pub record ShowsSourceLine (r : Renderer) (frame : Layout) (s : Snippet Annotation) (k dropped : ℕ) (row : List Cell) : Type 0 where
+pub record ShowsSourceLine (r : Renderer) (layout : Layout) (s : Snippet Annotation) (k dropped : ℕ) (row : List Cell) : Type 0 where
   pub within : k < length (source_lines (cow_str_bytes s.source))
-  pub left : take (frame.gutter + 2) row ≡ cells_left frame.decor frame.gutter (number_text r s.line_numbering frame.gutter (s.line_start + k))
-  pub space : slice_index_or row (frame.gutter + 2) SPACE ≡ SPACE
-  pub bars : HasBarsAlone frame.decor frame row
-  pub window : IsWindowOf (placeholder_of frame.decor) (room_of r frame) (wide_spans (room_of r frame) (length (placeholder_of frame.decor)) s k) (bounds_in r frame s).left (bounds_in r frame s).right (norm (chars_at (cow_str_bytes s.source) k)) dropped (row_text (drop frame.code row))
-  pub whole : stands_whole (room_of r frame) (length (placeholder_of frame.decor)) s.fold (cow_str_bytes s.source) s.markers.items k ≡ true
-      → (dropped ≡ 0) × (row_text (drop frame.code row) ≡ norm (chars_at (cow_str_bytes s.source) k))
+  pub left : take (layout.gutter + 2) row ≡ cells_left layout.decor layout.gutter (number_text r s.line_numbering layout.gutter (s.line_start + k))
+  pub space : slice_index_or row (layout.gutter + 2) SPACE ≡ SPACE
+  pub bars : HasBarsAlone layout.decor layout row
+  pub window : IsWindowOf (placeholder_of layout.decor) (room_of r layout) (wide_spans (room_of r layout) (length (placeholder_of layout.decor)) s k) (bounds_in r layout s).left (bounds_in r layout s).right (norm (chars_at (cow_str_bytes s.source) k)) dropped (row_text (drop layout.code row))
+  pub whole : stands_whole (room_of r layout) (length (placeholder_of layout.decor)) s.fold (cow_str_bytes s.source) s.markers.items k ≡ true
+      → (dropped ≡ 0) × (row_text (drop layout.code row) ≡ norm (chars_at (cow_str_bytes s.source) k))
 
 -- the row has the marks of line k: below each column that has a mark it holds a glyph of the mark's kind, as the decor draws
 -- it, in the role of its strokes; below any other column no cell is in the role of marks, and left of all spans of the line
 -- stand spaces. Where no span on the line has a label that shows anything, every cell that is no mark is a space, from the
 -- code's cell on. Where the line has one span alone and it has such a label, the row goes on after the span's last column
 -- with a space and the label, and ends
-pub record ShowsMarksOf (decor : DecorStyle) (frame : Layout) (s : Snippet Annotation) (k dropped : ℕ) (row : List Cell) : Type 0 where
+pub record ShowsMarksOf (decor : DecorStyle) (layout : Layout) (s : Snippet Annotation) (k dropped : ℕ) (row : List Cell) : Type 0 where
   pub marks : (p : ℕ) (kind : AnnotationKind) → IsMarkOf (cow_str_bytes s.source) s.markers.items k p kind
-      → IsMarkCell decor kind (slice_index_or row (cell_of frame dropped p) SPACE)
+      → IsMarkCell decor kind (slice_index_or row (cell_of layout dropped p) SPACE)
   pub unmarked : (p : ℕ) → dropped ≤ p → All (λ a. IsMarkedAt (cow_str_bytes s.source) k p a → ⊥) s.markers.items
-      → has_mark_role (slice_index_or row (cell_of frame dropped p) SPACE) ≡ false
+      → has_mark_role (slice_index_or row (cell_of layout dropped p) SPACE) ≡ false
   pub before : (p : ℕ) → dropped ≤ p → All (λ a. is_marked_on (cow_str_bytes s.source) k a ≡ true → p < start_column (cow_str_bytes s.source) a) s.markers.items
-      → slice_index_or row (cell_of frame dropped p) SPACE ≡ SPACE
+      → slice_index_or row (cell_of layout dropped p) SPACE ≡ SPACE
   pub spaces : All (λ a. is_marked_on (cow_str_bytes s.source) k a ≡ true → shown_label a ≡ []) s.markers.items → (p : ℕ) → dropped ≤ p
-      → All (λ a. IsMarkedAt (cow_str_bytes s.source) k p a → ⊥) s.markers.items → slice_index_or row (cell_of frame dropped p) SPACE ≡ SPACE
+      → All (λ a. IsMarkedAt (cow_str_bytes s.source) k p a → ⊥) s.markers.items → slice_index_or row (cell_of layout dropped p) SPACE ≡ SPACE
   pub lone : (a : Annotation) → filter (is_marked_on (cow_str_bytes s.source) k) s.markers.items ≡ a ∷ [] → 0 < length (shown_label a)
-      → row_text (drop (cell_of frame dropped (end_column (cow_str_bytes s.source) a)) row) ≡ 32 ∷ shown_label a
+      → row_text (drop (cell_of layout dropped (end_column (cow_str_bytes s.source) a)) row) ≡ 32 ∷ shown_label a
 
 -- a label as it is to be drawn: its characters, the kind whose role it has, and the columns at which its mark begins and ends
 pub record SpanLabel : Type 0 where
@@ -212,9 +212,9 @@ is_in_label r c l = l.row == r && (nat_le l.cell c && nat_lt c (l.cell + length 
 
 -- a label stands whole in the rows below its line, in the role of labels of its kind: in the first of them, that of the marks, one
 -- cell after its mark, which takes a column even where it ends at column 0; or in a lower one, below the mark's first column
-pub record ShowsLabel (frame : Layout) (dropped : ℕ) (rows : List (List Cell)) (l : ShownLabel) : Type 0 where
+pub record ShowsLabel (layout : Layout) (dropped : ℕ) (rows : List (List Cell)) (l : ShownLabel) : Type 0 where
   pub whole : (n : ℕ) → n < length l.label.text → cell_at rows l.row (l.cell + n) ≡ unlinked_cell (label_role l.label.kind) (slice_index_or l.label.text n 0)
-  pub place : ((l.row ≡ 0) × (l.cell ≡ frame.code + max (l.label.to - dropped) 1 + 1)) ⊎ ((0 < l.row) × (l.cell ≡ cell_of frame dropped l.label.from))
+  pub place : ((l.row ≡ 0) × (l.cell ≡ code_cell layout (max (l.label.to - dropped) 1) + 1)) ⊎ ((0 < l.row) × (l.cell ≡ cell_of layout dropped l.label.from))
 
 -- a stem leads from its mark down to a label that hangs below it: one stands in each row between, in the label's first cell, but where
 -- that cell is one of these labels'
@@ -225,55 +225,55 @@ HasStem decor labels rows l =
 -- no label of line k is lost: of the spans that end on it, each that has a label to show has it in the rows below the line, whole, and
 -- a stem leads to it; no cell belongs to two labels, so that two of the same words stand twice; and each cell of these rows that belongs
 -- to none, from the code's on, is a space or the glyph of a stroke, so that no other word stands there
-pub record ShowsLabels (decor : DecorStyle) (frame : Layout) (s : Snippet Annotation) (k dropped : ℕ) (rows : List (List Cell)) : Type 0 where
+pub record ShowsLabels (decor : DecorStyle) (layout : Layout) (s : Snippet Annotation) (k dropped : ℕ) (rows : List (List Cell)) : Type 0 where
   pub labels : List ShownLabel
   pub spans : map (λ (l : ShownLabel). l.label) labels ≡ labels_ending_on s k
-  pub stand : All (λ l. 0 < length l.label.text → ShowsLabel frame dropped rows l) labels
+  pub stand : All (λ l. 0 < length l.label.text → ShowsLabel layout dropped rows l) labels
   pub led : All (λ l. 0 < length l.label.text → HasStem decor labels rows l) labels
   pub apart : (r c : ℕ) → count_by (is_in_label r c) labels ≤ 1
-  pub others : (r c : ℕ) → frame.code ≤ c → count_by (is_in_label r c) labels ≡ 0 → IsStrokeCell decor (cell_at rows r c)
+  pub others : (r c : ℕ) → layout.code ≤ c → count_by (is_in_label r c) labels ≡ 0 → IsStrokeCell decor (cell_at rows r c)
 
 -- a source row of line k, with the row right below it, and all rows that belong to it: it shows the line, and where the line
 -- qualifies for the promise on marks the row below has its marks. Where no span is cut for being wide, no label is lost
-pub record ShowsLineAndMarks (r : Renderer) (frame : Layout) (s : Snippet Annotation) (k : ℕ) (row below : List Cell) (rows : List (List Cell)) : Type 0 where
+pub record ShowsLineAndMarks (r : Renderer) (layout : Layout) (s : Snippet Annotation) (k : ℕ) (row below : List Cell) (rows : List (List Cell)) : Type 0 where
   pub dropped : ℕ
-  pub line : ShowsSourceLine r frame s k dropped row
-  pub marks : qualifies_for_marks (room_of r frame) (length (placeholder_of frame.decor)) (cow_str_bytes s.source) s.markers.items k ≡ true
-      → ShowsMarksOf frame.decor frame s k dropped below
-  pub labels : wide_spans (room_of r frame) (length (placeholder_of frame.decor)) s k ≡ 0 → ShowsLabels frame.decor frame s k dropped rows
+  pub line : ShowsSourceLine r layout s k dropped row
+  pub marks : qualifies_for_marks (room_of r layout) (length (placeholder_of layout.decor)) (cow_str_bytes s.source) s.markers.items k ≡ true
+      → ShowsMarksOf layout.decor layout s k dropped below
+  pub labels : wide_spans (room_of r layout) (length (placeholder_of layout.decor)) s k ≡ 0 → ShowsLabels layout.decor layout s k dropped rows
 
 -- a row below that of a line: up to the bars it has just the cells of a separator row, or where the group's window closes with it
 -- those of a closing row, so that it can't be taken for the row of a line; and between these and the code nothing but bars
-pub record IsRowBelow (decor : DecorStyle) (frame : Layout) (closes : Bool) (row : List Cell) : Type 0 where
-  pub left : (c : ℕ) → c < frame.gutter + 3 → slice_index_or row c SPACE ≡ slice_index_or (bare_row decor frame.gutter closes) c SPACE
-  pub bars : HasBarsAlone decor frame row
+pub record IsRowBelow (decor : DecorStyle) (layout : Layout) (closes : Bool) (row : List Cell) : Type 0 where
+  pub left : (c : ℕ) → c < inner_cell layout → slice_index_or row c SPACE ≡ slice_index_or (bare_row decor layout.gutter closes) c SPACE
+  pub bars : HasBarsAlone decor layout row
 
 -- a row in place of lines that are left out: up to the bars it has just the cells of what stands for such lines, so that it can't
 -- be taken for the row of a line; bars that run past them, and nothing more
-pub record IsElided (decor : DecorStyle) (frame : Layout) (row : List Cell) : Type 0 where
-  pub is : IsElisionRow (record { gutter = frame.gutter; code = frame.code; decor = decor }) row
+pub record IsElided (decor : DecorStyle) (layout : Layout) (row : List Cell) : Type 0 where
+  pub is : IsElisionRow (record { gutter = layout.gutter; code = layout.code; decor = decor }) row
 
 -- a row of an annotated snippet's lines, with the rows below it, is what its name says; the group's window may close with the
 -- last one
 abbrev pub IsRowOf : Renderer → Layout → Bool → Snippet Annotation → RowName → List Cell → List NamedRow → Type 0
-IsRowOf r frame closes s (SourceRow k) row rows = ShowsLineAndMarks r frame s k row (cells_below rows) (rows_below rows)
-IsRowOf r frame closes s Elision row rows = IsElided frame.decor frame row
-IsRowOf r frame closes s (OfferedLine j) row rows = ⊥
-IsRowOf r frame closes s (RemovedLine i) row rows = ⊥
-IsRowOf r frame closes s Other row rows = IsRowBelow frame.decor frame (closes && length rows == 0) row
+IsRowOf r layout closes s (SourceRow k) row rows = ShowsLineAndMarks r layout s k row (cells_below rows) (rows_below rows)
+IsRowOf r layout closes s Elision row rows = IsElided layout.decor layout row
+IsRowOf r layout closes s (OfferedLine j) row rows = ⊥
+IsRowOf r layout closes s (RemovedLine i) row rows = ⊥
+IsRowOf r layout closes s Other row rows = IsRowBelow layout.decor layout (closes && length rows == 0) row
 
 -- each row is what its name says
 abbrev pub AreRowsOf : Renderer → Layout → Bool → Snippet Annotation → List NamedRow → Type 0
-AreRowsOf r frame closes s [] = Unit {0}
-AreRowsOf r frame closes s (row ∷ rows) =
-    IsRowOf r frame closes s row.name row.cells rows × AreRowsOf r frame closes s rows
+AreRowsOf r layout closes s [] = Unit {0}
+AreRowsOf r layout closes s (row ∷ rows) =
+    IsRowOf r layout closes s row.name row.cells rows × AreRowsOf r layout closes s rows
 
 -- a row names the place of a snippet's spans after its path: the first line on which a span of the kind that names it starts,
 -- and the least column there, counted in characters from 1
-pub record NamesLocation (r : Renderer) (frame : Layout) (s : Snippet Annotation) (path : List ℕ) (row : List Cell) : Type 0 where
+pub record NamesLocation (r : Renderer) (layout : Layout) (s : Snippet Annotation) (path : List ℕ) (row : List Cell) : Type 0 where
   pub place : Location
   pub is : IsLocation (numbered_source s) s.markers.items place
-  pub text : row_text (drop (frame.gutter + 4) row) ≡ origin_text r.anonymized_origin_line_numbers path (place_found (Some place))
+  pub text : row_text (drop (layout.gutter + 4) row) ≡ origin_text r.anonymized_origin_line_numbers path (place_found (Some place))
 
 -- the rows show an annotated snippet: after the rows that it begins with stand the source rows of the lines that are shown,
 -- each once and in order, those that are kept and each single line between two of them, with a row between where lines are
@@ -283,19 +283,19 @@ pub record NamesLocation (r : Renderer) (frame : Layout) (s : Snippet Annotation
 -- All rows of a line are what its entries, and the bars that are open above it, make of the row that holds the line alone; and no other
 -- row stands there, neither above the first line nor below a row in place of lines. So beside each row between the first and the last
 -- line of a span of several lines stands its bar
-pub record ShowsSnippet (r : Renderer) (frame : Layout) (around : ElementContext) (s : Snippet Annotation) (rows : List NamedRow) : Type 0 where
+pub record ShowsSnippet (r : Renderer) (layout : Layout) (around : ElementContext) (s : Snippet Annotation) (rows : List NamedRow) : Type 0 where
   pub after : List NamedRow
-  pub rows_are : rows ≡ others (cause_head r frame around s) ++ (after ++ others (rows_after_cause r frame around))
+  pub rows_are : rows ≡ others (cause_head r layout around s) ++ (after ++ others (rows_after_cause r layout around))
   pub origin : around.primary ≡ true → (path : List ℕ) → path_bytes s.path ≡ Some path → list_any (λ a. is_marking a.kind) s.markers.items ≡ true
-      → All (λ a. is_long (cow_str_bytes s.source) a ≡ false) s.markers.items → NamesLocation r frame s path (row_at (cells_of rows) 0)
+      → All (λ a. is_long (cow_str_bytes s.source) a ≡ false) s.markers.items → NamesLocation r layout s path (row_at (cells_of rows) 0)
   pub lines : lines_named after ≡ shown_lines s.fold (cow_str_bytes s.source) s.markers.items
   pub elided : names_in after ≡ names_of_lines (shown_lines s.fold (cow_str_bytes s.source) s.markers.items)
   pub ends : All (λ a. Contains (lines_named after) (first_line (cow_str_bytes s.source) a) × Contains (lines_named after) (last_line (cow_str_bytes s.source) a)) s.markers.items
   pub ordered : IsAscending (lines_named after)
-  pub named : AreRowsOf r frame (closes_with around) s after
-  pub drawn : AreRowsDrawn r frame (closes_with around) s [] after
+  pub named : AreRowsOf r layout (closes_with around) s after
+  pub drawn : AreRowsDrawn r layout (closes_with around) s [] after
   pub begins : rows_below after ≡ []
-  pub bars : ShowsBars r frame s after
+  pub bars : ShowsBars r layout s after
 
 -- the row offers line j of the patched source: its number in the gutter, a separator, `+` or the glyph of a changed line after
 -- it and no other letter or digit between them and the line; and three cells after the gutter, to the row's end, the
@@ -338,28 +338,28 @@ HasStrokes decor gutter (Ends follows) row = HasLeft gutter (beside_gutter gutte
 -- in order, above the line in their place, where one stands there; and each row is what its name says. Each line
 -- that a patch touches is offered, if it isn't blank; but not where the spliced text has one line, and that is the last source line
 -- that is reached. Where the suggestion begins in the row in which the one before it ends, that row holds what is found there
-pub record ShowsSuggestion (r : Renderer) (frame : Layout) (around : ElementContext) (found : List Cell) (s : Snippet Patch) (rows : List NamedRow) : Type 0 where
+pub record ShowsSuggestion (r : Renderer) (layout : Layout) (around : ElementContext) (found : List Cell) (s : Snippet Patch) (rows : List NamedRow) : Type 0 where
   pub after : List NamedRow
-  pub rows_are : rows ≡ others (suggestion_head r frame around s) ++ after
+  pub rows_are : rows ≡ others (suggestion_head r layout around s) ++ after
   pub offered : IsOfferable s → (j : ℕ) → IsTouched (cow_str_bytes s.source) (edits_of s) j
       → is_blank (text_at (source_lines (patched (cow_str_bytes s.source) (edits_of s))) j) ≡ false → IsAsItWas s ⊎ Contains (lines_offered after) j
   pub order : map (λ row. row.name) after ≡ map (name_of_row s) (suggestion_rows around s)
-  pub cells : cells_of after ≡ suggestion_lines r frame around found s
-  pub signs : AllZip (HasSign (suggestion_layout r frame s) s) (suggestion_rows around s) (cells_of after)
-  pub strokes : AllZip (HasStrokes frame.decor frame.gutter) (suggestion_rows around s) (cells_of after)
+  pub cells : cells_of after ≡ suggestion_lines r layout around found s
+  pub signs : AllZip (HasSign (suggestion_layout r layout s) s) (suggestion_rows around s) (cells_of after)
+  pub strokes : AllZip (HasStrokes layout.decor layout.gutter) (suggestion_rows around s) (cells_of after)
   pub ordered : IsAscending (lines_offered after)
   pub lines : lines_offered after ≡ offered_lines s
   pub removed : lines_removed after ≡ removed_lines s
-  pub named : All (λ row. IsSuggestionRow r frame.decor frame.gutter s row.name row.cells) after
+  pub named : All (λ row. IsSuggestionRow r layout.decor layout.gutter s row.name row.cells) after
 
 -- the rows show an element, where this stands in the row in which the one before it ends
 abbrev pub ShowsElement : Renderer → Layout → ElementContext → List Cell → Element → List NamedRow → Type 0
-ShowsElement r frame around found (element.Message message) rows = ShowsMessage r frame around message rows
-ShowsElement r frame around found (element.Cause snippet) rows = ShowsSnippet r frame around snippet rows
-ShowsElement r frame around found (element.Suggestion snippet) rows = ShowsSuggestion r frame around found snippet rows
-ShowsElement r frame around found (element.Origin origin) rows = ShowsOrigin r frame around origin rows
-ShowsElement r frame around found (element.Padding padding) rows =
-    rows ≡ others (padding_row frame.decor frame.gutter (is_end around.next) ∷ [])
+ShowsElement r layout around found (element.Message message) rows = ShowsMessage r layout around message rows
+ShowsElement r layout around found (element.Cause snippet) rows = ShowsSnippet r layout around snippet rows
+ShowsElement r layout around found (element.Suggestion snippet) rows = ShowsSuggestion r layout around found snippet rows
+ShowsElement r layout around found (element.Origin origin) rows = ShowsOrigin r layout around origin rows
+ShowsElement r layout around found (element.Padding padding) rows =
+    rows ≡ others (padding_row layout.decor layout.gutter (is_end around.next) ∷ [])
 
 -- a row of an element that isn't a message holds no listed character, and no link; for a message see ShowsHeading
 abbrev pub IsFreeElement : Element → List NamedRow → Type 0
@@ -370,23 +370,23 @@ IsFreeElement (element.Origin origin) rows = All (λ row. IsFree row.cells) rows
 IsFreeElement (element.Padding padding) rows = All (λ row. IsFree row.cells) rows
 
 -- the parts of a group's page show these elements, which are all that are drawn, one by one, in order
-pub record AreElementsShown (r : Renderer) (frame : Layout) (place : GroupPosition) (file : Option (List ℕ)) (es : List Element) (parts : List (List NamedRow)) : Type 0 where
+pub record AreElementsShown (r : Renderer) (layout : Layout) (place : GroupPosition) (file : Option (List ℕ)) (es : List Element) (parts : List (List NamedRow)) : Type 0 where
   pub count : length parts ≡ length es
   pub each : (i : ℕ) (e : Element) → slice_get es i ≡ Some e
-      → ShowsElement r frame (context_at place file es i e) (found_at r frame es i) e (slice_index_or parts i [])
+      → ShowsElement r layout (context_at place file es i e) (found_at r layout es i) e (slice_index_or parts i [])
   pub free : (i : ℕ) (e : Element) → slice_get es i ≡ Some e → IsFreeElement e (slice_index_or parts i [])
 
 -- the rows show a group: its title, and each element that is drawn, in order. Where a suggestion begins in the row with which
 -- the one above it ends, this is its row
-pub record ShowsGroup (r : Renderer) (frame : Layout) (place : GroupPosition) (file : Option (List ℕ)) (g : Group) (page : GroupPage) : Type 0 where
-  pub title : ShowsTitlePart r frame place (next_of (drawn_elements g)) g.title page.title
-  pub elements : AreElementsShown r frame place file (drawn_elements g) page.elements
+pub record ShowsGroup (r : Renderer) (layout : Layout) (place : GroupPosition) (file : Option (List ℕ)) (g : Group) (page : GroupPage) : Type 0 where
+  pub title : ShowsTitlePart r layout place (next_of (drawn_elements g)) g.title page.title
+  pub elements : AreElementsShown r layout place file (drawn_elements g) page.elements
 
--- a page shows each group of a report, in order, in the frame that the report gives it
+-- a page shows each group of a report, in order, in the layout that the report gives it
 pub record AreGroupsShown (r : Renderer) (groups : List Group) (page : Page) : Type 0 where
   pub count : length page ≡ length groups
   pub each : (i : ℕ) (g : Group) (part : GroupPage) → slice_get groups i ≡ Some g → slice_get page i ≡ Some part
-      → ShowsGroup r (frame_of r groups g) (place_at (length groups) i) (file_of_group groups g) g part
+      → ShowsGroup r (layout_of_group r groups g) (place_at (length groups) i) (file_of_group groups g) g part
 
 -- each listed character is one of a trusted text
 abbrev pub IsFreeBut : List (List ℕ) → List ℕ → Type 0
@@ -418,7 +418,7 @@ pub record SheetsShown (r : Renderer) (groups : List Group) (sheets : List Style
   pub one_line : HasOneLineTexts groups → All HasOneLineRows page
   pub lines : HasOneLineTexts groups → text_lines (page_text page) ≡ page_lines page
   pub numbers : (i : ℕ) (g : Group) (part : GroupPage) → slice_get groups i ≡ Some g → slice_get page i ≡ Some part
-      → HasNumbersOfLines (frame_of r groups g).gutter part
+      → HasNumbersOfLines (layout_of_group r groups g).gutter part
   pub titles : (i : ℕ) (g : Group) (part : GroupPage) (title : Title) → slice_get groups i ≡ Some g → slice_get page i ≡ Some part → g.title ≡ Some title
-      → IsTitleOfWords (frame_of r groups g).gutter title → All (IsUnnumbered (frame_of r groups g).gutter) part.title
+      → IsTitleOfWords (layout_of_group r groups g).gutter title → All (IsUnnumbered (layout_of_group r groups g).gutter) part.title
   pub plain : report_links r groups ≡ [] → AllZip (λ sheet text. is_plain_sheet sheet ≡ true → text ≡ encode_utf8_all (page_text page)) sheets texts

@@ -6,7 +6,7 @@ use Rattle.snippet_model.specs.AnnotationKind.{is_primary}
 use Rattle.snippet_model.specs.declared.snippet.Annotation.{Annotation}
 use Rattle.snippet_model.specs.declared.snippet.Snippet.{Snippet}
 use Rattle.snippet_style.specs.Cell.{Cell, SPACE}
-use Rattle.snippet_grid.specs.Layout.{Layout}
+use Rattle.snippet_grid.specs.Layout.{Layout, bar_cell, inner_cell}
 use Rattle.snippet_view.specs.Annotated.{depth_of, is_long}
 use Rattle.snippet_view.specs.Mark.{touches}
 use Rattle.snippet_view.specs.Marked.{first_line, last_line}
@@ -28,7 +28,7 @@ bar_of_span s a =
 
 -- the cell of a row in which it stands: at depth 1 the second after the separator
 abbrev pub bar_cell_of : Layout → Snippet Annotation → Annotation → ℕ
-bar_cell_of frame s a = frame.gutter + 2 + depth_of (numbered_source s) s.markers.items a
+bar_cell_of layout s a = bar_cell layout (depth_of (numbered_source s) s.markers.items a)
 
 -- the line after that of the last source row among some rows: 0 where there is none
 abbrev pub line_after : List NamedRow → ℕ
@@ -57,31 +57,34 @@ bar_beside layout Other bar = solid_bar layout bar
 -- last of one and the first of the other, have cells of their own, unless they have the same place in the source. In a row that shows a
 -- line, or stands in place of lines, a space stands in each of those cells that no such span has which touches the line; in a row below a
 -- line a space stands there too, or a part of a line that leads from another bar to a mark
-pub record ShowsBars (r : Renderer) (frame : Layout) (s : Snippet Annotation) (rows : List NamedRow) : Type 0 where
+pub record ShowsBars (r : Renderer) (layout : Layout) (s : Snippet Annotation) (rows : List NamedRow) : Type 0 where
   pub stand : (a : Annotation) → Contains s.markers.items a → is_long (cow_str_bytes s.source) a ≡ true
       → (above : List NamedRow) (row : NamedRow) (below : List NamedRow)
       → rows ≡ above ++ row ∷ below → first_line (cow_str_bytes s.source) a < line_beside above row.name
       → line_beside above row.name < last_line (cow_str_bytes s.source) a
-      → slice_index_or row.cells (bar_cell_of frame s a) SPACE ≡ bar_beside frame row.name (bar_of_span s a)
+      → slice_index_or row.cells (bar_cell_of layout s a) SPACE ≡ bar_beside layout row.name (bar_of_span s a)
   pub begin : (a : Annotation) → Contains s.markers.items a → is_long (cow_str_bytes s.source) a ≡ true
       → (above : List NamedRow) (row : NamedRow) (below : List NamedRow)
       → rows ≡ above ++ row ∷ below → row.name ≡ SourceRow (first_line (cow_str_bytes s.source) a)
-      → BarBegins frame (bar_of_span s a) (row.cells ∷ rows_below below)
+      → BarBegins layout (bar_of_span s a) (row.cells ∷ rows_below below)
   pub end : (a : Annotation) → Contains s.markers.items a → is_long (cow_str_bytes s.source) a ≡ true
       → (above : List NamedRow) (row : NamedRow) (below : List NamedRow)
       → rows ≡ above ++ row ∷ below → row.name ≡ SourceRow (last_line (cow_str_bytes s.source) a)
-      → BarEnds frame (bar_of_span s a) (row.cells ∷ rows_below below)
+      → BarEnds layout (bar_of_span s a) (row.cells ∷ rows_below below)
   pub within : (a : Annotation) → Contains s.markers.items a → is_long (cow_str_bytes s.source) a ≡ true
-      → (frame.gutter + 3 ≤ bar_cell_of frame s a) × (bar_cell_of frame s a + 1 < frame.code)
+      → (inner_cell layout ≤ bar_cell_of layout s a) × (bar_cell_of layout s a + 1 < layout.code)
   pub apart : (a b : Annotation) → Contains s.markers.items a → Contains s.markers.items b → is_long (cow_str_bytes s.source) a ≡ true
       → is_long (cow_str_bytes s.source) b ≡ true
       → first_line (cow_str_bytes s.source) a ≤ last_line (cow_str_bytes s.source) b
-      → first_line (cow_str_bytes s.source) b ≤ last_line (cow_str_bytes s.source) a → bar_cell_of frame s a ≡ bar_cell_of frame s b
+      → first_line (cow_str_bytes s.source) b ≤ last_line (cow_str_bytes s.source) a → bar_cell_of layout s a ≡ bar_cell_of layout s b
       → (a.span.start ≡ b.span.start) × (a.span.end ≡ b.span.end)
   pub spaces : (above : List NamedRow) (row : NamedRow) (below : List NamedRow) → rows ≡ above ++ row ∷ below → shows_lines row.name ≡ true → (c : ℕ)
-      → frame.gutter + 3 ≤ c → c < frame.code
-      → All (λ a. is_long (cow_str_bytes s.source) a ≡ true → touches (cow_str_bytes s.source) a (line_beside above row.name) ≡ true → bar_cell_of frame s a ≢ c) s.markers.items
+      → inner_cell layout ≤ c → c < layout.code
+      → All (λ a. is_long (cow_str_bytes s.source) a ≡ true
+      → touches (cow_str_bytes s.source) a (line_beside above row.name) ≡ true → bar_cell_of layout s a ≢ c) s.markers.items
       → slice_index_or row.cells c SPACE ≡ SPACE
-  pub others : (above : List NamedRow) (row : NamedRow) (below : List NamedRow) → rows ≡ above ++ row ∷ below → (c : ℕ) → frame.gutter + 3 ≤ c → c < frame.code
-      → All (λ a. is_long (cow_str_bytes s.source) a ≡ true → touches (cow_str_bytes s.source) a (line_beside above row.name) ≡ true → bar_cell_of frame s a ≢ c) s.markers.items
-      → IsNoBar frame.decor (slice_index_or row.cells c SPACE)
+  pub others : (above : List NamedRow) (row : NamedRow) (below : List NamedRow) → rows ≡ above ++ row ∷ below → (c : ℕ)
+      → inner_cell layout ≤ c → c < layout.code
+      → All (λ a. is_long (cow_str_bytes s.source) a ≡ true
+      → touches (cow_str_bytes s.source) a (line_beside above row.name) ≡ true → bar_cell_of layout s a ≢ c) s.markers.items
+      → IsNoBar layout.decor (slice_index_or row.cells c SPACE)

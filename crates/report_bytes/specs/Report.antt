@@ -16,10 +16,11 @@ use Rattle.snippet_model.specs.declared.snippet.Patch.{Patch}
 use Rattle.snippet_model.specs.declared.snippet.Snippet.{Snippet}
 use Rattle.snippet_model.specs.declared.snippet.Title.{Title}
 use Rattle.report_bytes.specs.declared.request.Request.{Request}
+use Rattle.snippet_text.specs.Bounds.{TextFits}
 
 -- a text: UTF-8, and fewer than 2^56 bytes
 abbrev pub IsText : CowStr Global → Type 0
-IsText text = IsUtf8 (cow_str_bytes text) × (length (cow_str_bytes text) < 2 ^ 56)
+IsText text = IsUtf8 (cow_str_bytes text) × (TextFits (cow_str_bytes text))
 
 -- a list of fewer than 2^64 members, of each of which P holds
 abbrev pub IsListOf : {X : Type 0} → (X → Type 0) → List X → Type 0

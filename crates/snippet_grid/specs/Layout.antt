@@ -1,5 +1,5 @@
 -- Where the parts of a group's rows stand.
-use Rattle.std.specs.Prelude.{ℕ}
+use Rattle.std.specs.Prelude.{ℕ, ◌+◌}
 use Rattle.snippet_style.specs.declared.glyphs.DecorStyle.{DecorStyle}
 
 -- where the parts of a group's rows stand, in cells from 0: line numbers are right-aligned in the cells of the gutter, and the source's
@@ -8,3 +8,19 @@ pub record Layout : Type 0 where
   pub gutter : ℕ
   pub code : ℕ
   pub decor : DecorStyle
+
+-- the cell of the separator, one right of the gutter
+abbrev pub separator_cell : Layout → ℕ
+separator_cell layout = layout.gutter + 1
+
+-- the first cell right of the separator and the space after it
+abbrev pub inner_cell : Layout → ℕ
+inner_cell layout = layout.gutter + 3
+
+-- the cell of a bar of this depth: that of depth 1 is the first right of the separator and its space
+abbrev pub bar_cell : Layout → ℕ → ℕ
+bar_cell layout depth = layout.gutter + 2 + depth
+
+-- the cell of a column of the source
+abbrev pub code_cell : Layout → ℕ → ℕ
+code_cell layout column = layout.code + column

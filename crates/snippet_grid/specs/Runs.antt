@@ -1,5 +1,5 @@
 -- Runs of neighbouring cells, and the grid that they show.
-use Rattle.std.specs.Prelude.{◌≡◌, ◌≢◌, ◌<◌, ◌≤◌, ◌+◌, ◌-◌, ◌^◌, ℕ, nat_lt, nat_le, nat_eq, Bool, true, ◌&&◌, if◌then◌else◌, List, [], ◌∷◌, ◌++◌, length, map}
+use Rattle.std.specs.Prelude.{◌≡◌, ◌≢◌, ◌<◌, ◌≤◌, ◌+◌, ◌-◌, ℕ, nat_lt, nat_le, nat_eq, Bool, true, ◌&&◌, if◌then◌else◌, List, [], ◌∷◌, ◌++◌, length, map}
 use Rattle.std.specs.Prelude.{take, drop, max, All, None}
 use Rattle.std.specs.List.{slice_index_or, AllPairs, range_with_len}
 use Rattle.std.specs.Option.{option_copied}
@@ -7,6 +7,7 @@ use Rattle.std.specs.Str.{chars, is_utf8}
 use Rattle.snippet_style.specs.Cell.{Cell, SPACE}
 use Rattle.snippet_grid.specs.declared.runs.Run.{Run}
 use Rattle.snippet_style.specs.declared.role.ElementStyle.{ElementStyle}
+use Rattle.snippet_style.specs.Bounds.{IsUsize}
 
 -- the bytes of a run, of the text that all runs share, and its characters
 abbrev pub run_bytes : List ℕ → Run → List ℕ
@@ -41,7 +42,7 @@ pub record IsRun (text : List ℕ) (run : Run) : Type 0 where
   pub ends : is_utf8 (take run.end text) ≡ true
   pub counted : run.count ≡ length (run_chars text run)
   pub some : 0 < run.count
-  pub fits : run.cell + run.count < 2 ^ 64
+  pub fits : IsUsize (run.cell + run.count)
 
 -- a text that begins with another
 abbrev pub BeginsWith : List ℕ → List ℕ → Type 0
@@ -101,7 +102,7 @@ IsClearFrom text runs at = (r c : ℕ) → at ≤ c → shown text runs r c ≡ 
 
 -- a run can be moved from one cell to another
 abbrev pub FitsMoved : ℕ → ℕ → Run → Type 0
-FitsMoved from at run = at + (run.cell + run.count - from) < 2 ^ 64
+FitsMoved from at run = IsUsize (at + (run.cell + run.count - from))
 
 -- a run stands before another one: in a row above, or in the same row and before its first cell
 pub record Precedes (first second : Run) : Type 0 where

@@ -3,7 +3,7 @@
 //! A grid has rows, and a row has cells, both counted from 0. What is written beyond a row's end,
 //! or below the last row, makes the row longer and adds rows, as far as needed and no farther.
 
-ghost use Rattle.std.specs.Prelude.{◌≡◌, ◌+◌, ◌^◌, ◌<◌, ◌≤◌, List, [], ◌∷◌, length, ℕ, true, IfOk, OnOk, OnErr, IsOk};
+ghost use Rattle.std.specs.Prelude.{◌≡◌, ◌+◌, ◌<◌, ◌≤◌, List, [], ◌∷◌, length, ℕ, true, IfOk, OnOk, OnErr, IsOk};
 ghost use Rattle.std.specs.Prelude.{string_bytes, encode_utf8_all};
 ghost use Rattle.snippet_grid.specs.Grid.{row_at, num_cells, cells_written, WritesCells, cells_restyled, RestylesCells};
 ghost use Rattle.snippet_grid.specs.Grid.{cells_linked, LinksCells, cells_replaced, ReplacesCells};
@@ -14,6 +14,7 @@ ghost use Rattle.std.specs.Str.{chars};
 ghost use Rattle.snippet_grid.specs.Print as spec;
 ghost use Rattle.snippet_style.specs.Stylesheet.{is_plain_sheet};
 ghost use Rattle.snippet_grid.specs.Woven.{AddsRows, Prints, IsWoven, links_of};
+ghost use Rattle.snippet_style.specs.Bounds.{HasNext, IsRowNumber, IsUsize};
 
 use crate::change::{Change, change_cells};
 use crate::codes::SheetCodes;
@@ -46,7 +47,8 @@ pub struct StyledBuffer<'a> {
 }
 
 impl<'a> Model for StyledBuffer<'a> {
-    ghost use Rattle.std.specs.Prelude.{◌<◌, ◌^◌, List, length, string_bytes};
+    ghost use Rattle.std.specs.Prelude.{List, length, string_bytes};
+    ghost use Rattle.snippet_style.specs.Bounds.{IsRowNumber};
     ghost use Rattle.snippet_style.specs.Cell.{Cell};
     ghost use Rattle.snippet_grid.specs.Runs.{grid_shown, IsGrid};
 
@@ -54,7 +56,7 @@ impl<'a> Model for StyledBuffer<'a> {
 
     ghost view = { λ b. grid_shown (string_bytes b.text) b.runs.items b.widths.items };
 
-    ghost invariant = { λ b. IsGrid (string_bytes b.text) b.runs.items b.widths.items × (length b.widths.items < 2 ^ 60) };
+    ghost invariant = { λ b. IsGrid (string_bytes b.text) b.runs.items b.widths.items × IsRowNumber (length b.widths.items) };
 }
 
 impl<'a> StyledBuffer<'a> {
@@ -78,7 +80,7 @@ impl<'a> StyledBuffer<'a> {
     /// How many rows there are.
     pub fn num_lines(&self) -> usize
         ensures count { result ≡ length self.now }
-        ensures small { result < 2 ^ 60 }
+        ensures small { IsRowNumber result }
     {
         self.widths.len()
     }
@@ -109,8 +111,8 @@ impl<'a> StyledBuffer<'a> {
         ch: char,
         role: ElementStyle,
     ) -> Result<(), AllocError>
-        requires row { row + 1 < 2 ^ 64 }
-        requires end { cell + 1 < 2 ^ 64 }
+        requires row { HasNext row }
+        requires end { HasNext cell }
         ensures ok { OnOk result
             (self.new ≡ cells_written self.old row cell (text_cells role (ch ∷ []))) }
         ensures reads { OnOk result
@@ -134,8 +136,8 @@ impl<'a> StyledBuffer<'a> {
         text: &str,
         role: ElementStyle,
     ) -> Result<(), AllocError>
-        requires row { 0 < length text.now → row + 1 < 2 ^ 64 }
-        requires end { cell + length (chars text.now) < 2 ^ 64 }
+        requires row { 0 < length text.now → HasNext row }
+        requires end { IsUsize (cell + length (chars text.now)) }
         ensures ok { OnOk result (0 < length text.now
             → self.new ≡ cells_written self.old row cell (text_cells role (chars text.now))) }
         ensures reads { OnOk result (0 < length text.now
@@ -166,7 +168,7 @@ impl<'a> StyledBuffer<'a> {
     ///
     /// There is no memory for the row or its cells.
     pub fn append(&mut self, row: usize, text: &str, role: ElementStyle) -> Result<(), AllocError>
-        requires row { 0 < length text.now → row + 1 < 2 ^ 64 }
+        requires row { 0 < length text.now → HasNext row }
         ensures ok { OnOk result (0 < length text.now
             → (let end = length (row_at self.old row) in
             self.new ≡ cells_written self.old row end (text_cells role (chars text.now)))) }

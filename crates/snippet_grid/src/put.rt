@@ -2,12 +2,13 @@
 //!
 //! A put takes only the runs that the new one touches: what the first of them holds before it, and the last after it,
 //! stays. All other runs keep their places.
-ghost use Rattle.std.specs.Prelude.{◌≡◌, ◌+◌, ◌-◌, ◌<◌, ◌≤◌, ◌^◌, ◌++◌, ℕ, List, [], true, false, length, take, drop};
+ghost use Rattle.std.specs.Prelude.{◌≡◌, ◌+◌, ◌-◌, ◌<◌, ◌≤◌, ◌++◌, ℕ, List, [], true, false, length, take, drop};
 ghost use Rattle.std.specs.Prelude.{All, OnOk, OnErr, string_bytes, option_to_list};
 ghost use Rattle.snippet_grid.specs.Runs.{IsRun, BeginsWith, Precedes, Differ, IsClear, ReachesTo, Touches, IsTouched};
 ghost use Rattle.snippet_grid.specs.Runs.{IsFront, IsBack, ArePieces, IsPut};
 ghost use Rattle.snippet_grid.specs.declared.runs.Run.{Run};
 ghost use Rattle.std.specs.List.{AllPairs, slice_index_or};
+ghost use Rattle.snippet_style.specs.Bounds.{IsUsize};
 
 use crate::runs::{Run, add_run, begun_by, clipped, continues, join};
 use std::alloc::AllocError;
@@ -15,7 +16,7 @@ use std::alloc::AllocError;
 /// Whether all runs stand before this one.
 fn are_before(runs: &[Run<'_>], run: &Run<'_>) -> bool
     requires ordered { AllPairs (λ a b. Precedes a b) runs.now }
-    requires are_runs { All (λ x. x.cell + x.count < 2 ^ 64) runs.now }
+    requires are_runs { All (λ x. IsUsize (x.cell + x.count)) runs.now }
     ensures yes { result ≡ true → All (λ x. Precedes x run.now) runs.now }
 {
     let len = runs.len();
@@ -28,7 +29,7 @@ fn are_before(runs: &[Run<'_>], run: &Run<'_>) -> bool
 
 /// Whether a run stands before another one and does not touch it.
 fn is_clear(first: &Run<'_>, second: &Run<'_>) -> bool
-    requires fits { first.now.cell + first.now.count < 2 ^ 64 }
+    requires fits { IsUsize (first.now.cell + first.now.count) }
     ensures yes { result ≡ true → IsClear first.now second.now }
     ensures no { result ≡ false → ReachesTo first.now second.now }
 {
@@ -38,7 +39,7 @@ fn is_clear(first: &Run<'_>, second: &Run<'_>) -> bool
 /// The first of the runs before `end` that touches this one, or `end`.
 fn first_touched(runs: &[Run<'_>], end: usize, run: &Run<'_>) -> usize
     requires ordered { AllPairs (λ a b. Precedes a b) runs.now }
-    requires are_runs { All (λ x. x.cell + x.count < 2 ^ 64) runs.now }
+    requires are_runs { All (λ x. IsUsize (x.cell + x.count)) runs.now }
     requires within { end ≤ length runs.now }
     requires reaches { (k : ℕ) (d : Run) → k < end → ReachesTo run.now (slice_index_or runs.now k d) }
     ensures ordered { result ≤ end }

@@ -1,5 +1,5 @@
 //! A text that takes the place of some cells of a row; the cells after them move.
-ghost use Rattle.std.specs.Prelude.{◌≡◌, ◌+◌, ◌-◌, ◌<◌, ◌≤◌, ◌^◌, ℕ, length, All, IfOk, OnOk, OnErr, IsOk};
+ghost use Rattle.std.specs.Prelude.{◌≡◌, ◌+◌, ◌-◌, ◌<◌, ◌≤◌, ℕ, length, All, IfOk, OnOk, OnErr, IsOk};
 ghost use Rattle.std.specs.Prelude.{string_bytes};
 ghost use Rattle.std.specs.List.{slice_index_or};
 ghost use Rattle.std.specs.Str.{chars};
@@ -7,6 +7,7 @@ ghost use Rattle.snippet_grid.specs.Grid.{cells_replaced};
 ghost use Rattle.snippet_style.specs.Cell.{SPACE, text_cells};
 ghost use Rattle.snippet_grid.specs.Runs.{IsRow, IsGrid, EndsBy, FitsMoved, BeginsWith, grid_shown};
 ghost use Rattle.snippet_grid.specs.Changes.{ShowsSpan, ShowsReplaced};
+ghost use Rattle.snippet_style.specs.Bounds.{IsUsize};
 
 use crate::put::{Spare, exchange};
 use crate::runs::{Run, add_run, copy_cells, row_bounds};
@@ -26,7 +27,7 @@ fn add_word<'a>(
 ) -> Result<(), AllocError>
     requires out { IsRow (string_bytes text.old) row out.old.items }
     requires before { EndsBy at out.old.items }
-    requires fits { at + length (chars word.now) < 2 ^ 64 }
+    requires fits { IsUsize (at + length (chars word.now)) }
     ensures text { BeginsWith (string_bytes text.old) (string_bytes text.new) }
     ensures ok { OnOk result (ShowsSpan (string_bytes text.old) (string_bytes text.new) out.old.items out.new.items row at (at + length (chars word.now)) (λ c. slice_index_or (text_cells role (chars word.now)) (c - at) SPACE)) }
     ensures row { OnOk result (IsRow (string_bytes text.new) row out.new.items) }
@@ -53,7 +54,7 @@ fn replaced_row<'a>(
 ) -> Result<(), AllocError>
     requires runs { IsRow (string_bytes text.old) row runs.now }
     requires some { start ≤ end }
-    requires fits { start + length (chars word.now) < 2 ^ 64 }
+    requires fits { IsUsize (start + length (chars word.now)) }
     requires moved { All (λ x. FitsMoved end (start + length (chars word.now)) x) runs.now }
     ensures text { BeginsWith (string_bytes text.old) (string_bytes text.new) }
     ensures ok { OnOk result (ShowsReplaced (string_bytes text.old) (string_bytes text.new) runs.now spare.new.runs.items row start end (text_cells role (chars word.now))) }

@@ -1,5 +1,5 @@
 //! Runs of neighbouring cells that share their role and their link.
-ghost use Rattle.std.specs.Prelude.{◌≡◌, ◌+◌, ◌-◌, ◌<◌, ◌≤◌, ◌^◌, ℕ, List, true, false, length, min, take, drop, All};
+ghost use Rattle.std.specs.Prelude.{◌≡◌, ◌+◌, ◌-◌, ◌<◌, ◌≤◌, ℕ, List, true, false, length, min, take, drop, All};
 ghost use Rattle.std.specs.Prelude.{IfOk, OnOk, OnErr, string_bytes, vec_len};
 ghost use Rattle.snippet_grid.specs.Runs.{IsRun, Continues, Differ, IsJoined, IsMoved, IsPart, BeginsWith, ShowsMore};
 ghost use Rattle.snippet_grid.specs.Runs.{ShowsCopy, FitsMoved, AddsRun, IsRow, EndsBy, FitIn, Precedes, BeginsAfter};
@@ -9,6 +9,7 @@ ghost use Rattle.snippet_grid.specs.declared.runs.Run.{Run};
 ghost use Rattle.std.specs.List.{AllPairs, slice_index_or};
 ghost use Rattle.std.specs.Str.{chars};
 ghost use Rattle.snippet_style.specs.Cell.{bytes_of};
+ghost use Rattle.snippet_style.specs.Bounds.{IsUsize};
 
 use snippet_style::ElementStyle;
 use std::alloc::AllocError;
@@ -30,7 +31,7 @@ pub(crate) struct Run<'a> {
 
 /// Whether a run goes on where another ends, with its role and its link.
 pub(crate) fn continues(first: &Run<'_>, second: &Run<'_>) -> bool
-    requires fits { first.now.cell + first.now.count < 2 ^ 64 }
+    requires fits { IsUsize (first.now.cell + first.now.count) }
     ensures yes { result ≡ true → Continues first.now second.now }
     ensures no { result ≡ false → Differ first.now second.now }
 {
@@ -286,7 +287,7 @@ pub(crate) fn begun_by(runs: &[Run<'_>], row: usize, cell: usize) -> usize
 /// How many runs stand in the rows down to this one.
 pub(crate) fn rows_end(runs: &[Run<'_>], row: usize) -> usize
     requires ordered { AllPairs (λ a b. Precedes a b) runs.now }
-    requires fits { All (λ x. x.cell < 2 ^ 64) runs.now }
+    requires fits { All (λ x. IsUsize x.cell) runs.now }
     ensures within { result ≤ length runs.now }
     ensures above { (k : ℕ) (d : Run) → k < result → (slice_index_or runs.now k d).row ≤ row }
     ensures below { (k : ℕ) (d : Run) → result ≤ k → k < length runs.now → row < (slice_index_or runs.now k d).row }
@@ -297,7 +298,7 @@ pub(crate) fn rows_end(runs: &[Run<'_>], row: usize) -> usize
 /// Where the runs of a row begin and end.
 pub(crate) fn row_bounds(runs: &[Run<'_>], row: usize) -> (usize, usize)
     requires ordered { AllPairs (λ a b. Precedes a b) runs.now }
-    requires fits { All (λ x. x.cell < 2 ^ 64) runs.now }
+    requires fits { All (λ x. IsUsize x.cell) runs.now }
     ensures bounds { result.0 ≤ result.1 × (result.1 ≤ length runs.now) }
     ensures above { (k : ℕ) (d : Run) → k < result.0 → (slice_index_or runs.now k d).row < row }
     ensures inside { (k : ℕ) (d : Run) → result.0 ≤ k → k < result.1 → (slice_index_or runs.now k d).row ≡ row }

@@ -1,5 +1,5 @@
 //! Words that are written into a grid of runs.
-ghost use Rattle.std.specs.Prelude.{◌≡◌, ◌↔◌, ◌+◌, ◌<◌, ◌≤◌, ◌^◌, max, IsTrue, length, None, IfOk, OnOk, OnErr, IsOk};
+ghost use Rattle.std.specs.Prelude.{◌≡◌, ◌↔◌, ◌+◌, ◌<◌, ◌≤◌, max, IsTrue, length, None, IfOk, OnOk, OnErr, IsOk};
 ghost use Rattle.std.specs.Prelude.{string_bytes, vec_capacity};
 ghost use Rattle.std.specs.List.{slice_index_or};
 ghost use Rattle.std.specs.Option.{option_copied};
@@ -7,6 +7,7 @@ ghost use Rattle.std.specs.Str.{chars};
 ghost use Rattle.snippet_grid.specs.Grid.{cells_written};
 ghost use Rattle.snippet_style.specs.Cell.{text_cells};
 ghost use Rattle.snippet_grid.specs.Runs.{BeginsWith, IsRun, IsGrid, IsWord, IsWidened, run_chars, grid_shown};
+ghost use Rattle.snippet_style.specs.Bounds.{HasNext, IsRowNumber, IsUsize};
 
 use crate::put::{Spare, put_run};
 use crate::runs::Run;
@@ -61,10 +62,10 @@ fn make_first_room(
 
 /// Makes room for a row of this number.
 fn make_room(widths: &mut Vec<usize>, row: usize) -> Result<(), AllocError>
-    requires row { row + 1 < 2 ^ 64 }
+    requires row { HasNext row }
     ensures items { widths.new.items ≡ widths.old.items }
     ensures room { OnOk result (row + 1 ≤ vec_capacity widths.new) }
-    ensures few { OnOk result (length widths.old.items < 2 ^ 60 → max (length widths.old.items) (row + 1) < 2 ^ 60) }
+    ensures few { OnOk result (IsRowNumber (length widths.old.items) → IsRowNumber (max (length widths.old.items) (row + 1))) }
 {
     let len = widths.len();
     if row < len {
@@ -82,7 +83,7 @@ fn make_room(widths: &mut Vec<usize>, row: usize) -> Result<(), AllocError>
 
 /// Makes a row reach to this cell, unless it is longer already. There is room for it.
 fn widen(widths: &mut Vec<usize>, row: usize, end: usize) -> Result<(), AllocError>
-    requires row { row + 1 < 2 ^ 64 }
+    requires row { HasNext row }
     requires room { row + 1 ≤ vec_capacity widths.old }
     ensures wide { IsWidened widths.old.items widths.new.items row end }
     ensures succeeds { IsOk result }
@@ -105,7 +106,7 @@ pub(crate) fn push_word<'a>(
     role: ElementStyle,
 ) -> Result<Run<'a>, AllocError>
     requires some { 0 < length (chars word.now) }
-    requires end { at + length (chars word.now) < 2 ^ 64 }
+    requires end { IsUsize (at + length (chars word.now)) }
     ensures ok { IfOk result (λ run. IsWord (string_bytes text.new) row at role word.now run) }
     ensures text { BeginsWith (string_bytes text.old) (string_bytes text.new) }
 {
@@ -134,11 +135,11 @@ fn place_run<'a>(
     requires grid { IsGrid (string_bytes text.old) runs.old.items widths.old.items }
     requires run { IsRun (string_bytes text.old) run.now }
     requires unlinked { option_copied run.now.link ≡ None }
-    requires row { run.now.row + 1 < 2 ^ 64 }
+    requires row { HasNext run.now.row }
     ensures ok { OnOk result (grid_shown (string_bytes text.new) runs.new.items widths.new.items ≡ cells_written (grid_shown (string_bytes text.old) runs.old.items widths.old.items) run.now.row run.now.cell (text_cells run.now.role (run_chars (string_bytes text.old) run.now))) }
     ensures grid { IsGrid (string_bytes text.new) runs.new.items widths.new.items }
     ensures runs_added { length runs.new.items ≤ length runs.old.items + 2 }
-    ensures rows { length widths.old.items < 2 ^ 60 → length widths.new.items < 2 ^ 60 }
+    ensures rows { IsRowNumber (length widths.old.items) → IsRowNumber (length widths.new.items) }
     ensures err { OnErr result (grid_shown (string_bytes text.new) runs.new.items widths.new.items ≡ grid_shown (string_bytes text.old) runs.old.items widths.old.items) }
 {
     make_room(widths, run.row)?;
@@ -159,13 +160,13 @@ pub(crate) fn write_word<'a>(
     role: ElementStyle,
 ) -> Result<(), AllocError>
     requires grid { IsGrid (string_bytes text.old) runs.old.items widths.old.items }
-    requires row { row + 1 < 2 ^ 64 }
-    requires end { at + length (chars word.now) < 2 ^ 64 }
+    requires row { HasNext row }
+    requires end { IsUsize (at + length (chars word.now)) }
     requires some { 0 < length (chars word.now) }
     ensures ok { OnOk result (grid_shown (string_bytes text.new) runs.new.items widths.new.items ≡ cells_written (grid_shown (string_bytes text.old) runs.old.items widths.old.items) row at (text_cells role (chars word.now))) }
     ensures grid { IsGrid (string_bytes text.new) runs.new.items widths.new.items }
     ensures runs_added { length runs.new.items ≤ length runs.old.items + 2 }
-    ensures rows { length widths.old.items < 2 ^ 60 → length widths.new.items < 2 ^ 60 }
+    ensures rows { IsRowNumber (length widths.old.items) → IsRowNumber (length widths.new.items) }
     ensures err { OnErr result (grid_shown (string_bytes text.new) runs.new.items widths.new.items ≡ grid_shown (string_bytes text.old) runs.old.items widths.old.items) }
 {
     make_first_room(text, runs, widths)?;

@@ -1,7 +1,8 @@
 //! Places in a source.
-ghost use Rattle.std.specs.Prelude.{◌≡◌, ◌-◌, ◌*◌, ◌^◌, ◌<◌, ◌≤◌, length, take, min, chars};
+ghost use Rattle.std.specs.Prelude.{◌≡◌, ◌-◌, ◌*◌, ◌≤◌, length, take, min, chars};
 ghost use Rattle.std.specs.Str.{IsCharBoundary};
 ghost use Rattle.snippet_text.specs.Width.{width_of};
+ghost use Rattle.snippet_text.specs.Bounds.{TextFits};
 
 use snippet_style::char_count;
 use snippet_text::str_width;
@@ -24,7 +25,7 @@ impl Loc {
     ///
     /// A byte after the text stands at its end.
     pub fn on_line(text: &str, number: usize, start: usize, byte: usize) -> Loc
-        requires fits { length text.now < 2 ^ 56 }
+        requires fits { TextFits text.now }
         requires border { IsCharBoundary text.now (min (byte - start) (length text.now)) }
         requires ordered { start ≤ byte }
         ensures line { result.line ≡ number }
@@ -47,7 +48,7 @@ impl Loc {
     ///
     /// Only what lies between the two is walked. A byte after the text stands at its end.
     pub fn later_on_line(self, text: &str, start: usize, byte: usize) -> Loc
-        requires fits { length text.now < 2 ^ 56 }
+        requires fits { TextFits text.now }
         requires here_char { self.char ≡ length (chars (take (self.byte - start) text.now)) }
         requires here_display { self.display ≡ width_of (chars (take (self.byte - start) text.now)) }
         requires here_border { IsCharBoundary text.now (min (self.byte - start) (length text.now)) }

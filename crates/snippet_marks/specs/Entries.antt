@@ -1,5 +1,5 @@
 -- The entries of a line: where they stand, and what their labels show.
-use Rattle.std.specs.Prelude.{ℕ, ◌-◌, ◌^◌, ◌<◌, ◌≤◌, Bool, true, false, List, [], Option, Some, None, chars}
+use Rattle.std.specs.Prelude.{ℕ, ◌-◌, ◌≤◌, Bool, true, false, List, [], Option, Some, None, chars}
 use Rattle.std.specs.Borrow.{Bor}
 use Rattle.std.specs.Option.{option_map}
 use Rattle.snippet_model.specs.declared.snippet.AnnotationKind.{AnnotationKind}
@@ -10,6 +10,7 @@ use Rattle.snippet_view.specs.declared.entries.LineAnnotationType.TheVariants.{S
 use Rattle.snippet_style.specs.declared.role.ElementStyle.{ElementStyle}
 use Rattle.snippet_style.specs.declared.role.ElementStyle.TheVariants.{LabelPrimary, LabelSecondary}
 use Rattle.snippet_text.specs.Normalized.{norm}
+use Rattle.snippet_style.specs.Bounds.{IsColumn}
 
 -- an entry on a line of which so many columns are dropped on the left
 abbrev pub shifted : ℕ → LineAnnotation → LineAnnotation
@@ -19,7 +20,7 @@ shifted dropped e =
 -- an entry has its place: it ends no farther left than it starts, where sums of columns have room
 pub record HasPlace (e : LineAnnotation) : Type 0 where
   pub ordered : e.start.display ≤ e.end.display
-  pub near : e.end.display < 2 ^ 60
+  pub near : IsColumn e.end.display
 
 -- whether an entry stands for the start or the end of a span of several lines
 abbrev pub is_end_part : LineAnnotationType → Bool

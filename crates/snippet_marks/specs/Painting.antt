@@ -7,7 +7,7 @@ use Rattle.snippet_style.specs.declared.glyphs.DecorStyle.{DecorStyle}
 use Rattle.snippet_style.specs.Glyphs.{strokes_of, underline_role}
 use Rattle.snippet_grid.specs.Grid.{cell_at, row_at}
 use Rattle.snippet_style.specs.Cell.{Cell, unlinked_cell}
-use Rattle.snippet_grid.specs.Layout.{Layout}
+use Rattle.snippet_grid.specs.Layout.{Layout, code_cell}
 use Rattle.snippet_model.specs.Rows.{IsFreeCell}
 use Rattle.snippet_marks.specs.declared.positions.PlacedEntry.{PlacedEntry}
 use Rattle.snippet_marks.specs.Entries.{entry_width, label_role, label_text}
@@ -60,7 +60,7 @@ IsPaintedAt e p = (e.entry.start.display ≤ p) × (p < mark_end e)
 abbrev pub mark_cell : Layout → PlacedEntry → ℕ → Cell
 mark_cell layout e c =
     let primary = is_primary e.entry.kind in
-    unlinked_cell (underline_role primary) (if c == layout.code + e.entry.start.display then first_glyph layout.decor e else (strokes_of layout.decor primary).underline)
+    unlinked_cell (underline_role primary) (if c == code_cell layout e.entry.start.display then first_glyph layout.decor e else (strokes_of layout.decor primary).underline)
 
 -- the cells of a row from `from` to before `to` were painted, and nothing else changed
 pub record Paints (old new : List (List Cell)) (row from to : ℕ) (cell : ℕ → Cell) : Type 0 where
@@ -78,20 +78,20 @@ pub record ShowsFrom (layout : Layout) (es : List PlacedEntry) (k p : ℕ) (d : 
   pub later : k ≤ at
   pub within : at < length es
   pub covers : IsPaintedAt (slice_index_or es at d) p
-  pub holds : cell ≡ mark_cell layout (slice_index_or es at d) (layout.code + p)
+  pub holds : cell ≡ mark_cell layout (slice_index_or es at d) (code_cell layout p)
 
 -- the entries were painted into a row, each over those before it: below a column at which entry k is painted stands its mark
 -- or that of a later entry, below a column at which none is what was there, and nothing else changed
 pub record Painted (layout : Layout) (es : List PlacedEntry) (row : ℕ) (old new : List (List Cell)) : Type 0 where
   pub marked : (k p : ℕ) (d : PlacedEntry) → k < length es → IsPaintedAt (slice_index_or es k d) p
-      → ShowsFrom layout es k p d (cell_at new row (layout.code + p))
-  pub unmarked : (p : ℕ) → All (λ e. IsPaintedAt e p → ⊥) es → cell_at new row (layout.code + p) ≡ cell_at old row (layout.code + p)
-  pub left : (c : ℕ) → All (λ e. c < layout.code + e.entry.start.display) es → cell_at new row c ≡ cell_at old row c
+      → ShowsFrom layout es k p d (cell_at new row (code_cell layout p))
+  pub unmarked : (p : ℕ) → All (λ e. IsPaintedAt e p → ⊥) es → cell_at new row (code_cell layout p) ≡ cell_at old row (code_cell layout p)
+  pub left : (c : ℕ) → All (λ e. c < code_cell layout e.entry.start.display) es → cell_at new row c ≡ cell_at old row c
   pub free : (c : ℕ) → IsFreeCell (cell_at old row c) → IsFreeCell (cell_at new row c)
   pub others : (r : ℕ) → r ≢ row → row_at new r ≡ row_at old r
   pub count : row < length old → length new ≡ length old
   pub width : (e : PlacedEntry) → es ≡ e ∷ [] → e.entry.start.display < mark_end e
-      → length (row_at new row) ≡ max (length (row_at old row)) (layout.code + mark_end e)
+      → length (row_at new row) ≡ max (length (row_at old row)) (code_cell layout (mark_end e))
   pub kept : es ≡ [] → length (row_at new row) ≡ length (row_at old row)
 
 -- the marks of some entries were painted in a painting order
@@ -104,7 +104,7 @@ pub record AreMarked (layout : Layout) (placed : List PlacedEntry) (row : ℕ) (
 -- the label of an entry, if it has one, stands whole at its place, in the role of labels of its kind
 abbrev pub StandsWhole : Layout → ℕ → List (List Cell) → PlacedEntry → Type 0
 StandsWhole layout row rows e =
-    has_label e ≡ true → (k : ℕ) → k < length (label_text e.entry) → cell_at rows (row + (label_place e).0) (layout.code + (label_place e).1 + k) ≡ unlinked_cell (label_role e.entry.kind) (slice_index_or (label_text e.entry) k 0)
+    has_label e ≡ true → (k : ℕ) → k < length (label_text e.entry) → cell_at rows (row + (label_place e).0) (code_cell layout (label_place e).1 + k) ≡ unlinked_cell (label_role e.entry.kind) (slice_index_or (label_text e.entry) k 0)
 
 -- the role of an entry's strokes
 abbrev pub stroke_role : PlacedEntry → ElementStyle
@@ -115,8 +115,8 @@ stroke_role e = underline_role (is_primary e.entry.kind)
 -- the mark of an entry, if it takes any cell: its first glyph, and the underline after it
 abbrev pub mark_of : Layout → ℕ → PlacedEntry → List Write
 mark_of layout row e =
-    let from = layout.code + e.entry.start.display in
-    let to = layout.code + mark_end e in
+    let from = code_cell layout e.entry.start.display in
+    let to = code_cell layout (mark_end e) in
     if nat_lt from to then glyph_at row from (first_glyph layout.decor e) (stroke_role e) ∷ stretch_of row (from + 1) to (strokes_of layout.decor (is_primary e.entry.kind)).underline (stroke_role e) else []
 
 -- the marks of some entries, in the order in which they are painted

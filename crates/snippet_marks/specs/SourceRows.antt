@@ -9,7 +9,7 @@ use Rattle.snippet_style.specs.declared.role.ElementStyle.TheVariants.{LineNumbe
 use Rattle.snippet_style.specs.Glyphs.{separator_of, placeholder_of}
 use Rattle.snippet_style.specs.Separators.{closing_row, separator_row}
 use Rattle.snippet_style.specs.Cell.{Cell, SPACE, text_cells, written, unlinked_cell}
-use Rattle.snippet_grid.specs.Layout.{Layout}
+use Rattle.snippet_grid.specs.Layout.{Layout, separator_cell}
 use Rattle.snippet_model.specs.Rows.{IsFree}
 
 -- a row of strokes before any stroke is drawn: the closing row where the window closes with it, else the separator row
@@ -64,8 +64,8 @@ pub record ShowsSource (gutter from : ℕ) (shown : List ℕ) (cells row : List 
 pub record IsSourceRow (layout : Layout) (shown : List ℕ) (cells row : List Cell) : Type 0 where
   pub is : row ≡ source_row layout shown cells
   pub shows : ShowsSource layout.gutter layout.code shown cells row
-  pub separator : slice_index_or row (layout.gutter + 1) SPACE ≡ unlinked_cell LineNumber (separator_of layout.decor)
-  pub blank : (c : ℕ) → length shown ≤ c → c ≢ layout.gutter + 1 → c < layout.code → slice_index_or row c SPACE ≡ SPACE
+  pub separator : slice_index_or row (separator_cell layout) SPACE ≡ unlinked_cell LineNumber (separator_of layout.decor)
+  pub blank : (c : ℕ) → length shown ≤ c → c ≢ separator_cell layout → c < layout.code → slice_index_or row c SPACE ≡ SPACE
   pub free : IsFree row
 
 -- one source row was added below the rows that are there

@@ -1,7 +1,8 @@
 //! Glyphs that stand side by side in a row.
-ghost use Rattle.std.specs.Prelude.{◌≡◌, ◌+◌, ◌^◌, ◌<◌, IfOk, OnOk, replicate, string_bytes};
+ghost use Rattle.std.specs.Prelude.{◌≡◌, IfOk, OnOk, replicate, string_bytes};
 ghost use Rattle.std.specs.Str.{chars};
 ghost use Rattle.snippet_marks.specs.Writes.{painted, stretch_of};
+ghost use Rattle.snippet_style.specs.Bounds.{HasNext};
 
 use snippet_grid::StyledBuffer;
 use snippet_style::ElementStyle;
@@ -38,7 +39,7 @@ pub fn draw_stretch(
     glyph: char,
     role: ElementStyle,
 ) -> Result<(), AllocError>
-    requires row { row + 1 < 2 ^ 64 }
+    requires row { HasNext row }
     ensures painted { OnOk result (buffer.new ≡ painted (stretch_of row from to glyph role) buffer.old) }
 {
     if to <= from {

@@ -1,8 +1,9 @@
 //! The marks below a line of the source.
-ghost use Rattle.std.specs.Prelude.{◌≡◌, ◌+◌, ◌^◌, ◌<◌, ◌==◌, ◌&&◌, All, OnOk};
+ghost use Rattle.std.specs.Prelude.{◌≡◌, ◌==◌, ◌&&◌, All, OnOk};
 ghost use Rattle.snippet_marks.specs.Entries as spec;
 ghost use Rattle.snippet_marks.specs.Painting.{first_glyph, mark_end, painting_order, mark_of, marks_of};
 ghost use Rattle.snippet_marks.specs.Writes.{painted};
+ghost use Rattle.snippet_style.specs.Bounds.{HasNext, IsColumn};
 
 use crate::lines::draw_stretch;
 use crate::positions::PlacedEntry;
@@ -29,8 +30,8 @@ pub fn draw_marks(
     row: usize,
     placed: &mut Vec<PlacedEntry>,
 ) -> Result<(), AllocError>
-    requires row { row + 1 < 2 ^ 64 }
-    requires columns { All (λ e. e.entry.end.display < 2 ^ 60) placed.old.items }
+    requires row { HasNext row }
+    requires columns { All (λ e. IsColumn e.entry.end.display) placed.old.items }
     ensures painted { OnOk result (buffer.new ≡ painted (marks_of layout row placed.new.items) buffer.old) }
     ensures order { OnOk result (placed.new.items ≡ painting_order placed.old.items) }
 {
@@ -65,8 +66,8 @@ fn paint_entries(
     row: usize,
     placed: &[PlacedEntry],
 ) -> Result<(), AllocError>
-    requires row { row + 1 < 2 ^ 64 }
-    requires columns { All (λ e. e.entry.end.display < 2 ^ 60) placed.now }
+    requires row { HasNext row }
+    requires columns { All (λ e. IsColumn e.entry.end.display) placed.now }
     ensures painted { OnOk result (buffer.new ≡ painted (marks_of layout row placed.now) buffer.old) }
 {
     for entry in placed {
@@ -87,8 +88,8 @@ fn paint_entry(
     row: usize,
     placed: &PlacedEntry,
 ) -> Result<(), AllocError>
-    requires row { row + 1 < 2 ^ 64 }
-    requires columns { placed.now.entry.end.display < 2 ^ 60 }
+    requires row { HasNext row }
+    requires columns { IsColumn placed.now.entry.end.display }
     ensures painted { OnOk result (buffer.new ≡ painted (mark_of layout row placed.now) buffer.old) }
 {
     let strokes = layout.decor.underline(is_primary(placed.entry.kind));
@@ -97,13 +98,14 @@ fn paint_entry(
         return Ok(());
     }
     let first = first_glyph(layout.decor, placed);
-    buffer.putc(row, layout.code + start, first, strokes.style)?;
+    let cell = layout.code_cell(start);
+    buffer.putc(row, cell, first, strokes.style)?;
     draw_stretch(
         alloc,
         buffer,
         row,
-        layout.code + start + 1,
-        layout.code + end,
+        cell + 1,
+        layout.code_cell(end),
         strokes.underline,
         strokes.style,
     )
@@ -112,7 +114,7 @@ fn paint_entry(
 /// The column after the last one at which an entry's mark is painted. Where an entry covers no column, but a glyph of its
 /// own stands at its start, that glyph is its mark.
 fn mark_end(placed: &PlacedEntry) -> usize
-    requires columns { placed.now.entry.end.display < 2 ^ 60 }
+    requires columns { IsColumn placed.now.entry.end.display }
     ensures value { result ≡ mark_end placed.now }
 {
     let end = placed.entry.end.display;

@@ -1,11 +1,12 @@
 //! Where the labels of a line stand: how far below the row of its marks each hangs.
-ghost use Rattle.std.specs.Prelude.{◌≡◌, ◌+◌, ◌^◌, ◌<◌, ◌≤◌, ◌&&◌, ◌||◌, All, IfOk, chars, length, map};
+ghost use Rattle.std.specs.Prelude.{◌≡◌, ◌+◌, ◌≤◌, ◌&&◌, ◌||◌, All, IfOk, chars, length, map};
 ghost use Rattle.std.specs.List.{list_any};
 ghost use Rattle.std.specs.Cow.{cow_str_bytes};
 ghost use Rattle.snippet_marks.specs.Positions as spec;
 ghost use Rattle.snippet_marks.specs.Positions.{ArePlaced, AsksBefore, HasItsBytes, HasItsLabel};
 ghost use Rattle.snippet_marks.specs.Entries.{label_text, shifted};
 ghost use Rattle.snippet_view.specs.Measures.{greatest};
+ghost use Rattle.snippet_style.specs.Bounds.{HasNext, IsColumn, IsUsize};
 
 use snippet_lines::Loc;
 use snippet_text::normalized;
@@ -73,7 +74,7 @@ pub fn placed_entries<'a>(
     dropped: usize,
     entries: &[LineAnnotation<'a>],
 ) -> Result<Vec<PlacedEntry<'a>>, AllocError>
-    requires columns { All (λ e. e.end.display < 2 ^ 60) entries.now }
+    requires columns { All (λ e. IsColumn e.end.display) entries.now }
     ensures placed { IfOk result (λ placed. ArePlaced (map (shifted dropped) entries.now) placed.items) }
 {
     let mut placed = labelled_entries(alloc, dropped, entries)?;
@@ -151,7 +152,7 @@ fn shown_label<'a>(alloc: Global, entry: &LineAnnotation<'a>) -> Result<CowStr<'
 ///
 /// There is no memory for the list.
 fn line_positions(alloc: Global, entries: &[PlacedEntry]) -> Result<Vec<usize>, AllocError>
-    requires columns { All (λ e. e.entry.end.display < 2 ^ 60) entries.now }
+    requires columns { All (λ e. IsColumn e.entry.end.display) entries.now }
     ensures value { IfOk result (λ positions. positions.items ≡ spec.line_positions entries.now) }
 {
     let positions = label_positions(alloc, entries)?;
@@ -214,7 +215,7 @@ fn greatest(numbers: &[usize]) -> usize
 ///
 /// There is no memory for the list.
 fn label_positions(alloc: Global, entries: &[PlacedEntry]) -> Result<Vec<usize>, AllocError>
-    requires columns { All (λ e. e.entry.end.display < 2 ^ 60) entries.now }
+    requires columns { All (λ e. IsColumn e.entry.end.display) entries.now }
     ensures value { IfOk result (λ positions. positions.items ≡ spec.positions 0 entries.now) }
 {
     let mut positions = Vec::new(alloc);
@@ -252,7 +253,7 @@ fn asks(placed: &PlacedEntry) -> bool
 
 /// The position of an entry before others, where this one is reached.
 pub fn position_at(reached: usize, entry: &PlacedEntry, others: &[PlacedEntry]) -> usize
-    requires columns { All (λ e. e.entry.end.display < 2 ^ 60) others.now }
+    requires columns { All (λ e. IsColumn e.entry.end.display) others.now }
     ensures value { result ≡ spec.position_at reached entry.now others.now }
 {
     if reached == 0 && entry.has_label() && is_crossed(entry, others) {
@@ -264,8 +265,8 @@ pub fn position_at(reached: usize, entry: &PlacedEntry, others: &[PlacedEntry]) 
 
 /// The position that is reached after an entry that has this one.
 pub fn position_after(position: usize, entry: &PlacedEntry, others: &[PlacedEntry]) -> usize
-    requires columns { All (λ e. e.entry.end.display < 2 ^ 60) others.now }
-    requires low { position + 1 < 2 ^ 64 }
+    requires columns { All (λ e. IsColumn e.entry.end.display) others.now }
+    requires low { HasNext position }
     ensures value { result ≡ spec.position_after position entry.now others.now }
 {
     if is_crowded(position, entry, others) {
@@ -288,7 +289,7 @@ fn set_positions(entries: &mut [PlacedEntry], positions: &[usize])
 
 /// Whether the mark of an entry farther left stands in the way of a label after its mark.
 fn is_crossed(entry: &PlacedEntry, others: &[PlacedEntry]) -> bool
-    requires columns { All (λ e. e.entry.end.display < 2 ^ 60) others.now }
+    requires columns { All (λ e. IsColumn e.entry.end.display) others.now }
     ensures value { result ≡ list_any (spec.crosses entry.now) others.now }
 {
     others.iter().any(|other| crosses(entry, other))
@@ -296,7 +297,7 @@ fn is_crossed(entry: &PlacedEntry, others: &[PlacedEntry]) -> bool
 
 /// Whether two marks overlap, unless they are one mark and only the first has a label.
 pub fn crosses(entry: &PlacedEntry, other: &PlacedEntry) -> bool
-    requires columns { other.now.entry.end.display < 2 ^ 60 }
+    requires columns { IsColumn other.now.entry.end.display }
     ensures value { result ≡ spec.crosses entry.now other.now }
 {
     overlap(other, 0, entry) && (other.has_label() || !is_same_place(entry, other))
@@ -304,7 +305,7 @@ pub fn crosses(entry: &PlacedEntry, other: &PlacedEntry) -> bool
 
 /// Whether an entry farther left needs its label in a row of its own, below that of this entry.
 fn is_crowded(position: usize, entry: &PlacedEntry, others: &[PlacedEntry]) -> bool
-    requires columns { All (λ e. e.entry.end.display < 2 ^ 60) others.now }
+    requires columns { All (λ e. IsColumn e.entry.end.display) others.now }
     ensures value { result ≡ list_any (spec.crowds position entry.now) others.now }
 {
     others.iter().any(|other| crowds(position, entry, other))
@@ -314,7 +315,7 @@ fn is_crowded(position: usize, entry: &PlacedEntry, others: &[PlacedEntry]) -> b
 /// a label; or its label would reach into this entry, which has a label too, or stands in the first row and ends no
 /// earlier.
 fn crowds(position: usize, entry: &PlacedEntry, other: &PlacedEntry) -> bool
-    requires columns { other.now.entry.end.display < 2 ^ 60 }
+    requires columns { IsColumn other.now.entry.end.display }
     ensures value { result ≡ spec.crowds position entry.now other.now }
 {
     blocks(entry, other) || reaches(position, entry, other)
@@ -331,7 +332,7 @@ fn blocks(entry: &PlacedEntry, other: &PlacedEntry) -> bool
 /// Whether the label of an entry farther left would reach into this entry, which has a label too, or stands in the first
 /// row and ends no earlier.
 fn reaches(position: usize, entry: &PlacedEntry, other: &PlacedEntry) -> bool
-    requires columns { other.now.entry.end.display < 2 ^ 60 }
+    requires columns { IsColumn other.now.entry.end.display }
     ensures value { result ≡ spec.reaches position entry.now other.now }
 {
     other.has_label()
@@ -341,7 +342,7 @@ fn reaches(position: usize, entry: &PlacedEntry, other: &PlacedEntry) -> bool
 
 /// Whether one of two entries starts in the columns of the other, those of the first being this many more.
 pub fn overlap(first: &PlacedEntry, more: usize, second: &PlacedEntry) -> bool
-    requires room { first.now.entry.end.display + more < 2 ^ 64 }
+    requires room { IsUsize (first.now.entry.end.display + more) }
     ensures value { result ≡ spec.do_overlap first.now more second.now }
 {
     let first_start = first.entry.start.display;

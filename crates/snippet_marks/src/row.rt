@@ -1,7 +1,9 @@
 //! Rows that are begun below all that stands in the grid.
-ghost use Rattle.std.specs.Prelude.{◌+◌, ◌≡◌, ◌-◌, ◌^◌, ◌<◌, ◌≤◌, ◌++◌, ◌∷◌, [], OnOk, IfOk, length, replicate};
+ghost use Rattle.std.specs.Prelude.{◌≡◌, ◌-◌, ◌<◌, ◌≤◌, ◌++◌, ◌∷◌, [], OnOk, IfOk, length, replicate};
+ghost use Rattle.snippet_grid.specs.Layout.{inner_cell};
 ghost use Rattle.snippet_marks.specs.SourceRows.{bare_row};
 ghost use Rattle.snippet_style.specs.Separators.{closing_row, separator_row};
+ghost use Rattle.snippet_style.specs.Bounds.{AreRows, IsRowNumber};
 
 use snippet_grid::{Layout, StyledBuffer};
 use snippet_style::ElementStyle;
@@ -19,12 +21,13 @@ use std::alloc::AllocError;
 pub(crate) fn begin_row(buffer: &mut StyledBuffer, layout: Layout) -> Result<usize, AllocError>
     ensures added { OnOk result (buffer.new ≡ buffer.old ++ separator_row layout.decor layout.gutter ∷ []) }
     ensures row { IfOk result (λ row. row ≡ length buffer.old) }
-    ensures small { length buffer.old < 2 ^ 60 }
+    ensures small { IsRowNumber (length buffer.old) }
+    ensures place { inner_cell layout ≤ layout.code }
 {
     let row = buffer.num_lines();
     buffer.putc(
         row,
-        layout.gutter + 1,
+        layout.separator_cell(),
         layout.decor.separator(),
         ElementStyle::LineNumber,
     )?;
@@ -42,12 +45,13 @@ pub(crate) fn begin_row(buffer: &mut StyledBuffer, layout: Layout) -> Result<usi
 /// There is no memory for the row.
 pub fn begin_closing_row(buffer: &mut StyledBuffer, layout: Layout) -> Result<(), AllocError>
     ensures added { OnOk result (buffer.new ≡ buffer.old ++ closing_row layout.decor layout.gutter ∷ []) }
-    ensures small { length buffer.old < 2 ^ 60 }
+    ensures small { IsRowNumber (length buffer.old) }
+    ensures place { inner_cell layout ≤ layout.code }
 {
     let row = buffer.num_lines();
     buffer.puts(
         row,
-        layout.gutter + 1,
+        layout.separator_cell(),
         layout.decor.closing(),
         ElementStyle::LineNumber,
     )
@@ -74,7 +78,8 @@ pub fn begin_rows(
     ensures added { OnOk result (buffer.new ≡ buffer.old ++ replicate (count - 1) (separator_row layout.decor layout.gutter)
         ++ bare_row layout.decor layout.gutter closes ∷ []) }
     ensures row { IfOk result (λ row. row ≡ length buffer.old) }
-    ensures small { OnOk result (length buffer.new ≤ 2 ^ 60) }
+    ensures small { OnOk result (AreRows (length buffer.new)) }
+    ensures place { OnOk result (inner_cell layout ≤ layout.code) }
 {
     let row = buffer.num_lines();
     for _ in 1..count {
@@ -87,7 +92,8 @@ pub fn begin_rows(
 /// Begins the last row of a line's strokes below all that stands in the grid.
 fn begin_last_row(buffer: &mut StyledBuffer, layout: Layout, closes: bool) -> Result<(), AllocError>
     ensures added { OnOk result (buffer.new ≡ buffer.old ++ bare_row layout.decor layout.gutter closes ∷ []) }
-    ensures small { length buffer.old < 2 ^ 60 }
+    ensures small { IsRowNumber (length buffer.old) }
+    ensures place { inner_cell layout ≤ layout.code }
 {
     if closes {
         return begin_closing_row(buffer, layout);

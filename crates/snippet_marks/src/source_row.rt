@@ -1,5 +1,5 @@
 //! The row that shows a line of the source.
-ghost use Rattle.std.specs.Prelude.{◌≡◌, ◌+◌, ◌^◌, ◌<◌, ◌≤◌, ◌++◌, ◌∷◌, [], IfOk, IfSome, List, OnOk, chars, false};
+ghost use Rattle.std.specs.Prelude.{◌≡◌, ◌+◌, ◌<◌, ◌≤◌, ◌++◌, ◌∷◌, [], IfOk, IfSome, List, OnOk, chars, false};
 ghost use Rattle.std.specs.Prelude.{length};
 ghost use Rattle.snippet_style.specs.Cell.{Cell};
 ghost use Rattle.std.specs.List.{list_any};
@@ -11,6 +11,9 @@ ghost use Rattle.snippet_marks.specs.SourceRows.{AddsSourceRow, begun_cells, end
 ghost use Rattle.snippet_marks.specs.SourceRows.{with_cells};
 ghost use Rattle.snippet_text.specs.Normalized.{is_listed, norm};
 ghost use Rattle.snippet_text.specs.Width.{width_of};
+ghost use Rattle.snippet_grid.specs.Layout.{separator_cell};
+ghost use Rattle.snippet_text.specs.Bounds.{TextFits};
+ghost use Rattle.snippet_style.specs.Bounds.{FitsRow, HasNext, IsTextWidth, IsWindowColumn, IsWindowEnd};
 
 use crate::row::begin_row;
 use snippet_grid::{Layout, StyledBuffer};
@@ -39,18 +42,17 @@ pub fn draw_source_row(
     margin: Margin,
     line: &ShownLine,
 ) -> Result<(usize, usize), AllocError>
-    requires place { layout.gutter + 3 ≤ layout.code }
-    requires number { length (shown_number numbers layout.gutter line.now.info.line_index) ≤ layout.gutter + 1 }
-    requires text { length line.now.info.line.now < 2 ^ 56 }
+    requires number { length (shown_number numbers layout.gutter line.now.info.line_index) ≤ separator_cell layout }
+    requires text { TextFits line.now.info.line.now }
     ensures added { OnOk result (AddsSourceRow layout (shown_number numbers layout.gutter line.now.info.line_index)
         (window_cells layout.decor margin (norm (chars line.now.info.line.now))) buffer.old buffer.new) }
-    ensures short { OnOk result (length (window_cells layout.decor margin (norm (chars line.now.info.line.now))) < 2 ^ 61 + 4) }
+    ensures short { OnOk result (IsWindowEnd (length (window_cells layout.decor margin (norm (chars line.now.info.line.now))))) }
     ensures row { IfOk result (λ at. at.0 ≡ length buffer.old) }
     ensures dropped { IfOk result (λ at.
         at.1 ≡ width_of (dropped_part (bounds_of margin).left (norm (chars line.now.info.line.now)))) }
     ensures near { IfOk result (λ at. at.1 < (bounds_of margin).left + 4) }
     ensures uncut { IfOk result (λ at. (bounds_of margin).left ≡ 0 → at.1 ≡ 0) }
-    ensures few { IfOk result (λ at. at.1 < 2 ^ 61) }
+    ensures few { IfOk result (λ at. IsWindowColumn at.1) }
 {
     let number = number_text(alloc, numbers, layout.gutter, line.info.line_index)?;
     let near = near_part(margin, line.info.line, line.width);
@@ -69,17 +71,16 @@ fn write_source_row(
     placeholder: &str,
     window: LineWindow,
 ) -> Result<usize, AllocError>
-    requires place { layout.gutter + 3 ≤ layout.code }
-    requires number { length (chars number.now) ≤ layout.gutter + 1 }
+    requires number { length (chars number.now) ≤ separator_cell layout }
     requires number_free { list_any is_listed (chars number.now) ≡ false }
     requires placeholder { chars placeholder.now ≡ placeholder_of layout.decor }
-    requires start { IfSome window.start (λ columns. columns < 2 ^ 59) }
-    requires text { length (chars window.text.now) < 2 ^ 60 }
+    requires start { IfSome window.start (λ columns. IsTextWidth columns) }
+    requires text { FitsRow (chars window.text.now) }
     requires text_free { list_any is_listed (chars window.text.now) ≡ false }
-    requires end { IfSome window.end (λ at. at < 2 ^ 61) }
+    requires end { IfSome window.end (λ at. IsWindowColumn at) }
     ensures added { OnOk result (AddsSourceRow layout (chars number.now)
         (shown_cells layout.decor window.entry.start (chars window.entry.text.now) window.entry.end) buffer.old buffer.new) }
-    ensures short { OnOk result (length (shown_cells layout.decor window.entry.start (chars window.entry.text.now) window.entry.end) < 2 ^ 61 + 4) }
+    ensures short { OnOk result (IsWindowEnd (length (shown_cells layout.decor window.entry.start (chars window.entry.text.now) window.entry.end))) }
     ensures row { IfOk result (λ row. row ≡ length buffer.old) }
 {
     let row = begin_row(buffer, layout)?;
@@ -99,10 +100,10 @@ fn write_beginning(
     start: Option<usize>,
     text: &str,
 ) -> Result<(), AllocError>
-    requires row { row + 1 < 2 ^ 64 }
+    requires row { HasNext row }
     requires placeholder { chars placeholder.now ≡ placeholder_of layout.decor }
-    requires start { IfSome start (λ columns. columns < 2 ^ 59) }
-    requires text { length (chars text.now) < 2 ^ 60 }
+    requires start { IfSome start (λ columns. IsTextWidth columns) }
+    requires text { FitsRow (chars text.now) }
     ensures writes { OnOk result ((above : List (List Cell)) (front : List Cell) → row ≡ length above
         → length front ≤ layout.code → buffer.old ≡ above ++ front ∷ []
         → buffer.new ≡ above ++ with_cells layout.code (begun_cells layout.decor start (chars text.now)) front ∷ []) }
@@ -111,7 +112,12 @@ fn write_beginning(
         None => buffer.puts(row, layout.code, text, ElementStyle::Quotation),
         Some(columns) => {
             buffer.puts(row, layout.code, placeholder, ElementStyle::LineNumber)?;
-            buffer.puts(row, layout.code + columns, text, ElementStyle::Quotation)
+            buffer.puts(
+                row,
+                layout.code_cell(columns),
+                text,
+                ElementStyle::Quotation,
+            )
         }
     }
 }
@@ -124,15 +130,20 @@ fn write_end(
     placeholder: &str,
     end: Option<usize>,
 ) -> Result<(), AllocError>
-    requires row { row + 1 < 2 ^ 64 }
+    requires row { HasNext row }
     requires placeholder { chars placeholder.now ≡ placeholder_of layout.decor }
-    requires end { IfSome end (λ at. at < 2 ^ 61) }
+    requires end { IfSome end (λ at. IsWindowColumn at) }
     ensures writes { OnOk result ((above : List (List Cell)) (front cells : List Cell) → row ≡ length above
         → length front ≤ layout.code → buffer.old ≡ above ++ with_cells layout.code cells front ∷ []
         → buffer.new ≡ above ++ with_cells layout.code (ended_cells layout.decor end cells) front ∷ []) }
 {
     match end {
         None => Ok(()),
-        Some(at) => buffer.puts(row, layout.code + at, placeholder, ElementStyle::LineNumber),
+        Some(at) => buffer.puts(
+            row,
+            layout.code_cell(at),
+            placeholder,
+            ElementStyle::LineNumber,
+        ),
     }
 }

@@ -12,10 +12,7 @@ use Rattle.snippet_model.specs.declared.snippet.Group.{Group}
 use Rattle.snippet_model.specs.declared.snippet.Element.{Element}
 use Rattle.snippet_model.specs.declared.snippet.Element.TheVariants as element
 use Rattle.snippet_model.specs.Level.{name_of}
-
--- a text fits: it has fewer than 2^56 bytes
-abbrev pub TextFits : List ℕ → Type 0
-TextFits text = length text < 2 ^ 56
+pub use Rattle.snippet_text.specs.Bounds.{TextFits}
 
 -- a level, where its name fits
 abbrev pub LevelFits : Level → Type 0

@@ -1,10 +1,12 @@
 -- The table of a source's lines.
-use Rattle.std.specs.Prelude.{◌≡◌, ℕ, ◌+◌, ◌-◌, ◌<◌, ◌^◌, List, [], ◌∷◌, length, map}
+use Rattle.std.specs.Prelude.{◌≡◌, ℕ, ◌+◌, ◌-◌, List, [], ◌∷◌, length, map}
 use Rattle.std.specs.List.{range_with_len}
 use Rattle.std.specs.Str.{IsUtf8}
 use Rattle.snippet_parts.specs.declared.source_map.LineInfo.{LineInfo}
 use Rattle.snippet_lines.specs.Lines.{Line, line_bytes, source_lines, text_at, start_of, Source}
 use Rattle.snippet_lines.specs.Place.{line_of}
+use Rattle.snippet_text.specs.Bounds.{TextFits}
+use Rattle.snippet_style.specs.Bounds.{IsUsize}
 
 -- what the table says of a line: its text, its number, where it starts and where the next one does
 pub record LineEntry : Type 0 where
@@ -36,5 +38,5 @@ starts_from start (l ∷ ls) = start ∷ starts_from (start + length (line_bytes
 pub record IsLineTable (source : List ℕ) (first : ℕ) (starts : List ℕ) : Type 0 where
   pub starts_are : starts ≡ starts_from 0 (source_lines source)
   pub utf8 : IsUtf8 source
-  pub short : length source < 2 ^ 56
-  pub numbers : first + length (source_lines source) < 2 ^ 64
+  pub short : TextFits source
+  pub numbers : IsUsize (first + length (source_lines source))

@@ -1,5 +1,5 @@
 -- Spans, each with its place in a source.
-use Rattle.std.specs.Prelude.{◌≡◌, ◌^◌, ◌<◌, ◌≤◌, ◌==◌, ◌&&◌, Bool, not, List, map}
+use Rattle.std.specs.Prelude.{◌≡◌, ◌==◌, ◌&&◌, Bool, not, List, map}
 use Rattle.std.specs.Option.{option_map}
 use Rattle.std.specs.Cow.{cow_str_bytes}
 use Rattle.snippet_model.specs.declared.snippet.Annotation.{Annotation}
@@ -11,6 +11,8 @@ use Rattle.snippet_view.specs.declared.entries.LineAnnotationType.TheVariants.{S
 use Rattle.snippet_view.specs.Annotated.{PartEntry}
 use Rattle.snippet_view.specs.Mark.{is_marking}
 use Rattle.snippet_view.specs.Marked.{Entry, first_line, last_line, widened}
+use Rattle.snippet_text.specs.Bounds.{IsOffset}
+use Rattle.snippet_style.specs.Bounds.{IsSourceColumn, IsSourceEnd}
 
 -- a span with its place in a source: its lines from 0 and its locations, which leave room for one more column and
 -- character
@@ -19,9 +21,9 @@ pub record IsLocated (s : Source) (l : LocatedSpan) : Type 0 where
   pub first : l.first ≡ first_line s.text l.annotation.now
   pub last : l.last ≡ last_line s.text l.annotation.now
   pub locations : (l.start, l.end) ≡ locations_of s l.annotation.now.span.start l.annotation.now.span.end
-  pub start_display : l.start.display < 2 ^ 58
-  pub end_display : l.end.display ≤ 2 ^ 58
-  pub start_char : l.start.char ≤ 2 ^ 56
+  pub start_display : IsSourceColumn l.start.display
+  pub end_display : IsSourceEnd l.end.display
+  pub start_char : IsOffset l.start.char
 
 -- the annotations of such spans
 abbrev pub annotations_of : List LocatedSpan → List Annotation

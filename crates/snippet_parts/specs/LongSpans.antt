@@ -1,9 +1,10 @@
 -- Spans of several lines as the code holds them.
-use Rattle.std.specs.Prelude.{◌+◌, ◌<◌, ◌≤◌, ◌^◌, length}
+use Rattle.std.specs.Prelude.{◌+◌, ◌<◌, ◌≤◌, length}
 use Rattle.std.specs.Option.{option_copied}
 use Rattle.snippet_parts.specs.declared.long_spans.LongSpan.{LongSpan}
 use Rattle.snippet_lines.specs.Lines.{Source, source_lines}
 use Rattle.snippet_view.specs.Marked.{Entry}
+use Rattle.snippet_style.specs.Bounds.{IsColumn, IsSourceColumn, IsSourceEnd}
 
 -- a span of several lines as it is seen
 abbrev pub seen_long : LongSpan → Entry
@@ -12,9 +13,9 @@ seen_long l = record { start = l.start; end = l.end; kind = l.kind; label = opti
 -- its columns and characters leave room for one more, it ends on a later line than it starts on, and its lines are lines
 -- of the source
 pub record HasFit (s : Source) (l : LongSpan) : Type 0 where
-  pub display : l.start.display < 2 ^ 58
-  pub end_display : l.end.display ≤ 2 ^ 58
-  pub char : l.start.char < 2 ^ 60
+  pub display : IsSourceColumn l.start.display
+  pub end_display : IsSourceEnd l.end.display
+  pub char : IsColumn l.start.char
   pub lines : l.start.line < l.end.line
   pub from : s.first ≤ l.start.line
   pub within : l.end.line < s.first + length (source_lines s.text)

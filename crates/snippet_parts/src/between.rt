@@ -1,5 +1,5 @@
 //! The single lines between lines that are kept: they are shown too, since a row that stands for one line saves none.
-ghost use Rattle.std.specs.Prelude.{◌≡◌, ◌<◌, ◌^◌, Bool, List, ◌++◌, ◌≤◌, All, length, map, IfOk, IfSome, OnOk};
+ghost use Rattle.std.specs.Prelude.{◌≡◌, Bool, List, ◌++◌, ◌≤◌, All, length, map, IfOk, IfSome, OnOk};
 ghost use Rattle.std.specs.Option.{option_map};
 ghost use Rattle.snippet_model.specs.declared.snippet.Annotation.{Annotation};
 ghost use Rattle.snippet_view.specs.Annotated.{annotated_lines, kept_line, seen_kept};
@@ -7,6 +7,7 @@ ghost use Rattle.snippet_view.specs.Between as spec;
 ghost use Rattle.snippet_view.specs.Kept.{shown_lines};
 ghost use Rattle.snippet_view.specs.ShownLines.{infos_of, kept_of};
 ghost use Rattle.snippet_lines.specs.Span.{IsSpan};
+ghost use Rattle.snippet_text.specs.Bounds.{TextFits};
 
 use crate::source_map::SourceMap;
 use snippet_view::{AnnotatedLineInfo, ShownLine};
@@ -21,8 +22,8 @@ pub fn with_lines_between<'a>(
     source: &SourceMap<'a>,
     kept: Vec<AnnotatedLineInfo<'a>>,
 ) -> Result<Vec<ShownLine<'a>>, AllocError>
-    requires fits { length source.now.text < 2 ^ 56 }
-    requires texts { All (λ info. length info.line.now < 2 ^ 56) kept.items }
+    requires fits { TextFits source.now.text }
+    requires texts { All (λ info. TextFits info.line.now) kept.items }
     ensures kept_are { IfOk result (λ shown. kept_of shown.items ≡ kept.entry.items) }
     // No entry stands on a line that isn't kept, and no span keeps it.
     ensures value { IfOk result (λ shown. (fold : Bool) (marks : List Annotation) → All (λ a. IsSpan source.now.text a.span.start a.span.end) marks
@@ -48,7 +49,7 @@ fn push_between<'a>(
     before: Option<usize>,
     after: usize,
 ) -> Result<(), AllocError>
-    requires fits { length source.now.text < 2 ^ 56 }
+    requires fits { TextFits source.now.text }
     ensures kept_are { OnOk result (kept_of shown.new.items ≡ kept_of shown.old.items) }
     ensures value { OnOk result (map seen_kept (infos_of shown.new.items) ≡ map seen_kept (infos_of shown.old.items) ++ spec.lines_between source.now before after) }
 {

@@ -1,9 +1,10 @@
 //! The entries of annotations, in the order in which they are made.
-ghost use Rattle.std.specs.Prelude.{◌≡◌, ◌+◌, ◌-◌, ◌<◌, ◌^◌, ◌++◌, All, map, filter, IfOk, OnOk};
+ghost use Rattle.std.specs.Prelude.{◌≡◌, ◌+◌, ◌-◌, ◌++◌, All, map, filter, IfOk, OnOk};
 ghost use Rattle.snippet_view.specs.Annotated as spec;
 ghost use Rattle.snippet_view.specs.Annotated.{seen_part};
 ghost use Rattle.snippet_parts.specs.LongSpans.{seen_long, HasFit};
 ghost use Rattle.snippet_parts.specs.Located.{is_short_span, short_part};
+ghost use Rattle.snippet_style.specs.Bounds.{IsColumn, IsSourceColumn};
 
 use crate::bars::{bars_end, has_closing_bar};
 use crate::located::LocatedSpan;
@@ -18,7 +19,7 @@ pub(crate) fn single_entries<'a>(
     alloc: Global,
     located: &[LocatedSpan<'a>],
 ) -> Result<Vec<LineAnnotation<'a>>, AllocError>
-    requires display { All (λ l. l.start.display < 2 ^ 58) located.now }
+    requires display { All (λ l. IsSourceColumn l.start.display) located.now }
     ensures value { IfOk result (λ entries. map seen_part entries.items ≡ map short_part (filter is_short_span located.now)) }
 {
     let mut entries = Vec::with_capacity(alloc, located.len())?;
@@ -32,7 +33,7 @@ pub(crate) fn single_entries<'a>(
 
 /// The entry of a span that stands on one line: at least one column wide.
 fn entry<'a>(span: &LocatedSpan<'a>) -> LineAnnotation<'a>
-    requires display { span.now.start.display < 2 ^ 58 }
+    requires display { IsSourceColumn span.now.start.display }
     ensures value { seen_part result ≡ short_part span.now }
 {
     let mut end = span.end;
@@ -102,8 +103,8 @@ fn push_bars<'a>(
 
 /// The entry on the first line of a span.
 fn start_entry(span: LongSpan<'_>, depth: usize) -> LineAnnotation<'_>
-    requires display { span.start.display < 2 ^ 58 }
-    requires char { span.start.char < 2 ^ 60 }
+    requires display { IsSourceColumn span.start.display }
+    requires char { IsColumn span.start.char }
     ensures value { seen_part result ≡ spec.start_part (seen_long span.entry) depth }
 {
     let end = Loc {

@@ -1,5 +1,5 @@
 //! A source whose lines are known by number and by byte.
-ghost use Rattle.std.specs.Prelude.{◌≡◌, ◌↔◌, ℕ, List, [], ◌+◌, ◌-◌, ◌^◌, ◌<◌, ◌≤◌, true, All, Contains, map, length};
+ghost use Rattle.std.specs.Prelude.{◌≡◌, ◌↔◌, ℕ, List, [], ◌+◌, ◌-◌, ◌<◌, ◌≤◌, true, All, Contains, map, length};
 ghost use Rattle.std.specs.Prelude.{IfOk, IfSome, IsNone};
 ghost use Rattle.std.specs.Option.{option_copied};
 ghost use Rattle.std.specs.List.{HoldsAt, list_any};
@@ -20,6 +20,8 @@ ghost use Rattle.snippet_model.specs.declared.snippet.Annotation.{Annotation};
 ghost use Rattle.snippet_splice.specs.Edits.{edit_of};
 ghost use Rattle.snippet_splice.specs.Overlap.{AreDisjoint};
 ghost use Rattle.snippet_splice.specs.Splice.{IsSplice};
+ghost use Rattle.snippet_text.specs.Bounds.{IsInText, IsOffset, TextFits};
+ghost use Rattle.snippet_style.specs.Bounds.{HasNext, IsSourceColumn, IsSourceEnd};
 
 use crate::annotated_lines::annotated_lines;
 use memchr::memchr_iter;
@@ -75,8 +77,8 @@ impl<'a> SourceMap<'a> {
         source: &'a str,
         line_start: usize,
     ) -> Result<SourceMap<'a>, AllocError>
-        requires fits { length source.now < 2 ^ 56 }
-        requires numbers { line_start + newline_count source.now + 1 < 2 ^ 64 }
+        requires fits { TextFits source.now }
+        requires numbers { HasNext (line_start + newline_count source.now) }
         ensures ok { IfOk result (λ m. m ≡ record { text = source.now; first = line_start }) }
     {
         Ok(SourceMap {
@@ -174,10 +176,10 @@ impl<'a> SourceMap<'a> {
     pub fn span_to_locations(&self, span: Range<usize>) -> (Loc, Loc)
         requires span { IsSpan self.now.text span.start span.end }
         ensures value { result ≡ locations_of self.now span.start span.end }
-        ensures start_bound { result.0.display < 2 ^ 58 }
-        ensures end_bound { result.1.display ≤ 2 ^ 58 }
-        ensures start_char { result.0.char ≤ 2 ^ 56 }
-        ensures end_char { result.1.char ≤ 2 ^ 56 }
+        ensures start_bound { IsSourceColumn result.0.display }
+        ensures end_bound { IsSourceEnd result.1.display }
+        ensures start_char { IsOffset result.0.char }
+        ensures end_char { IsOffset result.1.char }
     {
         let line = self.line_holding(span.start);
         let at = self.locate(&line, span.start);
@@ -242,11 +244,11 @@ impl<'a> SourceMap<'a> {
         requires border { IsSpanBorder self.now.text byte }
         requires line { let ls = source_lines self.now.text in
             entry_of line.now ≡ entry_at self.now.first ls (line_of ls byte) }
-        requires short { length self.now.text < 2 ^ 56 }
+        requires short { TextFits self.now.text }
         ensures location { result ≡ location_of self.now byte }
         ensures byte { result.byte ≡ byte }
-        ensures char_bound { result.char < 2 ^ 56 }
-        ensures display_bound { result.display < 2 ^ 58 }
+        ensures char_bound { IsInText result.char }
+        ensures display_bound { IsSourceColumn result.display }
     {
         Loc::on_line(line.line, line.line_index, line.start_byte, byte)
     }
@@ -261,10 +263,10 @@ impl<'a> SourceMap<'a> {
         requires line { let ls = source_lines self.now.text in
             entry_of line.now ≡ entry_at self.now.first ls (line_of ls byte) }
         requires later { known.byte ≤ byte }
-        requires short { length self.now.text < 2 ^ 56 }
+        requires short { TextFits self.now.text }
         ensures location { result ≡ location_of self.now byte }
-        ensures char_bound { result.char < 2 ^ 56 }
-        ensures display_bound { result.display < 2 ^ 58 }
+        ensures char_bound { IsInText result.char }
+        ensures display_bound { IsSourceColumn result.display }
     {
         known.later_on_line(line.line, line.start_byte, byte)
     }
@@ -273,7 +275,7 @@ impl<'a> SourceMap<'a> {
     fn steps_after_text(&self, line: &LineInfo<'_>, byte: usize) -> usize
         requires line { let ls = source_lines self.now.text in
             entry_of line.now ≡ entry_at self.now.first ls (line_of ls byte) }
-        requires short { length self.now.text < 2 ^ 56 }
+        requires short { TextFits self.now.text }
         ensures value { result ≡ steps_after_text self.now.text byte }
         ensures bound { result ≤ 1 }
     {
@@ -284,8 +286,8 @@ impl<'a> SourceMap<'a> {
     pub(crate) fn line_index_of(&self, byte: usize) -> usize
         ensures value { result ≡ line_of (source_lines self.now.text) byte }
         ensures within { result < length (source_lines self.now.text) }
-        ensures bound { result + 1 < 2 ^ 64 }
-        ensures short { length self.now.text < 2 ^ 56 }
+        ensures bound { HasNext result }
+        ensures short { TextFits self.now.text }
     {
         last_starting_by(&self.starts, byte)
     }
@@ -337,7 +339,7 @@ impl<'a> SourceMap<'a> {
     fn line_holding(&self, byte: usize) -> LineInfo<'a>
         ensures entry { let ls = source_lines self.now.text in
             entry_of result ≡ entry_at self.now.first ls (line_of ls byte) }
-        ensures short { length self.now.text < 2 ^ 56 }
+        ensures short { TextFits self.now.text }
     {
         self.line_info(self.line_index_of(byte))
     }
@@ -357,7 +359,7 @@ fn last_starting_by(starts: &[usize], byte: usize) -> usize
 
 /// The byte at which each line of a source starts. An empty source has one line.
 fn line_starts(alloc: Global, source: &str) -> Result<Vec<usize>, AllocError>
-    requires fits { length source.now < 2 ^ 56 }
+    requires fits { TextFits source.now }
     ensures starts { IfOk result (λ starts. starts.items ≡ starts_from 0 (source_lines source.now)) }
 {
     let mut starts = vec![in alloc; 0]?;

@@ -9,7 +9,7 @@ use Rattle.snippet_style.specs.Glyphs.{placeholder_of}
 use Rattle.snippet_grid.specs.Print.{row_text}
 use Rattle.snippet_grid.specs.Grid.{cell_at, row_at}
 use Rattle.snippet_style.specs.Cell.{Cell, SPACE}
-use Rattle.snippet_grid.specs.Layout.{Layout}
+use Rattle.snippet_grid.specs.Layout.{Layout, inner_cell}
 use Rattle.snippet_strokes.specs.EntryMarks.{IsBarCell, are_plain, has_mark_role, wide_entries}
 use Rattle.snippet_strokes.specs.Rows.{HasNoBars, IsStrokeRow, AddsStrokes}
 use Rattle.snippet_style.specs.Separators.{closing_row}
@@ -19,7 +19,7 @@ use Rattle.snippet_strokes.proofs.RowLemmas.{bare_row_right, free_bare_row}
 
 -- a line with no entries has no strokes, but a row that closes the window where it closes there
 pub strokes_none : (layout : Layout) (room : ℕ) (closes : Bool) (es : List LineAnnotation) (above : List (List Cell)) (plain : List Cell)
-    (old new : List (List Cell)) → layout.gutter + 3 ≤ layout.code → length es ≡ 0 → old ≡ above ++ plain ∷ [] → HasNoBars layout plain
+    (old new : List (List Cell)) → (closes ≡ true → inner_cell layout ≤ layout.code) → length es ≡ 0 → old ≡ above ++ plain ∷ [] → HasNoBars layout plain
     → new ≡ old ++ (if closes then closing_row layout.decor layout.gutter ∷ [] else []) → AddsStrokes layout room es closes above plain new
 strokes_none layout room closes es above plain old new place none old_is bare_bars adds =
     record {
@@ -39,14 +39,14 @@ strokes_none layout room closes es above plain old new place none old_is bare_ba
         some = λ _ some. absurd (omega (arith, some, none));
         lone = λ _ one. absurd (omega (arith, one, none));
         bare = λ _ _. short closes;
-        labels = λ _ _. LabelsStand-none layout es _ (λ k d within. absurd (omega (arith, within, none))) (blank closes);
+        labels = λ _ _. LabelsStand-none layout es _ (λ k d within. absurd (omega (arith, within, none))) (blank closes place);
         marks = λ _. record {
           marks = λ p kind mark. absurd (omega (arith, mark.among.1, none));
-          unmarked = λ p none_covers. ap has_mark_role (space closes p);
-          spaces = λ _ p none_covers. space closes p;
+          unmarked = λ p none_covers. ap has_mark_role (space closes place p);
+          spaces = λ _ p none_covers. space closes place p;
           lone = λ e one some shown. absurd (omega (arith, none, ap length one));
         };
-        are = rows_are closes;
+        are = rows_are closes place;
       };
     }
   where
@@ -62,26 +62,27 @@ strokes_none layout room closes es above plain old new place none old_is bare_ba
     short true = omega arith
     short false = omega arith
 
-    blank : (closes : Bool) (r c : ℕ) → layout.code ≤ c → cell_at (if closes then closing_row layout.decor layout.gutter ∷ [] else []) r c ≡ SPACE
-    blank true zero c right = bare_row_right layout.decor layout.gutter true c (omega (arith, right, place))
-    blank true (suc r) c right = refl
-    blank false r c right = refl
+    blank : (closes : Bool) → (closes ≡ true → inner_cell layout ≤ layout.code) → (r c : ℕ) → layout.code ≤ c → cell_at (if closes then closing_row layout.decor layout.gutter ∷ [] else []) r c ≡ SPACE
+    blank true stands zero c right = bare_row_right layout.decor layout.gutter true c (omega (arith, right, stands refl))
+    blank true stands (suc r) c right = refl
+    blank false stands r c right = refl
 
-    space : (closes : Bool) (p : ℕ)
+    space : (closes : Bool) → (closes ≡ true → inner_cell layout ≤ layout.code) → (p : ℕ)
         → slice_index_or (row_at (if closes then closing_row layout.decor layout.gutter ∷ [] else []) 0) (layout.code + p) SPACE ≡ SPACE
-    space true p = bare_row_right layout.decor layout.gutter true (layout.code + p) (omega (arith, place))
-    space false p = refl
+    space true stands p = bare_row_right layout.decor layout.gutter true (layout.code + p) (omega (arith, stands refl))
+    space false stands p = refl
 
-    rows_are : (closes : Bool) (k : ℕ) → k < length (if closes then closing_row layout.decor layout.gutter ∷ [] else [])
+    rows_are : (closes : Bool) → (closes ≡ true → inner_cell layout ≤ layout.code) → (k : ℕ)
+        → k < length (if closes then closing_row layout.decor layout.gutter ∷ [] else [])
         → IsStrokeRow layout (are_plain room layout.decor es)
         es (closes && k + 1 == length (if closes then closing_row layout.decor layout.gutter ∷ [] else []))
         (row_at (if closes then closing_row layout.decor layout.gutter ∷ [] else []) k)
-    rows_are true zero within =
+    rows_are true stands zero within =
         record {
           left = λ c before. refl;
           bar_cells = λ c right before. subst (IsBarCell layout.decor) (sym (bare_row_right layout.decor layout.gutter true c right)) (bar_space layout.decor);
-          before = λ _ c from right before all. bare_row_right layout.decor layout.gutter true c (omega (arith, right, place));
+          before = λ _ c from right before all. bare_row_right layout.decor layout.gutter true c (omega (arith, right, stands refl));
           free = free_bare_row layout.decor layout.gutter true;
         }
-    rows_are true (suc k) within = absurd (omega (arith, within))
-    rows_are false k within = absurd (omega (arith, within))
+    rows_are true stands (suc k) within = absurd (omega (arith, within))
+    rows_are false stands k within = absurd (omega (arith, within))

@@ -11,7 +11,7 @@ use Rattle.snippet_style.specs.Glyphs.{strokes_of, underline_role}
 use Rattle.snippet_grid.specs.Grid.{row_at}
 use Rattle.snippet_style.specs.Cell.{Cell, SPACE, unlinked_cell, written}
 use Rattle.snippet_style.specs.declared.glyphs.DecorStyle.{DecorStyle}
-use Rattle.snippet_grid.specs.Layout.{Layout}
+use Rattle.snippet_grid.specs.Layout.{Layout, bar_cell, inner_cell}
 use Rattle.snippet_strokes.specs.declared.bars.OpenBar.{OpenBar}
 use Rattle.snippet_strokes.specs.declared.bars.BarStroke.{BarStroke}
 use Rattle.snippet_strokes.specs.declared.bars.BarStroke.TheVariants.{Top, Solid, Dotted}
@@ -62,7 +62,7 @@ open_below open_bars es = open_past open_bars (ends_of_bars es)
 
 -- there is a cell for a bar, and one after it, between the separator and the code
 abbrev pub HasRoom : Layout → OpenBar → Type 0
-HasRoom layout bar = (0 < bar.depth) × (layout.gutter + 3 + bar.depth < layout.code)
+HasRoom layout bar = (0 < bar.depth) × (inner_cell layout + bar.depth < layout.code)
 
 -- a bar stands so many cells right of the first of some, and is drawn in its role
 pub record StandsBeside (first : OpenBar) (cells : ℕ) (bar : OpenBar) : Type 0 where
@@ -83,7 +83,7 @@ bar_part layout stroke bar =
 -- a row with a part of a bar in the cell of its depth, and with parts of some bars: of two of one depth the later one stands
 abbrev pub with_bar : Layout → BarStroke → List Cell → OpenBar → List Cell
 with_bar layout stroke row bar =
-    written SPACE row (layout.gutter + 2 + bar.depth) (bar_part layout stroke bar ∷ [])
+    written SPACE row (bar_cell layout bar.depth) (bar_part layout stroke bar ∷ [])
 
 abbrev pub with_bars : Layout → BarStroke → List OpenBar → List Cell → List Cell
 with_bars layout stroke bars row = fold (with_bar layout stroke) row bars
@@ -109,7 +109,7 @@ is_whole_line text (e ∷ es) = list_all (is_beside text) (e ∷ es)
 -- parts of bars were drawn in a row: cells left of the bars and from the code on stay, and where bars stand nothing came but
 -- parts of them
 pub record BarsDrawn (layout : Layout) (old new : List Cell) : Type 0 where
-  pub left : (c : ℕ) → c < layout.gutter + 3 → slice_index_or new c SPACE ≡ slice_index_or old c SPACE
+  pub left : (c : ℕ) → c < inner_cell layout → slice_index_or new c SPACE ≡ slice_index_or old c SPACE
   pub bar_cells : (c : ℕ) → IsBarCell layout.decor (slice_index_or old c SPACE) → IsBarCell layout.decor (slice_index_or new c SPACE)
   pub code : drop layout.code new ≡ drop layout.code old
   pub longer : length old ≤ length new

@@ -9,7 +9,7 @@ use Rattle.snippet_style.specs.declared.role.ElementStyle.TheVariants.{LineNumbe
 use Rattle.snippet_grid.specs.Grid.{cells_replaced, replaced_within}
 use Rattle.snippet_view.specs.declared.entries.LineAnnotation.{LineAnnotation}
 use Rattle.snippet_view.specs.Measures.{is_wide_entry}
-use Rattle.snippet_grid.specs.Layout.{Layout}
+use Rattle.snippet_grid.specs.Layout.{Layout, code_cell}
 use Rattle.snippet_marks.specs.declared.positions.PlacedEntry.{PlacedEntry}
 use Rattle.snippet_marks.specs.Positions.{crosses, do_overlap, has_label, position_after, position_at}
 
@@ -71,7 +71,7 @@ pub record Stretch : Type 0 where
 -- the cells of the middle of an entry
 abbrev pub middle_of : Layout → ℕ → LineAnnotation → Stretch
 middle_of layout room e =
-    record { from = layout.code + e.start.display + end_columns room; to = layout.code + e.end.display - end_columns room }
+    record { from = code_cell layout e.start.display + end_columns room; to = code_cell layout e.end.display - end_columns room }
 
 -- what is cut for an entry of which it is known whether it is overlapped: its middle, if it is wide and isn't
 abbrev pub cut_of : Layout → ℕ → PlacedEntry × Bool → List Stretch

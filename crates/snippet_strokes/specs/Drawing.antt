@@ -7,7 +7,7 @@ use Rattle.snippet_style.specs.declared.glyphs.DecorStyle.{DecorStyle}
 use Rattle.snippet_style.specs.Glyphs.{strokes_of}
 use Rattle.snippet_grid.specs.Grid.{cell_at, row_at}
 use Rattle.snippet_style.specs.Cell.{Cell}
-use Rattle.snippet_grid.specs.Layout.{Layout}
+use Rattle.snippet_grid.specs.Layout.{Layout, inner_cell}
 use Rattle.snippet_model.specs.Rows.{IsFreeCell}
 use Rattle.snippet_marks.specs.declared.positions.PlacedEntry.{PlacedEntry}
 use Rattle.snippet_strokes.specs.EntryMarks.{IsBarCell, has_mark_role}
@@ -29,7 +29,7 @@ KeepsBarCells layout old new =
 -- bars were drawn beside rows: only in rows from `row` on, in the cells between the separator and the code, and nothing but
 -- parts of bars
 pub record DrawsBarCells (layout : Layout) (row : ℕ) (old new : List (List Cell)) : Type 0 where
-  pub draws : DrawsFrom row (layout.gutter + 3) old new
+  pub draws : DrawsFrom row (inner_cell layout) old new
   pub bar_cells : KeepsBarCells layout old new
   pub code : (r : ℕ) → drop layout.code (row_at new r) ≡ drop layout.code (row_at old r)
   pub longer : (r : ℕ) → length (row_at old r) ≤ length (row_at new r)

@@ -4,7 +4,7 @@ use Rattle.snippet_style.specs.Glyphs.{strokes_of, underline_role}
 use Rattle.snippet_style.specs.Cell.{Cell, SPACE, unlinked_cell}
 use Rattle.snippet_style.specs.declared.glyphs.DecorStyle.{DecorStyle}
 use Rattle.snippet_grid.specs.Grid.{cell_at}
-use Rattle.snippet_grid.specs.Layout.{Layout}
+use Rattle.snippet_grid.specs.Layout.{Layout, bar_cell}
 use Rattle.snippet_strokes.specs.declared.bars.BarStroke.TheVariants.{Top, Solid, Dotted}
 use Rattle.snippet_strokes.specs.Bars.{Bar, bar_part}
 
@@ -39,14 +39,14 @@ pub record BeginsBelow (layout : Layout) (bar : Bar) (rows : List (List Cell)) :
   pub corner : ℕ
   pub below : 0 < corner
   pub within : corner < length rows
-  pub corner_is : cell_at rows corner (layout.gutter + 2 + bar.depth) ≡ start_corner layout bar
-  pub source : cell_at rows 0 (layout.gutter + 2 + bar.depth) ≡ SPACE
-  pub beside : (i : ℕ) → corner < i → i < length rows → cell_at rows i (layout.gutter + 2 + bar.depth) ≡ solid_bar layout bar
+  pub corner_is : cell_at rows corner (bar_cell layout bar.depth) ≡ start_corner layout bar
+  pub source : cell_at rows 0 (bar_cell layout bar.depth) ≡ SPACE
+  pub beside : (i : ℕ) → corner < i → i < length rows → cell_at rows i (bar_cell layout bar.depth) ≡ solid_bar layout bar
 
 -- or its top stands in the source row, below which the line has none
 pub record BeginsBeside (layout : Layout) (bar : Bar) (rows : List (List Cell)) : Type 0 where
   pub alone : length rows ≡ 1
-  pub top : cell_at rows 0 (layout.gutter + 2 + bar.depth) ≡ bar_top layout bar
+  pub top : cell_at rows 0 (bar_cell layout bar.depth) ≡ bar_top layout bar
 
 -- in the rows of a line the bar begins, in one of these ways
 abbrev pub BarBegins : Layout → Bar → List (List Cell) → Type 0
@@ -58,5 +58,5 @@ pub record BarEnds (layout : Layout) (bar : Bar) (rows : List (List Cell)) : Typ
   pub corner : ℕ
   pub below : 0 < corner
   pub within : corner < length rows
-  pub corner_is : cell_at rows corner (layout.gutter + 2 + bar.depth) ≡ end_corner layout bar
-  pub beside : (i : ℕ) → i < corner → cell_at rows i (layout.gutter + 2 + bar.depth) ≡ solid_bar layout bar
+  pub corner_is : cell_at rows corner (bar_cell layout bar.depth) ≡ end_corner layout bar
+  pub beside : (i : ℕ) → i < corner → cell_at rows i (bar_cell layout bar.depth) ≡ solid_bar layout bar

@@ -8,7 +8,7 @@ use Rattle.snippet_view.specs.declared.entries.LineAnnotation.{LineAnnotation}
 use Rattle.snippet_view.specs.declared.entries.LineAnnotationType.{LineAnnotationType}
 use Rattle.snippet_view.specs.declared.entries.LineAnnotationType.TheVariants.{Singleline, MultilineStart, MultilineEnd, MultilineLine}
 use Rattle.snippet_view.specs.Measures.{is_single_part, is_wide_entry}
-use Rattle.snippet_grid.specs.Layout.{Layout}
+use Rattle.snippet_grid.specs.Layout.{Layout, inner_cell}
 use Rattle.snippet_style.specs.Glyphs.{IsMarkGlyph, underline_role, placeholder_of, bar_glyphs}
 use Rattle.snippet_style.specs.Cell.{Cell}
 use Rattle.snippet_style.specs.declared.glyphs.DecorStyle.{DecorStyle}
@@ -24,9 +24,9 @@ EntryCovers e p = (e.start.display ≤ p) × (p < e.end.display)
 -- `gutter + 3` on, that of depth 1 first
 abbrev pub HasBarCellAt : Layout → LineAnnotationType → Type 0
 HasBarCellAt layout Singleline = Unit {0}
-HasBarCellAt layout (MultilineStart depth) = (0 < depth) × (layout.gutter + 3 + depth < layout.code)
-HasBarCellAt layout (MultilineEnd depth) = (0 < depth) × (layout.gutter + 3 + depth < layout.code)
-HasBarCellAt layout (MultilineLine depth) = (0 < depth) × (layout.gutter + 3 + depth < layout.code)
+HasBarCellAt layout (MultilineStart depth) = (0 < depth) × (inner_cell layout + depth < layout.code)
+HasBarCellAt layout (MultilineEnd depth) = (0 < depth) × (inner_cell layout + depth < layout.code)
+HasBarCellAt layout (MultilineLine depth) = (0 < depth) × (inner_cell layout + depth < layout.code)
 
 -- there is one for the bar of this entry
 abbrev pub HasBarCell : Layout → LineAnnotation → Type 0

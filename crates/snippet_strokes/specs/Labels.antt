@@ -8,7 +8,7 @@ use Rattle.snippet_style.specs.Glyphs.{code_strokes, strokes_of, stem_strokes}
 use Rattle.snippet_grid.specs.Grid.{cell_at}
 use Rattle.snippet_view.specs.Measures.{is_bar}
 use Rattle.snippet_view.specs.declared.entries.LineAnnotation.{LineAnnotation}
-use Rattle.snippet_grid.specs.Layout.{Layout}
+use Rattle.snippet_grid.specs.Layout.{Layout, code_cell}
 use Rattle.snippet_strokes.specs.EntryMarks.{has_mark_role}
 use Rattle.snippet_marks.specs.Entries.{label_role, label_text}
 use Rattle.snippet_marks.specs.Positions.{is_start_part}
@@ -28,7 +28,7 @@ is_cell_of r c l = l.row == r && (nat_le l.cell c && nat_lt c (l.cell + length (
 pub record StandsIn (layout : Layout) (rows : List (List Cell)) (l : PlacedLabel) : Type 0 where
   pub whole : (n : ℕ) → n < length (label_text l.entry)
       → cell_at rows l.row (l.cell + n) ≡ unlinked_cell (label_role l.entry.kind) (slice_index_or (label_text l.entry) n 0)
-  pub place : ((l.row ≡ 0) × (l.cell ≡ layout.code + max l.entry.end.display 1 + 1)) ⊎ ((0 < l.row) × (l.cell ≡ layout.code + l.entry.start.display))
+  pub place : ((l.row ≡ 0) × (l.cell ≡ code_cell layout (max l.entry.end.display 1) + 1)) ⊎ ((0 < l.row) × (l.cell ≡ code_cell layout l.entry.start.display))
 
 -- the glyphs that strokes are drawn with from the code on: marks, stems, the lines that lead to bars, and what stands where they meet
 abbrev pub stroke_glyphs : DecorStyle → List ℕ

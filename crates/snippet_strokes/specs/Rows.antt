@@ -13,7 +13,7 @@ use Rattle.snippet_style.specs.Glyphs.{placeholder_of, elision_of, underline_rol
 use Rattle.snippet_grid.specs.Print.{row_text}
 use Rattle.snippet_grid.specs.Grid.{row_at, cell_at, restyled}
 use Rattle.snippet_style.specs.Cell.{Cell, SPACE, text_cells, gives_way}
-use Rattle.snippet_grid.specs.Layout.{Layout}
+use Rattle.snippet_grid.specs.Layout.{Layout, inner_cell}
 use Rattle.snippet_strokes.specs.EntryMarks.{EntryCovers, IsEntryMark, IsMarkCell, IsBarCell, are_plain, has_mark_role, wide_entries}
 use Rattle.snippet_marks.specs.Entries.{label_text, label_role}
 use Rattle.snippet_model.specs.AnnotationKind.{is_primary}
@@ -36,8 +36,8 @@ pub record ShowsMarks (decor : DecorStyle) (code : ℕ) (es : List LineAnnotatio
 -- stand it holds nothing but parts of them; on a plain line spaces stand between them and the first entry; and it holds no
 -- listed character
 pub record IsStrokeRow (layout : Layout) (plain : Bool) (es : List LineAnnotation) (closes : Bool) (row : List Cell) : Type 0 where
-  pub left : (c : ℕ) → c < layout.gutter + 3 → slice_index_or row c SPACE ≡ slice_index_or (bare_row layout.decor layout.gutter closes) c SPACE
-  pub bar_cells : (c : ℕ) → layout.gutter + 3 ≤ c → c < layout.code → IsBarCell layout.decor (slice_index_or row c SPACE)
+  pub left : (c : ℕ) → c < inner_cell layout → slice_index_or row c SPACE ≡ slice_index_or (bare_row layout.decor layout.gutter closes) c SPACE
+  pub bar_cells : (c : ℕ) → inner_cell layout ≤ c → c < layout.code → IsBarCell layout.decor (slice_index_or row c SPACE)
   pub before : plain ≡ true → (c from : ℕ) → layout.code ≤ c → c < from → All (StandsFrom layout.code from) es → slice_index_or row c SPACE ≡ SPACE
   pub free : IsFree row
 
@@ -74,7 +74,7 @@ pub record CutsRows (layout : Layout) (wide : ℕ) (above : List (List Cell)) (s
 pub record IsBeside (layout : Layout) (wide : ℕ) (plain row : List Cell) : Type 0 where
   pub front : take (layout.gutter + 2) row ≡ take (layout.gutter + 2) plain
   pub gap : slice_index_or row (layout.gutter + 2) SPACE ≡ slice_index_or plain (layout.gutter + 2) SPACE
-  pub bar_cells : (c : ℕ) → layout.gutter + 3 ≤ c → c < layout.code → IsBarCell layout.decor (slice_index_or row c SPACE)
+  pub bar_cells : (c : ℕ) → inner_cell layout ≤ c → c < layout.code → IsBarCell layout.decor (slice_index_or row c SPACE)
   pub text : AreReplaced (placeholder_of layout.decor) wide (row_text (drop layout.code plain)) (row_text (drop layout.code row))
   pub uncut : wide ≡ 0 → drop layout.code row ≡ drop layout.code plain
   pub free : IsFree plain → IsFree row
@@ -82,7 +82,7 @@ pub record IsBeside (layout : Layout) (wide : ℕ) (plain row : List Cell) : Typ
 -- a source row that is drawn, but for its bars: spaces stand in their place, of whatever role
 abbrev pub HasNoBars : Layout → List Cell → Type 0
 HasNoBars layout row =
-    (layout.gutter + 2 ≤ length row) × ((c : ℕ) → layout.gutter + 3 ≤ c → c < layout.code → IsBarCell layout.decor (slice_index_or row c SPACE))
+    (layout.gutter + 2 ≤ length row) × ((c : ℕ) → inner_cell layout ≤ c → c < layout.code → IsBarCell layout.decor (slice_index_or row c SPACE))
 
 -- the strokes of a line were drawn below its source row, which is the last row that is there, and beside it
 pub record AddsStrokes (layout : Layout) (room : ℕ) (es : List LineAnnotation) (closes : Bool) (above : List (List Cell)) (plain : List Cell) (new : List (List Cell)) : Type 0 where
@@ -99,8 +99,8 @@ bare_elision_row Unicode gutter = replicate (gutter + 1) SPACE ++ text_cells Lin
 
 -- the row that stands for lines that are left out, with the bars that run past them; it ends left of the code
 pub record IsElisionRow (layout : Layout) (row : List Cell) : Type 0 where
-  pub left : (c : ℕ) → c < layout.gutter + 3 → slice_index_or row c SPACE ≡ slice_index_or (bare_elision_row layout.decor layout.gutter) c SPACE
-  pub bar_cells : (c : ℕ) → layout.gutter + 3 ≤ c → c < layout.code → IsBarCell layout.decor (slice_index_or row c SPACE)
+  pub left : (c : ℕ) → c < inner_cell layout → slice_index_or row c SPACE ≡ slice_index_or (bare_elision_row layout.decor layout.gutter) c SPACE
+  pub bar_cells : (c : ℕ) → inner_cell layout ≤ c → c < layout.code → IsBarCell layout.decor (slice_index_or row c SPACE)
   pub ends : length row ≤ layout.code
   pub free : IsFree row
 

@@ -8,7 +8,7 @@ use Rattle.snippet_style.specs.Glyphs.{strokes_of}
 use Rattle.snippet_view.specs.declared.entries.LineAnnotationType.{LineAnnotationType}
 use Rattle.snippet_view.specs.declared.entries.LineAnnotationType.TheVariants.{Singleline, MultilineStart, MultilineEnd, MultilineLine}
 use Rattle.snippet_model.specs.AnnotationKind.{is_primary}
-use Rattle.snippet_grid.specs.Layout.{Layout}
+use Rattle.snippet_grid.specs.Layout.{Layout, bar_cell, code_cell, inner_cell}
 use Rattle.snippet_marks.specs.declared.positions.PlacedEntry.{PlacedEntry}
 use Rattle.snippet_marks.specs.Entries.{label_role, label_text}
 use Rattle.snippet_strokes.specs.EntryMarks.{wide_entries}
@@ -27,7 +27,7 @@ use Rattle.snippet_marks.specs.SourceRows.{bare_row}
 -- the label of an entry, if it has one, at its place below the row of the marks
 abbrev pub label_write : Layout → ℕ → PlacedEntry → Write
 label_write layout row e =
-    record { row = row + (label_place e).0; cell = layout.code + (label_place e).1; text = label_text e.entry; role = label_role e.entry.kind }
+    record { row = row + (label_place e).0; cell = code_cell layout (label_place e).1; text = label_text e.entry; role = label_role e.entry.kind }
 
 -- the label as a list: empty where the entry has none
 abbrev pub label_of : Layout → ℕ → PlacedEntry → List Write
@@ -42,7 +42,7 @@ labels_of layout row placed = flat_map (label_of layout row) placed
 -- the stem of an entry, so many rows below the row of the marks: at its foot another glyph
 abbrev pub stem_write : Layout → ℕ → PlacedEntry → ℕ → Write
 stem_write layout row e below =
-    glyph_at (row + below) (layout.code + e.entry.start.display) (if below == e.position then foot_glyph layout.decor e else (strokes_of layout.decor (is_primary e.entry.kind)).stem) (stroke_role e)
+    glyph_at (row + below) (code_cell layout e.entry.start.display) (if below == e.position then foot_glyph layout.decor e else (strokes_of layout.decor (is_primary e.entry.kind)).stem) (stroke_role e)
 
 -- the stem of an entry, if it has one, from the row of the marks down
 abbrev pub stem_of : Layout → ℕ → PlacedEntry → List Write
@@ -65,7 +65,7 @@ stems_of layout row (e ∷ later) =
 -- the line from the bar of this depth to before the start of an entry, in the row of its position
 abbrev pub line_to : Layout → ℕ → PlacedEntry → ℕ → List Write
 line_to layout row e depth =
-    stretch_of (row + e.position) (layout.gutter + 3 + depth) (layout.code + e.entry.start.display) (strokes_of layout.decor (is_primary e.entry.kind)).connector (stroke_role e)
+    stretch_of (row + e.position) (inner_cell layout + depth) (code_cell layout e.entry.start.display) (strokes_of layout.decor (is_primary e.entry.kind)).connector (stroke_role e)
 
 -- the line to the bar of an entry that stands for this part of a span: a start or an end has one
 abbrev pub connector_by : Layout → ℕ → PlacedEntry → LineAnnotationType → List Write
@@ -83,10 +83,6 @@ abbrev pub connectors_of : Layout → ℕ → List PlacedEntry → List Write
 connectors_of layout row placed = flat_map (connector_of layout row) placed
 
 -- ---- bars with their corners
-
--- the cell in which a bar of this depth stands
-abbrev pub bar_cell : Layout → ℕ → ℕ
-bar_cell layout depth = layout.gutter + 2 + depth
 
 -- a glyph in a cell of each row from one to before another
 abbrev pub column_of : ℕ → ℕ → ℕ → ℕ → ElementStyle → List Write

@@ -5,6 +5,7 @@ ghost use Rattle.snippet_strokes.specs.declared.bars.OpenBar.{OpenBar};
 ghost use Rattle.snippet_strokes.specs.Bars as spec;
 ghost use Rattle.snippet_strokes.specs.Bars.{HasRoom, StandsBeside, bar_part, barred, changed_from, ends_of_bars};
 ghost use Rattle.snippet_style.specs.Cell.{SPACE, written};
+ghost use Rattle.snippet_grid.specs.Layout.{bar_cell};
 
 use snippet_grid::StyledBuffer;
 use snippet_marks::{Layout, is_primary, repeated};
@@ -170,17 +171,18 @@ fn draw_side(
     stroke: BarStroke,
 ) -> Result<(), AllocError>
     requires left { 0 < first.depth }
-    requires room { layout.gutter + 2 + first.depth + count < layout.code }
+    requires room { bar_cell layout first.depth + count < layout.code }
     requires some { 0 < count }
     ensures value { OnOk result (buffer.new ≡ changed_from
-        (λ cells. written SPACE cells (layout.gutter + 2 + first.depth) (replicate count (bar_part layout stroke first)))
+        (λ cells. written SPACE cells (bar_cell layout first.depth) (replicate count (bar_part layout stroke first)))
         row buffer.old) }
 {
     let glyph = stroke.glyph(layout.decor, first.primary);
     let role = layout.decor.underline(first.primary).style;
     let part = repeated(alloc, glyph, count)?;
+    let cell = layout.bar_cell(first.depth);
     for r in row..buffer.num_lines() {
-        buffer.puts(r, layout.gutter + 2 + first.depth, part.as_str(), role)?;
+        buffer.puts(r, cell, part.as_str(), role)?;
     }
     Ok(())
 }

@@ -1,10 +1,12 @@
 //! The lines that lead from the ends of spans of several lines to their bars.
-ghost use Rattle.std.specs.Prelude.{◌≡◌, ◌+◌, ◌^◌, ◌<◌, ◌≤◌, All, OnOk, length};
+ghost use Rattle.std.specs.Prelude.{◌≡◌, ◌+◌, ◌<◌, All, OnOk, length};
 ghost use Rattle.snippet_marks.specs.Entries.{HasPlace};
 ghost use Rattle.snippet_strokes.specs.EntryMarks.{HasBarCell};
 ghost use Rattle.snippet_strokes.specs.Drawing.{HasRows};
 ghost use Rattle.snippet_strokes.specs.Strokes.{connector_of, connectors_of, line_to};
 ghost use Rattle.snippet_marks.specs.Writes.{painted};
+ghost use Rattle.snippet_grid.specs.Layout.{inner_cell};
+ghost use Rattle.snippet_style.specs.Bounds.{AreRows};
 
 use snippet_grid::StyledBuffer;
 use snippet_marks::{Layout, PlacedEntry, draw_stretch, is_primary};
@@ -32,7 +34,7 @@ pub(crate) fn draw_connectors(
 ) -> Result<(), AllocError>
     requires columns { All (λ e. HasPlace e.entry) placed.now }
     requires bar_cells { All (λ e. HasBarCell layout e.entry) placed.now }
-    requires small { length buffer.old ≤ 2 ^ 60 }
+    requires small { AreRows (length buffer.old) }
     requires rows { All (HasRows row (length buffer.old)) placed.now }
     ensures painted { OnOk result (buffer.new ≡ painted (connectors_of layout row placed.now) buffer.old) }
 {
@@ -52,7 +54,7 @@ fn draw_connector(
 ) -> Result<(), AllocError>
     requires columns { HasPlace placed.now.entry }
     requires bar_cell { HasBarCell layout placed.now.entry }
-    requires small { length buffer.old ≤ 2 ^ 60 }
+    requires small { AreRows (length buffer.old) }
     requires rows { HasRows row (length buffer.old) placed.now }
     ensures painted { OnOk result (buffer.new ≡ painted (connector_of layout row placed.now) buffer.old) }
 {
@@ -74,18 +76,18 @@ fn draw_line_to(
     placed: &PlacedEntry,
 ) -> Result<(), AllocError>
     requires columns { HasPlace placed.now.entry }
-    requires depth { layout.gutter + 3 + depth < layout.code }
-    requires small { length buffer.old ≤ 2 ^ 60 }
+    requires depth { inner_cell layout + depth < layout.code }
+    requires small { AreRows (length buffer.old) }
     requires rows { HasRows row (length buffer.old) placed.now }
     ensures painted { OnOk result (buffer.new ≡ painted (line_to layout row placed.now depth) buffer.old) }
 {
     let strokes = layout.decor.underline(is_primary(placed.entry.kind));
-    let start = layout.code + placed.entry.start.display;
+    let start = layout.code_cell(placed.entry.start.display);
     draw_stretch(
         alloc,
         buffer,
         row + placed.position,
-        layout.gutter + 3 + depth,
+        layout.bar_cell(depth) + 1,
         start,
         strokes.connector,
         strokes.style,

@@ -1,9 +1,11 @@
 //! The bars of spans of several lines, beside the lines on which they begin and end.
-ghost use Rattle.std.specs.Prelude.{◌≡◌, ◌+◌, ◌^◌, ◌<◌, ◌≤◌, All, OnOk, length};
+ghost use Rattle.std.specs.Prelude.{◌≡◌, ◌+◌, ◌<◌, ◌≤◌, All, OnOk, length};
 ghost use Rattle.snippet_strokes.specs.EntryMarks.{HasBarCell};
 ghost use Rattle.snippet_strokes.specs.Drawing.{HasRows};
 ghost use Rattle.snippet_strokes.specs.Strokes.{bar_of, bottom_of, corner_of, corners_of, top_of};
 ghost use Rattle.snippet_marks.specs.Writes.{painted};
+ghost use Rattle.snippet_grid.specs.Layout.{inner_cell};
+ghost use Rattle.snippet_style.specs.Bounds.{AreRows};
 
 use snippet_grid::StyledBuffer;
 use snippet_marks::{Layout, PlacedEntry, is_primary};
@@ -30,7 +32,7 @@ pub(crate) fn draw_corners(
     placed: &[PlacedEntry],
 ) -> Result<(), AllocError>
     requires bar_cells { All (λ e. HasBarCell layout e.entry) placed.now }
-    requires small { length buffer.old ≤ 2 ^ 60 }
+    requires small { AreRows (length buffer.old) }
     requires rows { All (HasRows (row + 1) (length buffer.old)) placed.now }
     ensures painted { OnOk result (buffer.new ≡ painted (corners_of layout row (length buffer.old) placed.now) buffer.old) }
 {
@@ -48,7 +50,7 @@ fn draw_corner(
     placed: &PlacedEntry,
 ) -> Result<(), AllocError>
     requires bar_cell { HasBarCell layout placed.now.entry }
-    requires small { length buffer.old ≤ 2 ^ 60 }
+    requires small { AreRows (length buffer.old) }
     requires rows { HasRows (row + 1) (length buffer.old) placed.now }
     ensures painted { OnOk result (buffer.new ≡ painted (corner_of layout row (length buffer.old) placed.now) buffer.old) }
 {
@@ -68,14 +70,14 @@ fn draw_top(
     placed: &PlacedEntry,
 ) -> Result<(), AllocError>
     requires some { 0 < depth }
-    requires depth { layout.gutter + 3 + depth < layout.code }
-    requires small { length buffer.old ≤ 2 ^ 60 }
+    requires depth { inner_cell layout + depth < layout.code }
+    requires small { AreRows (length buffer.old) }
     requires rows { HasRows (row + 1) (length buffer.old) placed.now }
     ensures painted { OnOk result (buffer.new ≡ painted (top_of layout row (length buffer.old) placed.now depth) buffer.old) }
 {
     let strokes = layout.decor.underline(is_primary(placed.entry.kind));
     let corner = row + 1 + placed.position;
-    let cell = layout.gutter + 2 + depth;
+    let cell = layout.bar_cell(depth);
     buffer.putc(corner, cell, strokes.bar_top, strokes.style)?;
     let end = buffer.num_lines();
     draw_bar(buffer, layout, corner + 1, end, depth, placed)
@@ -91,14 +93,14 @@ fn draw_bottom(
     placed: &PlacedEntry,
 ) -> Result<(), AllocError>
     requires some { 0 < depth }
-    requires depth { layout.gutter + 3 + depth < layout.code }
-    requires small { length buffer.old ≤ 2 ^ 60 }
+    requires depth { inner_cell layout + depth < layout.code }
+    requires small { AreRows (length buffer.old) }
     requires rows { HasRows (row + 1) (length buffer.old) placed.now }
     ensures painted { OnOk result (buffer.new ≡ painted (bottom_of layout row placed.now depth) buffer.old) }
 {
     let strokes = layout.decor.underline(is_primary(placed.entry.kind));
     let corner = row + 1 + placed.position;
-    let cell = layout.gutter + 2 + depth;
+    let cell = layout.bar_cell(depth);
     draw_bar(buffer, layout, row, corner, depth, placed)?;
     buffer.putc(corner, cell, strokes.bar_bottom, strokes.style)
 }
@@ -113,14 +115,14 @@ fn draw_bar(
     placed: &PlacedEntry,
 ) -> Result<(), AllocError>
     requires some { 0 < depth }
-    requires depth { layout.gutter + 3 + depth < layout.code }
-    requires small { length buffer.old ≤ 2 ^ 60 }
+    requires depth { inner_cell layout + depth < layout.code }
+    requires small { AreRows (length buffer.old) }
     requires rows { end ≤ length buffer.old }
     requires ordered { start ≤ end }
     ensures painted { OnOk result (buffer.new ≡ painted (bar_of layout placed.now depth start end) buffer.old) }
 {
     let strokes = layout.decor.underline(is_primary(placed.entry.kind));
-    let cell = layout.gutter + 2 + depth;
+    let cell = layout.bar_cell(depth);
     for row in start..end {
         buffer.putc(row, cell, strokes.bar, strokes.style)?;
     }

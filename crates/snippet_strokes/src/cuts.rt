@@ -1,5 +1,5 @@
 //! Wide spans, of which the middle gives its place to the placeholder, in the source row and in the row of the marks.
-ghost use Rattle.std.specs.Prelude.{◌≡◌, ◌+◌, ◌^◌, ◌<◌, ◌≤◌, true, All, IfOk, IfSome, OnOk, length};
+ghost use Rattle.std.specs.Prelude.{◌≡◌, ◌+◌, ◌<◌, ◌≤◌, true, All, IfOk, IfSome, OnOk, length};
 ghost use Rattle.std.specs.List.{list_any, position};
 ghost use Rattle.snippet_view.specs.Measures.{is_wide_entry};
 ghost use Rattle.snippet_style.specs.Glyphs.{placeholder_of};
@@ -10,6 +10,7 @@ ghost use Rattle.snippet_strokes.specs.Cuts as spec;
 ghost use Rattle.snippet_strokes.specs.Cuts.{is_wide_at};
 ghost use Rattle.snippet_marks.specs.Entries.{HasPlace};
 ghost use Rattle.snippet_marks.specs.Positions.{crosses, do_overlap};
+ghost use Rattle.snippet_style.specs.Bounds.{AreRows, HasNext};
 
 use snippet_grid::StyledBuffer;
 use snippet_marks::{Layout, PlacedEntry, crosses, overlap, position_after, position_at};
@@ -189,7 +190,7 @@ pub(crate) fn cut_wide(
     requires columns { All (λ e. HasPlace e.entry) placed.now }
     requires count { length overlapped.now ≡ length placed.now }
     requires rows { row + 1 < length buffer.old }
-    requires small { length buffer.old ≤ 2 ^ 60 }
+    requires small { AreRows (length buffer.old) }
     ensures value { OnOk result (buffer.new ≡ spec.cut_rows layout.decor row (spec.cuts_of layout room placed.now overlapped.now) buffer.old) }
 {
     for k in 0..placed.len() {
@@ -212,7 +213,7 @@ fn cut_entry(
     overlapped: bool,
 ) -> Result<(), AllocError>
     requires columns { HasPlace placed.now.entry }
-    requires small { row + 1 < 2 ^ 64 }
+    requires small { HasNext row }
     ensures value { OnOk result (buffer.new ≡ spec.cut_rows layout.decor row (spec.cut_of layout room (placed.now, overlapped)) buffer.old) }
 {
     let entry = &placed.entry;
@@ -220,8 +221,8 @@ fn cut_entry(
         return Ok(());
     }
     let kept = end_columns(room);
-    let start = layout.code + entry.start.display + kept;
-    let end = layout.code + entry.end.display - kept;
+    let start = layout.code_cell(entry.start.display) + kept;
+    let end = layout.code_cell(entry.end.display) - kept;
     cut_stretch(buffer, layout.decor, row, start, end)
 }
 
@@ -256,7 +257,7 @@ fn cut_stretch(
     start: usize,
     end: usize,
 ) -> Result<(), AllocError>
-    requires small { row + 1 < 2 ^ 64 }
+    requires small { HasNext row }
     ensures ok { OnOk result (let placeholder = text_cells LineNumber (placeholder_of decor) in
         buffer.new ≡ cells_replaced (cells_replaced buffer.old row start end placeholder) (row + 1) start end placeholder) }
 {

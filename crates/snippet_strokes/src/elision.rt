@@ -4,6 +4,7 @@ ghost use Rattle.snippet_strokes.specs.Bars.{HasRoom};
 ghost use Rattle.snippet_strokes.specs.Rows.{bare_elision_row};
 ghost use Rattle.snippet_strokes.specs.Snippet.{AddsElision, AddsGap};
 ghost use Rattle.snippet_view.specs.ShownLines.{infos_of};
+ghost use Rattle.snippet_grid.specs.Layout.{inner_cell};
 
 use crate::bars::{BarStroke, OpenBar, draw_bars};
 use snippet_grid::StyledBuffer;
@@ -25,7 +26,6 @@ pub(crate) fn draw_gap(
     rest: &[ShownLine],
     open_bars: &[OpenBar],
 ) -> Result<(), AllocError>
-    requires place { layout.gutter + 3 ≤ layout.code }
     requires room { All (HasRoom layout) open_bars.now }
     ensures added { OnOk result (AddsGap layout open_bars.now number (infos_of rest.now) buffer.old buffer.new) }
 {
@@ -47,7 +47,6 @@ fn draw_elision(
     layout: Layout,
     open_bars: &[OpenBar],
 ) -> Result<(), AllocError>
-    requires place { layout.gutter + 3 ≤ layout.code }
     requires room { All (HasRoom layout) open_bars.now }
     ensures added { OnOk result (AddsElision layout open_bars.now buffer.old buffer.new) }
 {
@@ -59,11 +58,12 @@ fn draw_elision(
 /// Begins that row, with its sign alone: from the first cell on, or in Unicode in the place of the separator.
 fn begin_elision_row(buffer: &mut StyledBuffer, layout: Layout) -> Result<(), AllocError>
     ensures added { OnOk result (buffer.new ≡ buffer.old ++ bare_elision_row layout.decor layout.gutter ∷ []) }
+    ensures place { inner_cell layout ≤ layout.code }
 {
     let row = buffer.num_lines();
     let cell = match layout.decor {
         DecorStyle::Ascii => 0,
-        DecorStyle::Unicode => layout.gutter + 1,
+        DecorStyle::Unicode => layout.separator_cell(),
     };
     buffer.puts(row, cell, layout.decor.elision(), ElementStyle::LineNumber)
 }

@@ -1,8 +1,9 @@
 //! The parts of the source that are coloured as their marks are.
-ghost use Rattle.std.specs.Prelude.{◌+◌, ◌≡◌, ◌^◌, ◌<◌, OnOk, filter, length, not};
+ghost use Rattle.std.specs.Prelude.{◌+◌, ◌≡◌, OnOk, filter, length, not};
 ghost use Rattle.snippet_marks.specs.Entries as spec;
 ghost use Rattle.snippet_grid.specs.Grid.{changed_within, row_at};
 ghost use Rattle.snippet_strokes.specs.Rows.{Restyled, highlighted_row};
+ghost use Rattle.snippet_style.specs.Bounds.{IsRowEnd, IsWindowColumn};
 
 use snippet_grid::StyledBuffer;
 use snippet_marks::{Layout, is_primary};
@@ -22,8 +23,8 @@ pub(crate) fn highlight_source(
     row: usize,
     entries: &[LineAnnotation],
 ) -> Result<(), AllocError>
-    requires short { length (row_at buffer.old row) < 2 ^ 63 + 2 ^ 62 }
-    requires near { dropped < 2 ^ 61 }
+    requires short { IsRowEnd (length (row_at buffer.old row)) }
+    requires near { IsWindowColumn dropped }
     ensures value { OnOk result (buffer.new ≡ changed_within (highlighted_row layout.code dropped
         (filter (λ e. not (spec.is_end_part e.annotation_type)) entries.now)) row (row + 1) buffer.old) }
 {
@@ -54,8 +55,8 @@ fn highlight_entry(
     row: usize,
     entry: &LineAnnotation,
 ) -> Result<(), AllocError>
-    requires short { length (row_at buffer.old row) < 2 ^ 63 + 2 ^ 62 }
-    requires near { dropped < 2 ^ 61 }
+    requires short { IsRowEnd (length (row_at buffer.old row)) }
+    requires near { IsWindowColumn dropped }
     ensures restyled { OnOk result (Restyled layout.code dropped entry.now row buffer.old buffer.new) }
 {
     let primary = is_primary(entry.kind);

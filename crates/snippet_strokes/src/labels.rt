@@ -1,11 +1,12 @@
 //! The labels of marks.
-ghost use Rattle.std.specs.Prelude.{◌≡◌, ◌+◌, ◌^◌, ◌<◌, ◌≤◌, All, OnOk, length};
+ghost use Rattle.std.specs.Prelude.{◌≡◌, All, OnOk, length};
 ghost use Rattle.snippet_marks.specs.Entries.{HasPlace, label_text};
 ghost use Rattle.snippet_strokes.specs.Drawing.{HasRows};
 ghost use Rattle.snippet_marks.specs.Positions as spec;
 ghost use Rattle.snippet_marks.specs.Positions.{HasItsLabel};
 ghost use Rattle.snippet_strokes.specs.Strokes.{label_of, labels_of};
 ghost use Rattle.snippet_marks.specs.Writes.{painted};
+ghost use Rattle.snippet_style.specs.Bounds.{AreRows, FitsRow, HasNext};
 
 use snippet_grid::StyledBuffer;
 use snippet_marks::{Layout, PlacedEntry, label_role};
@@ -29,10 +30,10 @@ pub(crate) fn draw_labels(
     placed: &[PlacedEntry],
 ) -> Result<(), AllocError>
     requires columns { All (λ e. HasPlace e.entry) placed.now }
-    requires small { length buffer.old ≤ 2 ^ 60 }
+    requires small { AreRows (length buffer.old) }
     requires rows { All (HasRows row (length buffer.old)) placed.now }
     requires labels { All HasItsLabel placed.now }
-    requires short { All (λ e. length (label_text e.entry) < 2 ^ 60) placed.now }
+    requires short { All (λ e. FitsRow (label_text e.entry)) placed.now }
     ensures painted { OnOk result (buffer.new ≡ painted (labels_of layout row placed.now) buffer.old) }
 {
     for entry in placed {
@@ -49,16 +50,16 @@ fn draw_label(
     placed: &PlacedEntry,
 ) -> Result<(), AllocError>
     requires columns { HasPlace placed.now.entry }
-    requires small { length buffer.old ≤ 2 ^ 60 }
+    requires small { AreRows (length buffer.old) }
     requires rows { HasRows row (length buffer.old) placed.now }
     requires label { HasItsLabel placed.now }
-    requires short { length (label_text placed.now.entry) < 2 ^ 60 }
+    requires short { FitsRow (label_text placed.now.entry) }
     ensures painted { OnOk result (buffer.new ≡ painted (label_of layout row placed.now) buffer.old) }
 {
     let (below, column) = label_place(placed);
     buffer.puts(
         row + below,
-        layout.code + column,
+        layout.code_cell(column),
         placed.label.as_str(),
         label_role(placed.entry.kind),
     )
@@ -68,7 +69,7 @@ fn draw_label(
 /// column 0 still takes that column.
 fn label_place(placed: &PlacedEntry) -> (usize, usize)
     requires columns { HasPlace placed.now.entry }
-    requires low { placed.now.position + 1 < 2 ^ 64 }
+    requires low { HasNext placed.now.position }
     ensures value { result ≡ spec.label_place placed.now }
 {
     if placed.position > 0 {

@@ -1,5 +1,5 @@
 //! The rows of a snippet: those of each line that is shown.
-ghost use Rattle.std.specs.Prelude.{◌≡◌, ◌+◌, ◌^◌, ◌<◌, ◌≤◌, ◌++◌, ◌∷◌, [], false, List, All, IfOk, IfSome, OnOk};
+ghost use Rattle.std.specs.Prelude.{◌≡◌, ◌+◌, ◌≤◌, ◌++◌, ◌∷◌, [], false, List, All, IfOk, IfSome, OnOk};
 ghost use Rattle.std.specs.Prelude.{chars, length, map};
 ghost use Rattle.snippet_view.specs.Measures.{StandsClear, is_bar};
 ghost use Rattle.snippet_view.specs.ShownLines.{infos_of};
@@ -12,6 +12,8 @@ ghost use Rattle.snippet_strokes.specs.Rows.{AddsStrokes, HasNoBars};
 ghost use Rattle.snippet_text.specs.Normalized.{norm};
 ghost use Rattle.snippet_style.specs.Cell.{Cell};
 ghost use Rattle.snippet_strokes.specs.Snippet.{AddsLine, AddsSnippet};
+ghost use Rattle.snippet_grid.specs.Layout.{separator_cell};
+ghost use Rattle.snippet_text.specs.Bounds.{TextFits};
 
 use crate::bars::{BarStroke, OpenBar, bars_apart, draw_bars, ends_on};
 use crate::elision::draw_gap;
@@ -56,14 +58,13 @@ pub fn draw_snippet(
     closes: bool,
     lines: &[ShownLine],
 ) -> Result<(), AllocError>
-    requires place { layout.gutter + 3 ≤ layout.code }
-    requires numbers { All (λ line. length (shown_number numbers layout.gutter line.info.line_index) ≤ layout.gutter + 1)
+    requires numbers { All (λ line. length (shown_number numbers layout.gutter line.info.line_index) ≤ separator_cell layout)
         lines.now }
-    requires texts { All (λ line. length line.info.line.now < 2 ^ 56) lines.now }
+    requires texts { All (λ line. TextFits line.info.line.now) lines.now }
     requires columns { All (λ line. All HasPlace line.info.annotations.items) lines.now }
     requires clear { All (λ line. All (StandsClear margin) line.info.annotations.items) lines.now }
     requires bar_cells { All (λ line. All (HasBarCell layout) line.info.annotations.items) lines.now }
-    requires labels { All (λ line. All (λ e. IfSome e.label (λ t. length t.now < 2 ^ 56)) line.info.annotations.items) lines.now }
+    requires labels { All (λ line. All (λ e. IfSome e.label (λ t. TextFits t.now)) line.info.annotations.items) lines.now }
     ensures added { OnOk result (AddsSnippet layout margin numbers closes (infos_of lines.now) buffer.old buffer.new) }
 {
     let mut open_bars = Vec::new(alloc);
@@ -103,13 +104,12 @@ fn draw_line(
     line: &ShownLine,
     open_bars: &[OpenBar],
 ) -> Result<Vec<OpenBar>, AllocError>
-    requires place { layout.gutter + 3 ≤ layout.code }
-    requires number { length (shown_number numbers layout.gutter line.now.info.line_index) ≤ layout.gutter + 1 }
-    requires text { length line.now.info.line.now < 2 ^ 56 }
+    requires number { length (shown_number numbers layout.gutter line.now.info.line_index) ≤ separator_cell layout }
+    requires text { TextFits line.now.info.line.now }
     requires columns { All HasPlace line.now.info.annotations.items }
     requires clear { All (StandsClear margin) line.now.info.annotations.items }
     requires bar_cells { All (HasBarCell layout) line.now.info.annotations.items }
-    requires labels { All (λ e. IfSome e.label (λ t. length t.now < 2 ^ 56)) line.now.info.annotations.items }
+    requires labels { All (λ e. IfSome e.label (λ t. TextFits t.now)) line.now.info.annotations.items }
     requires room { All (HasRoom layout) open_bars.now }
     ensures added { OnOk result (AddsLine layout margin numbers closes open_bars.now line.now.info buffer.old buffer.new) }
     ensures bars { IfOk result (λ bars. bars.items ≡ open_below open_bars.now line.now.info.annotations.items) }
@@ -148,12 +148,11 @@ fn draw_entries(
     info: &AnnotatedLineInfo,
     ends: &[OpenBar],
 ) -> Result<(), AllocError>
-    requires place { layout.gutter + 3 ≤ layout.code }
     requires last { length buffer.old ≡ row + 1 }
     requires columns { All HasPlace info.now.annotations.items }
     requires clear { All (λ e. is_bar e.annotation_type ≡ false → dropped ≤ e.start.display) info.now.annotations.items }
     requires bar_cells { All (HasBarCell layout) info.now.annotations.items }
-    requires labels { All (λ e. IfSome e.label (λ t. length t.now < 2 ^ 56)) info.now.annotations.items }
+    requires labels { All (λ e. IfSome e.label (λ t. TextFits t.now)) info.now.annotations.items }
     requires ends { ends.now ≡ ends_of_bars info.now.annotations.items }
     ensures added { OnOk result ((above : List (List Cell)) (plain : List Cell) → buffer.old ≡ above ++ plain ∷ []
         → HasNoBars layout plain

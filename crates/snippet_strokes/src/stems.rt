@@ -1,9 +1,10 @@
 //! The stems that lead from marks down to their labels, or to the lines to their bars.
-ghost use Rattle.std.specs.Prelude.{◌≡◌, ◌+◌, ◌^◌, ◌<◌, ◌≤◌, ◌==◌, ◌∷◌, [], if◌then◌else◌, All, OnOk, length};
+ghost use Rattle.std.specs.Prelude.{◌≡◌, ◌==◌, ◌∷◌, [], if◌then◌else◌, All, OnOk, length};
 ghost use Rattle.snippet_marks.specs.Entries.{HasPlace};
 ghost use Rattle.snippet_strokes.specs.Drawing.{HasRows, foot_glyph};
 ghost use Rattle.snippet_marks.specs.Writes.{painted};
 ghost use Rattle.snippet_strokes.specs.Strokes.{is_stem_covered, stem_of, stems_of};
+ghost use Rattle.snippet_style.specs.Bounds.{AreRows};
 
 use snippet_grid::StyledBuffer;
 use snippet_marks::{Layout, PlacedEntry, is_primary};
@@ -30,7 +31,7 @@ pub(crate) fn draw_stems(
     placed: &[PlacedEntry],
 ) -> Result<(), AllocError>
     requires columns { All (λ e. HasPlace e.entry) placed.now }
-    requires small { length buffer.old ≤ 2 ^ 60 }
+    requires small { AreRows (length buffer.old) }
     requires rows { All (HasRows row (length buffer.old)) placed.now }
     ensures painted { OnOk result (buffer.new ≡ painted (stems_of layout row placed.now) buffer.old) }
 {
@@ -67,7 +68,7 @@ fn draw_stem(
     placed: &PlacedEntry,
 ) -> Result<(), AllocError>
     requires columns { HasPlace placed.now.entry }
-    requires small { length buffer.old ≤ 2 ^ 60 }
+    requires small { AreRows (length buffer.old) }
     requires rows { HasRows row (length buffer.old) placed.now }
     ensures painted { OnOk result (buffer.new ≡ painted (stem_of layout row placed.now) buffer.old) }
 {
@@ -76,7 +77,7 @@ fn draw_stem(
     }
     let strokes = layout.decor.underline(is_primary(placed.entry.kind));
     let foot = foot_glyph(layout.decor, placed);
-    let cell = layout.code + placed.entry.start.display;
+    let cell = layout.code_cell(placed.entry.start.display);
     for below in 0..placed.position + 1 {
         let glyph = stem_glyph(placed, foot, strokes.stem, below);
         buffer.putc(row + below, cell, glyph, strokes.style)?;

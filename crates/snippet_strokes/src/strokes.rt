@@ -1,6 +1,6 @@
 //! All that stands below the source row of a line, and the bars beside it of spans that begin or end there.
-ghost use Rattle.std.specs.Prelude.{◌≡◌, ◌+◌, ◌^◌, ◌<◌, ◌≤◌, ◌++◌, ◌∷◌, [], if◌then◌else◌, All, IfSome, List, OnOk};
-ghost use Rattle.std.specs.Prelude.{false, length, map};
+ghost use Rattle.std.specs.Prelude.{◌≡◌, ◌+◌, ◌<◌, ◌≤◌, ◌++◌, ◌∷◌, [], if◌then◌else◌, All, IfSome, List, OnOk};
+ghost use Rattle.std.specs.Prelude.{false, length, map, true};
 ghost use Rattle.snippet_marks.specs.Entries.{HasPlace, shifted};
 ghost use Rattle.snippet_strokes.specs.EntryMarks.{HasBarCell};
 ghost use Rattle.snippet_view.specs.Measures.{is_bar};
@@ -9,6 +9,9 @@ ghost use Rattle.snippet_strokes.specs.Drawing as spec;
 ghost use Rattle.snippet_strokes.specs.Rows.{AddsStrokes, HasNoBars};
 ghost use Rattle.snippet_strokes.specs.Strokes.{AddsPainted};
 ghost use Rattle.snippet_style.specs.Separators.{closing_row};
+ghost use Rattle.snippet_grid.specs.Layout.{inner_cell};
+ghost use Rattle.snippet_text.specs.Bounds.{TextFits};
+ghost use Rattle.snippet_style.specs.Bounds.{IsCount};
 
 use crate::connectors::draw_connectors;
 use crate::corners::draw_corners;
@@ -51,12 +54,11 @@ pub(crate) fn draw_strokes(
     room: usize,
     entries: &[LineAnnotation],
 ) -> Result<(), AllocError>
-    requires place { layout.gutter + 3 ≤ layout.code }
     requires last { length buffer.old ≡ row + 1 }
     requires columns { All HasPlace entries.now }
     requires clear { All (λ e. is_bar e.annotation_type ≡ false → dropped ≤ e.start.display) entries.now }
     requires bar_cells { All (HasBarCell layout) entries.now }
-    requires labels { All (λ e. IfSome e.label (λ t. length t.now < 2 ^ 56)) entries.now }
+    requires labels { All (λ e. IfSome e.label (λ t. TextFits t.now)) entries.now }
     ensures added { OnOk result ((above : List (List Cell)) (plain : List Cell) → buffer.old ≡ above ++ plain ∷ []
         → HasNoBars layout plain
         → AddsStrokes layout room (map (shifted dropped) entries.now) closes above plain buffer.new) }
@@ -84,6 +86,7 @@ pub(crate) fn draw_strokes(
 fn close_below(buffer: &mut StyledBuffer, layout: Layout, closes: bool) -> Result<(), AllocError>
     ensures added { OnOk result (buffer.new ≡ buffer.old
         ++ (if closes then closing_row layout.decor layout.gutter ∷ [] else [])) }
+    ensures place { closes ≡ true → inner_cell layout ≤ layout.code }
 {
     if closes {
         begin_closing_row(buffer, layout)?;
@@ -94,7 +97,7 @@ fn close_below(buffer: &mut StyledBuffer, layout: Layout, closes: bool) -> Resul
 /// How many rows the strokes of some entries take: that of the marks, and below it, where an entry needs a row of its own,
 /// as many as the lowest position, and one more for labels, which starts don't have.
 fn row_count(placed: &[PlacedEntry]) -> usize
-    requires low { All (λ e. e.position < 2 ^ 63) placed.now }
+    requires low { All (λ e. IsCount e.position) placed.now }
     ensures value { result ≡ spec.row_count placed.now }
 {
     let lowest = lowest_position(placed);

@@ -70,15 +70,15 @@ number_first first small = omega arith
 
 -- the first number fits the gutter where that of the first line does
 pub first_fits : (layout : SuggestionLayout) (first : ℕ) → first < 2 ^ 64 → NumberFits layout first (Line 0)
-    → length (shown_number layout.numbers layout.frame.gutter first) ≤ layout.frame.gutter + 1
+    → length (shown_number layout.numbers layout.base.gutter first) ≤ layout.base.gutter + 1
 first_fits layout first small fits =
-    subst (λ (n : ℕ). length (shown_number layout.numbers layout.frame.gutter n) ≤ layout.frame.gutter + 1) (number_first first small) fits
+    subst (λ (n : ℕ). length (shown_number layout.numbers layout.base.gutter n) ≤ layout.base.gutter + 1) (number_first first small) fits
 
 -- the row of one line, painted
 pub line_lines : (layout : SuggestionLayout) (first : ℕ) (line : List ℕ) (above mid new : List (List Cell)) → first < 2 ^ 64
-    → (adds : AddsRow (IsLineRow layout.frame.decor layout.frame.gutter (shown_number layout.numbers layout.frame.gutter first) (norm (chars line))) above mid)
+    → (adds : AddsRow (IsLineRow layout.base.decor layout.base.gutter (shown_number layout.numbers layout.base.gutter first) (norm (chars line))) above mid)
     → IsRepainted above adds.row new → AddsRows layout first (line ∷ []) (Offers 0 ∷ []) above new
 line_lines layout first line above mid new small adds painted =
-    let shown : AddsRow (IsLineRow layout.frame.decor layout.frame.gutter (shown_number layout.numbers layout.frame.gutter first) (norm (chars line))) above new = line_repainted layout.frame.decor layout.frame.gutter (shown_number layout.numbers layout.frame.gutter first) (norm
+    let shown : AddsRow (IsLineRow layout.base.decor layout.base.gutter (shown_number layout.numbers layout.base.gutter first) (norm (chars line))) above new = line_repainted layout.base.decor layout.base.gutter (shown_number layout.numbers layout.base.gutter first) (norm
     (chars line)) above mid new adds painted in
-    row_alone layout first (line ∷ []) (Offers 0) above new (subst (λ (n : ℕ). AddsRow (IsLineRow layout.frame.decor layout.frame.gutter (shown_number layout.numbers layout.frame.gutter n) (norm (chars line))) above new) (sym (number_first first small)) shown)
+    row_alone layout first (line ∷ []) (Offers 0) above new (subst (λ (n : ℕ). AddsRow (IsLineRow layout.base.decor layout.base.gutter (shown_number layout.numbers layout.base.gutter n) (norm (chars line))) above new) (sym (number_first first small)) shown)

@@ -113,4 +113,4 @@ numbers_fit layout s can room k within =
     let first : ℕ = s.line_start + first_given s in
     let counted = counted_last s can k within in
     let same : number_after first k ≡ first + k = omega (arith, counted.0, counted.1) in
-    subst (λ (n : ℕ). length (shown_number layout.numbers layout.frame.gutter n) ≤ layout.frame.gutter + 1) (sym same) (shown_fits layout.numbers layout.frame.gutter (first + k) (counted_line s) room counted.0 counted.1)
+    subst (λ (n : ℕ). length (shown_number layout.numbers layout.base.gutter n) ≤ layout.base.gutter + 1) (sym same) (shown_fits layout.numbers layout.base.gutter (first + k) (counted_line s) room counted.0 counted.1)

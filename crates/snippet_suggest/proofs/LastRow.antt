@@ -13,7 +13,7 @@ use Rattle.snippet_suggest.proofs.BareLemmas.{stroke_none}
 
 -- what is added below so many empty rows
 pub end_row : (layout : SuggestionLayout) (glyph : List ℕ) (skipped : ℕ) (old new : List (List Cell)) → AddsEnd layout glyph skipped old new
-    → AddsRow (IsStrokeRow layout.frame.decor layout.frame.gutter (beside_gutter layout.frame.gutter glyph)) (old ++ replicate skipped []) new
+    → AddsRow (IsStrokeRow layout.base.decor layout.base.gutter (beside_gutter layout.base.gutter glyph)) (old ++ replicate skipped []) new
 end_row layout glyph skipped old new adds =
     record {
       row = adds.last;
@@ -33,7 +33,7 @@ empty_below layout first lines begin above new adds =
     record {
       rows = adds.row ∷ [] ∷ [];
       added = ap (λ rows. rows ++ [] ∷ []) adds.added ∙ append_assoc above (adds.row ∷ []) ([] ∷ []);
-      are = (adds.is, (stroke_none layout.frame.decor layout.frame.gutter, tt));
+      are = (adds.is, (stroke_none layout.base.decor layout.base.gutter, tt));
     }
 
 -- the rows of a suggestion, the last of which is what it ends with

@@ -139,11 +139,11 @@ marks_next mark at cell n m r above last now new here cell_is m_is is writes =
 
 -- once as many marks stand as the text has columns, the row has its marks
 pub marks_done : (layout : SuggestionLayout) (mark start end n : ℕ) (above : List (List Cell)) (last : List Cell) (now : List (List Cell))
-    → n ≡ min end (2 ^ 60) - start → now ≡ above ++ put Addition (replicate n mark) (layout.frame.gutter + 3 + start) last ∷ []
+    → n ≡ min end (2 ^ 60) - start → now ≡ above ++ put Addition (replicate n mark) (layout.base.gutter + 3 + start) last ∷ []
     → now ≡ above ++ with_mark layout mark start end last ∷ []
 unfolding with_mark
 marks_done layout mark start end n above last now n_is is =
-    is ∙ ap (λ k. above ++ put Addition (replicate k mark) (layout.frame.gutter + 3 + start) last ∷ []) n_is
+    is ∙ ap (λ k. above ++ put Addition (replicate k mark) (layout.base.gutter + 3 + start) last ∷ []) n_is
 
 -- ---- the marks of some edits
 
@@ -155,7 +155,7 @@ pub record Marked (layout : SuggestionLayout) (s : Source) (earlier : List Patch
 
 marks-cons : (layout : SuggestionLayout) (s : Source) (earlier : List PatchColumns) (e : Edit) (es : List Edit) (row : List Cell) → let c =
     columns_of s e in with_marks layout s earlier (e ∷ es) row ≡ with_marks layout s (earlier ++ c ∷ [])
-    es (with_mark layout (mark_glyph_of layout.frame.decor s.text e) (mark_start earlier c e.text) (mark_end earlier c e.text) row)
+    es (with_mark layout (mark_glyph_of layout.base.decor s.text e) (mark_start earlier c e.text) (mark_end earlier c e.text) row)
 unfolding with_marks
 marks-cons layout s earlier e es row = refl
 
@@ -166,16 +166,16 @@ marks-nil layout s earlier row = refl
 -- with one more edit marked the edits so far are marked
 pub marked_next : (layout : SuggestionLayout) (s : Source) (earlier later : List PatchColumns) (e : Edit) (left es : List Edit) (all : List Cell)
     (above now new : List (List Cell)) (mark start end : ℕ) (so_far : Marked layout s earlier left all above now) → left ≡ e ∷ es
-    → later ≡ earlier ++ columns_of s e ∷ [] → mark ≡ mark_glyph_of layout.frame.decor s.text e → start ≡ mark_start earlier (columns_of s e) e.text
+    → later ≡ earlier ++ columns_of s e ∷ [] → mark ≡ mark_glyph_of layout.base.decor s.text e → start ≡ mark_start earlier (columns_of s e) e.text
     → end ≡ mark_end earlier (columns_of s e) e.text → new ≡ above ++ with_mark layout mark start end so_far.row ∷ []
     → Marked layout s later es all above new
 marked_next layout s earlier later e left es all above now new mark start end so_far first more mark_is start_is end_is adds =
     let row : List Cell = so_far.row in
     let c : PatchColumns = columns_of s e in
     let Drawn : ℕ → ℕ → ℕ → List Cell = λ m i j. with_mark layout m i j row in
-    let row_is : Drawn mark start end ≡ Drawn (mark_glyph_of layout.frame.decor s.text e) (mark_start earlier c e.text) (mark_end earlier c e.text) =
-    ap (λ m. Drawn m start end) mark_is ∙ ap (λ i. Drawn (mark_glyph_of layout.frame.decor s.text e) i end) start_is
-    ∙ ap (Drawn (mark_glyph_of layout.frame.decor s.text e) (mark_start earlier c e.text)) end_is in
+    let row_is : Drawn mark start end ≡ Drawn (mark_glyph_of layout.base.decor s.text e) (mark_start earlier c e.text) (mark_end earlier c e.text) =
+    ap (λ m. Drawn m start end) mark_is ∙ ap (λ i. Drawn (mark_glyph_of layout.base.decor s.text e) i end) start_is
+    ∙ ap (Drawn (mark_glyph_of layout.base.decor s.text e) (mark_start earlier c e.text)) end_is in
     record {
       row = Drawn mark start end;
       is = adds;

@@ -117,18 +117,18 @@ placeholder_some Unicode = λ none. cc
 -- the row of a line was drawn
 pub line_drawn : (layout : SuggestionLayout) (glyph : SuggestionGlyph) (number : ℕ) (line : List ℕ) (role : ElementStyle)
     (signed digits text : List ℕ) (r : ℕ) (old one two new : List (List Cell)) → r ≡ length old → role ≡ suggestion_role_of glyph
-    → chars signed ≡ suggestion_glyph_of layout.frame.decor glyph
-    → chars digits ≡ shown_number layout.numbers layout.frame.gutter number → chars text ≡ norm (chars line)
-    → IsUtf8 digits → IsUtf8 text → one ≡ cells_written old r (layout.frame.gutter + 1) (text_cells role (chars signed))
+    → chars signed ≡ suggestion_glyph_of layout.base.decor glyph
+    → chars digits ≡ shown_number layout.numbers layout.base.gutter number → chars text ≡ norm (chars line)
+    → IsUtf8 digits → IsUtf8 text → one ≡ cells_written old r (layout.base.gutter + 1) (text_cells role (chars signed))
     → (0 < length digits → two ≡ cells_written one r 0 (text_cells LineNumber (chars digits))) → (digits ≡ [] → two ≡ one)
-    → (0 < length text → new ≡ cells_written two r (layout.frame.gutter + 3) (text_cells NoStyle (chars text))) → (text ≡ [] → new ≡ two)
+    → (0 < length text → new ≡ cells_written two r (layout.base.gutter + 3) (text_cells NoStyle (chars text))) → (text ≡ [] → new ≡ two)
     → new ≡ old ++ line_cells layout glyph number line ∷ []
 unfolding line_cells
 line_drawn layout glyph number line role signed digits text r old one two new here role_is sign_is digits_are text_is utf8_digits utf8_text signs numbers no_number texts no_text =
-    let g = layout.frame.gutter in
-    let sign_row = put (suggestion_role_of glyph) (suggestion_glyph_of layout.frame.decor glyph) (g + 1) [] in
+    let g = layout.base.gutter in
+    let sign_row = put (suggestion_role_of glyph) (suggestion_glyph_of layout.base.decor glyph) (g + 1) [] in
     let first : one ≡ old ++ sign_row ∷ [] =
-    put_begun (suggestion_role_of glyph) (suggestion_glyph_of layout.frame.decor glyph) (g + 1) r old [] old one (glyph_some layout.frame.decor glyph) here (sym (append-nil old))
+    put_begun (suggestion_role_of glyph) (suggestion_glyph_of layout.base.decor glyph) (g + 1) r old [] old one (glyph_some layout.base.decor glyph) here (sym (append-nil old))
     (omega arith) (signs ∙ ap (λ (k : ElementStyle). cells_written old r (g + 1)
     (text_cells k (chars signed))) role_is ∙ ap (λ (cs : List ℕ). cells_written old r (g + 1) (text_cells (suggestion_role_of glyph) cs)) sign_is) in
     let second = put_more LineNumber digits 0 r old sign_row one two utf8_digits here first numbers no_number in
@@ -138,14 +138,14 @@ line_drawn layout glyph number line role signed digits text r old one two new he
 -- the row of a line that is removed was drawn, over one that is there or not
 pub removed_drawn : (layout : SuggestionLayout) (role : ElementStyle) (number : ℕ) (line : List ℕ) (minus digits text : List ℕ) (r : ℕ)
     (above tail old one two new : List (List Cell)) → r ≡ length above → old ≡ above ++ tail → length tail ≤ 1 → chars minus ≡ codes "- "
-    → chars digits ≡ shown_number layout.numbers layout.frame.gutter number → chars text ≡ norm (chars line) → IsUtf8 digits → IsUtf8 text
+    → chars digits ≡ shown_number layout.numbers layout.base.gutter number → chars text ≡ norm (chars line) → IsUtf8 digits → IsUtf8 text
     → (0 < length digits → one ≡ cells_written old r 0 (text_cells LineNumber (chars digits))) → (digits ≡ [] → one ≡ old)
-    → two ≡ cells_written one r (layout.frame.gutter + 1) (text_cells Removal (chars minus))
-    → (0 < length text → new ≡ cells_written two r (layout.frame.gutter + 3) (text_cells role (chars text))) → (text ≡ [] → new ≡ two)
+    → two ≡ cells_written one r (layout.base.gutter + 1) (text_cells Removal (chars minus))
+    → (0 < length text → new ≡ cells_written two r (layout.base.gutter + 3) (text_cells role (chars text))) → (text ≡ [] → new ≡ two)
     → new ≡ above ++ removed_cells layout role number line (row_at tail 0) ∷ []
 unfolding removed_cells
 removed_drawn layout role number line minus digits text r above tail old one two new here is few minus_is digits_are text_is utf8_digits utf8_text numbers no_number signs texts no_text =
-    let g = layout.frame.gutter in
+    let g = layout.base.gutter in
     let under = row_at tail 0 in
     let first = put_over LineNumber digits 0 r above tail old one utf8_digits here is few numbers no_number in
     let numbered = put LineNumber (chars digits) 0 under in
@@ -158,22 +158,22 @@ removed_drawn layout role number line minus digits text r above tail old one two
 
 -- the row in place of lines that are left out was drawn
 pub gap_drawn : (layout : SuggestionLayout) (text : List ℕ) (r at : ℕ) (old new : List (List Cell)) → r ≡ length old
-    → at ≡ layout.frame.gutter - width_of (placeholder_of layout.frame.decor) → chars text ≡ placeholder_of layout.frame.decor
+    → at ≡ layout.base.gutter - width_of (placeholder_of layout.base.decor) → chars text ≡ placeholder_of layout.base.decor
     → (0 < length text → new ≡ cells_written old r at (text_cells LineNumber (chars text))) → new ≡ old ++ gap_cells layout ∷ []
 unfolding gap_cells
-gap_drawn layout [] r at old new here right is writes = absurd (placeholder_some layout.frame.decor (sym is ∙ chars-nil))
+gap_drawn layout [] r at old new here right is writes = absurd (placeholder_some layout.base.decor (sym is ∙ chars-nil))
 gap_drawn layout (b ∷ bs) r at old new here right is writes =
-    let cs = placeholder_of layout.frame.decor in
-    put_begun LineNumber cs at r old [] old new (placeholder_some layout.frame.decor) here (sym (append-nil old)) (omega arith) (writes (omega arith) ∙ ap (λ (t : List ℕ). cells_written old r at (text_cells LineNumber t)) is) ∙ ap (λ (n : ℕ). old ++ put LineNumber cs n [] ∷ []) right
+    let cs = placeholder_of layout.base.decor in
+    put_begun LineNumber cs at r old [] old new (placeholder_some layout.base.decor) here (sym (append-nil old)) (omega arith) (writes (omega arith) ∙ ap (λ (t : List ℕ). cells_written old r at (text_cells LineNumber t)) is) ∙ ap (λ (n : ℕ). old ++ put LineNumber cs n [] ∷ []) right
 
 -- the row of a line that is offered
 pub offered_is : (layout : SuggestionLayout) (kind : DisplaySuggestion) (glyph : SuggestionGlyph) (count counted number numbered : ℕ)
     (line text : List ℕ) (ss new : List SubstitutionHighlight) → glyph ≡ sign_of kind count line ss → count ≡ counted → number ≡ numbered
-    → line ≡ text → ss ≡ new → with_stretches Addition layout.frame.gutter (chars line) ss (line_cells layout glyph number line)
+    → line ≡ text → ss ≡ new → with_stretches Addition layout.base.gutter (chars line) ss (line_cells layout glyph number line)
     ≡ offered_cells layout kind counted numbered text new
 unfolding offered_cells
 offered_is layout kind glyph count counted number numbered line text ss new sign counts numbers lines stretches =
-    let Row : List ℕ → List SubstitutionHighlight → SuggestionGlyph → ℕ → List Cell = λ t es g n. with_stretches Addition layout.frame.gutter (chars t) es (line_cells layout g n t) in
+    let Row : List ℕ → List SubstitutionHighlight → SuggestionGlyph → ℕ → List Cell = λ t es g n. with_stretches Addition layout.base.gutter (chars t) es (line_cells layout g n t) in
     let signed : glyph ≡ sign_of kind counted text new = sign ∙ ap (λ n. sign_of kind n line ss) counts ∙ ap (λ t. sign_of kind counted t ss) lines ∙ ap (sign_of kind counted text) stretches in
     ap (λ t. Row t ss glyph number) lines ∙ ap (λ es. Row text es glyph number) stretches ∙ ap (λ g. Row text new g number) signed ∙ ap (Row text new (sign_of kind counted text new)) numbers
 
@@ -197,13 +197,13 @@ glyph_over role decor glyph cs at r above tail old new is here old_is few writes
 
 -- what a suggestion begins and ends with
 pub begin_opening : (layout : SuggestionLayout) (under : List Cell)
-    → put LineNumber (suggestion_glyph_of layout.frame.decor sign.Opening) (layout.frame.gutter + 1) under ≡ begin_cells layout Opening under
+    → put LineNumber (suggestion_glyph_of layout.base.decor sign.Opening) (layout.base.gutter + 1) under ≡ begin_cells layout Opening under
 unfolding begin_cells
 begin_opening layout under = refl
 
 -- the glyph of a next suggestion makes the row that begins it
 pub begin_next : (layout : SuggestionLayout) (under : List Cell)
-    → put LineNumber (suggestion_glyph_of layout.frame.decor sign.Next) (layout.frame.gutter + 1) under ≡ begin_cells layout Next under
+    → put LineNumber (suggestion_glyph_of layout.base.decor sign.Next) (layout.base.gutter + 1) under ≡ begin_cells layout Next under
 unfolding begin_cells
 begin_next layout under = refl
 
@@ -217,7 +217,7 @@ begin_path layout above (row ∷ next ∷ rows) old is one = absurd (omega (arit
 
 -- the glyph of the end makes the row that ends a suggestion
 pub end_is : (layout : SuggestionLayout) (follows : Bool)
-    → put LineNumber (end_glyph layout.frame.decor follows) (layout.frame.gutter + 1) [] ≡ end_cells layout follows
+    → put LineNumber (end_glyph layout.base.decor follows) (layout.base.gutter + 1) [] ≡ end_cells layout follows
 unfolding end_cells
 end_is layout follows = refl
 
@@ -228,6 +228,6 @@ diff_sign line ss = refl
 
 -- an added line of a diff, with its stretches, is the row of that offered line
 pub diff_offered : (layout : SuggestionLayout) (number : ℕ) (line : List ℕ) (ss : List SubstitutionHighlight)
-    → with_stretches Addition layout.frame.gutter (chars line) ss (line_cells layout sign.Added number line) ≡ offered_cells layout Diff 1 number line ss
+    → with_stretches Addition layout.base.gutter (chars line) ss (line_cells layout sign.Added number line) ≡ offered_cells layout Diff 1 number line ss
 diff_offered layout number line ss =
     offered_is layout Diff sign.Added 1 1 number number line line ss ss (diff_sign line ss) refl refl refl refl

@@ -107,12 +107,12 @@ pub record RemovesAt (layout : SuggestionLayout) (above : List (List Cell)) (inf
   pub shares : Bool
   pub here : at ≡ length (above ++ rows)
   pub stands : now ≡ (above ++ rows) ++ tail
-  pub tail_is : IsTail layout.frame.decor layout.frame.gutter shares tail
+  pub tail_is : IsTail layout.base.decor layout.base.gutter shares tail
   pub after : 0 < count → tail ≡ []
 
 -- before any removed line is added the rows are those above and their tail
 pub removes_begun : (layout : SuggestionLayout) (above tail : List (List Cell)) (shares : Bool) (infos : List LineInfo) (at : ℕ) (now : List (List Cell))
-    → at ≡ length above → now ≡ above ++ tail → IsTail layout.frame.decor layout.frame.gutter shares tail → RemovesAt layout above infos at 0 now
+    → at ≡ length above → now ≡ above ++ tail → IsTail layout.base.decor layout.base.gutter shares tail → RemovesAt layout above infos at 0 now
 removes_begun layout above tail shares infos at now here stands is =
     record {
       rows = [];
@@ -156,7 +156,7 @@ removes_done layout above infos at count now some all drawn =
 
 -- the row in which what it finds there begins
 pub tail_row : (layout : SuggestionLayout) (shares : Bool) (above tail old : List (List Cell)) (row : ℕ) → old ≡ above ++ tail
-    → IsTail layout.frame.decor layout.frame.gutter shares tail → row ≡ length old - (if shares then 1 else 0) → row ≡ length above
+    → IsTail layout.base.decor layout.base.gutter shares tail → row ≡ length old - (if shares then 1 else 0) → row ≡ length above
 tail_row layout true above tail old row is shared at =
     omega (arith, ap length is, ap length shared.2, length-append above tail)
 tail_row layout false above tail old row is none at =

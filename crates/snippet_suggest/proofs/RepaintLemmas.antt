@@ -103,16 +103,16 @@ same_line decor gutter number text now last same is =
 same_shows : (layout : SuggestionLayout) (first : ℕ) (lines : List (List ℕ)) (shown : SuggestionRow) (now last : List Cell) → AreSame now last
     → Shows layout first lines shown last → Shows layout first lines shown now
 same_shows layout first lines (Begins start) now last same is =
-    same_stroke layout.frame.decor layout.frame.gutter (beside_gutter layout.frame.gutter (begin_glyph layout.frame.decor start)) now last same is
+    same_stroke layout.base.decor layout.base.gutter (beside_gutter layout.base.gutter (begin_glyph layout.base.decor start)) now last same is
 same_shows layout first lines (Offers k) now last same is =
-    same_line layout.frame.decor layout.frame.gutter (shown_number layout.numbers layout.frame.gutter (number_after first k)) (norm (chars (get_or lines k []))) now last same is
+    same_line layout.base.decor layout.base.gutter (shown_number layout.numbers layout.base.gutter (number_after first k)) (norm (chars (get_or lines k []))) now last same is
 same_shows layout first lines Skips now last same is =
-    same_stroke layout.frame.decor layout.frame.gutter (gap_left layout.frame.decor layout.frame.gutter) now last same is
+    same_stroke layout.base.decor layout.base.gutter (gap_left layout.base.decor layout.base.gutter) now last same is
 same_shows layout first lines (Removes i number text) now last same is =
-    same_removed layout.numbers layout.frame.decor layout.frame.gutter (shown_number layout.numbers layout.frame.gutter number) (norm (chars text)) now last same is
-same_shows layout first lines Empty now last same is = same_stroke layout.frame.decor layout.frame.gutter [] now last same is
+    same_removed layout.numbers layout.base.decor layout.base.gutter (shown_number layout.numbers layout.base.gutter number) (norm (chars text)) now last same is
+same_shows layout first lines Empty now last same is = same_stroke layout.base.decor layout.base.gutter [] now last same is
 same_shows layout first lines (Ends follows) now last same is =
-    same_stroke layout.frame.decor layout.frame.gutter (beside_gutter layout.frame.gutter (end_glyph layout.frame.decor follows)) now last same is
+    same_stroke layout.base.decor layout.base.gutter (beside_gutter layout.base.gutter (end_glyph layout.base.decor follows)) now last same is
 
 -- so a row that was added and then painted is added
 row_repainted : (P : List Cell → Type 0) → ((now last : List Cell) → AreSame now last → P last → P now)
@@ -128,8 +128,8 @@ row_repainted P stays old mid new adds painted =
 pub removed_repainted : (layout : SuggestionLayout) (line : ℕ × List ℕ) (old mid new : List (List Cell)) (adds : AddsRow (IsRowOfRemoved layout line) old mid)
     → IsRepainted old adds.row new → AddsRow (IsRowOfRemoved layout line) old new
 removed_repainted layout line old mid new adds painted =
-    let number : List ℕ = shown_number layout.numbers layout.frame.gutter line.0 in
-    row_repainted (IsRowOfRemoved layout line) (same_removed layout.numbers layout.frame.decor layout.frame.gutter number (norm (chars line.1))) old mid new adds painted
+    let number : List ℕ = shown_number layout.numbers layout.base.gutter line.0 in
+    row_repainted (IsRowOfRemoved layout line) (same_removed layout.numbers layout.base.decor layout.base.gutter number (norm (chars line.1))) old mid new adds painted
 
 -- a row of a suggestion that is repainted shows the same still
 pub shows_repainted : (layout : SuggestionLayout) (first : ℕ) (lines : List (List ℕ)) (shown : SuggestionRow) (old mid new : List (List Cell)) (adds : AddsRow (Shows layout first lines shown) old mid) → IsRepainted old adds.row new → AddsRow (Shows layout first lines shown) old new

@@ -111,16 +111,16 @@ emptied_done layout above under lines at count now some all drawn =
 
 taken-append : (layout : SuggestionLayout) (first : ℕ) (replaced : ℕ → List SubstitutionHighlight) (k : ℕ) (infos : List LineInfo) (info : LineInfo)
     → taken_cells layout first replaced k (infos ++ info ∷ [])
-    ≡ taken_cells layout first replaced k infos ++ with_stretches Removal layout.frame.gutter (chars info.line.now) (replaced (info.line_index - first))
+    ≡ taken_cells layout first replaced k infos ++ with_stretches Removal layout.base.gutter (chars info.line.now) (replaced (info.line_index - first))
     (removed_cells layout NoStyle (number_after first (k + length infos)) info.line.now []) ∷ []
 unfolding taken_cells
 taken-append layout first replaced k [] info =
     let here : k ≡ k + 0 = omega arith in
-    ap (λ n. with_stretches Removal layout.frame.gutter (chars info.line.now) (replaced (info.line_index - first)) (removed_cells layout NoStyle (number_after first n) info.line.now []) ∷ []) here
+    ap (λ n. with_stretches Removal layout.base.gutter (chars info.line.now) (replaced (info.line_index - first)) (removed_cells layout NoStyle (number_after first n) info.line.now []) ∷ []) here
 taken-append layout first replaced k (one ∷ infos) info =
     let here : k + 1 + length infos ≡ k + length (one ∷ infos) = omega arith in
-    let Row : ℕ → List Cell = λ n. with_stretches Removal layout.frame.gutter (chars info.line.now) (replaced (info.line_index - first)) (removed_cells layout NoStyle (number_after first n) info.line.now []) in
-    let top : List Cell = with_stretches Removal layout.frame.gutter (chars one.line.now) (replaced (one.line_index - first)) (removed_cells layout NoStyle (number_after first k) one.line.now []) in
+    let Row : ℕ → List Cell = λ n. with_stretches Removal layout.base.gutter (chars info.line.now) (replaced (info.line_index - first)) (removed_cells layout NoStyle (number_after first n) info.line.now []) in
+    let top : List Cell = with_stretches Removal layout.base.gutter (chars one.line.now) (replaced (one.line_index - first)) (removed_cells layout NoStyle (number_after first k) one.line.now []) in
     ap (λ rows. top ∷ rows) (taken-append layout first replaced (k + 1) infos info) ∙ ap (λ n. top ∷ (taken_cells layout first replaced (k + 1) infos ++ Row n ∷ [])) here
 
 -- before any removed line is taken no row is added
@@ -133,13 +133,13 @@ taken_none layout first replaced infos old = sym (append-nil old)
 pub taken_next : (layout : SuggestionLayout) (first : ℕ) (replaced : ℕ → List SubstitutionHighlight) (infos : List LineInfo) (i number : ℕ)
     (d : LineInfo) (ss : List SubstitutionHighlight) (old now new : List (List Cell)) → i < length infos → number ≡ number_after first i
     → ss ≡ replaced ((get_or infos i d).line_index - first) → now ≡ old ++ taken_cells layout first replaced 0 (take i infos)
-    → new ≡ now ++ with_stretches Removal layout.frame.gutter (chars (get_or infos i d).line.now)
+    → new ≡ now ++ with_stretches Removal layout.base.gutter (chars (get_or infos i d).line.now)
     ss (removed_cells layout NoStyle number (get_or infos i d).line.now []) ∷ []
     → new ≡ old ++ taken_cells layout first replaced 0 (take (i + 1) infos)
 taken_next layout first replaced infos i number d ss old now new within number_is ss_is is adds =
     let info : LineInfo = get_or infos i d in
     let front : List (List Cell) = taken_cells layout first replaced 0 (take i infos) in
-    let Row : ℕ → List SubstitutionHighlight → List Cell = λ n es. with_stretches Removal layout.frame.gutter (chars info.line.now) es (removed_cells layout NoStyle n info.line.now []) in
+    let Row : ℕ → List SubstitutionHighlight → List Cell = λ n es. with_stretches Removal layout.base.gutter (chars info.line.now) es (removed_cells layout NoStyle n info.line.now []) in
     let count : i ≡ 0 + length (take i infos) = omega (arith, length-take i infos, within) in
     let row : Row number ss ≡ Row (number_after first (0 + length (take i infos))) (replaced (info.line_index - first)) = ap (λ n. Row n ss) (number_is ∙ ap (number_after first) count) ∙ ap (Row (number_after first (0 + length (take i infos)))) ss_is in
     let more : taken_cells layout first replaced 0 (take (i + 1) infos) ≡ front ++ Row (number_after first (0 + length (take i infos)))
@@ -171,11 +171,11 @@ last_of row (next ∷ rows) =
 pub diff_left : (layout : SuggestionLayout) (first : ℕ) (infos : List LineInfo) (replaced : ℕ → List SubstitutionHighlight) (line : List ℕ)
     (added : List SubstitutionHighlight) (last : List Cell) (stays : Bool) → stays ≡ bytes_eq line (last_removed infos)
     → is_left_out Diff (line ∷ []) (last_removed infos) ≡ true
-    → on_last (left_out_cells layout.frame.gutter line (gone_of stays first replaced infos) added)
+    → on_last (left_out_cells layout.base.gutter line (gone_of stays first replaced infos) added)
     (last ∷ taken_cells layout first replaced 0 (unless_stays stays infos)) ≡ diff_cells layout first infos replaced line added last
 unfolding diff_cells
 diff_left layout first infos replaced line added last stays is left =
-    let Rows : Bool → List (List Cell) = λ b. on_last (left_out_cells layout.frame.gutter line (gone_of b first replaced infos) added) (last ∷ taken_cells layout first replaced 0 (unless_stays b infos)) in
+    let Rows : Bool → List (List Cell) = λ b. on_last (left_out_cells layout.base.gutter line (gone_of b first replaced infos) added) (last ∷ taken_cells layout first replaced 0 (unless_stays b infos)) in
     let real : Bool = bytes_eq line (last_removed infos) in
     let rows : List (List Cell) = last ∷ taken_cells layout first replaced 0 (unless_stays real infos) in
     ap Rows is ∙ sym (cond-true (is_left_out Diff (line ∷ []) (last_removed infos)) (Rows real) (rows ++ offered_cells layout Diff 1 first line added ∷ []) left)
@@ -192,7 +192,7 @@ diff_shown layout first infos replaced line added last stays is shown =
     let real : Bool = bytes_eq line (last_removed infos) in
     ap (λ b. Rows b ++ offered_cells layout Diff 1 first line added ∷ []) is
     ∙ sym (cond-false (is_left_out Diff (line ∷ []) (last_removed infos))
-    (on_last (left_out_cells layout.frame.gutter line (gone_of real first replaced infos) added) (Rows real))
+    (on_last (left_out_cells layout.base.gutter line (gone_of real first replaced infos) added) (Rows real))
     (Rows real ++ offered_cells layout Diff 1 first line added ∷ []) shown)
 
 -- a line that is the last that is reached isn't shown

@@ -63,26 +63,26 @@ put_first role (x ∷ cs) at row some =
 
 -- the sign stands in the row of a line
 line_sign : (layout : SuggestionLayout) (glyph : SuggestionGlyph) (number : ℕ) (line : List ℕ)
-    → length (shown_number layout.numbers layout.frame.gutter number) ≤ layout.frame.gutter + 1
-    → (slice_index_or (line_cells layout glyph number line) (layout.frame.gutter + 1) SPACE).ch
-    ≡ slice_index_or (suggestion_glyph_of layout.frame.decor glyph) 0 32
+    → length (shown_number layout.numbers layout.base.gutter number) ≤ layout.base.gutter + 1
+    → (slice_index_or (line_cells layout glyph number line) (layout.base.gutter + 1) SPACE).ch
+    ≡ slice_index_or (suggestion_glyph_of layout.base.decor glyph) 0 32
 unfolding line_cells
 line_sign layout glyph number line fits =
-    let g : ℕ = layout.frame.gutter in
-    let signed : List Cell = put (suggestion_role_of glyph) (suggestion_glyph_of layout.frame.decor glyph) (g + 1) [] in
+    let g : ℕ = layout.base.gutter in
+    let signed : List Cell = put (suggestion_role_of glyph) (suggestion_glyph_of layout.base.decor glyph) (g + 1) [] in
     let digits : List ℕ = shown_number layout.numbers g number in
     let numbered : List Cell = put LineNumber digits 0 signed in
     let Ch : Cell → ℕ = λ cell. cell.ch in
-    ap Ch (put_left NoStyle (norm (chars line)) (g + 3) (g + 1) numbered (omega arith)) ∙ ap Ch (put_right LineNumber digits 0 (g + 1) signed (omega (arith, fits))) ∙ put_first (suggestion_role_of glyph) (suggestion_glyph_of layout.frame.decor glyph) (g + 1) [] (glyph_some layout.frame.decor glyph)
+    ap Ch (put_left NoStyle (norm (chars line)) (g + 3) (g + 1) numbered (omega arith)) ∙ ap Ch (put_right LineNumber digits 0 (g + 1) signed (omega (arith, fits))) ∙ put_first (suggestion_role_of glyph) (suggestion_glyph_of layout.base.decor glyph) (g + 1) [] (glyph_some layout.base.decor glyph)
 
 offered_sign : (layout : SuggestionLayout) (kind : DisplaySuggestion) (count number : ℕ) (line : List ℕ) (ss : List SubstitutionHighlight)
-    → length (shown_number layout.numbers layout.frame.gutter number) ≤ layout.frame.gutter + 1
-    → (slice_index_or (offered_cells layout kind count number line ss) (layout.frame.gutter + 1) SPACE).ch ≡ slice_index_or
-    (suggestion_glyph_of layout.frame.decor (sign_of kind count line ss)) 0 32
+    → length (shown_number layout.numbers layout.base.gutter number) ≤ layout.base.gutter + 1
+    → (slice_index_or (offered_cells layout kind count number line ss) (layout.base.gutter + 1) SPACE).ch ≡ slice_index_or
+    (suggestion_glyph_of layout.base.decor (sign_of kind count line ss)) 0 32
 unfolding offered_cells
 offered_sign layout kind count number line ss fits =
     let row : List Cell = line_cells layout (sign_of kind count line ss) number line in
-    seen_ch (layout.frame.gutter + 1) (with_stretches Addition layout.frame.gutter (chars line) ss row) row (with_same Addition layout.frame.gutter (chars line) ss row) ∙ line_sign layout (sign_of kind count line ss) number line fits
+    seen_ch (layout.base.gutter + 1) (with_stretches Addition layout.base.gutter (chars line) ss row) row (with_same Addition layout.base.gutter (chars line) ss row) ∙ line_sign layout (sign_of kind count line ss) number line fits
 
 -- each row has its sign
 pub has_sign : (layout : SuggestionLayout) (s : Snippet Patch) (under : List Cell) (shown : SuggestionRow)
@@ -108,7 +108,7 @@ signs_over layout s under (row ∷ rows) = (has_sign layout s under row, signs_l
 sign_kept : (layout : SuggestionLayout) (s : Snippet Patch) (shown : SuggestionRow) (now row : List Cell) → map without_role now ≡ map without_role row
     → HasSign layout s shown row → HasSign layout s shown now
 sign_kept layout s (Begins start) now row same has = tt
-sign_kept layout s (Offers k) now row same has = λ fits. seen_ch (layout.frame.gutter + 1) now row same ∙ has fits
+sign_kept layout s (Offers k) now row same has = λ fits. seen_ch (layout.base.gutter + 1) now row same ∙ has fits
 sign_kept layout s Skips now row same has = tt
 sign_kept layout s (Removes i number text) now row same has = tt
 sign_kept layout s Empty now row same has = tt
@@ -131,8 +131,8 @@ signs_left_out layout s [] shown rows have = have
 signs_left_out layout s (line ∷ lines) shown rows have =
     let test : Bool = is_diff (shown_kind s) && is_touched s.fold (given_ranges s) 0 && is_left_out (shown_kind s) (line ∷ lines) (last_reached s) in
     let gone : List SubstitutionHighlight = if bytes_eq line (last_reached s) then replaced_on s (last_line_reached (cow_str_bytes s.source) (edits_of s) - first_given s) else [] in
-    let f : List Cell → List Cell = left_out_cells layout.frame.gutter line gone (new_on s 0) in
-    let same : (row : List Cell) → map without_role (f row) ≡ map without_role row = λ row. with_same Addition layout.frame.gutter (chars line) (new_on s 0) (with_stretches Removal layout.frame.gutter (chars line) gone row) ∙ with_same Removal layout.frame.gutter (chars line) gone row in
+    let f : List Cell → List Cell = left_out_cells layout.base.gutter line gone (new_on s 0) in
+    let same : (row : List Cell) → map without_role (f row) ≡ map without_role row = λ row. with_same Addition layout.base.gutter (chars line) (new_on s 0) (with_stretches Removal layout.base.gutter (chars line) gone row) ∙ with_same Removal layout.base.gutter (chars line) gone row in
     let Have : List (List Cell) → Type 0 = λ rs. AllZip (HasSign layout s) shown rs in
     elim (cases_Bool test) [
       | inl gives ↦ subst Have (sym (cond-true test (on_last f rows) rows gives)) (signs_last layout s f shown rows same have)

@@ -144,7 +144,7 @@ body_untouched layout start s under line one diff untouched is =
 
 -- the lines that are removed above one in their place
 removed_some : (layout : SuggestionLayout) (s : Snippet Patch) (under : List Cell) (line : List ℕ) (i number : ℕ) (text : List ℕ)
-    → given_lines s ≡ line ∷ [] → cells_of layout s under (Removes i number text) ≡ with_stretches Removal layout.frame.gutter (chars text)
+    → given_lines s ≡ line ∷ [] → cells_of layout s under (Removes i number text) ≡ with_stretches Removal layout.base.gutter (chars text)
     (replaced_on s (i - first_given s)) (removed_cells layout NoStyle number text under)
 unfolding cells_of
 removed_some layout s under line i number text one =
@@ -166,7 +166,7 @@ taken_rows layout s line replaced (info ∷ infos) f a (suc m) k one same are =
     let own : info.line_index ≡ s.line_start + a = ap (λ (p : ℕ × List ℕ). p.0) pair in
     let text : info.line.now ≡ f a = ap (λ (p : ℕ × List ℕ). p.1) pair in
     let index : info.line_index - first ≡ a - first_given s = omega (arith, own) in
-    let Row : List ℕ → List SubstitutionHighlight → List Cell = λ t ss. with_stretches Removal layout.frame.gutter (chars t) ss (removed_cells layout NoStyle (number_after first k) t []) in
+    let Row : List ℕ → List SubstitutionHighlight → List Cell = λ t ss. with_stretches Removal layout.base.gutter (chars t) ss (removed_cells layout NoStyle (number_after first k) t []) in
     let row : Row info.line.now (replaced (info.line_index - first)) ≡ Row (f a) (replaced_on s (a - first_given s)) = ap (λ t. Row t (replaced (info.line_index - first))) text ∙ ap (Row (f a)) (ap replaced index ∙ same (a - first_given s)) in
     let is = removed_some layout s [] line a (number_after first k) (f a) one in
     ap (λ r. r ∷ taken_cells layout first replaced (k + 1) infos) (row ∙ sym is) ∙ ap (λ rows. cells_of layout s [] (Removes a (number_after first k) (f a)) ∷ rows) (taken_rows layout s line replaced infos f (a + 1) m (k + 1) one same rest)
@@ -266,12 +266,12 @@ module _ (layout : SuggestionLayout) (s : Snippet Patch) (line : List ℕ) (f : 
 
   -- where the line isn't shown, and where it is
   body_left : (start : SuggestionStart) (under : List Cell) → left ≡ true → rows_of_suggestion start s ≡ Begins start ∷ changed_rows true left removed
-      → on_last (left_out_cells layout.frame.gutter line (gone_of stays first replaced infos) (new_on s 0))
+      → on_last (left_out_cells layout.base.gutter line (gone_of stays first replaced infos) (new_on s 0))
       (begin_cells layout start under ∷ taken_cells layout first replaced 0 (unless_stays stays infos)) ≡ body_cells layout start s under
   unfolding body_cells
   body_left start under leaves rows =
       let all : List (List Cell) = cells_over (cells_of layout s) under (rows_of_suggestion start s) in
-      let Painted : List SubstitutionHighlight → List (List Cell) → List (List Cell) = λ ss rs. on_last (left_out_cells layout.frame.gutter line ss (new_on s 0)) rs in
+      let Painted : List SubstitutionHighlight → List (List Cell) → List (List Cell) = λ ss rs. on_last (left_out_cells layout.base.gutter line ss (new_on s 0)) rs in
       let test : (is_diff (shown_kind s) && is_touched s.fold (given_ranges s) 0 && is_left_out (shown_kind s) (line ∷ []) (last_reached s)) ≡ true =
       ap (λ k. is_diff k && is_touched s.fold (given_ranges s) 0 && is_left_out k (line ∷ []) (last_reached s)) known.diff
       ∙ ap (λ (t : Bool). t && left) known.touched ∙ leaves in

@@ -38,15 +38,15 @@ tail_row [] = []
 tail_row (row ∷ rows) = row
 
 -- it shows no line
-pub tail_bare : (layout : SuggestionLayout) (shares : Bool) (tail : List (List Cell)) → IsTail layout.frame.decor layout.frame.gutter shares tail
-    → IsBareRow layout.frame.decor layout.frame.gutter (tail_row tail)
+pub tail_bare : (layout : SuggestionLayout) (shares : Bool) (tail : List (List Cell)) → IsTail layout.base.decor layout.base.gutter shares tail
+    → IsBareRow layout.base.decor layout.base.gutter (tail_row tail)
 tail_bare layout true tail is =
-    subst (λ (rows : List (List Cell)). IsBareRow layout.frame.decor layout.frame.gutter (tail_row rows)) (sym is.2) is.3.bare
+    subst (λ (rows : List (List Cell)). IsBareRow layout.base.decor layout.base.gutter (tail_row rows)) (sym is.2) is.3.bare
 tail_bare layout false tail is =
-    subst (λ (rows : List (List Cell)). IsBareRow layout.frame.decor layout.frame.gutter (tail_row rows)) (sym is) (bare_none layout.frame.decor layout.frame.gutter)
+    subst (λ (rows : List (List Cell)). IsBareRow layout.base.decor layout.base.gutter (tail_row rows)) (sym is) (bare_none layout.base.decor layout.base.gutter)
 
 -- it is one row, or none
-tail_is_row : (layout : SuggestionLayout) (tail : List (List Cell)) → IsTail layout.frame.decor layout.frame.gutter true tail → tail ≡ tail_row tail ∷ []
+tail_is_row : (layout : SuggestionLayout) (tail : List (List Cell)) → IsTail layout.base.decor layout.base.gutter true tail → tail ≡ tail_row tail ∷ []
 tail_is_row layout tail is = is.2 ∙ ap (λ (r : List Cell). r ∷ []) (ap tail_row (sym is.2))
 
 -- below its path a suggestion begins in a row as one that it shares
@@ -56,15 +56,15 @@ lead_glyph Unicode = refl
 
 -- the start of a suggestion is a tail of the rows above
 pub start_tail : (layout : SuggestionLayout) (start : SuggestionStart) (tail : List (List Cell)) → IsStart layout start tail
-    → IsTail layout.frame.decor layout.frame.gutter (begins_in_last start) tail
+    → IsTail layout.base.decor layout.base.gutter (begins_in_last start) tail
 start_tail layout Opening tail none = none
 start_tail layout Next tail shared = shared
 start_tail layout Path tail is =
-    (is.0, true, is.1, subst (λ (cs : List ℕ). IsStrokeRow layout.frame.decor layout.frame.gutter (beside_gutter layout.frame.gutter cs) is.0) (lead_glyph layout.frame.decor) is.2)
+    (is.0, true, is.1, subst (λ (cs : List ℕ). IsStrokeRow layout.base.decor layout.base.gutter (beside_gutter layout.base.gutter cs) is.0) (lead_glyph layout.base.decor) is.2)
 
 -- what is written below the rows above goes into it
 pub tail_written : (layout : SuggestionLayout) (shares : Bool) (above tail : List (List Cell)) (at : ℕ) (cells : List Cell)
-    → IsTail layout.frame.decor layout.frame.gutter shares tail
+    → IsTail layout.base.decor layout.base.gutter shares tail
     → cells_written (above ++ tail) (length above) at cells ≡ above ++ written SPACE (tail_row tail) at cells ∷ []
 tail_written layout true above tail at cells is =
     subst (λ (rows : List (List Cell)). cells_written (above ++ rows) (length above) at cells ≡ above ++ written SPACE (tail_row tail) at cells ∷ []) (sym (tail_is_row layout tail is)) (cells_written_last above (tail_row tail) at cells)
@@ -73,7 +73,7 @@ tail_written layout false above tail at cells is =
 
 -- the same, of a grid that has these rows
 pub tail_put : (layout : SuggestionLayout) (shares : Bool) (above tail old new : List (List Cell)) (row at : ℕ) (cells : List Cell)
-    → row ≡ length above → old ≡ above ++ tail → IsTail layout.frame.decor layout.frame.gutter shares tail → new ≡ cells_written old row at cells
+    → row ≡ length above → old ≡ above ++ tail → IsTail layout.base.decor layout.base.gutter shares tail → new ≡ cells_written old row at cells
     → new ≡ above ++ written SPACE (tail_row tail) at cells ∷ []
 tail_put layout shares above tail old new row at cells here is tail_is writes =
     writes ∙ ap (λ r. cells_written old r at cells) here ∙ ap (λ (rows : List (List Cell)). cells_written rows (length above) at cells) is ∙ tail_written layout shares above tail at cells tail_is
@@ -107,27 +107,27 @@ begin_covers decor sign.Changed follows is = absurd (cc)
 begin_covers decor sign.Added follows is = absurd (cc)
 
 tail_stroke : (layout : SuggestionLayout) (shares : Bool) (glyph : SuggestionGlyph) (tail : List (List Cell)) → is_begin glyph ≡ true
-    → IsTail layout.frame.decor layout.frame.gutter shares tail
-    → IsStrokeRow layout.frame.decor layout.frame.gutter (beside_gutter layout.frame.gutter (suggestion_glyph_of layout.frame.decor glyph))
-    (written SPACE (tail_row tail) (layout.frame.gutter + 1) (text_cells LineNumber (suggestion_glyph_of layout.frame.decor glyph)))
+    → IsTail layout.base.decor layout.base.gutter shares tail
+    → IsStrokeRow layout.base.decor layout.base.gutter (beside_gutter layout.base.gutter (suggestion_glyph_of layout.base.decor glyph))
+    (written SPACE (tail_row tail) (layout.base.gutter + 1) (text_cells LineNumber (suggestion_glyph_of layout.base.decor glyph)))
 tail_stroke layout true glyph tail is shared =
-    let Is : List (List Cell) → Type 0 = λ rs. IsStrokeRow layout.frame.decor layout.frame.gutter (beside_gutter layout.frame.gutter (suggestion_glyph_of layout.frame.decor glyph)) (written SPACE (tail_row rs) (layout.frame.gutter + 1) (text_cells LineNumber (suggestion_glyph_of layout.frame.decor glyph))) in
-    subst Is (sym shared.2) (stroke_put layout.frame.decor layout.frame.gutter LineNumber glyph (end_glyph layout.frame.decor shared.1) shared.0 (begin_other glyph is) (begin_covers layout.frame.decor glyph shared.1 is) shared.3)
+    let Is : List (List Cell) → Type 0 = λ rs. IsStrokeRow layout.base.decor layout.base.gutter (beside_gutter layout.base.gutter (suggestion_glyph_of layout.base.decor glyph)) (written SPACE (tail_row rs) (layout.base.gutter + 1) (text_cells LineNumber (suggestion_glyph_of layout.base.decor glyph))) in
+    subst Is (sym shared.2) (stroke_put layout.base.decor layout.base.gutter LineNumber glyph (end_glyph layout.base.decor shared.1) shared.0 (begin_other glyph is) (begin_covers layout.base.decor glyph shared.1 is) shared.3)
 tail_stroke layout false glyph tail is none =
-    let Is : List (List Cell) → Type 0 = λ rs. IsStrokeRow layout.frame.decor layout.frame.gutter (beside_gutter layout.frame.gutter (suggestion_glyph_of layout.frame.decor glyph)) (written SPACE (tail_row rs) (layout.frame.gutter + 1) (text_cells LineNumber (suggestion_glyph_of layout.frame.decor glyph))) in
-    subst Is (sym none) (stroke_signed layout.frame.decor layout.frame.gutter LineNumber glyph (begin_other glyph is))
+    let Is : List (List Cell) → Type 0 = λ rs. IsStrokeRow layout.base.decor layout.base.gutter (beside_gutter layout.base.gutter (suggestion_glyph_of layout.base.decor glyph)) (written SPACE (tail_row rs) (layout.base.gutter + 1) (text_cells LineNumber (suggestion_glyph_of layout.base.decor glyph))) in
+    subst Is (sym none) (stroke_signed layout.base.decor layout.base.gutter LineNumber glyph (begin_other glyph is))
 
 -- a glyph that is drawn over the tail is one row of strokes more
 pub glyph_added : (layout : SuggestionLayout) (shares : Bool) (glyph : SuggestionGlyph) (above tail old new : List (List Cell)) (row : ℕ)
-    (text : List ℕ) → is_begin glyph ≡ true → chars text ≡ suggestion_glyph_of layout.frame.decor glyph
-    → new ≡ cells_written old row (layout.frame.gutter + 1) (text_cells LineNumber (chars text)) → row ≡ length above → old ≡ above ++ tail
-    → IsTail layout.frame.decor layout.frame.gutter shares tail
-    → AddsRow (IsStrokeRow layout.frame.decor layout.frame.gutter (beside_gutter layout.frame.gutter (suggestion_glyph_of layout.frame.decor glyph))) above new
+    (text : List ℕ) → is_begin glyph ≡ true → chars text ≡ suggestion_glyph_of layout.base.decor glyph
+    → new ≡ cells_written old row (layout.base.gutter + 1) (text_cells LineNumber (chars text)) → row ≡ length above → old ≡ above ++ tail
+    → IsTail layout.base.decor layout.base.gutter shares tail
+    → AddsRow (IsStrokeRow layout.base.decor layout.base.gutter (beside_gutter layout.base.gutter (suggestion_glyph_of layout.base.decor glyph))) above new
 glyph_added layout shares glyph above tail old new row text begins is writes here old_is tail_is =
-    let cells = text_cells LineNumber (suggestion_glyph_of layout.frame.decor glyph) in
+    let cells = text_cells LineNumber (suggestion_glyph_of layout.base.decor glyph) in
     record {
-      row = written SPACE (tail_row tail) (layout.frame.gutter + 1) cells;
-      added = tail_put layout shares above tail old new row (layout.frame.gutter + 1) cells here old_is tail_is (writes ∙ ap (λ cs. cells_written old row (layout.frame.gutter + 1) (text_cells LineNumber cs)) is);
+      row = written SPACE (tail_row tail) (layout.base.gutter + 1) cells;
+      added = tail_put layout shares above tail old new row (layout.base.gutter + 1) cells here old_is tail_is (writes ∙ ap (λ cs. cells_written old row (layout.base.gutter + 1) (text_cells LineNumber cs)) is);
       is = tail_stroke layout shares glyph tail begins tail_is;
     }
 
@@ -142,20 +142,20 @@ skipped_written rows skipped at cells =
 
 -- a glyph was drawn there
 pub end_added : (layout : SuggestionLayout) (glyph : SuggestionGlyph) (skipped : ℕ) (old new : List (List Cell)) (row : ℕ) (text : List ℕ)
-    → is_sign glyph ≡ false → chars text ≡ suggestion_glyph_of layout.frame.decor glyph
-    → new ≡ cells_written old row (layout.frame.gutter + 1) (text_cells LineNumber (chars text)) → row ≡ length old + skipped
-    → AddsEnd layout (suggestion_glyph_of layout.frame.decor glyph) skipped old new
+    → is_sign glyph ≡ false → chars text ≡ suggestion_glyph_of layout.base.decor glyph
+    → new ≡ cells_written old row (layout.base.gutter + 1) (text_cells LineNumber (chars text)) → row ≡ length old + skipped
+    → AddsEnd layout (suggestion_glyph_of layout.base.decor glyph) skipped old new
 end_added layout glyph skipped old new row text other is writes here =
-    let cells = text_cells LineNumber (suggestion_glyph_of layout.frame.decor glyph) in
+    let cells = text_cells LineNumber (suggestion_glyph_of layout.base.decor glyph) in
     record {
-      last = written SPACE [] (layout.frame.gutter + 1) cells;
-      added = writes ∙ ap (λ cs. cells_written old row (layout.frame.gutter + 1) (text_cells LineNumber cs)) is ∙ ap (λ r. cells_written old r (layout.frame.gutter + 1) cells) here ∙ skipped_written old skipped (layout.frame.gutter + 1) cells;
-      is = stroke_signed layout.frame.decor layout.frame.gutter LineNumber glyph other;
+      last = written SPACE [] (layout.base.gutter + 1) cells;
+      added = writes ∙ ap (λ cs. cells_written old row (layout.base.gutter + 1) (text_cells LineNumber cs)) is ∙ ap (λ r. cells_written old r (layout.base.gutter + 1) cells) here ∙ skipped_written old skipped (layout.base.gutter + 1) cells;
+      is = stroke_signed layout.base.decor layout.base.gutter LineNumber glyph other;
     }
 
 -- a number, which may have no bytes, and a glyph after it were put into it
 number_and_glyph : (layout : SuggestionLayout) (shares : Bool) (above tail old mid new : List (List Cell)) (r at : ℕ) (bytes : List ℕ)
-    (cells sign : List Cell) → r ≡ length above → old ≡ above ++ tail → IsTail layout.frame.decor layout.frame.gutter shares tail
+    (cells sign : List Cell) → r ≡ length above → old ≡ above ++ tail → IsTail layout.base.decor layout.base.gutter shares tail
     → (0 < length bytes → mid ≡ cells_written old r 0 cells) → (bytes ≡ [] → mid ≡ old) → new ≡ cells_written mid r at sign
     → new ≡ above ++ written SPACE (texted bytes (tail_row tail) 0 cells) at sign ∷ []
 number_and_glyph layout shares above tail old mid new r at [] cells sign here is tail_is writes stays signs =
@@ -207,14 +207,14 @@ removed_row numbers decor gutter role led number text begins within before left 
 -- a line that is removed was drawn into it
 pub removed_added : (layout : SuggestionLayout) (shares : Bool) (role : ElementStyle) (above tail old mid signed new : List (List Cell)) (r : ℕ)
     (number sign text : List ℕ) → chars sign ≡ 45 ∷ 32 ∷ [] → All (λ ch. is_listed ch ≡ false) (chars number)
-    → All (IsBeforeSign layout.numbers layout.frame.decor) (chars number) → StaysLeft layout.frame.decor layout.frame.gutter (chars number)
+    → All (IsBeforeSign layout.numbers layout.base.decor) (chars number) → StaysLeft layout.base.decor layout.base.gutter (chars number)
     → All (λ ch. is_listed ch ≡ false) (chars text) → (0 < length number → mid ≡ cells_written old r 0 (text_cells LineNumber (chars number)))
-    → (number ≡ [] → mid ≡ old) → signed ≡ cells_written mid r (layout.frame.gutter + 1) (text_cells Removal (chars sign))
-    → (0 < length text → new ≡ cells_written signed r (layout.frame.gutter + 3) (text_cells role (chars text))) → (text ≡ [] → new ≡ signed)
-    → r ≡ length above → old ≡ above ++ tail → IsTail layout.frame.decor layout.frame.gutter shares tail
-    → AddsRow (IsRemovedRow layout.numbers layout.frame.decor layout.frame.gutter (chars number) (chars text)) above new
+    → (number ≡ [] → mid ≡ old) → signed ≡ cells_written mid r (layout.base.gutter + 1) (text_cells Removal (chars sign))
+    → (0 < length text → new ≡ cells_written signed r (layout.base.gutter + 3) (text_cells role (chars text))) → (text ≡ [] → new ≡ signed)
+    → r ≡ length above → old ≡ above ++ tail → IsTail layout.base.decor layout.base.gutter shares tail
+    → AddsRow (IsRemovedRow layout.numbers layout.base.decor layout.base.gutter (chars number) (chars text)) above new
 removed_added layout shares role above tail old mid signed new r number sign text minus free_number before_number left_number free_text numbers no_number signs texts no_text here old_is tail_is =
-    let g = layout.frame.gutter in
+    let g = layout.base.gutter in
     let led = texted number (tail_row tail) 0 (text_cells LineNumber (chars number)) in
     let glyph = text_cells Removal (45 ∷ 32 ∷ []) in
     let row = written SPACE led (g + 1) glyph in
@@ -223,8 +223,8 @@ removed_added layout shares role above tail old mid signed new r number sign tex
     record {
       row = texted text row (g + 3) (text_cells role (chars text));
       added = text_put above signed new row r (g + 3) text (text_cells role (chars text)) begun here texts no_text;
-      is = removed_row layout.numbers layout.frame.decor g role led (chars number) text (begins_texted number (tail_row tail) LineNumber)
+      is = removed_row layout.numbers layout.base.decor g role led (chars number) text (begins_texted number (tail_row tail) LineNumber)
           (number_within number (tail_row tail) (text_cells LineNumber (chars number)) (length-text_cells LineNumber (chars number)))
-          (before_sign layout.numbers layout.frame.decor g number (tail_row tail) before_number (tail_bare layout shares tail tail_is).strokes)
-          (left_over layout.frame.decor g number (tail_row tail) left_number (tail_bare layout shares tail tail_is).marks) free_led free_text;
+          (before_sign layout.numbers layout.base.decor g number (tail_row tail) before_number (tail_bare layout shares tail tail_is).strokes)
+          (left_over layout.base.decor g number (tail_row tail) left_number (tail_bare layout shares tail tail_is).marks) free_led free_text;
     }

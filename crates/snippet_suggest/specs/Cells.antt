@@ -26,6 +26,7 @@ use Rattle.snippet_suggest.specs.Given.{is_left_out, last_removed, unless_stays}
 use Rattle.snippet_style.specs.Glyphs.{suggestion_glyph_of, suggestion_role_of}
 use Rattle.snippet_suggest.specs.Order.{number_after}
 use Rattle.snippet_suggest.specs.Rows.{end_glyph}
+use Rattle.snippet_grid.specs.Layout.{inner_cell, separator_cell}
 
 -- a row after characters were put into it in a role, from a cell on; none leave it as it was
 unfoldable pub put : ElementStyle → List ℕ → ℕ → List Cell → List Cell
@@ -64,9 +65,9 @@ sign_of kind count line stretches =
 -- after the gutter on. A number that is too long for the gutter stands over the glyph
 unfoldable pub line_cells : SuggestionLayout → SuggestionGlyph → ℕ → List ℕ → List Cell
 line_cells layout glyph number line =
-    let signed = put (suggestion_role_of glyph) (suggestion_glyph_of layout.frame.decor glyph) (layout.frame.gutter + 1) [] in
-    let numbered = put LineNumber (shown_number layout.numbers layout.frame.gutter number) 0 signed in
-    put NoStyle (norm (chars line)) (layout.frame.gutter + 3) numbered
+    let signed = put (suggestion_role_of glyph) (suggestion_glyph_of layout.base.decor glyph) (separator_cell layout.base) [] in
+    let numbered = put LineNumber (shown_number layout.numbers layout.base.gutter number) 0 signed in
+    put NoStyle (norm (chars line)) (inner_cell layout.base) numbered
 
 -- the cell of a character of a line: each before it takes one cell, and a tab four
 abbrev pub stretch_cell : ℕ → List ℕ → ℕ → ℕ
@@ -81,7 +82,7 @@ with_stretches role gutter line (s ∷ ss) row =
 -- the row of a line that is offered, one of so many, of which these stretches are new
 unfoldable pub offered_cells : SuggestionLayout → DisplaySuggestion → ℕ → ℕ → List ℕ → List SubstitutionHighlight → List Cell
 offered_cells layout kind count number line stretches =
-    with_stretches Addition layout.frame.gutter (chars line) stretches (line_cells layout (sign_of kind count line stretches) number line)
+    with_stretches Addition layout.base.gutter (chars line) stretches (line_cells layout (sign_of kind count line stretches) number line)
 
 -- ---- the other rows
 
@@ -89,23 +90,23 @@ offered_cells layout kind count number line stretches =
 -- gutter, and the normalised line in a role
 unfoldable pub removed_cells : SuggestionLayout → ElementStyle → ℕ → List ℕ → List Cell → List Cell
 removed_cells layout role number line under =
-    let numbered = put LineNumber (shown_number layout.numbers layout.frame.gutter number) 0 under in
-    put role (norm (chars line)) (layout.frame.gutter + 3) (put Removal (codes "- ") (layout.frame.gutter + 1) numbered)
+    let numbered = put LineNumber (shown_number layout.numbers layout.base.gutter number) 0 under in
+    put role (norm (chars line)) (inner_cell layout.base) (put Removal (codes "- ") (separator_cell layout.base) numbered)
 
 -- the row in place of lines that are left out
 unfoldable pub gap_cells : SuggestionLayout → List Cell
 gap_cells layout =
-    put LineNumber (placeholder_of layout.frame.decor) (layout.frame.gutter - width_of (placeholder_of layout.frame.decor)) []
+    put LineNumber (placeholder_of layout.base.decor) (layout.base.gutter - width_of (placeholder_of layout.base.decor)) []
 
 -- the row that a suggestion begins with, over one that is there or has no cells; below its path that is one that is there
 unfoldable pub begin_cells : SuggestionLayout → SuggestionStart → List Cell → List Cell
-begin_cells layout Opening under = put LineNumber (suggestion_glyph_of layout.frame.decor sign.Opening) (layout.frame.gutter + 1) under
-begin_cells layout Next under = put LineNumber (suggestion_glyph_of layout.frame.decor sign.Next) (layout.frame.gutter + 1) under
+begin_cells layout Opening under = put LineNumber (suggestion_glyph_of layout.base.decor sign.Opening) (separator_cell layout.base) under
+begin_cells layout Next under = put LineNumber (suggestion_glyph_of layout.base.decor sign.Next) (separator_cell layout.base) under
 begin_cells layout Path under = under
 
 -- the row that it ends with, before a further element or not
 unfoldable pub end_cells : SuggestionLayout → Bool → List Cell
-end_cells layout follows = put LineNumber (end_glyph layout.frame.decor follows) (layout.frame.gutter + 1) []
+end_cells layout follows = put LineNumber (end_glyph layout.base.decor follows) (separator_cell layout.base) []
 
 -- the row of a line of some that is shown, of which the first has this number, and one in place of lines that are left out
 abbrev pub shown_cells : SuggestionLayout → DisplaySuggestion → ℕ → List (List ℕ) → (ℕ → List SubstitutionHighlight) → SuggestionLine → List Cell
@@ -127,7 +128,7 @@ emptied_cells layout (line ∷ lines) under =
 unfoldable pub taken_cells : SuggestionLayout → ℕ → (ℕ → List SubstitutionHighlight) → ℕ → List LineInfo → List (List Cell)
 taken_cells layout first replaced k [] = []
 taken_cells layout first replaced k (info ∷ infos) =
-    with_stretches Removal layout.frame.gutter (chars info.line.now) (replaced (info.line_index - first)) (removed_cells layout NoStyle (number_after first k) info.line.now [])
+    with_stretches Removal layout.base.gutter (chars info.line.now) (replaced (info.line_index - first)) (removed_cells layout NoStyle (number_after first k) info.line.now [])
     ∷ taken_cells layout first replaced (k + 1) infos
 
 -- some rows, the last of them changed
@@ -153,4 +154,4 @@ unfoldable pub diff_cells : SuggestionLayout → ℕ → List LineInfo → (ℕ 
 diff_cells layout first infos replaced line added last =
     let stays = bytes_eq line (last_removed infos) in
     let rows = last ∷ taken_cells layout first replaced 0 (unless_stays stays infos) in
-    if is_left_out Diff (line ∷ []) (last_removed infos) then on_last (left_out_cells layout.frame.gutter line (gone_of stays first replaced infos) added) rows else rows ++ offered_cells layout Diff 1 first line added ∷ []
+    if is_left_out Diff (line ∷ []) (last_removed infos) then on_last (left_out_cells layout.base.gutter line (gone_of stays first replaced infos) added) rows else rows ++ offered_cells layout Diff 1 first line added ∷ []

@@ -1,5 +1,5 @@
 -- The marks below the one line of a suggestion, as values.
-use Rattle.std.specs.Prelude.{ℕ, ◌+◌, ◌-◌, ◌^◌, min, nat_le, List, [], ◌∷◌, ◌++◌, chars, filter, length, map, replicate, sum_by, if◌then◌else◌, codes}
+use Rattle.std.specs.Prelude.{ℕ, ◌+◌, ◌-◌, min, nat_le, List, [], ◌∷◌, ◌++◌, chars, filter, length, map, replicate, sum_by, if◌then◌else◌, codes}
 use Rattle.std.specs.Str.{trim, trim_start}
 use Rattle.snippet_style.specs.Glyphs.{char_of}
 use Rattle.snippet_style.specs.Cell.{Cell}
@@ -16,6 +16,8 @@ use Rattle.snippet_suggest.specs.declared.marks.PatchColumns.{PatchColumns}
 use Rattle.snippet_suggest.specs.Cells.{put}
 use Rattle.snippet_style.specs.Glyphs.{changed_mark_of}
 use Rattle.snippet_suggest.specs.Kind.{adds_text, is_blank}
+use Rattle.snippet_grid.specs.Layout.{inner_cell}
+use Rattle.snippet_style.specs.Bounds.{max_column}
 
 -- the columns of a text, and of an edit: where its span starts and ends in its lines of the source, and how many its text has
 abbrev pub text_width : List ℕ → ℕ
@@ -65,14 +67,14 @@ mark_glyph_of decor source e = if adds_text source e then char_of (codes "+") el
 -- a row with a mark in the columns from one to before another, as far as there are columns
 unfoldable pub with_mark : SuggestionLayout → ℕ → ℕ → ℕ → List Cell → List Cell
 with_mark layout mark start end row =
-    put Addition (replicate (min end (2 ^ 60) - start) mark) (layout.frame.gutter + 3 + start) row
+    put Addition (replicate (min end max_column - start) mark) (inner_cell layout.base + start) row
 
 -- a row with the marks of some edits of a source, after others with these columns
 unfoldable pub with_marks : SuggestionLayout → Source → List PatchColumns → List Edit → List Cell → List Cell
 with_marks layout s earlier [] row = row
 with_marks layout s earlier (e ∷ es) row =
     let c = columns_of s e in
-    with_marks layout s (earlier ++ c ∷ []) es (with_mark layout (mark_glyph_of layout.frame.decor s.text e) (mark_start earlier c e.text) (mark_end earlier c e.text) row)
+    with_marks layout s (earlier ++ c ∷ []) es (with_mark layout (mark_glyph_of layout.base.decor s.text e) (mark_start earlier c e.text) (mark_end earlier c e.text) row)
 
 -- the edits that some trimmed patches are
 abbrev pub edits_at : List TrimmedPatch → List Edit

@@ -24,6 +24,7 @@ use Rattle.snippet_suggest.specs.Given.{counted_line, first_given, given_lines}
 use Rattle.snippet_suggest.specs.Order.{Begins, Empty, Ends, Offers, Removes, Skips, SuggestionRow, number_after, rows_of_suggestion}
 use Rattle.snippet_style.specs.declared.glyphs.SuggestionGlyph.TheVariants as sign
 use Rattle.snippet_style.specs.Glyphs.{changed_mark_of, suggestion_glyph_of}
+use Rattle.snippet_grid.specs.Layout.{separator_cell}
 
 -- what stands beside a line that is offered: a separator, the glyph of a changed line, or `+`
 abbrev pub IsSign : DecorStyle → ℕ → Type 0
@@ -137,8 +138,8 @@ pub record IsRepainted (above : List (List Cell)) (last : List Cell) (new : List
 -- the row that a line of some is shown by, the first of which has this number; and one that shows none of them
 abbrev pub IsShownRow : SuggestionLayout → ℕ → List (List ℕ) → SuggestionLine → List Cell → Type 0
 IsShownRow layout first lines (Line k) row =
-    IsLineRow layout.frame.decor layout.frame.gutter (shown_number layout.numbers layout.frame.gutter (number_after first k)) (norm (chars (slice_index_or lines k []))) row
-IsShownRow layout first lines Gap row = IsStrokeRow layout.frame.decor layout.frame.gutter (gap_left layout.frame.decor layout.frame.gutter) row
+    IsLineRow layout.base.decor layout.base.gutter (shown_number layout.numbers layout.base.gutter (number_after first k)) (norm (chars (slice_index_or lines k []))) row
+IsShownRow layout first lines Gap row = IsStrokeRow layout.base.decor layout.base.gutter (gap_left layout.base.decor layout.base.gutter) row
 
 -- rows for these, one each, stand below some rows, and nothing else
 pub record AddsShown (layout : SuggestionLayout) (first : ℕ) (lines : List (List ℕ)) (shown : List SuggestionLine) (above new : List (List Cell)) : Type 0 where
@@ -149,18 +150,18 @@ pub record AddsShown (layout : SuggestionLayout) (first : ℕ) (lines : List (Li
 -- a row of a line that is removed, with this number beside it, and this text
 abbrev pub IsRowOfRemoved : SuggestionLayout → ℕ × List ℕ → List Cell → Type 0
 IsRowOfRemoved layout line row =
-    IsRemovedRow layout.numbers layout.frame.decor layout.frame.gutter (shown_number layout.numbers layout.frame.gutter line.0) (norm (chars line.1)) row
+    IsRemovedRow layout.numbers layout.base.decor layout.base.gutter (shown_number layout.numbers layout.base.gutter line.0) (norm (chars line.1)) row
 
 -- the row shows this, of some lines of which the first has this number
 abbrev pub Shows : SuggestionLayout → ℕ → List (List ℕ) → SuggestionRow → List Cell → Type 0
 Shows layout first lines (Begins start) row =
-    IsStrokeRow layout.frame.decor layout.frame.gutter (beside_gutter layout.frame.gutter (begin_glyph layout.frame.decor start)) row
+    IsStrokeRow layout.base.decor layout.base.gutter (beside_gutter layout.base.gutter (begin_glyph layout.base.decor start)) row
 Shows layout first lines (Offers k) row = IsShownRow layout first lines (Line k) row
 Shows layout first lines Skips row = IsShownRow layout first lines Gap row
 Shows layout first lines (Removes i number text) row = IsRowOfRemoved layout (number, text) row
-Shows layout first lines Empty row = IsStrokeRow layout.frame.decor layout.frame.gutter [] row
+Shows layout first lines Empty row = IsStrokeRow layout.base.decor layout.base.gutter [] row
 Shows layout first lines (Ends follows) row =
-    IsStrokeRow layout.frame.decor layout.frame.gutter (beside_gutter layout.frame.gutter (end_glyph layout.frame.decor follows)) row
+    IsStrokeRow layout.base.decor layout.base.gutter (beside_gutter layout.base.gutter (end_glyph layout.base.decor follows)) row
 
 -- rows that show these, one each, stand below some rows, and nothing else
 pub record AddsRows (layout : SuggestionLayout) (first : ℕ) (lines : List (List ℕ)) (shown : List SuggestionRow) (above new : List (List Cell)) : Type 0 where
@@ -178,12 +179,12 @@ pub record AddsRemoved (layout : SuggestionLayout) (removed : List (ℕ × List 
 pub record AddsEnd (layout : SuggestionLayout) (glyph : List ℕ) (skipped : ℕ) (above new : List (List Cell)) : Type 0 where
   pub last : List Cell
   pub added : new ≡ above ++ (replicate skipped [] ++ last ∷ [])
-  pub is : IsStrokeRow layout.frame.decor layout.frame.gutter (beside_gutter layout.frame.gutter glyph) last
+  pub is : IsStrokeRow layout.base.decor layout.base.gutter (beside_gutter layout.base.gutter glyph) last
 
 -- the number of a line that is shown stands left of the sign
 abbrev pub NumberFits : SuggestionLayout → ℕ → SuggestionLine → Type 0
 NumberFits layout first (Line k) =
-    length (shown_number layout.numbers layout.frame.gutter (number_after first k)) ≤ layout.frame.gutter + 1
+    length (shown_number layout.numbers layout.base.gutter (number_after first k)) ≤ separator_cell layout.base
 NumberFits layout first Gap = Unit {0}
 
 -- what stands below the rows above an element: the row in which it begins, if it shares that with a suggestion before it, which
@@ -206,9 +207,9 @@ rows_shared start = if begins_in_last start then 1 else 0
 -- what a suggestion finds below the rows above it
 abbrev pub IsStart : SuggestionLayout → SuggestionStart → List (List Cell) → Type 0
 IsStart layout Opening tail = tail ≡ []
-IsStart layout Next tail = IsTail layout.frame.decor layout.frame.gutter true tail
+IsStart layout Next tail = IsTail layout.base.decor layout.base.gutter true tail
 IsStart layout Path tail =
-    (row : List Cell) × (tail ≡ row ∷ []) × IsStrokeRow layout.frame.decor layout.frame.gutter (beside_gutter layout.frame.gutter (begin_glyph layout.frame.decor Path)) row
+    (row : List Cell) × (tail ≡ row ∷ []) × IsStrokeRow layout.base.decor layout.base.gutter (beside_gutter layout.base.gutter (begin_glyph layout.base.decor Path)) row
 
 -- the rows of a suggestion stand below some rows, and nothing else, each of which shows what the suggestion has there; the last is
 -- what it ends with, in which a further suggestion may begin
@@ -221,4 +222,4 @@ pub record AddsSuggestion (layout : SuggestionLayout) (start : SuggestionStart) 
 
 -- the gutter has room for the number that a suggestion counts
 abbrev pub HasGutter : SuggestionLayout → Snippet Patch → Type 0
-HasGutter layout s = number_width layout.numbers (counted_line s) ≤ layout.frame.gutter
+HasGutter layout s = number_width layout.numbers (counted_line s) ≤ layout.base.gutter

@@ -24,6 +24,7 @@ use Rattle.snippet_view.specs.Numbered.{numbered_source}
 use Rattle.snippet_suggest.specs.Marks.{with_marks}
 use Rattle.snippet_suggest.specs.Order.{Begins, Empty, Ends, Offers, Removes, Skips, SuggestionRow, is_diff, rows_of_suggestion}
 use Rattle.snippet_suggest.specs.Shown.{is_touched}
+use Rattle.snippet_grid.specs.Layout.{separator_cell}
 
 -- the stretches of line k that is given which are new, and those of line k after the first in the source which are replaced
 abbrev pub new_on : Snippet Patch → ℕ → List SubstitutionHighlight
@@ -37,7 +38,7 @@ replaced_on s k = replaced_stretches s.fold (cow_str_bytes s.source) (edits_of s
 abbrev pub removed_in : SuggestionLayout → List (List ℕ) → List SubstitutionHighlight → ℕ → List ℕ → List Cell → List Cell
 removed_in layout [] replaced number text under = removed_cells layout Removal number text under
 removed_in layout (line ∷ lines) replaced number text under =
-    with_stretches Removal layout.frame.gutter (chars text) replaced (removed_cells layout NoStyle number text under)
+    with_stretches Removal layout.base.gutter (chars text) replaced (removed_cells layout NoStyle number text under)
 
 -- the edits of which marks stand in the last row: all, where one line is given by several patches or by a part of one
 abbrev pub marked_edits : DisplaySuggestion → List Edit → List Edit
@@ -69,7 +70,7 @@ abbrev pub with_left_out : SuggestionLayout → Snippet Patch → List (List ℕ
 with_left_out layout s [] rows = rows
 with_left_out layout s (line ∷ lines) rows =
     let gone = if bytes_eq line (last_reached s) then replaced_on s (last_line_reached (cow_str_bytes s.source) (edits_of s) - first_given s) else [] in
-    if is_diff (shown_kind s) && is_touched s.fold (given_ranges s) 0 && is_left_out (shown_kind s) (line ∷ lines) (last_reached s) then on_last (left_out_cells layout.frame.gutter line gone (new_on s 0)) rows else rows
+    if is_diff (shown_kind s) && is_touched s.fold (given_ranges s) 0 && is_left_out (shown_kind s) (line ∷ lines) (last_reached s) then on_last (left_out_cells layout.base.gutter line gone (new_on s 0)) rows else rows
 
 -- the rows of a suggestion but the last, the first of them over one that is there or has no cells
 unfoldable pub body_cells : SuggestionLayout → SuggestionStart → Snippet Patch → List Cell → List (List Cell)
@@ -87,7 +88,7 @@ abbrev pub HasSign : SuggestionLayout → Snippet Patch → SuggestionRow → Li
 HasSign layout s (Begins start) row = Unit {0}
 HasSign layout s (Offers k) row =
     let glyph = sign_of (shown_kind s) (length (given_lines s)) (slice_index_or (given_lines s) k []) (new_on s k) in
-    NumberFits layout (s.line_start + first_given s) (Line k) → (slice_index_or row (layout.frame.gutter + 1) SPACE).ch ≡ slice_index_or (suggestion_glyph_of layout.frame.decor glyph) 0 32
+    NumberFits layout (s.line_start + first_given s) (Line k) → (slice_index_or row (separator_cell layout.base) SPACE).ch ≡ slice_index_or (suggestion_glyph_of layout.base.decor glyph) 0 32
 HasSign layout s Skips row = Unit {0}
 HasSign layout s (Removes i number text) row = Unit {0}
 HasSign layout s Empty row = Unit {0}

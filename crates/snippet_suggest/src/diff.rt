@@ -80,7 +80,7 @@ fn draw_diff_line(
     ensures added { left_out ≡ false → NumberFits layout.now first (Line 0)
         → OnOk result (AddsRows layout.now first (line.now ∷ []) (Offers 0 ∷ []) buffer.old buffer.new) }
     ensures left_cells { (above : List (List Cell)) (last : List Cell) → left_out ≡ true → buffer.old ≡ above ++ last ∷ []
-        → OnOk result (buffer.new ≡ above ++ with_stretches Addition layout.now.frame.gutter (chars line.now) added.now last ∷ []) }
+        → OnOk result (buffer.new ≡ above ++ with_stretches Addition layout.now.base.gutter (chars line.now) added.now last ∷ []) }
     ensures cells { left_out ≡ false → OnOk result (buffer.new ≡ buffer.old ++ offered_cells layout.now Diff 1 first line.now added.now ∷ []) }
 {
     if !left_out {
@@ -100,7 +100,7 @@ fn paint_last(
     ensures repaints { (above : List (List Cell)) (last : List Cell) → buffer.old ≡ above ++ last ∷ []
         → OnOk result (IsRepainted above last buffer.new) }
     ensures cells { (above : List (List Cell)) (last : List Cell) → buffer.old ≡ above ++ last ∷ []
-        → OnOk result (buffer.new ≡ above ++ with_stretches role layout.now.frame.gutter (chars line.now) stretches.now last ∷ []) }
+        → OnOk result (buffer.new ≡ above ++ with_stretches role layout.now.base.gutter (chars line.now) stretches.now last ∷ []) }
 {
     let row = buffer.num_lines().saturating_sub(1);
     paint_stretches(buffer, layout, row, line, stretches, role)

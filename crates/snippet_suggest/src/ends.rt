@@ -1,5 +1,5 @@
 //! The rows that a suggestion begins and ends with.
-ghost use Rattle.std.specs.Prelude.{◌≡◌, ℕ, ◌<◌, ◌^◌, ◌≤◌, ◌+◌, ◌++◌, ◌∷◌, [], Bool, true, false, List, IfOk, OnOk};
+ghost use Rattle.std.specs.Prelude.{◌≡◌, ℕ, ◌<◌, ◌≤◌, ◌+◌, ◌++◌, ◌∷◌, [], Bool, true, false, List, IfOk, OnOk};
 ghost use Rattle.std.specs.Prelude.{length, replicate};
 ghost use Rattle.snippet_style.specs.Glyphs.{suggestion_glyph_of};
 ghost use Rattle.snippet_suggest.specs.Glyphs.{is_begin, is_sign};
@@ -10,6 +10,8 @@ ghost use Rattle.snippet_style.specs.declared.role.ElementStyle.TheVariants.{Lin
 ghost use Rattle.snippet_grid.specs.Grid.{row_at};
 ghost use Rattle.snippet_style.specs.declared.glyphs.DecorStyle.{DecorStyle};
 ghost use Rattle.snippet_style.specs.Cell.{Cell};
+ghost use Rattle.snippet_grid.specs.Layout.{separator_cell};
+ghost use Rattle.snippet_style.specs.Bounds.{HasNext};
 
 use crate::layout::{SuggestionLayout, SuggestionStart};
 use snippet_grid::StyledBuffer;
@@ -34,8 +36,8 @@ pub(crate) fn draw_head(
     start: SuggestionStart,
 ) -> Result<(), AllocError>
     ensures added { (above tail : List (List Cell)) → buffer.old ≡ above ++ tail → IsStart layout.now start tail
-        → OnOk result (AddsRow (IsStrokeRow layout.now.frame.decor layout.now.frame.gutter
-        (beside_gutter layout.now.frame.gutter (begin_glyph layout.now.frame.decor start))) above buffer.new) }
+        → OnOk result (AddsRow (IsStrokeRow layout.now.base.decor layout.now.base.gutter
+        (beside_gutter layout.now.base.gutter (begin_glyph layout.now.base.decor start))) above buffer.new) }
     ensures cells { (above tail : List (List Cell)) → buffer.old ≡ above ++ tail → length tail ≡ rows_shared start
         → OnOk result (buffer.new ≡ above ++ begin_cells layout.now start (row_at tail 0) ∷ []) }
 {
@@ -57,24 +59,24 @@ fn draw_glyph(
     row: usize,
     glyph: SuggestionGlyph,
 ) -> Result<(), AllocError>
-    requires row { row + 1 < 2 ^ 64 }
+    requires row { HasNext row }
     ensures added { is_begin glyph ≡ true → (above tail : List (List Cell)) (shares : Bool) → row ≡ length above → buffer.old ≡ above ++ tail
-        → IsTail layout.now.frame.decor layout.now.frame.gutter shares tail
-        → OnOk result (AddsRow (IsStrokeRow layout.now.frame.decor layout.now.frame.gutter
-        (beside_gutter layout.now.frame.gutter (suggestion_glyph_of layout.now.frame.decor glyph))) above buffer.new) }
+        → IsTail layout.now.base.decor layout.now.base.gutter shares tail
+        → OnOk result (AddsRow (IsStrokeRow layout.now.base.decor layout.now.base.gutter
+        (beside_gutter layout.now.base.gutter (suggestion_glyph_of layout.now.base.decor glyph))) above buffer.new) }
     ensures end { is_sign glyph ≡ false → (skipped : ℕ) → row ≡ length buffer.old + skipped
-        → OnOk result (AddsEnd layout.now (suggestion_glyph_of layout.now.frame.decor glyph) skipped
+        → OnOk result (AddsEnd layout.now (suggestion_glyph_of layout.now.base.decor glyph) skipped
         buffer.old buffer.new) }
     ensures over { (above tail : List (List Cell)) → row ≡ length above → buffer.old ≡ above ++ tail → length tail ≤ 1
-        → OnOk result (buffer.new ≡ above ++ put LineNumber (suggestion_glyph_of layout.now.frame.decor glyph) (layout.now.frame.gutter + 1) (row_at tail 0) ∷ []) }
+        → OnOk result (buffer.new ≡ above ++ put LineNumber (suggestion_glyph_of layout.now.base.decor glyph) (separator_cell layout.now.base) (row_at tail 0) ∷ []) }
     ensures below { (skipped : ℕ) → row ≡ length buffer.old + skipped → OnOk result (buffer.new
-        ≡ (buffer.old ++ replicate skipped []) ++ put LineNumber (suggestion_glyph_of layout.now.frame.decor glyph) (layout.now.frame.gutter + 1) [] ∷ []) }
+        ≡ (buffer.old ++ replicate skipped []) ++ put LineNumber (suggestion_glyph_of layout.now.base.decor glyph) (separator_cell layout.now.base) [] ∷ []) }
 {
-    let frame = layout.frame;
+    let base = layout.base;
     buffer.puts(
         row,
-        frame.gutter + 1,
-        glyph.text(frame.decor),
+        base.separator_cell(),
+        glyph.text(base.decor),
         ElementStyle::LineNumber,
     )?;
     Ok(())
@@ -97,9 +99,9 @@ pub(crate) fn draw_end(
     follows: bool,
 ) -> Result<usize, AllocError>
     requires few { skipped < 2 }
-    ensures added { OnOk result (AddsEnd layout.now (end_glyph layout.now.frame.decor follows) skipped buffer.old buffer.new) }
+    ensures added { OnOk result (AddsEnd layout.now (end_glyph layout.now.base.decor follows) skipped buffer.old buffer.new) }
     ensures cells { OnOk result (buffer.new ≡ (buffer.old ++ replicate skipped []) ++ end_cells layout.now follows ∷ []) }
-    ensures row { IfOk result (λ row. (row ≡ length buffer.old + skipped) × (row + 1 < 2 ^ 64)) }
+    ensures row { IfOk result (λ row. (row ≡ length buffer.old + skipped) × HasNext row) }
 {
     let row = buffer.num_lines() + skipped;
     draw_glyph(buffer, layout, row, end_glyph(follows))?;

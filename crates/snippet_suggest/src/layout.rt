@@ -6,13 +6,13 @@ use snippet_lines::LineNumbers;
 /// Where the parts of a suggestion's rows stand, in cells from 0, and what its gutter shows.
 ///
 /// ```text
-///     1 - let x = 1;       a line's number is right-aligned in the first `frame.gutter` cells, its glyph stands at
-///     1 + let x = 2;       `frame.gutter + 1`, and the line from `frame.gutter + 3` on
+///     1 - let x = 1;       a line's number is right-aligned in the first `base.gutter` cells, its glyph stands at
+///     1 + let x = 2;       `base.separator_cell()`, and the line from `base.inner_cell()` on
 /// ```
 #[derive(Clone, Copy, Debug)]
 pub struct SuggestionLayout {
     /// Where the parts of the group's rows stand.
-    pub frame: Layout,
+    pub base: Layout,
     /// What stands in the gutter beside lines.
     pub numbers: LineNumbers,
 }

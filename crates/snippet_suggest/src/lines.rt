@@ -13,6 +13,7 @@ ghost use Rattle.snippet_suggest.specs.Shown.{is_touched, shown_lines};
 ghost use Rattle.snippet_lines.specs.Number.{shown_number};
 ghost use Rattle.snippet_suggest.specs.Rows.{AddsRow, AddsShown, NumberFits, IsLineRow, IsShownRow};
 ghost use Rattle.snippet_suggest.specs.Order.{number_after};
+ghost use Rattle.snippet_grid.specs.Layout.{separator_cell};
 
 use crate::kind::DisplaySuggestion;
 use crate::layout::SuggestionLayout;
@@ -130,8 +131,8 @@ fn draw_text_line(
     stretches: &[Vec<SubstitutionHighlight>],
     k: usize,
 ) -> Result<(), AllocError>
-    ensures added { length (shown_number layout.now.numbers layout.now.frame.gutter (number_after first k)) ≤ layout.now.frame.gutter + 1
-        → OnOk result (AddsRow (IsLineRow layout.now.frame.decor layout.now.frame.gutter (shown_number layout.now.numbers layout.now.frame.gutter (number_after first k))
+    ensures added { length (shown_number layout.now.numbers layout.now.base.gutter (number_after first k)) ≤ separator_cell layout.now.base
+        → OnOk result (AddsRow (IsLineRow layout.now.base.decor layout.now.base.gutter (shown_number layout.now.numbers layout.now.base.gutter (number_after first k))
         (norm (chars (slice_index_or (map (λ l. l.now) lines.now) k [])))) buffer.old buffer.new) }
     ensures cells { OnOk result (buffer.new ≡ buffer.old
         ++ shown_cells layout.now kind first (map (λ l. l.now) lines.now) (line_stretches stretches.now) (Line k) ∷ []) }

@@ -1,5 +1,5 @@
 //! The marks below what a suggestion puts in.
-ghost use Rattle.std.specs.Prelude.{◌≡◌, ℕ, ◌<◌, ◌^◌, ◌+◌, ◌-◌, ◌++◌, ◌∷◌, [], List, All, OnOk, length};
+ghost use Rattle.std.specs.Prelude.{◌≡◌, ℕ, ◌+◌, ◌-◌, ◌++◌, ◌∷◌, [], List, All, OnOk, length};
 ghost use Rattle.snippet_splice.specs.Edits.{trimmed_edit_of};
 ghost use Rattle.snippet_splice.specs.Stretches.{capped};
 ghost use Rattle.snippet_suggest.specs.Marks.{columns_of, edits_at, left_of, mark_end, mark_glyph_of, mark_start};
@@ -9,6 +9,7 @@ ghost use Rattle.snippet_suggest.specs.declared.marks.PatchColumns.{PatchColumns
 ghost use Rattle.snippet_style.specs.Cell.{Cell};
 ghost use Rattle.snippet_suggest.specs.Rows.{AddsRow, IsMarkOrSpace, IsStrokeRow};
 ghost use Rattle.snippet_lines.specs.Span.{IsSpan};
+ghost use Rattle.snippet_style.specs.Bounds.{HasNext};
 
 use crate::kind::{is_addition, is_blank};
 use crate::layout::SuggestionLayout;
@@ -139,12 +140,12 @@ pub(crate) fn draw_marks(
     map: &SourceMap<'_>,
     patches: &[TrimmedPatch<'_>],
 ) -> Result<(), AllocError>
-    requires row { row + 1 < 2 ^ 64 }
+    requires row { HasNext row }
     requires spans { All (λ p. IsSpan map.now.text p.span.start p.span.end) patches.now }
     // Into the last row, which shows no line.
     ensures marked { (above : List (List Cell)) (last : List Cell) (left : List ℕ) → row ≡ length above → buffer.old ≡ above ++ last ∷ []
-        → IsStrokeRow layout.now.frame.decor layout.now.frame.gutter left last
-        → OnOk result (AddsRow (IsStrokeRow layout.now.frame.decor layout.now.frame.gutter left) above buffer.new) }
+        → IsStrokeRow layout.now.base.decor layout.now.base.gutter left last
+        → OnOk result (AddsRow (IsStrokeRow layout.now.base.decor layout.now.base.gutter left) above buffer.new) }
     ensures cells { (above : List (List Cell)) (last : List Cell) → row ≡ length above → buffer.old ≡ above ++ last ∷ []
         → OnOk result (buffer.new ≡ above ++ with_marks layout.now map.now [] (edits_at patches.now) last ∷ []) }
 {
@@ -161,15 +162,15 @@ pub(crate) fn draw_marks(
 
 /// The mark below what a patch puts in.
 fn patch_mark(layout: &SuggestionLayout, map: &SourceMap<'_>, patch: &TrimmedPatch<'_>) -> char
-    ensures mark { IsMarkOrSpace layout.now.frame.decor result }
+    ensures mark { IsMarkOrSpace layout.now.base.decor result }
     ensures value { IsSpan map.now.text patch.now.span.start patch.now.span.end
-        → result ≡ mark_glyph_of layout.now.frame.decor map.now.text (trimmed_edit_of patch.now) }
+        → result ≡ mark_glyph_of layout.now.base.decor map.now.text (trimmed_edit_of patch.now) }
 {
-    let frame = layout.frame;
+    let base = layout.base;
     if is_addition(map.source(), patch) {
         '+'
     } else {
-        frame.decor.changed_mark()
+        base.decor.changed_mark()
     }
 }
 
@@ -182,17 +183,17 @@ fn draw_mark(
     end: usize,
     mark: char,
 ) -> Result<(), AllocError>
-    requires row { row + 1 < 2 ^ 64 }
+    requires row { HasNext row }
     ensures marked { (above : List (List Cell)) (last : List Cell) (left : List ℕ) → row ≡ length above → buffer.old ≡ above ++ last ∷ []
-        → IsStrokeRow layout.now.frame.decor layout.now.frame.gutter left last
-        → IsMarkOrSpace layout.now.frame.decor mark
-        → OnOk result (AddsRow (IsStrokeRow layout.now.frame.decor layout.now.frame.gutter left) above buffer.new) }
+        → IsStrokeRow layout.now.base.decor layout.now.base.gutter left last
+        → IsMarkOrSpace layout.now.base.decor mark
+        → OnOk result (AddsRow (IsStrokeRow layout.now.base.decor layout.now.base.gutter left) above buffer.new) }
     ensures cells { (above : List (List Cell)) (last : List Cell) → row ≡ length above → buffer.old ≡ above ++ last ∷ []
         → OnOk result (buffer.new ≡ above ++ with_mark layout.now mark start end last ∷ []) }
 {
-    let frame = layout.frame;
+    let base = layout.base;
     for column in start..end.min(MAX_COLUMN) {
-        let cell = frame.gutter + 3 + column;
+        let cell = base.inner_cell() + column;
         buffer.putc(row, cell, mark, ElementStyle::Addition)?;
     }
     Ok(())

@@ -1,5 +1,5 @@
 //! What is known of a suggestion before any row is drawn.
-ghost use Rattle.std.specs.Prelude.{◌≡◌, ◌↔◌, ◌+◌, ◌<◌, ◌^◌, [], All, IfOk, IfSome, IsNone, length, map, if◌then◌else◌};
+ghost use Rattle.std.specs.Prelude.{◌≡◌, ◌↔◌, ◌+◌, ◌<◌, [], All, IfOk, IfSome, IsNone, length, map, if◌then◌else◌};
 ghost use Rattle.std.specs.String.{string_bytes};
 ghost use Rattle.snippet_lines.specs.Lines.{newline_count, source_lines};
 ghost use Rattle.snippet_lines.specs.Place.{line_of};
@@ -7,6 +7,7 @@ ghost use Rattle.snippet_lines.specs.Span.{IsSpan};
 ghost use Rattle.snippet_splice.specs.Edits.{trimmed_edit_of};
 ghost use Rattle.snippet_suggest.specs.Given.{counted_folded, first_end, first_original};
 ghost use Rattle.snippet_suggest.specs.Prepared.{IsPrepared, IsSuggestible};
+ghost use Rattle.snippet_style.specs.Bounds.{IsUsize};
 
 use crate::kind::DisplaySuggestion;
 use snippet_lines::newline_count;
@@ -74,7 +75,7 @@ fn counted_line(
         let first = source.now.first + (if fold then line_of ls (first_original splice.now.patches.items) else 0) in
         let removed = source.now.first + line_of ls (first_end (map trimmed_edit_of splice.now.patches.items)) in
         let last = first + newline_count (string_bytes splice.now.complete) in
-        last < 2 ^ 64 → result ≡ (if fold then counted_folded kind first removed last else last) }
+        IsUsize last → result ≡ (if fold then counted_folded kind first removed last else last) }
 {
     let first = first_number(source, &splice.patches, fold);
     match kind {

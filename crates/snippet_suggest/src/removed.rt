@@ -1,10 +1,11 @@
 //! The rows of lines that are removed.
-ghost use Rattle.std.specs.Prelude.{◌≡◌, ◌<◌, ◌^◌, ◌≤◌, ◌+◌, ◌++◌, Bool, List, OnOk, length};
+ghost use Rattle.std.specs.Prelude.{◌≡◌, ◌<◌, ◌≤◌, ◌++◌, Bool, List, OnOk, length};
 ghost use Rattle.snippet_grid.specs.Grid.{row_at};
 ghost use Rattle.snippet_suggest.specs.Cells.{emptied_cells};
 ghost use Rattle.snippet_style.specs.Cell.{Cell};
 ghost use Rattle.snippet_suggest.specs.Order.{numbered_at};
 ghost use Rattle.snippet_suggest.specs.Rows.{AddsRemoved, IsTail};
+ghost use Rattle.snippet_style.specs.Bounds.{IsRowNumber};
 
 use crate::layout::SuggestionLayout;
 use crate::row::draw_removed_line;
@@ -30,11 +31,11 @@ pub(crate) fn draw_removed_lines(
     row: usize,
     lines: &[LineInfo<'_>],
 ) -> Result<(), AllocError>
-    requires row { row < 2 ^ 60 }
+    requires row { IsRowNumber row }
     requires some { 0 < length lines.now }
     // Below some rows, the first of them perhaps over a row that shows no line.
     ensures added { (above tail : List (List Cell)) (shares : Bool) → row ≡ length above → buffer.old ≡ above ++ tail
-        → IsTail layout.now.frame.decor layout.now.frame.gutter shares tail
+        → IsTail layout.now.base.decor layout.now.base.gutter shares tail
         → OnOk result (AddsRemoved layout.now (numbered_at lines.now) above buffer.new) }
     ensures cells { (above tail : List (List Cell)) → row ≡ length above → buffer.old ≡ above ++ tail → length tail ≤ 1
         → OnOk result (buffer.new ≡ above ++ emptied_cells layout.now (numbered_at lines.now) (row_at tail 0)) }

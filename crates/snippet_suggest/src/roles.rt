@@ -5,6 +5,7 @@ ghost use Rattle.snippet_suggest.specs.Cells.{with_stretches};
 ghost use Rattle.snippet_suggest.specs.Cursor.{IsCursor};
 ghost use Rattle.snippet_style.specs.Cell.{Cell};
 ghost use Rattle.snippet_suggest.specs.Rows.{IsRepainted};
+ghost use Rattle.snippet_grid.specs.Layout.{inner_cell};
 
 use crate::layout::SuggestionLayout;
 use snippet_grid::StyledBuffer;
@@ -25,7 +26,7 @@ pub(crate) fn paint_stretches(
     ensures repaints { OnOk result ((above : List (List Cell)) (last : List Cell) → row ≡ length above
         → buffer.old ≡ above ++ last ∷ [] → IsRepainted above last buffer.new) }
     ensures cells { OnOk result ((above : List (List Cell)) (last : List Cell) → row ≡ length above → buffer.old ≡ above ++ last ∷ []
-        → buffer.new ≡ above ++ with_stretches role layout.now.frame.gutter (chars line.now) stretches.now last ∷ []) }
+        → buffer.new ≡ above ++ with_stretches role layout.now.base.gutter (chars line.now) stretches.now last ∷ []) }
 {
     let mut tabs = TabCursor::new(line);
     for stretch in stretches {
@@ -40,11 +41,10 @@ pub(crate) fn paint_stretches(
 
 /// The cell of a character with this many tabs before it, each of which takes four cells.
 fn stretch_cell(layout: &SuggestionLayout, character: usize, tabs: usize) -> usize
-    ensures value { (n : ℕ) → tabs ≡ capped n → result ≡ capped (layout.now.frame.gutter + 3 + character + 3 * n) }
+    ensures value { (n : ℕ) → tabs ≡ capped n → result ≡ capped (inner_cell layout.now.base + character + 3 * n) }
 {
-    let frame = layout.frame;
-    frame
-        .gutter
+    let base = layout.base;
+    base.gutter
         .saturating_add(3)
         .saturating_add(character)
         .saturating_add(tabs.saturating_mul(3))

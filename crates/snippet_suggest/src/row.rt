@@ -1,5 +1,5 @@
 //! The row of one line.
-ghost use Rattle.std.specs.Prelude.{◌≡◌, ◌<◌, ◌≤◌, ◌^◌, ◌+◌, ◌++◌, ◌∷◌, [], true, Bool, List, IfOk, OnOk, chars};
+ghost use Rattle.std.specs.Prelude.{◌≡◌, ◌≤◌, ◌++◌, ◌∷◌, [], true, Bool, List, IfOk, OnOk, chars};
 ghost use Rattle.std.specs.Prelude.{length};
 ghost use Rattle.snippet_text.specs.Normalized.{norm};
 ghost use Rattle.snippet_lines.specs.Number.{shown_number};
@@ -8,6 +8,8 @@ ghost use Rattle.snippet_grid.specs.Grid.{row_at};
 ghost use Rattle.snippet_suggest.specs.Cells.{gap_cells, line_cells, removed_cells};
 ghost use Rattle.snippet_suggest.specs.Glyphs.{is_sign};
 ghost use Rattle.snippet_suggest.specs.Rows.{AddsRow, IsLineRow, IsRowOfRemoved, IsStrokeRow, IsTail, gap_left};
+ghost use Rattle.snippet_grid.specs.Layout.{separator_cell};
+ghost use Rattle.snippet_style.specs.Bounds.{HasNext};
 
 use crate::layout::SuggestionLayout;
 use snippet_grid::StyledBuffer;
@@ -34,19 +36,19 @@ pub(crate) fn draw_line(
     line: &str,
 ) -> Result<usize, AllocError>
     requires sign { is_sign glyph ≡ true }
-    ensures added { let shown = shown_number layout.now.numbers layout.now.frame.gutter number in length shown ≤ layout.now.frame.gutter + 1
-        → OnOk result (AddsRow (IsLineRow layout.now.frame.decor layout.now.frame.gutter shown (norm (chars line.now))) buffer.old buffer.new) }
+    ensures added { let shown = shown_number layout.now.numbers layout.now.base.gutter number in length shown ≤ separator_cell layout.now.base
+        → OnOk result (AddsRow (IsLineRow layout.now.base.decor layout.now.base.gutter shown (norm (chars line.now))) buffer.old buffer.new) }
     ensures cells { OnOk result (buffer.new ≡ buffer.old ++ line_cells layout.now glyph number line.now ∷ []) }
     ensures row { IfOk result (λ row. row ≡ length buffer.old) }
 {
     let row = buffer.num_lines();
-    let frame = layout.frame;
-    let sign = glyph.text(frame.decor);
-    buffer.puts(row, frame.gutter + 1, sign, glyph.role())?;
-    let number = number_text(alloc, layout.numbers, frame.gutter, number)?;
+    let base = layout.base;
+    let sign = glyph.text(base.decor);
+    buffer.puts(row, base.separator_cell(), sign, glyph.role())?;
+    let number = number_text(alloc, layout.numbers, base.gutter, number)?;
     buffer.puts(row, 0, number.as_str(), ElementStyle::LineNumber)?;
     let text = normalized(alloc, line)?;
-    buffer.puts(row, frame.gutter + 3, text.as_str(), ElementStyle::NoStyle)?;
+    buffer.puts(row, base.inner_cell(), text.as_str(), ElementStyle::NoStyle)?;
     Ok(row)
 }
 
@@ -68,20 +70,20 @@ pub(crate) fn draw_removed_line(
     line: &str,
     role: ElementStyle,
 ) -> Result<(), AllocError>
-    requires row { row + 1 < 2 ^ 64 }
+    requires row { HasNext row }
     // In a row of its own, or over one that shows no line.
     ensures added { (above tail : List (List Cell)) (shares : Bool) → row ≡ length above → buffer.old ≡ above ++ tail
-        → IsTail layout.now.frame.decor layout.now.frame.gutter shares tail
+        → IsTail layout.now.base.decor layout.now.base.gutter shares tail
         → OnOk result (AddsRow (IsRowOfRemoved layout.now (number, line.now)) above buffer.new) }
     ensures cells { (above tail : List (List Cell)) → row ≡ length above → buffer.old ≡ above ++ tail → length tail ≤ 1
         → OnOk result (buffer.new ≡ above ++ removed_cells layout.now role number line.now (row_at tail 0) ∷ []) }
 {
-    let frame = layout.frame;
-    let number = number_text(alloc, layout.numbers, frame.gutter, number)?;
+    let base = layout.base;
+    let number = number_text(alloc, layout.numbers, base.gutter, number)?;
     buffer.puts(row, 0, number.as_str(), ElementStyle::LineNumber)?;
-    buffer.puts(row, frame.gutter + 1, "- ", ElementStyle::Removal)?;
+    buffer.puts(row, base.separator_cell(), "- ", ElementStyle::Removal)?;
     let text = normalized(alloc, line)?;
-    buffer.puts(row, frame.gutter + 3, text.as_str(), role)?;
+    buffer.puts(row, base.inner_cell(), text.as_str(), role)?;
     Ok(())
 }
 
@@ -98,13 +100,13 @@ pub(crate) fn draw_gap(
     buffer: &mut StyledBuffer,
     layout: &SuggestionLayout,
 ) -> Result<(), AllocError>
-    ensures added { OnOk result (AddsRow (IsStrokeRow layout.now.frame.decor layout.now.frame.gutter (gap_left layout.now.frame.decor layout.now.frame.gutter)) buffer.old buffer.new) }
+    ensures added { OnOk result (AddsRow (IsStrokeRow layout.now.base.decor layout.now.base.gutter (gap_left layout.now.base.decor layout.now.base.gutter)) buffer.old buffer.new) }
     ensures cells { OnOk result (buffer.new ≡ buffer.old ++ gap_cells layout.now ∷ []) }
 {
     let row = buffer.num_lines();
-    let frame = layout.frame;
-    let placeholder = frame.decor.placeholder();
-    let cell = frame.gutter.saturating_sub(str_width(placeholder));
+    let base = layout.base;
+    let placeholder = base.decor.placeholder();
+    let cell = base.gutter.saturating_sub(str_width(placeholder));
     buffer.puts(row, cell, placeholder, ElementStyle::LineNumber)?;
     Ok(())
 }

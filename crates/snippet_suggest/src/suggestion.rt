@@ -2,7 +2,7 @@
 ghost use Rattle.snippet_grid.specs.Grid.{row_at};
 ghost use Rattle.snippet_suggest.specs.Cells.{begin_cells};
 ghost use Rattle.snippet_suggest.specs.Suggested.{body_cells, suggestion_cells};
-ghost use Rattle.std.specs.Prelude.{◌≡◌, ◌<◌, ◌^◌, ◌+◌, ◌-◌, ◌++◌, ◌∷◌, [], List, IfOk, OnOk, All, length, map};
+ghost use Rattle.std.specs.Prelude.{◌≡◌, ◌<◌, ◌+◌, ◌-◌, ◌++◌, ◌∷◌, [], List, IfOk, OnOk, All, length, map};
 ghost use Rattle.std.specs.Prelude.{replicate, if◌then◌else◌};
 ghost use Rattle.snippet_style.specs.Cell.{Cell};
 ghost use Rattle.snippet_lines.specs.Span.{IsSpan};
@@ -17,6 +17,7 @@ ghost use Rattle.snippet_suggest.specs.Given.{first_given, first_original, first
 ghost use Rattle.snippet_suggest.specs.declared.kind.DisplaySuggestion.TheVariants.{Diff};
 ghost use Rattle.snippet_suggest.specs.declared.layout.SuggestionStart.{SuggestionStart};
 ghost use Rattle.snippet_suggest.specs.declared.shown.SuggestionLine.TheVariants.{Line};
+ghost use Rattle.snippet_style.specs.Bounds.{IsRowNumber};
 
 use crate::diff::draw_diff;
 use crate::ends::{draw_end, draw_head};
@@ -195,7 +196,7 @@ fn draw_emptied(
 /// The row that a suggestion begins with: the row below all others, or the last one, if that is there for it.
 fn first_row(buffer: &StyledBuffer, start: SuggestionStart) -> usize
     ensures value { result ≡ length buffer.now - rows_shared start }
-    ensures small { result < 2 ^ 60 }
+    ensures small { IsRowNumber result }
 {
     match start {
         SuggestionStart::Opening => buffer.num_lines(),

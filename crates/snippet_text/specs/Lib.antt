@@ -1,3 +1,4 @@
+pub mod Bounds
 pub mod Normalized
 pub mod OneLine
 pub mod Plain

@@ -1,5 +1,6 @@
-ghost use Rattle.std.specs.Prelude.{◌≡◌, ◌<◌, ◌≤◌, ◌^◌, ◌*◌, length, chars};
+ghost use Rattle.std.specs.Prelude.{◌≡◌, ◌≤◌, ◌*◌, length, chars};
 ghost use Rattle.snippet_text.specs.Width as spec;
+ghost use Rattle.snippet_text.specs.Bounds.{TextFits};
 
 use crate::plain::is_plain;
 use unicode_width::UnicodeWidthChar;
@@ -29,7 +30,7 @@ pub fn char_width(c: char) -> usize
 ///
 /// Sequences such as emoji and flags get no treatment of their own.
 pub fn str_width(text: &str) -> usize
-    requires fits { length text.now < 2 ^ 56 }
+    requires fits { TextFits text.now }
     ensures value { result ≡ spec.width_of (chars text.now) }
     ensures bound { result ≤ 4 * length text.now }
 {

@@ -1,5 +1,5 @@
 //! Annotated snippets.
-ghost use Rattle.std.specs.Prelude.{◌≡◌, ◌==◌, ◌&&◌, ◌++◌, ◌^◌, ◌≤◌, [], ◌∷◌, All, None, Some, chars, filter, length};
+ghost use Rattle.std.specs.Prelude.{◌≡◌, ◌==◌, ◌&&◌, ◌++◌, [], ◌∷◌, All, None, Some, chars, filter, length};
 ghost use Rattle.std.specs.Prelude.{map, nat_lt, not, IfOk, OnOk};
 ghost use Rattle.std.specs.Char.{is_whitespace};
 ghost use Rattle.std.specs.List.{flat_map};
@@ -12,6 +12,7 @@ ghost use Rattle.snippet_text_form.specs.Cause.{span_form, span_place, spans_for
 ghost use Rattle.snippet_view.specs.Numbered.{numbered_source};
 ghost use Rattle.snippet_text_form.specs.Cause as spec;
 ghost use Rattle.snippet_text_form.specs.Form.{bare};
+ghost use Rattle.snippet_text.specs.Bounds.{IsOffset};
 
 use crate::form::TextForm;
 use crate::position::{add_column, add_line, add_place, add_place_in_file, add_place_on_line};
@@ -219,8 +220,8 @@ fn add_span_place<'a>(
     start: Loc,
     end: Loc,
 ) -> Result<(), AllocError>
-    requires start { start.char ≤ 2 ^ 56 }
-    requires end { end.char ≤ 2 ^ 56 }
+    requires start { IsOffset start.char }
+    requires end { IsOffset end.char }
     ensures added { OnOk result (form.new ≡ form.old
         ++ bare (span_place anonymized map.now (option_copied path.entry) start end)) }
 {
@@ -246,7 +247,7 @@ fn add_end_in_file(
     start: Loc,
     end: Loc,
 ) -> Result<(), AllocError>
-    requires end { end.char ≤ 2 ^ 56 }
+    requires end { IsOffset end.char }
     ensures added { OnOk result (form.new ≡ form.old ++ bare (end_in_file anonymized start end)) }
 {
     if start.line == end.line {
@@ -267,8 +268,8 @@ fn add_place_on_lines(
     start: Loc,
     end: Loc,
 ) -> Result<(), AllocError>
-    requires start { start.char ≤ 2 ^ 56 }
-    requires end { end.char ≤ 2 ^ 56 }
+    requires start { IsOffset start.char }
+    requires end { IsOffset end.char }
     ensures added { OnOk result (form.new ≡ form.old ++ bare (span_place anonymized map.now None start end)) }
 {
     let begins = is_blank_before(map.get_line(start.line), start.char);
@@ -284,7 +285,7 @@ fn add_end_on_line(
     start: Loc,
     end: Loc,
 ) -> Result<(), AllocError>
-    requires end { end.char ≤ 2 ^ 56 }
+    requires end { IsOffset end.char }
     ensures added { OnOk result (form.new ≡ form.old ++ bare (end_on_line anonymized map.now start end)) }
 {
     if start.line == end.line {
@@ -298,7 +299,7 @@ fn add_end_on_line(
 
 /// The column of a place, from 1; but not where it says nothing.
 pub(crate) fn column_unless(plain: bool, loc: Loc) -> Option<usize>
-    requires small { loc.char ≤ 2 ^ 56 }
+    requires small { IsOffset loc.char }
     ensures value { result ≡ spec.column_unless plain loc }
 {
     if plain { None } else { Some(loc.char + 1) }

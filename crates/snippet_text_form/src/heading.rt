@@ -1,5 +1,5 @@
 //! Titles and messages.
-ghost use Rattle.std.specs.Prelude.{◌≡◌, ◌++◌, ◌<◌, ◌≤◌, ◌^◌, if◌then◌else◌, chars, length, IfOk, IfSome, OnOk};
+ghost use Rattle.std.specs.Prelude.{◌≡◌, ◌++◌, ◌≤◌, if◌then◌else◌, chars, length, IfOk, IfSome, OnOk};
 ghost use Rattle.std.specs.Cow.{cow_str_bytes};
 ghost use Rattle.std.specs.Option.{option_copied};
 ghost use Rattle.snippet_model.specs.Fits.{IdFits, LevelFits};
@@ -13,6 +13,7 @@ ghost use Rattle.snippet_text_form.specs.Form.{bare};
 ghost use Rattle.snippet_text_form.specs.Heading.{before_line, before_name, colon_form, heading_form, id_form};
 ghost use Rattle.snippet_text_form.specs.Heading.{label_form, label_of_id, heading_label, lines_form, name_form};
 ghost use Rattle.snippet_text_form.specs.Heading as spec;
+ghost use Rattle.snippet_style.specs.Bounds.{IsTextWidth};
 
 use crate::form::TextForm;
 use snippet_model::MessageOrTitle;
@@ -185,7 +186,7 @@ fn label_width(kind: HeadingKind, heading: &dyn MessageOrTitle) -> usize
 fn name_width(kind: HeadingKind, level: &Level<'_>) -> usize
     requires fits { LevelFits level.now }
     ensures value { result ≡ (if model.is_hidden level.now.name then 0 else width_of (before_name kind ++ norm (chars (name_of level.now)))) }
-    ensures small { result < 2 ^ 59 }
+    ensures small { IsTextWidth result }
 {
     if is_hidden(level) {
         return 0;
@@ -197,7 +198,7 @@ fn name_width(kind: HeadingKind, level: &Level<'_>) -> usize
 fn id_width(hidden: bool, id: Option<&Id<'_>>) -> usize
     requires fits { IfSome (option_copied id) IdFits }
     ensures value { result ≡ width_of (label_of_id hidden (option_copied id.entry)) }
-    ensures small { result < 2 ^ 59 }
+    ensures small { IsTextWidth result }
 {
     let Some(id) = id else {
         return 0;

@@ -1,5 +1,5 @@
 //! Suggestions.
-ghost use Rattle.std.specs.Prelude.{◌≡◌, ◌++◌, ◌^◌, ◌≤◌, Some, chars, IsTrue, OnOk};
+ghost use Rattle.std.specs.Prelude.{◌≡◌, ◌++◌, Some, chars, IsTrue, OnOk};
 ghost use Rattle.std.specs.Cow.{cow_str_bytes};
 ghost use Rattle.std.specs.Option.{option_copied, option_map};
 ghost use Rattle.std.specs.Str.{IsCharBoundary};
@@ -11,6 +11,7 @@ ghost use Rattle.snippet_text_form.specs.Form.{bare};
 ghost use Rattle.snippet_text_form.specs.Suggestion.{added_form, edit_form, edit_indent, edit_place, named_path};
 ghost use Rattle.snippet_text_form.specs.Suggestion.{option_form, replaced_to, suggestion_form};
 ghost use Rattle.snippet_text_form.specs.Suggestion as spec;
+ghost use Rattle.snippet_text.specs.Bounds.{IsOffset};
 
 use crate::cause::column_unless;
 use crate::form::TextForm;
@@ -129,8 +130,8 @@ fn add_patch_place<'a>(
     end: Loc,
 ) -> Result<(), AllocError>
     requires span { IsSpan map.now.text patch.now.span.start patch.now.span.end }
-    requires start { start.char ≤ 2 ^ 56 }
-    requires end { end.char ≤ 2 ^ 56 }
+    requires start { IsOffset start.char }
+    requires end { IsOffset end.char }
     ensures added { OnOk result (form.new ≡ form.old
         ++ bare (edit_place anonymized map.now (option_copied path.entry) (trimmed_edit_of patch.now) start end)) }
 {
@@ -152,7 +153,7 @@ fn add_end(
     start: Loc,
     end: Loc,
 ) -> Result<(), AllocError>
-    requires end { end.char ≤ 2 ^ 56 }
+    requires end { IsOffset end.char }
     ensures added { OnOk result (form.new ≡ form.old ++ bare (replaced_to anonymized start end)) }
 {
     if start.line == end.line {

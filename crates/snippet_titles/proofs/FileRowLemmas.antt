@@ -44,12 +44,12 @@ file_glyph-short Secondary Unicode = omega arith
 
 -- the row that leads to a file
 pub file_row-begun : (old new : List (List Cell)) (row : ℕ) (text : List ℕ) (layout : OriginLayout) (start : FileStart) → row ≡ length old
-    → chars text ≡ file_glyph start layout.frame.decor
-    → (0 < length text → new ≡ cells_written old row layout.frame.gutter (text_cells LineNumber (chars text)))
+    → chars text ≡ file_glyph start layout.base.decor
+    → (0 < length text → new ≡ cells_written old row layout.base.gutter (text_cells LineNumber (chars text)))
     → new ≡ old ++ file_row layout start ∷ []
 unfolding file_row
 file_row-begun old new row text layout start below is writes =
-    begun_by_text old new row layout.frame.gutter text (file_glyph start layout.frame.decor) below is (file_glyph-some start layout.frame.decor) writes
+    begun_by_text old new row layout.base.gutter text (file_glyph start layout.base.decor) below is (file_glyph-some start layout.base.decor) writes
 
 -- the closing row
 pub closing_row-begun : (old new : List (List Cell)) (row gutter : ℕ) (text : List ℕ) (decor : DecorStyle) → row ≡ length old

@@ -128,16 +128,16 @@ module _ (P : ℕ → Type 0) (free : (c : ℕ) → IsUnlisted c → P c) where
   sign-all Title = All-nil P
   sign-all Short = All-nil P
   sign-all (Message place) =
-      let sign : List ℕ = note_sign_of place.frame.decor place.followed in
-      parts-all (replicate (place.frame.gutter + 1) SPACE) (text_cells LineNumber sign) (spaces-all (place.frame.gutter + 1)) (subst (All P) (sym (row_text-text_cells LineNumber sign)) (note_sign-all place.frame.decor place.followed))
+      let sign : List ℕ = note_sign_of place.layout.decor place.followed in
+      parts-all (replicate (place.layout.gutter + 1) SPACE) (text_cells LineNumber sign) (spaces-all (place.layout.gutter + 1)) (subst (All P) (sym (row_text-text_cells LineNumber sign)) (note_sign-all place.layout.decor place.followed))
 
   -- what holds of what an indent is made of holds of its characters
   pub indent-all : (style : TitleStyle) (width : ℕ) → All P (row_text (indent_cells style width))
   indent-all Title width = spaces-all width
   indent-all Short width = spaces-all width
   indent-all (Message place) width =
-      let bar : Cell = note_bar_of place.frame.decor place.followed in
-      parts-all (replicate (place.frame.gutter + 1) SPACE) (bar ∷ replicate (width + 1) SPACE) (spaces-all (place.frame.gutter + 1)) (All-cons P bar.ch (row_text (replicate (width + 1) SPACE)) (note_bar-free place.frame.decor place.followed) (spaces-all (width + 1)))
+      let bar : Cell = note_bar_of place.layout.decor place.followed in
+      parts-all (replicate (place.layout.gutter + 1) SPACE) (bar ∷ replicate (width + 1) SPACE) (spaces-all (place.layout.gutter + 1)) (All-cons P bar.ch (row_text (replicate (width + 1) SPACE)) (note_bar-free place.layout.decor place.followed) (spaces-all (width + 1)))
 
   -- and of those of the rows of lines, where it holds of those of the lines
   pub row-all : (cells : List Cell) (r : ElementStyle) → All P (row_text cells) → (line : List ℕ) → All P line → All P (row_text (cells ++ text_cells r line))

@@ -37,15 +37,15 @@ use Rattle.snippet_titles.proofs.OriginRowText.{origin_row-after}
 use Rattle.snippet_grid.proofs.RowLemmas.{row_text-text_cells}
 
 -- what holds of separator rows, of those that lead to a file, and of those of paths
-module _ (P : List Cell → Type 0) (layout : OriginLayout) (separator : P (separator_row layout.frame.decor layout.frame.gutter)) (file : (start : FileStart) → P (file_row layout start)) where
+module _ (P : List Cell → Type 0) (layout : OriginLayout) (separator : P (separator_row layout.base.decor layout.base.gutter)) (file : (start : FileStart) → P (file_row layout start)) where
   opening_rows-each : (decor : DecorStyle) (first : Bool) → All P (opening_rows decor layout first)
-  opening_rows-each Ascii first = All-cons P (separator_row layout.frame.decor layout.frame.gutter) [] separator (All-nil P)
+  opening_rows-each Ascii first = All-cons P (separator_row layout.base.decor layout.base.gutter) [] separator (All-nil P)
   opening_rows-each Unicode true = All-cons P (file_row layout First) [] (file First) (All-nil P)
   opening_rows-each Unicode false = All-cons P (file_row layout Later) [] (file Later) (All-nil P)
 
   -- what holds of the cells of a head's spaces and glyphs holds of the opening head
   pub opening_head-each : (first : Bool) → All P (opening_head layout first)
-  opening_head-each first = opening_rows-each layout.frame.decor first
+  opening_head-each first = opening_rows-each layout.base.decor first
 
   -- holds of each that a snippet begins with
   module _ (place : OriginLocation) (origin : (path : List ℕ) (start : FileStart) → P (origin_row layout start path place)) where
@@ -59,13 +59,13 @@ module _ (P : List Cell → Type 0) (layout : OriginLayout) (separator : P (sepa
 pub snippet_head-free : (layout : OriginLayout) (primary first : Bool) (path : Option (List ℕ)) (place : OriginLocation)
     → All IsFree (snippet_head layout primary first path place)
 snippet_head-free layout primary first path place =
-    snippet_head-each IsFree layout (separator_row-free layout.frame.decor layout.frame.gutter) (file_row-free layout) place (λ path start. origin_row-free layout start path place) primary first path
+    snippet_head-each IsFree layout (separator_row-free layout.base.decor layout.base.gutter) (file_row-free layout) place (λ path start. origin_row-free layout start path place) primary first path
 
 -- and none can be taken for a line's
 pub snippet_head-unnumbered : (layout : OriginLayout) (primary first : Bool) (path : Option (List ℕ)) (place : OriginLocation)
-    → All (HasNoNumber layout.frame.gutter) (snippet_head layout primary first path place)
+    → All (HasNoNumber layout.base.gutter) (snippet_head layout primary first path place)
 snippet_head-unnumbered layout primary first path place =
-    snippet_head-each (HasNoNumber layout.frame.gutter) layout (separator_row-unnumbered layout.frame.decor layout.frame.gutter) (file_row-unnumbered layout) place (λ path start. origin_row-unnumbered layout start path place) primary first path
+    snippet_head-each (HasNoNumber layout.base.gutter) layout (separator_row-unnumbered layout.base.decor layout.base.gutter) (file_row-unnumbered layout) place (λ path start. origin_row-unnumbered layout start path place) primary first path
 
 -- each glyph that leads to a file is four characters wide
 glyph-width : (start : FileStart) (decor : DecorStyle) → length (file_glyph start decor) ≡ 4
@@ -80,9 +80,9 @@ glyph-width Secondary Unicode = refl
 
 -- after it the row of a path shows the path with its place
 pub origin_row-text : (layout : OriginLayout) (start : FileStart) (path : List ℕ) (place : OriginLocation)
-    → row_text (drop (layout.frame.gutter + 4) (origin_row layout start path place)) ≡ origin_text layout.anonymized path place
+    → row_text (drop (layout.base.gutter + 4) (origin_row layout start path place)) ≡ origin_text layout.anonymized path place
 origin_row-text layout start path place =
-    ap (λ n. row_text (drop (layout.frame.gutter + n) (origin_row layout start path place))) (sym (glyph-width start layout.frame.decor)) ∙ ap row_text (origin_row-after layout start path place) ∙ row_text-text_cells LineAndColumn (origin_text layout.anonymized path place)
+    ap (λ n. row_text (drop (layout.base.gutter + n) (origin_row layout start path place))) (sym (glyph-width start layout.base.decor)) ∙ ap row_text (origin_row-after layout start path place) ∙ row_text-text_cells LineAndColumn (origin_text layout.anonymized path place)
 
 -- what holds of each row that begins with these cells, and of each that begins with those, holds of the rows of lines
 module _ (P : List Cell → Type 0) (first further : List Cell) (r : ElementStyle) (begun : (line : List ℕ) → P (first ++ text_cells r line)) (below : (line : List ℕ) → P (further ++ text_cells r line)) where
@@ -112,22 +112,22 @@ led-more gutter front others led =
 
 -- no row of a message can be taken for a line's
 pub message_rows-unnumbered : (hyperlink : Bool) (place : MessageContext) (heading : Heading)
-    → All (HasNoNumber place.frame.gutter) (heading_rows hyperlink (Message place) heading)
+    → All (HasNoNumber place.layout.gutter) (heading_rows hyperlink (Message place) heading)
 unfolding heading_rows
 message_rows-unnumbered hyperlink place heading =
     let roles : HeadingRoles = roles_of (Message place) heading.level.kind heading.allows_styling in
-    let spaces : List Cell = replicate (place.frame.gutter + 1) SPACE in
-    let sign : List Cell = text_cells LineNumber (note_sign_of place.frame.decor place.followed) in
+    let spaces : List Cell = replicate (place.layout.gutter + 1) SPACE in
+    let sign : List Cell = text_cells LineNumber (note_sign_of place.layout.decor place.followed) in
     let label : List Cell = label_cells hyperlink roles heading in
     let width : ℕ = label_width heading in
-    let bar : List Cell = note_bar_of place.frame.decor place.followed ∷ replicate (width + 1) SPACE in
-    let first : IsLed place.frame.gutter ((spaces ++ sign) ++ label) = led-more place.frame.gutter (spaces ++ sign) label (led-more place.frame.gutter spaces sign (spaces-led place.frame.gutter)) in
-    let further : IsLed place.frame.gutter (spaces ++ bar) = led-more place.frame.gutter spaces bar (spaces-led place.frame.gutter) in
-    let P : List Cell → Type 0 = HasNoNumber place.frame.gutter in
+    let bar : List Cell = note_bar_of place.layout.decor place.followed ∷ replicate (width + 1) SPACE in
+    let first : IsLed place.layout.gutter ((spaces ++ sign) ++ label) = led-more place.layout.gutter (spaces ++ sign) label (led-more place.layout.gutter spaces sign (spaces-led place.layout.gutter)) in
+    let further : IsLed place.layout.gutter (spaces ++ bar) = led-more place.layout.gutter spaces bar (spaces-led place.layout.gutter) in
+    let P : List Cell → Type 0 = HasNoNumber place.layout.gutter in
     All-trimmed P (lines_below ((spaces ++ sign) ++ label) (spaces ++ bar) roles.text (heading_lines heading))
     (lines-each P ((spaces ++ sign) ++ label) (spaces ++ bar)
-    roles.text (λ line. (led-more place.frame.gutter ((spaces ++ sign) ++ label) (text_cells roles.text line) first).1)
-    (λ line. (led-more place.frame.gutter (spaces ++ bar) (text_cells roles.text line) further).1) (heading_lines heading))
+    roles.text (λ line. (led-more place.layout.gutter ((spaces ++ sign) ++ label) (text_cells roles.text line) first).1)
+    (λ line. (led-more place.layout.gutter (spaces ++ bar) (text_cells roles.text line) further).1) (heading_lines heading))
 
 -- a label without an id links to nothing
 label-unlinked : (hyperlink : Bool) (roles : HeadingRoles) (heading : Heading) → heading.id ≡ None → All IsUnlinked (label_cells hyperlink roles heading)

@@ -9,27 +9,27 @@ use Rattle.snippet_titles.specs.declared.origin.OriginLayout.{OriginLayout}
 use Rattle.snippet_titles.specs.Origin.{file_row, origin_row, primary_head, secondary_head, nameless_head}
 use Rattle.snippet_style.specs.Separators.{separator_row}
 
-module _ (P : List Cell → Type 0) (layout : OriginLayout) (separator : P (separator_row layout.frame.decor layout.frame.gutter)) where
+module _ (P : List Cell → Type 0) (layout : OriginLayout) (separator : P (separator_row layout.base.decor layout.base.gutter)) where
   -- a separator row after others
-  ends : All P (separator_row layout.frame.decor layout.frame.gutter ∷ [])
-  ends = All-cons P (separator_row layout.frame.decor layout.frame.gutter) [] separator (All-nil P)
+  ends : All P (separator_row layout.base.decor layout.base.gutter ∷ [])
+  ends = All-cons P (separator_row layout.base.decor layout.base.gutter) [] separator (All-nil P)
 
   -- the head of a snippet without a path
   pub nameless_head-each : P (file_row layout Secondary) → All P (nameless_head layout)
   nameless_head-each file =
-      All-cons P (separator_row layout.frame.decor layout.frame.gutter) (file_row layout Secondary ∷ []) separator (All-cons P (file_row layout Secondary) [] file (All-nil P))
+      All-cons P (separator_row layout.base.decor layout.base.gutter) (file_row layout Secondary ∷ []) separator (All-cons P (file_row layout Secondary) [] file (All-nil P))
 
   -- those of snippets with a path
   module _ (path : List ℕ) (place : OriginLocation) (origin : (start : FileStart) → P (origin_row layout start path place)) where
     -- of a primary file, or of what stands for it,
     pub primary_head-each : (first : Bool) → All P (primary_head layout first path place)
     primary_head-each true =
-        All-cons P (origin_row layout First path place) (separator_row layout.frame.decor layout.frame.gutter ∷ []) (origin First) ends
+        All-cons P (origin_row layout First path place) (separator_row layout.base.decor layout.base.gutter ∷ []) (origin First) ends
     primary_head-each false =
-        All-cons P (origin_row layout Later path place) (separator_row layout.frame.decor layout.frame.gutter ∷ []) (origin Later) ends
+        All-cons P (origin_row layout Later path place) (separator_row layout.base.decor layout.base.gutter ∷ []) (origin Later) ends
 
     -- and of another file
     pub secondary_head-each : All P (secondary_head layout path place)
     secondary_head-each =
-        All-cons P (separator_row layout.frame.decor layout.frame.gutter) (origin_row layout Secondary path place ∷ separator_row layout.frame.decor layout.frame.gutter ∷ []) separator (All-cons P (origin_row layout Secondary path place)
-        (separator_row layout.frame.decor layout.frame.gutter ∷ []) (origin Secondary) ends)
+        All-cons P (separator_row layout.base.decor layout.base.gutter) (origin_row layout Secondary path place ∷ separator_row layout.base.decor layout.base.gutter ∷ []) separator (All-cons P (origin_row layout Secondary path place)
+        (separator_row layout.base.decor layout.base.gutter ∷ []) (origin Secondary) ends)

@@ -48,17 +48,17 @@ pub sign_unlinked : (style : TitleStyle) → All IsUnlinked (sign_cells style)
 sign_unlinked Title = All-nil IsUnlinked
 sign_unlinked Short = All-nil IsUnlinked
 sign_unlinked (Message place) =
-    let sign : List Cell = text_cells LineNumber (note_sign_of place.frame.decor place.followed) in
-    All-append IsUnlinked (replicate (place.frame.gutter + 1) SPACE) sign (All-replicate IsUnlinked (place.frame.gutter + 1) SPACE refl) (drawn_unlinked LineNumber (note_sign_of place.frame.decor place.followed))
+    let sign : List Cell = text_cells LineNumber (note_sign_of place.layout.decor place.followed) in
+    All-append IsUnlinked (replicate (place.layout.gutter + 1) SPACE) sign (All-replicate IsUnlinked (place.layout.gutter + 1) SPACE refl) (drawn_unlinked LineNumber (note_sign_of place.layout.decor place.followed))
 
 -- the cells of an indent have no link
 pub indent_unlinked : (style : TitleStyle) (width : ℕ) → All IsUnlinked (indent_cells style width)
 indent_unlinked Title width = All-replicate IsUnlinked width SPACE refl
 indent_unlinked Short width = All-replicate IsUnlinked width SPACE refl
 indent_unlinked (Message place) width =
-    let bar : Cell = note_bar_of place.frame.decor place.followed in
+    let bar : Cell = note_bar_of place.layout.decor place.followed in
     let spaces : List Cell = replicate (width + 1) SPACE in
-    All-append IsUnlinked (replicate (place.frame.gutter + 1) SPACE) (bar ∷ spaces) (All-replicate IsUnlinked (place.frame.gutter + 1) SPACE refl) (All-cons IsUnlinked bar spaces (bar_unlinked place.frame.decor place.followed) (All-replicate IsUnlinked (width + 1) SPACE refl))
+    All-append IsUnlinked (replicate (place.layout.gutter + 1) SPACE) (bar ∷ spaces) (All-replicate IsUnlinked (place.layout.gutter + 1) SPACE refl) (All-cons IsUnlinked bar spaces (bar_unlinked place.layout.decor place.followed) (All-replicate IsUnlinked (width + 1) SPACE refl))
 
 -- such cells link to nothing, after others and before them
 pub links-after : (last : Option (List ℕ)) (xs ys : List Cell) → All IsUnlinked ys → links_after last (xs ++ ys) ≡ links_after last xs

@@ -56,7 +56,7 @@ padding_row-free decor gutter false = separator_row-free decor gutter
 pub file_row-free : (layout : OriginLayout) (start : FileStart) → IsFree (file_row layout start)
 unfolding file_row
 file_row-free layout start =
-    after_spaces-free layout.frame.gutter LineNumber (file_glyph start layout.frame.decor) (glyphs-unlisted start layout.frame.decor)
+    after_spaces-free layout.base.gutter LineNumber (file_glyph start layout.base.decor) (glyphs-unlisted start layout.base.decor)
 
 -- a digit is no listed character
 pub digit-unlisted : (c : ℕ) → IsDigit c → is_listed c ≡ false
@@ -78,12 +78,12 @@ origin_row-free layout start path place =
 -- and so are the heads of snippets
 pub primary_head-free : (layout : OriginLayout) (first : Bool) (path : List ℕ) (place : OriginLocation) → All IsFree (primary_head layout first path place)
 primary_head-free layout first path place =
-    primary_head-each IsFree layout (separator_row-free layout.frame.decor layout.frame.gutter) path place (λ start. origin_row-free layout start path place) first
+    primary_head-each IsFree layout (separator_row-free layout.base.decor layout.base.gutter) path place (λ start. origin_row-free layout start path place) first
 
 pub secondary_head-free : (layout : OriginLayout) (path : List ℕ) (place : OriginLocation) → All IsFree (secondary_head layout path place)
 secondary_head-free layout path place =
-    secondary_head-each IsFree layout (separator_row-free layout.frame.decor layout.frame.gutter) path place (λ start. origin_row-free layout start path place)
+    secondary_head-each IsFree layout (separator_row-free layout.base.decor layout.base.gutter) path place (λ start. origin_row-free layout start path place)
 
 pub nameless_head-free : (layout : OriginLayout) → All IsFree (nameless_head layout)
 nameless_head-free layout =
-    nameless_head-each IsFree layout (separator_row-free layout.frame.decor layout.frame.gutter) (file_row-free layout Secondary)
+    nameless_head-each IsFree layout (separator_row-free layout.base.decor layout.base.gutter) (file_row-free layout Secondary)

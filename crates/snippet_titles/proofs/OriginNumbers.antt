@@ -65,41 +65,41 @@ padding_row-unnumbered decor gutter true = closing_row-unnumbered decor gutter
 padding_row-unnumbered decor gutter false = separator_row-unnumbered decor gutter
 
 -- nor in those that lead to a file, and those of paths
-file_row-long : (layout : OriginLayout) (start : FileStart) → layout.frame.gutter < length (file_row layout start)
+file_row-long : (layout : OriginLayout) (start : FileStart) → layout.base.gutter < length (file_row layout start)
 unfolding file_row
 file_row-long layout start =
-    let glyph : List ℕ = file_glyph start layout.frame.decor in
-    omega (arith, length-append (replicate layout.frame.gutter SPACE) (text_cells LineNumber glyph), length-replicate layout.frame.gutter SPACE, length-text_cells LineNumber glyph, file_glyph-some start layout.frame.decor)
+    let glyph : List ℕ = file_glyph start layout.base.decor in
+    omega (arith, length-append (replicate layout.base.gutter SPACE) (text_cells LineNumber glyph), length-replicate layout.base.gutter SPACE, length-text_cells LineNumber glyph, file_glyph-some start layout.base.decor)
 
 file_row-plain : (layout : OriginLayout) (start : FileStart) → All IsPlain (file_row layout start)
 unfolding file_row
 file_row-plain layout start =
-    let glyph : List ℕ = file_glyph start layout.frame.decor in
-    All-append IsPlain (replicate layout.frame.gutter SPACE) (text_cells LineNumber glyph) (spaces-plain layout.frame.gutter) (All-text_cells IsPlain LineNumber glyph (each-fails is_ascii_alphanumeric glyph (glyphs-unnumbered start layout.frame.decor)))
+    let glyph : List ℕ = file_glyph start layout.base.decor in
+    All-append IsPlain (replicate layout.base.gutter SPACE) (text_cells LineNumber glyph) (spaces-plain layout.base.gutter) (All-text_cells IsPlain LineNumber glyph (each-fails is_ascii_alphanumeric glyph (glyphs-unnumbered start layout.base.decor)))
 
 -- the row of an origin has no number
 pub origin_row-unnumbered : (layout : OriginLayout) (start : FileStart) (path : List ℕ) (place : OriginLocation)
-    → HasNoNumber layout.frame.gutter (origin_row layout start path place)
+    → HasNoNumber layout.base.gutter (origin_row layout start path place)
 unfolding origin_row
 origin_row-unnumbered layout start path place =
-    front-unnumbered layout.frame.gutter (file_row layout start) (text_cells LineAndColumn (origin_text layout.anonymized path place)) (file_row-long layout start) (file_row-plain layout start)
+    front-unnumbered layout.base.gutter (file_row layout start) (text_cells LineAndColumn (origin_text layout.anonymized path place)) (file_row-long layout start) (file_row-plain layout start)
 
 -- the row of a file has no number
-pub file_row-unnumbered : (layout : OriginLayout) (start : FileStart) → HasNoNumber layout.frame.gutter (file_row layout start)
+pub file_row-unnumbered : (layout : OriginLayout) (start : FileStart) → HasNoNumber layout.base.gutter (file_row layout start)
 file_row-unnumbered layout start c within =
     All-get_or IsPlain (file_row layout start) c SPACE (omega (arith, within, file_row-long layout start)) (file_row-plain layout start)
 
 -- nor in the heads of snippets
 pub primary_head-unnumbered : (layout : OriginLayout) (first : Bool) (path : List ℕ) (place : OriginLocation)
-    → All (HasNoNumber layout.frame.gutter) (primary_head layout first path place)
+    → All (HasNoNumber layout.base.gutter) (primary_head layout first path place)
 primary_head-unnumbered layout first path place =
-    primary_head-each (HasNoNumber layout.frame.gutter) layout (separator_row-unnumbered layout.frame.decor layout.frame.gutter) path place (λ start. origin_row-unnumbered layout start path place) first
+    primary_head-each (HasNoNumber layout.base.gutter) layout (separator_row-unnumbered layout.base.decor layout.base.gutter) path place (λ start. origin_row-unnumbered layout start path place) first
 
 pub secondary_head-unnumbered : (layout : OriginLayout) (path : List ℕ) (place : OriginLocation)
-    → All (HasNoNumber layout.frame.gutter) (secondary_head layout path place)
+    → All (HasNoNumber layout.base.gutter) (secondary_head layout path place)
 secondary_head-unnumbered layout path place =
-    secondary_head-each (HasNoNumber layout.frame.gutter) layout (separator_row-unnumbered layout.frame.decor layout.frame.gutter) path place (λ start. origin_row-unnumbered layout start path place)
+    secondary_head-each (HasNoNumber layout.base.gutter) layout (separator_row-unnumbered layout.base.decor layout.base.gutter) path place (λ start. origin_row-unnumbered layout start path place)
 
-pub nameless_head-unnumbered : (layout : OriginLayout) → All (HasNoNumber layout.frame.gutter) (nameless_head layout)
+pub nameless_head-unnumbered : (layout : OriginLayout) → All (HasNoNumber layout.base.gutter) (nameless_head layout)
 nameless_head-unnumbered layout =
-    nameless_head-each (HasNoNumber layout.frame.gutter) layout (separator_row-unnumbered layout.frame.decor layout.frame.gutter) (file_row-unnumbered layout Secondary)
+    nameless_head-each (HasNoNumber layout.base.gutter) layout (separator_row-unnumbered layout.base.decor layout.base.gutter) (file_row-unnumbered layout Secondary)

@@ -17,13 +17,13 @@ use Rattle.snippet_grid.proofs.RowLemmas.{row_text-text_cells}
 
 -- what leads to the path: spaces and a glyph
 abbrev pub front_text : OriginLayout → FileStart → List ℕ
-front_text layout start = replicate layout.frame.gutter 32 ++ file_glyph start layout.frame.decor
+front_text layout start = replicate layout.base.gutter 32 ++ file_glyph start layout.base.decor
 
 row_text-file : (layout : OriginLayout) (start : FileStart) → row_text (file_row layout start) ≡ front_text layout start
 unfolding file_row
 row_text-file layout start =
-    let glyph : List ℕ = file_glyph start layout.frame.decor in
-    row_text-append (replicate layout.frame.gutter SPACE) (text_cells LineNumber glyph) ∙ ap (λ cs. cs ++ row_text (text_cells LineNumber glyph)) (row_text-spaces layout.frame.gutter) ∙ ap (λ cs. replicate layout.frame.gutter 32 ++ cs) (row_text-text_cells LineNumber glyph)
+    let glyph : List ℕ = file_glyph start layout.base.decor in
+    row_text-append (replicate layout.base.gutter SPACE) (text_cells LineNumber glyph) ∙ ap (λ cs. cs ++ row_text (text_cells LineNumber glyph)) (row_text-spaces layout.base.gutter) ∙ ap (λ cs. replicate layout.base.gutter 32 ++ cs) (row_text-text_cells LineNumber glyph)
 
 -- the row's characters end with the path and its place
 pub row_text-origin : (layout : OriginLayout) (start : FileStart) (path : List ℕ) (place : OriginLocation)
@@ -35,12 +35,12 @@ row_text-origin layout start path place =
 
 -- they stand after the glyph
 pub origin_row-after : (layout : OriginLayout) (start : FileStart) (path : List ℕ) (place : OriginLocation)
-    → drop (layout.frame.gutter + length (file_glyph start layout.frame.decor)) (origin_row layout start path place) ≡ text_cells LineAndColumn (origin_text layout.anonymized path place)
+    → drop (layout.base.gutter + length (file_glyph start layout.base.decor)) (origin_row layout start path place) ≡ text_cells LineAndColumn (origin_text layout.anonymized path place)
 unfolding origin_row file_row
 origin_row-after layout start path place =
-    let glyph : List ℕ = file_glyph start layout.frame.decor in
+    let glyph : List ℕ = file_glyph start layout.base.decor in
     let text : List ℕ = origin_text layout.anonymized path place in
-    let size : length (file_row layout start) ≡ layout.frame.gutter + length glyph = omega (arith, length-append (replicate layout.frame.gutter SPACE) (text_cells LineNumber glyph), length-replicate layout.frame.gutter SPACE, length-text_cells LineNumber glyph) in
+    let size : length (file_row layout start) ≡ layout.base.gutter + length glyph = omega (arith, length-append (replicate layout.base.gutter SPACE) (text_cells LineNumber glyph), length-replicate layout.base.gutter SPACE, length-text_cells LineNumber glyph) in
     ap (λ n. drop n (file_row layout start ++ text_cells LineAndColumn text)) (sym size) ∙ drop-append_seam (file_row layout start) (text_cells LineAndColumn text)
 
 -- a path whose line and column are both named: the path, a colon, the line, a colon, the column

@@ -20,6 +20,7 @@ use Rattle.snippet_model.specs.Level.{name_of}
 use Rattle.snippet_titles.specs.declared.style.HeadingRoles.{HeadingRoles}
 use Rattle.snippet_titles.specs.declared.style.TitleStyle.{TitleStyle}
 use Rattle.snippet_titles.specs.declared.style.TitleStyle.TheVariants.{Title, Short, Message}
+use Rattle.snippet_grid.specs.Layout.{separator_cell}
 
 -- the characters of a text as it is drawn: a trusted one as it is, any other normalised
 abbrev pub shown_text : Heading → List ℕ
@@ -117,7 +118,7 @@ abbrev pub sign_cells : TitleStyle → List Cell
 sign_cells Title = []
 sign_cells Short = []
 sign_cells (Message place) =
-    replicate (place.frame.gutter + 1) SPACE ++ text_cells role.LineNumber (note_sign_of place.frame.decor place.followed)
+    replicate (separator_cell place.layout) SPACE ++ text_cells role.LineNumber (note_sign_of place.layout.decor place.followed)
 
 -- what a further row begins with, below a label of this width: as many spaces, and in a message three more than the gutter is
 -- wide, of which one gives its place to the stroke
@@ -125,7 +126,7 @@ abbrev pub indent_cells : TitleStyle → ℕ → List Cell
 indent_cells Title width = replicate width SPACE
 indent_cells Short width = replicate width SPACE
 indent_cells (Message place) width =
-    replicate (place.frame.gutter + 1) SPACE ++ note_bar_of place.frame.decor place.followed ∷ replicate (width + 1) SPACE
+    replicate (separator_cell place.layout) SPACE ++ note_bar_of place.layout.decor place.followed ∷ replicate (width + 1) SPACE
 
 -- the rows of lines: the first line stands after these cells, each further one after those
 abbrev pub lines_below : List Cell → List Cell → ElementStyle → List (List ℕ) → List (List Cell)

@@ -47,7 +47,7 @@ file_glyph Secondary decor = other_start_of decor
 -- a row that leads to a file without naming it: the gutter is empty, and the glyph stands from cell `gutter` on
 unfoldable pub file_row : OriginLayout → FileStart → List Cell
 file_row layout start =
-    replicate layout.frame.gutter SPACE ++ text_cells LineNumber (file_glyph start layout.frame.decor)
+    replicate layout.base.gutter SPACE ++ text_cells LineNumber (file_glyph start layout.base.decor)
 
 -- the row of a path: the same, and after it the path with its place
 unfoldable pub origin_row : OriginLayout → FileStart → List ℕ → OriginLocation → List Cell
@@ -65,26 +65,26 @@ primary_start first = if first then First else Later
 -- what a snippet without a path begins with where it is the group's primary one: in ASCII a separator row, in Unicode the start
 -- of a file
 abbrev pub opening_rows : DecorStyle → OriginLayout → Bool → List (List Cell)
-opening_rows Ascii layout first = separator_row layout.frame.decor layout.frame.gutter ∷ []
+opening_rows Ascii layout first = separator_row layout.base.decor layout.base.gutter ∷ []
 opening_rows Unicode layout first = file_row layout (primary_start first) ∷ []
 
 abbrev pub opening_head : OriginLayout → Bool → List (List Cell)
-opening_head layout first = opening_rows layout.frame.decor layout first
+opening_head layout first = opening_rows layout.base.decor layout first
 
 -- what a snippet with a path begins with where it is the group's primary one, as the first element or as a later one: the
 -- row of the path, and a separator row
 abbrev pub primary_head : OriginLayout → Bool → List ℕ → OriginLocation → List (List Cell)
 primary_head layout first path place =
-    origin_row layout (primary_start first) path place ∷ separator_row layout.frame.decor layout.frame.gutter ∷ []
+    origin_row layout (primary_start first) path place ∷ separator_row layout.base.decor layout.base.gutter ∷ []
 
 -- the same where it isn't primary: the row of the path between two separator rows
 abbrev pub secondary_head : OriginLayout → List ℕ → OriginLocation → List (List Cell)
 secondary_head layout path place =
-    separator_row layout.frame.decor layout.frame.gutter ∷ origin_row layout Secondary path place ∷ separator_row layout.frame.decor layout.frame.gutter ∷ []
+    separator_row layout.base.decor layout.base.gutter ∷ origin_row layout Secondary path place ∷ separator_row layout.base.decor layout.base.gutter ∷ []
 
 -- what a snippet without a path begins with where it isn't primary: a separator row, and a row that leads to no path
 abbrev pub nameless_head : OriginLayout → List (List Cell)
-nameless_head layout = separator_row layout.frame.decor layout.frame.gutter ∷ file_row layout Secondary ∷ []
+nameless_head layout = separator_row layout.base.decor layout.base.gutter ∷ file_row layout Secondary ∷ []
 
 -- what a snippet begins with: whether it is the group's primary one, and the first element, with its path, if it has one, and
 -- the place that is named after that

@@ -28,9 +28,9 @@ pub fn draw_opening_head(
 ) -> Result<(), AllocError>
     ensures rows { OnOk result (buffer.new ≡ buffer.old ++ opening_head layout first) }
 {
-    let frame = layout.frame;
-    match frame.decor {
-        DecorStyle::Ascii => draw_separator(buffer, layout.frame),
+    let base = layout.base;
+    match base.decor {
+        DecorStyle::Ascii => draw_separator(buffer, layout.base),
         DecorStyle::Unicode => {
             begin_file_row(buffer, layout, primary_start(first))?;
             Ok(())
@@ -59,9 +59,9 @@ pub fn draw_primary_head(
 ) -> Result<(), AllocError>
     ensures rows { OnOk result (buffer.new ≡ buffer.old ++ primary_head layout first path.now place) }
 {
-    let frame = layout.frame;
+    let base = layout.base;
     draw_origin(alloc, buffer, layout, primary_start(first), path, place)?;
-    draw_separator(buffer, frame)
+    draw_separator(buffer, base)
 }
 
 /// Draws what any other snippet with a path begins with, below all that stands in the grid.
@@ -84,10 +84,10 @@ pub fn draw_secondary_head(
 ) -> Result<(), AllocError>
     ensures rows { OnOk result (buffer.new ≡ buffer.old ++ secondary_head layout path.now place) }
 {
-    let frame = layout.frame;
-    draw_separator(buffer, frame)?;
+    let base = layout.base;
+    draw_separator(buffer, base)?;
     draw_origin(alloc, buffer, layout, FileStart::Secondary, path, place)?;
-    draw_separator(buffer, frame)
+    draw_separator(buffer, base)
 }
 
 /// Draws what a snippet without a path begins with where it isn't the group's primary one, below all that stands in the
@@ -104,7 +104,7 @@ pub fn draw_secondary_head(
 pub fn draw_nameless_head(buffer: &mut StyledBuffer, layout: OriginLayout) -> Result<(), AllocError>
     ensures rows { OnOk result (buffer.new ≡ buffer.old ++ nameless_head layout) }
 {
-    draw_separator(buffer, layout.frame)?;
+    draw_separator(buffer, layout.base)?;
     begin_file_row(buffer, layout, FileStart::Secondary)?;
     Ok(())
 }

@@ -1,5 +1,5 @@
 //! The rows of a title or message.
-ghost use Rattle.std.specs.Prelude.{◌≡◌, ℕ, ◌+◌, ◌^◌, ◌<◌, ◌≤◌, ◌++◌, ◌==◌, [], length, map, take, drop, chars, All};
+ghost use Rattle.std.specs.Prelude.{◌≡◌, ℕ, ◌≤◌, ◌++◌, ◌==◌, [], length, map, take, drop, chars, All};
 ghost use Rattle.std.specs.Prelude.{OnOk, IfOk, IfSome};
 ghost use Rattle.std.specs.List.{slice_index_or, slice_split};
 ghost use Rattle.std.specs.Cow.{cow_str_bytes};
@@ -17,6 +17,7 @@ ghost use Rattle.snippet_grid.specs.Print.{row_text};
 ghost use Rattle.snippet_text.specs.Normalized.{norm};
 ghost use Rattle.snippet_text.specs.Width.{width_of};
 ghost use Rattle.snippet_model.specs.Level.{name_of};
+ghost use Rattle.snippet_style.specs.Bounds.{HasNext, IsAddable, IsColumn, IsRowNumber, IsTextWidth};
 
 use crate::id::{draw_id, is_set};
 use crate::row::{draw_indent, draw_sign, extend_row};
@@ -67,9 +68,9 @@ pub(crate) fn draw_label<'a>(
     roles: HeadingRoles,
     heading: &'a dyn MessageOrTitle,
 ) -> Result<(), AllocError>
-    requires row { row + 1 < 2 ^ 64 }
+    requires row { HasNext row }
     requires start { length (row_at buffer.old row) ≡ start }
-    requires small { start < 2 ^ 59 }
+    requires small { IsTextWidth start }
     requires fits { HeadingFits (heading_of heading.now) }
     ensures extended { OnOk result (buffer.new
         ≡ appended buffer.old row (label_cells hyperlink roles (heading_of heading.now))) }
@@ -119,7 +120,7 @@ pub fn colon(hidden: bool, id: Option<&Id>) -> &'static str
 fn label_width(heading: &dyn MessageOrTitle) -> usize
     requires fits { HeadingFits (heading_of heading.now) }
     ensures value { result ≡ width_of (spec.heading_label_text (heading_of heading.now)) }
-    ensures small { result < 2 ^ 60 }
+    ensures small { IsColumn result }
 {
     let hidden = is_hidden(heading.level());
     let colon = colon(hidden, heading.id());
@@ -130,7 +131,7 @@ fn label_width(heading: &dyn MessageOrTitle) -> usize
 fn id_width(hidden: bool, id: Option<&Id>) -> usize
     requires fits { IfSome (option_copied id) IdFits }
     ensures value { result ≡ width_of (spec.id_text hidden (option_copied id.entry)) }
-    ensures small { result < 2 ^ 59 }
+    ensures small { IsTextWidth result }
 {
     let Some(id) = id else {
         return 0;
@@ -163,7 +164,7 @@ pub(crate) fn draw_text(
     role: ElementStyle,
     heading: &dyn MessageOrTitle,
 ) -> Result<(), AllocError>
-    requires row { row < 2 ^ 60 }
+    requires row { IsRowNumber row }
     requires last { IsAtEnd row buffer.old }
     requires fits { HeadingFits (heading_of heading.now) }
     ensures rows { OnOk result (buffer.new ≡ take row buffer.old
@@ -183,7 +184,7 @@ fn draw_lines(
     heading: &dyn MessageOrTitle,
     text: &str,
 ) -> Result<(), AllocError>
-    requires row { row < 2 ^ 60 }
+    requires row { IsRowNumber row }
     requires last { IsAtEnd row buffer.old }
     requires fits { HeadingFits (heading_of heading.now) }
     ensures rows { OnOk result (buffer.new ≡ take row buffer.old
@@ -210,9 +211,9 @@ fn draw_further_line(
     role: ElementStyle,
     line: &str,
 ) -> Result<(), AllocError>
-    requires row { row + 1 < 2 ^ 64 }
+    requires row { HasNext row }
     requires empty { row_at buffer.old row ≡ [] }
-    requires width { width < 2 ^ 62 }
+    requires width { IsAddable width }
     ensures drawn { OnOk result (buffer.new ≡ appended buffer.old row (indent_cells style.now width ++ text_cells role (chars line.now))) }
 {
     draw_indent(buffer, row, style, width)?;

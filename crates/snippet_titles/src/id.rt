@@ -1,5 +1,5 @@
 //! A heading's identifier.
-ghost use Rattle.std.specs.Prelude.{◌≡◌, ◌+◌, ◌^◌, ◌<◌, ◌≤◌, chars, length, IfOk, IfSome, OnOk};
+ghost use Rattle.std.specs.Prelude.{◌≡◌, ◌≤◌, chars, length, IfOk, IfSome, OnOk};
 ghost use Rattle.std.specs.Cow.{cow_str_bytes};
 ghost use Rattle.std.specs.Option.{option_copied};
 ghost use Rattle.snippet_model.specs.Fits.{IdFits};
@@ -8,6 +8,7 @@ ghost use Rattle.snippet_text.specs.Normalized.{norm};
 ghost use Rattle.snippet_titles.specs.Appended.{appended};
 ghost use Rattle.snippet_titles.specs.Heading.{id_cells};
 ghost use Rattle.snippet_titles.specs.Heading as spec;
+ghost use Rattle.snippet_style.specs.Bounds.{HasNext, IsColumn};
 
 use crate::row::{extend_row, link_from};
 use snippet_grid::StyledBuffer;
@@ -31,9 +32,9 @@ pub(crate) fn draw_id<'a>(
     hidden: bool,
     id: Option<&'a Id<'a>>,
 ) -> Result<(), AllocError>
-    requires row { row + 1 < 2 ^ 64 }
+    requires row { HasNext row }
     requires start { length (row_at buffer.old row) ≡ start }
-    requires short { start < 2 ^ 60 }
+    requires short { IsColumn start }
     requires fits { IfSome (option_copied id) IdFits }
     ensures extended { OnOk result (buffer.new
         ≡ appended buffer.old row (id_cells hyperlink hidden role (option_copied id.entry))) }

@@ -1,8 +1,9 @@
 //! The row of a path, and of the place after it.
-ghost use Rattle.std.specs.Prelude.{◌≡◌, ◌+◌, ◌^◌, ◌<◌, ◌∷◌, ◌++◌, [], length, chars, string_bytes, OnOk, IfOk};
+ghost use Rattle.std.specs.Prelude.{◌≡◌, ◌∷◌, ◌++◌, [], length, chars, string_bytes, OnOk, IfOk};
 ghost use Rattle.snippet_text.specs.Normalized.{norm};
 ghost use Rattle.snippet_titles.specs.Origin as spec;
 ghost use Rattle.snippet_titles.specs.Origin.{file_glyph, file_row, origin_row, place_text};
+ghost use Rattle.snippet_style.specs.Bounds.{IsRowNumber};
 
 use snippet_grid::{Layout, StyledBuffer};
 use snippet_style::{DecorStyle, ElementStyle};
@@ -35,12 +36,12 @@ pub struct OriginLocation {
 /// Where the rows of a path stand, and how they are drawn.
 ///
 /// ```text
-///   --> src/main.rs:3:5     what leads to the path stands from cell `frame.gutter` on
+///   --> src/main.rs:3:5     what leads to the path stands from cell `base.gutter` on
 /// ```
 #[derive(Clone, Copy, Debug)]
 pub struct OriginLayout {
     /// Where the parts of the group's rows stand.
-    pub frame: Layout,
+    pub base: Layout,
     /// Whether each line after a path is named `LL`.
     pub anonymized: bool,
 }
@@ -157,11 +158,11 @@ pub(crate) fn begin_file_row(
 ) -> Result<usize, AllocError>
     ensures added { OnOk result (buffer.new ≡ buffer.old ++ file_row layout start ∷ []) }
     ensures row { IfOk result (λ row. row ≡ length buffer.old) }
-    ensures small { length buffer.old < 2 ^ 60 }
+    ensures small { IsRowNumber (length buffer.old) }
 {
     let row = buffer.num_lines();
-    let frame = layout.frame;
-    let glyph = start.glyph(frame.decor);
-    buffer.puts(row, frame.gutter, glyph, ElementStyle::LineNumber)?;
+    let base = layout.base;
+    let glyph = start.glyph(base.decor);
+    buffer.puts(row, base.gutter, glyph, ElementStyle::LineNumber)?;
     Ok(row)
 }

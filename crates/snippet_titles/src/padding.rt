@@ -38,7 +38,7 @@ pub fn draw_separator(buffer: &mut StyledBuffer, layout: Layout) -> Result<(), A
     let row = buffer.num_lines();
     buffer.putc(
         row,
-        layout.gutter + 1,
+        layout.separator_cell(),
         layout.decor.separator(),
         ElementStyle::LineNumber,
     )
@@ -59,7 +59,7 @@ pub fn draw_closing(buffer: &mut StyledBuffer, layout: Layout) -> Result<(), All
     let row = buffer.num_lines();
     buffer.puts(
         row,
-        layout.gutter + 1,
+        layout.separator_cell(),
         layout.decor.closing(),
         ElementStyle::LineNumber,
     )

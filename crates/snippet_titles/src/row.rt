@@ -1,10 +1,11 @@
 //! The rows that a heading is drawn into: what is added after their cells.
-ghost use Rattle.std.specs.Prelude.{◌≡◌, ◌+◌, ◌^◌, ◌<◌, [], chars, length, replicate, OnOk};
+ghost use Rattle.std.specs.Prelude.{◌≡◌, ◌+◌, [], chars, length, replicate, OnOk};
 ghost use Rattle.std.specs.Option.{option_copied};
 ghost use Rattle.snippet_titles.specs.Appended.{appended, linked_from};
 ghost use Rattle.snippet_titles.specs.Heading.{indent_cells, sign_cells};
 ghost use Rattle.snippet_grid.specs.Grid.{row_at};
 ghost use Rattle.snippet_style.specs.Cell.{SPACE, text_cells};
+ghost use Rattle.snippet_style.specs.Bounds.{HasNext, IsAddable, IsUsize};
 
 use crate::style::TitleStyle;
 use snippet_grid::StyledBuffer;
@@ -18,7 +19,7 @@ pub(crate) fn extend_row(
     text: &str,
     role: ElementStyle,
 ) -> Result<(), AllocError>
-    requires row { row + 1 < 2 ^ 64 }
+    requires row { HasNext row }
     ensures extended { OnOk result (buffer.new ≡ appended buffer.old row (text_cells role (chars text.now))) }
 {
     buffer.append(row, text, role)?;
@@ -47,8 +48,8 @@ pub(crate) fn add_spaces(
     end: usize,
     count: usize,
 ) -> Result<(), AllocError>
-    requires row { row + 1 < 2 ^ 64 }
-    requires fits { end + count < 2 ^ 64 }
+    requires row { HasNext row }
+    requires fits { IsUsize (end + count) }
     requires end { length (row_at buffer.old row) ≡ end }
     ensures extended { OnOk result (buffer.new ≡ appended buffer.old row (replicate count SPACE)) }
 {
@@ -64,15 +65,15 @@ pub(crate) fn draw_sign(
     row: usize,
     style: &TitleStyle,
 ) -> Result<(), AllocError>
-    requires row { row + 1 < 2 ^ 64 }
+    requires row { HasNext row }
     requires empty { row_at buffer.old row ≡ [] }
     ensures extended { OnOk result (buffer.new ≡ appended buffer.old row (sign_cells style.now)) }
 {
     if let TitleStyle::Message(place) = style {
-        let frame = place.frame;
+        let layout = place.layout;
         buffer.puts(
             row,
-            frame.gutter + 1,
+            layout.separator_cell(),
             place.sign(),
             ElementStyle::LineNumber,
         )?;
@@ -87,18 +88,19 @@ pub(crate) fn draw_indent(
     style: &TitleStyle,
     width: usize,
 ) -> Result<(), AllocError>
-    requires row { row + 1 < 2 ^ 64 }
+    requires row { HasNext row }
     requires empty { row_at buffer.old row ≡ [] }
-    requires width { width < 2 ^ 62 }
+    requires width { IsAddable width }
     ensures extended { OnOk result (buffer.new ≡ appended buffer.old row (indent_cells style.now width)) }
 {
     match style {
         TitleStyle::Title | TitleStyle::Short => add_spaces(buffer, row, 0, width)?,
         TitleStyle::Message(place) => {
-            let frame = place.frame;
+            let layout = place.layout;
             let (glyph, role) = place.bar();
-            buffer.putc(row, frame.gutter + 1, glyph, role)?;
-            add_spaces(buffer, row, frame.gutter + 2, width + 1)?;
+            let cell = layout.separator_cell();
+            buffer.putc(row, cell, glyph, role)?;
+            add_spaces(buffer, row, cell + 1, width + 1)?;
         }
     }
     Ok(())

@@ -1,7 +1,8 @@
 //! The rows of a report's short form.
-ghost use Rattle.std.specs.Prelude.{◌≡◌, ◌<◌, ◌^◌, ◌++◌, chars, length, OnOk};
+ghost use Rattle.std.specs.Prelude.{◌≡◌, ◌++◌, chars, length, OnOk};
 ghost use Rattle.snippet_model.specs.Heading.{HeadingFits};
 ghost use Rattle.snippet_titles.specs.Short.{short_rows};
+ghost use Rattle.snippet_style.specs.Bounds.{IsTextWidth};
 
 use crate::heading::{draw_label, draw_text};
 use crate::row::extend_row;
@@ -27,7 +28,7 @@ pub fn draw_short<'a>(
     heading: &'a dyn MessageOrTitle,
 ) -> Result<(), AllocError>
     requires fits { HeadingFits (heading_of heading.now) }
-    requires short { length (chars before.now) < 2 ^ 59 }
+    requires short { IsTextWidth (length (chars before.now)) }
     ensures rows { OnOk result (buffer.new ≡ buffer.old ++ short_rows hyperlink (chars before.now) (chars after.now) (heading_of heading.now)) }
 {
     let row = buffer.num_lines();

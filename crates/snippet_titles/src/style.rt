@@ -1,9 +1,10 @@
 //! Where a title or message stands, and what that makes of its rows: the roles of their parts, and what they begin with.
-ghost use Rattle.std.specs.Prelude.{◌≡◌, ◌<◌, ◌^◌, chars, length};
+ghost use Rattle.std.specs.Prelude.{◌≡◌, ◌<◌, chars, length};
 ghost use Rattle.snippet_style.specs.Cell.{unlinked_cell};
 ghost use Rattle.snippet_style.specs.Glyphs.{note_sign_of};
 ghost use Rattle.snippet_titles.specs.Heading as spec;
 ghost use Rattle.snippet_style.specs.declared.role.ElementStyle.TheVariants.{Level};
+ghost use Rattle.snippet_style.specs.Bounds.{IsSignWidth};
 
 use snippet_grid::Layout;
 use snippet_style::{DecorStyle, ElementStyle, LevelInner};
@@ -12,7 +13,7 @@ use snippet_style::{DecorStyle, ElementStyle, LevelInner};
 #[derive(Clone, Copy)]
 pub struct MessageContext {
     /// Where the parts of the group's rows stand.
-    pub frame: Layout,
+    pub layout: Layout,
     /// Whether an element of the group follows, to which a stroke leads.
     pub followed: bool,
 }
@@ -75,20 +76,20 @@ fn title_roles(short: bool, kind: LevelInner, trusted: bool) -> HeadingRoles
 impl MessageContext {
     /// What leads from the gutter to the message.
     pub(crate) fn sign(self) -> &'static str
-        ensures value { chars result.now ≡ note_sign_of self.frame.decor self.followed }
+        ensures value { chars result.now ≡ note_sign_of self.layout.decor self.followed }
         ensures some { 0 < length result.now }
     {
-        let frame = self.frame;
-        frame.decor.note_sign(self.followed)
+        let layout = self.layout;
+        layout.decor.note_sign(self.followed)
     }
 
     /// What stands below its first character in the message's further rows, and its role.
     pub(crate) fn bar(self) -> (char, ElementStyle)
-        ensures value { unlinked_cell result.1 result.0 ≡ spec.note_bar_of self.frame.decor self.followed }
+        ensures value { unlinked_cell result.1 result.0 ≡ spec.note_bar_of self.layout.decor self.followed }
     {
-        let frame = self.frame;
-        match (frame.decor, self.followed) {
-            (DecorStyle::Unicode, true) => (frame.decor.separator(), ElementStyle::LineNumber),
+        let layout = self.layout;
+        match (layout.decor, self.followed) {
+            (DecorStyle::Unicode, true) => (layout.decor.separator(), ElementStyle::LineNumber),
             (DecorStyle::Unicode, false) | (DecorStyle::Ascii, _) => (' ', ElementStyle::NoStyle),
         }
     }
@@ -98,13 +99,13 @@ impl TitleStyle {
     /// How many cells the first row begins with before its label.
     pub(crate) fn start(&self) -> usize
         ensures value { result ≡ length (spec.sign_cells self.now) }
-        ensures small { result < 2 ^ 33 }
+        ensures small { IsSignWidth result }
     {
         match self {
             TitleStyle::Title | TitleStyle::Short => 0,
             TitleStyle::Message(place) => {
-                let frame = place.frame;
-                frame.gutter + 3
+                let layout = place.layout;
+                layout.inner_cell()
             }
         }
     }

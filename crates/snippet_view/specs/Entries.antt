@@ -1,5 +1,5 @@
 -- What those who draw entries know of them.
-use Rattle.std.specs.Prelude.{ℕ, ◌^◌, ◌<◌, ◌≤◌, ◌&&◌, Bool, not, All, List, IfSome, length, slice_index_or}
+use Rattle.std.specs.Prelude.{ℕ, ◌<◌, ◌≤◌, ◌&&◌, Bool, not, All, List, IfSome, length, slice_index_or}
 use Rattle.std.specs.List.{list_all}
 use Rattle.snippet_model.specs.declared.snippet.Annotation.{Annotation}
 use Rattle.snippet_view.specs.declared.entries.AnnotatedLineInfo.{AnnotatedLineInfo}
@@ -7,6 +7,8 @@ use Rattle.snippet_view.specs.declared.entries.LineAnnotation.{LineAnnotation}
 use Rattle.snippet_view.specs.declared.entries.LineAnnotationType.{LineAnnotationType}
 use Rattle.snippet_view.specs.declared.entries.LineAnnotationType.TheVariants.{Singleline, MultilineStart, MultilineEnd, MultilineLine}
 use Rattle.snippet_view.specs.Mark.{is_marking, is_single_line, touches}
+use Rattle.snippet_text.specs.Bounds.{TextFits}
+use Rattle.snippet_style.specs.Bounds.{IsColumn}
 
 -- a fact about each entry of some lines
 abbrev pub AllEntries : (LineAnnotation → Type 0) → List AnnotatedLineInfo → Type 0
@@ -14,15 +16,15 @@ AllEntries P infos = All (λ info. All P info.annotations.items) infos
 
 -- an entry ends no earlier than it starts, and sums of columns have room
 abbrev pub HasRoom : LineAnnotation → Type 0
-HasRoom e = (e.start.display ≤ e.end.display) × (e.end.display < 2 ^ 60)
+HasRoom e = (e.start.display ≤ e.end.display) × IsColumn e.end.display
 
 -- there is room for one character more than an entry starts at
 abbrev pub HasCharacterRoom : LineAnnotation → Type 0
-HasCharacterRoom e = e.start.char < 2 ^ 60
+HasCharacterRoom e = IsColumn e.start.char
 
 -- an entry's label is one of fewer than 2^56 bytes, if it has one
 abbrev pub HasShortLabel : LineAnnotation → Type 0
-HasShortLabel e = IfSome e.label (λ t. length t.now < 2 ^ 56)
+HasShortLabel e = IfSome e.label (λ t. TextFits t.now)
 
 -- the depth of an entry of a span of several lines counts from 1 to the greatest one
 abbrev pub HasDepthWithin : ℕ → LineAnnotationType → Type 0

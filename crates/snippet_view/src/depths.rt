@@ -1,11 +1,12 @@
 //! How far right the bar of each span of several lines stands, so that spans that share a line stay apart.
-ghost use Rattle.std.specs.Prelude.{◌≡◌, ◌+◌, ◌-◌, ◌^◌, ◌≤◌, ◌<◌, true, All, Contains, ◌∷◌, length, map, fold, max};
+ghost use Rattle.std.specs.Prelude.{◌≡◌, ◌+◌, ◌-◌, ◌≤◌, ◌<◌, true, All, Contains, ◌∷◌, length, map, fold, max};
 ghost use Rattle.std.specs.Prelude.{IfOk};
 ghost use Rattle.std.specs.List.{AllWithin};
 ghost use Rattle.std.specs.List.Sorted.{IsNonDecreasingBy};
 ghost use Rattle.snippet_view.specs.declared.depths.LongExtent.{LongExtent};
 ghost use Rattle.snippet_view.specs.Depths as spec;
 ghost use Rattle.snippet_view.specs.Depths.{share_line, IsLongestChain};
+ghost use Rattle.snippet_style.specs.Bounds.{HasNext};
 
 use std::alloc::{AllocError, Global};
 
@@ -49,7 +50,7 @@ pub fn depths(alloc: Global, places: &[LongExtent]) -> Result<(usize, Vec<usize>
 /// Turns raw depths into depths, of which the greatest raw one is the least.
 fn turn(depths: &mut [usize], greatest: usize)
     requires most { All (λ raw. raw ≤ greatest) depths.old }
-    requires room { greatest + 1 < 2 ^ 64 }
+    requires room { HasNext greatest }
     ensures value { depths.new ≡ map (λ raw. greatest - raw + 1) depths.old }
 {
     for depth in depths.iter_mut() {

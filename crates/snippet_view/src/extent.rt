@@ -1,6 +1,5 @@
 //! How far the lines of a snippet reach, with their spans and labels, and the margin for them.
-ghost use Rattle.std.specs.Prelude.{◌≡◌, ◌+◌, ◌-◌, ◌^◌, ◌<◌, ◌≤◌, ◌++◌, ◌∷◌, [], All, List, IfSome, Some, min, max};
-ghost use Rattle.std.specs.Prelude.{length};
+ghost use Rattle.std.specs.Prelude.{◌≡◌, ◌-◌, ◌≤◌, ◌++◌, ◌∷◌, [], All, List, IfSome, Some, min, max};
 ghost use Rattle.std.specs.Option.{option_copied, option_map_or};
 ghost use Rattle.snippet_view.specs.declared.entries.AnnotatedLineInfo.{AnnotatedLineInfo};
 ghost use Rattle.snippet_view.specs.declared.entries.LineAnnotation.{LineAnnotation};
@@ -9,6 +8,7 @@ ghost use Rattle.snippet_view.specs.Measures as spec;
 ghost use Rattle.snippet_view.specs.Measures.{StandsClear, bounds_of_lines, end_with};
 ghost use Rattle.snippet_view.specs.Extent.{ReachesEntries, ReachesLines};
 ghost use Rattle.snippet_view.specs.ShownLines.{kept_of};
+ghost use Rattle.snippet_text.specs.Bounds.{TextFits};
 
 use crate::entries::{LineAnnotation, LineAnnotationType};
 use crate::margin::Margin;
@@ -18,8 +18,8 @@ use snippet_text::str_width;
 
 /// The margin for the lines of a snippet, in a room of this many columns: that of the lines that are kept. Bars take no part.
 pub fn margin_for(lines: &[ShownLine], room: usize) -> Margin
-    requires texts { All (λ line. length line.info.line.now < 2 ^ 56) lines.now }
-    requires labels { All (λ line. All (λ e. IfSome e.label (λ t. length t.now < 2 ^ 56)) line.info.annotations.items)
+    requires texts { All (λ line. TextFits line.info.line.now) lines.now }
+    requires labels { All (λ line. All (λ e. IfSome e.label (λ t. TextFits t.now)) line.info.annotations.items)
         lines.now }
     ensures bounds { bounds_of result ≡ bounds_of_lines room (kept_of lines.now) }
     ensures room { result.term_width ≡ room }
@@ -69,8 +69,8 @@ impl Extent {
 
     /// Takes in a line, with its entries.
     fn add_line(&mut self, line: &ShownLine)
-        requires text { length line.now.info.line.now < 2 ^ 56 }
-        requires labels { All (λ e. IfSome e.label (λ t. length t.now < 2 ^ 56)) line.now.info.annotations.items }
+        requires text { TextFits line.now.info.line.now }
+        requires labels { All (λ e. IfSome e.label (λ t. TextFits t.now)) line.now.info.annotations.items }
         ensures adds { (before : List AnnotatedLineInfo) → ReachesLines before self.old
             → ReachesLines (before ++ line.now.info ∷ []) self.new }
     {
@@ -83,7 +83,7 @@ impl Extent {
 
     /// Takes in an entry.
     fn add_entry(&mut self, entry: &LineAnnotation)
-        requires label { IfSome entry.now.label (λ t. length t.now < 2 ^ 56) }
+        requires label { IfSome entry.now.label (λ t. TextFits t.now) }
         ensures adds { (before : List LineAnnotation) → ReachesEntries before self.old
             → ReachesEntries (before ++ entry.now ∷ []) self.new }
         ensures lines { self.new ≡ record self.old { first = self.new.first; last = self.new.last; label_end = self.new.label_end } }
@@ -126,7 +126,7 @@ fn is_bar(part: LineAnnotationType) -> bool
 
 /// The column after an entry's label, or after its mark where it has none.
 fn label_end(entry: &LineAnnotation) -> usize
-    requires label { IfSome entry.now.label (λ t. length t.now < 2 ^ 56) }
+    requires label { IfSome entry.now.label (λ t. TextFits t.now) }
     ensures value { result ≡ end_with entry.now.end.display (option_copied entry.now.label) }
 {
     match entry.label {

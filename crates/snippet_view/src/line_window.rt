@@ -1,11 +1,13 @@
 //! The window of a line: the part of it that is shown.
-ghost use Rattle.std.specs.Prelude.{◌≡◌, ◌+◌, ◌-◌, ◌^◌, ◌<◌, ◌≤◌, IfSome, List, ℕ, length, take, drop, chars, min};
+ghost use Rattle.std.specs.Prelude.{◌≡◌, ◌+◌, ◌-◌, ◌<◌, ◌≤◌, IfSome, List, ℕ, take, drop, chars, min};
 ghost use Rattle.snippet_text.specs.Width.{width_of};
 ghost use Rattle.snippet_view.specs.Margin.{bounds_of};
 ghost use Rattle.snippet_view.specs.NearPart.{IsPartOf};
 ghost use Rattle.snippet_view.specs.Window.{reaching, fitting, reaching_last, dropped_part, inner_part};
 ghost use Rattle.snippet_view.specs.Window.{covered_columns, uncovered_part, covered_end};
 ghost use Rattle.snippet_style.specs.Cell.{bytes_of};
+ghost use Rattle.snippet_text.specs.Bounds.{TextFits};
+ghost use Rattle.snippet_style.specs.Bounds.{FitsRow, IsColumn, IsTextWidth, IsWindowColumn};
 
 use crate::margin::Margin;
 use snippet_style::char_count;
@@ -45,18 +47,18 @@ pub fn window_of<'a>(
     text: &'a str,
     width: usize,
 ) -> LineWindow<'a>
-    requires narrow { width < 2 ^ 60 }
+    requires narrow { IsColumn width }
     requires skipped { skipped ≤ min (bounds_of margin).left width }
-    requires short { length (chars text.now) < 2 ^ 60 }
-    requires placeholder { length placeholder.now < 2 ^ 56 }
+    requires short { FitsRow (chars text.now) }
+    requires placeholder { TextFits placeholder.now }
     ensures dropped { (line : List ℕ) → IsPartOf margin line width skipped (chars text.now)
         → result.dropped ≡ width_of (dropped_part (bounds_of margin).left line) }
     // Few more columns are dropped than are left of the bound, and none where the bound is 0.
     ensures near { result.dropped < (bounds_of margin).left + 4 }
     ensures uncut { (bounds_of margin).left ≡ 0 → result.dropped ≡ 0 }
-    ensures few_dropped { result.dropped < 2 ^ 61 }
-    ensures few_start { IfSome result.start (λ start. start < 2 ^ 59) }
-    ensures few_end { IfSome result.end (λ end. end < 2 ^ 61) }
+    ensures few_dropped { IsWindowColumn result.dropped }
+    ensures few_start { IfSome result.start (λ start. IsTextWidth start) }
+    ensures few_end { IfSome result.end (λ end. IsWindowColumn end) }
     ensures start { (line : List ℕ) → IsPartOf margin line width skipped (chars text.now) → let bounds = bounds_of margin in
         result.start ≡ covered_columns bounds.left (chars placeholder.now)
         (inner_part margin.term_width bounds.left bounds.right line) }
@@ -89,7 +91,7 @@ pub fn window_of<'a>(
 /// The columns of a window's first characters that give their place to a placeholder of this width, if lines are cut on the
 /// left, and what stands after them.
 fn uncovered<'a>(margin: Margin, columns: usize, inner: &'a str) -> (Option<usize>, &'a str)
-    requires few { columns < 2 ^ 60 }
+    requires few { IsColumn columns }
     ensures start { (placeholder : List ℕ) → columns ≡ width_of placeholder
         → result.0 ≡ covered_columns (bounds_of margin).left placeholder (chars inner.now) }
     ensures bound { IfSome result.0 (λ start. start < columns + 4) }
@@ -106,7 +108,7 @@ fn uncovered<'a>(margin: Margin, columns: usize, inner: &'a str) -> (Option<usiz
 
 /// The width of the fewest characters that reach this many columns, or of all, and what stands after them.
 fn after_columns(text: &str, columns: usize) -> (usize, &str)
-    requires few { columns < 2 ^ 60 }
+    requires few { IsColumn columns }
     ensures width { let cs = chars text.now in result.0 ≡ width_of (take (reaching columns cs) cs) }
     ensures near { result.0 < columns + 4 }
     ensures rest { let cs = chars text.now in chars result.1.now ≡ drop (reaching columns cs) cs }
@@ -117,7 +119,7 @@ fn after_columns(text: &str, columns: usize) -> (usize, &str)
 
 /// Where the fewest characters end that reach this many columns, or all, in bytes and in columns.
 pub(crate) fn reaching_end(text: &str, columns: usize) -> (usize, usize)
-    requires few { columns < 2 ^ 60 }
+    requires few { IsColumn columns }
     ensures bytes { let cs = chars text.now in result.0 ≡ bytes_of (take (reaching columns cs) cs) }
     ensures width { let cs = chars text.now in result.1 ≡ width_of (take (reaching columns cs) cs) }
     ensures near { result.1 < columns + 4 }

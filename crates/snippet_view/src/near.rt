@@ -1,9 +1,10 @@
 //! The part of a line that is sure to hold its window.
-ghost use Rattle.std.specs.Prelude.{◌≡◌, ◌+◌, ◌-◌, ◌<◌, ◌≤◌, ◌^◌, length, take, drop, chars, min};
+ghost use Rattle.std.specs.Prelude.{◌≡◌, ◌+◌, ◌-◌, ◌<◌, ◌≤◌, length, take, drop, chars, min};
 ghost use Rattle.snippet_text.specs.Width.{width_of};
 ghost use Rattle.snippet_view.specs.Margin.{bounds_of};
 ghost use Rattle.snippet_view.specs.NearPart.{HoldsWindow, falling_short, window_columns};
 ghost use Rattle.snippet_view.specs.Window.{reaching};
+ghost use Rattle.snippet_style.specs.Bounds.{IsColumn, IsTextWidth};
 
 use crate::line_window::{fitting_end, reaching_end};
 use crate::margin::Margin;
@@ -31,7 +32,7 @@ pub struct NearPart<'a> {
 /// a few characters longer than the window.
 pub fn near_part<'a>(margin: Margin, line: &'a str, width: usize) -> NearPart<'a>
     requires width { width ≡ width_of (chars line.now) }
-    requires narrow { width < 2 ^ 59 }
+    requires narrow { IsTextWidth width }
     ensures holds { let bounds = bounds_of margin in
         HoldsWindow margin.term_width bounds.left bounds.right (chars line.now) result.skipped (chars result.text.now) }
     ensures within { result.skipped ≤ min (bounds_of margin).left width }
@@ -68,7 +69,7 @@ fn after_fewer(text: &str, columns: usize) -> (usize, &str)
 /// The fewest characters of a text of this width that reach this many columns, or all.
 fn part_reaching(text: &str, width: usize, columns: usize) -> &str
     requires width { width ≡ width_of (chars text.now) }
-    requires few { columns < 2 ^ 60 }
+    requires few { IsColumn columns }
     ensures value { let cs = chars text.now in chars result.now ≡ take (reaching columns cs) cs }
     ensures near { width_of (chars result.now) < columns + 4 }
     ensures short { length result.now ≤ length text.now }

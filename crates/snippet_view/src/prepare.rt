@@ -1,8 +1,9 @@
 //! What is known of a snippet before it is drawn.
-ghost use Rattle.std.specs.Prelude.{◌≡◌, ◌+◌, ◌<◌, ◌^◌, length};
+ghost use Rattle.std.specs.Prelude.{◌≡◌, ◌+◌, length};
 ghost use Rattle.std.specs.Cow.{cow_str_bytes};
 ghost use Rattle.snippet_lines.specs.Lines.{source_lines};
 ghost use Rattle.snippet_view.specs.Prepare as spec;
+ghost use Rattle.snippet_style.specs.Bounds.{IsUsize};
 
 use snippet_lines::counts::newline_count_before;
 use snippet_model::snippet::{Annotation, Snippet};
@@ -10,7 +11,7 @@ use snippet_model::snippet::{Annotation, Snippet};
 /// The line number that an annotated snippet counts for the gutter's width: that of the last line that its spans
 /// reach, or of its last line where it isn't folded or has no spans.
 pub fn counted_number(snippet: &Snippet<Annotation>) -> usize
-    requires numbers { snippet.now.line_start + length (source_lines (cow_str_bytes snippet.now.source)) < 2 ^ 64 }
+    requires numbers { IsUsize (snippet.now.line_start + length (source_lines (cow_str_bytes snippet.now.source))) }
     ensures value { result ≡ spec.counted_number snippet.now }
 {
     let source = snippet.source.as_str();

@@ -1,6 +1,7 @@
 //! Lines that are shown, each measured once.
-ghost use Rattle.std.specs.Prelude.{◌≡◌, ◌<◌, ◌^◌, chars, length};
+ghost use Rattle.std.specs.Prelude.{◌≡◌, chars};
 ghost use Rattle.snippet_text.specs.Width.{width_of};
+ghost use Rattle.snippet_text.specs.Bounds.{TextFits};
 
 use crate::entries::AnnotatedLineInfo;
 use snippet_text::str_width;
@@ -20,7 +21,7 @@ pub struct ShownLine<'a> {
 impl<'a> ShownLine<'a> {
     /// A line, which is measured.
     pub fn new(info: AnnotatedLineInfo<'a>, between: bool) -> ShownLine<'a>
-        requires fits { length info.line.now < 2 ^ 56 }
+        requires fits { TextFits info.line.now }
         ensures info { result.info ≡ info.entry }
         ensures between { result.between ≡ between }
     {

@@ -1,11 +1,12 @@
 //! The whitespace that a line begins with.
-ghost use Rattle.std.specs.Prelude.{◌≡◌, ◌<◌, ◌≤◌, ◌^◌, length, chars};
+ghost use Rattle.std.specs.Prelude.{◌≡◌, ◌≤◌, chars};
 ghost use Rattle.snippet_view.specs.Window as spec;
+ghost use Rattle.snippet_text.specs.Bounds.{TextFits};
 
 /// The width of the whitespace that a line begins with, where a tab takes four columns and any other character one;
 /// `None` of a blank line, which is nothing else.
 pub fn leading_whitespace(line: &str) -> Option<usize>
-    requires fits { length line.now < 2 ^ 56 }
+    requires fits { TextFits line.now }
     ensures value { result ≡ spec.leading_whitespace (chars line.now) }
 {
     let mut columns = 0;

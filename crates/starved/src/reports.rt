@@ -1,6 +1,7 @@
 //! The reports: how each is built.
-ghost use Rattle.std.specs.Prelude.{◌^◌, ◌<◌, IfOk, length};
+ghost use Rattle.std.specs.Prelude.{IfOk};
 ghost use Rattle.annotate_snippets.specs.Fits.{AnnotationFits, GroupFits, PatchFits, SnippetFits};
+ghost use Rattle.snippet_text.specs.Bounds.{TextFits};
 
 use annotate_snippets::level::{ERROR, HELP, NOTE};
 use annotate_snippets::renderer::Id;
@@ -35,7 +36,7 @@ fn titled(
     title: &'static str,
     snippet: Snippet<'static, Annotation<'static>>,
 ) -> Result<Group<'static>, AllocError>
-    requires title { length title.now < 2 ^ 56 }
+    requires title { TextFits title.now }
     requires snippet { SnippetFits AnnotationFits snippet }
     ensures fits { IfOk result GroupFits }
 {
@@ -64,7 +65,7 @@ fn marked(
     end: usize,
     line_start: usize,
 ) -> Result<Group<'static>, AllocError>
-    requires source { length source.now < 2 ^ 56 }
+    requires source { TextFits source.now }
     ensures fits { IfOk result GroupFits }
 {
     let snippet = Snippet::source(alloc, source)
@@ -149,7 +150,7 @@ fn offer(
     alloc: Global,
     replacement: &'static str,
 ) -> Result<Snippet<'static, Patch<'static>>, AllocError>
-    requires replacement { length replacement.now < 2 ^ 56 }
+    requires replacement { TextFits replacement.now }
     ensures fits { IfOk result (SnippetFits PatchFits) }
 {
     Snippet::source(alloc, "foo()").patch(Patch::new(4..4, replacement))
@@ -162,7 +163,7 @@ fn with_offer(
     replacement: &'static str,
 ) -> Result<Group<'static>, AllocError>
     requires group { GroupFits group }
-    requires replacement { length replacement.now < 2 ^ 56 }
+    requires replacement { TextFits replacement.now }
     ensures fits { IfOk result GroupFits }
 {
     let snippet = offer(alloc, replacement)?;

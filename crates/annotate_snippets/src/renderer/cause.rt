@@ -41,17 +41,17 @@ pub fn draw_cause(
     alloc: Global,
     buffer: &mut StyledBuffer,
     renderer: &Renderer,
-    frame: Layout,
+    layout: Layout,
     around: ElementContext,
     cause: PreparedCause<'_>,
 ) -> Result<(), AllocError>
     requires prepared { IsCausePrepared cause }
-    requires room { HasRoomFor renderer.now frame (Cause cause.snippet.now) }
-    ensures added { OnOk result (AddsCause renderer.now frame around cause.entry.snippet.now buffer.old buffer.new) }
+    requires room { HasRoomFor renderer.now layout (Cause cause.snippet.now) }
+    ensures added { OnOk result (AddsCause renderer.now layout around cause.entry.snippet.now buffer.old buffer.new) }
 {
-    draw_cause_head(alloc, buffer, renderer, frame, around, &cause)?;
-    draw_cause_lines(alloc, buffer, renderer, frame, around.closes(), cause)?;
-    draw_after(buffer, renderer, frame, around)
+    draw_cause_head(alloc, buffer, renderer, layout, around, &cause)?;
+    draw_cause_lines(alloc, buffer, renderer, layout, around.closes(), cause)?;
+    draw_after(buffer, renderer, layout, around)
 }
 
 /// Draws what an annotated snippet begins with below all that stands in the grid.
@@ -59,27 +59,27 @@ fn draw_cause_head(
     alloc: Global,
     buffer: &mut StyledBuffer,
     renderer: &Renderer,
-    frame: Layout,
+    layout: Layout,
     around: ElementContext,
     cause: &PreparedCause<'_>,
 ) -> Result<(), AllocError>
     requires prepared { IsCausePrepared cause.now }
-    ensures rows { OnOk result (buffer.new ≡ buffer.old ++ cause_head renderer.now frame around cause.now.snippet.now) }
+    ensures rows { OnOk result (buffer.new ≡ buffer.old ++ cause_head renderer.now layout around cause.now.snippet.now) }
 {
-    let layout = origin_layout(renderer, frame);
+    let origins = origin_layout(renderer, layout);
     let Some(path) = &cause.snippet.path else {
         return if around.primary {
-            draw_opening_head(buffer, layout, around.first)
+            draw_opening_head(buffer, origins, around.first)
         } else {
-            draw_nameless_head(buffer, layout)
+            draw_nameless_head(buffer, origins)
         };
     };
     let path = path.as_str();
     let place = location(around.primary, &cause.kept);
     if around.primary {
-        draw_primary_head(alloc, buffer, layout, around.first, path, place)
+        draw_primary_head(alloc, buffer, origins, around.first, path, place)
     } else {
-        draw_secondary_head(alloc, buffer, layout, path, place)
+        draw_secondary_head(alloc, buffer, origins, path, place)
     }
 }
 
@@ -110,20 +110,20 @@ fn draw_cause_lines(
     alloc: Global,
     buffer: &mut StyledBuffer,
     renderer: &Renderer,
-    frame: Layout,
+    layout: Layout,
     closes: bool,
     cause: PreparedCause<'_>,
 ) -> Result<(), AllocError>
     requires prepared { IsCausePrepared cause }
-    requires room { HasRoomFor renderer.now frame (Cause cause.snippet.now) }
-    ensures added { OnOk result (AddsCauseLines renderer.now frame closes cause.entry.snippet.now buffer.old buffer.new) }
+    requires room { HasRoomFor renderer.now layout (Cause cause.snippet.now) }
+    ensures added { OnOk result (AddsCauseLines renderer.now layout closes cause.entry.snippet.now buffer.old buffer.new) }
 {
     let numbers = line_numbers(renderer, cause.snippet.line_numbering);
-    let room = renderer.term_width.saturating_sub(frame.code);
+    let room = renderer.term_width.saturating_sub(layout.code);
     let kept = cause.kept;
     let lines = with_lines_between(alloc, &cause.map, kept)?;
     let margin = margin_for(&lines, room);
-    draw_snippet(alloc, buffer, frame, margin, numbers, closes, &lines)
+    draw_snippet(alloc, buffer, layout, margin, numbers, closes, &lines)
 }
 
 /// Draws what stands below an annotated snippet's lines, below all that stands in the grid: what sets off a message, or
@@ -131,15 +131,15 @@ fn draw_cause_lines(
 fn draw_after(
     buffer: &mut StyledBuffer,
     renderer: &Renderer,
-    frame: Layout,
+    layout: Layout,
     around: ElementContext,
 ) -> Result<(), AllocError>
-    ensures rows { OnOk result (buffer.new ≡ buffer.old ++ rows_after_cause renderer.now frame around) }
+    ensures rows { OnOk result (buffer.new ≡ buffer.old ++ rows_after_cause renderer.now layout around) }
 {
     if around.place.is_first() && around.next.is_message() {
-        draw_separator(buffer, frame)
+        draw_separator(buffer, layout)
     } else if around.closes_after() {
-        draw_closing(buffer, frame)
+        draw_closing(buffer, layout)
     } else {
         Ok(())
     }

@@ -33,18 +33,18 @@ pub fn draw_elements<'a>(
     alloc: Global,
     buffer: &mut StyledBuffer<'a>,
     renderer: &Renderer,
-    frame: Layout,
+    layout: Layout,
     place: GroupPosition,
     file: Option<&str>,
     elements: Vec<PreparedElement<'a>>,
 ) -> Result<(), AllocError>
     requires prepared { All IsElementPrepared elements.items }
-    requires room { All (λ e. HasRoomFor renderer.now frame (element_of e)) elements.items }
-    ensures added { OnOk result (AddsElements renderer.now frame place (option_copied file.entry) (map element_of elements.entry.items) buffer.old buffer.new) }
+    requires room { All (λ e. HasRoomFor renderer.now layout (element_of e)) elements.items }
+    ensures added { OnOk result (AddsElements renderer.now layout place (option_copied file.entry) (map element_of elements.entry.items) buffer.old buffer.new) }
 {
     let around = contexts_of(alloc, place, file, &elements)?;
     for (i, element) in elements.into_iter().enumerate() {
-        draw_element(alloc, buffer, renderer, frame, around[i], element)?;
+        draw_element(alloc, buffer, renderer, layout, around[i], element)?;
     }
     Ok(())
 }
@@ -54,32 +54,32 @@ fn draw_element<'a>(
     alloc: Global,
     buffer: &mut StyledBuffer<'a>,
     renderer: &Renderer,
-    frame: Layout,
+    layout: Layout,
     around: ElementContext,
     element: PreparedElement<'a>,
 ) -> Result<(), AllocError>
     requires prepared { IsElementPrepared element }
-    requires room { HasRoomFor renderer.now frame (element_of element) }
+    requires room { HasRoomFor renderer.now layout (element_of element) }
     requires around { CanStandIn around (element_of element) }
     ensures added { (above tail : List (List Cell)) (found : List Cell) → buffer.old ≡ above ++ tail
-        → IsTail frame.decor frame.gutter (begins_in_row_above around) tail
+        → IsTail layout.decor layout.gutter (begins_in_row_above around) tail
         → (begins_in_row_above around ≡ true → tail ≡ found ∷ [])
-        → OnOk result (AddsElement renderer.now frame around found (element_of element.entry) above buffer.new) }
+        → OnOk result (AddsElement renderer.now layout around found (element_of element.entry) above buffer.new) }
 {
     match element {
         PreparedElement::Message(message) => {
-            draw_message(alloc, buffer, renderer, frame, around, message)
+            draw_message(alloc, buffer, renderer, layout, around, message)
         }
-        PreparedElement::Cause(cause) => draw_cause(alloc, buffer, renderer, frame, around, cause),
+        PreparedElement::Cause(cause) => draw_cause(alloc, buffer, renderer, layout, around, cause),
         PreparedElement::Suggestion(suggestion) => {
-            draw_patches(alloc, buffer, renderer, frame, around, &suggestion)
+            draw_patches(alloc, buffer, renderer, layout, around, &suggestion)
         }
         PreparedElement::Origin(origin) => {
-            draw_place(alloc, buffer, renderer, frame, around, origin)
+            draw_place(alloc, buffer, renderer, layout, around, origin)
         }
         PreparedElement::Padding(_) => {
             let last = around.next.is_nothing();
-            draw_padding(buffer, frame, last)
+            draw_padding(buffer, layout, last)
         }
     }
 }
@@ -94,15 +94,15 @@ fn draw_message<'a>(
     alloc: Global,
     buffer: &mut StyledBuffer<'a>,
     renderer: &Renderer,
-    frame: Layout,
+    layout: Layout,
     around: ElementContext,
     message: &'a Message<'a>,
 ) -> Result<(), AllocError>
     requires fits { MessageFits message.now }
-    ensures rows { OnOk result (buffer.new ≡ buffer.old ++ message_rows renderer.now frame around message.now) }
+    ensures rows { OnOk result (buffer.new ≡ buffer.old ++ message_rows renderer.now layout around message.now) }
 {
     let place = MessageContext {
-        frame,
+        layout,
         followed: !around.next.is_nothing(),
     };
     draw_heading(
@@ -123,21 +123,21 @@ fn draw_place(
     alloc: Global,
     buffer: &mut StyledBuffer,
     renderer: &Renderer,
-    frame: Layout,
+    layout: Layout,
     around: ElementContext,
     origin: &Origin<'_>,
 ) -> Result<(), AllocError>
-    ensures rows { OnOk result (buffer.new ≡ buffer.old ++ origin_rows renderer.now frame around origin.now) }
+    ensures rows { OnOk result (buffer.new ≡ buffer.old ++ origin_rows renderer.now layout around origin.now) }
 {
-    let layout = origin_layout(renderer, frame);
+    let origins = origin_layout(renderer, layout);
     let place = OriginLocation {
         line: origin.line,
         column: origin.char_column,
     };
     let start = origin_start(around);
-    draw_origin(alloc, buffer, layout, start, origin.path.as_str(), place)?;
+    draw_origin(alloc, buffer, origins, start, origin.path.as_str(), place)?;
     if around.closes_after() {
-        draw_closing(buffer, frame)?;
+        draw_closing(buffer, layout)?;
     }
     Ok(())
 }
@@ -158,11 +158,11 @@ fn origin_start(around: ElementContext) -> FileStart
 }
 
 /// Where the rows of paths stand.
-pub fn origin_layout(renderer: &Renderer, frame: Layout) -> OriginLayout
-    ensures value { result ≡ spec.origin_layout renderer.now frame }
+pub fn origin_layout(renderer: &Renderer, layout: Layout) -> OriginLayout
+    ensures value { result ≡ spec.origin_layout renderer.now layout }
 {
     OriginLayout {
-        frame,
+        base: layout,
         anonymized: renderer.anonymized_origin_line_numbers,
     }
 }

@@ -15,8 +15,8 @@ ghost use Rattle.annotate_snippets.specs.Prepared.{IsGroupDrawable, IsGroupPrepa
 use crate::renderer::Renderer;
 use crate::renderer::element_context::{GroupPosition, next_of};
 use crate::renderer::elements::draw_elements;
-use crate::renderer::frame::frame_for;
 use crate::renderer::gutter::gutter_of;
+use crate::renderer::layout::layout_for;
 use crate::renderer::paths::{primary_path, report_file};
 use crate::renderer::preprocess::{PreparedGroup, prepare_groups};
 use crate::renderer::title::draw_title;
@@ -52,10 +52,10 @@ pub fn grids<'a>(
     let file = report_file(groups);
     let mut grids = Vec::new(alloc);
     for (i, group) in prepared.into_iter().enumerate() {
-        let frame = frame_for(gutter, group.depth(), renderer.decor_style);
+        let layout = layout_for(gutter, group.depth(), renderer.decor_style);
         let place = GroupPosition::at(groups.len(), i);
         let file = primary_path(group.group).or(file);
-        grids.push(draw_group(alloc, renderer, frame, place, file, group)?)?;
+        grids.push(draw_group(alloc, renderer, layout, place, file, group)?)?;
     }
     Ok(grids)
 }
@@ -65,27 +65,27 @@ pub fn grids<'a>(
 fn draw_group<'a>(
     alloc: Global,
     renderer: &Renderer,
-    frame: Layout,
+    layout: Layout,
     place: GroupPosition,
     file: Option<&str>,
     group: PreparedGroup<'a>,
 ) -> Result<GroupGrid<'a>, AllocError>
     requires prepared { IsGroupPrepared group }
-    requires room { All (λ e. HasRoomFor renderer.now frame (element_of e)) group.elements.items }
+    requires room { All (λ e. HasRoomFor renderer.now layout (element_of e)) group.elements.items }
     ensures level { IfOk result (λ grid. grid.level ≡ group.entry.group.now.level) }
-    ensures drawn { IfOk result (λ grid. IsGroupGrid renderer.now frame place (option_copied file.entry) group.entry.group.now grid.buffer) }
+    ensures drawn { IfOk result (λ grid. IsGroupGrid renderer.now layout place (option_copied file.entry) group.entry.group.now grid.buffer) }
 {
     let level = group.group.level;
     let mut buffer = StyledBuffer::new(alloc);
     if let Some(title) = &group.group.title {
         let next = next_of(&group.elements);
-        draw_title(alloc, &mut buffer, renderer, frame, place, next, title)?;
+        draw_title(alloc, &mut buffer, renderer, layout, place, next, title)?;
     }
     draw_elements(
         alloc,
         &mut buffer,
         renderer,
-        frame,
+        layout,
         place,
         file,
         group.elements,

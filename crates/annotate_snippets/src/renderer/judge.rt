@@ -1,10 +1,11 @@
 //! The judgement of a report: which fault is first. It takes no memory.
-ghost use Rattle.std.specs.Prelude.{◌≡◌, ◌+◌, ◌<◌, ◌≤◌, ◌^◌, IfSome};
+ghost use Rattle.std.specs.Prelude.{◌≡◌, ◌+◌, ◌≤◌, IfSome};
 ghost use Rattle.std.specs.Option.{SomeIff};
 ghost use Rattle.snippet_model.specs.declared.snippet.Element.TheVariants.{Cause, Suggestion};
 ghost use Rattle.annotate_snippets.specs.Fault.{refusal_of, span_faults, number_after_lines, added_lines};
 ghost use Rattle.annotate_snippets.specs.Fault.{element_faults, end_faults, faults_from, first_of, number_faults};
 ghost use Rattle.annotate_snippets.specs.Fault as spec;
+ghost use Rattle.snippet_style.specs.Bounds.{IsUsize};
 
 use crate::renderer::error::RenderError;
 use crate::renderer::form::Form;
@@ -149,7 +150,7 @@ fn patched_end_fault(
 /// A number that the one after that of a patched source's last line doesn't exceed, where it fits: that if each byte were a
 /// line end.
 fn greatest_end(line_start: usize, source: &str, patches: &[Patch]) -> Option<usize>
-    ensures most { IfSome result (λ most. (number_after_lines line_start source.now + added_lines patches.now ≤ most) × (most < 2 ^ 64)) }
+    ensures most { IfSome result (λ most. (number_after_lines line_start source.now + added_lines patches.now ≤ most) × IsUsize most) }
 {
     let mut most = line_start.checked_add(source.len())?.checked_add(1)?;
     for patch in patches {
@@ -211,7 +212,7 @@ fn refusal(group: usize, element: usize, marker: usize, fault: SpanFault) -> Ren
 
 /// The number after that of a source's last line, where it fits.
 fn end_number(line_start: usize, source: &str) -> Option<usize>
-    ensures value { SomeIff result (number_after_lines line_start source.now < 2 ^ 64) (number_after_lines line_start source.now) }
+    ensures value { SomeIff result (IsUsize (number_after_lines line_start source.now)) (number_after_lines line_start source.now) }
 {
     line_start.checked_add(newline_count(source) + 1)
 }
@@ -219,7 +220,7 @@ fn end_number(line_start: usize, source: &str) -> Option<usize>
 /// The same with the lines that some patches may add.
 fn patched_end_number(line_start: usize, source: &str, patches: &[Patch]) -> Option<usize>
     ensures value { SomeIff result
-        (number_after_lines line_start source.now + added_lines patches.now < 2 ^ 64)
+        (IsUsize (number_after_lines line_start source.now + added_lines patches.now))
         (number_after_lines line_start source.now + added_lines patches.now) }
 {
     let mut end = end_number(line_start, source)?;

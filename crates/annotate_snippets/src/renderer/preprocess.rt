@@ -1,6 +1,6 @@
 //! What is known of a report before any row is drawn: the lines of each source, the entries on them, the patched texts. Each is
 //! found once, and the gutter's width needs them all.
-ghost use Rattle.std.specs.Prelude.{◌≡◌, ◌<◌, ◌^◌, All, IfOk, IfSome, None, Some, filter, map, if◌then◌else◌};
+ghost use Rattle.std.specs.Prelude.{◌≡◌, All, IfOk, IfSome, None, Some, filter, map, if◌then◌else◌};
 ghost use Rattle.std.specs.Option.{option_map};
 ghost use Rattle.annotate_snippets.specs.Around as spec;
 ghost use Rattle.annotate_snippets.specs.Around.{is_drawn, share_file};
@@ -8,6 +8,7 @@ ghost use Rattle.annotate_snippets.specs.Gutter.{depth_of_group};
 ghost use Rattle.annotate_snippets.specs.Gutter as gutter;
 ghost use Rattle.annotate_snippets.specs.Prepared.{IsCausePrepared, IsDrawable, IsElementDrawable, IsElementPrepared};
 ghost use Rattle.annotate_snippets.specs.Prepared.{IsGroupDrawable, IsGroupPrepared, element_of};
+ghost use Rattle.snippet_style.specs.Bounds.{IsCount};
 
 use crate::renderer::paths::{is_same_file, path_of};
 use snippet_model::snippet::{
@@ -78,7 +79,7 @@ impl<'a> PreparedElement<'a> {
     fn depth(&self) -> usize
         requires prepared { IsElementPrepared self.now }
         ensures value { result ≡ gutter.depth_of_element (element_of self.now) }
-        ensures small { result < 2 ^ 63 }
+        ensures small { IsCount result }
     {
         match self {
             PreparedElement::Cause(cause) => cause.depth,
@@ -92,7 +93,7 @@ impl<'a> PreparedGroup<'a> {
     pub fn depth(&self) -> usize
         requires prepared { IsGroupPrepared self.now }
         ensures value { result ≡ depth_of_group self.now.group.now }
-        ensures small { result < 2 ^ 63 }
+        ensures small { IsCount result }
     {
         let mut depth = 0;
         for element in &self.elements {

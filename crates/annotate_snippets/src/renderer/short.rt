@@ -4,7 +4,7 @@
 //! ```text
 //! src/main.rs:1:5: error: unused: here
 //! ```
-ghost use Rattle.std.specs.Prelude.{◌≡◌, ◌<◌, ◌^◌, ℕ, Bool, true, List, ◌++◌, ◌∷◌, [], chars, length, All, Some, IfOk};
+ghost use Rattle.std.specs.Prelude.{◌≡◌, ℕ, Bool, true, List, ◌++◌, ◌∷◌, [], chars, length, All, Some, IfOk};
 ghost use Rattle.std.specs.Prelude.{IfSome, OnOk, string_bytes};
 ghost use Rattle.std.specs.Option.{option_copied};
 ghost use Rattle.std.specs.Str.{IsUtf8};
@@ -15,6 +15,7 @@ ghost use Rattle.annotate_snippets.specs.Prepared.{IsDrawable, IsGroupDrawable};
 ghost use Rattle.annotate_snippets.specs.Rows.{place_named};
 ghost use Rattle.annotate_snippets.specs.Short as spec;
 ghost use Rattle.annotate_snippets.specs.Short.{joined_labels, place_of_cause, primary_labels, short_form};
+ghost use Rattle.snippet_style.specs.Bounds.{IsTextWidth};
 
 use crate::renderer::Renderer;
 use crate::renderer::graphic::GroupGrid;
@@ -81,7 +82,7 @@ fn place_before<'a>(
     requires drawable { IfSome (option_copied cause) IsDrawable }
     requires fits { IfSome (option_copied cause) (SnippetFits AnnotationFits) }
     ensures value { IfOk result (λ text. chars (string_bytes text) ≡ place_of_cause renderer.now (option_copied cause.entry)) }
-    ensures short { IfOk result (λ text. length (chars (string_bytes text)) < 2 ^ 59) }
+    ensures short { IfOk result (λ text. IsTextWidth (length (chars (string_bytes text)))) }
 {
     match cause {
         Some(snippet) => place_of(alloc, renderer, snippet),
@@ -98,7 +99,7 @@ fn place_of<'a>(
     requires drawable { IsDrawable snippet.now }
     requires fits { SnippetFits AnnotationFits snippet.now }
     ensures value { IfOk result (λ text. chars (string_bytes text) ≡ place_of_cause renderer.now (Some snippet.now)) }
-    ensures short { IfOk result (λ text. length (chars (string_bytes text)) < 2 ^ 59) }
+    ensures short { IfOk result (λ text. IsTextWidth (length (chars (string_bytes text)))) }
 {
     let Some(path) = &snippet.path else {
         return Ok(String::new(alloc));

@@ -33,27 +33,27 @@ pub fn draw_patches(
     alloc: Global,
     buffer: &mut StyledBuffer,
     renderer: &Renderer,
-    frame: Layout,
+    layout: Layout,
     around: ElementContext,
     suggestion: &PreparedSuggestion<'_>,
 ) -> Result<(), AllocError>
     requires prepared { IsPrepared suggestion.now }
-    requires room { HasRoomFor renderer.now frame (Suggestion suggestion.now.snippet.now) }
+    requires room { HasRoomFor renderer.now layout (Suggestion suggestion.now.snippet.now) }
     requires path { HasPathFor around.start suggestion.now.snippet.now }
     ensures added { (above tail : List (List Cell)) (found : List Cell) → buffer.old ≡ above ++ tail
-        → IsTail frame.decor frame.gutter (begins_in_row_above around) tail
+        → IsTail layout.decor layout.gutter (begins_in_row_above around) tail
         → (begins_in_row_above around ≡ true → tail ≡ found ∷ [])
-        → OnOk result (AddsElement renderer.now frame around found (Suggestion suggestion.now.snippet.now) above buffer.new) }
+        → OnOk result (AddsElement renderer.now layout around found (Suggestion suggestion.now.snippet.now) above buffer.new) }
 {
     if around.start == SuggestionStart::Path {
-        draw_path(alloc, buffer, renderer, frame, around.first, suggestion)?;
+        draw_path(alloc, buffer, renderer, layout, around.first, suggestion)?;
     }
-    let layout = SuggestionLayout {
-        frame,
+    let suggested = SuggestionLayout {
+        base: layout,
         numbers: line_numbers(renderer, suggestion.snippet.line_numbering),
     };
     let follows = !around.next.is_nothing();
-    draw_suggestion(alloc, buffer, &layout, suggestion, around.start, follows)
+    draw_suggestion(alloc, buffer, &suggested, suggestion, around.start, follows)
 }
 
 /// Draws the path of a snippet of patches below all that stands in the grid, and the row that sets it off. A snippet without
@@ -62,19 +62,19 @@ fn draw_path(
     alloc: Global,
     buffer: &mut StyledBuffer,
     renderer: &Renderer,
-    frame: Layout,
+    layout: Layout,
     first: bool,
     suggestion: &PreparedSuggestion<'_>,
 ) -> Result<(), AllocError>
     requires prepared { IsPrepared suggestion.now }
-    ensures rows { OnOk result (buffer.new ≡ buffer.old ++ spec.path_head renderer.now frame first suggestion.now.snippet.now) }
+    ensures rows { OnOk result (buffer.new ≡ buffer.old ++ spec.path_head renderer.now layout first suggestion.now.snippet.now) }
 {
     let Some(path) = &suggestion.snippet.path else {
         return Ok(());
     };
-    let layout = origin_layout(renderer, frame);
+    let origins = origin_layout(renderer, layout);
     let place = first_place(suggestion);
-    draw_primary_head(alloc, buffer, layout, first, path.as_str(), place)
+    draw_primary_head(alloc, buffer, origins, first, path.as_str(), place)
 }
 
 /// The place at which the first patch starts.

@@ -4,7 +4,7 @@
 //! error: unused
 //!  at src/main.rs:1:5: here
 //! ```
-ghost use Rattle.std.specs.Prelude.{◌≡◌, ◌≢◌, ◌+◌, ◌^◌, ◌<◌, ◌++◌, [], All, List, None, IfOk, IfSome, OnOk, filter};
+ghost use Rattle.std.specs.Prelude.{◌≡◌, ◌≢◌, ◌++◌, [], All, List, None, IfOk, IfSome, OnOk, filter};
 ghost use Rattle.std.specs.Prelude.{map, true};
 ghost use Rattle.std.specs.Option.{option_copied};
 ghost use Rattle.annotate_snippets.specs.Around as around;
@@ -20,6 +20,7 @@ ghost use Rattle.snippet_text_form.specs.Cause.{cause_form};
 ghost use Rattle.snippet_text_form.specs.Heading.{heading_form};
 ghost use Rattle.snippet_text_form.specs.Suggestion.{suggestion_form};
 ghost use Rattle.snippet_text_form.specs.declared.heading.HeadingKind.TheVariants as kind;
+ghost use Rattle.snippet_style.specs.Bounds.{HasNext};
 
 use crate::renderer::Renderer;
 use crate::renderer::paths::{is_same_file, path_of, primary_path, report_file};
@@ -183,7 +184,7 @@ fn add_element<'a>(
 ) -> Result<(), AllocError>
     requires drawable { IsElementDrawable element.now }
     requires drawn { around.is_drawn element.now ≡ true }
-    requires small { IfSome before (λ b. b.number + 1 < 2 ^ 64) }
+    requires small { IfSome before (λ b. HasNext b.number) }
     ensures added { OnOk result (form.new ≡ form.old
         ++ element_form renderer.now (option_copied file.entry) (before_seen before.entry) followed element.now) }
 {
@@ -252,7 +253,7 @@ fn suggestion_place(
     followed: bool,
     snippet: &Snippet<'_, Patch<'_>>,
 ) -> SuggestionContext
-    requires small { IfSome before (λ b. b.number + 1 < 2 ^ 64) }
+    requires small { IfSome before (λ b. HasNext b.number) }
     ensures value { result ≡ spec.suggestion_place (option_copied file.entry) (before_seen before.entry) followed snippet.now }
 {
     let path = path_of(&snippet.path);
@@ -286,7 +287,7 @@ fn continues(before: Option<PreviousSuggestion<'_>>, path: Option<&str>) -> bool
 
 /// Its number in that row, from 1.
 fn option_number(before: Option<PreviousSuggestion<'_>>, path: Option<&str>) -> usize
-    requires small { IfSome before (λ b. b.number + 1 < 2 ^ 64) }
+    requires small { IfSome before (λ b. HasNext b.number) }
     ensures value { result ≡ spec.option_number (before_seen before.entry) (option_copied path.entry) }
 {
     match before {
@@ -300,7 +301,7 @@ fn before_next<'r>(
     before: Option<PreviousSuggestion<'r>>,
     element: &'r Element<'_>,
 ) -> Option<PreviousSuggestion<'r>>
-    requires small { IfSome before (λ b. b.number + 1 < 2 ^ 64) }
+    requires small { IfSome before (λ b. HasNext b.number) }
     ensures value { before_seen result ≡ spec.before_next (before_seen before.entry) element.now }
 {
     let Element::Suggestion(snippet) = element else {

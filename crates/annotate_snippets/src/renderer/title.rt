@@ -24,19 +24,19 @@ pub fn draw_title<'a>(
     alloc: Global,
     buffer: &mut StyledBuffer<'a>,
     renderer: &Renderer,
-    frame: Layout,
+    layout: Layout,
     place: GroupPosition,
     next: Next,
     title: &'a Title<'a>,
 ) -> Result<(), AllocError>
     requires fits { TitleFits title.now }
-    ensures rows { OnOk result (buffer.new ≡ buffer.old ++ title_part renderer.now frame place next (Some title.now)) }
+    ensures rows { OnOk result (buffer.new ≡ buffer.old ++ title_part renderer.now layout place next (Some title.now)) }
 {
     snippet_titles::draw_title(alloc, buffer, renderer.hyperlink, title)?;
     if next.is_message() {
-        draw_separator(buffer, frame)
+        draw_separator(buffer, layout)
     } else if next.is_nothing() && place.is_first_of_several() && !title.allows_styling {
-        draw_closing(buffer, frame)
+        draw_closing(buffer, layout)
     } else {
         Ok(())
     }

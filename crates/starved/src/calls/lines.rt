@@ -1,7 +1,8 @@
 //! The lines of a snippet that are kept, with their entries and depths, and the marks of columns.
-ghost use Rattle.std.specs.Prelude.{◌+◌, ◌<◌, ◌^◌, All, length};
+ghost use Rattle.std.specs.Prelude.{◌+◌, ◌<◌, ◌^◌, All};
 ghost use Rattle.snippet_lines.specs.Lines.{newline_count};
 ghost use Rattle.snippet_lines.specs.Span.{IsSpan};
+ghost use Rattle.snippet_text.specs.Bounds.{TextFits};
 
 use crate::calls::marked::{Marked, annotations_of};
 use crate::calls::output::print_heading;
@@ -117,7 +118,7 @@ fn print_lines<'a>(
     annotations: &'a [Annotation<'a>],
     fold: bool,
 ) -> io::Result<()>
-    requires fits { length source.now < 2 ^ 56 }
+    requires fits { TextFits source.now }
     requires numbers { newline_count source.now + 2 < 2 ^ 64 }
     requires spans { All (λ a. IsSpan source.now a.span.start a.span.end) annotations.now }
 {
@@ -132,7 +133,7 @@ fn print_mapped<'a>(
     annotations: &'a [Annotation<'a>],
     fold: bool,
 ) -> io::Result<()>
-    requires fits { length map.now.text < 2 ^ 56 }
+    requires fits { TextFits map.now.text }
     requires spans { All (λ a. IsSpan map.now.text a.span.start a.span.end) annotations.now }
 {
     let (deepest, kept) = map.annotated_lines(annotations, fold)?;
@@ -176,7 +177,7 @@ fn print_marks<'a>(
     annotations: &'a [Annotation<'a>],
     columns: usize,
 ) -> io::Result<()>
-    requires fits { length source.now < 2 ^ 56 }
+    requires fits { TextFits source.now }
     requires numbers { newline_count source.now + 2 < 2 ^ 64 }
     requires spans { All (λ a. IsSpan source.now a.span.start a.span.end) annotations.now }
 {

@@ -1,7 +1,7 @@
 use Rattle.std.proofs.Common.{◌∙◌, ap, sym}
 use Rattle.std.proofs.lemmas.Result.{on_ok_weaker}
 use Rattle.snippet_style.specs.Glyphs.{placeholder_of}
-use Rattle.snippet_grid.specs.Layout.{Layout}
+use Rattle.snippet_grid.specs.Layout.{Layout, code_cell}
 use Rattle.snippet_marks.proofs.CellLemmas.{begun_plain, begun_cut}
 use Rattle.snippet_marks.proofs.source_row.write_beginning.Goals as goal
 
@@ -15,11 +15,14 @@ returns-in-None c =
 
 pub returns-in_ok-puts-in-Some : goal.returns-in_ok-puts-in-Some
 returns-in_ok-puts-in-Some c =
-    let decor = c.layout.inside.decor in
-    rw (← c.layout.view_is) (record {
+    let layout = c.layout-in-Some in
+    let decor = layout.inside.decor in
+    let is_cell = c.code_cell.ensures.value ∙ ap (λ (l : Layout). code_cell l c.in-Some.columns) (sym layout.view_is) in
+    let wrote = rw is_cell at c.puts-in-Some-2.ensures.ok in
+    rw (← layout.view_is) (record {
       writes = on_ok_weaker c.puts-in-Some-2.result
           (λ writes above row last ends before. begun_cut decor c.args.start c.in-Some.columns above c.args.buffer.now c.puts-in-Some.new.self
-          c.puts-in-Some-2.new.self row c.args.row c.layout.inside.code c.args.placeholder.now c.args.text.now c.in-Some.is c.utf8.placeholder c.utf8.text
-          (c.requires.placeholder ∙ ap (λ (l : Layout). placeholder_of l.decor) (sym c.layout.view_is)) c.in_ok-puts-in-Some.ensures.ok c.puts-in-Some.ensures.empty writes c.puts-in-Some-2.ensures.empty last ends before)
-          c.puts-in-Some-2.ensures.ok;
+          c.puts-in-Some-2.new.self row c.args.row layout.inside.code c.args.placeholder.now c.args.text.now c.in-Some.is c.utf8.placeholder c.utf8.text
+          (c.requires.placeholder ∙ ap (λ (l : Layout). placeholder_of l.decor) (sym layout.view_is)) c.in_ok-puts-in-Some.ensures.ok c.puts-in-Some.ensures.empty writes c.puts-in-Some-2.ensures.empty last ends before)
+          wrote;
     })

@@ -4,6 +4,7 @@ use Rattle.snippet_style.specs.declared.glyphs.DecorStyle.{DecorStyle}
 use Rattle.snippet_style.specs.declared.role.ElementStyle.TheVariants.{LineNumber}
 use Rattle.snippet_style.specs.Glyphs.{elision_of}
 use Rattle.snippet_style.specs.Cell.{SPACE, text_cells}
+use Rattle.snippet_grid.specs.Layout.{Layout, separator_cell}
 use Rattle.snippet_strokes.proofs.ElisionLemmas.{bare_elision_is, elision_cell, elision_some}
 use Rattle.snippet_grid.proofs.RowLemmas.{begun_by_text}
 use Rattle.snippet_strokes.proofs.elision.begin_elision_row.Goals as goal
@@ -16,12 +17,15 @@ returns c =
     let old = c.args.buffer.now in
     let at : c.match-layout.cell ≡ elision_cell decor gutter = elim c.match-layout.branch [
       | in-Ascii w ↦ w.cell-is ∙ sym (ap (λ (d : DecorStyle). elision_cell d gutter) w.in-Ascii.is)
-      | in-Unicode w ↦ w.cell-is ∙ sym (ap (λ (d : DecorStyle). elision_cell d gutter) w.in-Unicode.is)
+      | in-Unicode w ↦ w.cell-is ∙ w.separator_cell-cell.ensures.value ∙ ap separator_cell (sym c.layout.view_is)
+          ∙ sym (ap (λ (d : DecorStyle). elision_cell d gutter) w.in-Unicode.is)
     ] in
+    let shown = c.elision.ensures.value ∙ ap (λ (l : Layout). elision_of l.decor) (c.layout-2.view_is ∙ sym c.layout.view_is) in
     rw (← c.layout.view_is) (record {
       added = on_ok_weaker c.puts.result
           (λ writes. begun_by_text old c.puts.new.self c.num_lines-row.result c.match-layout.cell c.elision.result.now (elision_of decor)
-          c.num_lines-row.ensures.count c.elision.ensures.value (elision_some decor) writes
+          c.num_lines-row.ensures.count shown (elision_some decor) writes
           ∙ ap (λ n. old ++ (replicate n SPACE ++ text_cells LineNumber (elision_of decor)) ∷ []) at
           ∙ ap (λ row. old ++ row ∷ []) (bare_elision_is decor gutter)) c.puts.ensures.ok;
+      place = c.layout.invariant.1;
     })

@@ -23,13 +23,16 @@ pub draw_line-requires-clause-room : goal.draw_line-requires-clause-room
 draw_line-requires-clause-room c =
     All-same (HasRoom c.args.layout) c.deref.result.now c.loop-i.open_bars.items c.deref.ensures.value c.loop-i.invariant.0
 
-pub draw_gap-requires-clause-room : goal.draw_gap-requires-clause-room
-draw_gap-requires-clause-room c =
+pub draw_gap-requires : goal.draw_gap-requires
+draw_gap-requires c =
     let layout = c.args.layout in
     let line : ShownLine = c.index-lines-i.result in
     let before = All-same (HasRoom layout) c.deref.result.now c.loop-i.open_bars.items c.deref.ensures.value c.loop-i.invariant.0 in
     let bar_cells : All (HasBarCell layout) line.info.annotations.items = subst (λ (l : ShownLine). All (HasBarCell layout) l.info.annotations.items) (sym c.index-lines-i.is) (c.requires.bar_cells c.loop-i.i line c.loop-i-test.true) in
-    All-same (HasRoom layout) c.deref-in-loop-i.result.now _ (c.deref-in-loop-i.ensures.value ∙ c.in_ok-open_bars.ensures.bars) (room_below layout c.deref.result.now line.info.annotations.items before bar_cells)
+    record {
+      room = All-same (HasRoom layout) c.deref-in-loop-i.result.now _ (c.deref-in-loop-i.ensures.value ∙ c.in_ok-open_bars.ensures.bars)
+          (room_below layout c.deref.result.now line.info.annotations.items before bar_cells);
+    }
 
 pub loop-i-preserved : goal.loop-i-preserved
 loop-i-preserved c =

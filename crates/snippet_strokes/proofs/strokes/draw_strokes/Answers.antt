@@ -200,7 +200,7 @@ returns-then-is_empty c =
     let given : length c.args.entries.now ≡ 0 = grind arith in
     let none : length es ≡ 0 = length-map c.args.entries.now (shifted c.args.dropped) ∙ given in
     record {
-      added = on_ok_weaker c.close_below.result (λ adds above plain old_is bare_bars. strokes_none c.args.layout c.args.room c.args.closes es above plain c.args.buffer.now c.close_below.new.buffer c.requires.place none old_is bare_bars adds) c.close_below.ensures.added;
+      added = on_ok_weaker c.close_below.result (λ adds above plain old_is bare_bars. strokes_none c.args.layout c.args.room c.args.closes es above plain c.args.buffer.now c.close_below.new.buffer c.close_below.ensures.place none old_is bare_bars adds) c.close_below.ensures.added;
       none = on_ok_weaker c.close_below.result (λ adds _. adds) c.close_below.ensures.added;
       painted = on_ok_weaker c.close_below.result (λ _ some above plain _. absurd (omega (arith, given, some))) c.close_below.ensures.added;
     }
@@ -246,7 +246,7 @@ returns c =
           let last : length above + 1 ≡ length old = sym (ap length old_is ∙ length_push above plain) in
           let source_row : c.args.row ≡ length above = omega (arith, last, c.requires.last) in
           let marks_row : below ≡ length above + 1 = c.in_ok-below.ensures.row ∙ sym last in
-          strokes_drawn layout c.args.room c.args.closes es placed above plain begun joined barred stemmed labelled new c.requires.place
+          strokes_drawn layout c.args.room c.args.closes es placed above plain begun joined barred stemmed labelled new c.in_ok-below.ensures.place
           are enough.places enough.bar_cells bare_bars (begun_is ∙ ap (λ top. top ++ replicate (row_count placed - 1) sep ++ end ∷ []) old_is)
           (lines ∙ ap (λ n. painted (connectors_of layout n placed) begun) marks_row)
           (bars ∙ ap (λ n. painted (corners_of layout n (length joined) placed) joined) source_row)

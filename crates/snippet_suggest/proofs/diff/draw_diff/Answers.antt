@@ -81,15 +81,15 @@ returns c =
           let stands : one ≡ (above ++ end.front) ++ end.end ∷ [] = drawn ∙ ap (λ rs. above ++ rs) end.is ∙ sym (append_assoc above end.front (end.end ∷ [])) in
           let gone = gone_of stays a.first replaced infos in
           let Painted : List Cell → Type 0 = λ row. mid ≡ (above ++ end.front) ++ row ∷ [] in
-          let painted : Painted (with_stretches Removal l.frame.gutter (chars line) gone end.end) = elim c.if-stays.branch [
+          let painted : Painted (with_stretches Removal l.base.gutter (chars line) gone end.end) = elim c.if-stays.branch [
             | then-stays+in_ok-paint_last w ↦
                 let one : bool_byte stays ≡ 1 = ap bool_byte w.if-stays.true in
                 let within : count < length infos = omega (arith, counts, one, c.requires.some) in
                 w.buffer-is ∙ w.in_ok-paint_last.ensures.cells (above ++ end.front) end.end stands
                 ∙ ap (λ (row : List Cell). (above ++ end.front) ++ row ∷ [])
-                (some_gone l.frame.gutter line stays a.first replaced infos end.end count _ w.diff_stretches-stretches.result.now w.if-stays.true counts
+                (some_gone l.base.gutter line stays a.first replaced infos end.end count _ w.diff_stretches-stretches.result.now w.if-stays.true counts
                 within w.diff_stretches-stretches.ensures.value)
-            | else-stays w ↦ w.buffer-is ∙ stands ∙ ap (λ (row : List Cell). (above ++ end.front) ++ row ∷ []) (sym (none_gone l.frame.gutter line stays a.first replaced infos end.end w.if-stays.false))
+            | else-stays w ↦ w.buffer-is ∙ stands ∙ ap (λ (row : List Cell). (above ++ end.front) ++ row ∷ []) (sym (none_gone l.base.gutter line stays a.first replaced infos end.end w.if-stays.false))
           ] in
           let is_stays : stays ≡ bytes_eq line (last_removed infos) = c.is_last-stays.ensures.value c.requires.some in
           let left_is = c.is_left_out-left_out.ensures.value c.requires.some in
@@ -99,7 +99,7 @@ returns c =
                 on_ok_weaker c.draw_diff_line.result
                 (λ done. done ∙ append_assoc above end.front _
                 ∙ ap (λ rs. above ++ rs)
-                (sym (end.changed (left_out_cells l.frame.gutter line gone added))
+                (sym (end.changed (left_out_cells l.base.gutter line gone added))
                 ∙ diff_left l a.first infos replaced line added last stays is_stays (sym left_is ∙ left_out)))
                 (c.draw_diff_line.ensures.left_cells (above ++ end.front) _ left_out painted)
             | inr offers ↦
@@ -109,7 +109,7 @@ returns c =
                       absurd (cc)
                   | inr other ↦ other
                 ] in
-                let whole : mid ≡ above ++ rows = painted ∙ ap (λ (row : List Cell). (above ++ end.front) ++ row ∷ []) (none_gone l.frame.gutter line stays a.first replaced infos end.end keeps) ∙ sym stands ∙ drawn in
+                let whole : mid ≡ above ++ rows = painted ∙ ap (λ (row : List Cell). (above ++ end.front) ++ row ∷ []) (none_gone l.base.gutter line stays a.first replaced infos end.end keeps) ∙ sym stands ∙ drawn in
                 let row : List Cell = offered_cells l Diff 1 a.first line added in
                 on_ok_weaker c.draw_diff_line.result (λ done. done ∙ ap (λ rs. rs ++ row ∷ []) whole ∙ append_assoc above rows (row ∷ []) ∙ ap (λ rs. above ++ rs) (diff_shown l a.first infos replaced line added last stays is_stays (sym left_is ∙ offers))) (c.draw_diff_line.ensures.cells offers)
           ];

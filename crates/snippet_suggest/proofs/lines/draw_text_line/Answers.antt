@@ -14,12 +14,12 @@ use Rattle.snippet_suggest.proofs.lines.draw_text_line.Goals as goal
 pub returns : goal.returns
 returns c =
     let layout = c.args.layout.now in
-    let shown = λ (n : ℕ). shown_number layout.numbers layout.frame.gutter n in
+    let shown = λ (n : ℕ). shown_number layout.numbers layout.base.gutter n in
     let number = c.number_after-number.ensures.value in
     record {
-      added = λ fits. line_added_painted layout.frame.decor layout.frame.gutter _ _ _ _ c.args.buffer.now c.draw_line.new.buffer c.paint_stretches.new.buffer
+      added = λ fits. line_added_painted layout.base.decor layout.base.gutter _ _ _ _ c.args.buffer.now c.draw_line.new.buffer c.paint_stretches.new.buffer
           c.in_ok-row.row (ap shown number) (ap (λ t. norm (chars t)) c.line_at-line.ensures.value)
-          (c.in_ok-row.ensures.added (subst (λ (n : ℕ). length (shown n) ≤ layout.frame.gutter + 1) (sym number) fits))
+          (c.in_ok-row.ensures.added (subst (λ (n : ℕ). length (shown n) ≤ layout.base.gutter + 1) (sym number) fits))
           c.in_ok-row.ensures.row c.in_ok-paint_stretches.ensures.repaints;
       cells =
           let a = c.args in

@@ -9,9 +9,9 @@ use Rattle.snippet_suggest.proofs.marks.draw_mark.Given as goal
 abbrev pub invariant-loop-column : goal.invariant-loop-column
 invariant-loop-column l = record {
   marked : (above : List (List Cell)) (last : List Cell) (left : List ℕ) → l.row ≡ length above → l.initial.buffer ≡ above ++ last ∷ []
-      → IsStrokeRow l.layout.frame.decor l.layout.frame.gutter left last → IsMarkOrSpace l.layout.frame.decor l.mark
-      → AddsRow (IsStrokeRow l.layout.frame.decor l.layout.frame.gutter left) above l.buffer;
+      → IsStrokeRow l.layout.base.decor l.layout.base.gutter left last → IsMarkOrSpace l.layout.base.decor l.mark
+      → AddsRow (IsStrokeRow l.layout.base.decor l.layout.base.gutter left) above l.buffer;
   within : l.column ≤ max l.start l.column-end;
   cells : (above : List (List Cell)) (last : List Cell) → l.row ≡ length above → l.initial.buffer ≡ above ++ last ∷ []
-      → l.buffer ≡ above ++ put Addition (replicate (l.column - l.start) l.mark) (l.layout.frame.gutter + 3 + l.start) last ∷ [];
+      → l.buffer ≡ above ++ put Addition (replicate (l.column - l.start) l.mark) (l.layout.base.gutter + 3 + l.start) last ∷ [];
 }

@@ -11,7 +11,7 @@ use Rattle.snippet_suggest.proofs.marks.draw_marks.Given as goal
 abbrev pub invariant-loop-patch : goal.invariant-loop-patch
 invariant-loop-patch l = record {
   marked : (above : List (List Cell)) (last : List Cell) (left : List ℕ) → l.row ≡ length above → l.initial.buffer ≡ above ++ last ∷ []
-      → IsStrokeRow l.layout.frame.decor l.layout.frame.gutter left last → AddsRow (IsStrokeRow l.layout.frame.decor l.layout.frame.gutter left) above l.buffer;
+      → IsStrokeRow l.layout.base.decor l.layout.base.gutter left last → AddsRow (IsStrokeRow l.layout.base.decor l.layout.base.gutter left) above l.buffer;
   of : AreMoves (map (λ p. columns_of l.map (trimmed_edit_of p)) (take l.patch-index l.patches)) l.moves;
   cells : (above : List (List Cell)) (last : List Cell) → l.row ≡ length above → l.initial.buffer ≡ above ++ last ∷ []
       → Marked l.layout l.map (map (λ p. columns_of l.map (trimmed_edit_of p)) (take l.patch-index l.patches))

@@ -12,7 +12,7 @@ abbrev pub invariant-loop-info : goal.invariant-loop-info
 invariant-loop-info l = record {
   small : l.row < 2 ^ 60;
   drawn : (above tail : List (List Cell)) (shares : Bool) → l.initial.row ≡ length above → l.initial.buffer ≡ above ++ tail
-      → IsTail l.layout.frame.decor l.layout.frame.gutter shares tail → RemovesAt l.layout above l.lines l.row l.info-index l.buffer;
+      → IsTail l.layout.base.decor l.layout.base.gutter shares tail → RemovesAt l.layout above l.lines l.row l.info-index l.buffer;
   cells : (above tail : List (List Cell)) → l.initial.row ≡ length above → l.initial.buffer ≡ above ++ tail → length tail ≤ 1
       → Emptied l.layout above (row_at tail 0) (numbered_at l.lines) l.row l.info-index l.buffer;
 }

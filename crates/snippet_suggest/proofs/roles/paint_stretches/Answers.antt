@@ -18,7 +18,7 @@ loop-stretch-init c =
       at = c.new-tabs.ensures.at;
       line = c.new-tabs.ensures.line;
       painted = λ above last here is. repaint_none above last c.args.buffer.now is;
-      cells = λ above last here is. painted_begun c.args.role c.args.layout.now.frame.gutter (chars c.args.line.now) c.args.stretches.now above last c.args.buffer.now is;
+      cells = λ above last here is. painted_begun c.args.role c.args.layout.now.base.gutter (chars c.args.line.now) c.args.stretches.now above last c.args.buffer.now is;
     }
 
 pub loop-stretch-preserved : goal.loop-stretch-preserved
@@ -30,7 +30,7 @@ loop-stretch-preserved c =
     let d : SubstitutionHighlight = record { start = 0; end = 0 } in
     let s : SubstitutionHighlight = get_or ss i d in
     let cs : List ℕ = chars a.line.now in
-    let g : ℕ = a.layout.now.frame.gutter in
+    let g : ℕ = a.layout.now.base.gutter in
     let Tabs : ℕ → List ℕ → ℕ = λ k line. count_by (λ ch. ch == 9) (take k (chars line)) in
     elim c.if-stretch.branch [
       | then-stretch+in_ok-set_style_range w ↦
@@ -59,4 +59,4 @@ loop-stretch-preserved c =
 pub returns-clause-cells : goal.returns-clause-cells
 returns-clause-cells c = λ above last here is.
     let a = c.args in
-    c.loop-stretch.invariant.cells above last here is ∙ ap (λ (ss : List SubstitutionHighlight). above ++ with_stretches a.role a.layout.now.frame.gutter (chars a.line.now) ss last ∷ []) (take_all c.loop-stretch.stretch-index a.stretches.now c.loop-stretch-test.false)
+    c.loop-stretch.invariant.cells above last here is ∙ ap (λ (ss : List SubstitutionHighlight). above ++ with_stretches a.role a.layout.now.base.gutter (chars a.line.now) ss last ∷ []) (take_all c.loop-stretch.stretch-index a.stretches.now c.loop-stretch-test.false)

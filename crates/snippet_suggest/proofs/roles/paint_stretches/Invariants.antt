@@ -12,5 +12,5 @@ invariant-loop-stretch l = record {
   line : l.tabs.line.now ≡ l.line;
   painted : (above : List (List Cell)) (last : List Cell) → l.row ≡ length above → l.initial.buffer ≡ above ++ last ∷ [] → IsRepainted above last l.buffer;
   cells : (above : List (List Cell)) (last : List Cell) → l.row ≡ length above → l.initial.buffer ≡ above ++ last ∷ []
-      → l.buffer ≡ above ++ with_stretches l.role l.layout.frame.gutter (chars l.line) (take l.stretch-index l.stretches) last ∷ [];
+      → l.buffer ≡ above ++ with_stretches l.role l.layout.base.gutter (chars l.line) (take l.stretch-index l.stretches) last ∷ [];
 }

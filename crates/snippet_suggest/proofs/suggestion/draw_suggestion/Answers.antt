@@ -33,9 +33,9 @@ returns c =
           let skipped = c.in_ok-skipped.skipped in
           let mid = c.draw_body.new.buffer in
           let before : List (List Cell) = mid ++ replicate skipped [] in
-          let glyph : List ℕ = end_glyph l.frame.decor a.follows in
-          let left : List ℕ = beside_gutter l.frame.gutter glyph in
-          let Ended : List (List Cell) → Type 0 = λ rows. AddsRow (IsStrokeRow l.frame.decor l.frame.gutter left) before rows in
+          let glyph : List ℕ = end_glyph l.base.decor a.follows in
+          let left : List ℕ = beside_gutter l.base.gutter glyph in
+          let Ended : List (List Cell) → Type 0 = λ rows. AddsRow (IsStrokeRow l.base.decor l.base.gutter left) before rows in
           let ended : Ended c.draw_end.new.buffer = end_row l glyph skipped mid c.draw_end.new.buffer c.in_ok-row.ensures.added in
           let last : Ended c.if-eq.buffer = elim c.if-eq.branch [
             | then-eq+in_ok-draw_marks w ↦

@@ -1,6 +1,5 @@
 use Rattle.std.proofs.Common.{◌∙◌, ◌+◌, ◌++◌, ap, chars, replicate}
 use Rattle.snippet_grid.specs.Grid.{cells_written}
-use Rattle.snippet_grid.specs.Layout.{Layout}
 use Rattle.snippet_style.specs.Cell.{SPACE, text_cells}
 use Rattle.snippet_style.specs.declared.role.ElementStyle.TheVariants.{LineNumber}
 use Rattle.snippet_titles.specs.Appended.{appended}
@@ -12,7 +11,7 @@ returns-in_ok-puts c =
     let place = c.in-Message.place in
     record {
       extended = rw c.in-Message.is
-          (after_gutter _ _ _ (place.frame.gutter + 1) _ c.requires.empty (some_sign place.frame.decor place.followed _ c.sign.ensures.value)
-          (c.in_ok-puts.ensures.ok c.sign.ensures.some ∙ ap (λ (l : Layout). cells_written c.args.buffer.now c.args.row (l.gutter + 1) (text_cells LineNumber (chars c.sign.result.now))) c.frame.view_is)
-          ∙ ap (λ cs. appended c.args.buffer.now c.args.row (replicate (place.frame.gutter + 1) SPACE ++ text_cells LineNumber cs)) c.sign.ensures.value);
+          (after_gutter _ _ _ (place.layout.gutter + 1) _ c.requires.empty (some_sign place.layout.decor place.followed _ c.sign.ensures.value)
+          (c.in_ok-puts.ensures.ok c.sign.ensures.some ∙ ap (λ n. cells_written c.args.buffer.now c.args.row n (text_cells LineNumber (chars c.sign.result.now))) c.separator_cell.ensures.value)
+          ∙ ap (λ cs. appended c.args.buffer.now c.args.row (replicate (place.layout.gutter + 1) SPACE ++ text_cells LineNumber cs)) c.sign.ensures.value);
     }

@@ -14,10 +14,10 @@ pieces old head lines after a b c first second third =
 pub returns : goal.returns
 returns c =
     let r = c.args.renderer.now in
-    let frame = c.args.frame in
+    let layout = c.args.layout in
     let s = c.args.cause.snippet.now in
-    let head : List (List Cell) = cause_head r frame c.args.around s in
-    let after : List (List Cell) = rows_after_cause r frame c.args.around in
+    let head : List (List Cell) = cause_head r layout c.args.around s in
+    let after : List (List Cell) = rows_after_cause r layout c.args.around in
     let drawn = c.in_ok-draw_cause_lines.ensures.added in
     record {
       added = on_ok_weaker c.draw_after.result (λ below. record {
@@ -26,7 +26,7 @@ returns c =
         is = record {
           lines = drawn.rows;
           rows_are = refl;
-          are = subst (λ (closes : Bool). AreCauseRows r frame closes s drawn.rows) c.closes.ensures.value drawn.are;
+          are = subst (λ (closes : Bool). AreCauseRows r layout closes s drawn.rows) c.closes.ensures.value drawn.are;
         };
       }) c.draw_after.ensures.rows;
     }

@@ -1,4 +1,4 @@
-use Rattle.std.proofs.Common.{◌≡◌, ◌∙◌, ◌+◌, ◌-◌, ◌<◌, ◌≤◌, ◌^◌, IfSome, [], All, Bool, List, ap, arith, length, map, refl, subst, sym}
+use Rattle.std.proofs.Common.{◌≡◌, ◌∙◌, ◌+◌, ◌-◌, ◌<◌, ◌≤◌, ◌^◌, IfSome, [], All, Bool, List, ap, length, map, refl, subst, sym}
 use Rattle.std.proofs.lemmas.Result.{on_ok_weaker}
 use Rattle.std.specs.Cow.{cow_str_bytes}
 use Rattle.snippet_model.specs.declared.snippet.Annotation.{Annotation}
@@ -9,7 +9,7 @@ use Rattle.snippet_lines.specs.declared.number.LineNumbers.{LineNumbers}
 use Rattle.snippet_view.specs.declared.entries.AnnotatedLineInfo.{AnnotatedLineInfo}
 use Rattle.snippet_view.specs.ShownLines.{infos_of, kept_of}
 use Rattle.snippet_view.proofs.ShownLineLemmas.{infos_all}
-use Rattle.snippet_view.specs.Annotated.{annotated_lines, deepest, kept_line, seen_kept}
+use Rattle.snippet_view.specs.Annotated.{annotated_lines, kept_line, seen_kept}
 use Rattle.snippet_view.specs.Kept.{kept_lines, shown_lines}
 use Rattle.snippet_view.specs.Margin.{bounds_of}
 use Rattle.snippet_view.specs.Measures.{margin_of}
@@ -26,7 +26,6 @@ use Rattle.annotate_snippets.proofs.GutterLemmas.{numbers_fit}
 use Rattle.annotate_snippets.proofs.PartsFacts.{lines_labels, lines_places, lines_bar_cells, lines_texts, bounds_of_kept, shown_clear}
 use Rattle.annotate_snippets.proofs.renderer.cause.draw_cause_lines.Goals as goal
 use Rattle.annotate_snippets.proofs.renderer.cause.draw_cause_lines.Goals.{After-deref, After-deref-2}
-use Rattle.annotate_snippets.proofs.CauseShown.{code_right}
 
 -- those that are shown
 shown_of : (cause : PreparedCause) → IsCausePrepared cause → (source : Source) → source ≡ cause.map → (shown infos : List AnnotatedLineInfo)
@@ -77,18 +76,13 @@ margin_for-margin-requires-clause-labels c =
     let drawable = c.requires.prepared.drawable in
     infos_all LabelsFit c.deref.result.now (lines_labels (numbered_source s) s.markers.items drawable.spans (shown_lines s.fold (cow_str_bytes s.source) s.markers.items) (infos_of c.deref.result.now) (shown_first c) drawable.labels)
 
-pub draw_snippet-requires-clause-place : goal.draw_snippet-requires-clause-place
-draw_snippet-requires-clause-place c =
-    let s = c.args.cause.snippet.now in
-    omega (arith, code_right c.args.frame.gutter (deepest (numbered_source s) s.markers.items), c.requires.room.bars)
-
 pub draw_snippet-requires-clause-numbers : goal.draw_snippet-requires-clause-numbers
 draw_snippet-requires-clause-numbers c =
     let s = c.args.cause.snippet.now in
     let lines = c.deref-2.result.now in
-    let Fits : LineNumbers → AnnotatedLineInfo → Type 0 = λ numbers info. length (shown_number numbers c.args.frame.gutter info.line_index) ≤ c.args.frame.gutter + 1 in
+    let Fits : LineNumbers → AnnotatedLineInfo → Type 0 = λ numbers info. length (shown_number numbers c.args.layout.gutter info.line_index) ≤ c.args.layout.gutter + 1 in
     infos_all (Fits c.line_numbers-numbers.result) lines (subst (λ (numbers : LineNumbers). All (Fits numbers) (infos_of lines)) (sym c.line_numbers-numbers.ensures.value)
-    (numbers_fit c.args.renderer.now c.args.frame s (infos_of lines) c.requires.room c.requires.prepared.drawable (shown_is c)))
+    (numbers_fit c.args.renderer.now c.args.layout s (infos_of lines) c.requires.room c.requires.prepared.drawable (shown_is c)))
 
 pub draw_snippet-requires-clause-texts : goal.draw_snippet-requires-clause-texts
 draw_snippet-requires-clause-texts c =
@@ -121,7 +115,7 @@ pub draw_snippet-requires-clause-bar_cells : goal.draw_snippet-requires-clause-b
 draw_snippet-requires-clause-bar_cells c =
     let s = c.args.cause.snippet.now in
     let lines = c.deref-2.result.now in
-    let layout : Layout = c.args.frame in
+    let layout : Layout = c.args.layout in
     infos_all (λ info. All (HasBarCell layout) info.annotations.items) lines (lines_bar_cells (numbered_source s) s.markers.items c.requires.prepared.drawable.spans
     (shown_lines s.fold (cow_str_bytes s.source) s.markers.items) (infos_of lines) (shown_is c) layout c.requires.room.bars)
 
@@ -136,11 +130,11 @@ pub returns : goal.returns
 returns c =
     let s = c.args.cause.snippet.now in
     let prepared = c.requires.prepared in
-    let frame = c.args.frame in
+    let layout = c.args.layout in
     let lines = infos_of c.deref-2.result.now in
     let kept : map seen_kept (kept_of c.deref.result.now) ≡ annotated_lines s.fold (numbered_source s) s.markers.items = ap (map seen_kept) (ap kept_of c.deref.ensures.value ∙ c.in_ok-lines.ensures.kept_are) ∙ prepared.kept_are in
-    let room : c.saturating_sub-room.result ≡ c.args.renderer.now.term_width - frame.code = c.saturating_sub-room.ensures ∙ ap (λ (l : Layout). c.args.renderer.now.term_width - l.code) c.frame.view_is in
-    let bounds : bounds_of c.margin_for-margin.result ≡ margin_of (c.args.renderer.now.term_width - frame.code) s.fold (numbered_source s)
+    let room : c.saturating_sub-room.result ≡ c.args.renderer.now.term_width - layout.code = c.saturating_sub-room.ensures ∙ ap (λ (l : Layout). c.args.renderer.now.term_width - l.code) c.layout.view_is in
+    let bounds : bounds_of c.margin_for-margin.result ≡ margin_of (c.args.renderer.now.term_width - layout.code) s.fold (numbered_source s)
     s.markers.items = c.margin_for-margin.ensures.bounds
     ∙ bounds_of_kept c.saturating_sub-room.result s.fold (numbered_source s) s.markers.items (kept_of c.deref.result.now) prepared.drawable.spans kept
     ∙ ap (λ n. margin_of n s.fold (numbered_source s) s.markers.items) room in
@@ -156,7 +150,7 @@ returns c =
           room = c.margin_for-margin.ensures.room ∙ room;
           bounds = bounds;
           ordered = c.margin_for-margin.ensures.ordered;
-          shown = subst (λ (numbers : LineNumbers). AreLinesShown frame c.margin_for-margin.result numbers c.args.closes [] lines adds.rows) c.line_numbers-numbers.ensures.value adds.shown;
+          shown = subst (λ (numbers : LineNumbers). AreLinesShown layout c.margin_for-margin.result numbers c.args.closes [] lines adds.rows) c.line_numbers-numbers.ensures.value adds.shown;
         };
       }) c.draw_snippet.ensures.added;
     }

@@ -1,6 +1,7 @@
 //! Where the parts of a group's rows stand.
-ghost use Rattle.std.specs.Prelude.{◌≡◌, ◌+◌, ◌≤◌, ◌<◌, ◌^◌};
+ghost use Rattle.std.specs.Prelude.{◌≡◌, ◌≤◌};
 ghost use Rattle.annotate_snippets.specs.Gutter.{code_after};
+ghost use Rattle.snippet_style.specs.Bounds.{IsDepth};
 
 use snippet_grid::Layout;
 use snippet_style::DecorStyle;
@@ -13,9 +14,9 @@ use snippet_style::DecorStyle;
 ///     2 | |  b)
 ///       | |___^
 /// ```
-pub fn frame_for(gutter: usize, depth: usize, decor: DecorStyle) -> Layout
+pub fn layout_for(gutter: usize, depth: usize, decor: DecorStyle) -> Layout
     requires gutter { gutter ≤ 20 }
-    requires depth { depth < 2 ^ 63 + 2 ^ 31 }
+    requires depth { IsDepth depth }
     ensures gutter { result.gutter ≡ gutter }
     ensures code { result.code ≡ code_after gutter depth }
     ensures decor { result.decor ≡ decor }
