@@ -1,34 +1,83 @@
--- The texts of a report that is drawn show it in its form, and are free but for their codes.
-use Rattle.std.proofs.Common.{◌≡◌, ℕ, List, All, subst}
-use Rattle.std.specs.List.{AllZip}
+-- The texts of a report that is drawn show it in its form, and have the laws of that.
+use Rattle.std.proofs.Common.{◌≡◌, ℕ, true, Option, None, Some, Result, Ok, Err, IfSome, String, Vec, Global, refl, sym, ap, List, [], ◌∷◌, All, subst, length, map, string_bytes}
+use Rattle.std.proofs.lemmas.List.{nil_from_length}
+use Rattle.std.proofs.lemmas.List.Elements.{All-nil}
+use Rattle.std.specs.List.{AllZip, Contains, flat_map}
+use Rattle.std.specs.Result.{IfOk}
+use Rattle.std.specs.Str.{chars}
 use Rattle.snippet_model.specs.Trusted.{trusted_texts}
 use Rattle.snippet_model.specs.declared.snippet.Group.{Group}
+use Rattle.snippet_model.specs.declared.snippet.Title.{Title}
 use Rattle.snippet_grid.specs.Print.{plain_text}
-use Rattle.snippet_grid.specs.Woven.{IsWoven, Prints}
+use Rattle.snippet_grid.specs.Woven.{IsWoven}
+use Rattle.snippet_grid.proofs.WovenLemmas.{plain_woven}
 use Rattle.snippet_style.specs.declared.stylesheet.Stylesheet.{Stylesheet}
-use Rattle.snippet_grid.proofs.WovenLemmas.{IsWoven-from_prints}
+use Rattle.snippet_text.specs.Normalized.{is_listed}
 use Rattle.snippet_text_form.specs.Form.{FormPiece, form_bytes, form_links, form_text}
 use Rattle.annotate_snippets.specs.declared.renderer.Renderer.{Renderer}
 use Rattle.annotate_snippets.specs.declared.renderer.drawn.Drawn.{Drawn}
 use Rattle.annotate_snippets.specs.declared.renderer.drawn.Drawn.TheVariants as drawn
+use Rattle.annotate_snippets.specs.declared.renderer.error.RenderError.{RenderError}
 use Rattle.annotate_snippets.specs.declared.renderer.form.Form.{Form}
 use Rattle.annotate_snippets.specs.declared.renderer.form.Form.TheVariants.{Graphic, Short, Text}
 use Rattle.annotate_snippets.specs.Drawn.{IsDrawnAs, IsPrintedAs}
-use Rattle.annotate_snippets.specs.Fault.{form_of}
-use Rattle.annotate_snippets.specs.Forms.{AreFree, ShowsForm, TextsShown, links_in, short_links}
-use Rattle.annotate_snippets.specs.Page.{PrintsPage, page_text}
+use Rattle.annotate_snippets.specs.Fault.{first_refusal, form_of, missing_title}
+use Rattle.annotate_snippets.specs.FormLaws.{FormLaws, HasLaws, LawsIn}
+use Rattle.annotate_snippets.specs.Forms.{AreFree, ShortShown, ShowsForm, TextsShown, links_in, plain_in}
+use Rattle.annotate_snippets.specs.GraphicForm.{graphic_form}
+use Rattle.annotate_snippets.specs.Page.{Page, PrintsPage, page_text}
+use Rattle.annotate_snippets.specs.PageLaws.{PageLaws}
 use Rattle.annotate_snippets.specs.Prepared.{IsGroupDrawable}
-use Rattle.annotate_snippets.specs.Shown.{levels_of, report_links}
-use Rattle.annotate_snippets.specs.TextForm.{text_form}
+use Rattle.annotate_snippets.specs.Shown.{IsFreeBut, SheetsShown, levels_of, report_links}
+use Rattle.annotate_snippets.proofs.FaultLemmas.{first-there, title-there}
 use Rattle.annotate_snippets.proofs.PrintLemmas.{AllZip-weaker}
-use Rattle.annotate_snippets.proofs.ReportLemmas.{sheets_shown}
-use Rattle.annotate_snippets.proofs.ShortShown.{short-shown}
-use Rattle.annotate_snippets.proofs.TextShown.{text-shown}
-use Rattle.annotate_snippets.proofs.WovenLemmas.{IsWoven-from_page}
+use Rattle.annotate_snippets.proofs.ReportLemmas.{page_laws, page_woven, sheets_shown, titled-from_ok}
+use Rattle.annotate_snippets.proofs.ShortShown.{page-is, short-law, short-laws, short-shown}
+use Rattle.annotate_snippets.proofs.TextShown.{IsFormText, text-law, text-laws, text-shown}
 
 -- a text is that of this text form
 abbrev IsOfForm : List FormPiece → Stylesheet → List ℕ → Type 0
 IsOfForm form sheet text = (text ≡ form_bytes sheet form) × IsWoven sheet text (form_text form) (form_links form)
+
+-- the short form under no sheets
+titled-none : (r : Renderer) (g : Group) (groups : List Group) (title : Option Title) → missing_title Short (g ∷ groups) ≡ None → g.title ≡ title
+    → ShortShown r (g ∷ groups) [] []
+titled-none r g groups None given titled = absurd (title-there (g ∷ groups) g given refl titled)
+titled-none r g groups (Some title) given titled =
+    record { group = g; title = title; first = refl; titled = titled; printed = tt }
+
+short-none : (r : Renderer) (groups : List Group) → missing_title Short groups ≡ None → ShortShown r groups [] []
+short-none r [] given = absurd (first-there [] given refl)
+short-none r (g ∷ groups) given = titled-none r g groups g.title given refl
+
+module _ (r : Renderer) (groups : List Group) where
+  -- a report that is drawn in a form has the laws of that form
+  pub form-laws : (form : Form) (report : Drawn) → All IsGroupDrawable groups → IsDrawnAs form r groups report → FormLaws form r groups
+  form-laws Graphic (drawn.Page grids) drawable are = page_laws r groups grids.items drawable are
+  form-laws Graphic (drawn.Text form) drawable are = absurd are
+  form-laws Short (drawn.Page grids) drawable page = short-laws r groups grids.items drawable page
+  form-laws Short (drawn.Text form) drawable are = absurd are
+  form-laws Text report drawable are = text-laws r groups
+
+  -- a text that prints the report's page has its laws
+  page-law : PageLaws r groups (graphic_form r groups) → (sheet : Stylesheet) (text : List ℕ)
+      → PrintsPage sheet (levels_of groups) (graphic_form r groups) text
+      → LawsIn Graphic r groups sheet text
+  page-law laws sheet text prints =
+      let page : Page = graphic_form r groups in
+      let links : List (List ℕ) = report_links r groups in
+      let woven : IsWoven sheet text (page_text page) links = page_woven sheet (levels_of groups) page links text laws.links prints in
+      record {
+        form_laws = laws;
+        woven = woven;
+        plain = λ none plain. plain_woven sheet text (page_text page) links plain none woven;
+      }
+
+  -- where no title is missing, no texts show a report under no sheets
+  pub none-in : (form : Form) → missing_title form groups ≡ None → ShowsForm form r groups [] []
+  none-in Graphic given = record { printed = tt }
+  none-in Short given = short-none r groups given
+  none-in Text given = record { are = tt }
 
 module _ (r : Renderer) (groups : List Group) (sheets : List Stylesheet) (texts : List (List ℕ)) where
   shown-in : (form : Form) (report : Drawn) → All IsGroupDrawable groups → IsDrawnAs form r groups report → AllZip (IsPrintedAs report) sheets texts
@@ -37,7 +86,7 @@ module _ (r : Renderer) (groups : List Group) (sheets : List Stylesheet) (texts 
       sheets_shown r groups grids.items drawable are sheets texts printed
   shown-in Graphic (drawn.Text form) drawable are printed = absurd are
   shown-in Short (drawn.Page grids) drawable are printed =
-      short-shown r groups grids.items sheets texts drawable are printed
+      short-shown r groups grids.items sheets texts are printed
   shown-in Short (drawn.Text form) drawable are printed = absurd are
   shown-in Text (drawn.Page grids) drawable are printed = absurd are
   shown-in Text (drawn.Text form) drawable is printed =
@@ -48,25 +97,73 @@ module _ (r : Renderer) (groups : List Group) (sheets : List Stylesheet) (texts 
       → TextsShown r groups sheets texts
   texts-shown report = shown-in (form_of r) report
 
-  free-in : (form : Form) → ShowsForm form r groups sheets texts → AreFree (trusted_texts groups) (links_in form r groups) sheets texts
-  free-in Graphic shown = record {
-    plain = page_text shown.page;
-    woven = AllZip-weaker (λ sheet text. PrintsPage sheet (levels_of groups) shown.page text)
-        (λ sheet text. IsWoven sheet text (page_text shown.page) (report_links r groups))
-        (λ sheet text prints. subst (IsWoven sheet text (page_text shown.page))
-        shown.links (IsWoven-from_page sheet (levels_of groups) shown.page text prints)) sheets texts shown.printed;
-    free = shown.free;
-  }
-  free-in Short shown = record {
-    plain = plain_text shown.rows;
-    woven = AllZip-weaker (λ sheet text. Prints sheet shown.group.level shown.rows text)
-        (λ sheet text. IsWoven sheet text (plain_text shown.rows) (short_links r groups))
-        (λ sheet text prints. subst (IsWoven sheet text (plain_text shown.rows))
-        shown.links (IsWoven-from_prints sheet shown.group.level shown.rows text prints)) sheets texts shown.printed;
-    free = shown.free;
-  }
-  free-in Text shown = record { plain = form_text (text_form r groups); woven = shown.woven; free = shown.free }
+  -- the laws of a form are those of the texts of a report that is drawn in it
+  laws-in : (form : Form) (report : Drawn) → FormLaws form r groups → All IsGroupDrawable groups → IsDrawnAs form r groups report
+      → AllZip (IsPrintedAs report) sheets texts
+      → AllZip (LawsIn form r groups) sheets texts
+  laws-in Graphic (drawn.Page grids) laws drawable are printed =
+      let shown : SheetsShown r groups sheets texts = sheets_shown r groups grids.items drawable are sheets texts printed in
+      AllZip-weaker (λ sheet text. PrintsPage sheet (levels_of groups) (graphic_form r groups) text) (LawsIn Graphic r groups)
+      (page-law r groups laws) sheets texts shown.printed
+  laws-in Graphic (drawn.Text form) laws drawable are printed = absurd are
+  laws-in Short (drawn.Page grids) laws drawable page printed =
+      let shown = short-shown r groups grids.items sheets texts page printed in
+      AllZip-weaker _ (LawsIn Short r groups)
+      (λ sheet text. short-law r groups laws sheet shown.group.level shown.group shown.title text shown.first shown.titled) sheets texts shown.printed
+  laws-in Short (drawn.Text form) laws drawable are printed = absurd are
+  laws-in Text (drawn.Page grids) laws drawable are printed = absurd are
+  laws-in Text (drawn.Text form) laws drawable is printed =
+      let of_form : AllZip (IsFormText r groups) sheets texts = subst (λ (f : List FormPiece). AllZip (IsOfForm f) sheets texts) is printed in
+      AllZip-weaker (IsFormText r groups) (LawsIn Text r groups) (text-law r groups) sheets texts of_form
 
-  -- texts that show a report differ in their codes alone, and each listed character is one of a trusted text
-  pub are-free : TextsShown r groups sheets texts → AreFree (trusted_texts groups) (links_in (form_of r) r groups) sheets texts
-  are-free shown = free-in (form_of r) shown
+  -- so it is in the renderer's form
+  pub laws-hold : (report : Drawn) → FormLaws (form_of r) r groups → All IsGroupDrawable groups → IsDrawnAs (form_of r) r groups report
+      → AllZip (IsPrintedAs report) sheets texts → AllZip (HasLaws r groups) sheets texts
+  laws-hold report = laws-in (form_of r) report
+
+-- each form's laws say that its plain text is free
+free-in : (r : Renderer) (groups : List Group) (form : Form) → FormLaws form r groups → IsFreeBut (trusted_texts groups) (plain_in form r groups)
+free-in r groups Graphic laws = laws.free
+free-in r groups Short laws =
+    subst (λ rows. IsFreeBut (trusted_texts groups) (plain_text rows)) (sym (page-is r groups laws.group laws.title laws.first laws.titled))
+    laws.free
+free-in r groups Text laws = laws.free
+
+-- texts that have the laws of a form differ in their codes alone, and each listed character is one of a trusted text
+pub are-free : (r : Renderer) (groups : List Group) (form : Form) (sheets : List Stylesheet) (texts : List (List ℕ)) → AllZip (LawsIn form r groups) sheets texts
+    → AreFree (trusted_texts groups) (links_in form r groups) sheets texts
+are-free r groups form [] [] laws = record {
+  plain = [];
+  woven = tt;
+  free = All-nil (λ c. is_listed c ≡ true → Contains (flat_map chars (trusted_texts groups)) c);
+}
+are-free r groups form [] (text ∷ texts) laws = absurd laws
+are-free r groups form (sheet ∷ sheets) [] laws = absurd laws
+are-free r groups form (sheet ∷ sheets) (text ∷ texts) laws = record {
+  plain = plain_in form r groups;
+  woven = AllZip-weaker (LawsIn form r groups) (λ sheet text. IsWoven sheet text (plain_in form r groups) (links_in form r groups))
+      (λ sheet text law. law.woven) (sheet ∷ sheets) (text ∷ texts) laws;
+  free = free-in r groups form laws.0.form_laws;
+}
+
+-- what is answered: texts or a refusal
+abbrev pub Texts : Type 0
+Texts = Result (Vec (String Global) Global) RenderError
+
+-- under no sheets there are no texts, and these show a report that isn't refused
+pub none-shown : (r : Renderer) (groups : List Group) (sheets : List Stylesheet) (answer : Texts) → length sheets ≡ 0
+    → IfOk answer (λ texts. texts.items ≡ []) → IfSome (first_refusal r groups) (λ refusal. answer ≡ Err refusal)
+    → IfOk answer (λ texts. TextsShown r groups sheets (map string_bytes texts.items))
+none-shown r groups sheets (Err e) none nothing refused = tt
+none-shown r groups sheets (Ok texts) none nothing refused =
+    let shown : TextsShown r groups [] [] = none-in r groups (form_of r) (titled-from_ok r groups (Ok texts) texts refused refl) in
+    subst (λ ss. TextsShown r groups ss (map string_bytes texts.items)) (sym (nil_from_length sheets none))
+    (subst (TextsShown r groups []) (sym (ap (map string_bytes) nothing)) shown)
+
+-- and have its laws
+pub none-laws : (r : Renderer) (groups : List Group) (sheets : List Stylesheet) (answer : Texts) → length sheets ≡ 0
+    → IfOk answer (λ texts. texts.items ≡ []) → IfOk answer (λ texts. AllZip (HasLaws r groups) sheets (map string_bytes texts.items))
+none-laws r groups sheets (Err e) none nothing = tt
+none-laws r groups sheets (Ok texts) none nothing =
+    subst (λ ss. AllZip (HasLaws r groups) ss (map string_bytes texts.items)) (sym (nil_from_length sheets none))
+    (subst (AllZip (HasLaws r groups) []) (sym (ap (map string_bytes) nothing)) tt)

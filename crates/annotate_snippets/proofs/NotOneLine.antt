@@ -1,5 +1,5 @@
--- What no report shows: with texts of one line, a page with a row that reads as two lines of the text; and a page with a number before a
--- row of an element that shows no line.
+-- Pages without the laws of a report: with texts of one line, a page with a row that reads as two lines of the text; and a page with a
+-- number before a row of an element that shows no line.
 use Rattle.std.proofs.Common.{◌≡◌, ℕ, List, [], ◌∷◌, ◌++◌, Some, codes, refl, sym, arith}
 use Rattle.std.specs.List.{All, Contains, slice_get}
 use Rattle.std.proofs.lemmas.Bool.{false≢true}
@@ -10,13 +10,12 @@ use Rattle.snippet_style.specs.Cell.{Cell, SPACE, text_cells}
 use Rattle.snippet_style.specs.Separators.{separator_row}
 use Rattle.snippet_style.specs.declared.glyphs.DecorStyle.TheVariants.{Ascii}
 use Rattle.snippet_style.specs.declared.role.ElementStyle.TheVariants.{LabelPrimary, NoStyle, UnderlinePrimary}
-use Rattle.snippet_style.specs.declared.stylesheet.Stylesheet.{Stylesheet}
 use Rattle.annotate_snippets.specs.declared.renderer.Renderer.{Renderer}
 use Rattle.annotate_snippets.specs.Feeds.{HasNoFeed, HasOneLineRows, HasOneLineTexts, text_lines}
 use Rattle.annotate_snippets.specs.Gutter.{layout_of_group}
 use Rattle.annotate_snippets.specs.Numbers.{IsNumberedAsLine}
-use Rattle.annotate_snippets.specs.Page.{GroupPage, NamedRow, Other, group_rows}
-use Rattle.annotate_snippets.specs.Shown.{SheetsShown}
+use Rattle.annotate_snippets.specs.Page.{GroupPage, NamedRow, Other, Page, group_rows}
+use Rattle.annotate_snippets.specs.PageLaws.{PageLaws}
 
 -- the row of the marks of `let x = 1;` with a label that is `here`, a line feed, and what looks like a second line
 abbrev pub forged_row : List Cell
@@ -27,12 +26,11 @@ forged_row =
 two_lines : text_lines (row_text forged_row) ≡ codes "  |     ^ here" ∷ codes "2 | let y = 666;" ∷ []
 two_lines = refl
 
--- no page that has such a row in one of its groups shows a report whose texts are on one line
-pub forged_line : (r : Renderer) (groups : List Group) (sheets : List Stylesheet) (texts : List (List ℕ)) (shown : SheetsShown r groups sheets texts)
-    → HasOneLineTexts groups
-    → (part : GroupPage) → Contains shown.page part → Contains (group_rows part) forged_row → ⊥
-forged_line r groups sheets texts shown plain part there among =
-    let rows : All HasNoFeed (group_rows part) = All-contains HasOneLineRows shown.page part (shown.one_line plain) there in
+-- no page that has such a row in one of its groups has the laws of a report whose texts are on one line
+pub forged_line : (r : Renderer) (groups : List Group) (page : Page) → PageLaws r groups page → HasOneLineTexts groups
+    → (part : GroupPage) → Contains page part → Contains (group_rows part) forged_row → ⊥
+forged_line r groups page laws plain part there among =
+    let rows : All HasNoFeed (group_rows part) = All-contains HasOneLineRows page part (laws.one_line plain) there in
     let row : HasNoFeed forged_row = All-contains HasNoFeed (group_rows part) forged_row rows among in
     false≢true (sym (row 14 SPACE (omega arith)))
 
@@ -41,12 +39,11 @@ forged_line r groups sheets texts shown plain part there among =
 abbrev pub row_without_stem : List Cell
 row_without_stem = separator_row Ascii 1 ++ SPACE ∷ text_cells UnderlinePrimary (codes "\n")
 
--- no page that has such a row in one of its groups shows a report whose texts are on one line
-pub line_feed_for_stem : (r : Renderer) (groups : List Group) (sheets : List Stylesheet) (texts : List (List ℕ)) (shown : SheetsShown r groups sheets texts)
-    → HasOneLineTexts groups
-    → (part : GroupPage) → Contains shown.page part → Contains (group_rows part) row_without_stem → ⊥
-line_feed_for_stem r groups sheets texts shown plain part there among =
-    let rows : All HasNoFeed (group_rows part) = All-contains HasOneLineRows shown.page part (shown.one_line plain) there in
+-- no page that has such a row in one of its groups has the laws of a report whose texts are on one line
+pub line_feed_for_stem : (r : Renderer) (groups : List Group) (page : Page) → PageLaws r groups page → HasOneLineTexts groups
+    → (part : GroupPage) → Contains page part → Contains (group_rows part) row_without_stem → ⊥
+line_feed_for_stem r groups page laws plain part there among =
+    let rows : All HasNoFeed (group_rows part) = All-contains HasOneLineRows page part (laws.one_line plain) there in
     let row : HasNoFeed row_without_stem = All-contains HasNoFeed (group_rows part) row_without_stem rows among in
     false≢true (sym (row 4 SPACE (omega arith)))
 
@@ -54,11 +51,11 @@ line_feed_for_stem r groups sheets texts shown plain part there among =
 abbrev pub numbered_row : NamedRow
 numbered_row = record { name = Other; cells = text_cells NoStyle (codes "2 | let y = 666;") }
 
--- no page that has such a row in one of its elements shows a report
-pub number_without_a_line : (r : Renderer) (groups : List Group) (sheets : List Stylesheet) (texts : List (List ℕ)) (shown : SheetsShown r groups sheets texts) (i : ℕ) (g : Group) (part : GroupPage)
-    → slice_get groups i ≡ Some g → slice_get shown.page i ≡ Some part → (rows : List NamedRow) → Contains part.elements rows → Contains rows numbered_row → ⊥
-number_without_a_line r groups sheets texts shown i g part at there rows of_part among =
+-- no page that has such a row in one of its elements has the laws of a report
+pub number_without_a_line : (r : Renderer) (groups : List Group) (page : Page) → PageLaws r groups page → (i : ℕ) (g : Group) (part : GroupPage)
+    → slice_get groups i ≡ Some g → slice_get page i ≡ Some part → (rows : List NamedRow) → Contains part.elements rows → Contains rows numbered_row → ⊥
+number_without_a_line r groups page laws i g part at there rows of_part among =
     let gutter : ℕ = (layout_of_group r groups g).gutter in
-    let all : All (IsNumberedAsLine gutter) rows = All-contains (λ (some : List NamedRow). All (IsNumberedAsLine gutter) some) part.elements rows (shown.numbers i g part at there) of_part in
+    let all : All (IsNumberedAsLine gutter) rows = All-contains (λ (some : List NamedRow). All (IsNumberedAsLine gutter) some) part.elements rows (laws.numbers i g part at there) of_part in
     let row : IsNumberedAsLine gutter numbered_row = All-contains (IsNumberedAsLine gutter) rows numbered_row all among in
     false≢true (sym (row refl 0 (omega arith)))

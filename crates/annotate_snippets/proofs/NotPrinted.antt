@@ -18,12 +18,18 @@ use Rattle.snippet_text.specs.Normalized.{norm}
 use Rattle.snippet_titles.specs.Heading.{heading_rows, label_cells}
 use Rattle.annotate_snippets.specs.Forms.{ShowsReport}
 use Rattle.annotate_snippets.specs.GraphicForm.{graphic_form}
-use Rattle.annotate_snippets.specs.Page.{ArePrinted, PrintsPage, page_text}
+use Rattle.annotate_snippets.specs.Page.{ArePrinted, Page, PrintsPage, page_links, page_text}
 use Rattle.annotate_snippets.specs.Settings.{plain_settings}
+use Rattle.annotate_snippets.specs.Shown.{levels_of}
 use Rattle.annotate_snippets.specs.declared.renderer.Renderer.{Renderer}
+use Rattle.annotate_snippets.proofs.ReportLemmas.{plain_printed}
 use Rattle.annotate_snippets.proofs.SmallReports.{nameless, title_alone}
 
 -- ---- a text without a byte
+
+no_links_are : (v : Vec Element Global) → page_links (graphic_form plain_settings (title_alone v)) ≡ []
+unfolding chars norm heading_rows label_cells
+no_links_are v = refl
 
 plain_text_is : (v : Vec Element Global) → page_text (graphic_form plain_settings (title_alone v)) ≡ codes "error: e"
 unfolding chars norm heading_rows label_cells
@@ -33,7 +39,8 @@ plain_text_is v = refl
 empty_text : (v : Vec Element Global) → ShowsReport plain_settings (title_alone v) plain_sheet [] → ⊥
 unfolding lib.Utf8.encode
 empty_text v shown =
-    let right : [] ≡ encode_utf8_all (codes "error: e") = (shown.plain refl).0 refl ∙ ap (λ page. encode_utf8_all (page_text page)) shown.is
+    let page : Page = graphic_form plain_settings (title_alone v) in
+    let right : [] ≡ encode_utf8_all (codes "error: e") = plain_printed plain_sheet (levels_of (title_alone v)) page [] (no_links_are v) refl shown.printed.0
     ∙ ap encode_utf8_all (plain_text_is v) in
     cc
 
@@ -80,8 +87,7 @@ printed =
 -- so it is the one text under that sheet
 only_text : (v : Vec Element Global) (text : List ℕ) → ShowsReport coloured (nameless v) default_sheet text → text ≡ bold_text
 only_text v text shown =
-    let page : PrintsPage default_sheet (Error ∷ []) (record { title = bold_row ∷ []; elements = [] } ∷ []) text = subst (λ page. PrintsPage default_sheet (Error ∷ []) page text) (shown.is
-    ∙ page_is v) shown.printed.0 in
+    let page : PrintsPage default_sheet (Error ∷ []) (record { title = bold_row ∷ []; elements = [] } ∷ []) text = subst (λ page. PrintsPage default_sheet (Error ∷ []) page text) (page_is v) shown.printed.0 in
     page.joined ∙ joined page.parts page.printed
   where
     joined : (parts : List (List ℕ)) → ArePrinted default_sheet (Error ∷ []) (record { title = bold_row ∷ []; elements = [] } ∷ []) parts

@@ -7,6 +7,8 @@ use Rattle.std.specs.declared.alloc.Global.{Global}
 use Rattle.std.proofs.lemmas.List.Elements.{All-nil, All-cons}
 use Rattle.snippet_grid.specs.Grid.{row_at}
 use Rattle.snippet_grid.specs.Print.{plain_text, row_text}
+use Rattle.snippet_grid.specs.Woven.{IsWoven, links_of}
+use Rattle.snippet_grid.proofs.WovenLemmas.{IsWoven-from_prints, plain_woven}
 use Rattle.snippet_lines.specs.Lines.{start_of}
 use Rattle.snippet_lines.specs.Place.{line_of}
 use Rattle.snippet_model.specs.declared.snippet.Annotation.{Annotation}
@@ -23,7 +25,8 @@ use Rattle.snippet_titles.specs.Heading.{label_cells}
 use Rattle.snippet_titles.specs.Origin.{origin_text}
 use Rattle.snippet_titles.specs.Short.{short_rows}
 use Rattle.snippet_view.specs.Annotated.{is_long}
-use Rattle.annotate_snippets.specs.Forms.{ShowsReport, ShowsShort}
+use Rattle.annotate_snippets.specs.FormLaws.{ShowsShort}
+use Rattle.annotate_snippets.specs.Forms.{ShowsReport}
 use Rattle.annotate_snippets.specs.Settings.{plain_settings}
 use Rattle.annotate_snippets.specs.Short.{short_form}
 use Rattle.annotate_snippets.specs.declared.renderer.Renderer.{Renderer}
@@ -46,12 +49,23 @@ title_is v g title first titled =
     ap (λ (other : Group). plain_text (short_form one_line other title)) is
     ∙ ap (λ other. plain_text (short_form one_line (group v (Some (error_title None (codes "e"))) [] (omega arith)) other)) (sym named)
 
+links_are : (v : Vec Element Global) (g : Group) (title : Title) → Some (group v (Some (error_title None (codes "e"))) [] (omega arith)) ≡ Some g
+    → g.title ≡ Some title → links_of (short_form one_line g title) ≡ []
+unfolding chars norm label_cells short_rows
+links_are v g title first titled =
+    let is : g ≡ group v (Some (error_title None (codes "e"))) [] (omega arith) = cc in
+    let named : error_title None (codes "e") ≡ title = cc in
+    ap (λ (other : Group). links_of (short_form one_line other title)) is
+    ∙ ap (λ other. links_of (short_form one_line (group v (Some (error_title None (codes "e"))) [] (omega arith)) other)) (sym named)
+
 -- no text for the title `error: e`
 titles_left_out : (v : Vec Element Global) → ShowsReport one_line (title_alone v) plain_sheet [] → ⊥
 unfolding lib.Utf8.encode
 titles_left_out v shown =
-    let right : [] ≡ encode_utf8_all (codes "error: e") = (shown.plain refl).0 refl
-    ∙ ap (λ rows. encode_utf8_all (plain_text rows)) shown.shows.rows_are
+    let rows : List (List Cell) = short_form one_line shown.group shown.title in
+    let none : links_of rows ≡ [] = links_are v shown.group shown.title shown.first shown.titled in
+    let woven : IsWoven plain_sheet [] (plain_text rows) (links_of rows) = IsWoven-from_prints plain_sheet shown.group.level rows [] shown.printed.0 in
+    let right : [] ≡ encode_utf8_all (codes "error: e") = plain_woven plain_sheet [] (plain_text rows) (links_of rows) refl none woven
     ∙ ap encode_utf8_all (title_is v shown.group shown.title shown.first shown.titled) in
     cc
 

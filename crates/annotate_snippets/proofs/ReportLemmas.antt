@@ -23,13 +23,14 @@ use Rattle.annotate_snippets.specs.Around.{drawn_elements, file_of_group, next_o
 use Rattle.annotate_snippets.specs.Drawn.{AreGridsOf}
 use Rattle.annotate_snippets.specs.Fault.{first_fault, first_refusal, form_of, missing_title}
 use Rattle.annotate_snippets.specs.Feeds.{HasOneLineRows, HasOneLineTexts, IsOneLineGroup}
-use Rattle.annotate_snippets.specs.GraphicForm.{group_page}
+use Rattle.annotate_snippets.specs.GraphicForm.{graphic_form, group_page}
 use Rattle.annotate_snippets.specs.Gutter.{layout_of_group}
 use Rattle.annotate_snippets.specs.Page.{ArePrinted, GroupPage, Page, PrintsGrids, PrintsPage, group_rows, page_links, page_text}
+use Rattle.annotate_snippets.specs.PageLaws.{PageLaws}
 use Rattle.annotate_snippets.specs.Prepared.{IsGroupDrawable}
 use Rattle.annotate_snippets.specs.Shown.{AreGroupsShown, IsFreeBut, SheetsShown, ShowsGroup, levels_of, report_links}
 use Rattle.annotate_snippets.specs.declared.renderer.error.RenderError.{RenderError}
-use Rattle.annotate_snippets.proofs.FaultLemmas.{groups-drawable, unrefused}
+use Rattle.annotate_snippets.proofs.FaultLemmas.{groups-drawable, titled, unrefused}
 use Rattle.annotate_snippets.proofs.GroupLemmas.{group_shown}
 use Rattle.annotate_snippets.proofs.GroupShown.{GroupShown}
 use Rattle.annotate_snippets.proofs.NumberLaws.{group_numbered}
@@ -183,11 +184,6 @@ module _ (r : Renderer) (groups : List Group) (grids : List GroupGrid) (drawable
   page_printed sheet text prints =
       record { parts = prints.parts; printed = report_page.printed sheet prints.parts prints.printed; joined = prints.joined }
 
-  -- it is woven of the page's characters
-  page_woven : (sheet : Stylesheet) (text : List ℕ) → PrintsGrids sheet grids text → IsWoven sheet text (page_text report_page.page) (report_links r groups)
-  page_woven sheet text prints =
-      subst (IsWoven sheet text (page_text report_page.page)) links_of_page (IsWoven-from_page sheet (levels_of groups) report_page.page text (page_printed sheet text prints))
-
   page_free : IsFreeBut (trusted_texts groups) (page_text report_page.page)
   page_free = subst (IsFreeBut (trusted_texts groups)) (sym text_of_page) report_page.free
 
@@ -196,33 +192,45 @@ module _ (r : Renderer) (groups : List Group) (grids : List GroupGrid) (drawable
       → SheetsShown r groups sheets texts
   sheets_shown sheets texts printed =
       record {
-        page = report_page.page;
-        is = report_page.value;
+        printed = AllZip-weaker (λ sheet text. PrintsGrids sheet grids text)
+            (λ sheet text. PrintsPage sheet (levels_of groups) (graphic_form r groups) text)
+            (λ sheet text prints. subst (λ page. PrintsPage sheet (levels_of groups) page text) report_page.value (page_printed sheet text prints)) sheets texts printed;
+      }
+
+  -- the report's page has its laws
+  pub page_laws : PageLaws r groups (graphic_form r groups)
+  page_laws =
+      subst (PageLaws r groups) report_page.value (record {
         shows = page_shows;
-        printed = AllZip-weaker (λ sheet text. PrintsGrids sheet grids text) (λ sheet text. PrintsPage sheet (levels_of groups) report_page.page text) page_printed sheets texts printed;
         free = page_free;
         links = links_of_page;
         one_line = report_page.one_line;
         lines = λ plain. lines_of_page report_page.page (report_page.one_line plain);
         numbers = λ i g part at there. group_numbered r (layout_of_group r groups g) (place_at (length groups) i) (file_of_group groups g) (drawn_elements g) part (page_shows.each i g part at there).elements;
         titles = λ i g part title at there titled words. group_title_unnumbered r (layout_of_group r groups g) (place_at (length groups) i) (next_of (drawn_elements g)) g.title title part.title (page_shows.each i g part at there).title titled words;
-        plain = λ none. AllZip-weaker (λ sheet text. PrintsGrids sheet grids text)
-            (λ sheet text. is_plain_sheet sheet ≡ true → text ≡ encode_utf8_all (page_text report_page.page))
-            (λ sheet text prints plain. plain_woven sheet text (page_text report_page.page) (report_links r groups)
-            plain none (page_woven sheet text prints)) sheets texts printed;
-      }
+      })
+
+-- a text that prints a page is woven of its characters, with what it links to
+pub page_woven : (sheet : Stylesheet) (levels : List LevelInner) (page : Page) (links : List (List ℕ)) (text : List ℕ) → page_links page ≡ links
+    → PrintsPage sheet levels page text → IsWoven sheet text (page_text page) links
+page_woven sheet levels page links text linked prints =
+    subst (IsWoven sheet text (page_text page)) linked (IsWoven-from_page sheet levels page text prints)
+
+-- so under a plain sheet, where nothing links, it is these characters and nothing else
+pub plain_printed : (sheet : Stylesheet) (levels : List LevelInner) (page : Page) (text : List ℕ) → page_links page ≡ []
+    → is_plain_sheet sheet ≡ true → PrintsPage sheet levels page text → text ≡ encode_utf8_all (page_text page)
+plain_printed sheet levels page text none plain prints =
+    plain_woven sheet text (page_text page) [] plain refl (page_woven sheet levels page [] text none prints)
 
 -- the text of a report of no groups is empty
 pub text_of_none : (r : Renderer) (sheet : Stylesheet) (text : List ℕ) → SheetsShown r [] (sheet ∷ []) (text ∷ []) → text ≡ []
-text_of_none r sheet text shows = of_page shows.page shows.shows.count shows.printed.0
+text_of_none r sheet text shows =
+    let prints : PrintsPage sheet [] [] text = shows.printed.0 in
+    prints.joined ∙ of_parts prints.parts prints.printed
   where
-    of_parts : (page : Page) → length page ≡ 0 → (parts : List (List ℕ)) → ArePrinted sheet [] page parts → join_with_byte 10 parts ≡ []
-    of_parts [] none [] printed = refl
-    of_parts [] none (part ∷ parts) printed = absurd printed
-    of_parts (g ∷ page) none parts printed = cc
-
-    of_page : (page : Page) → length page ≡ 0 → PrintsPage sheet [] page text → text ≡ []
-    of_page page none prints = prints.joined ∙ of_parts page none prints.parts prints.printed
+    of_parts : (parts : List (List ℕ)) → ArePrinted sheet [] [] parts → join_with_byte 10 parts ≡ []
+    of_parts [] printed = refl
+    of_parts (part ∷ parts) printed = absurd printed
 
 -- what holds of an answer holds of it where another error stands for the first
 pub IfOk-map_err : {T E D : Type 0} (P : T → Type 0) (R : E → D → Type 0) (r : Result T E) (q : Result T D) → IfOk r P
@@ -231,10 +239,21 @@ IfOk-map_err P R (Ok x) q holds same = subst (λ z. IfOk z P) (sym same) holds
 IfOk-map_err P R (Err e) (Ok y) holds same = absurd same
 IfOk-map_err P R (Err e) (Err d) holds same = tt
 
+-- two things that hold of an answer
+pub IfOk-both : {T E : Type 0} (P Q : T → Type 0) (r : Result T E) → IfOk r P → IfOk r Q → IfOk r (λ x. P x × Q x)
+IfOk-both P Q (Ok x) p q = (p, q)
+IfOk-both P Q (Err e) p q = tt
+
 -- a report that isn't refused has no fault, so each of its groups can be drawn
 faultless : {T E : Type 0} (fault : Option E) (r : Result T E) (x : T) → IfSome fault (λ e. r ≡ Err e) → r ≡ Ok x → fault ≡ None
 faultless None r x refused given = refl
 faultless (Some e) r x refused given = let never : Err e ≡ Ok x = sym refused ∙ given in cc
+
+-- no title is missing where the answer is no refusal
+pub titled-from_ok : {T : Type 0} (r : Renderer) (groups : List Group) (answer : Result T RenderError) (x : T)
+    → IfSome (first_refusal r groups) (λ refusal. answer ≡ Err refusal) → answer ≡ Ok x → missing_title (form_of r) groups ≡ None
+titled-from_ok r groups answer x refused given =
+    titled (missing_title (form_of r) groups) (first_fault groups) (faultless (first_refusal r groups) answer x refused given)
 
 -- the groups of a report that fits can be drawn where the answer is no refusal
 pub drawable-from_ok : {T : Type 0} (r : Renderer) (groups : List Group) (answer : Result T RenderError) (x : T) → ReportFits groups

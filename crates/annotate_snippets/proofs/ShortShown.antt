@@ -1,6 +1,6 @@
 -- The texts that print a report's short form show it.
 use Rattle.std.proofs.Common.{◌≡◌, ◌∙◌, ℕ, ◌<◌, ◌==◌, Bool, true, false, None, Option, Some, IfSome, List, [], ◌∷◌, ◌++◌, All, arith, chars, codes}
-use Rattle.std.proofs.Common.{encode_utf8_all, filter, length, not, refl, sym, ap, subst}
+use Rattle.std.proofs.Common.{filter, length, not, refl, sym, ap, subst}
 use Rattle.std.specs.Char.{is_whitespace}
 use Rattle.std.specs.Cow.{cow_str_bytes}
 use Rattle.std.specs.List.{AllZip, Contains, cons_option, filter_map, flat_map, join_with_byte, list_all, list_any, slice_get, slice_index_or}
@@ -24,8 +24,8 @@ use Rattle.snippet_view.proofs.LocationLaws.{place-named}
 use Rattle.snippet_grid.specs.Grid.{row_at}
 use Rattle.snippet_style.specs.Cell.{Cell}
 use Rattle.snippet_grid.specs.Print.{plain_text, row_text}
-use Rattle.snippet_style.specs.Stylesheet.{is_plain_sheet}
-use Rattle.snippet_grid.specs.Woven.{Prints, links_of}
+use Rattle.snippet_grid.specs.Woven.{IsWoven, Prints, links_of}
+use Rattle.snippet_grid.proofs.WeaveLemmas.{some_same}
 use Rattle.snippet_style.specs.declared.role.LevelInner.{LevelInner}
 use Rattle.snippet_style.specs.declared.stylesheet.Stylesheet.{Stylesheet}
 use Rattle.snippet_grid.proofs.WovenLemmas.{IsWoven-from_prints, plain_woven}
@@ -42,15 +42,17 @@ use Rattle.snippet_titles.proofs.OriginText.{place_text-each}
 use Rattle.snippet_titles.proofs.OriginFree.{digit-unlisted}
 use Rattle.annotate_snippets.specs.Around.{path_bytes}
 use Rattle.annotate_snippets.specs.Drawn.{IsShortPage}
-use Rattle.annotate_snippets.specs.Forms.{BeginsWithPlace, ShortShown, ShowsShort, short_links}
+use Rattle.annotate_snippets.specs.FormLaws.{BeginsWithPlace, LawsIn, ShortLaws, ShowsShort}
+use Rattle.annotate_snippets.specs.Forms.{ShortShown, short_links}
 use Rattle.annotate_snippets.specs.Gutter.{numbered_source}
 use Rattle.annotate_snippets.specs.Page.{PrintsGrids}
 use Rattle.annotate_snippets.specs.Prepared.{IsDrawable, IsGroupDrawable}
 use Rattle.annotate_snippets.specs.Rows.{place_found, place_named}
 use Rattle.annotate_snippets.specs.Short.{before_title, after_title, first_cause, joined_labels, short_label, labels_of_cause, place_of_cause, place_of_path}
-use Rattle.annotate_snippets.specs.Short.{primary_labels, short_form}
+use Rattle.annotate_snippets.specs.Short.{primary_labels, short_form, short_page, titled_rows}
 use Rattle.snippet_model.specs.AnnotationKind.{is_primary}
 use Rattle.annotate_snippets.specs.declared.renderer.Renderer.{Renderer}
+use Rattle.annotate_snippets.specs.declared.renderer.form.Form.TheVariants.{Short}
 use Rattle.annotate_snippets.specs.declared.renderer.graphic.GroupGrid.{GroupGrid}
 use Rattle.annotate_snippets.proofs.CauseShown.{place_known}
 use Rattle.annotate_snippets.proofs.PrintLemmas.{AllZip-weaker}
@@ -181,7 +183,6 @@ rows-shown : (r : Renderer) (g : Group) (title : Title) (rows : List (List Cell)
 rows-shown r g title rows are drawable =
     let heading : Heading = heading_of_title title in
     record {
-      rows_are = are;
       texts = λ i. ap (λ (rs : List (List Cell)). row_text (row_at rs i)) are ∙ short-texts r.hyperlink (before_title r g) (after_title g) heading i;
       origin = begins r g title rows are drawable;
       free = subst (All (IsFreeButText heading)) (sym are) (short-free r.hyperlink (before_title r g) (after_title g) heading (before-free r (first_cause g.elements.items)) (after-free (first_cause g.elements.items)));
@@ -199,30 +200,66 @@ prints-first sheet grid level text leveled prints = of_parts prints.parts prints
         subst (λ l. Prints sheet l grid.buffer text) leveled (subst (Prints sheet grid.level grid.buffer) (sym joined) printed.0)
     of_parts (part ∷ next ∷ parts) printed joined = absurd printed.1
 
+-- a text that prints the grids of a report's short form prints its rows
+prints-page : (r : Renderer) (groups : List Group) (grids : List GroupGrid) (page : IsShortPage r groups grids) (sheet : Stylesheet) (text : List ℕ)
+    → PrintsGrids sheet grids text → Prints sheet page.group.level (short_form r page.group page.title) text
+prints-page r groups grids page sheet text given =
+    subst (λ rows. Prints sheet page.group.level rows text) page.rows
+    (prints-first sheet page.grid page.group.level text page.level (subst (λ gs. PrintsGrids sheet gs text) page.grids_are given))
+
 -- the texts that print the one grid of a report's short form show it
-pub short-shown : (r : Renderer) (groups : List Group) (grids : List GroupGrid) (sheets : List Stylesheet) (texts : List (List ℕ)) → All IsGroupDrawable groups
+pub short-shown : (r : Renderer) (groups : List Group) (grids : List GroupGrid) (sheets : List Stylesheet) (texts : List (List ℕ))
     → IsShortPage r groups grids → AllZip (λ sheet text. PrintsGrids sheet grids text) sheets texts → ShortShown r groups sheets texts
-short-shown r groups grids sheets texts drawable page prints =
+short-shown r groups grids sheets texts page prints =
+    let g : Group = page.group in
+    let rows : List (List Cell) = short_form r g page.title in
+    record {
+      group = g;
+      title = page.title;
+      first = page.first;
+      titled = page.titled;
+      printed = AllZip-weaker (λ sheet text. PrintsGrids sheet grids text) (λ sheet text. Prints sheet g.level rows text) (prints-page r groups grids page) sheets texts prints;
+    }
+
+-- a report's short form, whose one grid this is, has its laws
+pub short-laws : (r : Renderer) (groups : List Group) (grids : List GroupGrid) → All IsGroupDrawable groups → IsShortPage r groups grids → ShortLaws r groups
+short-laws r groups grids drawable page =
     let g : Group = page.group in
     let title : Title = page.title in
     let heading : Heading = heading_of_title title in
-    let rows : List (List Cell) = page.grid.buffer in
+    let rows : List (List Cell) = short_form r g title in
     let can : IsGroupDrawable g = subst IsGroupDrawable (get_or_from_slice_get groups 0 g g page.first) (All-get_or IsGroupDrawable groups 0 g (slice_get_within groups 0 g page.first) drawable) in
-    let shows : ShowsShort r g title rows = rows-shown r g title rows page.rows can in
-    let links : links_of rows ≡ short_links r groups = ap links_of page.rows ∙ short-links r.hyperlink (before_title r g) (after_title g) heading ∙ first-links r groups g title page.first page.titled in
-    let each : (sheet : Stylesheet) (text : List ℕ) → PrintsGrids sheet grids text → Prints sheet g.level rows text = λ sheet text given. prints-first sheet page.grid g.level text page.level (subst (λ gs. PrintsGrids sheet gs text) page.grids_are given) in
+    let shows : ShowsShort r g title rows = rows-shown r g title rows refl can in
     record {
       group = g;
       title = title;
       first = page.first;
       titled = page.titled;
-      rows = rows;
       shows = shows;
-      printed = AllZip-weaker (λ sheet text. PrintsGrids sheet grids text) (λ sheet text. Prints sheet g.level rows text) each sheets texts prints;
       free = free_text (trusted_texts groups) rows (All-weaker (IsFreeButText heading) (IsFreeRow (trusted_texts groups)) (own_row (trusted_texts groups) heading (title-trusted groups g title page.first page.titled)) rows shows.free);
-      links = links;
-      plain = λ none. AllZip-weaker (λ sheet text. PrintsGrids sheet grids text)
-          (λ sheet text. is_plain_sheet sheet ≡ true → text ≡ encode_utf8_all (plain_text rows))
-          (λ sheet text given plain. plain_woven sheet text (plain_text rows) (links_of rows) plain (links ∙ none)
-          (IsWoven-from_prints sheet g.level rows text (each sheet text given))) sheets texts prints;
+      links = short-links r.hyperlink (before_title r g) (after_title g) heading ∙ first-links r groups g title page.first page.titled;
+    }
+
+-- the rows of the first group that has a title are all of the short form
+pub page-is : (r : Renderer) (groups : List Group) (g : Group) (title : Title) → slice_get groups 0 ≡ Some g → g.title ≡ Some title
+    → short_page r groups ≡ short_form r g title
+page-is r [] g title first titled = cc
+page-is r (h ∷ groups) g title first titled =
+    let same : h ≡ g = some_same first in
+    ap (titled_rows r h) (ap (λ (k : Group). k.title) same ∙ titled) ∙ ap (λ k. short_form r k title) same
+
+-- a text that prints it has the laws of a text
+pub short-law : (r : Renderer) (groups : List Group) (laws : ShortLaws r groups) (sheet : Stylesheet) (level : LevelInner) (g : Group) (title : Title)
+    (text : List ℕ) → slice_get groups 0 ≡ Some g → g.title ≡ Some title → Prints sheet level (short_form r g title) text → LawsIn Short r groups sheet text
+short-law r groups laws sheet level g title text first titled prints =
+    let page : short_page r groups ≡ short_form r g title = page-is r groups g title first titled in
+    let own : short_page r groups ≡ short_form r laws.group laws.title = page-is r groups laws.group laws.title laws.first laws.titled in
+    let links : links_of (short_page r groups) ≡ short_links r groups = ap links_of own ∙ laws.links in
+    let printed : Prints sheet level (short_page r groups) text = subst (λ rows. Prints sheet level rows text) (sym page) prints in
+    let woven : IsWoven sheet text (plain_text (short_page r groups)) (short_links r groups) = subst (IsWoven sheet text (plain_text (short_page r groups))) links
+    (IsWoven-from_prints sheet level (short_page r groups) text printed) in
+    record {
+      form_laws = laws;
+      woven = woven;
+      plain = λ none plain. plain_woven sheet text (plain_text (short_page r groups)) (short_links r groups) plain none woven;
     }

@@ -1,12 +1,11 @@
 -- The texts that are woven of a report's text form show it.
-use Rattle.std.proofs.Common.{◌≡◌, ◌∙◌, ℕ, ◌==◌, Bool, true, false, not, Option, None, Some, List, [], ◌∷◌, ◌++◌, cond, encode_utf8_all, if◌then◌else◌, refl}
+use Rattle.std.proofs.Common.{◌≡◌, ◌∙◌, ℕ, ◌==◌, Bool, true, false, not, Option, None, Some, List, [], ◌∷◌, ◌++◌, cond, if◌then◌else◌, refl}
 use Rattle.std.proofs.Common.{sym, ap, subst}
 use Rattle.std.specs.List.{All, AllZip, filter, flat_map, list_any}
 use Rattle.std.specs.Option.{option_to_list}
 use Rattle.std.proofs.lemmas.List.{append-nil}
 use Rattle.std.proofs.lemmas.List.Elements.{All-nil, All-head, All-tail, All-append, All-filter}
 use Rattle.std.proofs.lemmas.Grind.{flat_map-append}
-use Rattle.snippet_style.specs.Stylesheet.{is_plain_sheet}
 use Rattle.snippet_grid.specs.Woven.{IsWoven}
 use Rattle.snippet_style.specs.declared.stylesheet.Stylesheet.{Stylesheet}
 use Rattle.snippet_grid.proofs.WovenLemmas.{plain_woven}
@@ -29,11 +28,13 @@ use Rattle.snippet_text_form.proofs.FreeLaws.{cause-free, heading-free, origin-f
 use Rattle.snippet_text_form.proofs.LinkLaws.{cause-links, heading-links, origin-links, suggestion-links}
 use Rattle.snippet_text_form.proofs.OrderLaws.{cause-holds, heading-holds, plain-append, stand-append}
 use Rattle.annotate_snippets.specs.Around.{drawn_elements, file_of_group, first_two_share, is_drawn}
+use Rattle.annotate_snippets.specs.FormLaws.{LawsIn, TextLaws}
 use Rattle.annotate_snippets.specs.Forms.{TextShown}
 use Rattle.annotate_snippets.specs.Shown.{IsFreeBut, report_links}
 use Rattle.annotate_snippets.specs.TextForm.{PreviousSuggestion, before_next, element_form, element_texts, elements_form, group_form, group_texts, report_texts}
 use Rattle.annotate_snippets.specs.TextForm.{suggestion_place, text_form, whole_text}
 use Rattle.annotate_snippets.specs.declared.renderer.Renderer.{Renderer}
+use Rattle.annotate_snippets.specs.declared.renderer.form.Form.TheVariants.{Text}
 use Rattle.annotate_snippets.proofs.FormSteps.{title_form}
 use Rattle.annotate_snippets.proofs.PrintLemmas.{AllZip-weaker}
 use Rattle.annotate_snippets.proofs.ReportTexts.{free_first, free_rest, links_of_titles, title_links, trusted_of}
@@ -206,16 +207,24 @@ report_woven : (r : Renderer) (groups : List Group) (sheet : Stylesheet) (text :
 report_woven r groups sheet text is =
     subst (IsWoven sheet text (form_text (text_form r groups))) (groups_links r groups groups ∙ links_of_titles r groups) is.1
 
--- texts that are woven of the text form, and free but for its sheet's codes, show the report
-pub text-shown : (r : Renderer) (groups : List Group) (sheets : List Stylesheet) (texts : List (List ℕ))
-    → AllZip (λ sheet text. (text ≡ form_bytes sheet (text_form r groups))
-    × IsWoven sheet text (form_text (text_form r groups)) (form_links (text_form r groups))) sheets texts → TextShown r groups sheets texts
+-- texts of the text form show the report
+pub text-shown : (r : Renderer) (groups : List Group) (sheets : List Stylesheet) (texts : List (List ℕ)) → AllZip (IsFormText r groups) sheets texts
+    → TextShown r groups sheets texts
 text-shown r groups sheets texts are =
-    let plain : List ℕ = form_text (text_form r groups) in
     record {
       are = AllZip-weaker (IsFormText r groups) (λ sheet text. text ≡ form_bytes sheet (text_form r groups)) (λ sheet text is. is.0) sheets texts are;
-      woven = AllZip-weaker (IsFormText r groups) (λ sheet text. IsWoven sheet text plain (report_links r groups)) (report_woven r groups) sheets texts are;
-      holds = groups_hold r groups groups false;
-      free = groups_free r groups groups false;
-      plain = λ none. AllZip-weaker (IsFormText r groups) (λ sheet text. is_plain_sheet sheet ≡ true → text ≡ encode_utf8_all plain) (λ sheet text is of_plain. plain_woven sheet text plain (report_links r groups) of_plain none (report_woven r groups sheet text is)) sheets texts are;
+    }
+
+-- a report's text form has its laws
+pub text-laws : (r : Renderer) (groups : List Group) → TextLaws r groups
+text-laws r groups = record { holds = groups_hold r groups groups false; free = groups_free r groups groups false }
+
+-- so has a text of it
+pub text-law : (r : Renderer) (groups : List Group) (sheet : Stylesheet) (text : List ℕ) → IsFormText r groups sheet text → LawsIn Text r groups sheet text
+text-law r groups sheet text is =
+    let woven : IsWoven sheet text (form_text (text_form r groups)) (report_links r groups) = report_woven r groups sheet text is in
+    record {
+      form_laws = text-laws r groups;
+      woven = woven;
+      plain = λ none plain. plain_woven sheet text (form_text (text_form r groups)) (report_links r groups) plain none woven;
     }

@@ -2,12 +2,14 @@ pub mod Around
 pub mod Drawn
 pub mod Fault
 pub mod Feeds
+pub mod FormLaws
 pub mod Forms
 pub mod GraphicForm
 pub mod Gutter
 pub mod Levels
 pub mod Numbers
 pub mod Page
+pub mod PageLaws
 pub mod Prepared
 pub mod Refusal
 pub mod Rows

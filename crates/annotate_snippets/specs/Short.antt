@@ -72,3 +72,13 @@ after_title g = labels_of_cause (first_cause g.elements.items)
 -- the rows of a group's short form
 abbrev pub short_form : Renderer → Group → Title → List (List Cell)
 short_form r g title = short_rows r.hyperlink (before_title r g) (after_title g) (heading_of_title title)
+
+-- the rows of a group's short form where it has a title; the form needs one
+abbrev pub titled_rows : Renderer → Group → Option Title → List (List Cell)
+titled_rows r g None = []
+titled_rows r g (Some title) = short_form r g title
+
+-- the rows of a report's short form: those of its first group, which the form needs
+abbrev pub short_page : Renderer → List Group → List (List Cell)
+short_page r [] = []
+short_page r (g ∷ groups) = titled_rows r g g.title

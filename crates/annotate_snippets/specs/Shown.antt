@@ -1,7 +1,6 @@
 -- What the page of a report shows.
-use Rattle.snippet_style.specs.Stylesheet.{is_plain_sheet}
 use Rattle.std.specs.Prelude.{◌≡◌, ◌⊎◌, ℕ, ◌+◌, ◌-◌, ◌<◌, ◌≤◌, ◌==◌, ◌&&◌, nat_le, nat_lt, max, Bool, true, false, List, [], ◌∷◌, ◌++◌, All, Contains, Option}
-use Rattle.std.specs.Prelude.{Some, None, filter, length, map, take, drop, replicate, chars, if◌then◌else◌, encode_utf8_all}
+use Rattle.std.specs.Prelude.{Some, None, filter, length, map, take, drop, replicate, chars, if◌then◌else◌}
 use Rattle.std.specs.List.{AllZip, flat_map, count_by, list_any, slice_get, slice_index_or}
 use Rattle.std.specs.Option.{option_map, option_to_list}
 use Rattle.std.specs.Char.{is_ascii_alphanumeric}
@@ -16,7 +15,6 @@ use Rattle.snippet_style.specs.declared.stylesheet.Stylesheet.{Stylesheet}
 pub use Rattle.snippet_text.specs.Normalized.{normalized_chars}
 use Rattle.snippet_text.specs.Normalized.{is_listed, norm}
 use Rattle.snippet_model.specs.Heading.{Heading, heading_of_message, heading_of_title}
-use Rattle.snippet_model.specs.Trusted.{trusted_texts}
 use Rattle.snippet_model.specs.declared.snippet.Title.{Title}
 use Rattle.snippet_model.specs.declared.snippet.Group.{Group}
 use Rattle.snippet_model.specs.declared.snippet.Message as message
@@ -64,15 +62,12 @@ use Rattle.annotate_snippets.specs.declared.renderer.element_context.Next.{Next}
 use Rattle.annotate_snippets.specs.declared.renderer.element_context.ElementContext.{ElementContext}
 use Rattle.annotate_snippets.specs.Around.{closes_with, drawn_elements, file_of_group, is_end, next_of, path_bytes, place_at, context_at, suggestion_rows}
 use Rattle.annotate_snippets.specs.Drawn.{found_at, suggestion_layout, suggestion_lines}
-use Rattle.annotate_snippets.specs.Feeds.{HasOneLineRows, HasOneLineTexts, page_lines, text_lines}
 pub use Rattle.annotate_snippets.specs.GraphicForm.{name_of_row}
 use Rattle.annotate_snippets.specs.GraphicForm.{graphic_form}
 use Rattle.annotate_snippets.specs.Gutter.{layout_of_group, line_numbers, number_text, numbered_source}
 use Rattle.annotate_snippets.specs.LineRows.{AreRowsDrawn}
-use Rattle.annotate_snippets.specs.Numbers.{HasNumbersOfLines, IsTitleOfWords, IsUnnumbered}
 use Rattle.annotate_snippets.specs.Page.{RowName, SourceRow, Elision, OfferedLine, RemovedLine, Other, NamedRow, lines_named, lines_offered, lines_removed}
-use Rattle.annotate_snippets.specs.Page.{names_in, names_of_lines, cells_below, cells_of, rows_below, others, GroupPage, Page, page_text, PrintsPage}
-use Rattle.annotate_snippets.specs.Page.{IsAscending, page_links}
+use Rattle.annotate_snippets.specs.Page.{names_in, names_of_lines, cells_below, cells_of, rows_below, others, GroupPage, Page, PrintsPage, IsAscending}
 use Rattle.annotate_snippets.specs.SpanBars.{ShowsBars}
 use Rattle.annotate_snippets.specs.Rows.{cause_head, message_style, origin_rows, place_found, place_given, rows_after_cause, rows_after_title, suggestion_head}
 
@@ -402,23 +397,7 @@ abbrev pub report_links : Renderer → List Group → List (List ℕ)
 report_links r groups =
     if r.hyperlink then flat_map (λ g. flat_map (λ (t : Title). id_links true t.id) (option_to_list g.title)) groups else []
 
--- the texts show a report under these sheets, one text under each: all print one page, which is the report's, cell by cell. So it shows
--- each group, in order, and each listed character of it is one of a trusted text; it links to what the report links to. So without links, under a
--- plain sheet, the text is the page's characters and nothing else (`plain` follows from `printed` and `links`). Where no label, path,
--- id and name of a level holds a line feed, no cell of the page does, whatever the sources, the patches, and the texts of titles and
--- messages hold; so the lines of the text are the rows (`lines` follows from `one_line`). A row of an element begins with a number only
--- where it shows a line, and no row of a title that begins with a word does (`numbers` and `titles` follow from `shows`)
+-- the texts show a report under these sheets, one text under each: all print one page, which is the report's, cell by cell. What follows of
+-- that page for who reads it are its laws, PageLaws
 pub record SheetsShown (r : Renderer) (groups : List Group) (sheets : List Stylesheet) (texts : List (List ℕ)) : Type 0 where
-  pub page : Page
-  pub is : page ≡ graphic_form r groups
-  pub shows : AreGroupsShown r groups page
-  pub printed : AllZip (λ sheet text. PrintsPage sheet (levels_of groups) page text) sheets texts
-  pub free : IsFreeBut (trusted_texts groups) (page_text page)
-  pub links : page_links page ≡ report_links r groups
-  pub one_line : HasOneLineTexts groups → All HasOneLineRows page
-  pub lines : HasOneLineTexts groups → text_lines (page_text page) ≡ page_lines page
-  pub numbers : (i : ℕ) (g : Group) (part : GroupPage) → slice_get groups i ≡ Some g → slice_get page i ≡ Some part
-      → HasNumbersOfLines (layout_of_group r groups g).gutter part
-  pub titles : (i : ℕ) (g : Group) (part : GroupPage) (title : Title) → slice_get groups i ≡ Some g → slice_get page i ≡ Some part → g.title ≡ Some title
-      → IsTitleOfWords (layout_of_group r groups g).gutter title → All (IsUnnumbered (layout_of_group r groups g).gutter) part.title
-  pub plain : report_links r groups ≡ [] → AllZip (λ sheet text. is_plain_sheet sheet ≡ true → text ≡ encode_utf8_all (page_text page)) sheets texts
+  pub printed : AllZip (λ sheet text. PrintsPage sheet (levels_of groups) (graphic_form r groups) text) sheets texts

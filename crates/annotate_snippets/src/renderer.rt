@@ -64,7 +64,9 @@ impl Renderer {
     ghost use Rattle.annotate_snippets.specs.Fault as spec;
     ghost use Rattle.annotate_snippets.specs.Fault.{IsWithinBounds};
     ghost use Rattle.annotate_snippets.specs.Settings.{plain_settings, styled_settings};
+    ghost use Rattle.annotate_snippets.specs.FormLaws.{FormLaws, HasLaws};
     ghost use Rattle.annotate_snippets.specs.Forms.{AreFree, ShowsReport, TextsShown, links_in};
+    ghost use Rattle.std.specs.List.{AllZip};
     ghost use Rattle.annotate_snippets.specs.Drawn.{IsDrawnAs};
     ghost use Rattle.snippet_model.specs.Trusted.{trusted_texts};
 
@@ -267,8 +269,12 @@ impl Renderer {
         ensures shows { IfOk result (λ text.
             ShowsReport self.now groups.now self.now.stylesheet (string_bytes text)) }
 
+        // What follows for who reads it: the text has the laws of that form, in the graphic form those of the page.
+        ensures laws { IfOk result (λ text.
+            HasLaws self.now groups.now self.now.stylesheet (string_bytes text)) }
+
         // Without the codes of the sheet and of the report's links, each listed character of the text is one of a trusted text.
-        // It follows from `shows`, in fewer words.
+        // It follows from `laws`, in fewer words.
         ensures free { IfOk result (λ text. AreFree (trusted_texts groups.now)
             (links_in (spec.form_of self.now) self.now groups.now) (self.now.stylesheet ∷ []) (string_bytes text ∷ [])) }
     {
@@ -281,7 +287,8 @@ impl Renderer {
     ///
     /// # Errors
     ///
-    /// As of [`render`](Renderer::render), with no sheets too.
+    /// As of [`render`](Renderer::render). With no sheets the report is looked through as ever, but not drawn, and no
+    /// memory is taken.
     pub fn render_sheets(
         &self,
         alloc: Global,
@@ -300,13 +307,32 @@ impl Renderer {
         ensures shows { IfOk result (λ texts.
             TextsShown self.now groups.now sheets.now (map string_bytes texts.items)) }
 
+        // What follows for who reads them: each text has the laws of that form. Without sheets there is no text.
+        ensures laws { IfOk result (λ texts.
+            AllZip (HasLaws self.now groups.now) sheets.now (map string_bytes texts.items)) }
+
         // They differ in their codes alone: there is one plain text and one list of links, and each listed character of the plain
-        // text is one of a trusted text. It follows from `shows`, in fewer words.
+        // text is one of a trusted text. It follows from `laws`, in fewer words.
         ensures free { IfOk result (λ texts. AreFree (trusted_texts groups.now)
             (links_in (spec.form_of self.now) self.now groups.now) sheets.now (map string_bytes texts.items)) }
     {
+        if sheets.is_empty() {
+            return self.no_texts(alloc, groups);
+        }
         let drawn = self.drawn(alloc, groups)?;
         texts_under(alloc, &drawn, sheets).map_err(RenderError::Memory)
+    }
+
+    /// The texts of a report under no sheets: none, where it isn't refused.
+    fn no_texts(&self, alloc: Global, groups: Report<'_>) -> Result<Vec<String>, RenderError>
+        ensures refused { IfSome (spec.first_refusal self.now groups.now) (λ refusal. result ≡ Err refusal) }
+        ensures renders { IsWithinBounds self.now groups.now → IsOkUnless result (RenderError.Memory alloc_error) }
+        ensures none { IfOk result (λ texts. texts.items ≡ []) }
+    {
+        match first_refusal(form_of(self), groups) {
+            Some(refusal) => Err(refusal),
+            None => Ok(Vec::new(alloc)),
+        }
     }
 
     /// A report that isn't refused, drawn in the form that the renderer is set to.
@@ -315,6 +341,7 @@ impl Renderer {
         ensures refused { IfSome (spec.first_refusal self.now groups.now) (λ refusal. result ≡ Err refusal) }
         ensures renders { IsWithinBounds self.now groups.now → IsOkUnless result (RenderError.Memory alloc_error) }
         ensures drawn { IfOk result (λ drawn. IsDrawnAs (spec.form_of self.now) self.now groups.now drawn) }
+        ensures laws { IfOk result (λ drawn. FormLaws (spec.form_of self.now) self.now groups.now) }
     {
         let form = form_of(self);
         if let Some(refusal) = first_refusal(form, groups) {

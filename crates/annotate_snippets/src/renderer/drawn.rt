@@ -3,6 +3,7 @@ ghost use Rattle.std.specs.Prelude.{◌≡◌, All, None, IfOk, map, string_byte
 ghost use Rattle.std.specs.List.{AllZip};
 ghost use Rattle.annotate_snippets.specs.Drawn.{IsDrawnAs, IsPrintedAs, IsShortPage};
 ghost use Rattle.annotate_snippets.specs.Fault as fault;
+ghost use Rattle.annotate_snippets.specs.FormLaws.{FormLaws};
 ghost use Rattle.annotate_snippets.specs.Prepared.{IsGroupDrawable};
 ghost use Rattle.annotate_snippets.specs.declared.renderer.form.Form.TheVariants as form;
 
@@ -39,6 +40,9 @@ pub fn draw<'a>(
     requires drawable { All IsGroupDrawable groups.now }
     requires titled { fault.missing_title form groups.now ≡ None }
     ensures drawn { IfOk result (λ drawn. IsDrawnAs form renderer.now groups.now drawn) }
+
+    // What is drawn has the laws of its form.
+    ensures laws { IfOk result (λ drawn. FormLaws form renderer.now groups.now) }
 {
     match form {
         Form::Graphic => Ok(Drawn::Page(grids(alloc, renderer, groups)?)),

@@ -1,4 +1,4 @@
-use Rattle.std.proofs.Common.{List, map, string_bytes}
+use Rattle.std.proofs.Common.{◌≡◌, arith, length, List, map, string_bytes}
 use Rattle.std.specs.List.{AllZip}
 use Rattle.std.proofs.lemmas.Result.{IfOk-weaker}
 use Rattle.snippet_model.specs.Trusted.{trusted_texts}
@@ -6,11 +6,31 @@ use Rattle.snippet_model.specs.declared.snippet.Group.{Group}
 use Rattle.snippet_style.specs.declared.stylesheet.Stylesheet.{Stylesheet}
 use Rattle.annotate_snippets.specs.Drawn.{IsPrintedAs}
 use Rattle.annotate_snippets.specs.Fault.{form_of}
+use Rattle.annotate_snippets.specs.FormLaws.{HasLaws}
 use Rattle.annotate_snippets.specs.Forms.{AreFree, TextsShown, links_in}
 use Rattle.annotate_snippets.specs.declared.renderer.drawn.Drawn.{Drawn}
-use Rattle.annotate_snippets.proofs.FormsShown.{are-free, texts-shown}
+use Rattle.annotate_snippets.proofs.FormsShown.{are-free, laws-hold, none-laws, none-shown, texts-shown}
 use Rattle.annotate_snippets.proofs.ReportLemmas.{IfOk-map_err, drawable-from_ok}
 use Rattle.annotate_snippets.proofs.renderer.Renderer.render_sheets.Goals as goal
+
+pub returns-then-is_empty-clause-shows : goal.returns-then-is_empty-clause-shows
+returns-then-is_empty-clause-shows c =
+    let none : length c.args.sheets.now ≡ 0 = grind arith in
+    none-shown c.args.self.now c.args.groups.now c.args.sheets.now c.no_texts.result none c.no_texts.ensures.none c.no_texts.ensures.refused
+
+pub returns-then-is_empty-clause-laws : goal.returns-then-is_empty-clause-laws
+returns-then-is_empty-clause-laws c =
+    let none : length c.args.sheets.now ≡ 0 = grind arith in
+    none-laws c.args.self.now c.args.groups.now c.args.sheets.now c.no_texts.result none c.no_texts.ensures.none
+
+pub returns-then-is_empty-clause-free : goal.returns-then-is_empty-clause-free
+returns-then-is_empty-clause-free c =
+    let r = c.args.self.now in
+    let groups : List Group = c.args.groups.now in
+    let sheets : List Stylesheet = c.args.sheets.now in
+    IfOk-weaker c.no_texts.result (λ texts. AllZip (HasLaws r groups) sheets (map string_bytes texts.items))
+    (λ texts. AreFree (trusted_texts groups) (links_in (form_of r) r groups) sheets (map string_bytes texts.items))
+    (λ texts. are-free r groups (form_of r) sheets (map string_bytes texts.items)) (returns-then-is_empty-clause-laws c)
 
 pub returns-clause-shows : goal.returns-clause-shows
 returns-clause-shows c =
@@ -26,11 +46,25 @@ returns-clause-shows c =
     (λ texts. texts-shown r groups sheets (map string_bytes texts.items) report drawable c.in_ok-drawn.ensures.drawn)
     c.texts_under.ensures.printed) c.map_err.ensures.cases
 
+pub returns-clause-laws : goal.returns-clause-laws
+returns-clause-laws c =
+    let r = c.args.self.now in
+    let groups : List Group = c.args.groups.now in
+    let sheets : List Stylesheet = c.args.sheets.now in
+    let report : Drawn = c.in_ok-drawn.drawn in
+    let drawable = drawable-from_ok r groups c.drawn.result report c.requires.fits c.drawn.ensures.refused c.in_ok-drawn.was in
+    IfOk-map_err (λ texts. AllZip (HasLaws r groups) sheets (map string_bytes texts.items))
+    _ c.texts_under.result c.map_err.result
+    (IfOk-weaker c.texts_under.result (λ texts. AllZip (IsPrintedAs report) sheets (map string_bytes texts.items))
+    (λ texts. AllZip (HasLaws r groups) sheets (map string_bytes texts.items))
+    (λ texts. laws-hold r groups sheets (map string_bytes texts.items) report c.in_ok-drawn.ensures.laws drawable c.in_ok-drawn.ensures.drawn)
+    c.texts_under.ensures.printed) c.map_err.ensures.cases
+
 pub returns-clause-free : goal.returns-clause-free
 returns-clause-free c =
     let r = c.args.self.now in
     let groups : List Group = c.args.groups.now in
     let sheets : List Stylesheet = c.args.sheets.now in
-    IfOk-weaker c.map_err.result (λ texts. TextsShown r groups sheets (map string_bytes texts.items))
+    IfOk-weaker c.map_err.result (λ texts. AllZip (HasLaws r groups) sheets (map string_bytes texts.items))
     (λ texts. AreFree (trusted_texts groups) (links_in (form_of r) r groups) sheets (map string_bytes texts.items))
-    (λ texts. are-free r groups sheets (map string_bytes texts.items)) (returns-clause-shows c)
+    (λ texts. are-free r groups (form_of r) sheets (map string_bytes texts.items)) (returns-clause-laws c)
