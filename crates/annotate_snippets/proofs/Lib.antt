@@ -70,3 +70,4 @@ pub mod WalkLemmas
 pub mod WidestLemmas
 pub mod WindowLemmas
 pub mod WovenLemmas
+pub mod WriteLemmas

@@ -17,6 +17,7 @@ pub mod Settings
 pub mod Short
 pub mod Shown
 pub mod TextForm
+pub mod Written
 pub use Rattle.snippet_model.specs.Fits
 pub use Rattle.snippet_model.specs.Level
 pub use Rattle.snippet_model.specs.Trusted

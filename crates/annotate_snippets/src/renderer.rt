@@ -19,6 +19,7 @@ pub mod style;
 mod suggestions;
 mod text_form;
 mod title;
+mod to_writer;
 
 pub use crate::snippet::Id;
 use crate::snippet::Report;
@@ -34,6 +35,7 @@ pub use snippet_style::{
 };
 use std::alloc::Global;
 pub use style::{AnsiColor, Color, Effects, Style, Stylesheet, open_code, reset_code};
+pub use to_writer::RenderToError;
 
 /// The width that lines are cut to where no other is set, in columns.
 pub const DEFAULT_TERM_WIDTH: usize = 140;

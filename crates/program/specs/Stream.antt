@@ -1,16 +1,11 @@
 -- What a run writes to a stream.
-use Rattle.std.specs.Prelude.{◌≡◌, ℕ, ◌<◌, ◌⊎◌, List, [], ◌∷◌, ◌++◌, Option, length, take}
+use Rattle.std.specs.Prelude.{◌≡◌, ℕ, ◌⊎◌, List, [], ◌∷◌, ◌++◌, Option}
 use Rattle.std.specs.Io.KnownBytes.{Appends}
+pub use Rattle.written.specs.Part.{AppendsPart}
 
 -- a text and a line feed
 abbrev pub line_of : List ℕ → List ℕ
 line_of text = text ++ 10 ∷ []
-
--- known bytes grow by a first part of these, which may be nothing and isn't all
-pub record AppendsPart (old new : Option (List ℕ)) (bytes : List ℕ) : Type 0 where
-  pub count : ℕ
-  pub short : count < length bytes
-  pub appended : Appends old new (take count bytes)
 
 -- what a run writes to a stream: nothing; one line; a first part of one line, where a write failed; or one line that tells something, of
 -- which a first part is written where a write failed

@@ -21,8 +21,8 @@ use Rattle.redraw_report.specs.declared.finding.Mark.{Mark}
 use Rattle.redraw_report.specs.declared.finding.Offer.{Offer}
 use Rattle.redraw_report.specs.declared.finding.Remark.{Remark}
 use Rattle.redraw_report.specs.declared.finding.Shown.{Shown}
-use Rattle.redraw_report.specs.declared.locate.Located.{Located}
 use Rattle.redraw_report.specs.Region.{IsLocated, end_place, line_starts, start_place}
+use Rattle.snippet_places.specs.declared.clamp.SpanAt.{SpanAt}
 use Rattle.redraw_report.specs.Report.{edited_of, lent}
 use Rattle.redraw_report.specs.Shown.{same_source}
 use Rattle.redraw_report.specs.View.{Edited}
@@ -93,8 +93,8 @@ blanks_in (Blank line column) = column - 1
 -- the part of what is shown that a region is: in lines where it is located; else an empty part after all that is there
 abbrev pub IsPartOf : Sight → Region → ℕ → ℕ → Type 0
 IsPartOf (Lines text first) r start end =
-    (at : Located) × IsLocated text (start_place text (line_starts text) first r) (end_place text (line_starts text) first r) at
-    × (start ≡ at.start) × (end ≡ at.end)
+    (at : SpanAt) × IsLocated text (start_place text (line_starts text) first r) (end_place text (line_starts text) first r) at
+    × (start ≡ at.span.start) × (end ≡ at.span.end)
 IsPartOf (Nothing line column) r start end = (start ≡ 0) × (end ≡ 0)
 IsPartOf (Blank line column) r start end = (start ≡ column - 1) × (end ≡ column - 1)
 

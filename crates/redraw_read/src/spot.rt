@@ -111,8 +111,8 @@ impl Placing {
         self.clamped = counted(self.clamped, located.clamped);
         Spot {
             source: Shown { path, content },
-            start: located.start,
-            end: located.end,
+            start: located.span.start,
+            end: located.span.end,
         }
     }
 }

@@ -1,48 +1,16 @@
 -- Where in a text a region lies that a tool counted by lines and columns, by characters or by bytes.
-use Rattle.std.specs.Prelude.{◌≡◌, ℕ, zero, suc, ◌+◌, ◌-◌, ◌≤◌, Bool, true, false, nat_lt, nat_le, ◌==◌, ◌&&◌, ◌||◌, List, [], ◌∷◌, ◌++◌, Option, Some, None}
-use Rattle.std.specs.Prelude.{drop, length, slice_get, take, if◌then◌else◌}
+use Rattle.std.specs.Prelude.{ℕ, zero, suc, ◌+◌, ◌-◌, Bool, true, false, nat_lt, nat_le, ◌==◌, ◌&&◌, ◌||◌, List, [], ◌∷◌, Option, Some, None}
+use Rattle.std.specs.Prelude.{drop, length, slice_get, if◌then◌else◌}
 use Rattle.std.specs.Option.{option_map_or}
-use Rattle.std.specs.Str.{IsCharBoundary}
 use Rattle.redraw_report.specs.declared.diagnostic.Region.{Region}
 use Rattle.redraw_report.specs.declared.diagnostic.Region.TheVariants as region
 use Rattle.redraw_report.specs.declared.diagnostic.Unit as unit_type
 use Rattle.redraw_report.specs.declared.diagnostic.Unit.TheVariants.{Utf16, CodePoints}
-use Rattle.redraw_report.specs.declared.locate.Located.{Located}
 use Rattle.redraw_report.specs.declared.locate.OnLine.{OnLine}
 use Rattle.redraw_report.specs.declared.locate.OnLine.TheVariants as on_line
-use Rattle.redraw_report.specs.declared.locate.Place.{Place}
-
--- the byte after this one, if this is a line feed
-abbrev pub start_at : ℕ → ℕ → List ℕ
-start_at at b = if b == 10 then (at + 1) ∷ [] else []
-
--- the bytes after line feeds, in some bytes that begin at byte `at`
-abbrev pub starts_after : ℕ → List ℕ → List ℕ
-starts_after at [] = []
-starts_after at (b ∷ bs) = start_at at b ++ starts_after (at + 1) bs
-
--- the bytes at which the lines of a text start: 0, and each byte after a line feed
-abbrev pub line_starts : List ℕ → List ℕ
-line_starts text = 0 ∷ starts_after 0 text
-
--- whether some bytes begin with a line feed
-abbrev pub begins_with_feed : List ℕ → Bool
-begins_with_feed [] = false
-begins_with_feed (b ∷ bs) = b == 10
-
--- whether a line ends before these bytes: there are none, or they begin with a line feed, or with a carriage return and that
-abbrev pub ends_line : List ℕ → Bool
-ends_line [] = true
-ends_line (b ∷ bs) = b == 10 || b == 13 && begins_with_feed bs
-
--- how many bytes the first line of some bytes has, its end not counted
-abbrev pub line_length : List ℕ → ℕ
-line_length [] = 0
-line_length (b ∷ bs) = if ends_line (b ∷ bs) then 0 else suc (line_length bs)
-
--- the first line of some bytes, without its end
-abbrev pub first_line : List ℕ → List ℕ
-first_line bytes = take (line_length bytes) bytes
+use Rattle.snippet_places.specs.declared.clamp.Place.{Place}
+pub use Rattle.snippet_places.specs.Places.{IsHeld, IsLocated}
+pub use Rattle.snippet_places.specs.TextLines.{start_at, starts_after, line_starts, begins_with_feed, ends_line, line_length, first_line}
 
 -- whether some bytes are a line's end and nothing else
 abbrev pub is_line_end : List ℕ → Bool
@@ -121,17 +89,3 @@ abbrev pub end_place : List ℕ → List ℕ → ℕ → Region → Place
 end_place text starts first (region.Bytes start end) = record { byte = end; exact = true }
 end_place text starts first (region.Chars start end unit) = place_from unit 0 text end
 end_place text starts first (region.Lines r) = place_on r.unit text starts first r.end_line (end_on_line r.end_column)
-
--- a place that the text holds: it was found as it was asked for, and lies between characters
-pub record IsHeld (text : List ℕ) (p : Place) : Type 0 where
-  pub exact : p.exact ≡ true
-  pub border : IsCharBoundary text p.byte
-
--- what is answered for the places where a region starts and ends: a part of the text between characters; the region itself where the
--- text holds it, and only where it is said not to be does it differ
-pub record IsLocated (text : List ℕ) (from to : Place) (r : Located) : Type 0 where
-  pub ordered : r.start ≤ r.end
-  pub starts : IsCharBoundary text r.start
-  pub ends : IsCharBoundary text r.end
-  pub held : IsHeld text from → IsHeld text to → from.byte ≤ to.byte → r ≡ record { start = from.byte; end = to.byte; clamped = false }
-  pub told : r.clamped ≡ false → IsHeld text from × IsHeld text to × (r.start ≡ from.byte) × (r.end ≡ to.byte)

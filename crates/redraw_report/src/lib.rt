@@ -4,9 +4,10 @@
 
 pub mod diagnostic;
 pub mod finding;
-pub mod lines;
 pub mod locate;
 mod marks;
 mod offers;
 pub mod report;
 mod titles;
+
+pub use snippet_places::lines;

@@ -1,27 +1,11 @@
 //! Where in a text a region lies, as a tool counted it.
-ghost use Rattle.std.specs.Prelude.{◌≡◌, ℕ, ◌<◌, ◌≤◌, length, true};
-ghost use Rattle.std.specs.Str.{IsCharBoundary};
+ghost use Rattle.std.specs.Prelude.{◌≡◌, ◌≤◌, length, true};
 ghost use Rattle.redraw_report.specs.Region.{IsLocated, blanks_before, column_in, on_line_from, place_from, place_on};
 ghost use Rattle.redraw_report.specs.Region as spec;
 
 use crate::diagnostic::{Region, Unit};
-use crate::lines::{first_line, line_length};
-
-/// A part of a text, from a byte to before another, both between characters.
-#[derive(Clone, Copy)]
-pub struct Located {
-    pub start: usize,
-    pub end: usize,
-    /// Whether the text doesn't hold the region as it was given, so that this is what comes closest.
-    pub clamped: bool,
-}
-
-/// A byte of a text, and whether it is the one that was asked for.
-#[derive(Clone, Copy)]
-pub struct Place {
-    pub byte: usize,
-    pub exact: bool,
-}
+use snippet_places::lines::{first_line, line_length};
+use snippet_places::{Place, SpanAt, between};
 
 /// Where on a line a place is.
 #[derive(Clone, Copy)]
@@ -45,7 +29,7 @@ pub struct Lookup<'a> {
 }
 
 /// Where in a text a region lies.
-pub fn locate(lookup: Lookup<'_>, region: Region) -> Located
+pub fn locate(lookup: Lookup<'_>, region: Region) -> SpanAt
     ensures located { IsLocated lookup.entry.text.now
         (spec.start_place lookup.entry.text.now lookup.entry.starts.now lookup.entry.first_line region)
         (spec.end_place lookup.entry.text.now lookup.entry.starts.now lookup.entry.first_line region) result }
@@ -223,31 +207,4 @@ fn units_at(byte: u8, unit: Unit) -> usize
         Unit::Utf16 if byte >= 240 => 2,
         _ => 1,
     }
-}
-
-/// The part of a text between two places: from a border of characters to another, not before it.
-fn between(text: &str, start: Place, end: Place) -> Located
-    ensures located { IsLocated text.now start end result }
-{
-    let from = border_before(text, start.byte);
-    let to = border_before(text, end.byte).max(from);
-    let exact = start.exact && end.exact && from == start.byte && to == end.byte;
-    Located {
-        start: from,
-        end: to,
-        clamped: !exact,
-    }
-}
-
-/// The last border of characters at this byte or before it.
-fn border_before(text: &str, byte: usize) -> usize
-    ensures border { IsCharBoundary text.now result }
-    ensures before { result ≤ byte }
-    ensures none { (k : ℕ) → result < k → k ≤ byte → k ≤ length text.now → IsCharBoundary text.now k → ⊥ }
-{
-    let mut at = byte.min(text.len());
-    while !text.is_char_boundary(at) {
-        at -= 1;
-    }
-    at
 }

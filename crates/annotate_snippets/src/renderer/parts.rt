@@ -5,6 +5,7 @@ pub use snippet_parts::{
     AnnotatedLineInfo, CursorLines, EndLine, LineAnnotation, LineAnnotationType, LineInfo, Loc,
     Margin, SourceMap, SpanFault, check_span, newline_count,
 };
+pub use snippet_places::{ColumnUnit, Position, SpanAt, span_at};
 pub use snippet_splice::{
     LineRange, SplicedLines, SubstitutionHighlight, TrimmedPatch, as_substr, check_patches,
 };

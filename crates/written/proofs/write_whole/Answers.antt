@@ -1,7 +1,7 @@
 use Rattle.std.proofs.Common.{◌++◌, length, sym, take}
 use Rattle.std.proofs.KnownBytes.{Keeps-refl}
-use Rattle.program.proofs.Writing.{added_twice, anyway, moves_front, part_of, some_left}
-use Rattle.program.proofs.line.write_whole.Goals as goal
+use Rattle.written.proofs.Parts.{added_twice, anyway, moves_front, part_of, some_left}
+use Rattle.written.proofs.write_whole.Goals as goal
 
 pub loop-preserved : goal.loop-preserved
 loop-preserved g c =

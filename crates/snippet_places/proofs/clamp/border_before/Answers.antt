@@ -1,6 +1,6 @@
 use Rattle.std.proofs.Common.{◌≤◌, arith}
-use Rattle.redraw_report.proofs.Walk.{no-border}
-use Rattle.redraw_report.proofs.locate.border_before.Goals as goal
+use Rattle.snippet_places.proofs.Walk.{no-border}
+use Rattle.snippet_places.proofs.clamp.border_before.Goals as goal
 
 pub overflow_sub-at : goal.overflow_sub-at
 overflow_sub-at c = no-border c.args.text.now c.loop-at.at c.is_char_boundary.result c.utf8.text c.is_char_boundary.ensures.test.1 c.loop-at-test.true

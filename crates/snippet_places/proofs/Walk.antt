@@ -5,7 +5,7 @@ use Rattle.std.specs.Bool.{IsTrue}
 use Rattle.std.specs.Str.{IsCharBoundary, IsUtf8}
 use Rattle.std.proofs.lemmas.Bool.{cases_lt, false≢true}
 use Rattle.std.proofs.lemmas.Str.{IsCharBoundary-start}
-use Rattle.redraw_report.specs.Region.{ends_line, line_length}
+use Rattle.snippet_places.specs.TextLines.{ends_line, line_length}
 
 -- where the line doesn't end, it is one byte longer than what comes after this byte
 pub line-next : (bytes : List ℕ) (at : ℕ) → at < length bytes → ends_line (drop at bytes) ≡ false

@@ -1,6 +1,6 @@
 //! Where the lines of a text start, and where they end.
 ghost use Rattle.std.specs.Prelude.{◌≡◌, ◌-◌, ◌^◌, ◌<◌, ◌≤◌, ◌++◌, IfOk, OnOk, length};
-ghost use Rattle.redraw_report.specs.Region as spec;
+ghost use Rattle.snippet_places.specs.TextLines as spec;
 
 use std::alloc::{AllocError, Global};
 

@@ -1,6 +1,6 @@
 use Rattle.std.proofs.Common.{◌≡◌, ◌++◌, drop}
-use Rattle.redraw_report.specs.Region.{line_starts, starts_after}
-use Rattle.redraw_report.proofs.lines.line_starts.Given as goal
+use Rattle.snippet_places.specs.TextLines.{line_starts, starts_after}
+use Rattle.snippet_places.proofs.lines.line_starts.Given as goal
 
 -- the starts so far, and those after the bytes that are left, are all
 abbrev pub invariant-loop-at : goal.invariant-loop-at

@@ -1,6 +1,6 @@
 use Rattle.std.proofs.Common.{ℕ, ◌<◌, ◌≤◌, length}
 use Rattle.std.specs.Str.{IsCharBoundary}
-use Rattle.redraw_report.proofs.locate.border_before.Given as goal
+use Rattle.snippet_places.proofs.clamp.border_before.Given as goal
 
 -- no border lies between here and the byte
 abbrev pub invariant-loop-at : goal.invariant-loop-at

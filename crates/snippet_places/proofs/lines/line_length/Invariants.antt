@@ -1,6 +1,6 @@
 use Rattle.std.proofs.Common.{◌≡◌, ◌+◌, drop}
-use Rattle.redraw_report.specs.Region.{line_length}
-use Rattle.redraw_report.proofs.lines.line_length.Given as goal
+use Rattle.snippet_places.specs.TextLines.{line_length}
+use Rattle.snippet_places.proofs.lines.line_length.Given as goal
 
 -- the line goes on up to here
 abbrev pub invariant-loop-at : goal.invariant-loop-at

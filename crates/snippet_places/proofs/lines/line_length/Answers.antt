@@ -1,8 +1,8 @@
 use Rattle.std.proofs.Common.{arith, ◌≡◌, suc, ◌+◌, drop, false, sym, ap, ◌∙◌}
 use Rattle.std.proofs.lemmas.List.{take_rest}
-use Rattle.redraw_report.specs.Region.{ends_line, line_length}
-use Rattle.redraw_report.proofs.Walk.{line-next}
-use Rattle.redraw_report.proofs.lines.line_length.Goals as goal
+use Rattle.snippet_places.specs.TextLines.{ends_line, line_length}
+use Rattle.snippet_places.proofs.Walk.{line-next}
+use Rattle.snippet_places.proofs.lines.line_length.Goals as goal
 
 pub loop-at-preserved : goal.loop-at-preserved
 loop-at-preserved c =

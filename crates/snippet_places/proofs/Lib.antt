@@ -1,0 +1,3 @@
+pub mod LineLemmas
+pub mod UnitLemmas
+pub mod Walk

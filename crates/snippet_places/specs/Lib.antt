@@ -1,0 +1,3 @@
+-- The vocabulary of places by line and column.
+pub mod Places
+pub mod TextLines
