@@ -1,18 +1,25 @@
-//! Four programs in small that report through `annotate_snippets`, one a module, each to be copied: a compiler, a reader of
-//! configurations, a test tool, and a service that draws what strangers send. A linter is `tidy`.
+//! Programs in small that report through `annotate_snippets`, one a module, each to be copied: a compiler, a reader of
+//! configurations, a test tool, a service that draws what strangers send, a linter of JSON, a printer of failed tests in
+//! colour; and reports after the examples of annotate-snippets. A linter that is more than small is `tidy`.
 //!
 //! `main` gives each of them something to report, and prints what it answers.
 #![tactic(auto)]
 
 mod compiler;
 mod config;
+mod failed_tests;
+mod json_linter;
+mod originals;
+mod price;
 mod service;
 mod test_tool;
 
 use annotate_snippets::Renderer;
 use annotate_snippets::renderer::RenderError;
+use failed_tests::{Failure, Part};
+use json_linter::Finding;
 use service::Request;
-use std::io;
+use std::io::{self, Write};
 
 /// Prints a report's text, or why there is none.
 fn print_text(rt: &impl Print, text: Result<String, RenderError>) -> io::Result<()> {
@@ -74,18 +81,69 @@ fn answer_requests(rt: &(impl Print + AllocGlobal)) -> io::Result<()> {
     Ok(())
 }
 
-/// Runs all of them.
-fn run(rt: &(impl Print + AllocGlobal)) -> io::Result<()> {
+/// Lints two files, of which one has nothing wrong.
+fn lint_json(rt: &(impl Print + AllocGlobal)) -> io::Result<()> {
+    let right = "[\"a,]\"]\n";
+    let wrong = "{\n  \"host\": \"example.org\",\n  \"ports\": [80, 443,],\n}\n";
+    for (path, text) in [("right.json", right), ("wrong.json", wrong)] {
+        match json_linter::lint(rt.alloc(), path, text) {
+            Ok(Finding::Clean) => println!(rt; "{path}: nothing to say")?,
+            Ok(Finding::Wrong(report)) => println!(rt; "{report}")?,
+            Ok(Finding::TooLong) => println!(rt; "{path}: too long")?,
+            Err(refusal) => println!(rt; "{path}: no report: {refusal}")?,
+        }
+    }
+    Ok(())
+}
+
+/// A test that failed.
+const FAILURE: Failure<'static> = Failure {
+    name: "sums::of_nothing",
+    assertion: Part {
+        path: "tests/sums.rs",
+        text: "assert_eq!(mean(&[]), None);\n",
+        start: 22,
+        end: 26,
+        label: "found `Some(0)`",
+    },
+    cause: Part {
+        path: "src/lib.rs",
+        text: "Some(sum / xs.len().max(1))\n",
+        start: 11,
+        end: 26,
+        label: "never 0",
+    },
+};
+
+/// Draws the four examples of annotate-snippets.
+fn draw_originals(rt: &(impl Print + AllocGlobal)) -> io::Result<()> {
+    print_text(rt, originals::expected_type(rt.alloc()))?;
+    print_text(rt, originals::footer(rt.alloc()))?;
+    print_text(rt, originals::format(rt.alloc()))?;
+    print_text(rt, originals::multislice(rt.alloc()))
+}
+
+/// Runs all of them. The writer is that of standard output too.
+fn run<W: Write>(rt: &(impl Print + AllocGlobal), out: &mut W) -> io::Result<()> {
     println!(rt; "== a compiler")?;
     print_text(rt, compiler::mismatched_types(rt.alloc()))?;
+    print_text(rt, price::mismatched_price(rt.alloc()))?;
     println!(rt; "== a reader of configurations")?;
     read_configurations(rt)?;
     println!(rt; "== a test tool")?;
     fail_a_test(rt)?;
     println!(rt; "== a service")?;
-    answer_requests(rt)
+    answer_requests(rt)?;
+    println!(rt; "== a linter of JSON")?;
+    lint_json(rt)?;
+    println!(rt; "== a printer of failed tests")?;
+    if let Err(why) = failed_tests::print(rt.alloc(), &[FAILURE], out) {
+        println!(rt; "no report: {why}")?;
+    }
+    println!(rt; "== the examples of annotate-snippets")?;
+    draw_originals(rt)
 }
 
 fn main(rt: HostRuntime) -> io::Result<()> {
-    run(&rt)
+    run(&rt, &mut rt.stdout())
 }

@@ -12,6 +12,7 @@ use Rattle.annotate_snippets.specs.declared.snippet.Snippet.{Snippet}
 use Rattle.annotate_snippets.specs.declared.snippet.Title.{Title}
 use Rattle.annotate_snippets.specs.Levels.{error_level}
 use Rattle.annotate_snippets.specs.Fault.{first_refusal}
+use Rattle.annotate_snippets.specs.FormLaws.{HasLaws}
 use Rattle.annotate_snippets.specs.Forms.{ShowsReport}
 use Rattle.report_options.specs.Settings.{settings_of}
 use Rattle.snip_run.specs.declared.words.Command.{Command}
@@ -53,12 +54,14 @@ pub record IsReportFor (command : Command) (source : List ℕ) (groups : List Gr
   pub elements : group.elements.items ≡ Cause snippet ∷ []
   pub kind : group.level ≡ error_level.kind
 
--- the text shows the command's report over the source, in the settings that its options ask for; it isn't refused in these
+-- the text shows the command's report over the source, in the settings that its options ask for, and has its laws; it isn't refused in
+-- these
 pub record ShowsCommand (command : Command) (source text : List ℕ) : Type 0 where
   pub groups : List Group
   pub report : IsReportFor command source groups
   pub allowed : first_refusal (settings_of command.options) groups ≡ None
   pub shows : ShowsReport (settings_of command.options) groups (settings_of command.options).stylesheet text
+  pub laws : HasLaws (settings_of command.options) groups (settings_of command.options).stylesheet text
 
 -- the command's report over the source is refused, in these settings, and this is the first reason
 pub record RefusesCommand (command : Command) (source : List ℕ) (refusal : RenderError) : Type 0 where

@@ -1,4 +1,4 @@
-//! Reports that are refused by name: that is answered with no memory at all.
+//! Reports that are refused by name, and reports under no sheets: these are answered with no memory at all.
 ghost use Rattle.std.specs.Prelude.{All, IfOk};
 ghost use Rattle.annotate_snippets.specs.Fits.{GroupFits, ReportFits};
 
@@ -58,13 +58,35 @@ fn print_each(rt: &(impl Print + AllocGlobal), groups: &[Group<'_>]) -> io::Resu
     Ok(())
 }
 
-/// Builds the reports, prints the first line, and then what each report is refused for.
+/// Builds the reports, prints the first line, what each report is refused for, and what two give under no sheets.
 pub fn print(rt: &(impl Print + AllocGlobal)) -> io::Result<()> {
     let groups = refused_groups(rt.alloc())?;
+    let labelled = built(rt.alloc(), Subject::Labelled)?;
+    let reversed = built(rt.alloc(), Subject::Reversed)?;
     println!(rt; "what is needed from here on, up to where memory is taken, is built")?;
     print_each(rt, &groups)?;
     print_none(rt)?;
-    print_untitled(rt, Group::with_level(rt.alloc(), ERROR))
+    print_untitled(rt, Group::with_level(rt.alloc(), ERROR))?;
+    print_unprinted(rt, "a span with a label, under no sheets", labelled)?;
+    print_unprinted(rt, "a reversed span, under no sheets", reversed)
+}
+
+/// Prints how many texts a report of a group has under no sheets, or what it is refused for.
+fn print_unprinted(
+    rt: &(impl Print + AllocGlobal),
+    subject: &str,
+    group: Group<'static>,
+) -> io::Result<()>
+    requires fits { GroupFits group }
+{
+    let groups = [group];
+    match Renderer::plain().render_sheets(rt.alloc(), &groups, &[]) {
+        Ok(texts) => {
+            let count = texts.len();
+            println!(rt; "{subject}: {count} texts")
+        }
+        Err(refusal) => println!(rt; "{subject}: {refusal}"),
+    }
 }
 
 /// Prints what a report without a group is refused for in the short form.

@@ -1,16 +1,19 @@
 -- The texts of a run: one for each sheet, if any, and what is written of them is what shows the findings.
 use Rattle.std.proofs.Common.{◌≡◌, ◌≢◌, ℕ, Vec, refl, List, [], ◌∷◌, Option, None, Some, IfSome, IsSomeAnd, String, Global, inl, inr, ◌⊎◌, length, map, ap}
 use Rattle.std.proofs.Common.{string_bytes, sym, ◌∙◌}
+use Rattle.std.specs.List.{AllZip}
 use Rattle.std.specs.Prelude.{IfOk}
 use Rattle.std.specs.declared.alloc.AllocError.{AllocError}
 use Rattle.std.specs.declared.result.Result.{Result}
 use Rattle.std.proofs.lemmas.Result.{IfOk-weaker}
 use Rattle.std.proofs.lemmas.List.{length-map, nil_from_length}
 use Rattle.std.proofs.lemmas.Slice.Zip.{AllZip-long}
+use Rattle.annotate_snippets.specs.FormLaws.{HasLaws}
 use Rattle.annotate_snippets.specs.Forms.{TextsShown}
 use Rattle.annotate_snippets.specs.Settings.{plain_settings}
 use Rattle.annotate_snippets.specs.declared.renderer.style.Stylesheet.{Stylesheet}
 use Rattle.annotate_snippets.specs.declared.snippet.Group.{Group}
+use Rattle.annotate_snippets.proofs.ReportLemmas.{IfOk-both}
 use Rattle.tidy_run.specs.Report.{IsReportOf, Told}
 use Rattle.tidy_run.specs.Run.{AreTextsOf, ShowsTold}
 
@@ -30,16 +33,23 @@ counted_texts P (Some source) path told sheets texts read shows =
       | inr many ↦ inr (sym (length-map texts string_bytes) ∙ many)
     ]
 
+-- what is drawn of some groups shows these, and has their laws
+abbrev AreDrawn : List Group → List Stylesheet → Vec (String Global) Global → Type 0
+AreDrawn groups sheets texts =
+    TextsShown plain_settings groups sheets (map string_bytes texts.items) × AllZip (HasLaws plain_settings groups) sheets (map string_bytes texts.items)
+
 -- the texts of a report that tells all of it are what is written of that
 pub texts_of_told : (path source : List ℕ) (told : List Told) (groups : List Group) (sheets : List Stylesheet) (drawn : Result (Vec (String Global) Global) AllocError)
     → IsReportOf path source told groups → (groups ≡ [] → IfOk drawn (λ texts. texts.items ≡ []))
     → (groups ≢ [] → IfOk drawn (λ texts. TextsShown plain_settings groups sheets (map string_bytes texts.items)))
+    → (groups ≢ [] → IfOk drawn (λ texts. AllZip (HasLaws plain_settings groups) sheets (map string_bytes texts.items)))
     → IfOk drawn (λ texts. AreTextsOf path source told sheets (map string_bytes texts.items))
-texts_of_told path source [] [] sheets drawn report none shows =
+texts_of_told path source [] [] sheets drawn report none shows laws =
     IfOk-weaker drawn (λ texts. texts.items ≡ []) (λ texts. map string_bytes texts.items ≡ []) (λ texts empty. ap (map string_bytes) empty) (none refl)
-texts_of_told path source [] (g ∷ groups) sheets drawn report none shows = absurd report
-texts_of_told path source (t ∷ told) [] sheets drawn report none shows = absurd report
-texts_of_told path source (t ∷ told) (g ∷ groups) sheets drawn report none shows =
-    IfOk-weaker drawn (λ texts. TextsShown plain_settings (g ∷ groups) sheets (map string_bytes texts.items))
-    (λ texts. ShowsTold path source (t ∷ told) sheets (map string_bytes texts.items))
-    (λ texts shown. record { groups = g ∷ groups; report = report; shows = shown }) (shows (λ empty. cc))
+texts_of_told path source [] (g ∷ groups) sheets drawn report none shows laws = absurd report
+texts_of_told path source (t ∷ told) [] sheets drawn report none shows laws = absurd report
+texts_of_told path source (t ∷ told) (g ∷ groups) sheets drawn report none shows laws =
+    IfOk-weaker drawn (AreDrawn (g ∷ groups) sheets) (λ texts. ShowsTold path source (t ∷ told) sheets (map string_bytes texts.items))
+    (λ texts shown. record { groups = g ∷ groups; report = report; shows = shown.0; laws = shown.1 })
+    (IfOk-both (λ texts. TextsShown plain_settings (g ∷ groups) sheets (map string_bytes texts.items))
+    (λ texts. AllZip (HasLaws plain_settings (g ∷ groups)) sheets (map string_bytes texts.items)) drawn (shows (λ empty. cc)) (laws (λ empty. cc)))

@@ -1,10 +1,12 @@
 -- How a run ends, and what it writes.
 use Rattle.std.specs.Prelude.{◌≡◌, ◌≢◌, ℕ, List, [], ◌∷◌, ◌++◌, Option, Some, None, MatchOption, chars, codes, encode_utf8_all}
+use Rattle.std.specs.List.{AllZip}
 use Rattle.std.specs.Option.{option_to_list}
 use Rattle.std.specs.Str.{IsUtf8}
 use Rattle.annotate_snippets.specs.declared.renderer.style.Stylesheet.{Stylesheet}
 use Rattle.annotate_snippets.specs.declared.snippet.Group.{Group}
 use Rattle.annotate_snippets.specs.Fits.{TextFits}
+use Rattle.annotate_snippets.specs.FormLaws.{HasLaws}
 use Rattle.annotate_snippets.specs.Forms.{TextsShown}
 use Rattle.annotate_snippets.specs.Settings.{plain_settings, styled_settings}
 use Rattle.annotate_snippets.specs.Normalized.{norm}
@@ -25,11 +27,12 @@ abbrev pub sheets_for : Option Word → List Stylesheet
 sheets_for None = plain_settings.stylesheet ∷ []
 sheets_for (Some log) = styled_settings.stylesheet ∷ plain_settings.stylesheet ∷ []
 
--- the texts show, one under each of these sheets, a report that tells this of a file
+-- the texts show, one under each of these sheets, a report that tells this of a file, and have its laws
 pub record ShowsTold (path source : List ℕ) (told : List Told) (sheets : List Stylesheet) (texts : List (List ℕ)) : Type 0 where
   pub groups : List Group
   pub report : IsReportOf path source told groups
   pub shows : TextsShown plain_settings groups sheets texts
+  pub laws : AllZip (HasLaws plain_settings groups) sheets texts
 
 -- the texts that are written where this is told of a file: none where nothing is, else those that show it
 abbrev pub AreTextsOf : List ℕ → List ℕ → List Told → List Stylesheet → List (List ℕ) → Type 0

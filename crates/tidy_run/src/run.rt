@@ -1,10 +1,11 @@
 //! A run of the program, over the bytes of a file and three writers.
 ghost use Rattle.std.specs.Prelude.{◌≡◌, ◌≢◌, ◌≤◌, ◌⊎◌, [], ◌++◌, None, IsOk, IsNone, IfErr, IfOk, IfSome, IsSomeAnd};
 ghost use Rattle.std.specs.Prelude.{MatchOption, SomeIff, codes, length, map, string_bytes};
-ghost use Rattle.std.specs.List.{flat_map};
+ghost use Rattle.std.specs.List.{AllZip, flat_map};
 ghost use Rattle.std.specs.Option.{option_copied};
 ghost use Rattle.annotate_snippets.specs.Fault.{IsWithinBounds};
 ghost use Rattle.annotate_snippets.specs.Fits.{TextFits};
+ghost use Rattle.annotate_snippets.specs.FormLaws.{HasLaws};
 ghost use Rattle.annotate_snippets.specs.Forms.{TextsShown};
 ghost use Rattle.annotate_snippets.specs.Settings.{plain_settings};
 ghost use Rattle.program.specs.Stream.{Receives, Told};
@@ -70,6 +71,8 @@ fn drawn(
     ensures none { groups.now.items ≡ [] → IfOk result (λ texts. texts.items ≡ []) }
     ensures shows { groups.now.items ≢ [] → IfOk result (λ texts.
         TextsShown plain_settings groups.now.items sheets.now (map string_bytes texts.items)) }
+    ensures laws { groups.now.items ≢ [] → IfOk result (λ texts.
+        AllZip (HasLaws plain_settings groups.now.items) sheets.now (map string_bytes texts.items)) }
 {
     if groups.is_empty() {
         return Ok(Vec::new(alloc));

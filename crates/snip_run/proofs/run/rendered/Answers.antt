@@ -3,9 +3,10 @@ use Rattle.std.proofs.lemmas.Result.{IfOk-weaker}
 use Rattle.annotate_snippets.specs.declared.renderer.Renderer.{Renderer}
 use Rattle.annotate_snippets.specs.declared.renderer.RenderError.TheVariants.{Memory}
 use Rattle.annotate_snippets.specs.declared.snippet.Group.{Group}
-use Rattle.annotate_snippets.proofs.ReportLemmas.{IfOk-map_err}
+use Rattle.annotate_snippets.proofs.ReportLemmas.{IfOk-both, IfOk-map_err}
 use Rattle.annotate_snippets.specs.Fault.{first_refusal}
 use Rattle.annotate_snippets.specs.Fits.{ReportFits}
+use Rattle.annotate_snippets.specs.FormLaws.{HasLaws}
 use Rattle.annotate_snippets.specs.Forms.{ShowsReport}
 use Rattle.snip_run.specs.declared.words.Command.{Command}
 use Rattle.snip_run.specs.Report.{IsReportFor, RefusesCommand, ShowsCommand}
@@ -22,17 +23,21 @@ returns c =
     let fits = given (λ g. ReportFits (g ∷ [])) c.report_of.ensures.fits in
     let made : Renderer = c.renderer_of.result in
     let settings = c.renderer_of.ensures.settings in
+    let Shows : List ℕ → Type 0 = ShowsReport made (group ∷ []) made.stylesheet in
+    let Laws : List ℕ → Type 0 = HasLaws made (group ∷ []) made.stylesheet in
     record {
       shows = IfOk-weaker c.render.result
-          (λ text. (first_refusal made (group ∷ []) ≡ None) × ShowsReport made (group ∷ []) made.stylesheet (string_bytes text))
+          (λ text. (first_refusal made (group ∷ []) ≡ None) × (Shows (string_bytes text) × Laws (string_bytes text)))
           (λ text. ShowsCommand command source (string_bytes text))
           (λ text shown. record {
             groups = group ∷ [];
             report = report;
             allowed = subst (λ (r : Renderer). first_refusal r (group ∷ []) ≡ None) settings shown.0;
             shows =
-                subst (λ (r : Renderer). ShowsReport r (group ∷ []) r.stylesheet (string_bytes text)) settings shown.1;
-          }) (allowed_and _ (first_refusal made (group ∷ [])) c.render.result c.render.ensures.refused c.render.ensures.shows);
+                subst (λ (r : Renderer). ShowsReport r (group ∷ []) r.stylesheet (string_bytes text)) settings shown.1.0;
+            laws = subst (λ (r : Renderer). HasLaws r (group ∷ []) r.stylesheet (string_bytes text)) settings shown.1.1;
+          }) (allowed_and _ (first_refusal made (group ∷ [])) c.render.result c.render.ensures.refused
+          (IfOk-both (λ text. Shows (string_bytes text)) (λ text. Laws (string_bytes text)) c.render.result c.render.ensures.shows c.render.ensures.laws));
       refused = refused_or_want (RefusesCommand command source) (first_refusal made (group ∷ [])) c.render.result (Memory alloc_error)
           c.render.ensures.refused
           (λ none. c.render.ensures.renders record { faultless = none; fits = fits })

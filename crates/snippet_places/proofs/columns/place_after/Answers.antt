@@ -1,6 +1,6 @@
-use Rattle.std.proofs.Common.{◌≡◌, ◌∙◌, [], ◌+◌, ap, arith, chars, length, length-append, subst, sym}
+use Rattle.std.proofs.Common.{◌≡◌, ◌∙◌, ◌<◌, [], ◌+◌, ap, arith, chars, length, length-append, subst, sym}
 use Rattle.std.proofs.lemmas.Str.{IsUtf8-past_char, chars_past_char, length-encode}
-use Rattle.snippet_places.specs.Places.{place_from}
+use Rattle.snippet_places.specs.Places.{place_from, units_of}
 use Rattle.snippet_places.proofs.UnitLemmas.{place_from-here, place_from-next, place_from-end}
 use Rattle.snippet_places.proofs.columns.place_after.Goals as goal
 
@@ -8,7 +8,7 @@ pub returns-then-left-count-clause-value : goal.returns-then-left-count-clause-v
 returns-then-left-count-clause-value c =
     let step = rw c.in-Some.is at c.next.ensures.steps in
     let cons = chars_past_char _ _ c.in-Some.c c.loop-c.invariant.utf8 step.0 in
-    let few = omega (arith, c.if-left-count.true, c.units_of-count.ensures.value) in
+    let few : c.loop-c.left < units_of c.args.unit c.in-Some.c = omega (arith, c.if-left-count.true, c.units_of-count.ensures.value) in
     sym (place_from-here c.args.unit c.loop-c.at c.loop-c.left c.in-Some.c _ _ cons few) ∙ c.loop-c.invariant.place
 
 pub loop-c-preserved : goal.loop-c-preserved
