@@ -1,6 +1,7 @@
 -- What is drawn of a finding, and what is written of it.
 use Rattle.std.specs.Prelude.{◌≡◌, ◌⊎◌, ℕ, ◌||◌, Bool, List, [], ◌∷◌, ◌++◌, Option, map, string_bytes, if◌then◌else◌}
 use Rattle.std.specs.Io.KnownBytes.{Appends}
+use Rattle.annotate_snippets.specs.FormLaws.{HasLaws}
 use Rattle.annotate_snippets.specs.Forms.{ShowsReport}
 use Rattle.annotate_snippets.specs.declared.renderer.Renderer.{Renderer}
 use Rattle.annotate_snippets.specs.declared.snippet.Group.{Group}
@@ -19,13 +20,14 @@ use Rattle.redraw_report.specs.declared.diagnostic.Severity.TheVariants.{Error, 
 use Rattle.redraw_report.specs.declared.finding.Finding.{Finding}
 
 -- the text shows, in the renderer's settings and under its sheet, the report of the finding that the diagnostic reports, its places
--- looked for in these files
+-- looked for in these files; and it has the laws of that report's text
 pub record ShowsFinding (r : Renderer) (files : List File) (d : Diagnostic) (text : List ℕ) : Type 0 where
   pub finding : Finding
   pub is : IsFindingOf record { files = files; home = home_of d.homes.items; is_short = r.short_message } d finding
   pub groups : List Group
   pub told : map section_view groups ≡ report_of finding
   pub shows : ShowsReport r groups r.stylesheet text
+  pub laws : HasLaws r groups r.stylesheet text
 
 -- what stands after a report: an empty line, but nothing in the short form, and nothing after a text without a level
 abbrev pub ending_after : Bool → Severity → List ℕ

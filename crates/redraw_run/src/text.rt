@@ -1,5 +1,6 @@
 //! The text that is drawn of a diagnostic.
 ghost use Rattle.std.specs.Prelude.{IfOk, string_bytes};
+ghost use Rattle.annotate_snippets.specs.FormLaws.{HasLaws};
 ghost use Rattle.annotate_snippets.specs.Forms.{ShowsReport};
 ghost use Rattle.redraw_run.specs.Drawn.{ShowsFinding};
 
@@ -51,6 +52,8 @@ fn render_fitting(
 ) -> Result<String, RenderError>
     ensures shows { IfOk result (λ text.
         ShowsReport renderer.now groups.now.items renderer.now.stylesheet (string_bytes text)) }
+    ensures laws { IfOk result (λ text.
+        HasLaws renderer.now groups.now.items renderer.now.stylesheet (string_bytes text)) }
 {
     if report_fits(groups) {
         renderer.render(alloc, groups)

@@ -3,7 +3,7 @@ use Rattle.std.specs.Prelude.{◌≡◌, ℕ, List, Some, codes, map, string_byt
 use Rattle.serde_json.specs.Data.{Data}
 use Rattle.serde_json.specs.Read.{read}
 use Rattle.annotate_snippets.specs.Fault.{first_refusal}
-use Rattle.annotate_snippets.specs.Forms.{TextsShown}
+use Rattle.annotate_snippets.specs.FormLaws.{TextsWithLaws}
 use Rattle.annotate_snippets.specs.declared.renderer.RenderError.{RenderError}
 use Rattle.annotate_snippets.specs.declared.renderer.RenderError.TheVariants.{NoGroup, NoTitle, SpanReversed, SpanPastEnd, SpanOffBoundary, PatchesOverlap}
 use Rattle.annotate_snippets.specs.declared.renderer.RenderError.TheVariants.{LineNumberTooLarge, Memory}
@@ -23,11 +23,11 @@ refusal_name (PatchesOverlap group element first second) = codes "PatchesOverlap
 refusal_name (LineNumberTooLarge group element) = codes "LineNumberTooLarge"
 refusal_name (Memory refused) = codes "Memory"
 
--- a case becomes texts that show its report, in its settings and one under each of its sheets, or the first refusal of that report,
--- by its name
+-- a case becomes texts that show its report, in its settings and one under each of its sheets, each with its laws, or the first refusal
+-- of that report, by its name
 abbrev pub IsOutcomeOf : Case → Outcome → Type 0
 IsOutcomeOf case (Texts texts) =
-    TextsShown case.renderer case.groups.items case.sheets.items (map string_bytes texts.items)
+    TextsWithLaws case.renderer case.groups.items case.sheets.items (map string_bytes texts.items)
 IsOutcomeOf case (Refused name words span) =
     (refusal : RenderError) × (first_refusal case.renderer case.groups.items ≡ Some refusal) × (name.now ≡ refusal_name refusal)
 

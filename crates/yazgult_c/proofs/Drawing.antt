@@ -1,9 +1,11 @@
 -- What becomes of a report is what `render_sheets` gives.
 use Rattle.std.proofs.Common.{◌≡◌, ℕ, List, Option, Some, None, Result, Ok, Err, String, Vec, Global, map, string_bytes, refl, sym, ap, subst, ◌∙◌}
+use Rattle.std.specs.List.{AllZip}
 use Rattle.std.specs.Prelude.{IfSome, IfOk, IsOkUnless, alloc_error}
 use Rattle.annotate_snippets.specs.declared.snippet.Group.{Group}
 use Rattle.snippet_style.specs.declared.stylesheet.Stylesheet.{Stylesheet}
 use Rattle.annotate_snippets.specs.Fault.{IsWithinBounds, first_refusal}
+use Rattle.annotate_snippets.specs.FormLaws.{HasLaws, TextsWithLaws}
 use Rattle.annotate_snippets.specs.Forms.{TextsShown}
 use Rattle.annotate_snippets.specs.Fits.{ReportFits}
 use Rattle.annotate_snippets.specs.declared.renderer.Renderer.{Renderer}
@@ -48,23 +50,25 @@ named made groups r e m g fits other refused renders =
 pub drawn_is : (made : Renderer) (groups : List Group) (sheets : List Stylesheet) (r : Request) (result : Result (Vec (String Global) Global) RenderError)
     → made ≡ renderer_of r.settings → groups ≡ r.groups.items → sheets ≡ r.sheets.items → ReportFits r.groups.items
     → IfSome (first_refusal made groups) (λ x. result ≡ Err x) → (IsWithinBounds made groups → IsOkUnless result (refusal.Memory alloc_error))
-    → IfOk result (λ texts. TextsShown made groups sheets (map string_bytes texts.items)) → IsDrawn r (answer_of result)
-drawn_is made groups sheets r (Ok texts) m g h fits refused renders shows =
-    let a = subst (λ k. TextsShown k groups sheets (map string_bytes texts.items)) m shows in
-    let b = subst (λ k. TextsShown (renderer_of r.settings) k sheets (map string_bytes texts.items)) g a in
-    subst (λ k. TextsShown (renderer_of r.settings) r.groups.items k (map string_bytes texts.items)) h b
-drawn_is made groups sheets r (Err (refusal.Memory e)) m g h fits refused renders shows = tt
-drawn_is made groups sheets r (Err refusal.NoGroup) m g h fits refused renders shows =
+    → IfOk result (λ texts. TextsShown made groups sheets (map string_bytes texts.items))
+    → IfOk result (λ texts. AllZip (HasLaws made groups) sheets (map string_bytes texts.items)) → IsDrawn r (answer_of result)
+drawn_is made groups sheets r (Ok texts) m g h fits refused renders shows laws =
+    let given : TextsWithLaws made groups sheets (map string_bytes texts.items) = record { shows = shows; laws = laws } in
+    let a = subst (λ k. TextsWithLaws k groups sheets (map string_bytes texts.items)) m given in
+    let b = subst (λ k. TextsWithLaws (renderer_of r.settings) k sheets (map string_bytes texts.items)) g a in
+    subst (λ k. TextsWithLaws (renderer_of r.settings) r.groups.items k (map string_bytes texts.items)) h b
+drawn_is made groups sheets r (Err (refusal.Memory e)) m g h fits refused renders shows laws = tt
+drawn_is made groups sheets r (Err refusal.NoGroup) m g h fits refused renders shows laws =
     named made groups r refusal.NoGroup m g fits (λ same. cc) refused renders
-drawn_is made groups sheets r (Err refusal.NoTitle) m g h fits refused renders shows =
+drawn_is made groups sheets r (Err refusal.NoTitle) m g h fits refused renders shows laws =
     named made groups r refusal.NoTitle m g fits (λ same. cc) refused renders
-drawn_is made groups sheets r (Err (refusal.SpanReversed i j k)) m g h fits refused renders shows =
+drawn_is made groups sheets r (Err (refusal.SpanReversed i j k)) m g h fits refused renders shows laws =
     named made groups r (refusal.SpanReversed i j k) m g fits (λ same. cc) refused renders
-drawn_is made groups sheets r (Err (refusal.SpanPastEnd i j k)) m g h fits refused renders shows =
+drawn_is made groups sheets r (Err (refusal.SpanPastEnd i j k)) m g h fits refused renders shows laws =
     named made groups r (refusal.SpanPastEnd i j k) m g fits (λ same. cc) refused renders
-drawn_is made groups sheets r (Err (refusal.SpanOffBoundary i j k)) m g h fits refused renders shows =
+drawn_is made groups sheets r (Err (refusal.SpanOffBoundary i j k)) m g h fits refused renders shows laws =
     named made groups r (refusal.SpanOffBoundary i j k) m g fits (λ same. cc) refused renders
-drawn_is made groups sheets r (Err (refusal.PatchesOverlap i j k l)) m g h fits refused renders shows =
+drawn_is made groups sheets r (Err (refusal.PatchesOverlap i j k l)) m g h fits refused renders shows laws =
     named made groups r (refusal.PatchesOverlap i j k l) m g fits (λ same. cc) refused renders
-drawn_is made groups sheets r (Err (refusal.LineNumberTooLarge i j)) m g h fits refused renders shows =
+drawn_is made groups sheets r (Err (refusal.LineNumberTooLarge i j)) m g h fits refused renders shows laws =
     named made groups r (refusal.LineNumberTooLarge i j) m g fits (λ same. cc) refused renders

@@ -6,7 +6,7 @@ use Rattle.std.specs.declared.alloc.Global.{Global}
 use Rattle.std.specs.List.{flat_map}
 use Rattle.snippet_style.specs.Stylesheet.{plain_sheet}
 use Rattle.annotate_snippets.specs.Fault.{first_refusal}
-use Rattle.annotate_snippets.specs.Forms.{TextsShown}
+use Rattle.annotate_snippets.specs.FormLaws.{TextsWithLaws}
 use Rattle.annotate_snippets.specs.Refusal.{refusal_text}
 use Rattle.annotate_snippets.specs.declared.renderer.Renderer.{Renderer}
 use Rattle.annotate_snippets.specs.declared.renderer.error.RenderError.{RenderError}
@@ -44,10 +44,10 @@ abbrev pub answer_of : Result (Vec (String Global) Global) RenderError → Answe
 answer_of (Ok texts) = Texts texts
 answer_of (Err refusal) = answer_of_refusal refusal
 
--- what becomes of a report: texts that show it, one under each of its sheets, or the refusal that stands first, or nothing where
--- memory ran out
+-- what becomes of a report: texts that show it, one under each of its sheets, each with its laws, or the refusal that stands first, or
+-- nothing where memory ran out
 abbrev pub IsDrawn : Request → Answer → Type 0
-IsDrawn r (Texts texts) = TextsShown (renderer_of r.settings) r.groups.items r.sheets.items (map string_bytes texts.items)
+IsDrawn r (Texts texts) = TextsWithLaws (renderer_of r.settings) r.groups.items r.sheets.items (map string_bytes texts.items)
 IsDrawn r (Refused refusal) = first_refusal (renderer_of r.settings) r.groups.items ≡ Some refusal
 IsDrawn r (NoReport wrong place) = ⊥
 IsDrawn r Memory = Unit {0}

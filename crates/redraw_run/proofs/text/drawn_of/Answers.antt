@@ -1,21 +1,30 @@
-use Rattle.std.proofs.Common.{string_bytes}
+use Rattle.std.proofs.Common.{ℕ, List, string_bytes}
 use Rattle.std.proofs.lemmas.Result.{IfOk-weaker}
+use Rattle.annotate_snippets.proofs.ReportLemmas.{IfOk-both}
+use Rattle.annotate_snippets.specs.FormLaws.{HasLaws}
 use Rattle.annotate_snippets.specs.Forms.{ShowsReport}
+use Rattle.annotate_snippets.specs.declared.snippet.Group.{Group}
 use Rattle.redraw_run.specs.Drawn.{ShowsFinding}
 use Rattle.redraw_run.proofs.text.drawn_of.Goals as goal
 
 pub returns : goal.returns
 returns g c =
     let r = c.args.renderer.now in
+    let groups : List Group = c.in_ok-groups.groups.items in
+    let Shows : List ℕ → Type 0 = ShowsReport r groups r.stylesheet in
+    let Laws : List ℕ → Type 0 = HasLaws r groups r.stylesheet in
     record {
       shows =
-          IfOk-weaker c.render_fitting.result (λ text. ShowsReport r c.in_ok-groups.groups.items r.stylesheet (string_bytes text))
+          IfOk-weaker c.render_fitting.result (λ text. Shows (string_bytes text) × Laws (string_bytes text))
           (λ text. ShowsFinding r c.args.sources.now.files.items c.args.diagnostic.now (string_bytes text))
           (λ text shown. record {
             finding = c.in_ok-finding.finding;
             is = c.in_ok-finding.ensures.is;
-            groups = c.in_ok-groups.groups.items;
+            groups = groups;
             told = c.in_ok-groups.ensures.told;
-            shows = shown;
-          }) c.render_fitting.ensures.shows;
+            shows = shown.0;
+            laws = shown.1;
+          })
+          (IfOk-both (λ text. Shows (string_bytes text)) (λ text. Laws (string_bytes text)) c.render_fitting.result
+          c.render_fitting.ensures.shows c.render_fitting.ensures.laws);
     }

@@ -12,5 +12,5 @@ returns c =
     let sheets = c.deref-2 in
     let given = c.render_sheets.result in
     let same = drawn_is made.result groups.result.now sheets.result.now r given made.ensures.renderer groups.ensures.value sheets.ensures.value in
-    let is = same c.requires.fits drawn.refused drawn.renders drawn.shows in
+    let is = same c.requires.fits drawn.refused drawn.renders drawn.shows drawn.laws in
     record { drawn = subst (IsDrawn r) (sym c.answered.ensures.answer) is }
