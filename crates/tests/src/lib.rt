@@ -13,6 +13,10 @@ mod replay;
 #[cfg(test)]
 mod report;
 #[cfg(test)]
+mod slow;
+#[cfg(test)]
 mod snip;
 #[cfg(test)]
 mod tidy;
+#[cfg(test)]
+mod written;
