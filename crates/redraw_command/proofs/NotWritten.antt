@@ -1,0 +1,27 @@
+-- What isn't written, counted or ended with: wrong results, each of a small input, contradict the words of a contract.
+use Rattle.std.proofs.Common.{◌≡◌, ◌++◌, ℕ, List, [], ◌∷◌, Some, false, ap, arith, codes, encode_utf8_all, length}
+use Rattle.std.specs.Io.KnownBytes.{Appends}
+use Rattle.redraw_report.specs.declared.diagnostic.Severity.TheVariants.{Warning}
+use Rattle.redraw_command.specs.Tally.{one_more, status_of, tallied}
+use Rattle.redraw_command.specs.Workflow.{escape}
+use Rattle.redraw_command.specs.declared.tally.Tally.{Tally}
+use Rattle.redraw_command.specs.declared.workflow.Part.TheVariants.{Property}
+
+-- a comma that is put as it is into the value of a property, which it ends: what `add_character` adds to an empty line
+pub comma_in_a_property : codes "," ≡ [] ++ encode_utf8_all (escape Property 44) → ⊥
+unfolding lib.Utf8.encode
+comma_in_a_property same = absurd (omega (arith, ap length same))
+
+-- a text that stands twice: `aa` and a line feed where `print` has the text `a`, and no ending
+pub text_printed_twice : Appends (Some []) (Some (97 ∷ 97 ∷ 10 ∷ [])) (codes "a" ++ ([] ++ 10 ∷ [])) → ⊥
+text_printed_twice added = absurd (omega (arith, ap length added))
+
+-- the status 0 of a run that didn't read all of its inputs
+pub unread_input_is_clean : (t : Tally) → 0 ≡ status_of t false → ⊥
+unread_input_is_clean t same = absurd (omega (arith, same))
+
+-- no warning counted, where there was none before a finding that is one
+pub warnings_not_counted : (t new : Tally) → t.warnings ≡ 0 → new ≡ tallied t Warning false → new.warnings ≡ 0 → ⊥
+warnings_not_counted t new none counted still =
+    let made : new.warnings ≡ one_more t.warnings = ap (λ (tally : Tally). tally.warnings) counted in
+    absurd (omega (arith, none, still, made))
