@@ -1,1 +1,2 @@
 pub mod NotWritten
+pub mod Telling

@@ -1,42 +1,54 @@
 //! Messages to the user.
+ghost use Rattle.std.specs.Prelude.{◌≡◌, ℕ, List, IfOk, string_bytes};
+ghost use Rattle.redraw_command.specs.Told as spec;
+ghost use Rattle.redraw_command.specs.Told.{Tells, TellsOfWords};
 
+use program::line::{write_line, write_whole};
 use snippet_text::normalize_untrusted_str;
 use std::alloc::{AllocError, Global};
 use std::fmt;
 use std::io::Write;
 
+/// What is told where there is no memory to tell more.
+const OUT_OF_MEMORY: &str = "redraw: out of memory";
+
 /// Writes a message, with nothing in it that could change how a terminal shows it.
-pub fn tell<D: fmt::Display + Drop, V: Write>(alloc: Global, message: D, err: &mut V) {
+pub fn tell<D: fmt::Display + Drop, V: Write>(alloc: Global, message: D, err: &mut V)
+    ensures told { Tells (V.contents err.old) (V.contents err.new) }
+{
     match shown(alloc, message) {
-        Ok(text) => {
-            let _ = err.writeln(text.as_str());
-        }
-        Err(AllocError) => {
-            let _ = err.writeln("redraw: out of memory");
-        }
-    }
+        Ok(text) => write_line(text.as_str(), err),
+        Err(AllocError) => write_line(OUT_OF_MEMORY, err),
+    };
 }
 
 /// A message as it may be shown.
-fn shown<D: fmt::Display + Drop>(alloc: Global, message: D) -> Result<String, AllocError> {
-    let message = format!(in alloc; "redraw: {message}")?;
-    normalize_untrusted_str(alloc, message.as_str())
+fn shown<D: fmt::Display + Drop>(alloc: Global, message: D) -> Result<String, AllocError>
+    ensures message { IfOk result (λ text. (said : List ℕ) × (string_bytes text ≡ spec.message said)) }
+{
+    let said = format!(in alloc; "{message}")?;
+    let said = normalize_untrusted_str(alloc, said.as_str())?;
+    format!(in alloc; "redraw: {said}")
 }
 
 /// Writes what is wrong with the words, in the same way.
-pub fn tell_error<V: Write>(alloc: Global, error: &clap::Error, err: &mut V) {
+pub fn tell_error<V: Write>(alloc: Global, error: &clap::Error, err: &mut V)
+    ensures told { TellsOfWords (V.contents err.old) (V.contents err.new) }
+{
     match shown_error(alloc, error) {
         Ok(text) => {
-            let _ = err.write_fmt(format_args!("{text}"));
+            let _ = write_whole(text.as_str().as_bytes(), err);
         }
         Err(AllocError) => {
-            let _ = err.writeln("redraw: out of memory");
+            write_line(OUT_OF_MEMORY, err);
         }
     }
 }
 
 /// The same as it may be shown.
-fn shown_error(alloc: Global, error: &clap::Error) -> Result<String, AllocError> {
+fn shown_error(alloc: Global, error: &clap::Error) -> Result<String, AllocError>
+    ensures shown { IfOk result (λ text. (said : List ℕ) × (string_bytes text ≡ spec.shown said)) }
+{
     let message = format!(in alloc; "{error}")?;
     normalize_untrusted_str(alloc, message.as_str())
 }

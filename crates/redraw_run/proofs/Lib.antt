@@ -1,1 +1,3 @@
 pub mod NotDrawn
+pub mod Doing
+pub mod Done

@@ -1,2 +1,4 @@
+pub mod Deeds
 pub mod Drawn
+pub mod Lines
 pub mod Look

@@ -1,16 +1,20 @@
 //! Findings, drawn one after another as they are read.
-ghost use Rattle.std.specs.Prelude.{◌≡◌, ◌++◌, [], ◌∷◌, OnOk, IfOk, IfErr, string_bytes};
+ghost use Rattle.std.specs.Prelude.{◌≡◌, ℕ, List, Option, ◌++◌, [], ◌∷◌, if◌then◌else◌, OnErr, OnOk, IfOk, IfErr};
+ghost use Rattle.std.specs.Prelude.{string_bytes};
 ghost use Rattle.std.specs.Io.KnownBytes.{Appends};
 ghost use Rattle.redraw_command.specs.Tally.{one_more};
-ghost use Rattle.redraw_run.specs.Drawn.{Draws, IsCounted, IsLeftOut, ending_after};
+ghost use Rattle.redraw_command.specs.Told.{Tells};
+ghost use Rattle.redraw_run.specs.Deeds.{Does, Goes, TellsAll, repeated, standing};
+ghost use Rattle.redraw_run.specs.Drawn.{Draws, IsCounted, IsLeftOut, ShowsFinding, ending_after};
+ghost use Rattle.redraw_read.specs.declared.sources.File.{File};
 ghost use Rattle.redraw_command.specs.declared.choice.Form.TheVariants.{Report, Workflow};
 
 use crate::text::drawn_of;
+use crate::write::print;
 use annotate_snippets::Renderer;
 use annotate_snippets::renderer::RenderError;
 use json_node::fault::Fault;
 use redraw_command::choice::{Choice, Form, is_sum};
-use redraw_command::output::print;
 use redraw_command::relative::make_relative;
 use redraw_command::seen::{Names, Seen};
 use redraw_command::stop::Stop;
@@ -67,7 +71,10 @@ impl<S: Shelf + Drop> Drawing<'_, S> {
 
     /// Tells that something is wrong with what is read, which is left out.
     pub fn wrong<D: fmt::Display + Drop, V: Write>(&mut self, what: D, err: &mut V)
-        ensures counted { self.new ≡ record self.old { tally = record self.old.tally { wrong = one_more self.old.tally.wrong } } }
+        ensures counted { self.new
+            ≡ record self.old { tally = record self.old.tally { wrong = one_more self.old.tally.wrong } } }
+        ensures does { (out : Option (List ℕ)) → Does [] (standing self.old out (V.contents err.old))
+            (standing self.new out (V.contents err.new)) }
     {
         self.leave_out();
         self.tell(what, err);
@@ -75,13 +82,17 @@ impl<S: Shelf + Drop> Drawing<'_, S> {
 
     /// Counts a part of the input that is left out, since something is wrong with it.
     pub fn leave_out(&mut self)
-        ensures counted { self.new ≡ record self.old { tally = record self.old.tally { wrong = one_more self.old.tally.wrong } } }
+        ensures counted { self.new
+            ≡ record self.old { tally = record self.old.tally { wrong = one_more self.old.tally.wrong } } }
+        ensures does { (out err : Option (List ℕ)) → Does [] (standing self.old out err) (standing self.new out err) }
     {
         self.tally.wrong = self.tally.wrong.saturating_add(1);
     }
 
     /// Tells something of what is read.
-    pub fn tell<D: fmt::Display + Drop, V: Write>(&self, what: D, err: &mut V) {
+    pub fn tell<D: fmt::Display + Drop, V: Write>(&self, what: D, err: &mut V)
+        ensures told { Tells (V.contents err.old) (V.contents err.new) }
+    {
         let (input, line) = (self.input, self.line);
         if line == 0 {
             tell(self.alloc, format_args!("{input}: {what}"), err);
@@ -91,7 +102,12 @@ impl<S: Shelf + Drop> Drawing<'_, S> {
     }
 
     /// Tells where something that begins on this line isn't JSON, and leaves it out.
-    pub fn not_json<V: Write>(&mut self, begins: u64, error: &serde_json::Error, err: &mut V) {
+    pub fn not_json<V: Write>(&mut self, begins: u64, error: &serde_json::Error, err: &mut V)
+        ensures counted { self.new
+            ≡ record self.old { tally = record self.old.tally { wrong = one_more self.old.tally.wrong } } }
+        ensures does { (out : Option (List ℕ)) → Does [] (standing self.old out (V.contents err.old))
+            (standing self.new out (V.contents err.new)) }
+    {
         self.leave_out();
         let input = self.input;
         let line = begins.saturating_add(error.line() as u64).saturating_sub(1);
@@ -116,14 +132,22 @@ impl<S: Shelf + Drop> Drawing<'_, S> {
         if let Some(folder) = &self.folder {
             make_relative(self.alloc, &mut diagnostic, folder.as_str())?;
         }
-        if self.choice.takes(&diagnostic) && !self.is_duplicate(message)? {
-            self.draw(&diagnostic, out, err)?;
+        if !self.choice.takes(&diagnostic) {
+            return Ok(());
         }
-        Ok(())
+        if self.is_duplicate(message)? {
+            return Ok(());
+        }
+        self.draw(&diagnostic, out, err)
     }
 
     /// Whether this is a message of cargo that was drawn before and isn't to be drawn again; such a one is counted.
-    fn is_duplicate(&mut self, message: Option<&Value>) -> Result<bool, AllocError> {
+    fn is_duplicate(&mut self, message: Option<&Value>) -> Result<bool, AllocError>
+        ensures counted { IfOk result (λ is.
+            self.new.tally ≡ (if is then repeated self.old.tally else self.old.tally)) }
+        ensures uncounted { OnErr result (self.new.tally ≡ self.old.tally) }
+        ensures kept { (self.new.renderer ≡ self.old.renderer) × (self.new.choice ≡ self.old.choice) }
+    {
         match message {
             Some(message) if !self.choice.has_duplicates => {
                 let is_duplicate = self.seen.keeps(message)?;
@@ -147,6 +171,8 @@ impl<S: Shelf + Drop> Drawing<'_, S> {
             diagnostic.now (W.contents out.old) (W.contents out.new) (out.new ≡ out.old)
             self.old.tally self.new.tally) }
         ensures kept { (self.new.renderer ≡ self.old.renderer) × (self.new.choice ≡ self.old.choice) }
+        ensures does { Goes result [] (standing self.old (W.contents out.old) (V.contents err.old))
+            (standing self.new (W.contents out.new) (V.contents err.new)) }
     {
         match self.choice.form {
             Form::Report => self.draw_report(diagnostic, out, err),
@@ -164,6 +190,9 @@ impl<S: Shelf + Drop> Drawing<'_, S> {
         ensures draws { OnOk result (Draws Report self.old.renderer self.new.sources.files.items diagnostic.now
             (W.contents out.old) (W.contents out.new) (out.new ≡ out.old) self.old.tally self.new.tally) }
         ensures kept { (self.new.renderer ≡ self.old.renderer) × (self.new.choice ≡ self.old.choice) }
+        ensures does { self.old.choice.form ≡ Report
+            → Goes result [] (standing self.old (W.contents out.old) (V.contents err.old))
+            (standing self.new (W.contents out.new) (V.contents err.new)) }
     {
         load_files(&mut self.sources, diagnostic)?;
         self.tell_unread(err);
@@ -177,6 +206,8 @@ impl<S: Shelf + Drop> Drawing<'_, S> {
         ensures draws { OnOk result (Draws Workflow self.old.renderer self.new.sources.files.items diagnostic.now
             (W.contents out.old) (W.contents out.new) (out.new ≡ out.old) self.old.tally self.new.tally) }
         ensures kept { (self.new.renderer ≡ self.old.renderer) × (self.new.choice ≡ self.old.choice) }
+        ensures does { self.old.choice.form ≡ Workflow → (err : Option (List ℕ))
+            → Goes result [] (standing self.old (W.contents out.old) err) (standing self.new (W.contents out.new) err) }
     {
         match command_of(self.alloc, diagnostic)? {
             Some(line) => {
@@ -189,8 +220,11 @@ impl<S: Shelf + Drop> Drawing<'_, S> {
 
     /// Tells which files couldn't be read, each once.
     fn tell_unread<V: Write>(&mut self, err: &mut V)
-        ensures kept { (self.new.renderer ≡ self.old.renderer) × (self.new.choice ≡ self.old.choice) × (self.new.tally ≡ self.old.tally) }
+        ensures kept { (self.new.renderer ≡ self.old.renderer) × (self.new.choice ≡ self.old.choice)
+            × (self.new.tally ≡ self.old.tally) }
         ensures files { self.new.sources.files ≡ self.old.sources.files }
+        ensures does { (out : Option (List ℕ)) → Does [] (standing self.old out (V.contents err.old))
+            (standing self.new out (V.contents err.new)) }
     {
         for name in self.sources.take_unread() {
             let what = "--root names the folder that paths begin in";
@@ -199,14 +233,24 @@ impl<S: Shelf + Drop> Drawing<'_, S> {
     }
 
     /// Tells how many places aren't in their source, and how many edits aren't drawn.
-    fn tell_inexact<V: Write>(&self, clamped: u64, undrawn: u64, err: &mut V) {
-        if clamped > 0 {
-            let what = "places that aren't in their source, drawn at the nearest one";
-            self.tell(format_args!("{what}: {clamped}"), err);
-        }
-        if undrawn > 0 {
-            let what = "edits that aren't drawn, since too little is at hand of their files";
-            self.tell(format_args!("{what}: {undrawn}"), err);
+    fn tell_inexact<V: Write>(&self, clamped: u64, undrawn: u64, err: &mut V)
+        ensures does { (out : Option (List ℕ)) → Does [] (standing self.now out (V.contents err.old))
+            (standing self.now out (V.contents err.new)) }
+        ensures exact { clamped ≡ 0 → undrawn ≡ 0 → err.new ≡ err.old }
+    {
+        let clamped_places = "places that aren't in their source, drawn at the nearest one";
+        self.tell_count(clamped, clamped_places, err);
+        let undrawn_edits = "edits that aren't drawn, since too little is at hand of their files";
+        self.tell_count(undrawn, undrawn_edits, err);
+    }
+
+    /// Tells how many of these there are, if any.
+    fn tell_count<V: Write>(&self, count: u64, what: &str, err: &mut V)
+        ensures told { TellsAll (V.contents err.old) (V.contents err.new) }
+        ensures none { count ≡ 0 → err.new ≡ err.old }
+    {
+        if count > 0 {
+            self.tell(format_args!("{what}: {count}"), err);
         }
     }
 
@@ -224,6 +268,11 @@ impl<S: Shelf + Drop> Drawing<'_, S> {
         ensures untold { OnOk result (IfOk text (λ t. err.new ≡ err.old)) }
         ensures left_out { OnOk result (IfErr text (λ e. (out.new ≡ out.old) × IsLeftOut self.old.tally self.new.tally)) }
         ensures kept { (self.new.renderer ≡ self.old.renderer) × (self.new.choice ≡ self.old.choice) }
+        ensures does { self.old.choice.form ≡ Report
+            → (files : List File)
+            → IfOk text (λ t. ShowsFinding self.old.renderer files diagnostic.now (string_bytes t))
+            → Goes result [] (standing self.old (W.contents out.old) (V.contents err.old))
+            (standing self.new (W.contents out.new) (V.contents err.new)) }
         ensures files { self.new.sources.files ≡ self.old.sources.files }
     {
         match text {
@@ -253,6 +302,7 @@ impl<S: Shelf + Drop> Drawing<'_, S> {
     /// Counts a finding that is drawn, and the files that it lies in.
     fn count(&mut self, diagnostic: &Diagnostic) -> Result<(), AllocError>
         ensures counted { OnOk result (IsCounted diagnostic.now self.old.tally self.new.tally) }
+        ensures uncounted { OnErr result (self.new.tally ≡ self.old.tally) }
         ensures kept { (self.new.renderer ≡ self.old.renderer) × (self.new.choice ≡ self.old.choice) }
         ensures files { self.new.sources.files ≡ self.old.sources.files }
     {

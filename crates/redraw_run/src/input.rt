@@ -1,12 +1,15 @@
 //! An input, read line by line. Nothing of a line is kept when the next is read, save of a log that is one document.
+ghost use Rattle.std.specs.Prelude.{ℕ, List, [], Option, IfErr, IfOk};
+ghost use Rattle.redraw_run.specs.Deeds.{Does, Goes, IsUnreadable, standing};
+ghost use Rattle.redraw_run.specs.Lines.{TakesNext};
 
 use crate::draw::Drawing;
 use crate::sarif::draw_runs;
+use crate::write::pass;
 use json_node::expectation::Expectation;
 use json_node::node::Node;
 use json_node::place::Place;
 use redraw_command::line::{Line, is_utf16, line_of};
-use redraw_command::output::pass;
 use redraw_command::stop::Stop;
 use redraw_read::cargo::packaged_diagnostic_of;
 use redraw_read::json::listed;
@@ -157,7 +160,10 @@ impl Reading {
         error: &serde_json::Error,
         drawing: &mut Drawing<'_, S>,
         err: &mut V,
-    ) -> Result<(), Stop> {
+    ) -> Result<(), Stop>
+        ensures does { (out : Option (List ℕ)) → Goes result [] (standing drawing.old out (V.contents err.old))
+            (standing drawing.new out (V.contents err.new)) }
+    {
         let at = drawing.line;
         if self.has_objects {
             drawing.not_json(at, error, err);
@@ -175,10 +181,11 @@ impl Reading {
         bytes: &[u8],
         drawing: &mut Drawing<'_, S>,
         err: &mut V,
-    ) -> Result<(), Stop> {
-        if str::from_utf8(bytes).is_err() {
-            drawing.wrong("not valid UTF-8", err);
-        }
+    ) -> Result<(), Stop>
+        ensures does { (out : Option (List ℕ)) → Goes result [] (standing drawing.old out (V.contents err.old))
+            (standing drawing.new out (V.contents err.new)) }
+    {
+        check_text(bytes, drawing, err);
         if let Some(document) = &mut self.document {
             document.extend_from_slice(bytes)?;
         }
@@ -276,6 +283,16 @@ impl Reading {
     }
 }
 
+/// Tells where these bytes aren't UTF-8, and leaves them out.
+fn check_text<S: Shelf + Drop, V: Write>(bytes: &[u8], drawing: &mut Drawing<'_, S>, err: &mut V)
+    ensures does { (out : Option (List ℕ)) → Does [] (standing drawing.old out (V.contents err.old))
+        (standing drawing.new out (V.contents err.new)) }
+{
+    if str::from_utf8(bytes).is_err() {
+        drawing.wrong("not valid UTF-8", err);
+    }
+}
+
 /// A line, or the lines of a document, without the last line's end.
 fn without_end(text: &str) -> &str {
     let text = text.strip_suffix('\n').unwrap_or(text);
@@ -311,25 +328,45 @@ fn sarif_log<S: Shelf + Drop, W: Write, V: Write>(
 /// Draws what an input holds, each part before the next is waited for, and answers whether it is of a form that is known,
 /// or empty.
 pub fn draw_input<B: BufRead + Drop, S: Shelf + Drop, W: Write, V: Write>(
-    mut input: B,
+    input: B,
     drawing: &mut Drawing<'_, S>,
     out: &mut W,
     err: &mut V,
 ) -> Result<bool, Stop> {
     let mut reading = Reading::new(drawing.alloc);
+    draw_lines(input, &mut reading, drawing, out, err)?;
+    drawing.line = 0;
+    reading.end(drawing, out, err)?;
+    Ok(reading.is_known || !(reading.has_objects || reading.has_others))
+}
+
+/// Takes the lines that an input holds, each before the next is waited for.
+fn draw_lines<B: BufRead + Drop, S: Shelf + Drop, W: Write, V: Write>(
+    mut input: B,
+    reading: &mut Reading,
+    drawing: &mut Drawing<'_, S>,
+    out: &mut W,
+    err: &mut V,
+) -> Result<(), Stop> {
     let mut line = Vec::new(drawing.alloc);
     for number in 1..u64::MAX {
-        line.clear();
-        let count = input
-            .read_until(b'\n', &mut line)
-            .map_err(Stop::Unreadable)?;
-        if count == 0 {
+        if !next_line(&mut input, &mut line)? {
             break;
         }
         drawing.line = number;
         reading.line(&line, drawing, out, err)?;
     }
-    drawing.line = 0;
-    reading.end(drawing, out, err)?;
-    Ok(reading.is_known || !(reading.has_objects || reading.has_others))
+    Ok(())
+}
+
+/// Takes the next line with its end, and says whether there is one.
+fn next_line<B: BufRead + Drop>(input: &mut B, line: &mut Vec<u8>) -> Result<bool, Stop>
+    ensures next { IfOk result (λ is. TakesNext is (B.remaining input.old) (B.remaining input.new) line.new.items) }
+    ensures unread { IfErr result IsUnreadable }
+{
+    line.clear();
+    match input.read_until(b'\n', line) {
+        Ok(count) => Ok(count > 0),
+        Err(error) => Err(Stop::Unreadable(error)),
+    }
 }

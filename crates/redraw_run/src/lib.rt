@@ -8,3 +8,4 @@ pub mod look;
 pub mod run;
 pub mod sarif;
 pub mod text;
+pub mod write;

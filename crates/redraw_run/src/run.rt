@@ -1,10 +1,12 @@
 //! A run of the program.
-ghost use Rattle.std.specs.Prelude.{◌≡◌, ◌≢◌, ◌⊎◌, true};
+ghost use Rattle.std.specs.Prelude.{◌≡◌, ◌≢◌, ◌⊎◌, ◌≤◌, true, false};
 ghost use Rattle.clap.specs.Values.{kind_of};
 ghost use Rattle.clap.specs.declared.error.kind.ErrorKind.TheVariants as kind;
 ghost use Rattle.std.specs.IoError.{error_kind};
 ghost use Rattle.std.specs.declared.io.ErrorKind.TheVariants.{BrokenPipe};
 ghost use Rattle.redraw_command.specs.Tally.{status_of};
+ghost use Rattle.redraw_command.specs.Told.{Tells, TellsOfWords};
+ghost use Rattle.redraw_run.specs.Lines.{SumsUp};
 
 use crate::draw::Drawing;
 use crate::files::Below;
@@ -30,7 +32,9 @@ pub fn run<'w, R: Files + Input + AllocGlobal, W: Write, V: Write>(
     around: Surroundings<'w>,
     out: &mut W,
     err: &mut V,
-) -> u8 {
+) -> u8
+    ensures status { result ≤ 2 }
+{
     match matches_of(rt.alloc(), words) {
         Ok(matches) => draw_all(rt, request_of(&matches), around, out, err),
         Err(error) => answer_error(rt.alloc(), &error, out, err),
@@ -46,6 +50,9 @@ fn answer_error<W: Write, V: Write>(
 ) -> u8
     ensures misuse { kind_of error.now ≢ kind.DisplayHelp → kind_of error.now ≢ kind.DisplayVersion
         → (result ≡ 2) × (out.new ≡ out.old) }
+    ensures told { kind_of error.now ≢ kind.DisplayHelp → kind_of error.now ≢ kind.DisplayVersion
+        → TellsOfWords (V.contents err.old) (V.contents err.new) }
+    ensures status { result ≤ 2 }
     ensures asked { (kind_of error.now ≡ kind.DisplayHelp) ⊎ (kind_of error.now ≡ kind.DisplayVersion) → err.new ≡ err.old }
 {
     if error.use_stderr() {
@@ -66,7 +73,9 @@ fn draw_all<'w, R: Files + Input + AllocGlobal, W: Write, V: Write>(
     around: Surroundings<'w>,
     out: &mut W,
     err: &mut V,
-) -> u8 {
+) -> u8
+    ensures status { result ≤ 2 }
+{
     let alloc = rt.alloc();
     let Ok(folder) = folder_of(alloc, request.root, around) else {
         tell(alloc, Stop::Memory, err);
@@ -90,7 +99,13 @@ fn draw_all<'w, R: Files + Input + AllocGlobal, W: Write, V: Write>(
         line: 0,
     };
     match draw_inputs(rt, request.inputs, &mut drawing, out, err) {
-        Ok(is_whole) => finish(&drawing.tally, drawing.choice.is_quiet, is_whole, err),
+        Ok(is_whole) => finish(
+            alloc,
+            &drawing.tally,
+            drawing.choice.is_quiet,
+            is_whole,
+            err,
+        ),
         Err(error) => end_unwritten(alloc, error, err),
     }
 }
@@ -201,20 +216,24 @@ pub fn draw_opened<B: BufRead + Drop, S: Shelf + Drop, W: Write, V: Write>(
 fn end_unwritten<V: Write>(alloc: Global, error: io::Error, err: &mut V) -> u8
     ensures status { result ≡ 2 }
     ensures silent { error_kind error ≡ BrokenPipe → err.new ≡ err.old }
+    ensures told { (error_kind error ≡ BrokenPipe) ⊎ Tells (V.contents err.old) (V.contents err.new) }
 {
-    if error.kind() != io::ErrorKind::BrokenPipe {
-        tell(alloc, Stop::Unwritable(error), err);
+    if error.kind() == io::ErrorKind::BrokenPipe {
+        return FAILED;
     }
+    tell(alloc, Stop::Unwritable(error), err);
     FAILED
 }
 
 /// Sums up what was drawn, and answers the status to end with.
-fn finish<V: Write>(tally: &Tally, is_quiet: bool, is_whole: bool, err: &mut V) -> u8
+fn finish<V: Write>(alloc: Global, tally: &Tally, is_quiet: bool, is_whole: bool, err: &mut V) -> u8
     ensures status { result ≡ status_of tally.now is_whole }
     ensures quiet { is_quiet ≡ true → err.new ≡ err.old }
+    ensures last { SumsUp (err.new ≡ err.old) (V.contents err.old) (V.contents err.new) }
 {
-    if !is_quiet && !tally.is_empty() {
-        let _ = err.writeln(format_args!("redraw: {tally}"));
+    if is_quiet || tally.is_empty() {
+        return tally.status(is_whole);
     }
+    tell(alloc, *tally, err);
     tally.status(is_whole)
 }

@@ -1,4 +1,5 @@
 //! A SARIF log, whose results are drawn one after another.
+ghost use Rattle.redraw_run.specs.Deeds.{TellsAll};
 
 use crate::draw::Drawing;
 use json_node::lenient::{List, Node, Troubles};
@@ -67,9 +68,11 @@ fn draw_result<'v, S: Shelf + Drop, W: Write, V: Write>(
 /// Tells what is wrong with a part of a log.
 fn tell_all<S: Shelf + Drop, V: Write>(
     troubles: &Troubles,
-    drawing: &mut Drawing<'_, S>,
+    drawing: &Drawing<'_, S>,
     err: &mut V,
-) -> Result<(), Stop> {
+) -> Result<(), Stop>
+    ensures told { TellsAll (V.contents err.old) (V.contents err.new) }
+{
     for line in &troubles.lines {
         drawing.tell(line.as_str(), err);
     }

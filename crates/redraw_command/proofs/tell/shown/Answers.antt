@@ -1,0 +1,14 @@
+use Rattle.std.proofs.Common.{ap, codes, ◌++◌, ◌∙◌}
+use Rattle.std.proofs.lemmas.Result.{IfOk-weaker}
+use Rattle.redraw_command.proofs.Telling.{shown_message}
+use Rattle.redraw_command.proofs.tell.shown.Goals as goal
+
+pub returns : goal.returns
+returns g c =
+    record {
+      message = IfOk-weaker c.format-2.result _ _
+          (λ text is. (
+            c.as_str.result.now,
+            is ∙ ap (λ l. codes "redraw: " ++ l) (shown_message c.in_ok-said-2.said c.as_str.result.now c.in_ok-said-2.ensures.value),
+          )) c.format-2.ensures.ok;
+    }

@@ -1,0 +1,44 @@
+-- What is told on standard error.
+use Rattle.std.specs.Prelude.{◌≡◌, ℕ, ◌⊎◌, List, ◌++◌, Option, chars, codes, encode_utf8_all}
+use Rattle.std.specs.Io.KnownBytes.{Appends}
+use Rattle.program.specs.Stream.{line_of}
+use Rattle.snippet_text.specs.Normalized.{norm}
+
+-- a text as a message shows it: what is listed in it is replaced
+abbrev pub shown : List ℕ → List ℕ
+shown text = encode_utf8_all (norm (chars text))
+
+-- what is told where this is said: the program's name, and that as it may be shown
+abbrev pub message : List ℕ → List ℕ
+message said = codes "redraw: " ++ shown said
+
+-- a first part of some bytes, which may be nothing or all
+pub record IsFirstPart (part whole : List ℕ) : Type 0 where
+  pub rest : List ℕ
+  pub split : whole ≡ part ++ rest
+
+-- a line that is told: a message, or that there was no memory for one
+abbrev pub IsMessage : List ℕ → Type 0
+IsMessage line = ((said : List ℕ) × (line ≡ message said)) ⊎ (line ≡ codes "redraw: out of memory")
+
+-- this stands there of a message and a line feed: all of it, or a first part where a write failed
+pub record IsTold (part : List ℕ) : Type 0 where
+  pub line : List ℕ
+  pub message : IsMessage line
+  pub is : IsFirstPart part (line_of line)
+
+-- known bytes grow by what stands there of one message, and by nothing else
+pub record Tells (old new : Option (List ℕ)) : Type 0 where
+  pub part : List ℕ
+  pub told : IsTold part
+  pub added : Appends old new part
+
+-- this stands there of what is told of wrong words: of a text as it may be shown, or of a message that there was no memory for it
+abbrev pub IsToldOfWords : List ℕ → Type 0
+IsToldOfWords part = ((text : List ℕ) × IsFirstPart part (shown text)) ⊎ IsTold part
+
+-- known bytes grow by that, and by nothing else
+pub record TellsOfWords (old new : Option (List ℕ)) : Type 0 where
+  pub part : List ℕ
+  pub told : IsToldOfWords part
+  pub added : Appends old new part

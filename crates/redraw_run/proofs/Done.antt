@@ -1,0 +1,280 @@
+-- One thing that is done.
+use Rattle.std.proofs.Common.{◌≡◌, ◌⊎◌, ℕ, Bool, true, false, List, [], ◌∷◌, ◌++◌, Option, refl, ap, sym, ◌∙◌, subst, inl, inr, append_assoc, append-nil, take}
+use Rattle.std.proofs.Common.{drop, take-append-drop, if◌then◌else◌}
+use Rattle.std.specs.Prelude.{Result, Ok, Err, IfOk, OnOk}
+use Rattle.std.specs.Io.KnownBytes.{Appends, Keeps}
+use Rattle.std.specs.List.{concat, flat_map}
+use Rattle.std.proofs.KnownBytes.{Appends-kept, Appends-nil, Appends-trans}
+use Rattle.annotate_snippets.specs.declared.renderer.Renderer.{Renderer}
+use Rattle.program.specs.Stream.{AppendsPart}
+use Rattle.redraw_command.specs.Choice.{is_sum}
+use Rattle.redraw_command.specs.Tally.{one_more, tallied}
+use Rattle.redraw_command.specs.Told.{IsTold, Tells}
+use Rattle.redraw_command.specs.declared.choice.Choice.{Choice}
+use Rattle.redraw_command.specs.declared.choice.Form.TheVariants.{Report, Workflow}
+use Rattle.redraw_command.specs.declared.stop.Stop.{Stop}
+use Rattle.redraw_command.specs.declared.stop.Stop.TheVariants.{Memory, Unwritable, Unreadable, Utf16}
+use Rattle.redraw_command.specs.declared.tally.Tally.{Tally}
+use Rattle.redraw_read.specs.declared.sources.File.{File}
+use Rattle.redraw_report.specs.declared.diagnostic.Diagnostic.{Diagnostic}
+use Rattle.redraw_run.specs.Deeds.{State, Deed, Drawn, Commanded, Told, LeftOut, Repeated, BuildFailed, IsDeed, AreDeeds, AreTold, TellsAll, printed, told}
+use Rattle.redraw_run.specs.Deeds.{handed, tally_after, tally_by, with_files, repeated, AreAmong, Does, AppendsFirst, IsCutShort, IsUnwritable, Writes, Stops}
+use Rattle.redraw_run.specs.Deeds.{Goes}
+use Rattle.redraw_run.specs.Drawn.{IsCounted, ShowsFinding, ending_after}
+use Rattle.redraw_run.proofs.Doing.{first_all, first_more, first_then}
+
+-- a tally is another, but for its files
+tally_is : (t u : Tally) → t ≡ u → t ≡ with_files u t.files
+tally_is t u is = is ∙ ap (λ (f : ℕ). with_files u f) (sym (ap (λ (x : Tally). x.files) is))
+
+same_appends : (a b : Option (List ℕ)) → b ≡ a → Appends a b []
+same_appends a b is = subst (λ x. Appends a x []) (sym is) (Appends-nil a)
+
+-- nothing is done, where what is known stays
+pub does_same : {a b : State} → b.out ≡ a.out → b.err ≡ a.err → b.tally ≡ a.tally → b.renderer ≡ a.renderer → b.choice ≡ a.choice → Does [] a b
+does_same {a} {b} out err tally renderer choice =
+    record {
+      deeds = [];
+      are = tt;
+      handed_on = tt;
+      out = same_appends a.out b.out out;
+      err = same_appends a.err b.err err;
+      tally = tally_is b.tally a.tally tally;
+      renderer = renderer;
+      choice = choice;
+    }
+
+one_told : (a b : Option (List ℕ)) (part : List ℕ) → Appends a b part → Appends a b (part ++ [])
+one_told a b part h = subst (Appends a b) (sym (append-nil part)) h
+
+-- something is told
+pub does_told : {a b : State} → Tells a.err b.err → b.out ≡ a.out → b.tally ≡ a.tally → b.renderer ≡ a.renderer → b.choice ≡ a.choice → Does [] a b
+does_told {a} {b} t out tally renderer choice =
+    record {
+      deeds = Told t.part ∷ [];
+      are = (t.told, tt);
+      handed_on = tt;
+      out = same_appends a.out b.out out;
+      err = one_told a.err b.err t.part t.added;
+      tally = tally_is b.tally a.tally tally;
+      renderer = renderer;
+      choice = choice;
+    }
+
+-- several things are told
+tellings : List (List ℕ) → List Deed
+tellings [] = []
+tellings (part ∷ parts) = Told part ∷ tellings parts
+
+tellings_are : (r : Renderer) (c : Choice) (parts : List (List ℕ)) → AreTold parts → AreDeeds r c (tellings parts)
+unfolding tellings
+tellings_are r c [] h = tt
+tellings_are r c (part ∷ parts) h = (h.0, tellings_are r c parts h.1)
+
+tellings_told : (parts : List (List ℕ)) → concat parts ≡ flat_map told (tellings parts)
+unfolding tellings
+tellings_told [] = refl
+tellings_told (part ∷ parts) = ap (λ l. part ++ l) (tellings_told parts)
+
+tellings_printed : (r : Renderer) (parts : List (List ℕ)) → [] ≡ flat_map (printed r) (tellings parts)
+unfolding tellings
+tellings_printed r [] = refl
+tellings_printed r (part ∷ parts) = tellings_printed r parts
+
+tellings_handed : (parts : List (List ℕ)) → AreAmong (flat_map handed (tellings parts)) []
+unfolding tellings
+tellings_handed [] = tt
+tellings_handed (part ∷ parts) = tellings_handed parts
+
+tellings_tally : (t : Tally) (parts : List (List ℕ)) → t ≡ tally_by t (tellings parts)
+unfolding tellings
+tellings_tally t [] = refl
+tellings_tally t (part ∷ parts) = tellings_tally t parts
+
+pub does_tell_all : {a b : State} → TellsAll a.err b.err → b.out ≡ a.out → b.tally ≡ a.tally → b.renderer ≡ a.renderer → b.choice ≡ a.choice
+    → Does [] a b
+does_tell_all {a} {b} t out tally renderer choice =
+    record {
+      deeds = tellings t.parts;
+      are = tellings_are a.renderer a.choice t.parts t.told;
+      handed_on = tellings_handed t.parts;
+      out = subst (Appends a.out b.out) (tellings_printed a.renderer t.parts) (same_appends a.out b.out out);
+      err = subst (Appends a.err b.err) (tellings_told t.parts) t.added;
+      tally = tally_is b.tally (tally_by a.tally (tellings t.parts)) (tally ∙ tellings_tally a.tally t.parts);
+      renderer = renderer;
+      choice = choice;
+    }
+
+are_told_both : (ps qs : List (List ℕ)) → AreTold ps → AreTold qs → AreTold (ps ++ qs)
+are_told_both [] qs p q = q
+are_told_both (x ∷ ps) qs p q = (p.0, are_told_both ps qs p.1 q)
+
+concat_both : (ps qs : List (List ℕ)) → concat (ps ++ qs) ≡ concat ps ++ concat qs
+concat_both [] qs = refl
+concat_both (x ∷ ps) qs = ap (λ l. x ++ l) (concat_both ps qs) ∙ sym (append_assoc x (concat ps) (concat qs))
+
+pub tells_none : (a : Option (List ℕ)) → TellsAll a a
+tells_none a = record { parts = []; told = tt; added = Appends-nil a }
+
+pub tells_one : {a b : Option (List ℕ)} → Tells a b → TellsAll a b
+tells_one {a} {b} t = record { parts = t.part ∷ []; told = (t.told, tt); added = one_told a b t.part t.added }
+
+pub tells_then : {a b c : Option (List ℕ)} → TellsAll a b → TellsAll b c → TellsAll a c
+tells_then {a} {b} {c} p q =
+    record {
+      parts = p.parts ++ q.parts;
+      told = are_told_both p.parts q.parts p.told q.told;
+      added = subst (Appends a c) (sym (concat_both p.parts q.parts)) (Appends-trans a b c (concat p.parts) (concat q.parts) p.added q.added);
+    }
+
+-- a part of the input is left out
+pub does_left_out : {a b : State} → b.out ≡ a.out → b.err ≡ a.err → b.tally ≡ record a.tally { wrong = one_more a.tally.wrong }
+    → b.renderer ≡ a.renderer → b.choice ≡ a.choice → Does [] a b
+does_left_out {a} {b} out err tally renderer choice =
+    record {
+      deeds = LeftOut ∷ [];
+      are = (tt, tt);
+      handed_on = tt;
+      out = same_appends a.out b.out out;
+      err = same_appends a.err b.err err;
+      tally = tally_is b.tally (record a.tally { wrong = one_more a.tally.wrong }) tally;
+      renderer = renderer;
+      choice = choice;
+    }
+
+-- a part of the input is left out, and that is told
+pub does_wrong : {a b : State} → Tells a.err b.err → b.out ≡ a.out → b.tally ≡ record a.tally { wrong = one_more a.tally.wrong }
+    → b.renderer ≡ a.renderer → b.choice ≡ a.choice → Does [] a b
+does_wrong {a} {b} t out tally renderer choice =
+    record {
+      deeds = LeftOut ∷ Told t.part ∷ [];
+      are = (tt, (t.told, tt));
+      handed_on = tt;
+      out = same_appends a.out b.out out;
+      err = one_told a.err b.err t.part t.added;
+      tally = tally_is b.tally (record a.tally { wrong = one_more a.tally.wrong }) tally;
+      renderer = renderer;
+      choice = choice;
+    }
+
+-- cargo says that the build failed
+pub does_failed : {a b : State} → b.out ≡ a.out → b.err ≡ a.err → b.tally ≡ record a.tally { has_failed = true } → b.renderer ≡ a.renderer
+    → b.choice ≡ a.choice → Does [] a b
+does_failed {a} {b} out err tally renderer choice =
+    record {
+      deeds = BuildFailed ∷ [];
+      are = (tt, tt);
+      handed_on = tt;
+      out = same_appends a.out b.out out;
+      err = same_appends a.err b.err err;
+      tally = tally_is b.tally (record a.tally { has_failed = true }) tally;
+      renderer = renderer;
+      choice = choice;
+    }
+
+-- a diagnostic is looked for among those that were drawn
+pub does_look : {a b : State} (is : Bool) → b.out ≡ a.out → b.err ≡ a.err → b.tally ≡ (if is then repeated a.tally else a.tally)
+    → b.renderer ≡ a.renderer → b.choice ≡ a.choice → Does [] a b
+does_look false out err tally renderer choice = does_same out err tally renderer choice
+does_look {a} {b} true out err tally renderer choice =
+    record {
+      deeds = Repeated ∷ [];
+      are = (tt, tt);
+      handed_on = tt;
+      out = same_appends a.out b.out out;
+      err = same_appends a.err b.err err;
+      tally = tally_is b.tally (repeated a.tally) tally;
+      renderer = renderer;
+      choice = choice;
+    }
+
+stops_cut : {lines : List (List ℕ)} {a b : State} (s : Stop) → IsUnwritable s → IsCutShort lines a b → Stops s lines a b
+stops_cut Memory is h = absurd is
+stops_cut (Unwritable error) is h = h
+stops_cut (Unreadable error) is h = absurd is
+stops_cut Utf16 is h = absurd is
+
+all_printed : (r : Renderer) (deed : Deed) (text : List ℕ) → text ≡ printed r deed → text ≡ flat_map (printed r) (deed ∷ [])
+all_printed r deed text is = is ∙ sym (append-nil (printed r deed))
+
+-- a finding is drawn, and what it gives is written
+pub goes_drawn : {T : Type 0} (a b : State) (r : Result T Stop) (d : Diagnostic) (text bytes : List ℕ) (files : List File) → a.choice.form ≡ Report
+    → ShowsFinding a.renderer files d text → IsCounted d a.tally b.tally → b.renderer ≡ a.renderer → b.choice ≡ a.choice → b.err ≡ a.err
+    → bytes ≡ text ++ (ending_after a.renderer.short_message d.severity ++ 10 ∷ []) → Writes r a.out b.out bytes → Goes r [] a b
+goes_drawn a b (Ok x) d text bytes files form shows counted renderer choice err is writes =
+    record {
+      deeds = Drawn d text ∷ [];
+      are = ((form, files, shows), tt);
+      handed_on = tt;
+      out = subst (Appends a.out b.out) (all_printed a.renderer (Drawn d text) bytes is) writes;
+      err = same_appends a.err b.err err;
+      tally = counted;
+      renderer = renderer;
+      choice = choice;
+    }
+goes_drawn a b (Err s) d text bytes files form shows counted renderer choice err is writes =
+    stops_cut s writes.0
+    record {
+      deeds = Drawn d text ∷ [];
+      are = ((form, files, shows), tt);
+      handed_on = tt;
+      out = subst (AppendsFirst a.out b.out) (all_printed a.renderer (Drawn d text) bytes is) writes.1;
+      err = same_appends a.err b.err err;
+    }
+
+-- a finding is written as a command
+pub goes_commanded : {T : Type 0} (a b : State) (r : Result T Stop) (d : Diagnostic) (line bytes : List ℕ) → a.choice.form ≡ Workflow
+    → IsCounted d a.tally b.tally → b.renderer ≡ a.renderer → b.choice ≡ a.choice → b.err ≡ a.err → bytes ≡ line ++ 10 ∷ []
+    → Writes r a.out b.out bytes → Goes r [] a b
+goes_commanded a b (Ok x) d line bytes form counted renderer choice err is writes =
+    record {
+      deeds = Commanded d line ∷ [];
+      are = (form, tt);
+      handed_on = tt;
+      out = subst (Appends a.out b.out) (all_printed a.renderer (Commanded d line) bytes is) writes;
+      err = same_appends a.err b.err err;
+      tally = counted;
+      renderer = renderer;
+      choice = choice;
+    }
+goes_commanded a b (Err s) d line bytes form counted renderer choice err is writes =
+    stops_cut s writes.0
+    record {
+      deeds = Commanded d line ∷ [];
+      are = (form, tt);
+      handed_on = tt;
+      out = subst (AppendsFirst a.out b.out) (all_printed a.renderer (Commanded d line) bytes is) writes.1;
+      err = same_appends a.err b.err err;
+    }
+
+-- bytes that are written after others
+pub writes_then : {T : Type 0} (a b c : Option (List ℕ)) (r : Result T Stop) (bs cs whole : List ℕ) → whole ≡ bs ++ cs → Appends a b bs → Writes r b c cs
+    → Writes r a c whole
+writes_then a b c (Ok x) bs cs whole is p q = subst (Appends a c) (sym is) (Appends-trans a b c bs cs p q)
+writes_then a b c (Err s) bs cs whole is p q = (q.0, subst (AppendsFirst a c) (sym is) (first_then a b c bs cs p q.1))
+
+-- a flush adds nothing
+pub writes_none : (a b : Option (List ℕ)) → Keeps a b → Appends a b []
+writes_none a b kept = Appends-kept a a b [] (Appends-nil a) kept
+
+-- a part that isn't all is a first part
+pub part_first : (a b : Option (List ℕ)) (bs : List ℕ) → AppendsPart a b bs → AppendsFirst a b bs
+part_first a b bs h =
+    record { part = take h.count bs; first = record { rest = drop h.count bs; split = sym (take-append-drop h.count bs) }; added = h.appended }
+
+-- what is written to the end is written
+pub ok_written : {T : Type 0} (a b : Option (List ℕ)) (r : Result T Stop) (bs : List ℕ) → Writes r a b bs → OnOk r (Appends a b bs)
+ok_written a b (Ok x) bs h = h
+ok_written a b (Err s) bs h = tt
+
+-- bytes of which only a first part is written, and others that aren't
+pub writes_cut : (a b : Option (List ℕ)) (bs cs whole : List ℕ) → whole ≡ bs ++ cs → AppendsFirst a b bs → AppendsFirst a b whole
+writes_cut a b bs cs whole is p = subst (AppendsFirst a b) (sym is) (first_more a b bs cs p)
+
+-- what is known of an answer that is this
+pub at_ok : {T E : Type 0} (r : Result T E) (t : T) (P : T → Type 0) → r ≡ Ok t → IfOk r P → P t
+at_ok r t P is h = subst (λ m. IfOk m P) is h
+
+-- the bytes of a text with what stands after it
+pub ended : (t u e f : List ℕ) → t ≡ u → e ≡ f → t ++ (e ++ 10 ∷ []) ≡ u ++ (f ++ 10 ∷ [])
+ended t u e f is end = ap (λ (l : List ℕ). l ++ (e ++ 10 ∷ [])) is ∙ ap (λ (l : List ℕ). u ++ (l ++ 10 ∷ [])) end

@@ -1,0 +1,183 @@
+-- What a run does on its way: what both streams are given, and what is counted.
+use Rattle.std.specs.Prelude.{◌≡◌, ℕ, ◌⊎◌, true, List, [], ◌∷◌, ◌++◌, Option, Result, Ok, Err}
+use Rattle.std.specs.Io.KnownBytes.{Appends}
+use Rattle.std.specs.List.{concat, flat_map}
+use Rattle.annotate_snippets.specs.declared.renderer.Renderer.{Renderer}
+use Rattle.redraw_command.specs.Choice.{is_sum}
+use Rattle.redraw_command.specs.Tally.{one_more, tallied}
+use Rattle.redraw_command.specs.Told.{IsFirstPart, IsTold}
+use Rattle.redraw_command.specs.declared.choice.Choice.{Choice}
+use Rattle.redraw_command.specs.declared.choice.Form.{Form}
+use Rattle.redraw_command.specs.declared.choice.Form.TheVariants.{Report, Workflow}
+use Rattle.redraw_command.specs.declared.stop.Stop.{Stop}
+use Rattle.redraw_command.specs.declared.stop.Stop.TheVariants.{Memory, Unwritable, Unreadable, Utf16}
+use Rattle.redraw_command.specs.declared.tally.Tally.{Tally}
+use Rattle.redraw_read.specs.declared.sources.File.{File}
+use Rattle.redraw_report.specs.declared.diagnostic.Diagnostic.{Diagnostic}
+use Rattle.redraw_run.specs.Drawn.{ShowsFinding, ending_after}
+use Rattle.redraw_run.specs.declared.draw.Drawing.{Drawing}
+
+-- what is known of a run at a time: how reports look and which are drawn, what was counted, and what both streams hold
+pub record State : Type 0 where
+  pub renderer : Renderer
+  pub choice : Choice
+  pub tally : Tally
+  pub out : Option (List ℕ)
+  pub err : Option (List ℕ)
+
+-- the same of what is drawn from, with what both streams hold
+abbrev pub standing : {S : Type 0} → Drawing S → Option (List ℕ) → Option (List ℕ) → State
+standing d out err = record { renderer = d.renderer; choice = d.choice; tally = d.tally; out = out; err = err }
+
+-- one thing that is done: a finding is drawn as a report, or written as a command; a line is handed on; something is told, of which
+-- this stands there; a part of the input is left out; one that was drawn before isn't again; or cargo says that the build failed
+pub data Deed : Type 0 where
+  Drawn : (finding : Diagnostic) (text : List ℕ) → Deed
+  Commanded : (finding : Diagnostic) (line : List ℕ) → Deed
+  HandedOn : (line : List ℕ) → Deed
+  Told : (part : List ℕ) → Deed
+  LeftOut : Deed
+  Repeated : Deed
+  BuildFailed : Deed
+
+-- when that is done: a report shows the finding in the renderer's settings, its places looked for in some files; reports and commands
+-- are written where they are asked for; and what is told stands there of one message
+abbrev pub IsDeed : Renderer → Choice → Deed → Type 0
+IsDeed r c (Drawn d text) = (c.form ≡ Report) × (files : List File) × ShowsFinding r files d text
+IsDeed r c (Commanded d line) = c.form ≡ Workflow
+IsDeed r c (HandedOn line) = Unit {0}
+IsDeed r c (Told part) = IsTold part
+IsDeed r c LeftOut = Unit {0}
+IsDeed r c Repeated = Unit {0}
+IsDeed r c BuildFailed = Unit {0}
+
+abbrev pub AreDeeds : Renderer → Choice → List Deed → Type 0
+AreDeeds r c [] = Unit {0}
+AreDeeds r c (deed ∷ deeds) = IsDeed r c deed × AreDeeds r c deeds
+
+-- what standard output is given by it
+abbrev pub printed : Renderer → Deed → List ℕ
+printed r (Drawn d text) = text ++ (ending_after r.short_message d.severity ++ 10 ∷ [])
+printed r (Commanded d line) = line ++ 10 ∷ []
+printed r (HandedOn line) = line
+printed r (Told part) = []
+printed r LeftOut = []
+printed r Repeated = []
+printed r BuildFailed = []
+
+-- what standard error is given by it
+abbrev pub told : Deed → List ℕ
+told (Drawn d text) = []
+told (Commanded d line) = []
+told (HandedOn line) = []
+told (Told part) = part
+told LeftOut = []
+told Repeated = []
+told BuildFailed = []
+
+-- the lines that are handed on by it
+abbrev pub handed : Deed → List (List ℕ)
+handed (Drawn d text) = []
+handed (Commanded d line) = []
+handed (HandedOn line) = line ∷ []
+handed (Told part) = []
+handed LeftOut = []
+handed Repeated = []
+handed BuildFailed = []
+
+-- the tally with one more that was drawn before
+abbrev pub repeated : Tally → Tally
+repeated t = record t { duplicates = one_more t.duplicates }
+
+-- the tally after it. How many files there are is counted apart
+abbrev pub tally_after : Tally → Deed → Tally
+tally_after t (Drawn d text) = tallied t d.severity (is_sum d)
+tally_after t (Commanded d line) = tallied t d.severity (is_sum d)
+tally_after t (HandedOn line) = t
+tally_after t (Told part) = t
+tally_after t LeftOut = record t { wrong = one_more t.wrong }
+tally_after t Repeated = repeated t
+tally_after t BuildFailed = record t { has_failed = true }
+
+-- the tally after several
+abbrev pub tally_by : Tally → List Deed → Tally
+tally_by t [] = t
+tally_by t (deed ∷ deeds) = tally_by (tally_after t deed) deeds
+
+-- a tally with this many files
+abbrev pub with_files : Tally → ℕ → Tally
+with_files t files = record t { files = files }
+
+-- some lines are among others, in their order, each at most once
+abbrev pub AreAmong : List (List ℕ) → List (List ℕ) → Type 0
+AreAmong [] lines = Unit {0}
+AreAmong (x ∷ xs) [] = ⊥
+AreAmong (x ∷ xs) (line ∷ lines) = ((x ≡ line) × AreAmong xs lines) ⊎ AreAmong (x ∷ xs) lines
+
+-- from one time to another some things are done, in order, about these lines of the input: both streams are given what these give, and
+-- nothing else; what is handed on are lines of these; and the tally is the one after them
+pub record Does (lines : List (List ℕ)) (a b : State) : Type 0 where
+  pub deeds : List Deed
+  pub are : AreDeeds a.renderer a.choice deeds
+  pub handed_on : AreAmong (flat_map handed deeds) lines
+  pub out : Appends a.out b.out (flat_map (printed a.renderer) deeds)
+  pub err : Appends a.err b.err (flat_map told deeds)
+  pub tally : b.tally ≡ with_files (tally_by a.tally deeds) b.tally.files
+  pub renderer : b.renderer ≡ a.renderer
+  pub choice : b.choice ≡ a.choice
+
+-- known bytes grow by a first part of these, which may be all
+pub record AppendsFirst (old new : Option (List ℕ)) (whole : List ℕ) : Type 0 where
+  pub part : List ℕ
+  pub first : IsFirstPart part whole
+  pub added : Appends old new part
+
+-- several parts of the kind that is told stand there
+abbrev pub AreTold : List (List ℕ) → Type 0
+AreTold [] = Unit {0}
+AreTold (part ∷ parts) = IsTold part × AreTold parts
+
+-- known bytes grow by what stands there of some messages, and by nothing else
+pub record TellsAll (old new : Option (List ℕ)) : Type 0 where
+  pub parts : List (List ℕ)
+  pub told : AreTold parts
+  pub added : Appends old new (concat parts)
+
+-- output couldn't be written
+abbrev pub IsUnwritable : Stop → Type 0
+IsUnwritable Memory = ⊥
+IsUnwritable (Unwritable error) = Unit {0}
+IsUnwritable (Unreadable error) = ⊥
+IsUnwritable Utf16 = ⊥
+
+-- an input couldn't be read
+abbrev pub IsUnreadable : Stop → Type 0
+IsUnreadable Memory = ⊥
+IsUnreadable (Unwritable error) = ⊥
+IsUnreadable (Unreadable error) = Unit {0}
+IsUnreadable Utf16 = ⊥
+
+-- some bytes are written: all of them, or, only where output couldn't be written, a first part
+abbrev pub Writes : {T : Type 0} → Result T Stop → Option (List ℕ) → Option (List ℕ) → List ℕ → Type 0
+Writes (Ok done) old new bytes = Appends old new bytes
+Writes (Err stop) old new bytes = IsUnwritable stop × AppendsFirst old new bytes
+
+-- the same up to where output couldn't be written: standard output is given a first part of what these things give
+pub record IsCutShort (lines : List (List ℕ)) (a b : State) : Type 0 where
+  pub deeds : List Deed
+  pub are : AreDeeds a.renderer a.choice deeds
+  pub handed_on : AreAmong (flat_map handed deeds) lines
+  pub out : AppendsFirst a.out b.out (flat_map (printed a.renderer) deeds)
+  pub err : Appends a.err b.err (flat_map told deeds)
+
+-- what is done where it stops for this reason
+abbrev pub Stops : Stop → List (List ℕ) → State → State → Type 0
+Stops Memory lines a b = Does lines a b
+Stops (Unwritable error) lines a b = IsCutShort lines a b
+Stops (Unreadable error) lines a b = Does lines a b
+Stops Utf16 lines a b = Does lines a b
+
+-- what is done, be it to the end or up to where it stops
+abbrev pub Goes : {T : Type 0} → Result T Stop → List (List ℕ) → State → State → Type 0
+Goes (Ok done) lines a b = Does lines a b
+Goes (Err stop) lines a b = Stops stop lines a b
