@@ -6,13 +6,13 @@ const { createInterface } = require("node:readline");
 
 class Replay {
   constructor(program = "replay") {
-    this.process = spawn(program, [], { stdio: ["pipe", "pipe", "inherit"] });
+    this.process = spawn(program, ["--keep-going"], { stdio: ["pipe", "pipe", "inherit"] });
     this.waiting = [];
     createInterface({ input: this.process.stdout }).on("line", (line) => {
       const { resolve, reject } = this.waiting.shift();
-      const answer = JSON.parse(line);
-      if (answer.ok) resolve(answer.ok);
-      else reject(Object.assign(new Error(answer.text), { name: answer.refused }));
+      const { ok, refused, text, error, ...numbers } = JSON.parse(line);
+      if (ok) resolve(ok);
+      else reject(Object.assign(new Error(text ?? error), refused && { name: refused, ...numbers }));
     });
     this.process.on("close", () => this.waiting.forEach(({ reject }) => reject(new Error("replay has ended: it says why"))));
   }
@@ -28,19 +28,13 @@ class Replay {
   }
 }
 
-// The bytes of what stands from `start` to before `end`, as JavaScript counts: in units of UTF-16.
-const span = (source, start, end) => ({
-  start: Buffer.byteLength(source.slice(0, start)),
-  end: Buffer.byteLength(source.slice(0, end)),
-});
-
-module.exports = { Replay, span };
+module.exports = { Replay };
 
 if (require.main === module) {
-  const source = "let é = 1;\n";
-  const mark = { kind: "primary", ...span(source, 4, 5), label: "never read" };
+  const mark = { kind: "primary", start: 4, end: 5, label: "never read" };
+  const cause = { source: "let é = 1;\n", unit: "utf16", annotations: [mark] };
   const title = { level: { kind: "error" }, text: "unused variable", primary: true };
   const replay = new Replay(...process.argv.slice(2));
-  const drawn = replay.draw([{ title, elements: [{ cause: { source, annotations: [mark] } }] }]);
+  const drawn = replay.draw([{ title, elements: [{ cause }] }]);
   drawn.then((texts) => console.log(texts.join("\n"))).finally(() => replay.end());
 }

@@ -6,34 +6,32 @@ import sys
 
 
 class Refused(Exception):
-    """A report that is refused: `name` says why, `str` where."""
+    """A report that is refused: `name` says why, `str` where, and `numbers` has the numbers that it names."""
 
-    def __init__(self, name, text):
-        super().__init__(text)
-        self.name = name
+    def __init__(self, answer):
+        super().__init__(answer.pop("text"))
+        self.name = answer.pop("refused")
+        self.numbers = {name: number for name, number in answer.items() if name != "id"}
 
 
 class Replay:
     def __init__(self, program="replay"):
-        self.process = subprocess.Popen([program], stdin=subprocess.PIPE, stdout=subprocess.PIPE, encoding="utf-8")
+        self.process = subprocess.Popen([program, "--keep-going"], stdin=subprocess.PIPE, stdout=subprocess.PIPE, encoding="utf-8")
 
     def draw(self, groups, **more):
         """Returns the texts of a report, one for each sheet. `more` are `settings` and `sheets`."""
         self.process.stdin.write(json.dumps({"id": "", "groups": groups, **more}) + "\n")
         self.process.stdin.flush()
         answer = json.loads(self.process.stdout.readline() or '{"refused": "Ended", "text": "replay has ended: it says why"}')
+        if "error" in answer:
+            raise ValueError(answer["error"])
         if "refused" in answer:
-            raise Refused(answer["refused"], answer["text"])
+            raise Refused(answer)
         return answer["ok"]
 
 
-def span(source, start, end):
-    """Returns the bytes of the characters from `start` to before `end`."""
-    return {"start": len(source[:start].encode()), "end": len(source[:end].encode())}
-
-
 if __name__ == "__main__":
-    source = "let é = 1;\n"
-    mark = {"kind": "primary", **span(source, 4, 5), "label": "never read"}
+    mark = {"kind": "primary", "start": 4, "end": 5, "label": "never read"}
+    cause = {"source": "let é = 1;\n", "unit": "char", "annotations": [mark]}
     title = {"level": {"kind": "error"}, "text": "unused variable", "primary": True}
-    print(*Replay(*sys.argv[1:]).draw([{"title": title, "elements": [{"cause": {"source": source, "annotations": [mark]}}]}]), sep="\n")
+    print(*Replay(*sys.argv[1:]).draw([{"title": title, "elements": [{"cause": cause}]}]), sep="\n")

@@ -54,6 +54,11 @@ enum yazgult_wrong {
 /* Draws the report that stands in `input`, in the form of docs/BINDINGS.md. Any bytes are answered. */
 size_t yazgult_draw(const uint8_t *input, size_t input_length, uint8_t *output, size_t output_length);
 
+/* Draws the report that stands in `input`, a line of JSON in UTF-8 as docs/REPORTS.md has it, and gives what `replay --keep-going` answers
+ * to it, in JSON without a line feed: {"id":..,"ok":[..]} with a text for each sheet, {"id":..,"refused":..,"text":..} and the numbers
+ * that the refusal names, or {"error":..,"line":1} where the line is no report or there was no memory. Any bytes are answered. */
+size_t yazgult_draw_json(const uint8_t *input, size_t input_length, uint8_t *output, size_t output_length);
+
 /* The version of the library, as "1.0.0". */
 size_t yazgult_version(uint8_t *output, size_t output_length);
 

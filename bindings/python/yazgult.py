@@ -25,7 +25,7 @@ import os
 from dataclasses import dataclass, field, fields, is_dataclass
 from typing import List, Optional
 
-__all__ = ["render", "render_sheets", "version", "Refused", "NotDrawable", "Group", "Title", "Level", "Message", "Cause", "Suggestion"]
+__all__ = ["render", "render_sheets", "answer_json", "version", "Refused", "NotDrawable", "Group", "Title", "Level", "Message", "Cause", "Suggestion"]
 __all__ += ["Origin", "Padding", "Annotation", "Patch", "NoGroup", "NoTitle", "SpanReversed", "SpanPastEnd", "SpanOffBoundary"]
 __all__ += ["PatchesOverlap", "LineNumberTooLarge"]
 
@@ -191,6 +191,11 @@ def render_sheets(report, sheets, *, spans="characters", **settings):
     out.list(sheets, out.sheet)
     out.list(report, out.group)
     return answered(call("yazgult_draw", bytes(out.made)))
+
+
+def answer_json(line):
+    """What `replay --keep-going` answers to a line of JSON, a case as docs/REPORTS.md has it: a line of JSON too."""
+    return call("yazgult_draw_json", line.encode()).decode()
 
 
 def version():
@@ -510,7 +515,7 @@ def load():
     for place in places_of_library():
         if os.path.exists(place) or os.sep not in place:
             library = ctypes.CDLL(place)
-            for name, count in (("yazgult_draw", 2), ("yazgult_version", 1)):
+            for name, count in (("yazgult_draw", 2), ("yazgult_draw_json", 2), ("yazgult_version", 1)):
                 function = getattr(library, name)
                 function.argtypes = [ctypes.c_char_p, ctypes.c_size_t] * count
                 function.restype = ctypes.c_size_t

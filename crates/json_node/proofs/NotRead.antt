@@ -2,7 +2,7 @@
 use Rattle.std.proofs.Common.{◌≡◌, ℕ, List, [], ◌∷◌, Option, Some, true, false, Bool, inl, inr, refl, sym, ap, ◌∙◌}
 use Rattle.std.specs.Prelude.{bytes_eq, codes}
 use Rattle.std.proofs.lemmas.Bool.{false≢true}
-use Rattle.std.proofs.lemmas.Option.{none-some}
+use Rattle.std.proofs.lemmas.Option.{none-some, same_Some}
 use Rattle.serde_json.specs.Data.{unsigned, null, boolean, number, array, object, no_items, member, no_members}
 use Rattle.serde_json.specs.Find.{as_bool, as_str}
 use Rattle.json_node.specs.Field.{HasOneField, HasOnly, as_whole, given_or, optional_at}
@@ -15,9 +15,13 @@ pub label_of_other_type : (found : Option (List ℕ))
     → optional_at as_str (codes "label") (object (member (codes "label") (boolean true) no_members)) ≡ Some found → ⊥
 label_of_other_type found is = none-some found is
 
--- `{"label": null}`: neither is `null`
-pub null_label : (found : Option (List ℕ)) → optional_at as_str (codes "label") (object (member (codes "label") null no_members)) ≡ Some found → ⊥
-null_label found is = none-some found is
+-- `{"label": null}`: `null` is as good as no text, and not an empty one
+pub null_label : (text : List ℕ) → optional_at as_str (codes "label") (object (member (codes "label") null no_members)) ≡ Some (Some text) → ⊥
+null_label text is = none-some text (same_Some _ _ is)
+
+-- `{"fold": null}`: nor is it a truth value of its own: the field counts as left out
+pub null_fold : given_or as_bool true (codes "fold") (object (member (codes "fold") null no_members)) ≡ Some false → ⊥
+null_fold is = false≢true (sym (same_Some _ _ is))
 
 -- `{"line": true}`: nor is it a number that was left out (`optional_number`: `value`)
 pub line_of_other_type : (found : Option ℕ) → optional_at as_whole (codes "line") (object (member (codes "line") (boolean true) no_members)) ≡ Some found → ⊥

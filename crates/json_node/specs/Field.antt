@@ -1,5 +1,5 @@
 -- What values of JSON, and the fields of an object, say.
-use Rattle.std.specs.Prelude.{◌≡◌, ◌⊎◌, ℕ, Bool, List, [], ◌∷◌, Option, Some, None, is_some, true, map, option_and_then, option_map, MatchOption}
+use Rattle.std.specs.Prelude.{◌≡◌, ◌⊎◌, ℕ, Bool, List, [], ◌∷◌, Option, Some, None, is_some, true, map, option_and_then, option_map, MatchOption, if◌then◌else◌}
 use Rattle.std.specs.Borrow.{Bor}
 use Rattle.std.specs.List.{AllZip}
 use Rattle.serde_json.specs.Data.{Data, object, member, no_members}
@@ -22,6 +22,15 @@ number_at name d = option_and_then as_whole (get name d)
 abbrev pub flag_at : List ℕ → Data → Option Bool
 flag_at name d = option_and_then as_bool (get name d)
 
+-- what stands there, where `null` counts as nothing
+abbrev pub but_null : Option Data → Option Data
+but_null None = None
+but_null (Some d) = if is_some (as_null d) then None else Some d
+
+-- what stands in the field of a name that may be left out: none where it is left out, or holds `null`
+abbrev pub given : List ℕ → Data → Option Data
+given name d = but_null (get name d)
+
 -- what a field that may be left out holds, as `reads` reads it: `Some None` where it is left out, `None` where something else stands there
 abbrev pub may_read : {X : Type 0} → (Data → Option X) → Option Data → Option (Option X)
 may_read reads None = Some None
@@ -29,7 +38,7 @@ may_read reads (Some e) = option_map (λ x. Some x) (reads e)
 
 -- the same of the field of a name
 abbrev pub optional_at : {X : Type 0} → (Data → Option X) → List ℕ → Data → Option (Option X)
-optional_at reads name d = may_read reads (get name d)
+optional_at reads name d = may_read reads (given name d)
 
 -- the same, where a field that is left out counts as this value
 abbrev pub read_or : {X : Type 0} → (Data → Option X) → X → Option Data → Option X
@@ -37,7 +46,7 @@ read_or reads missing None = Some missing
 read_or reads missing (Some e) = reads e
 
 abbrev pub given_or : {X : Type 0} → (Data → Option X) → X → List ℕ → Data → Option X
-given_or reads missing name d = read_or reads missing (get name d)
+given_or reads missing name d = read_or reads missing (given name d)
 
 -- the text that is lent, if there is one
 abbrev pub lent_text : Option (Bor (List ℕ)) → Option (List ℕ)
@@ -67,7 +76,8 @@ SaysAt Says name d x = (e : Data) × (get name d ≡ Some e) × Says e x
 
 -- the same of a field that may be left out
 abbrev pub MaySayAt : {X : Type 0} → (Data → X → Type 0) → List ℕ → Data → Option X → Type 0
-MaySayAt Says name d found = MatchOption found (get name d ≡ None) (λ x. SaysAt Says name d x)
+MaySayAt Says name d found =
+    MatchOption found (given name d ≡ None) (λ x. (e : Data) × (given name d ≡ Some e) × Says e x)
 
 -- an object with one field, which has this name and says x
 abbrev pub OnlySays : {X : Type 0} → (Data → X → Type 0) → List ℕ → Data → X → Type 0

@@ -4,7 +4,7 @@ ghost use Rattle.std.specs.Prelude.{◌≡◌, ℕ, List, Some, true, IfOk, IfSo
 ghost use Rattle.serde_json.specs.Data.{object, member, no_members};
 ghost use Rattle.serde_json.specs.Find.{get, get_member};
 ghost use Rattle.serde_json.specs.View.{members_view, view};
-ghost use Rattle.json_node.specs.Field.{HasOneField, HasOnly, IsOneOf, lent_texts};
+ghost use Rattle.json_node.specs.Field.{HasOneField, HasOnly, IsOneOf, given, lent_texts};
 
 use crate::expectation::Expectation;
 use crate::fault::{Fault, Wrong};
@@ -51,7 +51,7 @@ impl<'v> Node<'v, '_> {
         Fault::at(self.alloc, &place, wrong)
     }
 
-    /// The field of this name; `None` where there is none.
+    /// The field of this name, whatever stands there; `None` where there is none.
     pub fn optional<'n>(&'n self, name: &'n str) -> Option<Node<'v, 'n>>
         ensures value { option_map (λ field. view field.value.now) result ≡ get name.now (view self.now.value.now) }
     {
@@ -62,6 +62,16 @@ impl<'v> Node<'v, '_> {
                 place: Place::Field(&self.place, name),
             }),
             None => None,
+        }
+    }
+
+    /// The field of this name; `None` where there is none, or `null` stands there.
+    pub fn given<'n>(&'n self, name: &'n str) -> Option<Node<'v, 'n>>
+        ensures value { option_map (λ field. view field.value.now) result ≡ given name.now (view self.now.value.now) }
+    {
+        match self.optional(name) {
+            Some(field) if !field.value.is_null() => Some(field),
+            _ => None,
         }
     }
 

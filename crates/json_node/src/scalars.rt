@@ -32,12 +32,12 @@ impl<'v> Node<'v, '_> {
         self.needed(name, Expectation::Text)?.as_text()
     }
 
-    /// The text in the field of this name, if there is that field.
+    /// The text in the field of this name, if one is given.
     pub fn optional_text(&self, name: &str) -> Result<Option<&'v str>, Fault>
         ensures value { IfOk result (λ found. optional_at as_str name.now (view self.now.value.now) ≡ Some (lent_text found)) }
         ensures fits { IfOk result (λ found. IfSome found (λ text. TextFits text.now)) }
     {
-        match self.optional(name) {
+        match self.given(name) {
             Some(field) => Ok(Some(field.as_text()?)),
             None => Ok(None),
         }
@@ -60,21 +60,21 @@ impl<'v> Node<'v, '_> {
         self.needed(name, Expectation::Number)?.as_number()
     }
 
-    /// The number in the field of this name, if there is that field.
+    /// The number in the field of this name, if one is given.
     pub fn optional_number(&self, name: &str) -> Result<Option<usize>, Fault>
         ensures value { IfOk result (λ found. optional_at as_whole name.now (view self.now.value.now) ≡ Some found) }
     {
-        match self.optional(name) {
+        match self.given(name) {
             Some(field) => Ok(Some(field.as_number()?)),
             None => Ok(None),
         }
     }
 
-    /// The number in the field of this name, and this one where there is no such field.
+    /// The number in the field of this name, and this one where none is given.
     pub fn number_or(&self, name: &str, missing: usize) -> Result<usize, Fault>
         ensures value { IfOk result (λ number. given_or as_whole missing name.now (view self.now.value.now) ≡ Some number) }
     {
-        match self.optional(name) {
+        match self.given(name) {
             Some(field) => field.as_number(),
             None => Ok(missing),
         }
@@ -107,11 +107,11 @@ impl<'v> Node<'v, '_> {
         self.needed(name, Expectation::Flag)?.as_flag()
     }
 
-    /// The truth value in the field of this name, and this one where there is no such field.
+    /// The truth value in the field of this name, and this one where none is given.
     pub fn flag_or(&self, name: &str, missing: bool) -> Result<bool, Fault>
         ensures value { IfOk result (λ flag. given_or as_bool missing name.now (view self.now.value.now) ≡ Some flag) }
     {
-        match self.optional(name) {
+        match self.given(name) {
             Some(field) => field.as_flag(),
             None => Ok(missing),
         }

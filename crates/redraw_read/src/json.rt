@@ -11,10 +11,7 @@ pub const LEVEL: &str = "\"error\", \"warning\", \"info\", \"note\" or \"help\""
 
 /// The field of this name; `None` where there is none, or null.
 pub fn given<'v, 'n>(node: &'n Node<'v, '_>, name: &'n str) -> Option<Node<'v, 'n>> {
-    match node.optional(name) {
-        Some(field) if !field.value.is_null() => Some(field),
-        _ => None,
-    }
+    node.given(name)
 }
 
 /// The text in the field of this name, if there is one.

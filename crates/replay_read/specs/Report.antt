@@ -18,10 +18,12 @@ use Rattle.snippet_model.specs.declared.snippet.Snippet.{Snippet}
 use Rattle.snippet_model.specs.declared.snippet.Title.{Title}
 use Rattle.serde_json.specs.Data.{Data}
 use Rattle.serde_json.specs.Find.{as_bool, as_null, as_str, get}
-use Rattle.json_node.specs.Field.{SaysAt, OnlySays, OrNull, ListSays, as_whole, flag_at, given_or, number_at, optional_at, text_at}
+use Rattle.json_node.specs.Field.{SaysAt, MaySayAt, OnlySays, OrNull, ListSays, as_whole, flag_at, given_or, optional_at, text_at}
 use Rattle.replay_read.specs.Kinds.{kind_name, mark_name}
 use Rattle.replay_read.specs.Shape.{HasShape}
+use Rattle.replay_read.specs.Span.{IsSpanOf, IsUnit}
 use Rattle.replay_read.specs.declared.shape.Shape.{Shape}
+use Rattle.replay_read.specs.declared.span.SpanUnit.{SpanUnit}
 use Rattle.replay_read.specs.declared.shape.Shape.TheVariants as shape
 
 -- the name of a level: that of its kind where none is given, hidden where it is `null`, else an own one
@@ -56,30 +58,34 @@ pub record IsMessageOf (d : Data) (message : Message) : Type 0 where
   pub level : SaysAt IsLevelOf (codes "level") d message.level
   pub text : text_at (codes "text") d ≡ Some (cow_str_bytes message.text)
 
+-- the markers of a snippet of this source, which stand under this name and say what Says tells of the source, in the unit that is said
+pub record AreMarkersOf {T : Type 0} (Says : List ℕ → Option SpanUnit → Data → T → Type 0) (source name : List ℕ) (d : Data) (markers : List T) : Type 0 where
+  pub unit : Option SpanUnit
+  pub unit_is : MaySayAt IsUnit (codes "unit") d unit
+  pub marked : SaysAt (ListSays (Says source unit)) name d markers
+
 -- a snippet of this shape, whose markers stand under this name and say what Says tells
-pub record IsSnippetOf {T : Type 0} (Says : Data → T → Type 0) (its : Shape) (markers : List ℕ) (d : Data) (snippet : Snippet T) : Type 0 where
+pub record IsSnippetOf {T : Type 0} (Says : List ℕ → Option SpanUnit → Data → T → Type 0) (its : Shape) (markers : List ℕ) (d : Data) (snippet : Snippet T) : Type 0 where
   pub only : HasShape its d
   pub source : text_at (codes "source") d ≡ Some (cow_str_bytes snippet.source)
   pub path : optional_at as_str (codes "path") d ≡ Some (option_map cow_str_bytes snippet.path)
   pub line_start : given_or as_whole 1 (codes "line_start") d ≡ Some snippet.line_start
   pub line_numbering : given_or as_bool true (codes "line_numbering") d ≡ Some snippet.line_numbering
   pub fold : given_or as_bool true (codes "fold") d ≡ Some snippet.fold
-  pub marked : SaysAt (ListSays Says) markers d snippet.markers.items
+  pub marked : AreMarkersOf Says (cow_str_bytes snippet.source) markers d snippet.markers.items
 
 -- an annotation: its kind, its span, its label, and whether it colours the source
-pub record IsAnnotationOf (d : Data) (annotation : Annotation) : Type 0 where
+pub record IsAnnotationOf (source : List ℕ) (unit : Option SpanUnit) (d : Data) (annotation : Annotation) : Type 0 where
   pub only : HasShape shape.Annotation d
   pub kind : text_at (codes "kind") d ≡ Some (mark_name annotation.kind)
-  pub start : number_at (codes "start") d ≡ Some annotation.span.start
-  pub end : number_at (codes "end") d ≡ Some annotation.span.end
+  pub span : IsSpanOf source unit d annotation.span
   pub label : optional_at as_str (codes "label") d ≡ Some (option_map cow_str_bytes annotation.label)
   pub highlight_source : given_or as_bool false (codes "highlight_source") d ≡ Some annotation.highlight_source
 
 -- a patch: its span, and the text that it puts there
-pub record IsPatchOf (d : Data) (patch : Patch) : Type 0 where
+pub record IsPatchOf (source : List ℕ) (unit : Option SpanUnit) (d : Data) (patch : Patch) : Type 0 where
   pub only : HasShape shape.Patch d
-  pub start : number_at (codes "start") d ≡ Some patch.span.start
-  pub end : number_at (codes "end") d ≡ Some patch.span.end
+  pub span : IsSpanOf source unit d patch.span
   pub text : text_at (codes "text") d ≡ Some (cow_str_bytes patch.replacement)
 
 -- an origin: its path, and its line and column where they are given

@@ -17,14 +17,15 @@ names_of shape.Title = codes "level" ∷ codes "text" ∷ codes "primary" ∷ co
 names_of shape.Level = codes "kind" ∷ codes "name" ∷ []
 names_of shape.Element = codes "message" ∷ codes "cause" ∷ codes "suggestion" ∷ codes "origin" ∷ codes "padding" ∷ []
 names_of shape.Message = codes "level" ∷ codes "text" ∷ []
-names_of shape.Cause = codes "source" ∷ codes "path" ∷ codes "line_start" ∷ codes "line_numbering" ∷ codes "fold" ∷ codes "annotations" ∷ []
-names_of shape.Suggestion = codes "source" ∷ codes "path" ∷ codes "line_start" ∷ codes "line_numbering" ∷ codes "fold" ∷ codes "patches" ∷ []
-names_of shape.Annotation = codes "kind" ∷ codes "start" ∷ codes "end" ∷ codes "label" ∷ codes "highlight_source" ∷ []
-names_of shape.Patch = codes "start" ∷ codes "end" ∷ codes "text" ∷ []
+names_of shape.Cause = codes "source" ∷ codes "path" ∷ codes "line_start" ∷ codes "line_numbering" ∷ codes "fold" ∷ codes "unit" ∷ codes "annotations" ∷ []
+names_of shape.Suggestion = codes "source" ∷ codes "path" ∷ codes "line_start" ∷ codes "line_numbering" ∷ codes "fold" ∷ codes "unit" ∷ codes "patches" ∷ []
+names_of shape.Annotation = codes "kind" ∷ codes "start" ∷ codes "end" ∷ codes "from" ∷ codes "to" ∷ codes "label" ∷ codes "highlight_source" ∷ []
+names_of shape.Patch = codes "start" ∷ codes "end" ∷ codes "from" ∷ codes "to" ∷ codes "text" ∷ []
+names_of shape.Place = codes "line" ∷ codes "column" ∷ []
 names_of shape.Origin = codes "path" ∷ codes "line" ∷ codes "column" ∷ []
 names_of shape.Padding = []
 names_of shape.Texts = codes "id" ∷ codes "ok" ∷ []
-names_of shape.Refusal = codes "id" ∷ codes "refused" ∷ codes "text" ∷ []
+names_of shape.Refusal = codes "id" ∷ codes "refused" ∷ codes "text" ∷ codes "group" ∷ codes "element" ∷ codes "marker" ∷ codes "first" ∷ codes "second" ∷ []
 
 -- an object that has fields of this shape alone
 abbrev pub HasShape : Shape → Data → Type 0

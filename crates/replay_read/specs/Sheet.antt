@@ -11,8 +11,8 @@ use Rattle.snippet_style.specs.declared.stylesheet.Stylesheet.{Stylesheet}
 use Rattle.snippet_style.specs.Style.{joined_effects, no_effects, plain_style}
 use Rattle.snippet_style.specs.Stylesheet.{plain_sheet, default_sheet}
 use Rattle.serde_json.specs.Data.{Data}
-use Rattle.serde_json.specs.Find.{as_str, get}
-use Rattle.json_node.specs.Field.{MaySayAt, ListSays, OnlySays, as_whole}
+use Rattle.serde_json.specs.Find.{as_str}
+use Rattle.json_node.specs.Field.{MaySayAt, ListSays, OnlySays, as_whole, given}
 use Rattle.replay_read.specs.Shape.{HasShape}
 use Rattle.replay_read.specs.declared.shape.Shape.TheVariants as shape
 use Rattle.replay_read.specs.declared.effect.EffectName.{EffectName}
@@ -83,7 +83,7 @@ pub record IsStyleOf (d : Data) (style : Style) : Type 0 where
   pub only : HasShape shape.Style d
   pub fg : MaySayAt IsColorOf (codes "fg") d style.fg
   pub bg : MaySayAt IsColorOf (codes "bg") d style.bg
-  pub effects : MayBeEffects (get (codes "effects") d) style.effects
+  pub effects : MayBeEffects (given (codes "effects") d) style.effects
 
 -- a style that is plain where it is missing
 abbrev pub MayBeStyle : Option Data → Style → Type 0
@@ -93,17 +93,17 @@ MayBeStyle (Some d) style = IsStyleOf d style
 -- a sheet that is written out
 pub record IsOwnSheetOf (d : Data) (sheet : Stylesheet) : Type 0 where
   pub only : HasShape shape.Sheet d
-  pub error : MayBeStyle (get (codes "error") d) sheet.error
-  pub warning : MayBeStyle (get (codes "warning") d) sheet.warning
-  pub info : MayBeStyle (get (codes "info") d) sheet.info
-  pub note : MayBeStyle (get (codes "note") d) sheet.note
-  pub help : MayBeStyle (get (codes "help") d) sheet.help
-  pub line_num : MayBeStyle (get (codes "line_num") d) sheet.line_num
-  pub emphasis : MayBeStyle (get (codes "emphasis") d) sheet.emphasis
-  pub none : MayBeStyle (get (codes "none") d) sheet.none
-  pub context : MayBeStyle (get (codes "context") d) sheet.context
-  pub addition : MayBeStyle (get (codes "addition") d) sheet.addition
-  pub removal : MayBeStyle (get (codes "removal") d) sheet.removal
+  pub error : MayBeStyle (given (codes "error") d) sheet.error
+  pub warning : MayBeStyle (given (codes "warning") d) sheet.warning
+  pub info : MayBeStyle (given (codes "info") d) sheet.info
+  pub note : MayBeStyle (given (codes "note") d) sheet.note
+  pub help : MayBeStyle (given (codes "help") d) sheet.help
+  pub line_num : MayBeStyle (given (codes "line_num") d) sheet.line_num
+  pub emphasis : MayBeStyle (given (codes "emphasis") d) sheet.emphasis
+  pub none : MayBeStyle (given (codes "none") d) sheet.none
+  pub context : MayBeStyle (given (codes "context") d) sheet.context
+  pub addition : MayBeStyle (given (codes "addition") d) sheet.addition
+  pub removal : MayBeStyle (given (codes "removal") d) sheet.removal
 
 -- a sheet: `plain`, `default`, or one that is written out
 abbrev pub IsNamedSheet : List ℕ → Stylesheet → Type 0

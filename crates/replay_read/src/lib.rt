@@ -7,3 +7,4 @@ pub mod list;
 pub mod report;
 pub mod shape;
 pub mod sheet;
+pub mod span;

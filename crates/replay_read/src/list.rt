@@ -1,12 +1,14 @@
 //! How lists are read, item by item.
 
-ghost use Rattle.std.specs.Prelude.{◌≡◌, Some, IfOk, All};
+ghost use Rattle.std.specs.Prelude.{◌≡◌, ℕ, List, Option, Some, IfOk, All};
 ghost use Rattle.snippet_model.specs.Fits.{TextFits};
 ghost use Rattle.serde_json.specs.Data.{Data};
 ghost use Rattle.serde_json.specs.Find.{as_str};
 ghost use Rattle.serde_json.specs.View.{view};
 ghost use Rattle.json_node.specs.Field.{SaysAt, ListSays, as_whole};
+ghost use Rattle.replay_read.specs.declared.span.SpanUnit.{SpanUnit};
 
+use crate::span::Ruler;
 use json_node::expectation::Expectation;
 use json_node::fault::Fault;
 use json_node::node::Node;
@@ -22,6 +24,20 @@ pub trait Read<'v> {
     /// What the item is read as; a fault where it isn't what is expected.
     fn read(node: &Node<'v, '_>) -> Result<Self, Fault>
         ensures value { IfOk result (says (view node.now.value.now)) }
+        ensures fits { IfOk result fits };
+}
+
+/// What an item of a list of markers may be read as, by the source that they mark.
+pub trait Marker<'v> {
+    /// What an item says of this source, in this unit, where it is read as this.
+    ghost says: { List ℕ → Option SpanUnit → Data → Self → Type 0 };
+
+    /// What holds of whatever is read: that its texts fit.
+    ghost fits: { Self → Type 0 };
+
+    /// What the item is read as; a fault where it isn't what is expected.
+    fn read(node: &Node<'v, '_>, ruler: Ruler<'_>) -> Result<Self, Fault>
+        ensures value { IfOk result (says ruler.entry.source.now ruler.entry.unit (view node.now.value.now)) }
         ensures fits { IfOk result fits };
 }
 
@@ -68,4 +84,23 @@ pub fn list_at<'v, T: Read<'v> + Drop>(object: &Node<'v, '_>, name: &str) -> Res
     ensures fits { IfOk result (λ xs. All T.fits xs.items) }
 {
     items_of(&object.needed(name, Expectation::List)?)
+}
+
+/// What the items of a list of markers are read as, in order.
+pub fn markers_of<'v, T: Marker<'v> + Drop>(
+    list: &Node<'v, '_>,
+    ruler: Ruler<'_>,
+) -> Result<Vec<T>, Fault>
+    ensures value { IfOk result (λ xs.
+        ListSays (T.says ruler.entry.source.now ruler.entry.unit) (view list.now.value.now) xs.items) }
+    ensures fits { IfOk result (λ xs. All T.fits xs.items) }
+{
+    let Some(values) = list.value.as_array() else {
+        return Err(list.unexpected(Expectation::List));
+    };
+    let mut items = Vec::new(list.alloc);
+    for (index, value) in values.iter().enumerate() {
+        items.push(T::read(&list.item(index, value), ruler)?)?;
+    }
+    Ok(items)
 }

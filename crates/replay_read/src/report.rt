@@ -1,18 +1,19 @@
 //! How groups are read: which fields there are, which of them may be missing, and what they then are.
 
-ghost use Rattle.std.specs.Prelude.{◌≡◌, Some, true, IfOk, IfSome, codes, option_and_then, option_map};
+ghost use Rattle.std.specs.Prelude.{◌≡◌, Some, true, All, IfOk, IfSome, codes, option_and_then, option_map};
 ghost use Rattle.std.specs.Cow.{cow_str_bytes};
 ghost use Rattle.snippet_model.specs.Fits.{GroupFits, IdFits, TitleFits, LevelFits, MessageFits, ElementFits};
 ghost use Rattle.snippet_model.specs.Fits.{AnnotationFits, PatchFits, SnippetFits, TextFits};
 ghost use Rattle.serde_json.specs.Find.{as_bool, as_str, get};
 ghost use Rattle.serde_json.specs.View.{view};
 ghost use Rattle.json_node.specs.Field.{OrNull, SaysAt, as_whole, given_or, lent_text};
-ghost use Rattle.replay_read.specs.Report.{IsAnnotationOf, IsElementOf, IsGroupOf, IsLevelOf, IsMessageOf, IsNameOf};
+ghost use Rattle.replay_read.specs.Report.{AreMarkersOf, IsAnnotationOf, IsElementOf, IsGroupOf, IsLevelOf, IsMessageOf, IsNameOf};
 ghost use Rattle.replay_read.specs.Report.{IsOriginOf, IsPatchOf, IsSnippetOf, IsTitleOf};
 ghost use Rattle.replay_read.specs.Kinds.{NameFits, kind_name, mark_name};
 
-use crate::list::{Read, list_at};
+use crate::list::{Marker, Read, list_at, markers_of};
 use crate::shape::{FormatValue, Shape, has_shape};
+use crate::span::{Ruler, span_of, unit_in};
 use json_node::expectation::Expectation;
 use json_node::fault::Fault;
 use json_node::node::Node;
@@ -209,7 +210,7 @@ fn message_of<'v>(node: &Node<'v, '_>) -> Result<Message<'v>, Fault>
 }
 
 /// The snippet of this shape that is described, with the markers in the field of this name.
-fn snippet_of<'v, T: Read<'v> + Drop>(
+fn snippet_of<'v, T: Marker<'v> + Drop>(
     node: &Node<'v, '_>,
     shape: Shape,
     markers: &str,
@@ -221,7 +222,7 @@ fn snippet_of<'v, T: Read<'v> + Drop>(
     let source = node.text("source")?;
     let path = node.optional_text("path")?;
     let (line_start, line_numbering, fold) = lines_of(node)?;
-    let markers = list_at(node, markers)?;
+    let markers = marked_in(node, markers, source)?;
     Ok(Snippet {
         source: CowStr::Borrowed(source),
         path: lent(path),
@@ -230,6 +231,20 @@ fn snippet_of<'v, T: Read<'v> + Drop>(
         fold,
         markers,
     })
+}
+
+/// The markers of a snippet, in the field of this name, by the source that they mark.
+fn marked_in<'v, T: Marker<'v> + Drop>(
+    snippet: &Node<'v, '_>,
+    name: &str,
+    source: &str,
+) -> Result<Vec<T>, Fault>
+    ensures value { IfOk result (λ xs. AreMarkersOf T.says source.now name.now (view snippet.now.value.now) xs.items) }
+    ensures fits { IfOk result (λ xs. All T.fits xs.items) }
+{
+    let unit = unit_in(snippet)?;
+    let ruler = Ruler { source, unit };
+    markers_of(&snippet.needed(name, Expectation::List)?, ruler)
 }
 
 /// How the lines of a snippet are shown: the number of the first, whether they have numbers, and whether some are left out.
@@ -246,20 +261,19 @@ fn lines_of(snippet: &Node<'_, '_>) -> Result<(usize, bool, bool), Fault>
     Ok((line_start, line_numbering, fold))
 }
 
-impl<'v> Read<'v> for Annotation<'v> {
+impl<'v> Marker<'v> for Annotation<'v> {
     ghost says = { IsAnnotationOf };
 
     ghost fits = { AnnotationFits };
 
-    fn read(node: &Node<'v, '_>) -> Result<Self, Fault> {
+    fn read(node: &Node<'v, '_>, ruler: Ruler<'_>) -> Result<Self, Fault> {
         has_shape(node, Shape::Annotation)?;
         let kind = mark_of(&node.needed("kind", FormatValue::AnnotationKind)?)?;
-        let start = node.number("start")?;
-        let end = node.number("end")?;
+        let span = span_of(node, ruler)?;
         let label = node.optional_text("label")?;
         let highlight_source = node.flag_or("highlight_source", false)?;
         Ok(Annotation {
-            span: start..end,
+            span,
             label: lent(label),
             kind,
             highlight_source,
@@ -279,18 +293,17 @@ fn mark_of(node: &Node<'_, '_>) -> Result<AnnotationKind, Fault>
     }
 }
 
-impl<'v> Read<'v> for Patch<'v> {
+impl<'v> Marker<'v> for Patch<'v> {
     ghost says = { IsPatchOf };
 
     ghost fits = { PatchFits };
 
-    fn read(node: &Node<'v, '_>) -> Result<Self, Fault> {
+    fn read(node: &Node<'v, '_>, ruler: Ruler<'_>) -> Result<Self, Fault> {
         has_shape(node, Shape::Patch)?;
-        let start = node.number("start")?;
-        let end = node.number("end")?;
+        let span = span_of(node, ruler)?;
         let text = node.text("text")?;
         Ok(Patch {
-            span: start..end,
+            span,
             replacement: CowStr::Borrowed(text),
         })
     }

@@ -33,6 +33,7 @@ const CAUSE: &[&str] = &[
     "line_start",
     "line_numbering",
     "fold",
+    "unit",
     "annotations",
 ];
 
@@ -43,7 +44,24 @@ const SUGGESTION: &[&str] = &[
     "line_start",
     "line_numbering",
     "fold",
+    "unit",
     "patches",
+];
+
+/// The fields of an annotation.
+const ANNOTATION: &[&str] = &[
+    "kind",
+    "start",
+    "end",
+    "from",
+    "to",
+    "label",
+    "highlight_source",
+];
+
+/// The fields of the answer to a case that is refused.
+const REFUSAL: &[&str] = &[
+    "id", "refused", "text", "group", "element", "marker", "first", "second",
 ];
 
 /// An object of the format, which has fields of its own names.
@@ -63,6 +81,7 @@ pub enum Shape {
     Suggestion,
     Annotation,
     Patch,
+    Place,
     Origin,
     Padding,
     Texts,
@@ -87,12 +106,13 @@ impl Shape {
             Shape::Message => &["level", "text"],
             Shape::Cause => CAUSE,
             Shape::Suggestion => SUGGESTION,
-            Shape::Annotation => &["kind", "start", "end", "label", "highlight_source"],
-            Shape::Patch => &["start", "end", "text"],
+            Shape::Annotation => ANNOTATION,
+            Shape::Patch => &["start", "end", "from", "to", "text"],
+            Shape::Place => &["line", "column"],
             Shape::Origin => &["path", "line", "column"],
             Shape::Padding => &[],
             Shape::Texts => &["id", "ok"],
-            Shape::Refusal => &["id", "refused", "text"],
+            Shape::Refusal => REFUSAL,
         }
     }
 }
@@ -110,6 +130,9 @@ pub enum FormatValue {
     ObjectOrNull,
     LevelKind,
     AnnotationKind,
+    SpanUnit,
+    /// Nothing, beside a span's places.
+    NoNumber,
     Element,
     Sheet,
     Color,
@@ -123,6 +146,8 @@ impl fmt::Display for FormatValue {
             FormatValue::ObjectOrNull => "an object or null",
             FormatValue::LevelKind => "\"error\", \"warning\", \"info\", \"note\" or \"help\"",
             FormatValue::AnnotationKind => "\"primary\", \"context\" or \"visible\"",
+            FormatValue::SpanUnit => "\"byte\", \"char\" or \"utf16\"",
+            FormatValue::NoNumber => "nothing beside from and to",
             FormatValue::Element => {
                 "an object with one of message, cause, suggestion, origin and padding"
             }

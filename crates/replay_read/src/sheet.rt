@@ -1,9 +1,9 @@
 //! How sheets and their styles are read.
 
 ghost use Rattle.std.specs.Prelude.{◌≡◌, [], ◌∷◌, Some, IfOk, codes};
-ghost use Rattle.serde_json.specs.Find.{as_str, get};
+ghost use Rattle.serde_json.specs.Find.{as_str};
 ghost use Rattle.serde_json.specs.View.{view};
-ghost use Rattle.json_node.specs.Field.{MaySayAt};
+ghost use Rattle.json_node.specs.Field.{MaySayAt, given};
 ghost use Rattle.replay_read.specs.Sheet.{AreBytes, AreEffectsOf, AreSheetsOf, IsColorOf, IsOwnSheetOf, IsSheetOf};
 ghost use Rattle.replay_read.specs.Sheet.{IsStyleOf, MayBeEffects, MayBeStyle};
 ghost use Rattle.replay_read.specs.Sheet as spec;
@@ -16,11 +16,11 @@ use json_node::fault::Fault;
 use json_node::node::Node;
 use snippet_style::{AnsiColor, Color, Effects, Style, Stylesheet};
 
-/// The sheets of a case: the plain one where the field is missing.
+/// The sheets of a case: the plain one where none are given.
 pub fn sheets_of(case: &Node<'_, '_>) -> Result<Vec<Stylesheet>, Fault>
-    ensures value { IfOk result (λ sheets. AreSheetsOf (get (codes "sheets") (view case.now.value.now)) sheets.items) }
+    ensures value { IfOk result (λ sheets. AreSheetsOf (given (codes "sheets") (view case.now.value.now)) sheets.items) }
 {
-    match case.optional("sheets") {
+    match case.given("sheets") {
         Some(sheets) => items_of(&sheets),
         None => Ok(vec![in case.alloc; Stylesheet::plain()]?),
     }
@@ -41,7 +41,7 @@ impl<'v> Read<'v> for Stylesheet {
     }
 }
 
-/// The sheet of these fields, plain where one is missing.
+/// The sheet of these fields, plain where one isn't given.
 fn own_sheet(node: &Node<'_, '_>) -> Result<Stylesheet, Fault>
     ensures value { IfOk result (IsOwnSheetOf (view node.now.value.now)) }
 {
@@ -64,11 +64,11 @@ fn own_sheet(node: &Node<'_, '_>) -> Result<Stylesheet, Fault>
 
 /// The sheet of the styles of levels, plain in all else.
 fn level_styles(sheet: &Node<'_, '_>) -> Result<Stylesheet, Fault>
-    ensures error { IfOk result (λ styles. MayBeStyle (get (codes "error") (view sheet.now.value.now)) styles.error) }
-    ensures warning { IfOk result (λ styles. MayBeStyle (get (codes "warning") (view sheet.now.value.now)) styles.warning) }
-    ensures info { IfOk result (λ styles. MayBeStyle (get (codes "info") (view sheet.now.value.now)) styles.info) }
-    ensures note { IfOk result (λ styles. MayBeStyle (get (codes "note") (view sheet.now.value.now)) styles.note) }
-    ensures help { IfOk result (λ styles. MayBeStyle (get (codes "help") (view sheet.now.value.now)) styles.help) }
+    ensures error { IfOk result (λ styles. MayBeStyle (given (codes "error") (view sheet.now.value.now)) styles.error) }
+    ensures warning { IfOk result (λ styles. MayBeStyle (given (codes "warning") (view sheet.now.value.now)) styles.warning) }
+    ensures info { IfOk result (λ styles. MayBeStyle (given (codes "info") (view sheet.now.value.now)) styles.info) }
+    ensures note { IfOk result (λ styles. MayBeStyle (given (codes "note") (view sheet.now.value.now)) styles.note) }
+    ensures help { IfOk result (λ styles. MayBeStyle (given (codes "help") (view sheet.now.value.now)) styles.help) }
 {
     Ok(Stylesheet {
         error: style_at(sheet, "error")?,
@@ -82,12 +82,12 @@ fn level_styles(sheet: &Node<'_, '_>) -> Result<Stylesheet, Fault>
 
 /// The sheet of the other styles, plain in all else.
 fn part_styles(sheet: &Node<'_, '_>) -> Result<Stylesheet, Fault>
-    ensures line_num { IfOk result (λ styles. MayBeStyle (get (codes "line_num") (view sheet.now.value.now)) styles.line_num) }
-    ensures emphasis { IfOk result (λ styles. MayBeStyle (get (codes "emphasis") (view sheet.now.value.now)) styles.emphasis) }
-    ensures none { IfOk result (λ styles. MayBeStyle (get (codes "none") (view sheet.now.value.now)) styles.none) }
-    ensures context { IfOk result (λ styles. MayBeStyle (get (codes "context") (view sheet.now.value.now)) styles.context) }
-    ensures addition { IfOk result (λ styles. MayBeStyle (get (codes "addition") (view sheet.now.value.now)) styles.addition) }
-    ensures removal { IfOk result (λ styles. MayBeStyle (get (codes "removal") (view sheet.now.value.now)) styles.removal) }
+    ensures line_num { IfOk result (λ styles. MayBeStyle (given (codes "line_num") (view sheet.now.value.now)) styles.line_num) }
+    ensures emphasis { IfOk result (λ styles. MayBeStyle (given (codes "emphasis") (view sheet.now.value.now)) styles.emphasis) }
+    ensures none { IfOk result (λ styles. MayBeStyle (given (codes "none") (view sheet.now.value.now)) styles.none) }
+    ensures context { IfOk result (λ styles. MayBeStyle (given (codes "context") (view sheet.now.value.now)) styles.context) }
+    ensures addition { IfOk result (λ styles. MayBeStyle (given (codes "addition") (view sheet.now.value.now)) styles.addition) }
+    ensures removal { IfOk result (λ styles. MayBeStyle (given (codes "removal") (view sheet.now.value.now)) styles.removal) }
 {
     Ok(Stylesheet {
         line_num: style_at(sheet, "line_num")?,
@@ -100,11 +100,11 @@ fn part_styles(sheet: &Node<'_, '_>) -> Result<Stylesheet, Fault>
     })
 }
 
-/// The style in the field of this name, plain where there is no such field.
+/// The style in the field of this name, plain where none is given.
 fn style_at(sheet: &Node<'_, '_>, name: &str) -> Result<Style, Fault>
-    ensures value { IfOk result (MayBeStyle (get name.now (view sheet.now.value.now))) }
+    ensures value { IfOk result (MayBeStyle (given name.now (view sheet.now.value.now))) }
 {
-    match sheet.optional(name) {
+    match sheet.given(name) {
         Some(style) => style_of(&style),
         None => Ok(Style::new()),
     }
@@ -122,11 +122,11 @@ fn style_of(node: &Node<'_, '_>) -> Result<Style, Fault>
     })
 }
 
-/// The effects of a style, none where the field is missing.
+/// The effects of a style, none where no list is given.
 fn effects_at(style: &Node<'_, '_>) -> Result<Effects, Fault>
-    ensures value { IfOk result (MayBeEffects (get (codes "effects") (view style.now.value.now))) }
+    ensures value { IfOk result (MayBeEffects (given (codes "effects") (view style.now.value.now))) }
 {
-    match style.optional("effects") {
+    match style.given("effects") {
         Some(effects) => effects_of(&effects),
         None => Ok(Effects::new()),
     }
@@ -160,11 +160,11 @@ fn effect_name(node: &Node<'_, '_>) -> Result<EffectName, Fault>
     Err(node.unexpected(FormatValue::Effect))
 }
 
-/// The colour in the field of this name, if there is that field.
+/// The colour in the field of this name, if one is given.
 fn color_at(style: &Node<'_, '_>, name: &str) -> Result<Option<Color>, Fault>
     ensures value { IfOk result (MaySayAt IsColorOf name.now (view style.now.value.now)) }
 {
-    match style.optional(name) {
+    match style.given(name) {
         Some(color) => Ok(Some(color_of(&color)?)),
         None => Ok(None),
     }

@@ -1,5 +1,6 @@
 -- The readers answered so far.
-use Rattle.std.proofs.Common.{◌≡◌, ◌⊎◌, ℕ, zero, suc, ◌+◌, ◌<◌, Bool, true, List, [], ◌∷◌, ◌++◌, Bor, Option, arith, codes, length, map, slice_index_or, refl}
+use Rattle.std.proofs.Common.{◌≡◌, ◌⊎◌, ℕ, zero, suc, ◌+◌, ◌<◌, Bool, true, false, ◌||◌, List, [], ◌∷◌, ◌++◌, Bor, Option, arith, codes, length, map}
+use Rattle.std.proofs.Common.{slice_index_or, refl}
 use Rattle.std.proofs.Common.{sym, ap, ◌∙◌, subst, inl, inr}
 use Rattle.std.specs.Prelude.{IfErr, OnErr, OnOk, Result, Ok, Err}
 use Rattle.std.specs.Io.KnownBytes.{Appends, Keeps}
@@ -8,52 +9,58 @@ use Rattle.std.proofs.KnownBytes.{Keeps-trans}
 use Rattle.std.proofs.lemmas.List.{append-nil, length_push}
 use Rattle.std.proofs.lemmas.List.Concat.{flat_map-append}
 use Rattle.std.proofs.lemmas.List.Elements.{All-push}
-use Rattle.replay_run.specs.Answer.{AnswersLines, first_after}
-use Rattle.replay_run.specs.Answered.{AnswersReader, AnswersReaders, AppendsFirst, AreRead, StopsAfter, StopsAt, StopsReader, StopsReaders}
+use Rattle.replay_run.specs.Answer.{AnswersLines, Numbered, first_after}
+use Rattle.replay_run.specs.Answered.{AnswersReader, AnswersReaders, AppendsFirst, AreRead, IsEndTrouble, StopsAfter, StopsAt, StopsFor, StopsReader}
+use Rattle.replay_run.specs.Answered.{StopsReaders}
 use Rattle.replay_run.specs.Trouble.{IsWrite}
 use Rattle.replay_run.specs.Words.{Word}
 use Rattle.replay_run.specs.declared.trouble.Trouble.{Trouble}
-use Rattle.replay_run.specs.declared.lines.Form.{Form}
+use Rattle.replay_run.specs.declared.lines.Way.{Way}
 use Rattle.replay_run.proofs.AnsweredLines.{answered_twice, first_twice, written_twice}
 use Rattle.replay_run.proofs.Growing.{appends_kept, appends_none}
 
 -- the lines of readers, one reader after another
-abbrev pub lines_of : {Reader : Type 0} → List (Reader × List (List ℕ)) → List (List ℕ)
+abbrev pub lines_of : {Reader : Type 0} → List (Reader × List Numbered) → List Numbered
 lines_of readers = flat_map (λ reader. reader.1) readers
 
-lines_push : {Reader : Type 0} (readers : List (Reader × List (List ℕ))) (reader : Reader) (lines : List (List ℕ))
+lines_push : {Reader : Type 0} (readers : List (Reader × List Numbered)) (reader : Reader) (lines : List Numbered)
     → lines_of (readers ++ (reader, lines) ∷ []) ≡ lines_of readers ++ lines
 lines_push readers reader lines =
-    flat_map-append (λ r. r.1) readers ((reader, lines) ∷ []) ∙ ap (λ (l : List (List ℕ)). lines_of readers ++ l) (append-nil lines)
+    flat_map-append (λ r. r.1) readers ((reader, lines) ∷ []) ∙ ap (λ (l : List Numbered). lines_of readers ++ l) (append-nil lines)
 
 -- readers are answered, and still_first tells whether still nothing is written
-pub record HaveAnsweredReaders (Reader : Type 0) (bytes : Reader → Option (List ℕ)) (form : Form) (count : ℕ) (still_first : Bool) (old new : Option (List ℕ)) : Type 0 where
-  pub all : AnswersReaders Reader bytes form count old new
+pub record HaveAnsweredReaders (Reader : Type 0) (bytes : Reader → Option (List ℕ)) (way : Way) (told : Bool) (count : ℕ) (still_first : Bool) (old new : Option (List ℕ)) : Type 0 where
+  pub all : AnswersReaders Reader bytes way told count old new
   pub still : still_first ≡ first_after true (lines_of all.readers)
 
 -- before any reader is read nothing is answered
-pub readers_none : {Reader : Type 0} (bytes : Reader → Option (List ℕ)) (form : Form) (old : Option (List ℕ))
-    → HaveAnsweredReaders Reader bytes form 0 true old old
-readers_none bytes form old =
+pub readers_none : {Reader : Type 0} (bytes : Reader → Option (List ℕ)) (way : Way) (old : Option (List ℕ))
+    → HaveAnsweredReaders Reader bytes way false 0 true old old
+readers_none bytes way old =
     record {
       all = record {
         readers = [];
         many = refl;
         read = λ k d within. absurd (omega (arith, within));
         texts = [];
-        answered = tt;
+        answered = refl;
         written = appends_none old;
       };
       still = refl;
     }
 
 -- with one more reader that is answered the readers so far are answered
-pub readers_more : {Reader : Type 0} (bytes : Reader → Option (List ℕ)) (form : Form) (count : ℕ) (is_first still_first : Bool)
-    (old mid new : Option (List ℕ)) (reader : Reader) → HaveAnsweredReaders Reader bytes form count is_first old mid
-    → AnswersReader form is_first still_first (bytes reader) mid new → HaveAnsweredReaders Reader bytes form (count + 1) still_first old new
-readers_more bytes form count is_first still_first old mid new reader h one =
+pub readers_more : {Reader : Type 0} (bytes : Reader → Option (List ℕ)) (way : Way) (told here both : Bool) (count : ℕ) (is_first still_first : Bool)
+    (old mid new : Option (List ℕ)) (reader : Reader) → HaveAnsweredReaders Reader bytes way told count is_first old mid
+    → AnswersReader way here is_first still_first (bytes reader) mid new → both ≡ told || here
+    → HaveAnsweredReaders Reader bytes way both (count + 1) still_first old new
+readers_more {Reader} bytes way told here both count is_first still_first old mid new reader h one either =
     let so_far = lines_of h.all.readers in
-    let next : AnswersLines form (first_after true so_far) one.lines one.texts = subst (λ f. AnswersLines form f one.lines one.texts) h.still one.answered in
+    let next : AnswersLines way here (first_after true so_far) one.lines one.texts = subst (λ f. AnswersLines way here f one.lines one.texts) h.still one.answered in
+    let all_lines = so_far ++ one.lines in
+    let all_texts = h.all.texts ++ one.texts in
+    let joined = answered_twice way told here true so_far h.all.texts one.lines one.texts h.all.answered next in
+    let all = subst (λ t. AnswersLines way t true all_lines all_texts) (sym either) joined in
     let pushed = lines_push h.all.readers reader one.lines in
     record {
       all = record {
@@ -61,23 +68,23 @@ readers_more bytes form count is_first still_first old mid new reader h one =
         many = length_push h.all.readers (reader, one.lines) ∙ ap (λ n. n + 1) h.all.many;
         read = All-push (λ r. AreRead (bytes r.0) r.1) h.all.readers (reader, one.lines) h.all.read one.read;
         texts = h.all.texts ++ one.texts;
-        answered = subst (λ l. AnswersLines form true l (h.all.texts ++ one.texts)) (sym pushed) (answered_twice form true so_far h.all.texts one.lines one.texts h.all.answered next);
+        answered = subst (λ l. AnswersLines way both true l (h.all.texts ++ one.texts)) (sym pushed) all;
         written = written_twice old mid new h.all.texts one.texts h.all.written one.written;
       };
       still = one.still ∙ ap (λ f. first_after f one.lines) h.still ∙ sym (first_twice true so_far one.lines) ∙ ap (first_after true) (sym pushed);
     }
 
 -- one reader alone
-pub reader_alone : {Reader : Type 0} (bytes : Reader → Option (List ℕ)) (form : Form) (still_first : Bool) (old new : Option (List ℕ)) (reader : Reader)
-    → AnswersReader form true still_first (bytes reader) old new → AnswersReaders Reader bytes form 1 old new
-reader_alone bytes form still_first old new reader one =
-    let more = readers_more bytes form 0 true still_first old old new reader (readers_none bytes form old) one in
+pub reader_alone : {Reader : Type 0} (bytes : Reader → Option (List ℕ)) (way : Way) (told still_first : Bool) (old new : Option (List ℕ)) (reader : Reader)
+    → AnswersReader way told true still_first (bytes reader) old new → AnswersReaders Reader bytes way told 1 old new
+reader_alone bytes way told still_first old new reader one =
+    let more = readers_more bytes way false told told 0 true still_first old old new reader (readers_none bytes way old) one refl in
     more.all
 
 -- a flush afterwards changes nothing
-pub readers_kept : {Reader : Type 0} (bytes : Reader → Option (List ℕ)) (form : Form) (count : ℕ) (old mid new : Option (List ℕ))
-    → AnswersReaders Reader bytes form count old mid → Keeps mid new → AnswersReaders Reader bytes form count old new
-readers_kept bytes form count old mid new h kept =
+pub readers_kept : {Reader : Type 0} (bytes : Reader → Option (List ℕ)) (way : Way) (told : Bool) (count : ℕ) (old mid new : Option (List ℕ))
+    → AnswersReaders Reader bytes way told count old mid → Keeps mid new → AnswersReaders Reader bytes way told count old new
+readers_kept bytes way told count old mid new h kept =
     record {
       readers = h.readers;
       many = h.many;
@@ -93,10 +100,10 @@ on_ok (Ok x) tells h = tells h
 on_ok (Err e) tells h = tt
 
 -- two readers that hold the same are answered by the same
-pub answered_same : (form : Form) (is_first still_first : Bool) (held same old new : Option (List ℕ)) → held ≡ same
-    → AnswersReader form is_first still_first held old new → AnswersReader form is_first still_first same old new
-answered_same form is_first still_first held same old new is h =
-    subst (λ bytes. AnswersReader form is_first still_first bytes old new) is h
+pub answered_same : (way : Way) (told is_first still_first : Bool) (held same old new : Option (List ℕ)) → held ≡ same
+    → AnswersReader way told is_first still_first held old new → AnswersReader way told is_first still_first same old new
+answered_same way told is_first still_first held same old new is h =
+    subst (λ bytes. AnswersReader way told is_first still_first bytes old new) is h
 
 -- what is known of an answer Err tells more
 pub on_err : {T E P Q : Type 0} (r : Result T E) → (P → Q) → OnErr r P → OnErr r Q
@@ -113,15 +120,15 @@ pub if_err : {T E : Type 0} {P Q : E → Type 0} (r : Result T E) → ((e : E) �
 if_err (Ok x) tells h = tt
 if_err (Err e) tells h = tells e h
 
-pub stopped_same : (form : Form) (is_first : Bool) (held same old new : Option (List ℕ)) (trouble : Trouble) → held ≡ same
-    → StopsReader form is_first held old new trouble → StopsReader form is_first same old new trouble
-stopped_same form is_first held same old new trouble is h =
-    subst (λ bytes. StopsReader form is_first bytes old new trouble) is h
+pub stopped_same : (way : Way) (is_first : Bool) (held same old new : Option (List ℕ)) (trouble : Trouble) → held ≡ same
+    → StopsReader way is_first held old new trouble → StopsReader way is_first same old new trouble
+stopped_same way is_first held same old new trouble is h =
+    subst (λ bytes. StopsReader way is_first bytes old new trouble) is h
 
-part_kept : (held old mid new : Option (List ℕ)) (lines : List (List ℕ)) (whole : List ℕ) (trouble : Trouble)
-    → (IsWrite trouble × AppendsFirst old mid whole) ⊎ (Appends old mid whole × StopsAfter held lines trouble)
-    → Keeps mid new → (IsWrite trouble × AppendsFirst old new whole) ⊎ (Appends old new whole × StopsAfter held lines trouble)
-part_kept held old mid new lines whole trouble (inl h) kept =
+part_kept : (way : Way) (held old mid new : Option (List ℕ)) (lines : List Numbered) (whole : List ℕ) (trouble : Trouble)
+    → (IsWrite trouble × AppendsFirst old mid whole) ⊎ (Appends old mid whole × StopsAfter held lines trouble × StopsFor way trouble)
+    → Keeps mid new → (IsWrite trouble × AppendsFirst old new whole) ⊎ (Appends old new whole × StopsAfter held lines trouble × StopsFor way trouble)
+part_kept way held old mid new lines whole trouble (inl h) kept =
     inl (
       h.0,
       record {
@@ -131,25 +138,26 @@ part_kept held old mid new lines whole trouble (inl h) kept =
         added = appends_kept old mid new h.1.part h.1.added kept;
       },
     )
-part_kept held old mid new lines whole trouble (inr h) kept = inr (appends_kept old mid new whole h.0 kept, h.1)
+part_kept way held old mid new lines whole trouble (inr h) kept = inr (appends_kept old mid new whole h.0 kept, h.1, h.2)
 
 -- nothing more is written after it stopped
-stopped_kept : (form : Form) (is_first : Bool) (held old mid new : Option (List ℕ)) (trouble : Trouble) → StopsReader form is_first held old mid trouble
-    → Keeps mid new → StopsReader form is_first held old new trouble
-stopped_kept form is_first held old mid new trouble h kept =
+stopped_kept : (way : Way) (is_first : Bool) (held old mid new : Option (List ℕ)) (trouble : Trouble) → StopsReader way is_first held old mid trouble
+    → Keeps mid new → StopsReader way is_first held old new trouble
+stopped_kept way is_first held old mid new trouble h kept =
     record {
       lines = h.lines;
       read = h.read;
       texts = h.texts;
+      told = h.told;
       answered = h.answered;
-      written = part_kept held old mid new h.lines (concat h.texts) trouble h.written kept;
+      written = part_kept way held old mid new h.lines (concat h.texts) trouble h.written kept;
     }
 
-at_kept : {Reader : Type 0} (bytes : Reader → Option (List ℕ)) (form : Form) (is_first : Bool) (old mid new : Option (List ℕ)) (trouble : Trouble)
-    → StopsAt Reader bytes form is_first old mid trouble → Keeps mid new → StopsAt Reader bytes form is_first old new trouble
-at_kept bytes form is_first old mid new trouble (inl h) kept = inl (Keeps-trans old mid new h.0 kept, h.1)
-at_kept bytes form is_first old mid new trouble (inr h) kept =
-    inr (h.0, stopped_kept form is_first (bytes h.0) old mid new trouble h.1 kept)
+at_kept : {Reader : Type 0} (bytes : Reader → Option (List ℕ)) (way : Way) (is_first : Bool) (old mid new : Option (List ℕ)) (trouble : Trouble)
+    → StopsAt Reader bytes way is_first old mid trouble → Keeps mid new → StopsAt Reader bytes way is_first old new trouble
+at_kept bytes way is_first old mid new trouble (inl h) kept = inl (Keeps-trans old mid new h.0 kept, h.1)
+at_kept bytes way is_first old mid new trouble (inr h) kept =
+    inr (h.0, stopped_kept way is_first (bytes h.0) old mid new trouble h.1 kept)
 
 -- the name at this place, and those before and after it
 pub names_at : (refs : List (Bor Word)) (i : ℕ) (d : Bor Word) → i < length refs
@@ -161,52 +169,56 @@ names_at (r ∷ refs) (suc i) d within =
     (r.now ∷ before, after, ap (λ (l : List Word). r.now ∷ l) split, ap suc many)
 
 -- with so many readers answered it stops at the next
-pub readers_stop : {Reader : Type 0} (bytes : Reader → Option (List ℕ)) (form : Form) (count : ℕ) (names before after : List Word) (name : Word) (is_first : Bool) (old mid new : Option (List ℕ)) (trouble : Trouble)
-    → HaveAnsweredReaders Reader bytes form count is_first old mid → names ≡ before ++ name ∷ after → length before ≡ count
-    → StopsAt Reader bytes form is_first mid new trouble → StopsReaders Reader bytes form names old new name trouble
-readers_stop {Reader} bytes form count names before after name is_first old mid new trouble h split many stops =
-    let all : HaveAnsweredReaders Reader bytes form (length before) is_first old mid = subst (λ n. HaveAnsweredReaders Reader bytes form n is_first old mid) (sym many) h in
+pub readers_stop : {Reader : Type 0} (bytes : Reader → Option (List ℕ)) (way : Way) (told : Bool) (count : ℕ) (names before after : List Word) (name : Word) (is_first : Bool) (old mid new : Option (List ℕ)) (trouble : Trouble)
+    → HaveAnsweredReaders Reader bytes way told count is_first old mid → names ≡ before ++ name ∷ after → length before ≡ count
+    → StopsAt Reader bytes way is_first mid new trouble → StopsReaders Reader bytes way names old new name trouble
+readers_stop {Reader} bytes way told count names before after name is_first old mid new trouble h split many stops =
+    let all : HaveAnsweredReaders Reader bytes way told (length before) is_first old mid = subst (λ n. HaveAnsweredReaders Reader bytes way told n is_first old mid) (sym many) h in
     record {
       before = before;
       mid = mid;
+      told = told;
       answered = all.all;
-      stops = inl (after, split, subst (λ f. StopsAt Reader bytes form f mid new trouble) all.still stops);
+      stops = inl (after, split, subst (λ f. StopsAt Reader bytes way f mid new trouble) all.still stops);
     }
 
 -- it stops at the first reader
-pub first_stops : {Reader : Type 0} (bytes : Reader → Option (List ℕ)) (form : Form) (name : Word) (old new : Option (List ℕ)) (trouble : Trouble)
-    → StopsAt Reader bytes form true old new trouble → StopsReaders Reader bytes form (name ∷ []) old new name trouble
-first_stops bytes form name old new trouble stops =
-    readers_stop bytes form 0 (name ∷ []) [] [] name true old old new trouble (readers_none bytes form old) refl refl stops
+pub first_stops : {Reader : Type 0} (bytes : Reader → Option (List ℕ)) (way : Way) (name : Word) (old new : Option (List ℕ)) (trouble : Trouble)
+    → StopsAt Reader bytes way true old new trouble → StopsReaders Reader bytes way (name ∷ []) old new name trouble
+first_stops bytes way name old new trouble stops =
+    readers_stop bytes way false 0 (name ∷ []) [] [] name true old old new trouble (readers_none bytes way old) refl refl stops
 
--- it stops where all readers are answered, as the last flush fails
-pub all_stop : {Reader : Type 0} (bytes : Reader → Option (List ℕ)) (form : Form) (names : List Word) (old mid new : Option (List ℕ)) (trouble : Trouble)
-    → AnswersReaders Reader bytes form (length names) old mid
-    → Keeps mid new → IsWrite trouble → StopsReaders Reader bytes form names old new (codes "standard output") trouble
-all_stop bytes form names old mid new trouble h kept write =
+-- it stops where all readers are answered: as the last flush fails, or as a line was no case
+pub all_stop : {Reader : Type 0} (bytes : Reader → Option (List ℕ)) (way : Way) (told : Bool) (names : List Word) (old mid new : Option (List ℕ)) (trouble : Trouble)
+    → AnswersReaders Reader bytes way told (length names) old mid
+    → Keeps mid new → IsEndTrouble told trouble → StopsReaders Reader bytes way names old new (codes "standard output") trouble
+all_stop bytes way told names old mid new trouble h kept end =
     record {
       before = names;
       mid = mid;
+      told = told;
       answered = h;
-      stops = inr (refl, refl, write, kept);
+      stops = inr (refl, refl, end, kept);
     }
 
-pub stops_kept : {Reader : Type 0} (bytes : Reader → Option (List ℕ)) (form : Form) (names : List Word) (old mid new : Option (List ℕ)) (name : Word) (trouble : Trouble) → StopsReaders Reader bytes form names old mid name trouble → Keeps mid new → StopsReaders Reader bytes form names old new name trouble
-stops_kept {Reader} bytes form names old mid new name trouble h kept = kept_at h.stops
+pub stops_kept : {Reader : Type 0} (bytes : Reader → Option (List ℕ)) (way : Way) (names : List Word) (old mid new : Option (List ℕ)) (name : Word) (trouble : Trouble) → StopsReaders Reader bytes way names old mid name trouble → Keeps mid new → StopsReaders Reader bytes way names old new name trouble
+stops_kept {Reader} bytes way names old mid new name trouble h kept = kept_at h.stops
   where
-    kept_at : ((after : List Word) × (names ≡ h.before ++ name ∷ after) × StopsAt Reader bytes form (first_after true (lines_of h.answered.readers)) h.mid mid trouble)
-        ⊎ ((names ≡ h.before) × (name ≡ codes "standard output") × IsWrite trouble × Keeps h.mid mid) → StopsReaders Reader bytes form names old new name trouble
+    kept_at : ((after : List Word) × (names ≡ h.before ++ name ∷ after) × StopsAt Reader bytes way (first_after true (lines_of h.answered.readers)) h.mid mid trouble)
+        ⊎ ((names ≡ h.before) × (name ≡ codes "standard output") × IsEndTrouble h.told trouble × Keeps h.mid mid) → StopsReaders Reader bytes way names old new name trouble
     kept_at (inl at) =
         record {
           before = h.before;
           mid = h.mid;
+          told = h.told;
           answered = h.answered;
-          stops = inl (at.0, at.1, at_kept bytes form _ h.mid mid new trouble at.2 kept);
+          stops = inl (at.0, at.1, at_kept bytes way _ h.mid mid new trouble at.2 kept);
         }
     kept_at (inr end) =
         record {
           before = h.before;
           mid = h.mid;
+          told = h.told;
           answered = h.answered;
           stops = inr (end.0, end.1, end.2, Keeps-trans h.mid mid new end.3 kept);
         }

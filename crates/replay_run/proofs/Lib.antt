@@ -1,8 +1,8 @@
 pub mod AnsweredLines
 pub mod AnsweredReaders
-pub mod Answering
 pub mod Commands
 pub mod Ending
+pub mod GoingOn
 pub mod Growing
 pub mod Judging
 pub mod Reading

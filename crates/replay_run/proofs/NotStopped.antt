@@ -1,17 +1,19 @@
 -- Ends of a run that the definitions exclude: what a wrong program would write.
-use Rattle.std.proofs.Common.{◌≡◌, ◌⊎◌, ℕ, ◌≤◌, Bool, List, [], ◌∷◌, ◌++◌, Some, ap, arith, inl, inr, length, length-append, refl}
+use Rattle.std.proofs.Common.{◌≡◌, ◌⊎◌, ℕ, ◌≤◌, Bool, true, false, Option, List, [], ◌∷◌, ◌++◌, Some, ap, arith, inl, inr, length, length-append, refl}
 use Rattle.std.specs.Io.KnownBytes.{Appends}
 use Rattle.std.specs.List.{concat}
 use Rattle.serde_json.specs.Written.{compact_text}
-use Rattle.replay_run.specs.Answer.{AnswersLines, AreFirstLines, answer_of}
-use Rattle.replay_run.specs.Answered.{AppendsFirst, StopsAfter, StopsReader}
+use Rattle.replay_run.specs.Answer.{AnswersLine, AnswersLines, AreFirstLines, Numbered}
+use Rattle.replay_answer.specs.Answer.{answer_of, told_of}
+use Rattle.replay_run.specs.Answered.{AppendsFirst, StopsAfter, StopsFor, StopsReader}
+use Rattle.replay_answer.specs.Answer.{column_text}
 use Rattle.replay_run.specs.Trouble.{IsWrite}
-use Rattle.replay_run.specs.declared.lines.Form.{Form}
 use Rattle.replay_run.specs.declared.lines.Form.TheVariants.{Json}
+use Rattle.replay_run.specs.declared.lines.Way.{Way}
 use Rattle.replay_run.specs.declared.trouble.Line.{Line}
 use Rattle.replay_run.specs.declared.trouble.Line.TheVariants.{Case, Expected}
 use Rattle.replay_run.specs.declared.trouble.Trouble.{Trouble}
-use Rattle.replay_run.specs.declared.trouble.Trouble.TheVariants.{NotText}
+use Rattle.replay_run.specs.declared.trouble.Trouble.TheVariants.{NotText, NotJson}
 
 -- with status 0 or 1 standard error holds what it held, so nothing is told there
 pub noise : (status b : ℕ) (rest : List ℕ) → status ≤ 1 → (status ≤ 1 → Some (b ∷ rest) ≡ Some []) → ⊥
@@ -20,11 +22,12 @@ noise status b rest done silent =
     cc
 
 -- no line is answered where a reader holds no byte
-none_of_none : (form : Form) (is_first : Bool) (lines texts : List (List ℕ)) → AreFirstLines [] lines → AnswersLines form is_first lines texts
+none_of_none : (way : Way) (told is_first : Bool) (lines : List Numbered) (texts : List (List ℕ)) → AreFirstLines 0 [] lines
+    → AnswersLines way told is_first lines texts
     → concat texts ≡ []
-none_of_none form is_first [] [] first answers = refl
-none_of_none form is_first [] (text ∷ texts) first answers = absurd answers
-none_of_none form is_first (line ∷ lines) texts first answers = absurd (omega (arith, first.0))
+none_of_none way told is_first [] [] first answers = refl
+none_of_none way told is_first [] (text ∷ texts) first answers = absurd answers
+none_of_none way told is_first (line ∷ lines) texts first answers = absurd (omega (arith, first.0))
 
 part_of_none : (b : ℕ) (rest whole part more : List ℕ) → whole ≡ [] → whole ≡ part ++ more → b ∷ rest ≡ part → ⊥
 part_of_none b rest whole part more none split is =
@@ -32,14 +35,14 @@ part_of_none b rest whole part more none split is =
     omega (arith, ap length none, ap length split, ap length is, long)
 
 -- an answer that is written where nothing was read is no answer: `{"id":"a","ok":[]}` before it stops
-pub invented : (form : Form) (is_first : Bool) (b : ℕ) (rest : List ℕ) (trouble : Trouble)
-    → StopsReader form is_first (Some []) (Some []) (Some (b ∷ rest)) trouble → ⊥
-invented form is_first b rest trouble h = written h.written
+pub invented : (way : Way) (is_first : Bool) (b : ℕ) (rest : List ℕ) (trouble : Trouble)
+    → StopsReader way is_first (Some []) (Some []) (Some (b ∷ rest)) trouble → ⊥
+invented way is_first b rest trouble h = written h.written
   where
     none : concat h.texts ≡ []
-    none = none_of_none form is_first h.lines h.texts h.read h.answered
+    none = none_of_none way h.told is_first h.lines h.texts h.read h.answered
 
-    written : (IsWrite trouble × AppendsFirst (Some []) (Some (b ∷ rest)) (concat h.texts)) ⊎ (Appends (Some []) (Some (b ∷ rest)) (concat h.texts) × StopsAfter (Some []) h.lines trouble) → ⊥
+    written : (IsWrite trouble × AppendsFirst (Some []) (Some (b ∷ rest)) (concat h.texts)) ⊎ (Appends (Some []) (Some (b ∷ rest)) (concat h.texts) × StopsAfter (Some []) h.lines trouble × StopsFor way trouble) → ⊥
     written (inl w) = part_of_none b rest (concat h.texts) w.1.part w.1.rest none w.1.split w.1.added
     written (inr w) =
         let same : b ∷ rest ≡ concat h.texts = w.0 in
@@ -50,22 +53,51 @@ abbrev number_in : Line → ℕ
 number_in (Case number) = number
 number_in (Expected number) = number
 
+-- answers as JSON, and whether to go on where a line is no case
+abbrev json : Bool → Way
+json keep_going = record { form = Json; keep_going = keep_going }
+
 -- the answer to a line is never empty
-one_answer : (is_first : Bool) (lines texts : List (List ℕ)) → length lines ≡ 1 → AnswersLines Json is_first lines texts → [] ≡ concat texts → ⊥
-one_answer is_first [] texts one answers none = cc
-one_answer is_first (line ∷ lines) [] one answers none = absurd answers
-one_answer is_first (line ∷ lines) (text ∷ texts) one answers none =
-    let answer = answers.0 in
-    let many = length-append text (concat texts) in
+never_empty : (keep_going told is_first : Bool) (line : Numbered) (text : List ℕ) → AnswersLine (json keep_going) told is_first line text → 1 ≤ length text
+never_empty keep_going false is_first line text answer =
     let some = length-append (compact_text (answer_of answer.case.id.now answer.outcome)) (10 ∷ []) in
-    omega (arith, ap length none, many, ap length answer.text_is, some)
+    omega (arith, ap length answer.text_is, some)
+never_empty keep_going true is_first line text answer =
+    let some = length-append (compact_text (told_of line.0 answer.1.words)) (10 ∷ []) in
+    omega (arith, ap length answer.1.text_is, some)
+
+one_answer : (keep_going told is_first : Bool) (lines : List Numbered) (texts : List (List ℕ)) → length lines ≡ 1
+    → AnswersLines (json keep_going) told is_first lines texts → [] ≡ concat texts → ⊥
+one_answer keep_going told is_first [] texts one answers none = cc
+one_answer keep_going told is_first (line ∷ lines) [] one answers none = absurd answers
+one_answer keep_going told is_first (line ∷ lines) (text ∷ texts) one answers none =
+    let some = never_empty keep_going answers.0 is_first line text answers.3 in
+    let many = length-append text (concat texts) in
+    omega (arith, ap length none, many, some)
 
 -- where it stops at line 2 the first line was answered: nothing written is no end of this
-pub unanswered : (is_first : Bool) (held : List ℕ) → StopsReader Json is_first (Some held) (Some []) (Some []) (NotText (Case 2)) → ⊥
-unanswered is_first held h = written h.written
+pub unanswered : (keep_going is_first : Bool) (held : List ℕ) → StopsReader (json keep_going) is_first (Some held) (Some []) (Some []) (NotText (Case 2))
+    → ⊥
+unanswered keep_going is_first held h = written h.written
   where
-    written : (IsWrite (NotText (Case 2)) × AppendsFirst (Some []) (Some []) (concat h.texts)) ⊎ (Appends (Some []) (Some []) (concat h.texts) × StopsAfter (Some held) h.lines (NotText (Case 2))) → ⊥
+    written : (IsWrite (NotText (Case 2)) × AppendsFirst (Some []) (Some []) (concat h.texts)) ⊎ (Appends (Some []) (Some []) (concat h.texts) × StopsAfter (Some held) h.lines (NotText (Case 2)) × StopsFor (json keep_going) (NotText (Case 2))) → ⊥
     written (inl w) = let never = w.0.1 in cc
     written (inr w) =
         let place = w.1 in
-        one_answer is_first h.lines h.texts (omega (arith, ap number_in place)) h.answered w.0
+        one_answer keep_going h.told is_first h.lines h.texts (omega (arith, ap number_in place)) h.answered w.0
+
+-- where it is to go on, it doesn't stop at a line that is no JSON
+pub stopped_all_the_same : (is_first : Bool) (held old new : Option (List ℕ)) (at : Line)
+    → StopsReader (json true) is_first held old new (NotJson at 1 false) → ⊥
+stopped_all_the_same is_first held old new at h = written h.written
+  where
+    written : (IsWrite (NotJson at 1 false) × AppendsFirst old new (concat h.texts)) ⊎ (Appends old new (concat h.texts) × StopsAfter held h.lines (NotJson at 1 false) × StopsFor (json true) (NotJson at 1 false)) → ⊥
+    written (inl w) = let never = w.0.1 in cc
+    written (inr w) = w.2 refl (column_text 1 false) refl
+
+-- a line that is no case is answered by its own number: the first line of a reader isn't told as line 2
+pub told_by_another_number : (way : Way) (told is_first : Bool) (text : List ℕ) (line : List ℕ) (texts : List (List ℕ))
+    → AreFirstLines 0 text ((2, line) ∷ []) → AnswersLines way told is_first ((2, line) ∷ []) texts → ⊥
+told_by_another_number way told is_first text line texts first answers =
+    let two : 2 ≡ 1 = ap (λ (l : Numbered). l.0) first.1 in
+    omega (arith, two)

@@ -5,18 +5,18 @@ use Rattle.std.specs.declared.alloc.Global.{Global}
 use Rattle.std.specs.declared.vec.Vec.{Vec}
 use Rattle.serde_json.specs.Data.{Data}
 use Rattle.serde_json.specs.Read.{read}
-use Rattle.replay_run.specs.Answer.{AnswersLine, AnswersValue}
+use Rattle.replay_run.specs.Answer.{AnswersCase, AnswersValue}
 use Rattle.replay_run.specs.Trouble.{IsMisread, IsTroubleWith}
 use Rattle.replay_run.specs.declared.lines.Form.{Form}
 use Rattle.replay_run.specs.declared.trouble.Line.{Line}
 use Rattle.replay_run.specs.declared.trouble.Trouble.{Trouble}
-use Rattle.replay_run.specs.declared.trouble.Trouble.TheVariants.{NotText, NotJson, Wrong, Unpaired, TooManyLines, Read, Clock, Write, Memory}
+use Rattle.replay_run.specs.declared.trouble.Trouble.TheVariants.{NotText, NotJson, Wrong, Unpaired, TooManyLines, NotCases, Read, Clock, Write, Memory}
 use Rattle.replay_run.proofs.Judging.{ok_and}
 
 -- what answers the value answers the line
 pub line_answered : {E : Type 0} (form : Form) (is_first : Bool) (line : Result (String Global) E) (d : Data) (r : Result (Vec ℕ Global) Trouble)
     → IsOkAnd line (λ text. read (string_bytes text) ≡ Some d) → IfOk r (λ text. AnswersValue form is_first d text.items)
-    → IfOk r (λ text. IsOkAnd line (λ line. AnswersLine form is_first (string_bytes line) text.items))
+    → IfOk r (λ text. IsOkAnd line (λ line. AnswersCase form is_first (string_bytes line) text.items))
 line_answered form is_first line d (Ok text) reads h =
     ok_and line (λ x is. record {
       case = h.case;
@@ -36,6 +36,7 @@ line_misread at line d (Err (NotJson place column ends_early)) reads h = absurd 
 line_misread at line d (Err (Wrong place words)) reads h = (h, ok_and line (λ x is. (d, is)) reads)
 line_misread at line d (Err (Unpaired number)) reads h = absurd h
 line_misread at line d (Err TooManyLines) reads h = absurd h
+line_misread at line d (Err NotCases) reads h = absurd h
 line_misread at line d (Err (Read error)) reads h = absurd h
 line_misread at line d (Err (Clock error)) reads h = absurd h
 line_misread at line d (Err (Write error)) reads h = absurd h

@@ -1,43 +1,40 @@
--- The answer to a case, as it is written.
-use Rattle.std.specs.Prelude.{◌≡◌, ℕ, ◌<◌, Bool, false, List, [], ◌∷◌, ◌++◌, codes, length, map, if◌then◌else◌, string_bytes}
+-- The answer to a line, as it is written.
+use Rattle.std.specs.Prelude.{◌≡◌, ◌⊎◌, ℕ, ◌+◌, ◌<◌, Bool, true, false, ◌||◌, List, [], ◌∷◌, ◌++◌, Some, None, IsTrue, codes, decimal, length, map, min}
+use Rattle.std.specs.Prelude.{if◌then◌else◌}
+use Rattle.std.specs.Prelude.{string_bytes}
 use Rattle.std.specs.Io.BufRead.{first_line, drop_through}
 use Rattle.std.specs.List.{flat_map}
-use Rattle.serde_json.specs.Data.{Data, string, array, object, Items, no_items, item, member, no_members}
+use Rattle.serde_json.specs.Data.{Data}
 use Rattle.serde_json.specs.Written.{compact_text}
-use Rattle.replay_run.specs.Case.{IsCaseOf}
-use Rattle.replay_run.specs.Outcome.{Becomes, IsOutcomeOf}
-use Rattle.replay_run.specs.declared.case.Case.{Case}
+use Rattle.replay_answer.specs.Answer.{IsNoCase, answer_of, told_of}
+use Rattle.replay_answer.specs.Case.{IsCaseOf}
+use Rattle.replay_run.specs.Judged.{most}
+use Rattle.replay_answer.specs.Outcome.{Becomes, IsOutcomeOf}
+use Rattle.replay_answer.specs.declared.case.Case.{Case}
 use Rattle.replay_run.specs.declared.lines.Form.{Form}
 use Rattle.replay_run.specs.declared.lines.Form.TheVariants as form
-use Rattle.replay_run.specs.declared.outcome.Outcome.{Outcome}
-use Rattle.replay_run.specs.declared.outcome.Outcome.TheVariants.{Texts, Refused}
-
--- texts as items of JSON
-abbrev pub text_items : List (List ℕ) → Items
-text_items [] = no_items
-text_items (text ∷ texts) = item (string text) (text_items texts)
-
--- the answer to the case of this name, as JSON: its texts, or its refusal by name and words
-abbrev pub answer_of : List ℕ → Outcome → Data
-answer_of id (Texts texts) =
-    object (member (codes "id") (string id) (member (codes "ok") (array (text_items (map string_bytes texts.items))) no_members))
-answer_of id (Refused name words span) =
-    object (member (codes "id") (string id) (member (codes "refused") (string name.now) (member (codes "text") (string (string_bytes words)) no_members)))
+use Rattle.replay_run.specs.declared.lines.Way.{Way}
+use Rattle.replay_answer.specs.declared.outcome.Outcome.{Outcome}
+use Rattle.replay_answer.specs.declared.outcome.Outcome.TheVariants.{Texts, Refused}
 
 -- a text and the end of its line
 abbrev pub line_of : List ℕ → List ℕ
 line_of text = text ++ 10 ∷ []
 
+-- what stands before a text of a report: an empty line, but for the first one
+abbrev pub gap : Bool → List ℕ
+gap is_first = if is_first then [] else line_of []
+
 -- each text, or what the refusal prints, and after it the span that it is about
 abbrev pub outcome_text : Outcome → List ℕ
 outcome_text (Texts texts) = flat_map (λ text. line_of (string_bytes text)) texts.items
-outcome_text (Refused name words span) =
+outcome_text (Refused refusal words span) =
     line_of (codes "refused: " ++ string_bytes words ++ string_bytes span)
 
--- the answer to the case of this name, in this form; texts stand after an empty line, but for the first ones
+-- the answer to the case of this name, in this form
 abbrev pub answer_text : Form → Bool → List ℕ → Outcome → List ℕ
 answer_text form.Json is_first id outcome = line_of (compact_text (answer_of id outcome))
-answer_text form.Texts is_first id outcome = (if is_first then [] else line_of []) ++ outcome_text outcome
+answer_text form.Texts is_first id outcome = gap is_first ++ outcome_text outcome
 
 -- the text answers a line that holds this value: it says what became of the case that the value describes
 pub record AnswersValue (form : Form) (is_first : Bool) (d : Data) (text : List ℕ) : Type 0 where
@@ -48,33 +45,59 @@ pub record AnswersValue (form : Form) (is_first : Bool) (d : Data) (text : List 
   pub text_is : text ≡ answer_text form is_first case.id.now outcome
 
 -- the text answers the line: it says what became of the case that the line describes
-pub record AnswersLine (form : Form) (is_first : Bool) (line text : List ℕ) : Type 0 where
+pub record AnswersCase (form : Form) (is_first : Bool) (line text : List ℕ) : Type 0 where
   pub case : Case
   pub outcome : Outcome
   pub became : Becomes line case outcome
   pub text_is : text ≡ answer_text form is_first case.id.now outcome
 
--- the lines of a text, in order, each without its end (a line feed, or a carriage return and a line feed)
-abbrev pub AreLines : List ℕ → List (List ℕ) → Type 0
-AreLines text [] = text ≡ []
-AreLines text (line ∷ lines) =
-    (0 < length text) × (line ≡ first_line text) × AreLines (drop_through 10 text) lines
+-- what is said of the line of a number that is no case, in this form
+abbrev pub told_text : Form → Bool → ℕ → List ℕ → List ℕ
+told_text form.Json is_first n words = line_of (compact_text (told_of n words))
+told_text form.Texts is_first n words = gap is_first ++ line_of (codes "line " ++ (decimal n ++ (codes ": no case: " ++ words)))
 
--- the first lines of a text
-abbrev pub AreFirstLines : List ℕ → List (List ℕ) → Type 0
-AreFirstLines text [] = Unit {0}
-AreFirstLines text (line ∷ lines) =
-    (0 < length text) × (line ≡ first_line text) × AreFirstLines (drop_through 10 text) lines
+-- a line, and its number in what holds it
+abbrev pub Numbered : Type 0
+Numbered = ℕ × List ℕ
 
--- texts answer lines, one each, in order; is_first tells whether nothing was written before the first of them
-abbrev pub AnswersLines : Form → Bool → List (List ℕ) → List (List ℕ) → Type 0
-AnswersLines form is_first [] [] = Unit {0}
-AnswersLines form is_first [] (text ∷ texts) = ⊥
-AnswersLines form is_first (line ∷ lines) [] = ⊥
-AnswersLines form is_first (line ∷ lines) (text ∷ texts) =
-    AnswersLine form is_first line text × AnswersLines form false lines texts
+-- the text tells that the line is no case
+pub record TellsLine (form : Form) (is_first : Bool) (line : Numbered) (text : List ℕ) : Type 0 where
+  pub words : List ℕ
+  pub is : IsNoCase line.1 words
+  pub text_is : text ≡ told_text form is_first line.0 words
+
+-- the text answers the line, and `told` says whether it tells that the line is no case, which it does only where that is asked for
+abbrev pub AnswersLine : Way → Bool → Bool → Numbered → List ℕ → Type 0
+AnswersLine way false is_first line text = AnswersCase way.form is_first line.1 text
+AnswersLine way true is_first line text = IsTrue way.keep_going × TellsLine way.form is_first line text
+
+-- the number of the line that comes after so many, as far as can be counted
+abbrev pub number_after : ℕ → ℕ
+number_after before = min (before + 1) most
+
+-- the lines of a text that come after so many, in order, each with its number and without its end (a line feed, or a carriage return and
+-- a line feed)
+abbrev pub AreLines : ℕ → List ℕ → List Numbered → Type 0
+AreLines before text [] = text ≡ []
+AreLines before text (line ∷ lines) =
+    (0 < length text) × (line ≡ (number_after before, first_line text)) × AreLines (before + 1) (drop_through 10 text) lines
+
+-- the first of these lines
+abbrev pub AreFirstLines : ℕ → List ℕ → List Numbered → Type 0
+AreFirstLines before text [] = Unit {0}
+AreFirstLines before text (line ∷ lines) =
+    (0 < length text) × (line ≡ (number_after before, first_line text)) × AreFirstLines (before + 1) (drop_through 10 text) lines
+
+-- texts answer lines, one each, in order, and `told` says whether one of them tells that its line is no case; is_first tells whether
+-- nothing was written before the first of them
+abbrev pub AnswersLines : Way → Bool → Bool → List Numbered → List (List ℕ) → Type 0
+AnswersLines way told is_first [] [] = told ≡ false
+AnswersLines way told is_first [] (text ∷ texts) = ⊥
+AnswersLines way told is_first (line ∷ lines) [] = ⊥
+AnswersLines way told is_first (line ∷ lines) (text ∷ texts) =
+    (here : Bool) × (later : Bool) × (told ≡ here || later) × AnswersLine way here is_first line text × AnswersLines way later false lines texts
 
 -- whether still nothing is written once lines are answered, where is_first tells whether nothing was before
-abbrev pub first_after : Bool → List (List ℕ) → Bool
+abbrev pub first_after : {X : Type 0} → Bool → List X → Bool
 first_after is_first [] = is_first
 first_after is_first (line ∷ lines) = false

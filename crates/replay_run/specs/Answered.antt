@@ -1,48 +1,48 @@
 -- What is written where the lines that readers hold are answered.
-use Rattle.std.specs.Prelude.{◌≡◌, ◌⊎◌, ℕ, ◌+◌, Bool, true, List, [], ◌∷◌, ◌++◌, Option, Some, None, Result, String, IfSome, IsOkAnd, codes, length, min, All}
+use Rattle.std.specs.Prelude.{◌≡◌, ◌⊎◌, ℕ, Bool, true, false, List, [], ◌∷◌, ◌++◌, Option, Some, None, Result, String, IfSome, IsOkAnd, IsTrue, codes, length}
+use Rattle.std.specs.Prelude.{All}
 use Rattle.std.specs.Prelude.{string_bytes}
 use Rattle.std.specs.Io.KnownBytes.{Appends, Keeps}
 use Rattle.std.specs.declared.alloc.Global.{Global}
 use Rattle.std.specs.List.{concat, flat_map}
 use Rattle.serde_json.specs.Data.{Data}
 use Rattle.serde_json.specs.Read.{read}
-use Rattle.replay_run.specs.Answer.{AreFirstLines, AreLines, AnswersLine, AnswersLines, first_after}
-use Rattle.replay_run.specs.Judged.{most}
-use Rattle.replay_run.specs.Trouble.{IsRead, IsTroubleWith, IsWrite}
+use Rattle.replay_run.specs.Answer.{AreFirstLines, AreLines, AnswersLine, AnswersLines, Numbered, first_after, number_after}
+use Rattle.replay_run.specs.Trouble.{IsFinal, IsRead, IsTroubleWith, IsWrite}
 use Rattle.replay_run.specs.Words.{Word}
-use Rattle.replay_run.specs.declared.lines.Form.{Form}
+use Rattle.replay_run.specs.declared.lines.Way.{Way}
 use Rattle.replay_run.specs.declared.trouble.Line.{Line}
 use Rattle.replay_run.specs.declared.trouble.Line.TheVariants.{Case}
 use Rattle.replay_run.specs.declared.trouble.Trouble.{Trouble}
-use Rattle.replay_run.specs.declared.trouble.Trouble.TheVariants.{NotText, NotJson, Wrong, Unpaired, TooManyLines, Read, Clock, Write, Memory}
+use Rattle.replay_run.specs.declared.trouble.Trouble.TheVariants.{NotText, NotJson, Wrong, Unpaired, TooManyLines, NotCases, Read, Clock, Write, Memory}
 
 -- the lines that were read of what a reader holds: all its lines, where it is known what it holds
-abbrev pub AreRead : Option (List ℕ) → List (List ℕ) → Type 0
-AreRead held lines = IfSome held (λ text. AreLines text lines)
+abbrev pub AreRead : Option (List ℕ) → List Numbered → Type 0
+AreRead held lines = IfSome held (λ text. AreLines 0 text lines)
 
--- a reader's lines are answered: to what a writer held, the texts that answer them are added, and nothing else. Before, is_first told
--- whether nothing was written yet; afterwards, still_first does
-pub record AnswersReader (form : Form) (is_first still_first : Bool) (held old new : Option (List ℕ)) : Type 0 where
-  pub lines : List (List ℕ)
+-- a reader's lines are answered: to what a writer held, the texts that answer them are added, and nothing else; `told` says whether one
+-- of them tells that its line is no case. Before, is_first told whether nothing was written yet; afterwards, still_first does
+pub record AnswersReader (way : Way) (told : Bool) (is_first still_first : Bool) (held old new : Option (List ℕ)) : Type 0 where
+  pub lines : List Numbered
   pub read : AreRead held lines
   pub texts : List (List ℕ)
-  pub answered : AnswersLines form is_first lines texts
+  pub answered : AnswersLines way told is_first lines texts
   pub written : Appends old new (concat texts)
   pub still : still_first ≡ first_after is_first lines
 
 -- this many readers are answered, by the bytes that each holds: to what a writer held, the texts that answer their lines are added, of one
 -- reader after another, and nothing else. The first text is the first that is written
-pub record AnswersReaders (Reader : Type 0) (bytes : Reader → Option (List ℕ)) (form : Form) (count : ℕ) (old new : Option (List ℕ)) : Type 0 where
-  pub readers : List (Reader × List (List ℕ))
+pub record AnswersReaders (Reader : Type 0) (bytes : Reader → Option (List ℕ)) (way : Way) (told : Bool) (count : ℕ) (old new : Option (List ℕ)) : Type 0 where
+  pub readers : List (Reader × List Numbered)
   pub many : length readers ≡ count
   pub read : All (λ reader. AreRead (bytes reader.0) reader.1) readers
   pub texts : List (List ℕ)
-  pub answered : AnswersLines form true (flat_map (λ reader. reader.1) readers) texts
+  pub answered : AnswersLines way told true (flat_map (λ reader. reader.1) readers) texts
   pub written : Appends old new (concat texts)
 
 -- the first lines of what a reader holds, where it is known what it holds
-abbrev pub AreFirstRead : Option (List ℕ) → List (List ℕ) → Type 0
-AreFirstRead held lines = IfSome held (λ text. AreFirstLines text lines)
+abbrev pub AreFirstRead : Option (List ℕ) → List Numbered → Type 0
+AreFirstRead held lines = IfSome held (λ text. AreFirstLines 0 text lines)
 
 -- to what a writer held a first part of this is added, and nothing else
 pub record AppendsFirst (old new : Option (List ℕ)) (whole : List ℕ) : Type 0 where
@@ -51,27 +51,34 @@ pub record AppendsFirst (old new : Option (List ℕ)) (whole : List ℕ) : Type 
   pub split : whole ≡ part ++ rest
   pub added : Appends old new part
 
+-- it is trouble to stop for: where it is to go on, it isn't with what a line says
+abbrev pub StopsFor : Way → Trouble → Type 0
+StopsFor way trouble = IsTrue way.keep_going → IsFinal trouble
+
 -- answering a line stops: a write failed, and of the text that answers it a first part is added to what a writer held; or nothing is
--- added, and the line of this number is no case
-abbrev pub StopsLine : {E : Type 0} → Form → Bool → ℕ → Result (String Global) E → Option (List ℕ) → Option (List ℕ) → Trouble → Type 0
-StopsLine form is_first number line old new trouble =
-    (IsWrite trouble × IsOkAnd line (λ line. (text : List ℕ) × AnswersLine form is_first (string_bytes line) text × AppendsFirst old new text))
-    ⊎ (Keeps old new × IsTroubleWith (Case number) line trouble)
+-- added, and the line of this number is no case, and it isn't to go on, or can't
+abbrev pub StopsLine : {E : Type 0} → Way → Bool → ℕ → Result (String Global) E → Option (List ℕ) → Option (List ℕ) → Trouble → Type 0
+StopsLine way is_first number line old new trouble =
+    (IsWrite trouble × IsOkAnd line (λ line. (told : Bool) × (text : List ℕ)
+    × AnswersLine way told is_first (number, string_bytes line) text × AppendsFirst old new text))
+    ⊎ (Keeps old new × IsTroubleWith (Case number) line trouble × StopsFor way trouble)
 
 -- the line after these, by its number, as far as can be counted
-abbrev pub line_after : List (List ℕ) → Line
-line_after lines = Case (min (length lines + 1) most)
+abbrev pub line_after : List Numbered → Line
+line_after lines = Case (number_after (length lines))
 
 -- it stops at the line after these, which is no case: it is no text, or no JSON, or JSON that describes none; or what the reader holds
 -- couldn't be read any further, or there was no memory
-abbrev pub StopsAfter : Option (List ℕ) → List (List ℕ) → Trouble → Type 0
+abbrev pub StopsAfter : Option (List ℕ) → List Numbered → Trouble → Type 0
 StopsAfter held lines (NotText place) = place ≡ line_after lines
 StopsAfter held lines (NotJson place column ends_early) =
-    (place ≡ line_after lines) × (line : List ℕ) × AreFirstRead held (lines ++ line ∷ []) × (read line ≡ None)
+    (place ≡ line_after lines) × (line : List ℕ) × AreFirstRead held (lines ++ (number_after (length lines), line) ∷ []) × (read line ≡ None)
 StopsAfter held lines (Wrong place words) =
-    (place ≡ line_after lines) × (line : List ℕ) × AreFirstRead held (lines ++ line ∷ []) × (d : Data) × (read line ≡ Some d)
+    (place ≡ line_after lines) × (line : List ℕ) × AreFirstRead held (lines ++ (number_after (length lines), line) ∷ [])
+    × (d : Data) × (read line ≡ Some d)
 StopsAfter held lines (Unpaired number) = ⊥
 StopsAfter held lines TooManyLines = ⊥
+StopsAfter held lines NotCases = ⊥
 StopsAfter held lines (Read error) = Unit {0}
 StopsAfter held lines (Clock error) = ⊥
 StopsAfter held lines (Write error) = ⊥
@@ -79,24 +86,31 @@ StopsAfter held lines Memory = Unit {0}
 
 -- answering a reader stops: its first lines are answered, in order. To what a writer held the texts that answer them are added, all of
 -- them and nothing else, and it stops at the line after these; or a write failed, and a first part of the texts is added
-pub record StopsReader (form : Form) (is_first : Bool) (held old new : Option (List ℕ)) (trouble : Trouble) : Type 0 where
-  pub lines : List (List ℕ)
+pub record StopsReader (way : Way) (is_first : Bool) (held old new : Option (List ℕ)) (trouble : Trouble) : Type 0 where
+  pub lines : List Numbered
   pub read : AreFirstRead held lines
   pub texts : List (List ℕ)
-  pub answered : AnswersLines form is_first lines texts
-  pub written : (IsWrite trouble × AppendsFirst old new (concat texts)) ⊎ (Appends old new (concat texts) × StopsAfter held lines trouble)
+  pub told : Bool
+  pub answered : AnswersLines way told is_first lines texts
+  pub written : (IsWrite trouble × AppendsFirst old new (concat texts))
+      ⊎ (Appends old new (concat texts) × StopsAfter held lines trouble × StopsFor way trouble)
 
 -- answering stops at a reader that can't be had, or within it
-abbrev pub StopsAt : (Reader : Type 0) → (Reader → Option (List ℕ)) → Form → Bool → Option (List ℕ) → Option (List ℕ) → Trouble → Type 0
-StopsAt Reader bytes form is_first old new trouble =
-    (Keeps old new × IsRead trouble) ⊎ ((reader : Reader) × StopsReader form is_first (bytes reader) old new trouble)
+abbrev pub StopsAt : (Reader : Type 0) → (Reader → Option (List ℕ)) → Way → Bool → Option (List ℕ) → Option (List ℕ) → Trouble → Type 0
+StopsAt Reader bytes way is_first old new trouble =
+    (Keeps old new × IsRead trouble) ⊎ ((reader : Reader) × StopsReader way is_first (bytes reader) old new trouble)
+
+-- the trouble with readers that are all answered: what was written can't be handed on, or an answer tells that its line is no case
+abbrev pub IsEndTrouble : Bool → Trouble → Type 0
+IsEndTrouble told trouble = IsWrite trouble ⊎ (IsTrue told × (trouble ≡ NotCases))
 
 -- answering the readers of these names stops: those of the first names are answered, each to its end, and it stops at the next; or all
--- are answered, and what was written can't be handed on
-pub record StopsReaders (Reader : Type 0) (bytes : Reader → Option (List ℕ)) (form : Form) (names : List Word) (old new : Option (List ℕ)) (name : Word) (trouble : Trouble) : Type 0 where
+-- are answered, and there is trouble with that
+pub record StopsReaders (Reader : Type 0) (bytes : Reader → Option (List ℕ)) (way : Way) (names : List Word) (old new : Option (List ℕ)) (name : Word) (trouble : Trouble) : Type 0 where
   pub before : List Word
   pub mid : Option (List ℕ)
-  pub answered : AnswersReaders Reader bytes form (length before) old mid
+  pub told : Bool
+  pub answered : AnswersReaders Reader bytes way told (length before) old mid
   pub stops : ((after : List Word) × (names ≡ before ++ name ∷ after)
-      × StopsAt Reader bytes form (first_after true (flat_map (λ reader. reader.1) answered.readers)) mid new trouble)
-      ⊎ ((names ≡ before) × (name ≡ codes "standard output") × IsWrite trouble × Keeps mid new)
+      × StopsAt Reader bytes way (first_after true (flat_map (λ reader. reader.1) answered.readers)) mid new trouble)
+      ⊎ ((names ≡ before) × (name ≡ codes "standard output") × IsEndTrouble told trouble × Keeps mid new)

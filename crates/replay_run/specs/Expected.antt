@@ -6,11 +6,12 @@ use Rattle.serde_json.specs.Find.{as_str}
 use Rattle.json_node.specs.Field.{ListSays, SaysAt, text_at}
 use Rattle.replay_read.specs.Shape.{HasShape}
 use Rattle.replay_read.specs.declared.shape.Shape.TheVariants as shape
+use Rattle.replay_answer.specs.Outcome.{refusal_name}
 use Rattle.replay_run.specs.declared.expected.Expected.{Expected}
 use Rattle.replay_run.specs.declared.expected.Wanted.{Wanted}
 use Rattle.replay_run.specs.declared.expected.Wanted.TheVariants as wanted
-use Rattle.replay_run.specs.declared.outcome.Outcome.{Outcome}
-use Rattle.replay_run.specs.declared.outcome.Outcome.TheVariants as outcome
+use Rattle.replay_answer.specs.declared.outcome.Outcome.{Outcome}
+use Rattle.replay_answer.specs.declared.outcome.Outcome.TheVariants as outcome
 
 -- the texts that a list of references leads to
 abbrev pub texts_at : List (Bor (List ℕ)) → List (List ℕ)
@@ -20,16 +21,17 @@ texts_at refs = map (λ (text : Bor (List ℕ)). text.now) refs
 abbrev pub IsWanted : Wanted → Outcome → Type 0
 IsWanted (wanted.Texts texts) (outcome.Texts drawn) =
     texts_at texts.items ≡ map string_bytes drawn.items
-IsWanted (wanted.Texts texts) (outcome.Refused name words span) = ⊥
+IsWanted (wanted.Texts texts) (outcome.Refused refusal words span) = ⊥
 IsWanted (wanted.Refused name words) (outcome.Texts drawn) = ⊥
-IsWanted (wanted.Refused name words) (outcome.Refused drawn_name drawn_words span) =
-    (name.now ≡ drawn_name.now) × (words.now ≡ string_bytes drawn_words)
+IsWanted (wanted.Refused name words) (outcome.Refused refusal drawn_words span) =
+    (name.now ≡ refusal_name refusal) × (words.now ≡ string_bytes drawn_words)
 
 -- the case of this name became what is expected: of this very case, and the wanted outcome
 abbrev pub IsMet : Expected → List ℕ → Outcome → Type 0
 IsMet expected id became = (expected.id.now ≡ id) × IsWanted expected.wanted became
 
--- what a line of JSON expects: texts, or a refusal by its name and words, and nothing else beside its case's name
+-- what a line of JSON expects: texts, or a refusal by its name and words, beside which the numbers that it names may stand, and nothing
+-- else beside its case's name
 abbrev pub IsWantedOf : Data → Wanted → Type 0
 IsWantedOf d (wanted.Texts texts) =
     HasShape shape.Texts d × SaysAt (ListSays (λ e (text : Bor (List ℕ)). as_str e ≡ Some text.now)) (codes "ok") d texts.items

@@ -4,11 +4,11 @@ use Rattle.std.specs.Io.BufRead.{first_line, drop_through}
 use Rattle.serde_json.specs.Data.{Data}
 use Rattle.serde_json.specs.Read.{read}
 use Rattle.replay_run.specs.Expected.{IsExpectedOf, IsMet}
-use Rattle.replay_run.specs.Outcome.{Becomes}
-use Rattle.replay_run.specs.declared.case.Case.{Case}
+use Rattle.replay_answer.specs.Outcome.{Becomes}
+use Rattle.replay_answer.specs.declared.case.Case.{Case}
 use Rattle.replay_run.specs.declared.check.Counts.{Counts}
 use Rattle.replay_run.specs.declared.expected.Expected.{Expected}
-use Rattle.replay_run.specs.declared.outcome.Outcome.{Outcome}
+use Rattle.replay_answer.specs.declared.outcome.Outcome.{Outcome}
 
 -- the verdict on the line of a case: whether what becomes of the case is what is expected
 pub record JudgesCase (expected : Expected) (line : List ℕ) (passes : Bool) : Type 0 where

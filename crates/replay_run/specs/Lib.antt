@@ -1,10 +1,8 @@
 pub mod Answer
 pub mod Answered
-pub mod Case
 pub mod Compared
 pub mod Expected
 pub mod Growth
 pub mod Judged
-pub mod Outcome
 pub mod Trouble
 pub mod Words

@@ -7,10 +7,11 @@ use Rattle.annotate_snippets.specs.Normalized.{norm}
 use Rattle.program.specs.Stream.{Output, Told}
 use Rattle.serde_json.specs.Data.{Data}
 use Rattle.serde_json.specs.Read.{read}
+use Rattle.replay_answer.specs.Answer.{column_text}
 use Rattle.replay_run.specs.declared.trouble.Line.{Line}
 use Rattle.replay_run.specs.declared.trouble.Line.TheVariants.{Case, Expected}
 use Rattle.replay_run.specs.declared.trouble.Trouble.{Trouble}
-use Rattle.replay_run.specs.declared.trouble.Trouble.TheVariants.{NotText, NotJson, Wrong, Unpaired, TooManyLines, Read, Clock, Write, Memory}
+use Rattle.replay_run.specs.declared.trouble.Trouble.TheVariants.{NotText, NotJson, Wrong, Unpaired, TooManyLines, NotCases, Read, Clock, Write, Memory}
 use Rattle.replay_run.specs.Words.{Word, usage_text}
 
 -- a line, by its number
@@ -35,6 +36,7 @@ trouble_text (NotJson line column ends_early) said = json_text line column ends_
 trouble_text (Wrong line words) said = line_text line ++ (codes ": " ++ string_bytes words)
 trouble_text (Unpaired number) said = unpaired_text number
 trouble_text TooManyLines said = codes "too many lines"
+trouble_text NotCases said = codes "not each line was a case"
 trouble_text (Read error) said = codes "cannot read: " ++ said
 trouble_text (Clock error) said = codes "cannot read the clock: " ++ said
 trouble_text (Write error) said = codes "cannot write: " ++ said
@@ -78,10 +80,28 @@ IsTroubleWith at line (Wrong place words) =
     (place ≡ at) × IsOkAnd line (λ text. (d : Data) × (read (string_bytes text) ≡ Some d))
 IsTroubleWith at line (Unpaired number) = ⊥
 IsTroubleWith at line TooManyLines = ⊥
+IsTroubleWith at line NotCases = ⊥
 IsTroubleWith at line (Read error) = Unit {0}
 IsTroubleWith at line (Clock error) = ⊥
 IsTroubleWith at line (Write error) = ⊥
 IsTroubleWith at line Memory = Unit {0}
+
+-- the trouble is told by these words without the line that it is with, which isn't JSON, or JSON that describes none
+abbrev pub IsFault : Trouble → List ℕ → Type 0
+IsFault (NotText place) told = ⊥
+IsFault (NotJson place column ends_early) told = told ≡ column_text column ends_early
+IsFault (Wrong place words) told = told ≡ string_bytes words
+IsFault (Unpaired number) told = ⊥
+IsFault TooManyLines told = ⊥
+IsFault NotCases told = ⊥
+IsFault (Read error) told = ⊥
+IsFault (Clock error) told = ⊥
+IsFault (Write error) told = ⊥
+IsFault Memory told = ⊥
+
+-- it isn't with what a line says: nothing is answered to a line with it
+abbrev pub IsFinal : Trouble → Type 0
+IsFinal trouble = (told : List ℕ) → IsFault trouble told → ⊥
 
 -- a value in a line that has this place describes nothing, or there was no memory to read it
 abbrev pub IsMisread : Line → Trouble → Type 0
@@ -90,6 +110,7 @@ IsMisread at (NotJson place column ends_early) = ⊥
 IsMisread at (Wrong place words) = place ≡ at
 IsMisread at (Unpaired number) = ⊥
 IsMisread at TooManyLines = ⊥
+IsMisread at NotCases = ⊥
 IsMisread at (Read error) = ⊥
 IsMisread at (Clock error) = ⊥
 IsMisread at (Write error) = ⊥

@@ -9,8 +9,8 @@ ghost use Rattle.replay_run.specs.Judged.{CountsLines, JudgesCase, JudgesLine, m
 
 use crate::expected::{Expected, expected_of, write_wanted};
 use crate::lines::{numbered_case, value_of, write_line, write_outcome};
-use crate::outcome::{Outcome, outcome_of};
 use crate::trouble::{Line, Trouble, wrong_line};
+use replay_answer::outcome::{Outcome, outcome_of};
 use serde_json::Value;
 use std::alloc::Global;
 use std::io;

@@ -1,17 +1,18 @@
 //! The words of the command line, without the program's name.
 
-ghost use Rattle.std.specs.Prelude.{◌≡◌, ◌↔◌, List, [], ◌∷◌, codes, IsTrue, IsNone, IfSome, SomeIff};
+ghost use Rattle.std.specs.Prelude.{◌≡◌, ◌↔◌, Bool, List, [], ◌∷◌, ◌++◌, codes, IsTrue, IsNone, IfSome, SomeIff};
 ghost use Rattle.std.specs.Str.Parse.{digits_value};
-ghost use Rattle.replay_run.specs.Words.{Word, words_at, IsOption, AreFiles, ArePairs, IsNumber, Asks};
+ghost use Rattle.replay_run.specs.Words.{Word, words_at, IsOption, AreFiles, ArePairs, IsNumber, Asks, form_options};
+ghost use Rattle.replay_run.specs.Words.{keep_going_options};
 ghost use Rattle.replay_run.specs.declared.command.Command.{Command};
 
-use crate::lines::Form;
+use crate::lines::{Form, Way};
 
 /// What a command line asks for.
 #[derive(Clone, Copy)]
 pub enum Command<'a> {
     /// Answers the cases of these files, or of standard input where there are none.
-    Answer(Form, &'a [&'a str]),
+    Answer(Way, &'a [&'a str]),
     /// Compares: each file of expected answers, and after it the file of its cases.
     Check(&'a [&'a str]),
     /// Draws each case of these files, or of standard input, this many times.
@@ -26,20 +27,28 @@ pub fn command_of<'a>(words: &'a [&'a str]) -> Option<Command<'a>>
     ensures none { IsNone result → (command : Command) → Asks (words_at words.now) command → ⊥ }
 {
     let Some((first, rest)) = split_first(words) else {
-        return Some(Command::Answer(Form::Json, words));
+        return answer_of(Form::Json, false, words);
     };
     match first {
         "--text" => texts_of(rest),
+        "--keep-going" => answer_of(Form::Json, true, rest),
         "--check" => check_of(rest),
         "--repeat" => repeat_of(rest),
         "--help" => help_of(rest),
-        _ => {
-            if are_files(words) {
-                Some(Command::Answer(Form::Json, words))
-            } else {
-                None
-            }
-        }
+        _ => answer_of(Form::Json, false, words),
+    }
+}
+
+/// The command that answers the cases of these files.
+fn answer_of<'a>(form: Form, keep_going: bool, files: &'a [&'a str]) -> Option<Command<'a>>
+    ensures command { IfSome result
+        (Asks (form_options form ++ (keep_going_options keep_going ++ words_at files.now))) }
+    ensures none { IsNone result → AreFiles (words_at files.now) → ⊥ }
+{
+    if are_files(files) {
+        Some(Command::Answer(Way { form, keep_going }, files))
+    } else {
+        None
     }
 }
 
@@ -55,14 +64,18 @@ fn split_first<'a>(words: &'a [&'a str]) -> Option<(&'a str, &'a [&'a str])>
 }
 
 /// The command of the words after `--text`.
-fn texts_of<'a>(files: &'a [&'a str]) -> Option<Command<'a>>
-    ensures command { IfSome result (Asks (codes "--text" ∷ words_at files.now)) }
-    ensures none { IsNone result → AreFiles (words_at files.now) → ⊥ }
+fn texts_of<'a>(words: &'a [&'a str]) -> Option<Command<'a>>
+    ensures command { IfSome result (Asks (codes "--text" ∷ words_at words.now)) }
+    ensures none { IsNone result → (keep_going : Bool) → (files : List Word)
+        → words_at words.now ≡ keep_going_options keep_going ++ files → AreFiles files → ⊥ }
 {
-    if are_files(files) {
-        Some(Command::Answer(Form::Texts, files))
+    let Some((first, rest)) = split_first(words) else {
+        return answer_of(Form::Texts, false, words);
+    };
+    if first == "--keep-going" {
+        answer_of(Form::Texts, true, rest)
     } else {
-        None
+        answer_of(Form::Texts, false, words)
     }
 }
 

@@ -6,10 +6,10 @@ ghost use Rattle.replay_run.specs.Expected.{IsExpectedOf, IsMet, IsWanted, IsWan
 ghost use Rattle.replay_run.specs.Growth.{Grows};
 
 use crate::lines::write_line;
-use crate::outcome::Outcome;
 use json_node::fault::Fault;
 use json_node::node::Node;
 use json_node::place::Place;
+use replay_answer::outcome::{Outcome, name_of};
 use replay_read::list::list_at;
 use replay_read::shape::{Shape, has_shape};
 use serde_json::Value;
@@ -80,9 +80,11 @@ fn is_wanted(wanted: &Wanted<'_>, outcome: &Outcome) -> bool
             Wanted::Texts(wanted) => are_equal(wanted, texts),
             Wanted::Refused(_, _) => false,
         },
-        Outcome::Refused(name, text, _) => match wanted {
+        Outcome::Refused(refusal, text, _) => match wanted {
             Wanted::Texts(_) => false,
-            Wanted::Refused(wanted, words) => { *wanted == *name && *words == text.as_str() }
+            Wanted::Refused(wanted, words) => {
+                *wanted == name_of(refusal) && *words == text.as_str()
+            }
         },
     }
 }

@@ -1,15 +1,11 @@
 //! What the program `replay` does, over words, files and writers: reports as JSON lines, drawn, compared and timed.
 #![tactic(auto)]
 
-pub mod case;
 pub mod check;
 pub mod command;
 pub mod expected;
 pub mod lines;
 pub mod misuse;
-pub mod outcome;
-pub mod read;
 pub mod repeat;
 pub mod run;
-pub mod spans;
 pub mod trouble;

@@ -1,6 +1,6 @@
 //! Lines of cases, answered one after another. Nothing of a line is kept after it.
 
-ghost use Rattle.std.specs.Prelude.{◌≡◌, ℕ, Bool, List, [], ◌++◌, Some, OnOk, IfErr, IfOk, IsOkAnd, if◌then◌else◌};
+ghost use Rattle.std.specs.Prelude.{◌≡◌, ◌⊎◌, ℕ, Bool, ◌||◌, true, List, ◌++◌, Some, OnOk, IfErr, IfOk, IsOkAnd};
 ghost use Rattle.std.specs.Prelude.{string_bytes};
 ghost use Rattle.std.specs.Io.KnownBytes.{Appends};
 ghost use Rattle.annotate_snippets.specs.Fits.{ReportFits};
@@ -8,19 +8,22 @@ ghost use Rattle.serde_json.specs.Errors.{IsMemory};
 ghost use Rattle.serde_json.specs.Read.{read};
 ghost use Rattle.serde_json.specs.View.{view};
 ghost use Rattle.serde_json.specs.Written.{compact_text};
-ghost use Rattle.replay_run.specs.Answer as spec;
-ghost use Rattle.replay_run.specs.Answer.{AnswersLine, AnswersValue, answer_text, line_of, outcome_text};
-ghost use Rattle.replay_run.specs.Answered.{AnswersReader, StopsLine, StopsReader};
-ghost use Rattle.replay_run.specs.Outcome.{IsOutcomeOf};
-ghost use Rattle.replay_run.specs.Case.{IsCaseOf};
-ghost use Rattle.replay_run.specs.Trouble.{IsMisread, IsTroubleWith};
-ghost use Rattle.replay_run.specs.declared.outcome.Outcome.{Outcome};
+ghost use Rattle.replay_answer.specs.Answer.{answer_of, told_of};
+ghost use Rattle.replay_run.specs.Answer.{AnswersCase, AnswersLine, AnswersValue, answer_text, gap, line_of};
+ghost use Rattle.replay_run.specs.Answer.{outcome_text};
+ghost use Rattle.replay_run.specs.Answer.{told_text};
+ghost use Rattle.replay_run.specs.Answered.{AnswersReader, StopsFor, StopsLine, StopsReader};
+ghost use Rattle.replay_answer.specs.Outcome.{IsOutcomeOf};
+ghost use Rattle.replay_answer.specs.Case.{IsCaseOf};
+ghost use Rattle.replay_run.specs.Trouble.{IsFault, IsFinal, IsMisread, IsTroubleWith};
+ghost use Rattle.replay_answer.specs.declared.outcome.Outcome.{Outcome};
 
-use crate::case::Case;
-use crate::outcome::{Outcome, answer_of, outcome_of};
-use crate::read::case_of;
-use crate::trouble::{Line, Trouble, wrong_line};
+use crate::trouble::{Line, Trouble, fault_words, wrong_line};
 use program::line::write_whole;
+use replay_answer::answer::{answer_json, told_json};
+use replay_answer::case::Case;
+use replay_answer::outcome::{Outcome, outcome_of};
+use replay_answer::read::case_of;
 use serde_json::{Error, Value};
 use std::alloc::{AllocError, Global};
 use std::io;
@@ -35,23 +38,41 @@ pub enum Form {
     Texts,
 }
 
-/// Answers each line before the next one is waited for. `is_first` tells whether nothing was written before, and then whether that is still so.
+/// How lines are answered.
+#[derive(Clone, Copy)]
+pub struct Way {
+    pub form: Form,
+    /// Whether a line that is no case is answered by what is wrong with it, and the next one is read.
+    pub keep_going: bool,
+}
+
+/// What answers a line.
+#[derive(Drop)]
+struct LineAnswer {
+    /// Whether it tells that the line is no case.
+    told: bool,
+    text: Vec<u8>,
+}
+
+/// Answers each line before the next one is waited for, and tells whether one of them was no case. `is_first` tells
+/// whether nothing was written before, and then whether that is still so.
 pub fn answer_lines<B: BufRead + Drop, W: Write>(
     alloc: Global,
     input: B,
-    form: Form,
+    way: Way,
     is_first: &mut bool,
     out: &mut W,
-) -> Result<(), Trouble>
-    ensures answers { OnOk result (AnswersReader form is_first.old is_first.new (B.remaining input)
+) -> Result<bool, Trouble>
+    ensures answers { IfOk result (λ told. AnswersReader way told is_first.old is_first.new (B.remaining input)
         (W.contents out.old) (W.contents out.new)) }
-    ensures stops { IfErr result (StopsReader form is_first.old (B.remaining input) (W.contents out.old) (W.contents out.new)) }
+    ensures stops { IfErr result (StopsReader way is_first.old (B.remaining input) (W.contents out.old) (W.contents out.new)) }
 {
     let mut number = 0u64;
+    let mut told = false;
     for line in input.lines(alloc) {
         number = number.saturating_add(1);
-        match answer_line(alloc, line, number, form, *is_first, out) {
-            Ok(()) => {}
+        match answer_line(alloc, line, number, way, *is_first, out) {
+            Ok(here) => told = either(told, here),
             Err(trouble) => return Err(trouble),
         }
         match out.flush() {
@@ -60,33 +81,159 @@ pub fn answer_lines<B: BufRead + Drop, W: Write>(
         }
         *is_first = false;
     }
-    Ok(())
+    Ok(told)
 }
 
-/// Answers the line of this number.
+/// Whether one of two things is so.
+pub fn either(one: bool, other: bool) -> bool
+    ensures value { result ≡ one || other }
+{
+    one || other
+}
+
+/// Answers the line of this number, and tells whether it was no case.
 fn answer_line<W: Write>(
     alloc: Global,
     line: io::Result<String>,
     number: u64,
-    form: Form,
+    way: Way,
     is_first: bool,
     out: &mut W,
-) -> Result<(), Trouble>
-    ensures answers { OnOk result (IsOkAnd line (λ line. (text : List ℕ)
-        × AnswersLine form is_first (string_bytes line) text
+) -> Result<bool, Trouble>
+    ensures answers { IfOk result (λ told. IsOkAnd line (λ line. (text : List ℕ)
+        × AnswersLine way told is_first (number, string_bytes line) text
         × Appends (W.contents out.old) (W.contents out.new) text)) }
-    ensures stops { IfErr result (StopsLine form is_first number line (W.contents out.old) (W.contents out.new)) }
+    ensures stops { IfErr result (StopsLine way is_first number line (W.contents out.old) (W.contents out.new)) }
 {
-    match text_for(alloc, line, number, form, is_first) {
-        Ok(text) => match write_whole(text.as_slice(), out) {
-            Ok(()) => Ok(()),
+    match answer_for(alloc, line, number, way, is_first) {
+        Ok(answer) => match write_whole(answer.text.as_slice(), out) {
+            Ok(()) => Ok(answer.told),
             Err(error) => Err(Trouble::Write(error)),
         },
         Err(trouble) => Err(trouble),
     }
 }
 
-/// What is to be written for the line of this number.
+/// What answers the line of this number.
+#[tactic(auto, using(crate::proofs::GoingOn::answer_told, crate::proofs::GoingOn::stop_told, crate::proofs::GoingOn::stop_at_once))]
+fn answer_for(
+    alloc: Global,
+    line: io::Result<String>,
+    number: u64,
+    way: Way,
+    is_first: bool,
+) -> Result<LineAnswer, Trouble>
+    ensures answers { IfOk result (λ answer. IsOkAnd line (λ line.
+        AnswersLine way answer.told is_first (number, string_bytes line) answer.text.items)) }
+    ensures stops { IfErr result (λ trouble. IsTroubleWith (Line.Case number) line trouble × StopsFor way trouble) }
+{
+    match text_for(alloc, line, number, way.form, is_first) {
+        Ok(text) => Ok(LineAnswer { told: false, text }),
+        Err(trouble) => {
+            if way.keep_going {
+                told_for(alloc, trouble, number, way.form, is_first)
+            } else {
+                Err(trouble)
+            }
+        }
+    }
+}
+
+/// What tells of this trouble with the line of this number, where it is one with what the line says; else the trouble.
+fn told_for(
+    alloc: Global,
+    trouble: Trouble,
+    number: u64,
+    form: Form,
+    is_first: bool,
+) -> Result<LineAnswer, Trouble>
+    ensures told { IfOk result (λ answer. answer.told ≡ true) }
+    ensures text { IfOk result (λ answer. (words : List ℕ) × IsFault trouble words
+        × (answer.text.items ≡ told_text form is_first number words)) }
+    ensures last { IfErr result (λ stop. IsFinal stop × ((stop ≡ trouble) ⊎ (stop ≡ Trouble.Memory))) }
+{
+    match fault_words(alloc, trouble) {
+        Ok(words) => match told_line(alloc, words.as_str(), number, form, is_first) {
+            Ok(text) => Ok(LineAnswer { told: true, text }),
+            Err(AllocError) => Err(Trouble::Memory),
+        },
+        Err(trouble) => Err(trouble),
+    }
+}
+
+/// What tells that the line of this number is no case, in these words.
+fn told_line(
+    alloc: Global,
+    words: &str,
+    number: u64,
+    form: Form,
+    is_first: bool,
+) -> Result<Vec<u8>, AllocError>
+    ensures text { IfOk result (λ text. text.items ≡ told_text form is_first number words.now) }
+{
+    match form {
+        Form::Json => told_as_json(alloc, words, number),
+        Form::Texts => told_as_text(alloc, words, number, is_first),
+    }
+}
+
+/// The same as a line of JSON.
+fn told_as_json(alloc: Global, words: &str, number: u64) -> Result<Vec<u8>, AllocError>
+    ensures text { IfOk result (λ text. text.items ≡ told_text Form.Json true number words.now) }
+{
+    let mut text = Vec::new(alloc);
+    match write_told_json(alloc, words, number, &mut text) {
+        Ok(()) => Ok(text),
+        Err(_) => Err(AllocError),
+    }
+}
+
+/// The same as a text.
+fn told_as_text(
+    alloc: Global,
+    words: &str,
+    number: u64,
+    is_first: bool,
+) -> Result<Vec<u8>, AllocError>
+    ensures text { IfOk result (λ text. text.items ≡ told_text Form.Texts is_first number words.now) }
+{
+    let mut text = Vec::new(alloc);
+    match write_told_text(words, number, is_first, &mut text) {
+        Ok(()) => Ok(text),
+        Err(_) => Err(AllocError),
+    }
+}
+
+/// Writes that the line of this number is no case, as a line of JSON.
+fn write_told_json<W: Write>(
+    alloc: Global,
+    words: &str,
+    number: u64,
+    out: &mut W,
+) -> Result<(), Trouble>
+    ensures line { OnOk result (Appends (W.contents out.old) (W.contents out.new)
+        (told_text Form.Json true number words.now)) }
+{
+    let line = told_json(alloc, words, number)?;
+    write_line(line.as_str(), out).map_err(Trouble::Write)
+}
+
+/// Writes that the line of this number is no case, as a text.
+fn write_told_text<W: Write>(
+    words: &str,
+    number: u64,
+    is_first: bool,
+    out: &mut W,
+) -> Result<(), Trouble>
+    ensures line { OnOk result (Appends (W.contents out.old) (W.contents out.new)
+        (told_text Form.Texts is_first number words.now)) }
+{
+    write_gap(is_first, out).map_err(Trouble::Write)?;
+    out.writeln(format_args!("line {number}: no case: {words}"))
+        .map_err(Trouble::Write)
+}
+
+/// What is to be written for the line of this number, which is to be a case.
 fn text_for(
     alloc: Global,
     line: io::Result<String>,
@@ -94,7 +241,7 @@ fn text_for(
     form: Form,
     is_first: bool,
 ) -> Result<Vec<u8>, Trouble>
-    ensures answers { IfOk result (λ text. IsOkAnd line (λ line. AnswersLine form is_first (string_bytes line) text.items)) }
+    ensures answers { IfOk result (λ text. IsOkAnd line (λ line. AnswersCase form is_first (string_bytes line) text.items)) }
     ensures stops { IfErr result (IsTroubleWith (Line.Case number) line) }
 {
     match value_of(alloc, Line::Case(number), line) {
@@ -209,25 +356,16 @@ fn write_json<W: Write>(
     out: &mut W,
 ) -> Result<(), Trouble>
     ensures line { OnOk result (Appends (W.contents out.old) (W.contents out.new)
-        (line_of (compact_text (spec.answer_of id.now outcome)))) }
+        (line_of (compact_text (answer_of id.now outcome)))) }
 {
-    let line = json_line(alloc, id, outcome)?;
+    let line = answer_json(alloc, id, outcome)?;
     write_line(line.as_str(), out).map_err(Trouble::Write)
-}
-
-/// The answer to the case of this name, as JSON without a line feed.
-fn json_line(alloc: Global, id: &str, outcome: Outcome) -> Result<String, AllocError>
-    ensures line { IfOk result (λ line. string_bytes line ≡ compact_text (spec.answer_of id.now outcome)) }
-{
-    let answer = answer_of(alloc, id, outcome)?;
-    let line = answer.to_string(alloc)?;
-    Ok(line)
 }
 
 /// Writes the texts of a report, after a blank line if they aren't the first.
 fn write_report<W: Write>(outcome: Outcome, is_first: bool, out: &mut W) -> Result<(), Trouble>
     ensures text { OnOk result (Appends (W.contents out.old) (W.contents out.new)
-        ((if is_first then [] else line_of []) ++ outcome_text outcome)) }
+        (gap is_first ++ outcome_text outcome)) }
 {
     write_texts(&outcome, is_first, out).map_err(Trouble::Write)
 }
@@ -235,7 +373,7 @@ fn write_report<W: Write>(outcome: Outcome, is_first: bool, out: &mut W) -> Resu
 /// The same, of texts that stay.
 fn write_texts<W: Write>(outcome: &Outcome, is_first: bool, out: &mut W) -> io::Result<()>
     ensures text { OnOk result (Appends (W.contents out.old) (W.contents out.new)
-        ((if is_first then [] else line_of []) ++ outcome_text outcome.now)) }
+        (gap is_first ++ outcome_text outcome.now)) }
 {
     write_gap(is_first, out)?;
     write_outcome(outcome, out)?;
@@ -244,7 +382,7 @@ fn write_texts<W: Write>(outcome: &Outcome, is_first: bool, out: &mut W) -> io::
 
 /// Writes a blank line, but not before the first report.
 fn write_gap<W: Write>(is_first: bool, out: &mut W) -> io::Result<()>
-    ensures gap { OnOk result (Appends (W.contents out.old) (W.contents out.new) (if is_first then [] else line_of [])) }
+    ensures gap { OnOk result (Appends (W.contents out.old) (W.contents out.new) (gap is_first)) }
 {
     if is_first {
         Ok(())

@@ -2,10 +2,10 @@
 
 ghost use Rattle.annotate_snippets.specs.Fits.{ReportFits};
 
-use crate::case::Case;
 use crate::lines::{numbered_case, value_of};
 use crate::trouble::{Line, Trouble};
 use annotate_snippets::renderer::RenderError;
+use replay_answer::case::Case;
 use std::alloc::Global;
 use std::io;
 use std::io::{BufRead, Write};

@@ -1,6 +1,7 @@
 //! A run of the program: what its words ask for is done, and the status tells how it went.
 
-ghost use Rattle.std.specs.Prelude.{◌≡◌, ◌⊎◌, ℕ, ◌<◌, ◌≤◌, List, [], ◌∷◌, codes, length, IfErr, IfOk, OnOk};
+ghost use Rattle.std.specs.Prelude.{◌≡◌, ◌⊎◌, ℕ, ◌<◌, ◌≤◌, false, true, List, [], ◌∷◌, codes, length, IfErr, IfOk};
+ghost use Rattle.std.specs.Prelude.{OnOk};
 ghost use Rattle.std.specs.Prelude.{string_bytes};
 ghost use Rattle.std.specs.Io.Buffered.{reader_inner, reader_remaining};
 ghost use Rattle.std.specs.Io.KnownBytes.{Appends};
@@ -15,12 +16,12 @@ ghost use Rattle.replay_run.specs.Words.{Word, words_at, usage_text, AsksAnswers
 ghost use Rattle.replay_run.specs.Words.{IfAnswers, IfComparison, Compares};
 ghost use Rattle.replay_run.specs.declared.command.Command.{Command};
 ghost use Rattle.replay_run.specs.declared.command.Command.TheVariants.{Help};
-ghost use Rattle.replay_run.specs.declared.lines.Form.{Form};
+ghost use Rattle.replay_run.specs.declared.lines.Way.{Way};
 ghost use Rattle.replay_run.specs.declared.trouble.Trouble.{Trouble};
 
 use crate::check::{Counts, check_lines};
 use crate::command::{Command, command_of};
-use crate::lines::{Form, answer_lines, write_line as write_answer_line};
+use crate::lines::{Way, answer_lines, either, write_line as write_answer_line};
 use crate::misuse::{Misuse, misuse_of};
 use crate::repeat::{Tally, repeat_lines, write_tally};
 use crate::trouble::{Trouble, words_of};
@@ -32,7 +33,7 @@ use std::rt::{Clock, Files};
 use std::{fs, io};
 
 /// How the words are to be written.
-const USAGE: &str = "usage: replay [--text] [FILE ..]
+const USAGE: &str = "usage: replay [--text] [--keep-going] [FILE ..]
        replay --check EXPECTED FILE [EXPECTED FILE ..]
        replay --repeat N [FILE ..]
        replay --help";
@@ -80,18 +81,18 @@ pub fn run<R: Files + Input + Clock + AllocGlobal, W: Write, V: Write>(
     ensures differs { result ≡ 1 → Compares (words_at words.now) }
     ensures compares { result ≤ 1 → (files : List Word) → words_at words.now ≡ codes "--check" ∷ files
         → EndsComparison R.File R.File.remaining (length files) (W.contents out.old) (W.contents out.new) result }
-    ensures answers { result ≡ 0 → (form : Form) → (files : List Word) → AsksAnswers (words_at words.now) form files
+    ensures answers { result ≡ 0 → (way : Way) → (files : List Word) → AsksAnswers (words_at words.now) way files
         → 0 < length files
-        → AnswersReaders R.File R.File.remaining form (length files) (W.contents out.old) (W.contents out.new) }
-    ensures answers_input { result ≡ 0 → (form : Form) → AsksAnswers (words_at words.now) form []
-        → AnswersReaders R.Reader R.Reader.remaining form 1 (W.contents out.old) (W.contents out.new) }
-    ensures stops { result ≡ 2 → (form : Form) → (files : List Word) → AsksAnswers (words_at words.now) form files
+        → AnswersReaders R.File R.File.remaining way false (length files) (W.contents out.old) (W.contents out.new) }
+    ensures answers_input { result ≡ 0 → (way : Way) → AsksAnswers (words_at words.now) way []
+        → AnswersReaders R.Reader R.Reader.remaining way false 1 (W.contents out.old) (W.contents out.new) }
+    ensures stops { result ≡ 2 → (way : Way) → (files : List Word) → AsksAnswers (words_at words.now) way files
         → 0 < length files
         → (name : Word) × (trouble : Trouble) × TellsStop name trouble (Receives V.contents err.old err.new)
-        × StopsReaders R.File R.File.remaining form files (W.contents out.old) (W.contents out.new) name trouble }
-    ensures stops_input { result ≡ 2 → (form : Form) → AsksAnswers (words_at words.now) form []
+        × StopsReaders R.File R.File.remaining way files (W.contents out.old) (W.contents out.new) name trouble }
+    ensures stops_input { result ≡ 2 → (way : Way) → AsksAnswers (words_at words.now) way []
         → (name : Word) × (trouble : Trouble) × TellsStop name trouble (Receives V.contents err.old err.new)
-        × StopsReaders R.Reader R.Reader.remaining form (codes "standard input" ∷ [])
+        × StopsReaders R.Reader R.Reader.remaining way (codes "standard input" ∷ [])
         (W.contents out.old) (W.contents out.new) name trouble }
     ensures help { result ≡ 0 → words_at words.now ≡ codes "--help" ∷ []
         → Appends (W.contents out.old) (W.contents out.new) (line_of usage_text) }
@@ -119,15 +120,15 @@ fn finish<'a, R: Files + Input + Clock + AllocGlobal, W: Write>(
     ensures differs { IfOk result (λ status. status ≡ 1 → IsComparison command.now) }
     ensures compares { IfOk result (λ status. IfComparison command.now (λ files.
         EndsComparison R.File R.File.remaining files (W.contents out.old) (W.contents out.new) status)) }
-    ensures answers { OnOk result (IfAnswers command.now (λ form files. 0 < length files
-        → AnswersReaders R.File R.File.remaining form (length files) (W.contents out.old) (W.contents out.new))) }
-    ensures answers_input { OnOk result (IfAnswers command.now (λ form files. length files ≡ 0
-        → AnswersReaders R.Reader R.Reader.remaining form 1 (W.contents out.old) (W.contents out.new))) }
-    ensures stops { IfErr result (λ stop. IfAnswers command.now (λ form files. 0 < length files
-        → StopsReaders R.File R.File.remaining form files (W.contents out.old) (W.contents out.new)
+    ensures answers { OnOk result (IfAnswers command.now (λ way files. 0 < length files
+        → AnswersReaders R.File R.File.remaining way false (length files) (W.contents out.old) (W.contents out.new))) }
+    ensures answers_input { OnOk result (IfAnswers command.now (λ way files. length files ≡ 0
+        → AnswersReaders R.Reader R.Reader.remaining way false 1 (W.contents out.old) (W.contents out.new))) }
+    ensures stops { IfErr result (λ stop. IfAnswers command.now (λ way files. 0 < length files
+        → StopsReaders R.File R.File.remaining way files (W.contents out.old) (W.contents out.new)
         stop.file.now stop.trouble)) }
-    ensures stops_input { IfErr result (λ stop. IfAnswers command.now (λ form files. length files ≡ 0
-        → StopsReaders R.Reader R.Reader.remaining form (codes "standard input" ∷ [])
+    ensures stops_input { IfErr result (λ stop. IfAnswers command.now (λ way files. length files ≡ 0
+        → StopsReaders R.Reader R.Reader.remaining way (codes "standard input" ∷ [])
         (W.contents out.old) (W.contents out.new) stop.file.now stop.trouble)) }
     ensures help { OnOk result (command.now ≡ Help → Appends (W.contents out.old) (W.contents out.new) (line_of usage_text)) }
 {
@@ -196,20 +197,20 @@ fn do_command<'a, R: Files + Input + Clock + AllocGlobal, W: Write>(
     ensures differs { IfOk result (λ status. status ≡ 1 → IsComparison command.now) }
     ensures compares { IfOk result (λ status. IfComparison command.now (λ files.
         EndsComparison R.File R.File.remaining files (W.contents out.old) (W.contents out.new) status)) }
-    ensures answers { OnOk result (IfAnswers command.now (λ form files. 0 < length files
-        → AnswersReaders R.File R.File.remaining form (length files) (W.contents out.old) (W.contents out.new))) }
-    ensures answers_input { OnOk result (IfAnswers command.now (λ form files. length files ≡ 0
-        → AnswersReaders R.Reader R.Reader.remaining form 1 (W.contents out.old) (W.contents out.new))) }
-    ensures stops { IfErr result (λ stop. IfAnswers command.now (λ form files. 0 < length files
-        → StopsReaders R.File R.File.remaining form files (W.contents out.old) (W.contents out.new)
+    ensures answers { OnOk result (IfAnswers command.now (λ way files. 0 < length files
+        → AnswersReaders R.File R.File.remaining way false (length files) (W.contents out.old) (W.contents out.new))) }
+    ensures answers_input { OnOk result (IfAnswers command.now (λ way files. length files ≡ 0
+        → AnswersReaders R.Reader R.Reader.remaining way false 1 (W.contents out.old) (W.contents out.new))) }
+    ensures stops { IfErr result (λ stop. IfAnswers command.now (λ way files. 0 < length files
+        → StopsReaders R.File R.File.remaining way files (W.contents out.old) (W.contents out.new)
         stop.file.now stop.trouble)) }
-    ensures stops_input { IfErr result (λ stop. IfAnswers command.now (λ form files. length files ≡ 0
-        → StopsReaders R.Reader R.Reader.remaining form (codes "standard input" ∷ [])
+    ensures stops_input { IfErr result (λ stop. IfAnswers command.now (λ way files. length files ≡ 0
+        → StopsReaders R.Reader R.Reader.remaining way (codes "standard input" ∷ [])
         (W.contents out.old) (W.contents out.new) stop.file.now stop.trouble)) }
     ensures help { OnOk result (command.now ≡ Help → Appends (W.contents out.old) (W.contents out.new) (line_of usage_text)) }
 {
     match *command {
-        Command::Answer(form, files) => answer(rt, form, files, out),
+        Command::Answer(way, files) => answer(rt, way, files, out),
         Command::Check(files) => check(rt, files, out),
         Command::Repeat(times, files) => repeat(rt, times, files, out),
         Command::Help => {
@@ -228,52 +229,70 @@ const INPUT: &str = "standard input";
 /// Answers the cases of the files, or of standard input where there are none.
 fn answer<'a, R: Files + Input + AllocGlobal, W: Write>(
     rt: &R,
-    form: Form,
+    way: Way,
     files: &[&'a str],
     out: &mut W,
 ) -> Result<u8, Stop<'a>>
     ensures status { IfOk result (λ status. status ≡ 0) }
-    ensures answers { OnOk result (0 < length (words_at files.now) → AnswersReaders R.File R.File.remaining form
+    ensures answers { OnOk result (0 < length (words_at files.now) → AnswersReaders R.File R.File.remaining way false
         (length (words_at files.now)) (W.contents out.old) (W.contents out.new)) }
     ensures answers_input { OnOk result (length (words_at files.now) ≡ 0
-        → AnswersReaders R.Reader R.Reader.remaining form 1 (W.contents out.old) (W.contents out.new)) }
-    ensures stops { IfErr result (λ stop. 0 < length (words_at files.now) → StopsReaders R.File R.File.remaining form
+        → AnswersReaders R.Reader R.Reader.remaining way false 1 (W.contents out.old) (W.contents out.new)) }
+    ensures stops { IfErr result (λ stop. 0 < length (words_at files.now) → StopsReaders R.File R.File.remaining way
         (words_at files.now) (W.contents out.old) (W.contents out.new) stop.file.now stop.trouble) }
-    ensures stops_input { IfErr result (λ stop. length (words_at files.now) ≡ 0 → StopsReaders R.Reader R.Reader.remaining form
+    ensures stops_input { IfErr result (λ stop. length (words_at files.now) ≡ 0 → StopsReaders R.Reader R.Reader.remaining way
         (codes "standard input" ∷ []) (W.contents out.old) (W.contents out.new) stop.file.now stop.trouble) }
 {
     if files.is_empty() {
-        match answer_input(rt, form, out) {
-            Ok(()) => Ok(DONE),
+        match answer_input(rt, way, out) {
+            Ok(told) => ended(told),
             Err(trouble) => Err(Stop {
                 file: INPUT,
                 trouble,
             }),
         }
     } else {
-        match answer_files(rt, form, files, out) {
-            Ok(()) => Ok(DONE),
+        match answer_files(rt, way, files, out) {
+            Ok(told) => ended(told),
             Err(stop) => Err(stop),
         }
     }
 }
 
-/// Answers the cases of each file, one file after another.
+/// The status where all lines are answered: it is trouble if one of the answers tells that its line is no case.
+fn ended<'a>(told: bool) -> Result<u8, Stop<'a>>
+    ensures status { IfOk result (λ status. status ≡ 0) }
+    ensures cases { OnOk result (told ≡ false) }
+    ensures stops { IfErr result (λ stop. told ≡ true × (stop.trouble ≡ Trouble.NotCases)
+        × (stop.file.now ≡ codes "standard output")) }
+{
+    if told {
+        Err(Stop {
+            file: OUTPUT,
+            trouble: Trouble::NotCases,
+        })
+    } else {
+        Ok(DONE)
+    }
+}
+
+/// Answers the cases of each file, one file after another, and tells whether one of their lines was no case.
 fn answer_files<'a, R: Files + AllocGlobal, W: Write>(
     rt: &R,
-    form: Form,
+    way: Way,
     files: &[&'a str],
     out: &mut W,
-) -> Result<(), Stop<'a>>
-    ensures answers { OnOk result (AnswersReaders R.File R.File.remaining form (length (words_at files.now))
+) -> Result<bool, Stop<'a>>
+    ensures answers { IfOk result (λ told. AnswersReaders R.File R.File.remaining way told (length (words_at files.now))
         (W.contents out.old) (W.contents out.new)) }
-    ensures stops { IfErr result (λ stop. StopsReaders R.File R.File.remaining form (words_at files.now)
+    ensures stops { IfErr result (λ stop. StopsReaders R.File R.File.remaining way (words_at files.now)
         (W.contents out.old) (W.contents out.new) stop.file.now stop.trouble) }
 {
     let mut is_first = true;
+    let mut told = false;
     for file in files {
-        match answer_file(rt, form, file, &mut is_first, out) {
-            Ok(()) => {}
+        match answer_file(rt, way, file, &mut is_first, out) {
+            Ok(here) => told = either(told, here),
             Err(trouble) => {
                 return Err(Stop {
                     file: *file,
@@ -282,7 +301,7 @@ fn answer_files<'a, R: Files + AllocGlobal, W: Write>(
             }
         }
     }
-    Ok(())
+    Ok(told)
 }
 
 /// The bytes of a file.
@@ -312,38 +331,38 @@ fn opened_input<R: Input + AllocGlobal>(rt: &R) -> Result<BufReader<R::Reader>, 
     }
 }
 
-/// Answers the cases of standard input.
+/// Answers the cases of standard input, and tells whether a line was no case.
 fn answer_input<R: Input + AllocGlobal, W: Write>(
     rt: &R,
-    form: Form,
+    way: Way,
     out: &mut W,
-) -> Result<(), Trouble>
-    ensures answers { OnOk result
-        (AnswersReaders R.Reader R.Reader.remaining form 1 (W.contents out.old) (W.contents out.new)) }
-    ensures stops { IfErr result (StopsReaders R.Reader R.Reader.remaining form (codes "standard input" ∷ [])
+) -> Result<bool, Trouble>
+    ensures answers { IfOk result (λ told.
+        AnswersReaders R.Reader R.Reader.remaining way told 1 (W.contents out.old) (W.contents out.new)) }
+    ensures stops { IfErr result (StopsReaders R.Reader R.Reader.remaining way (codes "standard input" ∷ [])
         (W.contents out.old) (W.contents out.new) (codes "standard input")) }
 {
     let mut is_first = true;
     match opened_input(rt) {
-        Ok(input) => answer_lines(rt.alloc(), input, form, &mut is_first, out),
+        Ok(input) => answer_lines(rt.alloc(), input, way, &mut is_first, out),
         Err(trouble) => Err(trouble),
     }
 }
 
-/// Answers the cases of one file.
+/// The same of one file.
 fn answer_file<R: Files + AllocGlobal, W: Write>(
     rt: &R,
-    form: Form,
+    way: Way,
     file: &str,
     is_first: &mut bool,
     out: &mut W,
-) -> Result<(), Trouble>
-    ensures answers { OnOk result ((input : R.File) × AnswersReader form is_first.old is_first.new (R.File.remaining input)
+) -> Result<bool, Trouble>
+    ensures answers { IfOk result (λ told. (input : R.File) × AnswersReader way told is_first.old is_first.new (R.File.remaining input)
         (W.contents out.old) (W.contents out.new)) }
-    ensures stops { IfErr result (StopsAt R.File R.File.remaining form is_first.old (W.contents out.old) (W.contents out.new)) }
+    ensures stops { IfErr result (StopsAt R.File R.File.remaining way is_first.old (W.contents out.old) (W.contents out.new)) }
 {
     match opened(rt, file) {
-        Ok(input) => answer_lines(rt.alloc(), input, form, is_first, out),
+        Ok(input) => answer_lines(rt.alloc(), input, way, is_first, out),
         Err(trouble) => Err(trouble),
     }
 }

@@ -1,9 +1,11 @@
 //! What stops a run, and what is told of it.
 
-ghost use Rattle.std.specs.Prelude.{◌≡◌, ℕ, List, Some, IfOk, string_bytes};
-ghost use Rattle.replay_run.specs.Trouble.{IsMisread, json_text, line_text, trouble_text, unpaired_text};
+ghost use Rattle.std.specs.Prelude.{◌≡◌, ◌⊎◌, ℕ, List, Some, IfErr, IfOk, string_bytes};
+ghost use Rattle.replay_run.specs.Trouble.{IsFault, IsFinal, IsMisread, json_text, line_text, trouble_text};
+ghost use Rattle.replay_run.specs.Trouble.{unpaired_text};
 
 use json_node::fault::Fault;
+use replay_answer::answer::column_words;
 use std::alloc::{AllocError, AllocFailed, Global};
 use std::{fmt, io};
 
@@ -20,6 +22,8 @@ pub enum Trouble {
     Unpaired(u64),
     /// There are more lines than can be counted.
     TooManyLines,
+    /// Each line was answered, and not each was a case.
+    NotCases,
     /// Input can't be read.
     Read(io::Error),
     /// The clock can't be read.
@@ -102,6 +106,7 @@ fn words_with(alloc: Global, trouble: &Trouble, said: &str) -> Result<String, Al
         Trouble::Wrong(line, words) => format!(in alloc; "{line}: {words}"),
         Trouble::Unpaired(number) => unpaired_words(alloc, *number),
         Trouble::TooManyLines => format!(in alloc; "too many lines"),
+        Trouble::NotCases => format!(in alloc; "not each line was a case"),
         Trouble::Read(_) => format!(in alloc; "cannot read: {said}"),
         Trouble::Clock(_) => format!(in alloc; "cannot read the clock: {said}"),
         Trouble::Write(_) => format!(in alloc; "cannot write: {said}"),
@@ -122,6 +127,28 @@ fn json_words(
         format!(in alloc; "{line}, column {column}: not valid JSON: it ends too early")
     } else {
         format!(in alloc; "{line}, column {column}: not valid JSON")
+    }
+}
+
+/// What is told of a line without its number, where the trouble is with what the line says; else the trouble.
+pub fn fault_words(alloc: Global, trouble: Trouble) -> Result<String, Trouble>
+    ensures words { IfOk result (λ words. IsFault trouble (string_bytes words)) }
+    ensures last { IfErr result (λ stop. IsFinal stop × ((stop ≡ trouble) ⊎ (stop ≡ Trouble.Memory))) }
+{
+    match trouble {
+        Trouble::Wrong(_, words) => Ok(words),
+        Trouble::NotJson(_, column, ends_early) => match column_words(alloc, column, ends_early) {
+            Ok(words) => Ok(words),
+            Err(AllocError) => Err(Trouble::Memory),
+        },
+        Trouble::NotText(line) => Err(Trouble::NotText(line)),
+        Trouble::Unpaired(number) => Err(Trouble::Unpaired(number)),
+        Trouble::TooManyLines => Err(Trouble::TooManyLines),
+        Trouble::NotCases => Err(Trouble::NotCases),
+        Trouble::Read(error) => Err(Trouble::Read(error)),
+        Trouble::Clock(error) => Err(Trouble::Clock(error)),
+        Trouble::Write(error) => Err(Trouble::Write(error)),
+        Trouble::Memory => Err(Trouble::Memory),
     }
 }
 

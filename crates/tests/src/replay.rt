@@ -6,10 +6,10 @@ use annotate_snippets::renderer::{
     AnsiColor, Color, DecorStyle, Effects, RenderError, Style, Stylesheet,
 };
 use annotate_snippets::{Annotation, AnnotationKind, Element, Group, OptionCow, Renderer, Snippet};
+use replay_answer::outcome::{Outcome, name_of, outcome_of};
+use replay_answer::read::case_of;
 use replay_run::check::check_lines;
-use replay_run::lines::{Form, answer_lines};
-use replay_run::outcome::{Outcome, outcome_of};
-use replay_run::read::case_of;
+use replay_run::lines::{Form, Way, answer_lines};
 use replay_run::run::run;
 use replay_run::trouble::words_of;
 use serde_json::Value;
@@ -85,7 +85,7 @@ fn drawn(alloc: Global, line: &str) -> Result<Vec<String>, Fail> {
     };
     match outcome_of(alloc, &case)? {
         Outcome::Texts(texts) => Ok(texts),
-        Outcome::Refused(name, _, _) => Err(Fail::new(name)),
+        Outcome::Refused(refusal, _, _) => Err(Fail::new(name_of(&refusal))),
     }
 }
 
@@ -159,12 +159,21 @@ const ANSWERED: [(&str, &str, &str); 13] = [
     ),
 ];
 
+/// Answers in this form, up to the first line that is no case.
+fn stopping(form: Form) -> Way {
+    Way {
+        form,
+        keep_going: false,
+    }
+}
+
 /// What is answered to these lines, and after it what is told.
 fn answered(alloc: Global, lines: &str) -> Result<(Vec<u8>, String), Fail> {
     let mut out = Vec::new(alloc);
     let mut is_first = true;
-    let told = match answer_lines(alloc, lines.as_bytes(), Form::Json, &mut is_first, &mut out) {
-        Ok(()) => String::new(alloc),
+    let way = stopping(Form::Json);
+    let told = match answer_lines(alloc, lines.as_bytes(), way, &mut is_first, &mut out) {
+        Ok(_) => String::new(alloc),
         Err(trouble) => words_of(alloc, &trouble)?,
     };
     Ok((out, told))
@@ -201,14 +210,59 @@ fn tells_the_span_that_is_refused(rt: HostRuntime) -> Result<(), Fail> {
     let mut out = Vec::new(rt.alloc());
     let mut is_first = true;
     let lines = WRONG_SPANS.as_bytes();
-    let answered = answer_lines(rt.alloc(), lines, Form::Texts, &mut is_first, &mut out);
+    let way = stopping(Form::Texts);
+    let answered = answer_lines(rt.alloc(), lines, way, &mut is_first, &mut out);
     assert!(rt; answered.is_ok());
     assert_eq!(rt; out.as_slice(), REFUSED_SPANS.as_bytes());
     Ok(())
 }
 
+/// Lines of which the first and the last are cases.
+const GAPPED: &str =
+    "{\"id\": \"a\", \"groups\": []}\n{}\n{\"id\": \"b\"\n{\"id\": \"c\", \"groups\": []}\n";
+
+/// What is answered to them as JSON, and as texts, where each is to be answered.
+const ANSWERED_ALL: [(Form, &str); 2] = [
+    (
+        Form::Json,
+        "{\"id\":\"a\",\"ok\":[\"\"]}
+{\"error\":\"id: missing, expected a text of fewer than 2^56 bytes\",\"line\":2}
+{\"error\":\"column 10: not valid JSON: it ends too early\",\"line\":3}
+{\"id\":\"c\",\"ok\":[\"\"]}
+",
+    ),
+    (
+        Form::Texts,
+        "
+
+line 2: no case: id: missing, expected a text of fewer than 2^56 bytes
+
+line 3: no case: column 10: not valid JSON: it ends too early
+
+
+",
+    ),
+];
+
+#[test]
+fn keeps_going_past_lines_that_are_no_cases(rt: HostRuntime) -> Result<(), Fail> {
+    for (form, wanted) in &ANSWERED_ALL {
+        let way = Way {
+            form: *form,
+            keep_going: true,
+        };
+        let (mut out, mut is_first) = (Vec::new(rt.alloc()), true);
+        match answer_lines(rt.alloc(), GAPPED.as_bytes(), way, &mut is_first, &mut out) {
+            Ok(told) => assert!(rt; told),
+            Err(_) => return Err(Fail::new("stopped")),
+        }
+        assert_eq!(rt; out.as_slice(), wanted.as_bytes());
+    }
+    Ok(())
+}
+
 /// How the words of `replay` are to be written.
-const USAGE: &str = "usage: replay [--text] [FILE ..]
+const USAGE: &str = "usage: replay [--text] [--keep-going] [FILE ..]
        replay --check EXPECTED FILE [EXPECTED FILE ..]
        replay --repeat N [FILE ..]
        replay --help
@@ -276,7 +330,8 @@ fn tells_a_failed_write(rt: HostRuntime) {
     let line = "{\"id\": \"a\", \"groups\": []}";
     for form in [Form::Json, Form::Texts] {
         let mut is_first = true;
-        let answered = answer_lines(rt.alloc(), line.as_bytes(), form, &mut is_first, &mut Full);
+        let way = stopping(form);
+        let answered = answer_lines(rt.alloc(), line.as_bytes(), way, &mut is_first, &mut Full);
         assert!(rt; answered.is_err());
     }
 }

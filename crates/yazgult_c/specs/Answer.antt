@@ -1,5 +1,5 @@
 -- What becomes of the bytes of a report, and the bytes of that.
-use Rattle.std.specs.Prelude.{◌≡◌, ℕ, ◌-◌, List, [], ◌∷◌, ◌++◌, Some, Result, Ok, Err, String, codes, length, map, string_bytes}
+use Rattle.std.specs.Prelude.{◌≡◌, ◌⊎◌, ℕ, ◌-◌, List, [], ◌∷◌, ◌++◌, Some, Result, Ok, Err, String, codes, length, map, string_bytes}
 use Rattle.std.specs.Int.{w64, to_le_bytes}
 use Rattle.std.specs.Prelude.{Vec}
 use Rattle.std.specs.declared.alloc.Global.{Global}
@@ -17,6 +17,7 @@ use Rattle.report_bytes.specs.declared.fault.Wrong.{Wrong}
 use Rattle.report_bytes.specs.declared.fault.Wrong.TheVariants.{Short, Flag, Kind, Long, NotText, Trailing}
 use Rattle.report_bytes.specs.declared.request.Request.{Request}
 use Rattle.report_bytes.specs.declared.settings.Settings.{Settings}
+use Rattle.replay_answer.specs.Line.{AnswersAlone}
 use Rattle.yazgult_c.specs.declared.answer.Answer.{Answer}
 use Rattle.yazgult_c.specs.declared.answer.Answer.TheVariants.{Texts, Refused, NoReport, Memory}
 
@@ -60,6 +61,11 @@ IsAnswerTo input (Refused refusal) = (r : Request) × (input ≡ request_bytes r
 IsAnswerTo input (NoReport wrong place) =
     (left : ℕ) × (after_request input ≡ Err (record { wrong = wrong; left = left })) × (place ≡ length input - left)
 IsAnswerTo input Memory = Unit {0}
+
+-- what becomes of a line of JSON: the text that answers it, which says that its texts show the report that the line is, or which refusal
+-- of that report stands first, or why it is no report; or that memory ran out
+abbrev pub IsLineAnswerTo : List ℕ → List ℕ → Type 0
+IsLineAnswerTo line text = AnswersAlone line text ⊎ (text ≡ codes "{\"error\":\"out of memory\",\"line\":1}")
 
 -- ---- the bytes of an answer
 

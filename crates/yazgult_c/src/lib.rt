@@ -2,8 +2,8 @@
 //! as there is room, and answers how many bytes there are. Nothing is kept between calls.
 #![tactic(auto)]
 
-ghost use Rattle.std.specs.Prelude.{codes};
-ghost use Rattle.yazgult_c.specs.Answer.{IsAnswerTo, answer_bytes};
+ghost use Rattle.std.specs.Prelude.{ℕ, List, codes};
+ghost use Rattle.yazgult_c.specs.Answer.{IsAnswerTo, IsLineAnswerTo, answer_bytes};
 ghost use Rattle.yazgult_c.specs.Given.{IsGiven};
 ghost use Rattle.yazgult_c.specs.declared.answer.Answer.{Answer};
 
@@ -13,6 +13,7 @@ mod write;
 
 use answer::answer_to;
 use give::give;
+use replay_answer::line::line_answer;
 use std::alloc::Global;
 use write::{NO_MEMORY, written};
 
@@ -27,6 +28,21 @@ pub extern "C" fn yazgult_draw(alloc: Global, input: &[u8], output: &mut [u8]) -
     match written(alloc, &answer) {
         Ok(bytes) => give(&bytes, output),
         Err(_) => give(&NO_MEMORY, output),
+    }
+}
+
+/// What is given for a line where there was no memory to answer it.
+const NO_MEMORY_LINE: &str = "{\"error\":\"out of memory\",\"line\":1}";
+
+/// Draws the report that stands in `input`, a line of JSON in the form of `docs/REPORTS.md`, and gives what `replay
+/// --keep-going` answers to that line, without a line feed.
+#[unsafe(no_mangle)]
+pub extern "C" fn yazgult_draw_json(alloc: Global, input: &[u8], output: &mut [u8]) -> usize
+    ensures answers { (text : List ℕ) × IsLineAnswerTo input.now text × IsGiven text output.old output.new result }
+{
+    match line_answer(alloc, input) {
+        Ok(text) => give(text.as_bytes(), output),
+        Err(_) => give(NO_MEMORY_LINE.as_bytes(), output),
     }
 }
 

@@ -6,20 +6,20 @@ use Rattle.replay_run.proofs.lines.answer_lines.Goals as goal
 
 pub loop-line-init : goal.loop-line-init
 loop-line-init g c =
-    answered_none c.args.form _ _ _ _ (ap (lines_known_bytes g.B.Read.remaining) c.into_iter-line-iterator.ensures.into_iter_gives ∙ c.lines-line-items.ensures)
+    answered_none c.args.way _ _ _ _ (ap (lines_known_bytes g.B.Read.remaining) c.into_iter-line-iterator.ensures.into_iter_gives ∙ c.lines-line-items.ensures)
 
 pub loop-line-preserved : goal.loop-line-preserved
 loop-line-preserved g c =
-    answered_step _ _ _ _ _ _ _ _ _ _ _ _ _ c.in-Some.line c.loop-line.invariant c.saturating_add-number.ensures c.in-Some.is c.next.ensures.steps.1 c.in-Ok.ensures.answers c.flush.ensures.bytes
+    answered_step _ _ _ _ _ _ _ _ _ _ _ _ _ _ _ _ c.in-Some.line c.loop-line.invariant c.saturating_add-number.ensures c.in-Some.is c.next.ensures.steps.1 c.in-Ok.ensures.answers c.flush.ensures.bytes c.either-told.ensures.value
 
 pub returns-in-Err-clause-stops : goal.returns-in-Err-clause-stops
 returns-in-Err-clause-stops g c =
-    stops_within _ _ _ _ _ _ _ _ _ _ _ _ _ c.in-Some.line c.loop-line.invariant c.saturating_add-number.ensures c.in-Some.is c.next.ensures.steps.1 c.in-Err.ensures.stops
+    stops_within _ _ _ _ _ _ _ _ _ _ _ _ _ _ c.in-Some.line c.loop-line.invariant c.saturating_add-number.ensures c.in-Some.is c.next.ensures.steps.1 c.in-Err.ensures.stops
 
 pub returns-in-Err-flush-clause-stops : goal.returns-in-Err-flush-clause-stops
 returns-in-Err-flush-clause-stops g c =
-    let more = answered_step _ _ _ _ _ _ _ _ _ _ _ _ _ c.in-Some.line c.loop-line.invariant c.saturating_add-number.ensures c.in-Some.is c.next.ensures.steps.1 c.in-Ok.ensures.answers c.flush.ensures.bytes in
-    stops_after _ _ _ _ _ _ _ _ _ _ more (Keeps-refl _) (c.in-Err-flush.error, refl)
+    let more = answered_step _ _ _ _ _ _ _ _ _ _ _ _ _ _ _ _ c.in-Some.line c.loop-line.invariant c.saturating_add-number.ensures c.in-Some.is c.next.ensures.steps.1 c.in-Ok.ensures.answers c.flush.ensures.bytes c.either-told.ensures.value in
+    stops_after _ _ _ _ _ _ _ _ _ _ _ more (Keeps-refl _) (c.in-Err-flush.error, refl)
 
 pub returns-clause-answers : goal.returns-clause-answers
-returns-clause-answers g c = answered_all _ _ _ _ _ _ _ _ _ _ c.loop-line.invariant c.in-None.is c.next.ensures.steps.1
+returns-clause-answers g c = answered_all _ _ _ _ _ _ _ _ _ _ _ c.loop-line.invariant c.in-None.is c.next.ensures.steps.1

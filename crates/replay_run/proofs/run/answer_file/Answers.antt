@@ -1,7 +1,8 @@
 use Rattle.std.proofs.Common.{inl, inr}
 use Rattle.std.proofs.KnownBytes.{Keeps-refl}
 use Rattle.std.specs.Io.Buffered.{reader_inner}
-use Rattle.replay_run.proofs.AnsweredReaders.{answered_same, if_err, on_ok, stopped_same}
+use Rattle.std.proofs.lemmas.Result.{IfOk-weaker}
+use Rattle.replay_run.proofs.AnsweredReaders.{answered_same, if_err, stopped_same}
 use Rattle.replay_run.proofs.run.answer_file.Goals as goal
 
 pub returns-in-Err-clause-stops : goal.returns-in-Err-clause-stops
@@ -9,7 +10,7 @@ returns-in-Err-clause-stops g c = inl (Keeps-refl _, c.in-Err.ensures.unread)
 
 pub returns-in-Ok-clause-answers : goal.returns-in-Ok-clause-answers
 returns-in-Ok-clause-answers g c =
-    on_ok c.answer_lines.result (λ h. (reader_inner c.in-Ok.input, answered_same _ _ _ _ _ _ _ c.in-Ok.ensures.bytes h)) c.answer_lines.ensures.answers
+    IfOk-weaker c.answer_lines.result _ _ (λ told h. (reader_inner c.in-Ok.input, answered_same _ told _ _ _ _ _ _ c.in-Ok.ensures.bytes h)) c.answer_lines.ensures.answers
 
 pub returns-in-Ok-clause-stops : goal.returns-in-Ok-clause-stops
 returns-in-Ok-clause-stops g c =

@@ -1,17 +1,18 @@
 use Rattle.std.proofs.Common.{codes, inl, inr}
 use Rattle.std.proofs.KnownBytes.{Keeps-refl}
 use Rattle.std.specs.Io.Buffered.{reader_inner}
-use Rattle.replay_run.proofs.AnsweredReaders.{answered_same, first_stops, if_err, on_ok, reader_alone, stopped_same}
+use Rattle.std.proofs.lemmas.Result.{IfOk-weaker}
+use Rattle.replay_run.proofs.AnsweredReaders.{answered_same, first_stops, if_err, reader_alone, stopped_same}
 use Rattle.replay_run.proofs.run.answer_input.Goals as goal
 
 pub returns-in-Err-clause-stops : goal.returns-in-Err-clause-stops
 returns-in-Err-clause-stops g c =
-    first_stops g.R.Reader.Read.remaining c.args.form (codes "standard input") _ _ c.in-Err.trouble (inl (Keeps-refl _, c.in-Err.ensures.unread))
+    first_stops g.R.Reader.Read.remaining c.args.way (codes "standard input") _ _ c.in-Err.trouble (inl (Keeps-refl _, c.in-Err.ensures.unread))
 
 pub returns-in-Ok-clause-answers : goal.returns-in-Ok-clause-answers
 returns-in-Ok-clause-answers g c =
-    on_ok c.answer_lines.result (λ h. reader_alone g.R.Reader.Read.remaining c.args.form _ _ _ (reader_inner c.in-Ok.input) (answered_same _ _ _ _ _ _ _ c.in-Ok.ensures.bytes h)) c.answer_lines.ensures.answers
+    IfOk-weaker c.answer_lines.result _ _ (λ told h. reader_alone g.R.Reader.Read.remaining c.args.way told _ _ _ (reader_inner c.in-Ok.input) (answered_same _ told _ _ _ _ _ _ c.in-Ok.ensures.bytes h)) c.answer_lines.ensures.answers
 
 pub returns-in-Ok-clause-stops : goal.returns-in-Ok-clause-stops
 returns-in-Ok-clause-stops g c =
-    if_err c.answer_lines.result (λ trouble h. first_stops g.R.Reader.Read.remaining c.args.form (codes "standard input") _ _ trouble (inr (reader_inner c.in-Ok.input, stopped_same _ _ _ _ _ _ trouble c.in-Ok.ensures.bytes h))) c.answer_lines.ensures.stops
+    if_err c.answer_lines.result (λ trouble h. first_stops g.R.Reader.Read.remaining c.args.way (codes "standard input") _ _ trouble (inr (reader_inner c.in-Ok.input, stopped_same _ _ _ _ _ _ trouble c.in-Ok.ensures.bytes h))) c.answer_lines.ensures.stops

@@ -1,4 +1,4 @@
-use Rattle.std.proofs.Common.{◌≡◌, ◌<◌, [], ◌∷◌, codes, length, refl}
+use Rattle.std.proofs.Common.{◌≡◌, ◌<◌, [], ◌∷◌, codes, inl, length, refl}
 use Rattle.replay_run.specs.Answered.{AnswersReaders, StopsReaders}
 use Rattle.replay_run.specs.Compared.{EndsComparison}
 use Rattle.replay_run.proofs.AnsweredReaders.{all_stop, readers_kept, stops_kept}
@@ -19,17 +19,17 @@ returns-in-Ok-flush-clause-compares g c =
 pub returns-in-Ok-flush-clause-answers : goal.returns-in-Ok-flush-clause-answers
 returns-in-Ok-flush-clause-answers g c =
     if_answers c.args.command.now
-    (λ f n. 0 < length n → AnswersReaders g.row.R-File.Denot g.R.File.Read.remaining f (length n) (g.W.Write.contents c.args.out.now) (g.W.Write.contents c.do_command.new.out))
-    (λ f n. 0 < length n → AnswersReaders g.row.R-File.Denot g.R.File.Read.remaining f (length n) (g.W.Write.contents c.args.out.now) (g.W.Write.contents c.flush.new.self))
-    (λ f n told some. readers_kept g.R.File.Read.remaining f (length n) _ _ _ (told some) c.in-Ok-flush.ensures.bytes)
+    (λ f n. 0 < length n → AnswersReaders g.row.R-File.Denot g.R.File.Read.remaining f false (length n) (g.W.Write.contents c.args.out.now) (g.W.Write.contents c.do_command.new.out))
+    (λ f n. 0 < length n → AnswersReaders g.row.R-File.Denot g.R.File.Read.remaining f false (length n) (g.W.Write.contents c.args.out.now) (g.W.Write.contents c.flush.new.self))
+    (λ f n told some. readers_kept g.R.File.Read.remaining f false (length n) _ _ _ (told some) c.in-Ok-flush.ensures.bytes)
     c.in-Ok.ensures.answers
 
 pub returns-in-Ok-flush-clause-answers_input : goal.returns-in-Ok-flush-clause-answers_input
 returns-in-Ok-flush-clause-answers_input g c =
     if_answers c.args.command.now
-    (λ f n. length n ≡ 0 → AnswersReaders g.row.R-Reader.Denot g.R.Reader.Read.remaining f 1 (g.W.Write.contents c.args.out.now) (g.W.Write.contents c.do_command.new.out))
-    (λ f n. length n ≡ 0 → AnswersReaders g.row.R-Reader.Denot g.R.Reader.Read.remaining f 1 (g.W.Write.contents c.args.out.now) (g.W.Write.contents c.flush.new.self))
-    (λ f n told none. readers_kept g.R.Reader.Read.remaining f 1 _ _ _ (told none) c.in-Ok-flush.ensures.bytes)
+    (λ f n. length n ≡ 0 → AnswersReaders g.row.R-Reader.Denot g.R.Reader.Read.remaining f false 1 (g.W.Write.contents c.args.out.now) (g.W.Write.contents c.do_command.new.out))
+    (λ f n. length n ≡ 0 → AnswersReaders g.row.R-Reader.Denot g.R.Reader.Read.remaining f false 1 (g.W.Write.contents c.args.out.now) (g.W.Write.contents c.flush.new.self))
+    (λ f n told none. readers_kept g.R.Reader.Read.remaining f false 1 _ _ _ (told none) c.in-Ok-flush.ensures.bytes)
     c.in-Ok.ensures.answers_input
 
 pub returns-in-Ok-flush-clause-help : goal.returns-in-Ok-flush-clause-help
@@ -39,17 +39,17 @@ returns-in-Ok-flush-clause-help g c =
 pub returns-in-Err-flush-clause-stops : goal.returns-in-Err-flush-clause-stops
 returns-in-Err-flush-clause-stops g c =
     if_answers c.args.command.now
-    (λ f n. 0 < length n → AnswersReaders g.row.R-File.Denot g.R.File.Read.remaining f (length n) (g.W.Write.contents c.args.out.now) (g.W.Write.contents c.do_command.new.out))
+    (λ f n. 0 < length n → AnswersReaders g.row.R-File.Denot g.R.File.Read.remaining f false (length n) (g.W.Write.contents c.args.out.now) (g.W.Write.contents c.do_command.new.out))
     (λ f n. 0 < length n → StopsReaders g.row.R-File.Denot g.R.File.Read.remaining f n (g.W.Write.contents c.args.out.now) (g.W.Write.contents c.flush.new.self) (codes "standard output") (Write c.in-Err-flush.error))
-    (λ f n told some. all_stop g.R.File.Read.remaining f n _ _ _ (Write c.in-Err-flush.error) (told some) c.in-Err-flush.ensures.bytes (c.in-Err-flush.error, refl))
+    (λ f n told some. all_stop g.R.File.Read.remaining f false n _ _ _ (Write c.in-Err-flush.error) (told some) c.in-Err-flush.ensures.bytes (inl (c.in-Err-flush.error, refl)))
     c.in-Ok.ensures.answers
 
 pub returns-in-Err-flush-clause-stops_input : goal.returns-in-Err-flush-clause-stops_input
 returns-in-Err-flush-clause-stops_input g c =
     if_answers c.args.command.now
-    (λ f n. length n ≡ 0 → AnswersReaders g.row.R-Reader.Denot g.R.Reader.Read.remaining f 1 (g.W.Write.contents c.args.out.now) (g.W.Write.contents c.do_command.new.out))
+    (λ f n. length n ≡ 0 → AnswersReaders g.row.R-Reader.Denot g.R.Reader.Read.remaining f false 1 (g.W.Write.contents c.args.out.now) (g.W.Write.contents c.do_command.new.out))
     (λ f n. length n ≡ 0 → StopsReaders g.row.R-Reader.Denot g.R.Reader.Read.remaining f (codes "standard input" ∷ []) (g.W.Write.contents c.args.out.now) (g.W.Write.contents c.flush.new.self) (codes "standard output") (Write c.in-Err-flush.error))
-    (λ f n told none. all_stop g.R.Reader.Read.remaining f (codes "standard input" ∷ []) _ _ _ (Write c.in-Err-flush.error) (told none) c.in-Err-flush.ensures.bytes (c.in-Err-flush.error, refl))
+    (λ f n told none. all_stop g.R.Reader.Read.remaining f false (codes "standard input" ∷ []) _ _ _ (Write c.in-Err-flush.error) (told none) c.in-Err-flush.ensures.bytes (inl (c.in-Err-flush.error, refl)))
     c.in-Ok.ensures.answers_input
 
 pub returns-in-Err-clause-stops : goal.returns-in-Err-clause-stops

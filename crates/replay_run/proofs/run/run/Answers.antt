@@ -11,16 +11,16 @@ returns-in-Ok-clause-compares g c = λ within files is.
     files_compared files c.in-Some.command (λ n. EndsComparison g.row.R-File.Denot g.R.File.Read.remaining n (g.W.Write.contents c.args.out.now) (g.W.Write.contents c.finish.new.out) c.in-Ok.status) asks c.in-Ok.ensures.compares
 
 pub returns-in-Ok-clause-answers : goal.returns-in-Ok-clause-answers
-returns-in-Ok-clause-answers g c = λ done form files asks some.
+returns-in-Ok-clause-answers g c = λ done way files asks some.
     files_answered (words_at c.args.words.now)
-    c.in-Some.command (λ f n. 0 < length n → AnswersReaders g.row.R-File.Denot g.R.File.Read.remaining f (length n) (g.W.Write.contents c.args.out.now)
-    (g.W.Write.contents c.finish.new.out)) form files c.in-Some.ensures.command asks c.in-Ok.ensures.answers some
+    c.in-Some.command (λ f n. 0 < length n → AnswersReaders g.row.R-File.Denot g.R.File.Read.remaining f false (length n) (g.W.Write.contents c.args.out.now)
+    (g.W.Write.contents c.finish.new.out)) way files c.in-Some.ensures.command asks c.in-Ok.ensures.answers some
 
 pub returns-in-Ok-clause-answers_input : goal.returns-in-Ok-clause-answers_input
-returns-in-Ok-clause-answers_input g c = λ done form asks.
+returns-in-Ok-clause-answers_input g c = λ done way asks.
     files_answered (words_at c.args.words.now)
-    c.in-Some.command (λ f n. length n ≡ 0 → AnswersReaders g.row.R-Reader.Denot g.R.Reader.Read.remaining f 1 (g.W.Write.contents c.args.out.now)
-    (g.W.Write.contents c.finish.new.out)) form [] c.in-Some.ensures.command asks c.in-Ok.ensures.answers_input refl
+    c.in-Some.command (λ f n. length n ≡ 0 → AnswersReaders g.row.R-Reader.Denot g.R.Reader.Read.remaining f false 1 (g.W.Write.contents c.args.out.now)
+    (g.W.Write.contents c.finish.new.out)) way [] c.in-Some.ensures.command asks c.in-Ok.ensures.answers_input refl
 
 pub returns-in-Ok-clause-help : goal.returns-in-Ok-clause-help
 returns-in-Ok-clause-help g c = λ done is.
@@ -28,33 +28,33 @@ returns-in-Ok-clause-help g c = λ done is.
     c.in-Ok.ensures.help (asks_help [] c.in-Some.command asks).1
 
 pub returns-in-Err-clause-stops : goal.returns-in-Err-clause-stops
-returns-in-Err-clause-stops g c = λ stopped form files asks some. (
+returns-in-Err-clause-stops g c = λ stopped way files asks some. (
   c.in-Err.stop.file.now,
   c.in-Err.stop.trouble,
   c.tell_stop.ensures.told,
   files_answered (words_at c.args.words.now)
       c.in-Some.command (λ f n. 0 < length n → StopsReaders g.row.R-File.Denot g.R.File.Read.remaining f n (g.W.Write.contents c.args.out.now)
-      (g.W.Write.contents c.finish.new.out) c.in-Err.stop.file.now c.in-Err.stop.trouble) form files c.in-Some.ensures.command asks c.in-Err.ensures.stops some,
+      (g.W.Write.contents c.finish.new.out) c.in-Err.stop.file.now c.in-Err.stop.trouble) way files c.in-Some.ensures.command asks c.in-Err.ensures.stops some,
 )
 
 pub returns-in-Err-clause-stops_input : goal.returns-in-Err-clause-stops_input
-returns-in-Err-clause-stops_input g c = λ stopped form asks. (
+returns-in-Err-clause-stops_input g c = λ stopped way asks. (
   c.in-Err.stop.file.now,
   c.in-Err.stop.trouble,
   c.tell_stop.ensures.told,
   files_answered (words_at c.args.words.now)
       c.in-Some.command (λ f n. length n ≡ 0 → StopsReaders g.row.R-Reader.Denot g.R.Reader.Read.remaining f (codes "standard input" ∷ []) (g.W.Write.contents c.args.out.now)
-      (g.W.Write.contents c.finish.new.out) c.in-Err.stop.file.now c.in-Err.stop.trouble) form [] c.in-Some.ensures.command asks c.in-Err.ensures.stops_input refl,
+      (g.W.Write.contents c.finish.new.out) c.in-Err.stop.file.now c.in-Err.stop.trouble) way [] c.in-Some.ensures.command asks c.in-Err.ensures.stops_input refl,
 )
 
 pub returns-in_default-clause-stops : goal.returns-in_default-clause-stops
-returns-in_default-clause-stops g c = λ stopped form files asks some.
-    let (command, are) = asked c.args.words form files asks in
+returns-in_default-clause-stops g c = λ stopped way files asks some.
+    let (command, are) = asked c.args.words way files asks in
     absurd (c.in_default.ensures.none (search rules) command are)
 
 pub returns-in_default-clause-stops_input : goal.returns-in_default-clause-stops_input
-returns-in_default-clause-stops_input g c = λ stopped form asks.
-    let (command, are) = asked c.args.words form [] asks in
+returns-in_default-clause-stops_input g c = λ stopped way asks.
+    let (command, are) = asked c.args.words way [] asks in
     absurd (c.in_default.ensures.none (search rules) command are)
 
 pub returns-in-Err-clause-told : goal.returns-in-Err-clause-told

@@ -2,11 +2,11 @@
 
 ghost use Rattle.std.specs.Prelude.{◌≡◌, Some, false, IfOk, codes};
 ghost use Rattle.annotate_snippets.specs.Fits.{ReportFits};
-ghost use Rattle.serde_json.specs.Find.{as_bool, get};
+ghost use Rattle.serde_json.specs.Find.{as_bool};
 ghost use Rattle.serde_json.specs.View.{view};
-ghost use Rattle.json_node.specs.Field.{given_or};
-ghost use Rattle.replay_run.specs.Case.{HasSettingsOf, IsCaseOf, MayHaveSettings};
-ghost use Rattle.replay_run.specs.Case as spec;
+ghost use Rattle.json_node.specs.Field.{given, given_or};
+ghost use Rattle.replay_answer.specs.Case.{HasSettingsOf, IsCaseOf, MayHaveSettings};
+ghost use Rattle.replay_answer.specs.Case as spec;
 
 use crate::case::Case;
 use annotate_snippets::Renderer;
@@ -39,17 +39,17 @@ pub fn case_of<'v>(alloc: Global, line: &'v Value) -> Result<Case<'v>, Fault>
     })
 }
 
-/// The settings of a case, which are those of the plain renderer where the field is missing.
+/// The settings of a case, which are those of the plain renderer where none are given.
 fn renderer_of(case: &Node<'_, '_>) -> Result<Renderer, Fault>
-    ensures value { IfOk result (MayHaveSettings (get (codes "settings") (view case.now.value.now))) }
+    ensures value { IfOk result (MayHaveSettings (given (codes "settings") (view case.now.value.now))) }
 {
-    match case.optional("settings") {
+    match case.given("settings") {
         Some(settings) => settings_of(&settings),
         None => Ok(Renderer::plain()),
     }
 }
 
-/// The renderer of these settings, which are those of the plain one where fields are missing.
+/// The renderer of these settings, which are those of the plain one where fields are left out.
 fn settings_of(node: &Node<'_, '_>) -> Result<Renderer, Fault>
     ensures value { IfOk result (HasSettingsOf (view node.now.value.now)) }
 {

@@ -3,9 +3,9 @@ use Rattle.std.proofs.lemmas.Iterator.Consumers.{YieldsList-end}
 use Rattle.std.proofs.lemmas.Iterator.Adapters.{YieldsList-from_vec}
 use Rattle.std.proofs.lemmas.List.{map-id}
 use Rattle.serde_json.specs.View.{items_view}
-use Rattle.replay_run.specs.Answer.{text_items}
-use Rattle.replay_run.proofs.Answering.{items_view-texts}
-use Rattle.replay_run.proofs.outcome.values_of.Goals as goal
+use Rattle.replay_answer.specs.Answer.{text_items}
+use Rattle.replay_answer.proofs.Answering.{items_view-texts}
+use Rattle.replay_answer.proofs.answer.values_of.Goals as goal
 
 pub returns : goal.returns
 returns c =

@@ -1,7 +1,7 @@
 use Rattle.std.proofs.Common.{ap, ◌∙◌}
 use Rattle.serde_json.specs.Written.{compact_text, has_float}
-use Rattle.replay_run.proofs.Answering.{answer_of-whole}
-use Rattle.replay_run.proofs.lines.json_line.Goals as goal
+use Rattle.replay_answer.proofs.Answering.{answer_of-whole}
+use Rattle.replay_answer.proofs.answer.answer_json.Goals as goal
 
 pub returns : goal.returns
 returns c =

@@ -7,10 +7,10 @@ use Rattle.annotate_snippets.specs.FormLaws.{TextsWithLaws}
 use Rattle.annotate_snippets.specs.declared.renderer.RenderError.{RenderError}
 use Rattle.annotate_snippets.specs.declared.renderer.RenderError.TheVariants.{NoGroup, NoTitle, SpanReversed, SpanPastEnd, SpanOffBoundary, PatchesOverlap}
 use Rattle.annotate_snippets.specs.declared.renderer.RenderError.TheVariants.{LineNumberTooLarge, Memory}
-use Rattle.replay_run.specs.Case.{IsCaseOf}
-use Rattle.replay_run.specs.declared.case.Case.{Case}
-use Rattle.replay_run.specs.declared.outcome.Outcome.{Outcome}
-use Rattle.replay_run.specs.declared.outcome.Outcome.TheVariants.{Texts, Refused}
+use Rattle.replay_answer.specs.Case.{IsCaseOf}
+use Rattle.replay_answer.specs.declared.case.Case.{Case}
+use Rattle.replay_answer.specs.declared.outcome.Outcome.{Outcome}
+use Rattle.replay_answer.specs.declared.outcome.Outcome.TheVariants.{Texts, Refused}
 
 -- the name of a refusal
 abbrev pub refusal_name : RenderError → List ℕ
@@ -24,12 +24,11 @@ refusal_name (LineNumberTooLarge group element) = codes "LineNumberTooLarge"
 refusal_name (Memory refused) = codes "Memory"
 
 -- a case becomes texts that show its report, in its settings and one under each of its sheets, each with its laws, or the first refusal
--- of that report, by its name
+-- of that report
 abbrev pub IsOutcomeOf : Case → Outcome → Type 0
 IsOutcomeOf case (Texts texts) =
     TextsWithLaws case.renderer case.groups.items case.sheets.items (map string_bytes texts.items)
-IsOutcomeOf case (Refused name words span) =
-    (refusal : RenderError) × (first_refusal case.renderer case.groups.items ≡ Some refusal) × (name.now ≡ refusal_name refusal)
+IsOutcomeOf case (Refused refusal words span) = first_refusal case.renderer case.groups.items ≡ Some refusal
 
 -- a line describes this case, and this became of it
 pub record Becomes (line : List ℕ) (case : Case) (outcome : Outcome) : Type 0 where

@@ -5,13 +5,13 @@ use Rattle.annotate_snippets.specs.declared.renderer.DecorStyle.{DecorStyle}
 use Rattle.annotate_snippets.specs.declared.renderer.DecorStyle.TheVariants.{Ascii, Unicode}
 use Rattle.annotate_snippets.specs.declared.renderer.Renderer.{Renderer}
 use Rattle.serde_json.specs.Data.{Data}
-use Rattle.serde_json.specs.Find.{as_bool, get}
-use Rattle.json_node.specs.Field.{SaysAt, ListSays, as_whole, given_or, text_at}
+use Rattle.serde_json.specs.Find.{as_bool}
+use Rattle.json_node.specs.Field.{SaysAt, ListSays, as_whole, given, given_or, text_at}
 use Rattle.replay_read.specs.Report.{IsGroupOf}
 use Rattle.replay_read.specs.Sheet.{AreSheetsOf}
 use Rattle.replay_read.specs.Shape.{HasShape}
 use Rattle.replay_read.specs.declared.shape.Shape.TheVariants as shape
-use Rattle.replay_run.specs.declared.case.Case.{Case}
+use Rattle.replay_answer.specs.declared.case.Case.{Case}
 
 -- the strokes, by whether the Unicode ones are asked for
 abbrev pub decor_of : Bool → DecorStyle
@@ -38,6 +38,6 @@ MayHaveSettings (Some d) renderer = HasSettingsOf d renderer
 pub record IsCaseOf (d : Data) (case : Case) : Type 0 where
   pub only : HasShape shape.Case d
   pub id : text_at (codes "id") d ≡ Some case.id.now
-  pub renderer : MayHaveSettings (get (codes "settings") d) case.renderer
-  pub sheets : AreSheetsOf (get (codes "sheets") d) case.sheets.items
+  pub renderer : MayHaveSettings (given (codes "settings") d) case.renderer
+  pub sheets : AreSheetsOf (given (codes "sheets") d) case.sheets.items
   pub groups : SaysAt (ListSays IsGroupOf) (codes "groups") d case.groups.items

@@ -7,9 +7,11 @@ use Rattle.serde_json.specs.View.{view, items_view}
 use Rattle.serde_json.specs.Written.{has_float, items_have_float}
 use Rattle.serde_json.specs.declared.value.Value.{Value, the_lemmas}
 use Rattle.serde_json.specs.declared.value.Value as value
-use Rattle.replay_run.specs.Answer.{answer_of, text_items}
-use Rattle.replay_run.specs.declared.outcome.Outcome.{Outcome}
-use Rattle.replay_run.specs.declared.outcome.Outcome.TheVariants.{Texts, Refused}
+use Rattle.annotate_snippets.specs.declared.renderer.RenderError.TheVariants.{NoGroup, NoTitle, SpanReversed, SpanPastEnd, SpanOffBoundary, PatchesOverlap}
+use Rattle.annotate_snippets.specs.declared.renderer.RenderError.TheVariants.{LineNumberTooLarge, Memory}
+use Rattle.replay_answer.specs.Answer.{answer_of, text_items, told_of}
+use Rattle.replay_answer.specs.declared.outcome.Outcome.{Outcome}
+use Rattle.replay_answer.specs.declared.outcome.Outcome.TheVariants.{Texts, Refused}
 
 view-text : (text : String Global) → view (value.String text) ≡ string (string_bytes text)
 view-text text = search (rules, the_lemmas)
@@ -28,4 +30,15 @@ text_items-whole (text ∷ texts) = text_items-whole texts
 -- an answer holds no number with a fraction
 pub answer_of-whole : (id : List ℕ) (outcome : Outcome) → has_float (answer_of id outcome) ≡ false
 answer_of-whole id (Texts texts) = rw (text_items-whole (map string_bytes texts.items))
-answer_of-whole id (Refused name words span) = refl
+answer_of-whole id (Refused NoGroup words span) = refl
+answer_of-whole id (Refused NoTitle words span) = refl
+answer_of-whole id (Refused (SpanReversed group element marker) words span) = refl
+answer_of-whole id (Refused (SpanPastEnd group element marker) words span) = refl
+answer_of-whole id (Refused (SpanOffBoundary group element marker) words span) = refl
+answer_of-whole id (Refused (PatchesOverlap group element first second) words span) = refl
+answer_of-whole id (Refused (LineNumberTooLarge group element) words span) = refl
+answer_of-whole id (Refused (Memory refused) words span) = refl
+
+-- what is said of a line that is no case holds none either
+pub told_of-whole : (n : ℕ) (words : List ℕ) → has_float (told_of n words) ≡ false
+told_of-whole n words = refl

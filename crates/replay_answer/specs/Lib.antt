@@ -1,0 +1,4 @@
+pub mod Answer
+pub mod Case
+pub mod Line
+pub mod Outcome

@@ -1,0 +1,7 @@
+use Rattle.std.proofs.Common.{◌≡◌, ◌++◌, drop, take}
+use Rattle.replay_read.specs.Span.{until_feed}
+use Rattle.replay_read.proofs.span.until_feed.Given as goal
+
+-- no line feed stands before here
+abbrev pub invariant-loop-at : goal.invariant-loop-at
+invariant-loop-at l = take l.at l.bytes ++ until_feed (drop l.at l.bytes) ≡ until_feed l.bytes
