@@ -13,15 +13,15 @@ use Rattle.snippet_style.specs.Cell.{Cell}
 use Rattle.snippet_grid.specs.Print.{row_text}
 use Rattle.snippet_lines.specs.Number.{shown_number}
 use Rattle.snippet_lines.specs.Span.{IsSpan}
-use Rattle.snippet_view.specs.Annotated.{KeptLine, annotated_lines, is_long}
-use Rattle.snippet_view.specs.Kept.{shown_lines}
-use Rattle.snippet_view.specs.Mark.{is_marking}
-use Rattle.snippet_view.specs.Marked.{first_line, last_line}
-use Rattle.snippet_view.specs.Location.{IsLocation, primary_place}
+use Rattle.snippet_parts.specs.Annotated.{KeptLine, annotated_lines, is_long}
+use Rattle.snippet_parts.specs.Kept.{shown_lines}
+use Rattle.snippet_parts.specs.Mark.{is_marking}
+use Rattle.snippet_parts.specs.Marked.{first_line, last_line}
+use Rattle.snippet_parts.specs.Location.{IsLocation, primary_place}
 use Rattle.snippet_model.specs.Rows.{IsFree}
-use Rattle.snippet_view.specs.declared.entries.AnnotatedLineInfo.{AnnotatedLineInfo}
-use Rattle.snippet_view.specs.declared.location.Location.{Location}
-use Rattle.snippet_view.proofs.LocationLaws.{place-named}
+use Rattle.snippet_parts.specs.declared.entries.AnnotatedLineInfo.{AnnotatedLineInfo}
+use Rattle.snippet_parts.specs.declared.location.Location.{Location}
+use Rattle.snippet_parts.proofs.LocationLaws.{place-named}
 use Rattle.snippet_strokes.proofs.SnippetLemmas.{free_from_AreLinesShown}
 use Rattle.snippet_titles.specs.Origin.{origin_row, origin_text, primary_start, snippet_head}
 use Rattle.snippet_titles.specs.declared.origin.OriginLayout.{OriginLayout}

@@ -9,7 +9,7 @@ use Rattle.std.proofs.lemmas.List.Elements.{All-same, filter_more}
 use Rattle.std.proofs.lemmas.Option.{slice_get-map, slice_get_read}
 use Rattle.snippet_model.specs.declared.snippet.Element.{Element}
 use Rattle.snippet_model.specs.declared.snippet.Patch.{Patch}
-use Rattle.snippet_view.proofs.PartLemmas.{All-unmapped}
+use Rattle.snippet_parts.proofs.PartLemmas.{All-unmapped}
 use Rattle.annotate_snippets.specs.Around.{is_drawn}
 use Rattle.annotate_snippets.specs.declared.renderer.text_form.DrawnElement.{DrawnElement}
 

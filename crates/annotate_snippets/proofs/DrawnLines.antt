@@ -7,18 +7,18 @@ use Rattle.snippet_model.specs.declared.snippet.Annotation.{Annotation}
 use Rattle.snippet_model.specs.declared.snippet.Snippet.{Snippet}
 use Rattle.snippet_style.specs.Cell.{Cell, unlinked_cell}
 use Rattle.snippet_text.specs.Normalized.{norm}
-use Rattle.snippet_view.specs.Annotated.{KeptLine, PartEntry, kept_line, seen_kept, seen_part}
-use Rattle.snippet_view.specs.Margin.{bounds_of}
-use Rattle.snippet_view.specs.declared.entries.AnnotatedLineInfo.{AnnotatedLineInfo}
-use Rattle.snippet_view.specs.declared.entries.LineAnnotation.{LineAnnotation}
-use Rattle.snippet_view.specs.declared.margin.Margin.{Margin}
+use Rattle.snippet_parts.specs.Annotated.{KeptLine, PartEntry, kept_line, seen_kept, seen_part}
+use Rattle.snippet_window.specs.Margin.{bounds_of}
+use Rattle.snippet_parts.specs.declared.entries.AnnotatedLineInfo.{AnnotatedLineInfo}
+use Rattle.snippet_parts.specs.declared.entries.LineAnnotation.{LineAnnotation}
+use Rattle.snippet_window.specs.declared.margin.Margin.{Margin}
 use Rattle.snippet_lines.specs.Number.{shown_number}
 use Rattle.snippet_lines.specs.declared.number.LineNumbers.{LineNumbers}
 use Rattle.snippet_grid.specs.Grid.{cell_at}
 use Rattle.snippet_style.specs.Glyphs.{strokes_of, underline_role}
 use Rattle.snippet_strokes.specs.Bars.{Bar, HasOwnDepth, bar_at, bar_of, bars_apart, ends_of_bars}
 use Rattle.snippet_strokes.specs.LineRows.{AreLineRows}
-use Rattle.snippet_marks.specs.SourceRows.{IsSourceRow, window_cells}
+use Rattle.snippet_strokes.specs.SourceRows.{IsSourceRow, window_cells}
 use Rattle.snippet_strokes.specs.Snippet as strokes
 use Rattle.snippet_strokes.proofs.BarLaws.{bar_past}
 use Rattle.annotate_snippets.specs.declared.renderer.Renderer.{Renderer}

@@ -13,7 +13,7 @@ use Rattle.snippet_style.specs.declared.glyphs.DecorStyle.TheVariants.{Ascii, Un
 use Rattle.snippet_style.specs.declared.role.ElementStyle.TheVariants.{LineNumber}
 use Rattle.snippet_strokes.specs.EntryMarks.{IsBarCell}
 use Rattle.snippet_strokes.specs.Rows.{bare_elision_row}
-use Rattle.snippet_marks.specs.SourceRows.{bare_row}
+use Rattle.snippet_strokes.specs.SourceRows.{bare_row}
 use Rattle.snippet_grid.specs.Layout.{Layout}
 use Rattle.annotate_snippets.specs.Feeds.{HasNoFeed, HoldsNoFeed, IsNoFeed}
 use Rattle.annotate_snippets.specs.Shown.{IsElided}

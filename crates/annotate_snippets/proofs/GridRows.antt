@@ -8,7 +8,7 @@ use Rattle.std.proofs.lemmas.List.{length-append, length-map, map-append, take_a
 use Rattle.std.proofs.lemmas.List.FromFn.{length-enumerate_from}
 use Rattle.std.proofs.lemmas.Option.{slice_get-get_or, slice_get_within}
 use Rattle.snippet_model.specs.declared.snippet.Group.{Group}
-use Rattle.snippet_view.proofs.PartLemmas.{All-unmapped}
+use Rattle.snippet_parts.proofs.PartLemmas.{All-unmapped}
 use Rattle.snippet_style.specs.declared.glyphs.DecorStyle.{DecorStyle}
 use Rattle.annotate_snippets.specs.Around.{drawn_elements, file_of_group, place_at}
 use Rattle.annotate_snippets.specs.Drawn.{AreGridsOf, HasRoomFor, IsGroupGrid}

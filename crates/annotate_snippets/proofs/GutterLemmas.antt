@@ -15,14 +15,14 @@ use Rattle.snippet_model.specs.declared.snippet.Snippet.{Snippet}
 use Rattle.snippet_model.specs.declared.snippet.Annotation.{Annotation}
 use Rattle.snippet_lines.specs.declared.lines.EndLine.{EndLine}
 use Rattle.snippet_lines.specs.declared.lines.EndLine.TheVariants.{Eof, Lf, Crlf}
-use Rattle.snippet_view.specs.declared.entries.AnnotatedLineInfo.{AnnotatedLineInfo}
+use Rattle.snippet_parts.specs.declared.entries.AnnotatedLineInfo.{AnnotatedLineInfo}
 use Rattle.snippet_lines.specs.Lines.{Line, AreLines, joined, line_bytes, is_lf, last_byte, newline_count, source_lines, start_of}
 use Rattle.snippet_lines.specs.Place.{line_of}
-use Rattle.snippet_view.specs.Prepare.{greatest_end, counted_number, reached_source}
-use Rattle.snippet_view.specs.Annotated.{KeptLine, kept_line, seen_kept}
-use Rattle.snippet_view.specs.Kept.{keeps, kept_lines, shown_lines, with_between}
-use Rattle.snippet_view.specs.Mark.{touches}
-use Rattle.snippet_view.specs.Marked.{first_line, last_line}
+use Rattle.snippet_parts.specs.Counted.{greatest_end, counted_number, reached_source}
+use Rattle.snippet_parts.specs.Annotated.{KeptLine, kept_line, seen_kept}
+use Rattle.snippet_parts.specs.Kept.{keeps, kept_lines, shown_lines, with_between}
+use Rattle.snippet_parts.specs.Mark.{touches}
+use Rattle.snippet_parts.specs.Marked.{first_line, last_line}
 use Rattle.snippet_lines.proofs.LinesLemmas.{joined-source_lines, AreLines-lines_of, split_at_line, length-source_lines}
 use Rattle.snippet_lines.proofs.CountLemmas.{newline_count-take}
 use Rattle.snippet_lines.proofs.PlaceLemmas.{HoldsByte-source, line_of-within}

@@ -13,7 +13,7 @@ use Rattle.snippet_model.specs.declared.snippet.Origin as the_origin
 use Rattle.snippet_model.specs.declared.snippet.Padding as the_padding
 use Rattle.snippet_model.specs.declared.snippet.Title.{Title}
 use Rattle.snippet_model.specs.Rows.{IsFree}
-use Rattle.snippet_view.proofs.PartLemmas.{All-unmapped}
+use Rattle.snippet_parts.proofs.PartLemmas.{All-unmapped}
 use Rattle.snippet_titles.specs.Heading.{heading_rows}
 use Rattle.snippet_titles.specs.Origin.{origin_row, padding_row}
 use Rattle.snippet_titles.specs.Shown.{IsFreeButText}

@@ -12,23 +12,23 @@ use Rattle.snippet_style.specs.Cell.{Cell, unlinked_cell}
 use Rattle.snippet_model.specs.declared.snippet.Annotation.{Annotation}
 use Rattle.snippet_model.specs.declared.snippet.AnnotationKind.{AnnotationKind}
 use Rattle.snippet_lines.specs.Lines.{Source}
-use Rattle.snippet_view.specs.Annotated.{PartEntry, promoted, end_part, is_short, long_parts, long_place, long_places, long_spans, made_parts, parts_on}
-use Rattle.snippet_view.specs.Annotated.{seen_part, single_part, span_parts, stands_among, start_part}
-use Rattle.snippet_view.specs.Depths.{depth_among}
-use Rattle.snippet_view.specs.declared.depths.LongExtent.{LongExtent}
+use Rattle.snippet_parts.specs.Annotated.{PartEntry, promoted, end_part, is_short, long_parts, long_place, long_places, long_spans, made_parts, parts_on}
+use Rattle.snippet_parts.specs.Annotated.{seen_part, single_part, span_parts, stands_among, start_part}
+use Rattle.snippet_parts.specs.Depths.{depth_among}
+use Rattle.snippet_parts.specs.declared.depths.LongExtent.{LongExtent}
 use Rattle.snippet_model.specs.declared.snippet.Snippet.{Snippet}
 use Rattle.annotate_snippets.specs.Gutter.{numbered_source}
-use Rattle.snippet_view.specs.Mark.{is_marked_on, is_marking, is_single_line, start_column}
-use Rattle.snippet_view.specs.Marked.{Entry, entry_of, first_line}
-use Rattle.snippet_view.specs.Measures.{is_bar}
-use Rattle.snippet_view.specs.declared.entries.LineAnnotation.{LineAnnotation}
-use Rattle.snippet_view.specs.declared.entries.LineAnnotationType.TheVariants.{Singleline, MultilineEnd}
-use Rattle.snippet_view.proofs.EntryFacts.{singles-on}
-use Rattle.snippet_view.proofs.PartLemmas.{filter-none, made-all}
-use Rattle.snippet_view.specs.Annotated.{bar_lines, bar_part, long_entry}
-use Rattle.snippet_marks.specs.Entries.{label_role, label_text, shifted}
+use Rattle.snippet_parts.specs.Mark.{is_marked_on, is_marking, is_single_line, start_column}
+use Rattle.snippet_parts.specs.Marked.{Entry, entry_of, first_line}
+use Rattle.snippet_parts.specs.Entries.{is_bar}
+use Rattle.snippet_parts.specs.declared.entries.LineAnnotation.{LineAnnotation}
+use Rattle.snippet_parts.specs.declared.entries.LineAnnotationType.TheVariants.{Singleline, MultilineEnd}
+use Rattle.snippet_parts.proofs.EntryFacts.{singles-on}
+use Rattle.snippet_parts.proofs.PartLemmas.{filter-none, made-all}
+use Rattle.snippet_parts.specs.Annotated.{bar_lines, bar_part, long_entry}
+use Rattle.snippet_labels.specs.Entries.{label_role, label_text, shifted}
 use Rattle.snippet_strokes.specs.Labels.{IsLabelledAtEnd, IsLedTo, LabelsStand, PlacedLabel, StandsIn, is_cell_of}
-use Rattle.snippet_marks.specs.Positions.{is_start_part}
+use Rattle.snippet_labels.specs.Positions.{is_start_part}
 use Rattle.snippet_grid.specs.Layout.{Layout}
 use Rattle.annotate_snippets.specs.Shown.{HasStem, ShowsLabel, ShowsLabels, ShownLabel, SpanLabel, promoted_spans, is_in_label, label_of_end, label_of_span}
 use Rattle.annotate_snippets.specs.Shown.{normalized_chars, shown_label}

@@ -22,7 +22,7 @@ use Rattle.snippet_model.specs.declared.snippet.Annotation.{Annotation}
 use Rattle.snippet_model.specs.declared.snippet.Snippet.{Snippet}
 use Rattle.snippet_style.specs.Cell.{Cell, SPACE, text_cells, unlinked_cell, written}
 use Rattle.snippet_style.proofs.StrokeLemmas.{EachBar, EachCode, each_bar, each_code}
-use Rattle.snippet_marks.proofs.StrokeLemmas.{of_first}
+use Rattle.snippet_strokes.proofs.MarkStrokeLemmas.{of_first}
 use Rattle.snippet_strokes.proofs.StrokeGlyphs.{of_foot}
 use Rattle.snippet_style.specs.Glyphs.{strokes_of, placeholder_of, underline_role}
 use Rattle.snippet_style.specs.Separators.{closing_row, separator_row}
@@ -32,26 +32,26 @@ use Rattle.snippet_style.specs.declared.role.ElementStyle.{ElementStyle}
 use Rattle.snippet_style.specs.declared.role.ElementStyle.TheVariants.{LineNumber}
 use Rattle.snippet_text.specs.OneLine.{IsOneLine}
 use Rattle.snippet_titles.proofs.SplitLemmas.{lines_at, lines_at-chars}
-use Rattle.snippet_view.specs.Annotated.{PartEntry, made_parts, seen_part}
-use Rattle.snippet_view.specs.declared.entries.LineAnnotation.{LineAnnotation}
-use Rattle.snippet_view.specs.declared.entries.LineAnnotationType.{LineAnnotationType}
-use Rattle.snippet_view.specs.declared.entries.LineAnnotationType.TheVariants.{Singleline, MultilineStart, MultilineEnd, MultilineLine}
-use Rattle.snippet_view.proofs.PartLemmas.{made-all}
+use Rattle.snippet_parts.specs.Annotated.{PartEntry, made_parts, seen_part}
+use Rattle.snippet_parts.specs.declared.entries.LineAnnotation.{LineAnnotation}
+use Rattle.snippet_parts.specs.declared.entries.LineAnnotationType.{LineAnnotationType}
+use Rattle.snippet_parts.specs.declared.entries.LineAnnotationType.TheVariants.{Singleline, MultilineStart, MultilineEnd, MultilineLine}
+use Rattle.snippet_parts.proofs.PartLemmas.{made-all}
 use Rattle.snippet_strokes.specs.Bars.{Bar, bars_apart, ends_of_bars, is_whole_line}
 use Rattle.snippet_strokes.specs.Cuts.{Stretch, cut_row, cuts_of, overlapped}
-use Rattle.snippet_marks.specs.Entries.{label_text, shifted}
+use Rattle.snippet_labels.specs.Entries.{label_text, shifted}
 use Rattle.snippet_strokes.specs.LineRows.{AreLineRows, AreOwnRows}
-use Rattle.snippet_marks.specs.Painting.{first_glyph, mark_end, painting_order, mark_of, marks_of, stroke_role}
+use Rattle.snippet_strokes.specs.Painting.{first_glyph, mark_end, painting_order, mark_of, marks_of, stroke_role}
 use Rattle.snippet_strokes.specs.Drawing.{row_count}
-use Rattle.snippet_marks.specs.Positions.{has_label}
-use Rattle.snippet_marks.specs.SourceRows.{bare_row}
+use Rattle.snippet_labels.specs.Positions.{has_label}
+use Rattle.snippet_strokes.specs.SourceRows.{bare_row}
 use Rattle.snippet_strokes.specs.Strokes.{StrokesPainted, bar_of, begun_rows, connector_of, connectors_of, corner_by, corner_of}
 use Rattle.snippet_strokes.specs.Strokes.{corners_of, label_of, label_write, labels_of, stem_write, stems_of, line_strokes, column_of}
-use Rattle.snippet_marks.specs.Writes.{Write, glyph_at, painted, stretch_of}
+use Rattle.snippet_strokes.specs.Writes.{Write, glyph_at, painted, stretch_of}
 use Rattle.snippet_grid.specs.Layout.{Layout, bar_cell as bar_column}
 use Rattle.snippet_strokes.proofs.BarWrites.{All-connector_of, All-stretch_of}
 use Rattle.snippet_strokes.proofs.LabelWrites.{All-label_of}
-use Rattle.snippet_marks.proofs.PlacedLemmas.{entries_all}
+use Rattle.snippet_labels.proofs.PlacedLemmas.{entries_all}
 use Rattle.snippet_strokes.proofs.StemWrites.{All-stem_of, All-stems_of}
 use Rattle.snippet_strokes.proofs.WriteLaws.{All-flat_map, painted-cell}
 use Rattle.annotate_snippets.specs.declared.renderer.Renderer.{Renderer}

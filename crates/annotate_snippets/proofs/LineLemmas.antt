@@ -19,24 +19,24 @@ use Rattle.snippet_style.specs.declared.role.ElementStyle.TheVariants.{Quotation
 use Rattle.snippet_text.specs.Normalized.{norm}
 use Rattle.snippet_text.specs.Width.{width_of}
 use Rattle.snippet_text.proofs.NormLemmas.{width_of-norm}
-use Rattle.snippet_view.specs.declared.entries.AnnotatedLineInfo.{AnnotatedLineInfo}
-use Rattle.snippet_view.specs.declared.entries.LineAnnotation.{LineAnnotation}
-use Rattle.snippet_view.specs.declared.entries.LineAnnotationType.{LineAnnotationType}
-use Rattle.snippet_view.specs.declared.entries.LineAnnotationType.TheVariants.{Singleline, MultilineStart, MultilineEnd, MultilineLine}
-use Rattle.snippet_view.specs.declared.margin.Margin.{Margin}
-use Rattle.snippet_view.specs.Annotated.{KeptLine, PartEntry, kept_line, parts_on, seen_kept, seen_part, single_part}
+use Rattle.snippet_parts.specs.declared.entries.AnnotatedLineInfo.{AnnotatedLineInfo}
+use Rattle.snippet_parts.specs.declared.entries.LineAnnotation.{LineAnnotation}
+use Rattle.snippet_parts.specs.declared.entries.LineAnnotationType.{LineAnnotationType}
+use Rattle.snippet_parts.specs.declared.entries.LineAnnotationType.TheVariants.{Singleline, MultilineStart, MultilineEnd, MultilineLine}
+use Rattle.snippet_window.specs.declared.margin.Margin.{Margin}
+use Rattle.snippet_parts.specs.Annotated.{KeptLine, PartEntry, kept_line, parts_on, seen_kept, seen_part, single_part}
 use Rattle.snippet_lines.specs.Lines.{source_lines}
-use Rattle.snippet_view.specs.Margin.{Bounds, bounds_of}
-use Rattle.snippet_view.specs.Mark.{end_column, is_marked_on, is_marking, is_single_line, is_wide, qualifies_for_marks, touches}
-use Rattle.snippet_view.specs.Marked.{seen_entry, entry_of}
-use Rattle.snippet_view.specs.Measures.{is_bar, is_single_part, is_wide_entry}
+use Rattle.snippet_window.specs.Margin.{Bounds, bounds_of}
+use Rattle.snippet_parts.specs.Mark.{end_column, is_marked_on, is_marking, is_single_line, is_wide, qualifies_for_marks, touches}
+use Rattle.snippet_parts.specs.Marked.{seen_entry, entry_of}
+use Rattle.snippet_parts.specs.Entries.{is_bar, is_single_part, is_wide_entry}
 use Rattle.snippet_lines.specs.Span.{IsSpan}
-use Rattle.snippet_view.specs.Window.{AreReplaced, chars_at, dropped_part, stands_whole, window}
+use Rattle.snippet_window.specs.Window.{AreReplaced, chars_at, dropped_part, stands_whole, window}
 use Rattle.snippet_strokes.specs.EntryMarks.{IsEntryMark, IsMarkCell, are_plain, has_column, has_mark_role, is_single, wide_entries}
-use Rattle.snippet_marks.specs.Entries.{label_role, label_text, shifted}
+use Rattle.snippet_labels.specs.Entries.{label_role, label_text, shifted}
 use Rattle.snippet_lines.specs.Number.{shown_number}
 use Rattle.snippet_strokes.specs.Rows.{IsStrokeRow, ShowsMarks}
-use Rattle.snippet_marks.specs.SourceRows.{window_cells}
+use Rattle.snippet_strokes.specs.SourceRows.{window_cells}
 use Rattle.snippet_strokes.specs.Snippet as strokes
 use Rattle.snippet_strokes.specs.Bars.{Bar}
 use Rattle.snippet_grid.specs.Layout.{Layout}

@@ -8,14 +8,14 @@ use Rattle.snippet_model.specs.declared.snippet.Snippet.{Snippet}
 use Rattle.snippet_style.specs.Cell.{Cell}
 use Rattle.snippet_text.specs.Normalized.{norm}
 use Rattle.snippet_text.specs.Width.{width_of}
-use Rattle.snippet_view.specs.Annotated.{seen_part}
-use Rattle.snippet_view.specs.Margin.{Bounds, bounds_of}
-use Rattle.snippet_view.specs.Window.{chars_at, dropped_part}
-use Rattle.snippet_view.specs.declared.entries.LineAnnotation.{LineAnnotation}
-use Rattle.snippet_view.specs.declared.margin.Margin.{Margin}
-use Rattle.snippet_view.proofs.ShownLemmas.{filter-map}
-use Rattle.snippet_marks.specs.Entries.{is_end_part, plain_entry}
-use Rattle.snippet_marks.specs.SourceRows.{source_row, window_cells}
+use Rattle.snippet_parts.specs.Annotated.{seen_part}
+use Rattle.snippet_window.specs.Margin.{Bounds, bounds_of}
+use Rattle.snippet_window.specs.Window.{chars_at, dropped_part}
+use Rattle.snippet_parts.specs.declared.entries.LineAnnotation.{LineAnnotation}
+use Rattle.snippet_window.specs.declared.margin.Margin.{Margin}
+use Rattle.snippet_parts.proofs.ShownLemmas.{filter-map}
+use Rattle.snippet_labels.specs.Entries.{is_end_part, plain_entry}
+use Rattle.snippet_strokes.specs.SourceRows.{source_row, window_cells}
 use Rattle.snippet_strokes.specs.Bars.{Bar}
 use Rattle.snippet_strokes.specs.LineRows.{line_rows}
 use Rattle.snippet_strokes.specs.Rows.{highlighted_row}

@@ -8,17 +8,17 @@ use Rattle.std.proofs.lemmas.List.Elements.{All-contains, All-contains_itself, A
 use Rattle.snippet_model.specs.declared.snippet.Annotation.{Annotation}
 use Rattle.snippet_model.specs.declared.snippet.AnnotationKind.{AnnotationKind}
 use Rattle.snippet_model.specs.declared.snippet.AnnotationKind.TheVariants.{Primary, Context, Visible}
-use Rattle.snippet_view.specs.declared.entries.LineAnnotation.{LineAnnotation}
+use Rattle.snippet_parts.specs.declared.entries.LineAnnotation.{LineAnnotation}
 use Rattle.snippet_lines.specs.Lines.{Source}
 use Rattle.snippet_lines.specs.Place.{place_of, location_of, start_location, end_location, locations_of}
-use Rattle.snippet_view.specs.Marked.{first_line, last_line, Entry, seen_entry, entry_of}
-use Rattle.snippet_view.specs.Mark.{is_marking, is_single_line, is_marked_on, start_column, end_column, span_width, IsMarkedAt, IsMarkOf}
+use Rattle.snippet_parts.specs.Marked.{first_line, last_line, Entry, seen_entry, entry_of}
+use Rattle.snippet_parts.specs.Mark.{is_marking, is_single_line, is_marked_on, start_column, end_column, span_width, IsMarkedAt, IsMarkOf}
 use Rattle.std.specs.Borrow.{Bor}
 use Rattle.std.specs.Option.{option_copied}
-use Rattle.snippet_marks.specs.Entries as entry
+use Rattle.snippet_labels.specs.Entries as entry
 use Rattle.annotate_snippets.specs.Shown.{shown_label, normalized_chars}
 use Rattle.snippet_strokes.specs.EntryMarks.{EntryCovers, IsEntryMark}
-use Rattle.snippet_marks.specs.Entries.{shifted}
+use Rattle.snippet_labels.specs.Entries.{shifted}
 use Rattle.snippet_model.specs.AnnotationKind.{is_primary}
 use Rattle.snippet_strokes.specs.Drawing.{StandsFrom}
 use Rattle.snippet_strokes.proofs.MarkLemmas.{from_map}

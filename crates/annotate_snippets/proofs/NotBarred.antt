@@ -10,9 +10,9 @@ use Rattle.snippet_style.specs.Cell.{Cell, SPACE, unlinked_cell}
 use Rattle.snippet_style.specs.Glyphs.{strokes_of, underline_role}
 use Rattle.snippet_style.specs.declared.glyphs.DecorStyle.{DecorStyle}
 use Rattle.snippet_style.specs.declared.glyphs.DecorStyle.TheVariants.{Ascii, Unicode}
-use Rattle.snippet_view.specs.Annotated.{is_long}
-use Rattle.snippet_view.specs.Mark.{touches}
-use Rattle.snippet_view.specs.Marked.{first_line, last_line}
+use Rattle.snippet_parts.specs.Annotated.{is_long}
+use Rattle.snippet_parts.specs.Mark.{touches}
+use Rattle.snippet_parts.specs.Marked.{first_line, last_line}
 use Rattle.snippet_grid.specs.Grid.{cell_at}
 use Rattle.snippet_grid.specs.Layout.{Layout}
 use Rattle.snippet_strokes.specs.Bars.{Bar}

@@ -13,8 +13,8 @@ use Rattle.snippet_style.specs.declared.glyphs.DecorStyle.TheVariants.{Ascii}
 use Rattle.snippet_style.specs.declared.role.ElementStyle.TheVariants.{LineNumber, Quotation}
 use Rattle.snippet_lines.specs.Lines.{start_of}
 use Rattle.snippet_lines.specs.Place.{line_of, place_of}
-use Rattle.snippet_view.specs.Annotated.{seen_part}
-use Rattle.snippet_view.specs.Kept.{shown_lines}
+use Rattle.snippet_parts.specs.Annotated.{seen_part}
+use Rattle.snippet_parts.specs.Kept.{shown_lines}
 use Rattle.snippet_strokes.specs.Bars.{Bar}
 use Rattle.snippet_strokes.proofs.LineRowLaws.{bar_beside, lone_rows}
 use Rattle.snippet_strokes.proofs.RowLemmas.{bare_row_left}

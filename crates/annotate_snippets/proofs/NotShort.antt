@@ -24,7 +24,7 @@ use Rattle.snippet_text.specs.Normalized.{norm}
 use Rattle.snippet_titles.specs.Heading.{label_cells}
 use Rattle.snippet_titles.specs.Origin.{origin_text}
 use Rattle.snippet_titles.specs.Short.{short_rows}
-use Rattle.snippet_view.specs.Annotated.{is_long}
+use Rattle.snippet_parts.specs.Annotated.{is_long}
 use Rattle.annotate_snippets.specs.FormLaws.{ShowsShort}
 use Rattle.annotate_snippets.specs.Forms.{ShowsReport}
 use Rattle.annotate_snippets.specs.Settings.{plain_settings}

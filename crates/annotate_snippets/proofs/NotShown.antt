@@ -24,9 +24,9 @@ use Rattle.snippet_model.specs.declared.snippet.AnnotationKind.{AnnotationKind}
 use Rattle.snippet_model.specs.declared.snippet.AnnotationKind.TheVariants.{Primary, Context}
 use Rattle.snippet_lines.specs.Lines.{source_lines, start_of}
 use Rattle.snippet_lines.specs.Place.{line_of, place_of}
-use Rattle.snippet_view.specs.Kept.{shown_lines}
-use Rattle.snippet_view.specs.Mark.{is_marked_on, qualifies_for_marks, start_column, end_column, span_width, IsMarkedAt, IsMarkOf}
-use Rattle.snippet_view.specs.Window.{chars_at, stands_whole}
+use Rattle.snippet_parts.specs.Kept.{shown_lines}
+use Rattle.snippet_parts.specs.Mark.{is_marked_on, qualifies_for_marks, start_column, end_column, span_width, IsMarkedAt, IsMarkOf}
+use Rattle.snippet_window.specs.Window.{chars_at, stands_whole}
 use Rattle.snippet_strokes.specs.EntryMarks.{IsMarkCell, has_mark_role}
 use Rattle.snippet_style.specs.Separators.{separator_row}
 use Rattle.annotate_snippets.specs.Page.{Elision, RowName, OfferedLine, RemovedLine, SourceRow, Other, NamedRow, lines_named, others, IsAscending}

@@ -25,12 +25,12 @@ use Rattle.snippet_model.specs.declared.snippet.Snippet.{Snippet}
 use Rattle.snippet_model.specs.declared.snippet.Title.{Title}
 use Rattle.snippet_lines.specs.Lines.{Source, source_lines, start_of}
 use Rattle.snippet_lines.specs.Place.{line_of, location_of, place_of, start_location, steps_after_text}
-use Rattle.snippet_view.specs.Marked.{first_line, last_line}
-use Rattle.snippet_view.specs.Kept.{shown_lines}
-use Rattle.snippet_view.proofs.PartLemmas.{All-unmapped}
-use Rattle.snippet_view.specs.Location.{IsLocation, start_at}
+use Rattle.snippet_parts.specs.Marked.{first_line, last_line}
+use Rattle.snippet_parts.specs.Kept.{shown_lines}
+use Rattle.snippet_parts.proofs.PartLemmas.{All-unmapped}
+use Rattle.snippet_parts.specs.Location.{IsLocation, start_at}
 use Rattle.snippet_model.specs.Rows.{HasNoNumber}
-use Rattle.snippet_view.specs.declared.location.Location.{Location}
+use Rattle.snippet_parts.specs.declared.location.Location.{Location}
 use Rattle.snippet_titles.specs.Origin.{origin_text}
 use Rattle.snippet_style.specs.Separators.{closing_row, separator_row}
 use Rattle.snippet_style.specs.declared.glyphs.DecorStyle.{DecorStyle}

@@ -2,7 +2,7 @@
 use Rattle.std.proofs.Common.{◌≡◌, ℕ, ◌+◌, ◌<◌, ◌≤◌, ◌^◌, ◌&&◌, not, Bool, true, false, List, map, length, count_by}
 use Rattle.std.specs.List.{All, Contains, filter, list_all}
 use Rattle.snippet_model.specs.declared.snippet.Annotation.{Annotation}
-use Rattle.snippet_view.specs.declared.entries.AnnotatedLineInfo.{AnnotatedLineInfo}
+use Rattle.snippet_parts.specs.declared.entries.AnnotatedLineInfo.{AnnotatedLineInfo}
 use Rattle.std.proofs.Common.{cond, ◌==◌, ◌||◌, suc, sym, subst, ◌∙◌, get_or, ap, arith, inl, inr, IfSome, [], ◌∷◌}
 use Rattle.std.specs.List.{list_any}
 use Rattle.std.proofs.lemmas.Bool.{cases_Bool, cond-true, cond-false, or_parts}
@@ -10,40 +10,41 @@ use Rattle.std.proofs.lemmas.Bool.Decides.{nat_tests}
 use Rattle.std.proofs.lemmas.List.Elements.{All-cons, All-contains, All-head, All-nil, All-tail, All-weaker, Contains-get_or}
 use Rattle.std.proofs.lemmas.List.FromFn.{get_or-range_with_len, length-range_with_len}
 use Rattle.std.specs.List.{range_with_len}
-use Rattle.snippet_view.specs.Kept.{keeps, kept_lines}
-use Rattle.snippet_view.specs.Measures.{is_bar}
-use Rattle.snippet_view.proofs.KeptPartLemmas.{none-unkept}
+use Rattle.snippet_parts.specs.Kept.{keeps, kept_lines}
+use Rattle.snippet_parts.specs.Entries.{is_bar}
+use Rattle.snippet_parts.proofs.KeptPartLemmas.{none-unkept}
 use Rattle.snippet_strokes.proofs.MarkLemmas.{from_map}
 use Rattle.annotate_snippets.proofs.ListLemmas.{Contains-filter, Contains-map}
 use Rattle.std.proofs.lemmas.List.{length-map}
 use Rattle.std.proofs.lemmas.List.Sums.{count_by-le-length, length-filter}
 use Rattle.snippet_model.specs.Fits.{AnnotationFits}
-use Rattle.snippet_view.specs.declared.entries.LineAnnotation.{LineAnnotation}
-use Rattle.snippet_view.specs.declared.entries.LineAnnotationType.{LineAnnotationType}
-use Rattle.snippet_view.specs.declared.entries.LineAnnotationType.TheVariants.{Singleline, MultilineStart, MultilineEnd, MultilineLine}
-use Rattle.snippet_view.specs.declared.margin.Margin.{Margin}
-use Rattle.snippet_view.specs.Entries.{Ascends, HasDepthWithin, HasRoom}
-use Rattle.snippet_view.proofs.EntryFacts.{depths-fit, each-line, labels-fit, places-fit, texts-fit, untouched-parts, wide-count}
-use Rattle.snippet_view.proofs.MarginLaws.{margin_of_kept}
-use Rattle.snippet_view.proofs.UncutLaws.{margin_whole}
-use Rattle.snippet_view.proofs.ShownFacts.{first-shown, last-shown, shown-ascends, shown-within}
-use Rattle.snippet_view.specs.Depths.{places_of}
-use Rattle.snippet_view.specs.Annotated.{KeptLine, PartEntry, seen_part, annotated_lines, deepest, is_long, kept_line, long_entry, long_place, long_places}
-use Rattle.snippet_view.specs.Annotated.{long_spans, parts_on, seen_kept, single_part, stands_before}
+use Rattle.snippet_parts.specs.declared.entries.LineAnnotation.{LineAnnotation}
+use Rattle.snippet_parts.specs.declared.entries.LineAnnotationType.{LineAnnotationType}
+use Rattle.snippet_parts.specs.declared.entries.LineAnnotationType.TheVariants.{Singleline, MultilineStart, MultilineEnd, MultilineLine}
+use Rattle.snippet_window.specs.declared.margin.Margin.{Margin}
+use Rattle.snippet_parts.specs.Entries.{Ascends, HasDepthWithin, HasRoom}
+use Rattle.snippet_parts.proofs.EntryFacts.{depths-fit, each-line, labels-fit, places-fit, texts-fit, untouched-parts, wide-count}
+use Rattle.snippet_window.proofs.MarginLaws.{margin_of_kept}
+use Rattle.snippet_window.proofs.UncutLaws.{margin_whole}
+use Rattle.snippet_parts.proofs.ShownFacts.{first-shown, last-shown, shown-ascends, shown-within}
+use Rattle.snippet_parts.specs.Depths.{places_of}
+use Rattle.snippet_parts.specs.Annotated.{KeptLine, PartEntry, seen_part, annotated_lines, deepest, is_long, kept_line, long_entry, long_place, long_places}
+use Rattle.snippet_parts.specs.Annotated.{long_spans, parts_on, seen_kept, single_part, stands_before}
 use Rattle.snippet_lines.specs.Order.{ordered_by, put_in}
-use Rattle.snippet_view.specs.Kept.{shown_lines}
+use Rattle.snippet_parts.specs.Kept.{shown_lines}
 use Rattle.snippet_lines.specs.Lines.{Source, source_lines}
-use Rattle.snippet_view.specs.Mark.{is_marked_on, is_marking, is_single_line, is_wide, touches}
-use Rattle.snippet_view.specs.Marked.{first_line, last_line}
-use Rattle.snippet_view.specs.Measures.{StandsClear, bounds_of_lines, is_wide_entry, margin_of}
-use Rattle.snippet_marks.specs.Entries.{HasPlace}
+use Rattle.snippet_parts.specs.Mark.{is_marked_on, is_marking, is_single_line, is_wide, touches}
+use Rattle.snippet_parts.specs.Marked.{first_line, last_line}
+use Rattle.snippet_window.specs.Measures.{StandsClear, bounds_of_lines, margin_of}
+use Rattle.snippet_parts.specs.Entries.{is_wide_entry}
+use Rattle.snippet_labels.specs.Entries.{HasPlace}
 use Rattle.snippet_strokes.specs.EntryMarks.{HasBarCell, HasBarCellAt}
 use Rattle.snippet_grid.specs.Layout.{Layout}
 use Rattle.annotate_snippets.specs.Gutter.{code_after}
 use Rattle.snippet_lines.specs.Span.{IsSpan}
-use Rattle.snippet_view.specs.Window.{stands_whole}
+use Rattle.snippet_window.specs.Window.{stands_whole}
 use Rattle.annotate_snippets.specs.Page.{IsAscending}
-use Rattle.snippet_view.proofs.RawDepthLemmas.{greatest-bound, places-bound}
+use Rattle.snippet_parts.proofs.RawDepthLemmas.{greatest-bound, places-bound}
 
 -- numbers that ascend do so in the words of a page
 ascending : (ks : List ℕ) → Ascends ks → IsAscending ks

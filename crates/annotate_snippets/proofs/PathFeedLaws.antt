@@ -33,7 +33,7 @@ use Rattle.annotate_snippets.specs.Rows.{separator_rows}
 use Rattle.annotate_snippets.specs.Feeds.{HasNoFeed, HoldsNoFeed, IsNoFeed, IsOneLineText}
 use Rattle.annotate_snippets.proofs.FeedLaws.{after_spaces, bare_plain}
 pub use Rattle.annotate_snippets.proofs.FeedLaws.{cells_plain}
-use Rattle.snippet_view.specs.Annotated.{annotated_lines}
+use Rattle.snippet_parts.specs.Annotated.{annotated_lines}
 
 -- ---- characters
 

@@ -12,7 +12,7 @@ use Rattle.snippet_splice.specs.Edits.{edit_of, trimmed_edit_of}
 use Rattle.snippet_splice.specs.Shown.{first_start}
 use Rattle.snippet_suggest.specs.declared.PreparedSuggestion.{PreparedSuggestion}
 use Rattle.snippet_suggest.specs.Given.{edits_of, trimmed_of}
-use Rattle.snippet_view.specs.Numbered.{numbered_source}
+use Rattle.snippet_parts.specs.Numbered.{numbered_source}
 use Rattle.snippet_suggest.specs.Prepared.{IsPrepared}
 use Rattle.snippet_suggest.proofs.PreparedLemmas.{some-left}
 use Rattle.snippet_suggest.proofs.SpanLemmas.{trimmed_spans}

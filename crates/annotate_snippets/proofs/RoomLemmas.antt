@@ -17,7 +17,7 @@ use Rattle.snippet_model.specs.declared.snippet.Snippet.{Snippet}
 use Rattle.snippet_lines.specs.Lines.{newline_count, source_lines}
 use Rattle.snippet_lines.specs.Place.{line_of}
 use Rattle.snippet_lines.proofs.PlaceLemmas.{line_of-within}
-use Rattle.snippet_view.specs.Prepare.{counted_number}
+use Rattle.snippet_parts.specs.Counted.{counted_number}
 use Rattle.snippet_suggest.specs.Given.{counted_folded, counted_line, first_end, first_given, given_text, shown_kind, trimmed_of}
 use Rattle.snippet_suggest.specs.Prepared.{IsSuggestible}
 use Rattle.snippet_suggest.proofs.PreparedLemmas.{last-fits}

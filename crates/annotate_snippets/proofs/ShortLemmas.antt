@@ -21,8 +21,8 @@ use Rattle.snippet_model.specs.declared.snippet.Element.{Element}
 use Rattle.snippet_model.specs.declared.snippet.Element.TheVariants.{Message, Cause, Suggestion, Origin, Padding}
 use Rattle.snippet_model.specs.declared.snippet.Group.{Group}
 use Rattle.snippet_model.specs.declared.snippet.Snippet.{Snippet}
-use Rattle.snippet_view.specs.Annotated.{annotated_lines}
-use Rattle.snippet_marks.proofs.CharLemmas.{is_empty-chars}
+use Rattle.snippet_parts.specs.Annotated.{annotated_lines}
+use Rattle.snippet_labels.proofs.CharLemmas.{is_empty-chars}
 use Rattle.snippet_style.proofs.CellLemmas.{length-chars_le}
 use Rattle.snippet_text.specs.Normalized.{norm}
 use Rattle.snippet_text.proofs.NormLemmas.{length-norm}

@@ -17,10 +17,10 @@ use Rattle.snippet_model.specs.declared.snippet.Annotation.{Annotation}
 use Rattle.snippet_model.specs.declared.snippet.Group.{Group}
 use Rattle.snippet_model.specs.declared.snippet.Snippet.{Snippet}
 use Rattle.snippet_model.specs.declared.snippet.Title.{Title}
-use Rattle.snippet_view.specs.Annotated.{KeptLine, annotated_lines, is_long}
-use Rattle.snippet_view.specs.Mark.{is_marking}
-use Rattle.snippet_view.specs.Location.{IsLocation, primary_place}
-use Rattle.snippet_view.proofs.LocationLaws.{place-named}
+use Rattle.snippet_parts.specs.Annotated.{KeptLine, annotated_lines, is_long}
+use Rattle.snippet_parts.specs.Mark.{is_marking}
+use Rattle.snippet_parts.specs.Location.{IsLocation, primary_place}
+use Rattle.snippet_parts.proofs.LocationLaws.{place-named}
 use Rattle.snippet_grid.specs.Grid.{row_at}
 use Rattle.snippet_style.specs.Cell.{Cell}
 use Rattle.snippet_grid.specs.Print.{plain_text, row_text}

@@ -14,9 +14,9 @@ use Rattle.snippet_style.specs.declared.glyphs.DecorStyle.TheVariants.{Ascii, Un
 use Rattle.snippet_style.specs.declared.role.ElementStyle.TheVariants.{LineNumber}
 use Rattle.snippet_text.specs.Normalized.{norm}
 use Rattle.snippet_titles.proofs.DigitLemmas.{IsDigit, decimal-all}
-use Rattle.snippet_view.specs.Margin.{Bounds}
-use Rattle.snippet_view.specs.Window.{AreReplaced, IsReplaced, begun_with, chars_at, covered_columns, covered_end, ended_with, inner_part, reaching}
-use Rattle.snippet_view.specs.Window.{uncovered_part, window}
+use Rattle.snippet_window.specs.Margin.{Bounds}
+use Rattle.snippet_window.specs.Window.{AreReplaced, IsReplaced, begun_with, chars_at, covered_columns, covered_end, ended_with, inner_part, reaching}
+use Rattle.snippet_window.specs.Window.{uncovered_part, window}
 use Rattle.snippet_lines.specs.Number.{shown_number}
 use Rattle.snippet_lines.specs.declared.number.LineNumbers.{LineNumbers}
 use Rattle.snippet_lines.specs.declared.number.LineNumbers.TheVariants.{Anonymized, Hidden, Shown}

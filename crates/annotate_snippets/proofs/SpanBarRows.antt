@@ -15,15 +15,15 @@ use Rattle.snippet_style.specs.declared.role.ElementStyle.TheVariants.{LineNumbe
 use Rattle.snippet_style.proofs.CellLemmas.{length-text_cells}
 use Rattle.std.proofs.lemmas.List.{length-append, length-replicate, length-take}
 use Rattle.snippet_lines.specs.Span.{IsSpan}
-use Rattle.snippet_view.specs.Annotated.{PartEntry, deepest, depth_of, is_long, seen_part}
-use Rattle.snippet_view.specs.declared.entries.LineAnnotation.{LineAnnotation}
-use Rattle.snippet_view.specs.declared.entries.LineAnnotationType.{LineAnnotationType}
-use Rattle.snippet_view.specs.declared.entries.LineAnnotationType.TheVariants.{MultilineEnd, MultilineStart}
-use Rattle.snippet_view.specs.Mark.{touches}
-use Rattle.snippet_view.specs.Marked.{first_line, last_line}
-use Rattle.snippet_view.proofs.AmongLemmas.{Among}
-use Rattle.snippet_view.proofs.EntryFacts.{depth-within}
-use Rattle.snippet_view.proofs.PartLemmas.{All-unmapped}
+use Rattle.snippet_parts.specs.Annotated.{PartEntry, deepest, depth_of, is_long, seen_part}
+use Rattle.snippet_parts.specs.declared.entries.LineAnnotation.{LineAnnotation}
+use Rattle.snippet_parts.specs.declared.entries.LineAnnotationType.{LineAnnotationType}
+use Rattle.snippet_parts.specs.declared.entries.LineAnnotationType.TheVariants.{MultilineEnd, MultilineStart}
+use Rattle.snippet_parts.specs.Mark.{touches}
+use Rattle.snippet_parts.specs.Marked.{first_line, last_line}
+use Rattle.snippet_parts.proofs.AmongLemmas.{Among}
+use Rattle.snippet_parts.proofs.EntryFacts.{depth-within}
+use Rattle.snippet_parts.proofs.PartLemmas.{All-unmapped}
 use Rattle.snippet_strokes.specs.Bars.{Bar, HasOwnDepth, bars_apart, ends_of_bars, has_depth}
 use Rattle.snippet_strokes.specs.Rows.{bare_elision_row}
 use Rattle.snippet_strokes.specs.EndBars.{BarBegins, BarEnds, IsNoBar}
@@ -32,7 +32,7 @@ use Rattle.snippet_strokes.proofs.EndBarLaws.{bar_ends, elision_stands}
 use Rattle.snippet_strokes.proofs.SnippetLemmas.{highlighted_left}
 use Rattle.snippet_strokes.proofs.CrossedLaws.{line_clear}
 use Rattle.snippet_strokes.proofs.SourceCellLaws.{begins, gap_space, line_source}
-use Rattle.snippet_marks.specs.Entries.{is_end_part}
+use Rattle.snippet_labels.specs.Entries.{is_end_part}
 use Rattle.annotate_snippets.specs.declared.renderer.Renderer.{Renderer}
 use Rattle.snippet_grid.specs.Layout.{Layout}
 use Rattle.annotate_snippets.specs.Gutter.{code_after, number_text}

@@ -7,15 +7,15 @@ use Rattle.std.proofs.lemmas.List.Folds.{list_any-append}
 use Rattle.snippet_model.specs.AnnotationKind.{is_primary}
 use Rattle.snippet_model.specs.declared.snippet.AnnotationKind.TheVariants.{Primary}
 use Rattle.snippet_lines.specs.Lines.{Source}
-use Rattle.snippet_view.specs.declared.depths.LongExtent.{LongExtent}
-use Rattle.snippet_view.specs.declared.entries.LineAnnotationType.TheVariants.{Singleline, MultilineEnd, MultilineStart}
-use Rattle.snippet_view.specs.Annotated.{PartEntry, bar_lines, bar_part, end_part, is_promoted, long_parts, long_place, promoted, span_parts, stands_among}
-use Rattle.snippet_view.specs.Annotated.{start_part}
-use Rattle.snippet_view.specs.Depths.{depth_among, same_place}
-use Rattle.snippet_view.specs.Marked.{Entry}
-use Rattle.snippet_view.proofs.AmongLemmas.{Among, among_left, among_right, any_cases, append_cases, map_cases}
-use Rattle.snippet_view.proofs.LongStarts.{promoted-end, promoted-start}
-use Rattle.snippet_view.proofs.RawDepthLemmas.{same-refl, same-true}
+use Rattle.snippet_parts.specs.declared.depths.LongExtent.{LongExtent}
+use Rattle.snippet_parts.specs.declared.entries.LineAnnotationType.TheVariants.{Singleline, MultilineEnd, MultilineStart}
+use Rattle.snippet_parts.specs.Annotated.{PartEntry, bar_lines, bar_part, end_part, is_promoted, long_parts, long_place, promoted, span_parts, stands_among}
+use Rattle.snippet_parts.specs.Annotated.{start_part}
+use Rattle.snippet_parts.specs.Depths.{depth_among, same_place}
+use Rattle.snippet_parts.specs.Marked.{Entry}
+use Rattle.snippet_parts.proofs.AmongLemmas.{Among, among_left, among_right, any_cases, append_cases, map_cases}
+use Rattle.snippet_parts.proofs.LongStarts.{promoted-end, promoted-start}
+use Rattle.snippet_parts.proofs.RawDepthLemmas.{same-refl, same-true}
 use Rattle.snippet_strokes.specs.Bars.{Bar, bar_at}
 
 -- whether one of some spans of this place is primary

@@ -10,13 +10,13 @@ use Rattle.snippet_model.specs.declared.snippet.Snippet.{Snippet}
 use Rattle.snippet_lines.specs.declared.place.Loc.{Loc}
 use Rattle.snippet_lines.specs.Lines.{Source, source_lines}
 use Rattle.snippet_lines.specs.Place.{end_location, line_of, location_of, locations_of, start_location}
-use Rattle.snippet_view.specs.declared.depths.LongExtent.{LongExtent}
-use Rattle.snippet_view.specs.Annotated.{depth_of, is_long, long_entry, long_place, long_spans, stands_before}
-use Rattle.snippet_view.specs.Depths.{same_place}
-use Rattle.snippet_view.specs.Mark.{is_marking, is_single_line}
-use Rattle.snippet_view.specs.Marked.{Entry, first_line, last_line}
-use Rattle.snippet_view.proofs.AmongLemmas.{among_filter, among_in_order, among_map, any_among, any_cases, filter_cases, in_order_cases, map_cases}
-use Rattle.snippet_view.proofs.RawDepthLemmas.{same-refl, same-true}
+use Rattle.snippet_parts.specs.declared.depths.LongExtent.{LongExtent}
+use Rattle.snippet_parts.specs.Annotated.{depth_of, is_long, long_entry, long_place, long_spans, stands_before}
+use Rattle.snippet_parts.specs.Depths.{same_place}
+use Rattle.snippet_parts.specs.Mark.{is_marking, is_single_line}
+use Rattle.snippet_parts.specs.Marked.{Entry, first_line, last_line}
+use Rattle.snippet_parts.proofs.AmongLemmas.{among_filter, among_in_order, among_map, any_among, any_cases, filter_cases, in_order_cases, map_cases}
+use Rattle.snippet_parts.proofs.RawDepthLemmas.{same-refl, same-true}
 use Rattle.snippet_strokes.specs.Bars.{Bar}
 use Rattle.annotate_snippets.specs.Gutter.{numbered_source}
 use Rattle.annotate_snippets.specs.SpanBars.{bar_of_span, is_bar_primary}

@@ -25,7 +25,7 @@ use Rattle.snippet_style.specs.declared.role.ElementStyle.TheVariants.{Addition,
 use Rattle.snippet_text.specs.Normalized.{norm}
 use Rattle.snippet_titles.specs.Origin.{primary_start}
 use Rattle.snippet_titles.proofs.OriginFree.{each-fails}
-use Rattle.snippet_view.proofs.PartLemmas.{All-unmapped}
+use Rattle.snippet_parts.proofs.PartLemmas.{All-unmapped}
 use Rattle.snippet_suggest.specs.Cells.{left_out_cells, line_cells, offered_cells, on_last, put, sign_of, stretch_cell, with_stretches}
 use Rattle.snippet_suggest.specs.Given.{edits_of, first_given, given_lines, given_ranges, given_text, is_left_out, last_reached, shown_kind}
 use Rattle.snippet_style.specs.Glyphs.{suggestion_glyph_of, suggestion_role_of}

@@ -9,7 +9,7 @@ use Rattle.snippet_model.specs.declared.snippet.Patch.{Patch}
 use Rattle.snippet_model.specs.declared.snippet.Snippet.{Snippet}
 use Rattle.snippet_style.specs.Cell.{Cell}
 use Rattle.snippet_model.specs.Rows.{IsFree}
-use Rattle.snippet_view.proofs.PartLemmas.{All-unmapped}
+use Rattle.snippet_parts.proofs.PartLemmas.{All-unmapped}
 use Rattle.snippet_suggest.specs.Given.{first_given, given_lines, numbers_given, offered_lines, removed_lines}
 use Rattle.snippet_suggest.specs.Order.{Ends, SuggestionRow, line_taken, lines_taken, number_offered, numbers_offered, rows_of_suggestion}
 use Rattle.snippet_suggest.specs.Prepared.{IsSuggestible}

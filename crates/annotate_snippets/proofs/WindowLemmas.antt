@@ -1,8 +1,8 @@
 -- Where lines aren't cut on the left, nothing is dropped.
 use Rattle.std.proofs.Common.{◌≡◌, ℕ, List, refl}
 use Rattle.snippet_text.specs.Width.{width_of}
-use Rattle.snippet_view.specs.Window.{dropped_part}
-use Rattle.snippet_view.proofs.LineWindowLemmas.{reaching-none}
+use Rattle.snippet_window.specs.Window.{dropped_part}
+use Rattle.snippet_window.proofs.LineWindowLemmas.{reaching-none}
 use Rattle.snippet_strokes.proofs.WholeLemmas.{left-none}
 
 -- nothing is dropped

@@ -8,10 +8,10 @@ use Rattle.snippet_model.specs.declared.snippet.Annotation.{Annotation}
 use Rattle.snippet_model.specs.declared.snippet.Group.{Group}
 use Rattle.snippet_model.specs.declared.snippet.Snippet.{Snippet}
 use Rattle.snippet_model.specs.declared.snippet.Title.{Title}
-use Rattle.snippet_view.specs.Annotated.{is_long}
-use Rattle.snippet_view.specs.Mark.{is_marking}
-use Rattle.snippet_view.specs.Location.{IsLocation}
-use Rattle.snippet_view.specs.declared.location.Location.{Location}
+use Rattle.snippet_parts.specs.Annotated.{is_long}
+use Rattle.snippet_parts.specs.Mark.{is_marking}
+use Rattle.snippet_parts.specs.Location.{IsLocation}
+use Rattle.snippet_parts.specs.declared.location.Location.{Location}
 use Rattle.snippet_grid.specs.Grid.{row_at}
 use Rattle.snippet_grid.specs.Print.{plain_text, row_text}
 use Rattle.snippet_grid.specs.Woven.{IsWoven, links_of}

@@ -13,15 +13,15 @@ use Rattle.snippet_model.specs.declared.snippet.Patch.{Patch}
 use Rattle.snippet_model.specs.declared.snippet.Snippet.{Snippet}
 use Rattle.snippet_text.specs.Normalized.{norm}
 use Rattle.snippet_text.specs.Width.{width_of}
-use Rattle.snippet_view.specs.Annotated.{PartEntry}
-use Rattle.snippet_view.specs.Kept.{shown_lines}
-use Rattle.snippet_view.specs.Margin.{bounds_of}
-use Rattle.snippet_view.specs.Measures.{margin_of}
-use Rattle.snippet_view.specs.Window.{chars_at, dropped_part}
-use Rattle.snippet_view.specs.declared.entries.LineAnnotation.{LineAnnotation}
-use Rattle.snippet_view.specs.declared.margin.Margin.{Margin}
-use Rattle.snippet_marks.specs.Entries.{is_end_part}
-use Rattle.snippet_marks.specs.SourceRows.{source_row, window_cells}
+use Rattle.snippet_parts.specs.Annotated.{PartEntry}
+use Rattle.snippet_parts.specs.Kept.{shown_lines}
+use Rattle.snippet_window.specs.Margin.{bounds_of}
+use Rattle.snippet_window.specs.Measures.{margin_of}
+use Rattle.snippet_window.specs.Window.{chars_at, dropped_part}
+use Rattle.snippet_parts.specs.declared.entries.LineAnnotation.{LineAnnotation}
+use Rattle.snippet_window.specs.declared.margin.Margin.{Margin}
+use Rattle.snippet_labels.specs.Entries.{is_end_part}
+use Rattle.snippet_strokes.specs.SourceRows.{source_row, window_cells}
 use Rattle.snippet_strokes.specs.Bars.{Bar, open_past}
 use Rattle.snippet_strokes.specs.LineRows.{line_rows}
 use Rattle.snippet_strokes.specs.Rows.{highlighted_row}

@@ -8,17 +8,17 @@ use Rattle.snippet_model.specs.declared.snippet.Snippet.{Snippet}
 use Rattle.snippet_style.specs.Cell.{Cell}
 use Rattle.snippet_text.specs.Normalized.{norm}
 use Rattle.snippet_text.specs.Width.{width_of}
-use Rattle.snippet_view.specs.Annotated.{PartEntry, parts_on, seen_part}
-use Rattle.snippet_view.specs.Margin.{bounds_of}
-use Rattle.snippet_view.specs.Measures.{margin_of}
-use Rattle.snippet_view.specs.Window.{chars_at, dropped_part}
-use Rattle.snippet_view.specs.declared.entries.LineAnnotation.{LineAnnotation}
-use Rattle.snippet_view.specs.declared.margin.Margin.{Margin}
+use Rattle.snippet_parts.specs.Annotated.{PartEntry, parts_on, seen_part}
+use Rattle.snippet_window.specs.Margin.{bounds_of}
+use Rattle.snippet_window.specs.Measures.{margin_of}
+use Rattle.snippet_window.specs.Window.{chars_at, dropped_part}
+use Rattle.snippet_parts.specs.declared.entries.LineAnnotation.{LineAnnotation}
+use Rattle.snippet_window.specs.declared.margin.Margin.{Margin}
 use Rattle.snippet_strokes.specs.Bars.{Bar, bar_at, open_past}
-use Rattle.snippet_marks.specs.Entries.{is_end_part}
+use Rattle.snippet_labels.specs.Entries.{is_end_part}
 use Rattle.snippet_strokes.specs.LineRows.{AreLineRows}
 use Rattle.snippet_strokes.specs.Rows.{IsHighlighted}
-use Rattle.snippet_marks.specs.SourceRows.{IsSourceRow, window_cells}
+use Rattle.snippet_strokes.specs.SourceRows.{IsSourceRow, window_cells}
 use Rattle.snippet_strokes.specs.Snippet.{gap_row}
 use Rattle.annotate_snippets.specs.declared.renderer.Renderer.{Renderer}
 use Rattle.snippet_grid.specs.Layout.{Layout}

@@ -12,9 +12,9 @@ use Rattle.snippet_model.specs.declared.snippet.Title.{Title}
 use Rattle.snippet_model.specs.Heading.{heading_of_message}
 use Rattle.snippet_style.specs.Cell.{Cell}
 use Rattle.snippet_lines.specs.Place.{start_location}
-use Rattle.snippet_view.specs.Annotated.{KeptLine, annotated_lines}
-use Rattle.snippet_view.specs.Location.{primary_place, secondary_place}
-use Rattle.snippet_view.specs.declared.location.Location.{Location}
+use Rattle.snippet_parts.specs.Annotated.{KeptLine, annotated_lines}
+use Rattle.snippet_parts.specs.Location.{primary_place, secondary_place}
+use Rattle.snippet_parts.specs.declared.location.Location.{Location}
 use Rattle.snippet_splice.specs.Shown.{first_start}
 use Rattle.snippet_suggest.specs.Given.{trimmed_of}
 use Rattle.snippet_suggest.specs.declared.SuggestionStart.{SuggestionStart}

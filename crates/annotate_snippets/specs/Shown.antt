@@ -25,8 +25,8 @@ use Rattle.snippet_model.specs.declared.snippet.Patch.{Patch}
 use Rattle.snippet_model.specs.declared.snippet.AnnotationKind.{AnnotationKind}
 use Rattle.snippet_model.specs.declared.snippet.Element.{Element}
 use Rattle.snippet_model.specs.declared.snippet.Element.TheVariants as element
-use Rattle.snippet_view.specs.Annotated.{promoted, is_long, long_spans}
-use Rattle.snippet_view.specs.Kept.{shown_lines}
+use Rattle.snippet_parts.specs.Annotated.{promoted, is_long, long_spans}
+use Rattle.snippet_parts.specs.Kept.{shown_lines}
 use Rattle.snippet_lines.specs.Lines.{source_lines, text_at}
 use Rattle.snippet_splice.specs.Edits.{patched}
 use Rattle.snippet_splice.specs.Spliced.{IsTouched}
@@ -35,20 +35,20 @@ use Rattle.snippet_suggest.specs.Kind.{is_blank}
 use Rattle.snippet_suggest.specs.Order.{Begins, Empty, Ends, Offers, Removes, Skips, SuggestionRow, removed_number}
 use Rattle.snippet_suggest.specs.Rows.{HasLeft, IsBareRow, IsRemovedRow, IsSign, begin_glyph, beside_gutter, end_glyph, gap_left}
 use Rattle.snippet_suggest.specs.Suggested.{HasSign}
-use Rattle.snippet_view.specs.Margin.{Bounds}
-use Rattle.snippet_view.specs.Measures.{margin_of}
-use Rattle.snippet_view.specs.Marked.{Entry, first_line, last_line}
-use Rattle.snippet_view.specs.Mark.{is_marked_on, is_marking, is_wide, qualifies_for_marks, start_column, end_column, IsMarkedAt, IsMarkOf}
-use Rattle.snippet_view.specs.Location.{IsLocation}
-use Rattle.snippet_view.specs.declared.location.Location.{Location}
-use Rattle.snippet_view.specs.Window.{chars_at, stands_whole, IsWindowOf}
+use Rattle.snippet_window.specs.Margin.{Bounds}
+use Rattle.snippet_window.specs.Measures.{margin_of}
+use Rattle.snippet_parts.specs.Marked.{Entry, first_line, last_line}
+use Rattle.snippet_parts.specs.Mark.{is_marked_on, is_marking, is_wide, qualifies_for_marks, start_column, end_column, IsMarkedAt, IsMarkOf}
+use Rattle.snippet_parts.specs.Location.{IsLocation}
+use Rattle.snippet_parts.specs.declared.location.Location.{Location}
+use Rattle.snippet_window.specs.Window.{chars_at, stands_whole, IsWindowOf}
 use Rattle.snippet_model.specs.Rows.{IsFree}
 use Rattle.snippet_style.specs.Glyphs.{separator_of, placeholder_of}
 use Rattle.snippet_strokes.specs.EntryMarks.{IsMarkCell, IsBarCell, has_mark_role}
-use Rattle.snippet_marks.specs.Entries.{label_role}
+use Rattle.snippet_labels.specs.Entries.{label_role}
 use Rattle.snippet_strokes.specs.Labels.{IsStemCell, IsStrokeCell}
 use Rattle.snippet_strokes.specs.Rows.{IsElisionRow}
-use Rattle.snippet_marks.specs.SourceRows.{bare_row}
+use Rattle.snippet_strokes.specs.SourceRows.{bare_row}
 use Rattle.snippet_titles.specs.Heading.{heading_rows}
 use Rattle.snippet_titles.specs.Origin.{origin_text, padding_row}
 use Rattle.snippet_titles.specs.Shown.{IsFreeButText, LinksId, heading_texts}

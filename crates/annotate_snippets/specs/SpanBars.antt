@@ -7,9 +7,9 @@ use Rattle.snippet_model.specs.declared.snippet.Annotation.{Annotation}
 use Rattle.snippet_model.specs.declared.snippet.Snippet.{Snippet}
 use Rattle.snippet_style.specs.Cell.{Cell, SPACE}
 use Rattle.snippet_grid.specs.Layout.{Layout, bar_cell, inner_cell}
-use Rattle.snippet_view.specs.Annotated.{depth_of, is_long}
-use Rattle.snippet_view.specs.Mark.{touches}
-use Rattle.snippet_view.specs.Marked.{first_line, last_line}
+use Rattle.snippet_parts.specs.Annotated.{depth_of, is_long}
+use Rattle.snippet_parts.specs.Mark.{touches}
+use Rattle.snippet_parts.specs.Marked.{first_line, last_line}
 use Rattle.snippet_strokes.specs.Bars.{Bar}
 use Rattle.snippet_strokes.specs.EndBars.{BarBegins, BarEnds, IsNoBar, dotted_bar, solid_bar}
 use Rattle.annotate_snippets.specs.declared.renderer.Renderer.{Renderer}

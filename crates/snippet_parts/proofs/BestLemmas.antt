@@ -9,7 +9,7 @@ use Rattle.snippet_model.specs.declared.snippet.AnnotationKind.{AnnotationKind}
 use Rattle.snippet_model.specs.declared.snippet.AnnotationKind.TheVariants.{Primary, Context}
 use Rattle.snippet_parts.specs.declared.mark.Mark.{Mark}
 use Rattle.snippet_lines.specs.Lines.{Source}
-use Rattle.snippet_view.specs.Mark.{span_width, IsMarkedAt, IsMarkOf}
+use Rattle.snippet_parts.specs.Mark.{span_width, IsMarkedAt, IsMarkOf}
 
 -- the mark of column p of line k among some spans is of a span of this width and kind
 pub record IsBest (source : List ℕ) (marks : List Annotation) (k p : ℕ) (best : Mark) : Type 0 where

@@ -6,23 +6,23 @@ use Rattle.std.proofs.lemmas.Bool.{cases_Bool, cases_lt, le-leb, lt-leb, cond-tr
 use Rattle.std.proofs.lemmas.List.{append_assoc, append-nil, map-append}
 use Rattle.std.proofs.lemmas.List.{map_push, map_more, drop-map, take-map, drop_more, length-map, get_or-map}
 use Rattle.std.proofs.lemmas.List.FromFn.{map-range_with_len_more}
-use Rattle.snippet_view.specs.declared.entries.LineAnnotation.{LineAnnotation}
-use Rattle.snippet_view.specs.Annotated.{PartEntry, seen_part, bar_lines, span_parts, long_parts, long_place, stands_among, promoted, is_promoted}
+use Rattle.snippet_parts.specs.declared.entries.LineAnnotation.{LineAnnotation}
+use Rattle.snippet_parts.specs.Annotated.{PartEntry, seen_part, bar_lines, span_parts, long_parts, long_place, stands_among, promoted, is_promoted}
 use Rattle.snippet_model.specs.AnnotationKind.{is_primary}
-use Rattle.snippet_view.specs.Depths.{same_place, depth_among}
-use Rattle.snippet_view.specs.declared.depths.LongExtent.{LongExtent}
-use Rattle.snippet_view.specs.Marked.{Entry}
+use Rattle.snippet_parts.specs.Depths.{same_place, depth_among}
+use Rattle.snippet_parts.specs.declared.depths.LongExtent.{LongExtent}
+use Rattle.snippet_parts.specs.Marked.{Entry}
 use Rattle.snippet_model.specs.declared.snippet.AnnotationKind.{AnnotationKind}
 use Rattle.snippet_model.specs.declared.snippet.AnnotationKind.TheVariants.{Primary, Context, Visible}
 use Rattle.std.specs.List.Sorted.{IsNonDecreasingBy}
-use Rattle.snippet_view.specs.Kept.{is_trivial_line}
+use Rattle.snippet_parts.specs.Kept.{is_trivial_line}
 use Rattle.snippet_lines.specs.Lines.{Source}
 use Rattle.snippet_parts.specs.LongSpans.{seen_long, HasFit}
 use Rattle.snippet_parts.specs.declared.long_spans.LongSpan.{LongSpan}
 use Rattle.snippet_lines.specs.declared.place.Loc.{Loc}
-use Rattle.snippet_view.proofs.RawDepthLemmas.{same-true}
+use Rattle.snippet_parts.proofs.RawDepthLemmas.{same-true}
 use Rattle.std.proofs.lemmas.Simd.{map-map}
-use Rattle.snippet_view.proofs.PartLemmas.{list_any-map}
+use Rattle.snippet_parts.proofs.PartLemmas.{list_any-map}
 
 filter-after : (p : ℕ → Bool) (u from n : ℕ) → ((k : ℕ) → from ≤ k → leb k u ≡ p k) → u < from → filter p (range_with_len from n) ≡ []
 filter-after p u from zero same past = refl

@@ -6,16 +6,16 @@ use Rattle.std.proofs.lemmas.Bool.{cases_Bool, cases_lt, cases_eq, and_left, or_
 use Rattle.std.proofs.lemmas.Bool.{or_right}
 use Rattle.std.proofs.lemmas.List.{append-nil, take_more, take_all, take-set-le}
 use Rattle.std.proofs.lemmas.List.Elements.{All-filter, All-weaker, filter-append, filter_agree}
-use Rattle.snippet_view.proofs.PartLemmas.{All-range}
+use Rattle.snippet_parts.proofs.PartLemmas.{All-range}
 use Rattle.std.proofs.lemmas.List.Folds.{list_any_more}
 use Rattle.snippet_model.specs.declared.snippet.Annotation.{Annotation}
 use Rattle.snippet_parts.specs.declared.kept.Stretch.{Stretch}
-use Rattle.snippet_view.specs.Mark.{is_marking, touches}
-use Rattle.snippet_view.specs.Measures.{greatest}
+use Rattle.snippet_parts.specs.Mark.{is_marking, touches}
+use Rattle.snippet_parts.specs.Least.{greatest}
 use Rattle.snippet_parts.specs.Stretches.{holds, is_covered, is_seen}
-use Rattle.snippet_view.proofs.ExtentLemmas.{greatest-push}
-use Rattle.snippet_view.proofs.RawDepthLemmas.{greatest-cons}
-use Rattle.snippet_view.proofs.ShownLemmas.{range-more}
+use Rattle.snippet_parts.proofs.LeastLemmas.{greatest-push}
+use Rattle.snippet_parts.proofs.RawDepthLemmas.{greatest-cons}
+use Rattle.snippet_parts.proofs.ShownLemmas.{range-more}
 
 -- ---- how far stretches reach
 

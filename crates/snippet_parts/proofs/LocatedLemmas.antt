@@ -9,11 +9,11 @@ use Rattle.snippet_lines.proofs.PlaceLemmas.{line_of-mono, line_of-within}
 use Rattle.snippet_lines.specs.Order.{ordered_by}
 use Rattle.snippet_lines.specs.declared.place.Loc.{Loc}
 use Rattle.snippet_model.specs.declared.snippet.Annotation.{Annotation}
-use Rattle.snippet_view.specs.declared.entries.LineAnnotationType.TheVariants.{Singleline}
-use Rattle.snippet_view.specs.Annotated.{PartEntry, single_part, long_entry, is_short, is_long, stands_before, long_spans}
-use Rattle.snippet_view.specs.Mark.{is_marking}
-use Rattle.snippet_view.specs.Marked.{Entry, last_line, widened}
-use Rattle.snippet_view.proofs.PartLemmas.{All-unmapped}
+use Rattle.snippet_parts.specs.declared.entries.LineAnnotationType.TheVariants.{Singleline}
+use Rattle.snippet_parts.specs.Annotated.{PartEntry, single_part, long_entry, is_short, is_long, stands_before, long_spans}
+use Rattle.snippet_parts.specs.Mark.{is_marking}
+use Rattle.snippet_parts.specs.Marked.{Entry, last_line, widened}
+use Rattle.snippet_parts.proofs.PartLemmas.{All-unmapped}
 use Rattle.snippet_parts.specs.declared.located.LocatedSpan.{LocatedSpan}
 use Rattle.snippet_parts.specs.declared.long_spans.LongSpan.{LongSpan}
 use Rattle.snippet_parts.specs.Located.{IsLocated, annotations_of, is_short_span, is_long_span, span_entry, short_part}

@@ -5,15 +5,15 @@ use Rattle.std.specs.List.Sorted.{IsNonDecreasingBy, IsSortedBy}
 use Rattle.std.specs.Ordering.{is_lt, ordering_then, nat_cmp}
 use Rattle.std.proofs.lemmas.Bool.Decides.{nat_tests}
 use Rattle.snippet_parts.specs.declared.long_spans.LongSpan.{LongSpan}
-use Rattle.snippet_view.specs.Annotated.{long_entry, is_long, stands_before}
+use Rattle.snippet_parts.specs.Annotated.{long_entry, is_long, stands_before}
 use Rattle.snippet_lines.specs.Order.{ordered_by}
 use Rattle.snippet_parts.specs.LongSpans.{seen_long, HasFit}
 use Rattle.snippet_lines.specs.Lines.{Source, source_lines}
-use Rattle.snippet_view.specs.Mark.{is_marking}
-use Rattle.snippet_view.specs.Marked.{Entry, first_line, last_line}
+use Rattle.snippet_parts.specs.Mark.{is_marking}
+use Rattle.snippet_parts.specs.Marked.{Entry, first_line, last_line}
 use Rattle.snippet_model.specs.declared.snippet.Annotation.{Annotation}
 use Rattle.std.proofs.lemmas.Bool.{cases_eq, cases_lt, eqb-false, ltb-false, not-true, and_parts, or_parts}
-use Rattle.snippet_view.proofs.MarkLemmas.{start-line, end-line}
+use Rattle.snippet_parts.proofs.MarkLemmas.{start-line, end-line}
 use Rattle.snippet_lines.proofs.PlaceLemmas.{line_of-mono, line_of-within}
 use Rattle.snippet_lines.proofs.OrderLemmas.{map-ordered_by}
 use Rattle.std.proofs.lemmas.List.Sorted.{sorted_far}

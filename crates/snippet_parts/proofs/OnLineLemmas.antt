@@ -8,34 +8,34 @@ use Rattle.std.proofs.lemmas.Simd.{map-map}
 use Rattle.std.proofs.lemmas.List.Elements.{All-head, All-tail, All-map, All-contains, Contains-append_left, Contains-append_right, filter-append}
 use Rattle.snippet_model.specs.declared.snippet.Annotation.{Annotation}
 use Rattle.snippet_model.specs.declared.snippet.AnnotationKind.TheVariants.{Primary}
-use Rattle.snippet_view.specs.declared.depths.LongExtent.{LongExtent}
-use Rattle.snippet_view.specs.declared.entries.AnnotatedLineInfo.{AnnotatedLineInfo}
-use Rattle.snippet_view.specs.declared.entries.LineAnnotationType.TheVariants.{Singleline, MultilineStart, MultilineEnd}
+use Rattle.snippet_parts.specs.declared.depths.LongExtent.{LongExtent}
+use Rattle.snippet_parts.specs.declared.entries.AnnotatedLineInfo.{AnnotatedLineInfo}
+use Rattle.snippet_parts.specs.declared.entries.LineAnnotationType.TheVariants.{Singleline, MultilineStart, MultilineEnd}
 use Rattle.snippet_lines.specs.declared.place.Loc.{Loc}
-use Rattle.snippet_view.specs.Annotated.{PartEntry, seen_part, KeptLine, seen_kept, kept_line, annotated_lines, is_short, is_long, long_entry, long_place}
-use Rattle.snippet_view.specs.Annotated.{long_places, long_spans}
-use Rattle.snippet_view.specs.Annotated.{long_parts, stands_before, stands_among, depth_of, single_part, start_part, bar_part, end_part, bar_lines, span_parts}
-use Rattle.snippet_view.specs.Annotated.{parts_on, promoted, is_promoted}
+use Rattle.snippet_parts.specs.Annotated.{PartEntry, seen_part, KeptLine, seen_kept, kept_line, annotated_lines, is_short, is_long, long_entry, long_place}
+use Rattle.snippet_parts.specs.Annotated.{long_places, long_spans}
+use Rattle.snippet_parts.specs.Annotated.{long_parts, stands_before, stands_among, depth_of, single_part, start_part, bar_part, end_part, bar_lines, span_parts}
+use Rattle.snippet_parts.specs.Annotated.{parts_on, promoted, is_promoted}
 use Rattle.snippet_lines.specs.Order.{put_in, ordered_by}
-use Rattle.snippet_view.specs.Depths.{depth_among, same_place}
-use Rattle.snippet_view.specs.Entries.{Ascends}
-use Rattle.snippet_view.specs.Kept.{kept_lines}
+use Rattle.snippet_parts.specs.Depths.{depth_among, same_place}
+use Rattle.snippet_parts.specs.Entries.{Ascends}
+use Rattle.snippet_parts.specs.Kept.{kept_lines}
 use Rattle.snippet_lines.specs.Lines.{Source}
-use Rattle.snippet_view.specs.Mark.{is_marking, touches}
-use Rattle.snippet_view.specs.Marked.{Entry, first_line, last_line}
-use Rattle.snippet_view.specs.OnLine.{numbers_of, AreEntriesOn}
+use Rattle.snippet_parts.specs.Mark.{is_marking, touches}
+use Rattle.snippet_parts.specs.Marked.{Entry, first_line, last_line}
+use Rattle.snippet_parts.specs.OnLine.{numbers_of, AreEntriesOn}
 use Rattle.snippet_lines.specs.Place.{locations_of, start_location, end_location, location_of}
 use Rattle.snippet_lines.specs.Span.{IsSpan}
 use Rattle.snippet_parts.specs.Stretches.{is_seen}
-use Rattle.snippet_view.proofs.RawDepthLemmas.{same-true, same-refl}
-use Rattle.snippet_view.proofs.EntryFacts.{each-line, entries-on, longs-off, singles-on}
-use Rattle.snippet_view.proofs.KeptPartLemmas.{any-member, keeps-unmarked}
-use Rattle.snippet_view.proofs.MarkLemmas.{start-line, end-line}
-use Rattle.snippet_view.proofs.PartLemmas.{All-order}
-use Rattle.snippet_view.proofs.ShownFacts.{contains-cases, contains-filter, contains-here, contains-there, first-kept, last-kept, span-kept, kept-ascends}
+use Rattle.snippet_parts.proofs.RawDepthLemmas.{same-true, same-refl}
+use Rattle.snippet_parts.proofs.EntryFacts.{each-line, entries-on, longs-off, singles-on}
+use Rattle.snippet_parts.proofs.KeptPartLemmas.{any-member, keeps-unmarked}
+use Rattle.snippet_parts.proofs.MarkLemmas.{start-line, end-line}
+use Rattle.snippet_parts.proofs.PartLemmas.{All-order}
+use Rattle.snippet_parts.proofs.ShownFacts.{contains-cases, contains-filter, contains-here, contains-there, first-kept, last-kept, span-kept, kept-ascends}
 use Rattle.snippet_lines.proofs.PlaceLemmas.{line_of-within}
-use Rattle.snippet_view.proofs.MarginLaws.{start_byte as start-byte}
-use Rattle.snippet_view.proofs.LongStarts.{promoted-start, promoted-end}
+use Rattle.snippet_parts.proofs.StartByte.{start_byte as start-byte}
+use Rattle.snippet_parts.proofs.LongStarts.{promoted-start, promoted-end}
 
 -- ---- elements
 

@@ -7,10 +7,10 @@ use Rattle.snippet_parts.specs.declared.located.LocatedSpan.{LocatedSpan}
 use Rattle.snippet_lines.specs.Lines.{Source}
 use Rattle.snippet_lines.specs.Place.{locations_of}
 use Rattle.snippet_lines.specs.Span.{IsSpan}
-use Rattle.snippet_view.specs.declared.entries.LineAnnotationType.TheVariants.{Singleline}
-use Rattle.snippet_view.specs.Annotated.{PartEntry}
-use Rattle.snippet_view.specs.Mark.{is_marking}
-use Rattle.snippet_view.specs.Marked.{Entry, first_line, last_line, widened}
+use Rattle.snippet_parts.specs.declared.entries.LineAnnotationType.TheVariants.{Singleline}
+use Rattle.snippet_parts.specs.Annotated.{PartEntry}
+use Rattle.snippet_parts.specs.Mark.{is_marking}
+use Rattle.snippet_parts.specs.Marked.{Entry, first_line, last_line, widened}
 use Rattle.snippet_text.specs.Bounds.{IsOffset}
 use Rattle.snippet_style.specs.Bounds.{IsSourceColumn, IsSourceEnd}
 

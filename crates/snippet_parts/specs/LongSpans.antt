@@ -3,7 +3,7 @@ use Rattle.std.specs.Prelude.{◌+◌, ◌<◌, ◌≤◌, length}
 use Rattle.std.specs.Option.{option_copied}
 use Rattle.snippet_parts.specs.declared.long_spans.LongSpan.{LongSpan}
 use Rattle.snippet_lines.specs.Lines.{Source, source_lines}
-use Rattle.snippet_view.specs.Marked.{Entry}
+use Rattle.snippet_parts.specs.Marked.{Entry}
 use Rattle.snippet_style.specs.Bounds.{IsColumn, IsSourceColumn, IsSourceEnd}
 
 -- a span of several lines as it is seen

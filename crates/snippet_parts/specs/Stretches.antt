@@ -2,8 +2,8 @@
 use Rattle.std.specs.Prelude.{ℕ, ◌+◌, ◌&&◌, nat_lt, nat_le, Bool, not, List, take}
 use Rattle.snippet_model.specs.declared.snippet.Annotation.{Annotation}
 use Rattle.snippet_parts.specs.declared.kept.Stretch.{Stretch}
-use Rattle.snippet_view.specs.Measures.{greatest}
-use Rattle.snippet_view.specs.Mark.{is_marking, touches}
+use Rattle.snippet_parts.specs.Least.{greatest}
+use Rattle.snippet_parts.specs.Mark.{is_marking, touches}
 
 -- whether a stretch holds line k
 abbrev pub holds : Stretch → ℕ → Bool

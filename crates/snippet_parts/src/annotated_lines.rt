@@ -2,18 +2,18 @@
 ghost use Rattle.std.specs.Prelude.{◌≡◌, ℕ, ◌+◌, ◌-◌, ◌<◌, ◌≤◌, ◌==◌, take, drop, false, slice_index_or, All, length};
 ghost use Rattle.std.specs.Prelude.{map, filter, IfOk};
 ghost use Rattle.std.specs.List.Sorted.{IsNonDecreasingBy};
-ghost use Rattle.snippet_view.specs.Annotated as spec;
-ghost use Rattle.snippet_view.specs.Annotated.{seen_part, seen_kept};
+ghost use Rattle.snippet_parts.specs.Annotated as spec;
+ghost use Rattle.snippet_parts.specs.Annotated.{seen_part, seen_kept};
 ghost use Rattle.snippet_lines.specs.Lines.{source_lines, text_at};
 ghost use Rattle.snippet_lines.specs.Span.{IsSpan};
 ghost use Rattle.snippet_parts.specs.Located.{IsLocated, annotations_of};
 
-use crate::all_entries::made_entries;
+use crate::entries::{AnnotatedLineInfo, LineAnnotation};
 use crate::kept::{kept_lines, seen};
 use crate::located::{LocatedSpan, located_spans};
+use crate::made_entries::made_entries;
 use crate::source_map::SourceMap;
 use snippet_model::snippet::Annotation;
-use snippet_view::{AnnotatedLineInfo, LineAnnotation};
 use std::alloc::{AllocError, Global};
 
 /// The greatest depth of spans of several lines, and the lines that are kept, each with its entries.

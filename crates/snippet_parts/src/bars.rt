@@ -1,11 +1,11 @@
 //! Beside which lines a span of several lines has bars. Lines count from 0.
 ghost use Rattle.std.specs.Prelude.{◌≡◌, ℕ, ◌+◌, ◌-◌, ◌<◌, ◌≤◌, ◌&&◌, nat_lt, nat_le, min, not, length};
 ghost use Rattle.std.specs.List.{list_any, range_with_len};
-ghost use Rattle.snippet_view.specs.Kept as spec;
+ghost use Rattle.snippet_parts.specs.Kept as spec;
 ghost use Rattle.snippet_lines.specs.Lines.{source_lines};
 
 use crate::source_map::SourceMap;
-use snippet_view::is_trivial;
+use crate::trivial_lines::is_trivial;
 
 /// The last line up to which a span of several lines has bars after its first one, which it is where there are none.
 ///

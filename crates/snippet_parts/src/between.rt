@@ -2,15 +2,16 @@
 ghost use Rattle.std.specs.Prelude.{◌≡◌, Bool, List, ◌++◌, ◌≤◌, All, length, map, IfOk, IfSome, OnOk};
 ghost use Rattle.std.specs.Option.{option_map};
 ghost use Rattle.snippet_model.specs.declared.snippet.Annotation.{Annotation};
-ghost use Rattle.snippet_view.specs.Annotated.{annotated_lines, kept_line, seen_kept};
-ghost use Rattle.snippet_view.specs.Between as spec;
-ghost use Rattle.snippet_view.specs.Kept.{shown_lines};
-ghost use Rattle.snippet_view.specs.ShownLines.{infos_of, kept_of};
+ghost use Rattle.snippet_parts.specs.Annotated.{annotated_lines, kept_line, seen_kept};
+ghost use Rattle.snippet_parts.specs.Between as spec;
+ghost use Rattle.snippet_parts.specs.Kept.{shown_lines};
+ghost use Rattle.snippet_parts.specs.ShownLines.{infos_of, kept_of};
 ghost use Rattle.snippet_lines.specs.Span.{IsSpan};
 ghost use Rattle.snippet_text.specs.Bounds.{TextFits};
 
+use crate::entries::AnnotatedLineInfo;
+use crate::shown_line::ShownLine;
 use crate::source_map::SourceMap;
-use snippet_view::{AnnotatedLineInfo, ShownLine};
 use std::alloc::{AllocError, Global};
 
 /// The lines that are shown: those that are kept, which are given in their order, and each single line between two of

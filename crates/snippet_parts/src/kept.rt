@@ -2,18 +2,18 @@
 ghost use Rattle.std.specs.Prelude.{◌≡◌, ℕ, ◌+◌, ◌<◌, ◌≤◌, ◌||◌, nat_lt, false, not, slice_index_or, All, filter};
 ghost use Rattle.std.specs.Prelude.{length, map, max, IfOk};
 ghost use Rattle.std.specs.List.{list_any, range_with_len};
-ghost use Rattle.snippet_view.specs.Kept as kept;
-ghost use Rattle.snippet_view.specs.Kept.{keeps};
-ghost use Rattle.snippet_view.specs.Mark as spec;
+ghost use Rattle.snippet_parts.specs.Kept as kept;
+ghost use Rattle.snippet_parts.specs.Kept.{keeps};
+ghost use Rattle.snippet_parts.specs.Mark as spec;
 ghost use Rattle.snippet_lines.specs.Lines.{source_lines};
-ghost use Rattle.snippet_view.specs.Marked.{first_line, last_line};
+ghost use Rattle.snippet_parts.specs.Marked.{first_line, last_line};
 ghost use Rattle.snippet_parts.specs.Located.{IsLocated, annotations_of};
 ghost use Rattle.snippet_parts.specs.Stretches.{holds, is_covered, is_seen};
 
 use crate::bars::{bars_end, has_closing_bar};
 use crate::located::LocatedSpan;
+use crate::location::is_marking;
 use crate::source_map::SourceMap;
-use snippet_view::is_marking;
 use std::alloc::{AllocError, Global};
 
 /// Lines from the first to the last, both counted.

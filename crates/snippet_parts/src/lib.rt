@@ -1,26 +1,30 @@
-//! The parts of a snippet: the lines of a source, and the places in it.
+//! What of a source is kept: the lines that spans keep, with the entries for what starts, ends or goes on there.
 #![tactic(auto)]
 
-mod all_entries;
 mod annotated_lines;
 mod bars;
 pub mod between;
+pub mod counted;
+pub mod depths;
+pub mod entries;
 mod kept;
+pub mod least;
 mod located;
+pub mod location;
 mod long_spans;
 mod made_entries;
 pub mod mark;
+pub mod shown_line;
 pub mod source_map;
+mod span_entries;
+pub mod trivial_lines;
 
 pub use between::with_lines_between;
+pub use counted::counted_number;
+pub use entries::{AnnotatedLineInfo, LineAnnotation, LineAnnotationType};
+pub use least::{lesser, lesser_of};
+pub use location::{Location, is_marking, naming_start, primary_place, secondary_place};
 pub use mark::mark_of;
-pub use snippet_lines::{
-    CursorLines, EndLine, Loc, SpanFault, check_span, counts, line_feed_count, lines,
-    newline_count, newline_count_before, place, span,
-};
-pub use snippet_view::{
-    AnnotatedLineInfo, LineAnnotation, LineAnnotationType, LineWindow, Location, Margin, NearPart,
-    ShownLine, counted_number, is_marking, leading_whitespace, margin_for, naming_start, near_part,
-    primary_place, secondary_place, window_of,
-};
+pub use shown_line::ShownLine;
 pub use source_map::{LineInfo, SourceMap};
+pub use trivial_lines::is_trivial;

@@ -2,17 +2,17 @@
 
 ghost use Rattle.std.specs.Prelude.{◌≡◌, ◌==◌, ◌-◌, ◌≤◌, true, All, map, filter, take, drop, length, IfOk};
 ghost use Rattle.std.specs.List.Sorted.{IsNonDecreasingBy};
-ghost use Rattle.snippet_view.specs.Annotated as spec;
+ghost use Rattle.snippet_parts.specs.Annotated as spec;
 ghost use Rattle.snippet_parts.specs.LongSpans.{seen_long, HasFit};
 ghost use Rattle.snippet_parts.specs.Located.{IsLocated, is_long_span, span_entry};
 ghost use Rattle.snippet_lines.specs.Lines.{Source};
 ghost use Rattle.snippet_lines.specs.Order.{ordered_by};
 
+use crate::depths::LongExtent;
 use crate::located::LocatedSpan;
+use crate::location::is_marking;
 use snippet_lines::place::Loc;
 use snippet_model::snippet::AnnotationKind;
-use snippet_view::depths::LongExtent;
-use snippet_view::is_marking;
 use std::alloc::{AllocError, Global};
 
 /// A span of several lines.

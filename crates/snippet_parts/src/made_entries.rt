@@ -1,164 +1,117 @@
-//! The entries of annotations, in the order in which they are made.
-ghost use Rattle.std.specs.Prelude.{◌≡◌, ◌+◌, ◌-◌, ◌++◌, All, map, filter, IfOk, OnOk};
-ghost use Rattle.snippet_view.specs.Annotated as spec;
-ghost use Rattle.snippet_view.specs.Annotated.{seen_part};
+//! All entries of annotations, and the greatest depth of those that stand on several lines.
+ghost use Rattle.std.specs.Prelude.{◌≡◌, ◌+◌, ◌<◌, ◌&&◌, ◌||◌, ◌++◌, [], All, map, IfOk, OnOk};
+ghost use Rattle.std.specs.List.{list_any};
+ghost use Rattle.std.specs.List.Sorted.{IsNonDecreasingBy};
+ghost use Rattle.snippet_model.specs.AnnotationKind as kinds;
+ghost use Rattle.snippet_parts.specs.Annotated as spec;
+ghost use Rattle.snippet_parts.specs.Annotated.{seen_part};
+ghost use Rattle.snippet_parts.specs.Depths.{depth_among, same_place};
 ghost use Rattle.snippet_parts.specs.LongSpans.{seen_long, HasFit};
-ghost use Rattle.snippet_parts.specs.Located.{is_short_span, short_part};
-ghost use Rattle.snippet_style.specs.Bounds.{IsColumn, IsSourceColumn};
+ghost use Rattle.snippet_parts.specs.Located.{IsLocated, annotations_of};
 
-use crate::bars::{bars_end, has_closing_bar};
+use crate::depths::depths;
+use crate::entries::LineAnnotation;
 use crate::located::LocatedSpan;
-use crate::long_spans::LongSpan;
+use crate::long_spans::{LongSpan, long_spans, places, starting_on};
 use crate::source_map::SourceMap;
-use snippet_lines::place::Loc;
-use snippet_view::{LineAnnotation, LineAnnotationType, is_marking};
+use crate::span_entries::{push_span_entries, single_entries};
+use snippet_model::snippet::AnnotationKind;
 use std::alloc::{AllocError, Global};
 
-/// The entries of the spans that are marked on one line, as given.
-pub(crate) fn single_entries<'a>(
+/// The greatest depth of spans of several lines, and the entries of all spans: those of spans on one line as given, then
+/// those of each span of several lines.
+///
+/// The one error is that memory ran out.
+pub(crate) fn made_entries<'a>(
     alloc: Global,
+    source: &SourceMap<'a>,
     located: &[LocatedSpan<'a>],
-) -> Result<Vec<LineAnnotation<'a>>, AllocError>
-    requires display { All (λ l. IsSourceColumn l.start.display) located.now }
-    ensures value { IfOk result (λ entries. map seen_part entries.items ≡ map short_part (filter is_short_span located.now)) }
+) -> Result<(usize, Vec<LineAnnotation<'a>>), AllocError>
+    requires located { All (IsLocated source.now) located.now }
+    ensures deepest { IfOk result (λ made. made.0 ≡ spec.deepest source.now (annotations_of located.now)) }
+    ensures value { IfOk result (λ made. map seen_part made.1.items ≡ spec.made_parts source.now (annotations_of located.now)) }
 {
-    let mut entries = Vec::with_capacity(alloc, located.len())?;
-    for span in located {
-        if is_short(span) {
-            entries.push(entry(span))?;
+    let mut entries = single_entries(alloc, located)?;
+    let spans = long_spans(alloc, located)?;
+    let places = places(alloc, &spans)?;
+    let (greatest, depths) = depths(alloc, &places)?;
+    push_long_entries(&mut entries, source, &spans, &depths)?;
+    Ok((greatest, entries))
+}
+
+/// Adds the entries of spans of several lines, which have these depths.
+fn push_long_entries<'a>(
+    entries: &mut Vec<LineAnnotation<'a>>,
+    source: &SourceMap<'a>,
+    spans: &[LongSpan<'a>],
+    depths: &[usize],
+) -> Result<(), AllocError>
+    requires fit { All (HasFit source.now) spans.now }
+    requires ordered { IsNonDecreasingBy (λ l. l.start.line) spans.now }
+    requires depths { depths.now ≡ map (λ span. depth_among (map spec.long_place (map seen_long spans.now)) (spec.long_place (seen_long span))) spans.now }
+    ensures value { OnOk result (map seen_part entries.new.items ≡ map seen_part entries.old.items
+        ++ spec.long_parts source.now (map spec.long_place (map seen_long spans.now)) [] (map seen_long spans.now)) }
+{
+    for i in 0..spans.len() {
+        let again = stands_among(spans[i], &spans[i + 1..]);
+        let span = promoted(&spans[..i], spans[i]);
+        push_span_entries(entries, source, span, depths[i], again)?;
+    }
+    Ok(())
+}
+
+/// Whether a span has the place of one of some others, which are ordered by their first lines.
+fn stands_among(span: LongSpan<'_>, others: &[LongSpan<'_>]) -> bool
+    requires ordered { IsNonDecreasingBy (λ l. l.start.line) others.now }
+    ensures value { result ≡ list_any (λ other. same_place (spec.long_place (seen_long span.entry)) (spec.long_place (seen_long other))) others.now }
+{
+    // The others start on another line.
+    is_place_of_any(span, starting_on(others, span.start.line))
+}
+
+/// Whether a span has the place of one of some others.
+fn is_place_of_any(span: LongSpan<'_>, others: &[LongSpan<'_>]) -> bool
+    ensures value { result ≡ list_any (λ other. same_place (spec.long_place (seen_long span.entry)) (spec.long_place (seen_long other))) others.now }
+{
+    for other in others {
+        if span.place() == other.place() {
+            return true;
         }
     }
-    Ok(entries)
+    false
 }
 
-/// The entry of a span that stands on one line: at least one column wide.
-fn entry<'a>(span: &LocatedSpan<'a>) -> LineAnnotation<'a>
-    requires display { IsSourceColumn span.now.start.display }
-    ensures value { seen_part result ≡ short_part span.now }
+/// A span as it is drawn: primary where it is, or one before it that has its place.
+fn promoted<'a>(before: &[LongSpan<'a>], span: LongSpan<'a>) -> LongSpan<'a>
+    requires ordered { IsNonDecreasingBy (λ l. l.start.line) before.now }
+    ensures value { seen_long result ≡ spec.promoted (map seen_long before.now) (seen_long span.entry) }
+    ensures start { result.start ≡ span.entry.start }
+    ensures end { result.end ≡ span.entry.end }
 {
-    let mut end = span.end;
-    end.display = end.display.max(span.start.display + 1);
-    LineAnnotation {
-        start: span.start,
-        end,
-        kind: span.annotation.kind,
-        label: span.annotation.label.as_ref().map(|label| label.as_str()),
-        annotation_type: LineAnnotationType::Singleline,
-        highlight_source: span.annotation.highlight_source,
+    let mut promoted = span;
+    if is_primary(before, span) {
+        promoted.kind = AnnotationKind::Primary;
     }
+    promoted
 }
 
-/// Whether a span stands on one line, and is of a kind that is marked.
-fn is_short(span: &LocatedSpan<'_>) -> bool
-    ensures value { result ≡ is_short_span span.now }
+/// Whether a span is primary, or one of those before it that has its place, which are ordered by their first lines.
+fn is_primary(before: &[LongSpan<'_>], span: LongSpan<'_>) -> bool
+    requires ordered { IsNonDecreasingBy (λ l. l.start.line) before.now }
+    ensures value { result ≡ (kinds.is_primary span.entry.kind || list_any (λ other. kinds.is_primary other.kind && same_place (spec.long_place (seen_long span.entry)) (spec.long_place (seen_long other))) before.now) }
 {
-    is_marking(span.annotation.kind) && span.last == span.first
+    span.kind == AnnotationKind::Primary
+        || is_place_of_primary(span, starting_on(before, span.start.line))
 }
 
-/// Adds the entries of a span of several lines: where it stands again, the one at its end alone.
-pub(crate) fn push_span_entries<'a>(
-    entries: &mut Vec<LineAnnotation<'a>>,
-    source: &SourceMap<'a>,
-    span: LongSpan<'a>,
-    depth: usize,
-    again: bool,
-) -> Result<(), AllocError>
-    requires fit { HasFit source.now span }
-    ensures value { OnOk result (map seen_part entries.new.items
-        ≡ map seen_part entries.old.items ++ spec.span_parts source.now depth again (seen_long span.entry)) }
+/// Whether a span has the place of a primary one of some others.
+fn is_place_of_primary(span: LongSpan<'_>, others: &[LongSpan<'_>]) -> bool
+    ensures value { result ≡ list_any (λ other. kinds.is_primary other.kind && same_place (spec.long_place (seen_long span.entry)) (spec.long_place (seen_long other))) others.now }
 {
-    if again {
-        entries.push(end_entry(span, LineAnnotationType::Singleline))?;
-    } else {
-        entries.push(start_entry(span, depth))?;
-        push_bars(entries, source, span, depth)?;
-        entries.push(end_entry(span, LineAnnotationType::MultilineEnd(depth)))?;
+    for other in others {
+        if other.kind == AnnotationKind::Primary && span.place() == other.place() {
+            return true;
+        }
     }
-    Ok(())
-}
-
-/// Adds the bars of a span of several lines.
-fn push_bars<'a>(
-    entries: &mut Vec<LineAnnotation<'a>>,
-    source: &SourceMap<'a>,
-    span: LongSpan<'a>,
-    depth: usize,
-) -> Result<(), AllocError>
-    requires fit { HasFit source.now span }
-    ensures value { OnOk result (map seen_part entries.new.items ≡ map seen_part entries.old.items
-        ++ map (λ k. spec.bar_part (seen_long span.entry) depth (source.now.first + k))
-        (spec.bar_lines source.now.text (span.entry.start.line - source.now.first) (span.entry.end.line - source.now.first))) }
-{
-    let first = span.start.line - source.line_start();
-    let last = span.end.line - source.line_start();
-    let end = bars_end(source, first, last);
-    for line in first + 1..end + 1 {
-        entries.push(bar_entry(span, source.line_start() + line, depth))?;
-    }
-    if has_closing_bar(source, first, last) {
-        entries.push(bar_entry(span, source.line_start() + (last - 1), depth))?;
-    }
-    Ok(())
-}
-
-/// The entry on the first line of a span.
-fn start_entry(span: LongSpan<'_>, depth: usize) -> LineAnnotation<'_>
-    requires display { IsSourceColumn span.start.display }
-    requires char { IsColumn span.start.char }
-    ensures value { seen_part result ≡ spec.start_part (seen_long span.entry) depth }
-{
-    let end = Loc {
-        line: span.start.line,
-        char: span.start.char + 1,
-        display: span.start.display + 1,
-        byte: span.start.byte,
-    };
-    LineAnnotation {
-        start: span.start,
-        end,
-        kind: span.kind,
-        label: None,
-        annotation_type: LineAnnotationType::MultilineStart(depth),
-        highlight_source: span.highlight_source,
-    }
-}
-
-/// The entry of a bar beside the line of a number.
-fn bar_entry(span: LongSpan<'_>, number: usize, depth: usize) -> LineAnnotation<'_>
-    ensures value { seen_part result ≡ spec.bar_part (seen_long span.entry) depth number }
-{
-    let at = Loc {
-        line: number,
-        char: 0,
-        display: 0,
-        byte: 0,
-    };
-    LineAnnotation {
-        start: at,
-        end: at,
-        kind: span.kind,
-        label: None,
-        annotation_type: LineAnnotationType::MultilineLine(depth),
-        highlight_source: span.highlight_source,
-    }
-}
-
-/// The entry on the last line of a span: the one column before its end, if there is one.
-fn end_entry(span: LongSpan<'_>, annotation_type: LineAnnotationType) -> LineAnnotation<'_>
-    ensures value { seen_part result ≡ spec.end_part (seen_long span.entry) annotation_type }
-{
-    let start = Loc {
-        line: span.end.line,
-        char: span.end.char.saturating_sub(1),
-        display: span.end.display.saturating_sub(1),
-        byte: span.end.byte,
-    };
-    LineAnnotation {
-        start,
-        end: span.end,
-        kind: span.kind,
-        label: span.label,
-        annotation_type,
-        highlight_source: span.highlight_source,
-    }
+    false
 }

@@ -2,13 +2,13 @@
 ghost use Rattle.std.specs.Prelude.{◌≡◌, ℕ, ◌+◌, ◌<◌, ◌≤◌, true, false, All, IfSome};
 ghost use Rattle.std.specs.Option.{IfNone};
 ghost use Rattle.snippet_model.specs.declared.snippet.AnnotationKind.TheVariants.{Primary, Context};
-ghost use Rattle.snippet_view.specs.Mark.{start_column, end_column, span_width, is_marking, is_marked_on, IsMarkedAt};
-ghost use Rattle.snippet_view.specs.Mark.{IsMarkOf};
+ghost use Rattle.snippet_parts.specs.Mark.{start_column, end_column, span_width, is_marking, is_marked_on, IsMarkedAt};
+ghost use Rattle.snippet_parts.specs.Mark.{IsMarkOf};
 ghost use Rattle.snippet_lines.specs.Span.{IsSpan};
 
+use crate::location::is_marking;
 use crate::source_map::SourceMap;
 use snippet_model::snippet::{Annotation, AnnotationKind};
-use snippet_view::is_marking;
 use std::cmp::Ordering;
 use std::ops::Range;
 

@@ -12,23 +12,23 @@ use Rattle.snippet_style.specs.Glyphs.{strokes_of}
 use Rattle.snippet_style.specs.declared.glyphs.DecorStyle.{DecorStyle}
 use Rattle.snippet_style.specs.declared.role.ElementStyle.{ElementStyle}
 use Rattle.snippet_text.specs.Normalized.{is_listed}
-use Rattle.snippet_view.specs.Measures.{is_single_part}
-use Rattle.snippet_view.specs.declared.entries.LineAnnotationType.{LineAnnotationType}
-use Rattle.snippet_view.specs.declared.entries.LineAnnotationType.TheVariants.{Singleline, MultilineStart, MultilineEnd, MultilineLine}
+use Rattle.snippet_parts.specs.Entries.{is_single_part}
+use Rattle.snippet_parts.specs.declared.entries.LineAnnotationType.{LineAnnotationType}
+use Rattle.snippet_parts.specs.declared.entries.LineAnnotationType.TheVariants.{Singleline, MultilineStart, MultilineEnd, MultilineLine}
 use Rattle.snippet_grid.specs.Layout.{Layout}
-use Rattle.snippet_marks.specs.declared.positions.PlacedEntry.{PlacedEntry}
+use Rattle.snippet_labels.specs.declared.positions.PlacedEntry.{PlacedEntry}
 use Rattle.snippet_strokes.specs.EntryMarks.{HasBarCell, HasBarCellAt, IsBarCell, is_single}
 use Rattle.snippet_strokes.specs.Drawing.{DrawsBarCells, DrawsFrom, HasRows, KeepsBarCells}
 use Rattle.snippet_strokes.specs.Strokes.{bar_of, bottom_of, connector_by, connector_of, connectors_of, corner_by, corner_of, corners_of, line_to, top_of}
 use Rattle.snippet_strokes.specs.Strokes.{column_of}
-use Rattle.snippet_marks.specs.Painting.{stroke_role}
+use Rattle.snippet_strokes.specs.Painting.{stroke_role}
 use Rattle.snippet_strokes.specs.Reach.{IsWithin}
-use Rattle.snippet_marks.specs.Writes.{Write, glyph_at, painted, stretch_of, written_by}
+use Rattle.snippet_strokes.specs.Writes.{Write, glyph_at, painted, stretch_of, written_by}
 use Rattle.snippet_strokes.proofs.DrawLemmas.{DrawsBarCells-more, DrawsBarCells-none, DrawsBarCells-writes, free_bar, bar_bottom, bar_horizontal, bar_top}
 use Rattle.snippet_strokes.proofs.DrawLemmas.{bar_vertical}
 use Rattle.snippet_strokes.proofs.WriteLaws.{All-flat_map, DrawsFrom-painted, flat_map-none, painted-cell}
 use Rattle.snippet_strokes.proofs.StrokeWrites.{column_of-none, column_painted}
-use Rattle.snippet_marks.proofs.WriteLemmas.{painted-append}
+use Rattle.snippet_strokes.proofs.WriteLemmas.{painted-append}
 
 -- each character of a write is a part of a bar
 abbrev pub IsBarCellWrite : DecorStyle → Write → Type 0

@@ -11,26 +11,26 @@ use Rattle.std.proofs.Math.Seq.{drop-append_seam}
 use Rattle.std.proofs.lemmas.List.Elements.{All-get_or}
 use Rattle.std.proofs.lemmas.List.Sorted.{Contains-permutation, IsPermutation-map, IsPermutation-trans, sum_by-IsPermutation}
 use Rattle.std.proofs.lemmas.List.Sums.{AllPass-from_list_all}
-use Rattle.snippet_view.specs.declared.entries.LineAnnotation.{LineAnnotation}
-use Rattle.snippet_view.specs.Measures.{is_wide_entry}
+use Rattle.snippet_parts.specs.declared.entries.LineAnnotation.{LineAnnotation}
+use Rattle.snippet_parts.specs.Entries.{is_wide_entry}
 use Rattle.snippet_style.specs.Glyphs.{placeholder_of}
 use Rattle.snippet_style.specs.declared.glyphs.DecorStyle.{DecorStyle}
 use Rattle.snippet_grid.specs.Grid.{row_at}
 use Rattle.snippet_style.specs.Cell.{Cell, SPACE, written}
 use Rattle.snippet_style.proofs.CellLemmas.{take-written_past, drop-written}
 use Rattle.snippet_grid.specs.Layout.{Layout}
-use Rattle.snippet_marks.specs.declared.positions.PlacedEntry.{PlacedEntry}
+use Rattle.snippet_labels.specs.declared.positions.PlacedEntry.{PlacedEntry}
 use Rattle.snippet_strokes.specs.EntryMarks.{IsBarCell, are_plain, has_column, is_single, wide_entries}
 use Rattle.snippet_model.specs.Rows.{IsFreeCell, IsFree}
 use Rattle.snippet_strokes.specs.Drawing.{HasRows, row_count}
-use Rattle.snippet_marks.specs.SourceRows.{bare_row}
+use Rattle.snippet_strokes.specs.SourceRows.{bare_row}
 use Rattle.snippet_strokes.specs.Rows.{IsCut, IsStrokeRow}
 use Rattle.snippet_style.specs.Separators.{separator_row}
 use Rattle.snippet_strokes.proofs.PlainMarks.{IsPlainEntry}
 use Rattle.snippet_strokes.proofs.PositionLemmas.{HasRows-row_count, row_count_some}
-use Rattle.snippet_marks.specs.Painting.{painting_order}
-use Rattle.snippet_marks.specs.Positions.{ArePlaced}
-use Rattle.snippet_marks.proofs.OrderLemmas.{IsPermutation-painting_order}
+use Rattle.snippet_strokes.specs.Painting.{painting_order}
+use Rattle.snippet_labels.specs.Positions.{ArePlaced}
+use Rattle.snippet_strokes.proofs.PaintOrder.{IsPermutation-painting_order}
 
 -- rows that stand below those that are kept
 pub kept_above : (old new : List (List Cell)) → length old ≤ length new → ((r : ℕ) → r < length old → row_at new r ≡ row_at old r)

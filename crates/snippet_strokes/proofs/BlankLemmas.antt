@@ -7,13 +7,13 @@ use Rattle.std.specs.Ordering.{nat_cmp, ord_max}
 use Rattle.std.proofs.lemmas.Bool.Decides.{nat_tests}
 use Rattle.std.proofs.lemmas.Bool.{false≢true}
 use Rattle.std.proofs.lemmas.List.{at_drop_all, at_drop_more}
-use Rattle.snippet_view.specs.declared.entries.LineAnnotation.{LineAnnotation}
-use Rattle.snippet_view.specs.declared.entries.LineAnnotationType.{LineAnnotationType}
-use Rattle.snippet_view.specs.declared.entries.LineAnnotationType.TheVariants.{MultilineStart, MultilineLine}
-use Rattle.snippet_view.specs.Measures.{is_bar}
+use Rattle.snippet_parts.specs.declared.entries.LineAnnotation.{LineAnnotation}
+use Rattle.snippet_parts.specs.declared.entries.LineAnnotationType.{LineAnnotationType}
+use Rattle.snippet_parts.specs.declared.entries.LineAnnotationType.TheVariants.{MultilineStart, MultilineLine}
+use Rattle.snippet_parts.specs.Entries.{is_bar}
 use Rattle.snippet_text.specs.Normalized.{norm, shown}
 use Rattle.snippet_strokes.specs.Bars.{is_beside}
-use Rattle.snippet_marks.specs.Positions.{is_start_part}
+use Rattle.snippet_labels.specs.Positions.{is_start_part}
 
 -- whether a text begins with so much whitespace
 abbrev begins_blank : List ℕ → ℕ → Bool

@@ -15,21 +15,21 @@ use Rattle.snippet_style.specs.Glyphs.{strokes_of, underline_role}
 use Rattle.snippet_style.specs.declared.role.ElementStyle.{ElementStyle}
 use Rattle.snippet_grid.specs.Grid.{cell_at, row_at}
 use Rattle.snippet_model.specs.AnnotationKind.{is_primary}
-use Rattle.snippet_view.specs.declared.entries.LineAnnotation.{LineAnnotation}
-use Rattle.snippet_view.specs.declared.entries.LineAnnotationType.{LineAnnotationType}
-use Rattle.snippet_view.specs.declared.entries.LineAnnotationType.TheVariants.{Singleline, MultilineStart, MultilineEnd, MultilineLine}
-use Rattle.snippet_view.specs.Measures.{is_bar}
-use Rattle.snippet_view.proofs.AmongLemmas.{Among, all_among, all_pass, among_filter_map, any_among}
-use Rattle.snippet_view.proofs.PartLemmas.{list_any-map}
-use Rattle.snippet_view.proofs.ShownFacts.{contains-here, contains-there}
+use Rattle.snippet_parts.specs.declared.entries.LineAnnotation.{LineAnnotation}
+use Rattle.snippet_parts.specs.declared.entries.LineAnnotationType.{LineAnnotationType}
+use Rattle.snippet_parts.specs.declared.entries.LineAnnotationType.TheVariants.{Singleline, MultilineStart, MultilineEnd, MultilineLine}
+use Rattle.snippet_parts.specs.Entries.{is_bar}
+use Rattle.snippet_parts.proofs.AmongLemmas.{Among, all_among, all_pass, among_filter_map, any_among}
+use Rattle.snippet_parts.proofs.PartLemmas.{list_any-map}
+use Rattle.snippet_parts.proofs.ShownFacts.{contains-here, contains-there}
 use Rattle.snippet_grid.specs.Layout.{Layout}
-use Rattle.snippet_marks.specs.declared.positions.PlacedEntry.{PlacedEntry}
-use Rattle.snippet_marks.specs.Entries.{shifted}
-use Rattle.snippet_marks.specs.Positions.{is_start_part}
-use Rattle.snippet_marks.specs.Painting.{first_glyph, mark_end, mark_of, marks_of, painting_order, stroke_role}
-use Rattle.snippet_marks.specs.Writes.{Write, glyph_at, painted, stretch_of, written_by}
-use Rattle.snippet_marks.proofs.PlacedLemmas.{entries_all}
-use Rattle.snippet_marks.proofs.WriteLemmas.{painted-append}
+use Rattle.snippet_labels.specs.declared.positions.PlacedEntry.{PlacedEntry}
+use Rattle.snippet_labels.specs.Entries.{shifted}
+use Rattle.snippet_labels.specs.Positions.{is_start_part}
+use Rattle.snippet_strokes.specs.Painting.{first_glyph, mark_end, mark_of, marks_of, painting_order, stroke_role}
+use Rattle.snippet_strokes.specs.Writes.{Write, glyph_at, painted, stretch_of, written_by}
+use Rattle.snippet_labels.proofs.PlacedLemmas.{entries_all}
+use Rattle.snippet_strokes.proofs.WriteLemmas.{painted-append}
 use Rattle.snippet_strokes.specs.declared.bars.BarStroke.{BarStroke}
 use Rattle.snippet_strokes.specs.declared.bars.BarStroke.TheVariants.{Dotted, Solid, Top}
 use Rattle.snippet_strokes.specs.Bars.{Bar, HasOwnDepth, bar_at, bar_of, bar_part, bars_apart, ends_of_bars, has_depth, is_beside, is_whole_line, with_bar}

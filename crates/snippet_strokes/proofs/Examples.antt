@@ -11,13 +11,13 @@ use Rattle.snippet_style.specs.Cell.{text_cells}
 use Rattle.snippet_style.specs.Glyphs.{char_of}
 use Rattle.snippet_style.specs.declared.glyphs.DecorStyle.TheVariants.{Ascii, Unicode}
 use Rattle.snippet_style.specs.declared.role.ElementStyle.TheVariants.{LineNumber, Quotation}
-use Rattle.snippet_view.specs.declared.entries.LineAnnotation.{LineAnnotation}
-use Rattle.snippet_view.specs.declared.entries.LineAnnotationType.TheVariants.{Singleline}
-use Rattle.snippet_marks.specs.declared.positions.PlacedEntry.{PlacedEntry}
+use Rattle.snippet_parts.specs.declared.entries.LineAnnotation.{LineAnnotation}
+use Rattle.snippet_parts.specs.declared.entries.LineAnnotationType.TheVariants.{Singleline}
+use Rattle.snippet_labels.specs.declared.positions.PlacedEntry.{PlacedEntry}
 use Rattle.snippet_strokes.specs.Cuts.{cut_row, end_columns, overlapped_by}
 use Rattle.snippet_strokes.specs.Labels.{stroke_glyphs}
-use Rattle.snippet_marks.specs.Painting.{painting_order}
-use Rattle.snippet_marks.specs.Positions.{is_placed_before}
+use Rattle.snippet_strokes.specs.Painting.{painting_order}
+use Rattle.snippet_labels.specs.Positions.{is_placed_before}
 
 -- an entry of these columns, each of one character
 abbrev entry : AnnotationKind → ℕ → ℕ → LineAnnotation

@@ -5,14 +5,14 @@ use Rattle.std.specs.List.{flat_map, list_any, position, position_or_len, zip}
 use Rattle.std.proofs.lemmas.List.{length-map}
 use Rattle.std.specs.List.{drop-map, take-map}
 use Rattle.std.proofs.lemmas.List.Folds.{flat_map-map, fold-map}
-use Rattle.snippet_view.proofs.PartLemmas.{list_any-map}
+use Rattle.snippet_parts.proofs.PartLemmas.{list_any-map}
 use Rattle.snippet_grid.specs.Layout.{Layout}
-use Rattle.snippet_marks.specs.declared.positions.PlacedEntry.{PlacedEntry}
-use Rattle.snippet_marks.specs.Writes.{Write}
-use Rattle.snippet_marks.specs.Painting.{marks_of}
-use Rattle.snippet_marks.specs.Positions.{are_starts, crosses, do_overlap, has_label, label_place, position_after, position_at}
-use Rattle.snippet_marks.specs.Entries.{label_role}
-use Rattle.snippet_marks.proofs.HeldLemmas.{are_starts-held, held, label_text-plain, marks_of-held, position_after-held, position_at-held}
+use Rattle.snippet_labels.specs.declared.positions.PlacedEntry.{PlacedEntry}
+use Rattle.snippet_strokes.specs.Writes.{Write}
+use Rattle.snippet_strokes.specs.Painting.{marks_of}
+use Rattle.snippet_labels.specs.Positions.{are_starts, crosses, do_overlap, has_label, label_place, position_after, position_at}
+use Rattle.snippet_labels.specs.Entries.{label_role}
+use Rattle.snippet_strokes.proofs.HeldLemmas.{are_starts-held, held, label_text-plain, marks_of-held, position_after-held, position_at-held}
 use Rattle.snippet_strokes.specs.Cuts.{cut_of, cuts_of, is_met, is_overlapped, look_ends, looked_after, meets, overlapped, overlapped_by, up_to}
 use Rattle.snippet_strokes.specs.Drawing.{lowest_position, row_count}
 use Rattle.snippet_strokes.specs.Strokes.{connector_of, connectors_of, corner_of, corners_of, is_stem_covered, label_of, labels_of, stem_of, stems_of}

@@ -3,22 +3,22 @@ use Rattle.std.proofs.Common.{◌≡◌, ℕ, ◌+◌, ◌<◌, ◌≤◌, ◌==
 use Rattle.std.proofs.Common.{◌∙◌, subst, arith, inl, inr, All}
 use Rattle.std.specs.List.{flat_map}
 use Rattle.std.specs.Cow.{cow_str_bytes}
-use Rattle.snippet_view.specs.declared.entries.LineAnnotation.{LineAnnotation}
+use Rattle.snippet_parts.specs.declared.entries.LineAnnotation.{LineAnnotation}
 use Rattle.snippet_grid.specs.Layout.{Layout}
-use Rattle.snippet_marks.specs.declared.positions.PlacedEntry.{PlacedEntry}
-use Rattle.snippet_marks.specs.Entries.{HasPlace, label_text, label_role}
-use Rattle.snippet_marks.specs.Positions.{HasItsLabel, has_label, do_overlap, ends_no_later, blocks, reaches, crowds, label_place, ArePlaced}
+use Rattle.snippet_labels.specs.declared.positions.PlacedEntry.{PlacedEntry}
+use Rattle.snippet_labels.specs.Entries.{HasPlace, label_text, label_role}
+use Rattle.snippet_labels.specs.Positions.{HasItsLabel, has_label, do_overlap, ends_no_later, blocks, reaches, crowds, label_place, ArePlaced}
 use Rattle.snippet_strokes.specs.Reach.{Reaches}
 use Rattle.snippet_strokes.specs.Strokes.{label_write, label_of, labels_of}
 use Rattle.std.proofs.lemmas.List.{drop_more, take-append-drop, length-drop, get_or-drop}
 use Rattle.std.proofs.lemmas.List.Concat.{flat_map-append}
 use Rattle.snippet_style.specs.Cell.{Cell, unlinked_cell}
 use Rattle.snippet_grid.specs.Grid.{cell_at}
-use Rattle.snippet_marks.specs.Writes.{Write, painted}
-use Rattle.snippet_marks.specs.Painting.{StandsWhole}
+use Rattle.snippet_strokes.specs.Writes.{Write, painted}
+use Rattle.snippet_strokes.specs.Painting.{StandsWhole}
 use Rattle.snippet_strokes.proofs.LabelWrites.{All-label_of}
 use Rattle.snippet_strokes.proofs.WriteLaws.{All-flat_map, painted-last}
-use Rattle.snippet_marks.proofs.LabelKept.{apart, label_chars_le, label_parts, labelled_positions, position_of, stands_left, uncrowded}
+use Rattle.snippet_strokes.proofs.LabelKept.{apart, label_chars_le, label_parts, labelled_positions, position_of, stands_left, uncrowded}
 
 pub uncrowded_apart : (p : ℕ) (e f : PlacedEntry) → crowds p e f ≡ false → has_label e ≡ true → has_label f ≡ true
     → f.entry.start.display ≤ e.entry.start.display → f.entry.end.display + (length (cow_str_bytes f.label) + 2) ≤ e.entry.start.display

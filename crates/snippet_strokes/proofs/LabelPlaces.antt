@@ -13,20 +13,20 @@ use Rattle.std.proofs.lemmas.List.Sorted.{sum_by-IsPermutation}
 use Rattle.std.proofs.lemmas.List.Sums.{sum_by-cons}
 use Rattle.snippet_grid.specs.Grid.{cell_at}
 use Rattle.snippet_style.specs.Cell.{Cell, SPACE}
-use Rattle.snippet_view.specs.declared.entries.LineAnnotation.{LineAnnotation}
+use Rattle.snippet_parts.specs.declared.entries.LineAnnotation.{LineAnnotation}
 use Rattle.snippet_grid.specs.Layout.{Layout}
-use Rattle.snippet_marks.specs.declared.positions.PlacedEntry.{PlacedEntry}
-use Rattle.snippet_marks.specs.Entries.{HasPlace, label_text}
+use Rattle.snippet_labels.specs.declared.positions.PlacedEntry.{PlacedEntry}
+use Rattle.snippet_labels.specs.Entries.{HasPlace, label_text}
 use Rattle.snippet_strokes.specs.Labels.{IsLedTo, IsStemCell, IsStrokeCell, LabelsStand, PlacedLabel, StandsIn, is_cell_of}
-use Rattle.snippet_marks.specs.Painting.{StandsWhole}
-use Rattle.snippet_marks.specs.Positions.{ArePlaced, HasItsLabel, has_label, label_place}
+use Rattle.snippet_strokes.specs.Painting.{StandsWhole}
+use Rattle.snippet_labels.specs.Positions.{ArePlaced, HasItsLabel, has_label, label_place}
 use Rattle.snippet_strokes.specs.Strokes.{label_write}
 use Rattle.snippet_strokes.specs.Reach.{Reaches}
 use Rattle.snippet_strokes.proofs.StrokeCells.{BesideLabels}
 use Rattle.snippet_strokes.proofs.StemCells.{IsHung}
-use Rattle.snippet_marks.proofs.LabelKept.{label_parts}
+use Rattle.snippet_strokes.proofs.LabelKept.{label_parts}
 use Rattle.snippet_strokes.proofs.LabelLaw.{placed_apart}
-use Rattle.snippet_view.proofs.EntryFacts.{count-map}
+use Rattle.snippet_parts.proofs.EntryFacts.{count-map}
 
 -- ---- what a rule gives for things in another order
 

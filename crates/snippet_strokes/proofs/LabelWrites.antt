@@ -7,12 +7,12 @@ use Rattle.snippet_model.specs.declared.snippet.AnnotationKind.TheVariants.{Prim
 use Rattle.snippet_style.specs.Cell.{Cell, text_cells, unlinked_cell}
 use Rattle.snippet_grid.specs.Grid.{cells_written}
 use Rattle.snippet_grid.specs.Layout.{Layout}
-use Rattle.snippet_marks.specs.declared.positions.PlacedEntry.{PlacedEntry}
-use Rattle.snippet_marks.specs.Entries.{HasPlace, label_role, label_text}
+use Rattle.snippet_labels.specs.declared.positions.PlacedEntry.{PlacedEntry}
+use Rattle.snippet_labels.specs.Entries.{HasPlace, label_role, label_text}
 use Rattle.snippet_strokes.specs.EntryMarks.{has_mark_role}
 use Rattle.snippet_strokes.specs.Drawing.{DrawsFrom, HasRows, MarksStarts, StandsFrom}
-use Rattle.snippet_marks.specs.Positions.{has_label}
-use Rattle.snippet_marks.specs.Writes.{Write, painted}
+use Rattle.snippet_labels.specs.Positions.{has_label}
+use Rattle.snippet_strokes.specs.Writes.{Write, painted}
 use Rattle.snippet_strokes.specs.Reach.{Reaches, IsWithin, cell_of_write}
 use Rattle.snippet_strokes.specs.Strokes.{label_write, label_of, labels_of}
 use Rattle.snippet_strokes.proofs.PositionLemmas.{label_beside, label_column, label_stands}

@@ -8,11 +8,11 @@ use Rattle.snippet_style.specs.Cell.{Cell, text_cells, written}
 use Rattle.snippet_style.specs.declared.glyphs.DecorStyle.TheVariants.{Ascii}
 use Rattle.snippet_style.specs.declared.role.ElementStyle.TheVariants.{LabelPrimary, LabelSecondary, LineNumber, NoStyle, Quotation, UnderlinePrimary}
 use Rattle.snippet_style.specs.declared.role.ElementStyle.TheVariants.{UnderlineSecondary}
-use Rattle.snippet_view.specs.declared.entries.LineAnnotation.{LineAnnotation}
-use Rattle.snippet_view.specs.declared.entries.LineAnnotationType.{LineAnnotationType}
-use Rattle.snippet_view.specs.declared.entries.LineAnnotationType.TheVariants.{Singleline, MultilineStart}
+use Rattle.snippet_parts.specs.declared.entries.LineAnnotation.{LineAnnotation}
+use Rattle.snippet_parts.specs.declared.entries.LineAnnotationType.{LineAnnotationType}
+use Rattle.snippet_parts.specs.declared.entries.LineAnnotationType.TheVariants.{Singleline, MultilineStart}
 use Rattle.snippet_grid.specs.Layout.{Layout}
-use Rattle.snippet_marks.specs.SourceRows.{source_row}
+use Rattle.snippet_strokes.specs.SourceRows.{source_row}
 use Rattle.snippet_strokes.specs.LineRows.{line_rows}
 use Rattle.snippet_strokes.specs.Rows.{highlighted_row}
 

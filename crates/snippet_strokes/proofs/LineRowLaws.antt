@@ -7,14 +7,14 @@ use Rattle.std.proofs.lemmas.List.Sorted.{length_permutation}
 use Rattle.snippet_grid.specs.Grid.{cell_at, row_at}
 use Rattle.snippet_style.specs.Cell.{Cell, SPACE}
 use Rattle.snippet_style.proofs.CellLemmas.{slice_index_or-written_inside}
-use Rattle.snippet_view.specs.declared.entries.LineAnnotation.{LineAnnotation}
+use Rattle.snippet_parts.specs.declared.entries.LineAnnotation.{LineAnnotation}
 use Rattle.snippet_strokes.specs.declared.bars.BarStroke.TheVariants.{Solid}
 use Rattle.snippet_grid.specs.Layout.{Layout}
-use Rattle.snippet_marks.specs.declared.positions.PlacedEntry.{PlacedEntry}
+use Rattle.snippet_labels.specs.declared.positions.PlacedEntry.{PlacedEntry}
 use Rattle.snippet_strokes.specs.Bars.{Bar, bar_part, bars_apart, ends_of_bars, is_whole_line, with_bars}
-use Rattle.snippet_marks.specs.Entries.{shifted}
+use Rattle.snippet_labels.specs.Entries.{shifted}
 use Rattle.snippet_strokes.specs.LineRows.{AreLineRows}
-use Rattle.snippet_marks.specs.Positions.{ArePlaced, line_positions, positions}
+use Rattle.snippet_labels.specs.Positions.{ArePlaced, line_positions, positions}
 use Rattle.snippet_strokes.specs.Drawing.{row_count}
 use Rattle.snippet_strokes.proofs.BegunLemmas.{sole}
 use Rattle.snippet_strokes.proofs.PositionLemmas.{line_positions_low, of_positions, positions_sole, row_count_one}

@@ -8,24 +8,24 @@ use Rattle.std.proofs.lemmas.Bool.{false≢true, cases_Bool}
 use Rattle.std.proofs.lemmas.List.{append_assoc, length-append, length_push}
 use Rattle.snippet_style.specs.Cell.{Cell}
 use Rattle.snippet_style.specs.Separators.{closing_row, separator_row}
-use Rattle.snippet_view.specs.declared.entries.LineAnnotation.{LineAnnotation}
+use Rattle.snippet_parts.specs.declared.entries.LineAnnotation.{LineAnnotation}
 use Rattle.snippet_strokes.specs.declared.bars.OpenBar.{OpenBar}
 use Rattle.snippet_strokes.specs.declared.bars.BarStroke.TheVariants.{Top, Solid}
 use Rattle.snippet_grid.specs.Layout.{Layout}
-use Rattle.snippet_marks.specs.declared.positions.PlacedEntry.{PlacedEntry}
+use Rattle.snippet_labels.specs.declared.positions.PlacedEntry.{PlacedEntry}
 use Rattle.snippet_strokes.specs.Bars.{barred, bars_apart, ends_of_bars, is_whole_line, with_bars}
-use Rattle.snippet_marks.specs.Entries.{shifted}
+use Rattle.snippet_labels.specs.Entries.{shifted}
 use Rattle.snippet_strokes.specs.EntryMarks.{wide_entries}
 use Rattle.snippet_strokes.specs.LineRows.{AddsOwnRows, AreLineRows}
-use Rattle.snippet_marks.specs.Painting.{painting_order}
-use Rattle.snippet_marks.specs.Positions.{ArePlaced}
+use Rattle.snippet_strokes.specs.Painting.{painting_order}
+use Rattle.snippet_labels.specs.Positions.{ArePlaced}
 use Rattle.snippet_strokes.specs.Drawing.{row_count}
 use Rattle.snippet_strokes.specs.Cuts.{Stretch, cut_row, cut_rows, cuts_of, is_wide_at, overlapped}
 use Rattle.snippet_strokes.specs.Rows.{IsCut}
-use Rattle.snippet_marks.specs.SourceRows.{bare_row}
+use Rattle.snippet_strokes.specs.SourceRows.{bare_row}
 use Rattle.snippet_strokes.specs.Strokes.{AddsPainted, begun_rows, line_strokes}
-use Rattle.snippet_marks.specs.Writes.{Write, painted}
-use Rattle.snippet_marks.proofs.OrderLemmas.{IsPermutation-painting_order}
+use Rattle.snippet_strokes.specs.Writes.{Write, painted}
+use Rattle.snippet_strokes.proofs.PaintOrder.{IsPermutation-painting_order}
 use Rattle.snippet_strokes.proofs.BarRows.{barred-below}
 use Rattle.snippet_strokes.proofs.BegunLemmas.{wide_entries-order}
 use Rattle.snippet_strokes.proofs.CutLemmas.{IsCut-cuts, cut_rows-here, cuts_of-narrow}

@@ -8,15 +8,15 @@ use Rattle.std.proofs.lemmas.List.FromFn.{get_or-map-range_with_len, length-map-
 use Rattle.snippet_model.specs.AnnotationKind.{is_primary}
 use Rattle.snippet_style.specs.Cell.{Cell, SPACE, gives_way}
 use Rattle.snippet_style.specs.declared.role.ElementStyle.TheVariants.{UnderlinePrimary, UnderlineSecondary}
-use Rattle.snippet_view.proofs.PartLemmas.{list_any-map}
-use Rattle.snippet_view.specs.declared.entries.LineAnnotation.{LineAnnotation}
+use Rattle.snippet_parts.proofs.PartLemmas.{list_any-map}
+use Rattle.snippet_parts.specs.declared.entries.LineAnnotation.{LineAnnotation}
 use Rattle.snippet_grid.specs.Layout.{Layout}
-use Rattle.snippet_marks.specs.declared.positions.PlacedEntry.{PlacedEntry}
-use Rattle.snippet_marks.specs.Entries.{plain_entry, shifted}
-use Rattle.snippet_marks.specs.Painting.{painting_order}
-use Rattle.snippet_marks.specs.Positions.{placed_of}
-use Rattle.snippet_marks.specs.Writes.{Write, painted}
-use Rattle.snippet_marks.proofs.HeldLemmas.{held, held_are, painting_order-held, placed_of-plain}
+use Rattle.snippet_labels.specs.declared.positions.PlacedEntry.{PlacedEntry}
+use Rattle.snippet_labels.specs.Entries.{plain_entry, shifted}
+use Rattle.snippet_strokes.specs.Painting.{painting_order}
+use Rattle.snippet_labels.specs.Positions.{placed_of}
+use Rattle.snippet_strokes.specs.Writes.{Write, painted}
+use Rattle.snippet_strokes.proofs.HeldLemmas.{held, held_are, painting_order-held, placed_of-plain}
 use Rattle.snippet_strokes.specs.declared.bars.BarStroke.TheVariants.{Top, Solid}
 use Rattle.snippet_strokes.specs.declared.bars.OpenBar.{OpenBar}
 use Rattle.snippet_strokes.specs.Bars.{bar_of, bars_apart, ends_of_bars, is_beside, is_whole_line, with_bars}

@@ -7,17 +7,17 @@ use Rattle.std.proofs.lemmas.List.Elements.{Contains-get_or}
 use Rattle.std.proofs.lemmas.List.Sorted.{Contains-permutation, IsPermutation-sym, IsPermutation-trans, IsPermutation-map}
 use Rattle.snippet_model.specs.declared.snippet.AnnotationKind.{AnnotationKind}
 use Rattle.snippet_model.specs.declared.snippet.AnnotationKind.TheVariants.{Primary, Context, Visible}
-use Rattle.snippet_view.specs.declared.entries.LineAnnotation.{LineAnnotation}
+use Rattle.snippet_parts.specs.declared.entries.LineAnnotation.{LineAnnotation}
 use Rattle.snippet_style.specs.Glyphs.{IsMarkGlyph, underline_role}
 use Rattle.snippet_grid.specs.Grid.{cell_at}
 use Rattle.snippet_style.specs.Cell.{Cell}
 use Rattle.snippet_style.specs.declared.glyphs.DecorStyle.{DecorStyle}
 use Rattle.snippet_grid.specs.Layout.{Layout}
-use Rattle.snippet_marks.specs.declared.positions.PlacedEntry.{PlacedEntry}
+use Rattle.snippet_labels.specs.declared.positions.PlacedEntry.{PlacedEntry}
 use Rattle.snippet_strokes.specs.EntryMarks.{EntryCovers, IsEntryMark, IsMarkCell}
-use Rattle.snippet_marks.specs.Entries.{entry_width}
+use Rattle.snippet_labels.specs.Entries.{entry_width}
 use Rattle.snippet_model.specs.AnnotationKind.{is_primary}
-use Rattle.snippet_marks.specs.Painting.{CoversOver, AreMarked}
+use Rattle.snippet_strokes.specs.Painting.{CoversOver, AreMarked}
 use Rattle.snippet_strokes.proofs.PlainMarks.{IsMarkCell-mark_cell, IsPlainEntry, covered_painted, painted_covered, spaceless}
 
 -- a kind that is drawn as primary is Primary

@@ -3,8 +3,8 @@ use Rattle.std.proofs.Common.{◌≡◌, ℕ, zero, suc, ◌+◌, ◌<◌, ◌�
 use Rattle.std.proofs.Common.{◌∙◌, subst, arith, inl}
 use Rattle.std.specs.List.{slice_index_or}
 use Rattle.std.proofs.lemmas.List.{append_assoc}
-use Rattle.snippet_view.specs.declared.entries.LineAnnotation.{LineAnnotation}
-use Rattle.snippet_view.specs.Window.{AreReplaced}
+use Rattle.snippet_parts.specs.declared.entries.LineAnnotation.{LineAnnotation}
+use Rattle.snippet_window.specs.Window.{AreReplaced}
 use Rattle.snippet_style.specs.Glyphs.{placeholder_of}
 use Rattle.snippet_grid.specs.Print.{row_text}
 use Rattle.snippet_grid.specs.Grid.{cell_at, row_at}

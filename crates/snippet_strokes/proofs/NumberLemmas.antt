@@ -4,7 +4,7 @@ use Rattle.std.specs.List.{slice_index_or}
 use Rattle.snippet_lines.specs.declared.number.LineNumbers.{LineNumbers}
 use Rattle.snippet_lines.specs.Number.{number_width, shown_number}
 use Rattle.snippet_lines.proofs.NumberLemmas.{length-shown_number, number_width_monotone}
-use Rattle.snippet_view.specs.declared.entries.AnnotatedLineInfo.{AnnotatedLineInfo}
+use Rattle.snippet_parts.specs.declared.entries.AnnotatedLineInfo.{AnnotatedLineInfo}
 
 -- the numbers of lines fit a gutter that has room for the greatest of them
 pub shown_numbers_fit : (numbers : LineNumbers) (gutter greatest : ℕ) (infos : List AnnotatedLineInfo) → number_width numbers greatest ≤ gutter

@@ -1,16 +1,16 @@
 -- Rows over which the strokes of a line are painted, one list after another: they stay as many, so that each entry has the rows that
 -- it needs.
 use Rattle.std.proofs.Common.{◌≡◌, ℕ, ◌+◌, ◌-◌, ◌<◌, ◌≤◌, ◌^◌, List, [], ◌∷◌, ◌++◌, length, map, replicate, refl, sym, ap, ◌∙◌, subst, arith, All}
-use Rattle.snippet_view.specs.declared.entries.LineAnnotation.{LineAnnotation}
+use Rattle.snippet_parts.specs.declared.entries.LineAnnotation.{LineAnnotation}
 use Rattle.snippet_style.specs.Cell.{Cell}
 use Rattle.snippet_grid.specs.Layout.{Layout}
-use Rattle.snippet_marks.specs.declared.positions.PlacedEntry.{PlacedEntry}
-use Rattle.snippet_marks.specs.Entries.{HasPlace, shifted}
-use Rattle.snippet_marks.specs.Painting.{marks_of}
-use Rattle.snippet_marks.specs.Positions.{ArePlaced}
-use Rattle.snippet_marks.specs.Writes.{painted}
-use Rattle.snippet_marks.proofs.MarkWrites.{Painted-marks}
-use Rattle.snippet_marks.proofs.PlacedLemmas.{entries_all}
+use Rattle.snippet_labels.specs.declared.positions.PlacedEntry.{PlacedEntry}
+use Rattle.snippet_labels.specs.Entries.{HasPlace, shifted}
+use Rattle.snippet_strokes.specs.Painting.{marks_of}
+use Rattle.snippet_labels.specs.Positions.{ArePlaced}
+use Rattle.snippet_strokes.specs.Writes.{painted}
+use Rattle.snippet_strokes.proofs.MarkWriteLemmas.{Painted-marks}
+use Rattle.snippet_labels.proofs.PlacedLemmas.{entries_all}
 use Rattle.snippet_strokes.specs.EntryMarks.{HasBarCell}
 use Rattle.snippet_strokes.specs.Drawing.{HasRows, row_count}
 use Rattle.snippet_strokes.specs.Strokes.{connectors_of, corners_of, labels_of, stems_of}

@@ -13,10 +13,10 @@ use Rattle.snippet_style.proofs.CellLemmas.{length-text_cells}
 use Rattle.snippet_text.specs.Normalized.{is_listed}
 use Rattle.snippet_model.specs.Rows.{IsFreeCell, IsFree}
 use Rattle.snippet_model.proofs.RowLemmas.{free_drawn}
-use Rattle.snippet_marks.specs.SourceRows.{bare_row}
+use Rattle.snippet_strokes.specs.SourceRows.{bare_row}
 use Rattle.snippet_style.proofs.RowLemmas.{led_before}
 use Rattle.snippet_model.proofs.RowLemmas.{free_separator_row}
-use Rattle.snippet_marks.proofs.SourceRowLemmas.{length-separator_row, separator_row_blank}
+use Rattle.snippet_strokes.proofs.SourceRowLemmas.{length-separator_row, separator_row_blank}
 
 -- spaces and characters are as many cells as both
 pub length-led : (n : ℕ) (chs : List ℕ) → length (replicate n SPACE ++ text_cells LineNumber chs) ≡ n + length chs

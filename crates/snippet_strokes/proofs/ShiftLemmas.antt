@@ -2,8 +2,8 @@
 use Rattle.std.proofs.Common.{◌≡◌, ℕ, ◌-◌, List, [], ◌∷◌, All, map, refl, ap, ◌∙◌, arith}
 use Rattle.std.proofs.lemmas.List.Elements.{All-map}
 use Rattle.snippet_grid.specs.Layout.{Layout}
-use Rattle.snippet_view.specs.declared.entries.LineAnnotation.{LineAnnotation}
-use Rattle.snippet_marks.specs.Entries.{HasPlace, shifted}
+use Rattle.snippet_parts.specs.declared.entries.LineAnnotation.{LineAnnotation}
+use Rattle.snippet_labels.specs.Entries.{HasPlace, shifted}
 use Rattle.snippet_strokes.specs.EntryMarks.{HasBarCell}
 
 -- and they have their places, and their bars

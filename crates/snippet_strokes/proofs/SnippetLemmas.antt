@@ -11,8 +11,8 @@ use Rattle.std.proofs.lemmas.List.{get_or-map, length-map, ext_get_or}
 use Rattle.std.proofs.lemmas.List.Folds.{list_any_none}
 use Rattle.std.proofs.lemmas.List.Elements.{All-get_or, All-from_get_or, All-append, All-cons, All-nil, All-same}
 use Rattle.snippet_lines.specs.declared.number.LineNumbers.{LineNumbers}
-use Rattle.snippet_view.specs.declared.entries.AnnotatedLineInfo.{AnnotatedLineInfo}
-use Rattle.snippet_view.specs.declared.entries.LineAnnotation.{LineAnnotation}
+use Rattle.snippet_parts.specs.declared.entries.AnnotatedLineInfo.{AnnotatedLineInfo}
+use Rattle.snippet_parts.specs.declared.entries.LineAnnotation.{LineAnnotation}
 use Rattle.snippet_style.specs.declared.role.ElementStyle.{ElementStyle}
 use Rattle.snippet_style.specs.declared.role.ElementStyle.TheVariants.{LineNumber}
 use Rattle.snippet_grid.specs.Grid.{row_at}
@@ -21,15 +21,16 @@ use Rattle.snippet_grid.specs.Print.{row_text}
 use Rattle.snippet_text.specs.Normalized.{norm}
 use Rattle.snippet_model.specs.Rows.{IsFreeCell, HasNoNumber, IsFree}
 use Rattle.snippet_grid.specs.Layout.{Layout}
-use Rattle.snippet_view.specs.declared.margin.Margin.{Margin}
-use Rattle.snippet_view.specs.Margin.{bounds_of}
-use Rattle.snippet_view.specs.Window.{dropped_part}
+use Rattle.snippet_window.specs.declared.margin.Margin.{Margin}
+use Rattle.snippet_window.specs.Margin.{bounds_of}
+use Rattle.snippet_window.specs.Window.{dropped_part}
 use Rattle.snippet_style.specs.Glyphs.{separator_of}
 use Rattle.snippet_text.specs.Width.{width_of}
 use Rattle.snippet_model.specs.AnnotationKind.{is_primary}
-use Rattle.snippet_view.specs.Measures.{StandsClear, is_bar}
+use Rattle.snippet_window.specs.Measures.{StandsClear}
+use Rattle.snippet_parts.specs.Entries.{is_bar}
 use Rattle.snippet_strokes.specs.EntryMarks.{are_plain}
-use Rattle.snippet_marks.specs.Entries.{is_end_part, shifted}
+use Rattle.snippet_labels.specs.Entries.{is_end_part, shifted}
 use Rattle.snippet_strokes.specs.declared.bars.OpenBar.{OpenBar}
 use Rattle.snippet_strokes.specs.declared.bars.BarStroke.TheVariants.{Solid}
 use Rattle.snippet_strokes.specs.Bars.{DrawsBars, barred, bars_apart, ends_of_bars, open_below}
@@ -39,7 +40,7 @@ use Rattle.snippet_strokes.proofs.BarLemmas.{AddsStrokes-drawn, bar_space}
 use Rattle.snippet_strokes.proofs.WindowTextLemmas.{row_text-window_cells}
 use Rattle.snippet_strokes.proofs.WholeLemmas.{window_cells-whole}
 use Rattle.snippet_lines.specs.Number.{shown_number}
-use Rattle.snippet_marks.specs.SourceRows.{window_cells, IsSourceRow, AddsSourceRow}
+use Rattle.snippet_strokes.specs.SourceRows.{window_cells, IsSourceRow, AddsSourceRow}
 use Rattle.snippet_strokes.specs.Rows.{IsStrokeRow, HasNoBars, IsHighlighted, highlights, holds_character, role_in_source, AddsStrokes}
 use Rattle.snippet_strokes.proofs.RowLemmas.{bare_row_left}
 use Rattle.snippet_strokes.specs.Snippet.{ShowsLine, AreLinesShown, AddsGap, AddsLine, AddsSnippet, IsGap}

@@ -8,16 +8,16 @@ use Rattle.snippet_style.specs.Cell.{Cell, SPACE}
 use Rattle.snippet_style.specs.Glyphs.{strokes_of}
 use Rattle.snippet_grid.specs.Grid.{cell_at, row_at}
 use Rattle.snippet_model.specs.AnnotationKind.{is_primary}
-use Rattle.snippet_view.specs.declared.entries.LineAnnotation.{LineAnnotation}
-use Rattle.snippet_view.specs.declared.entries.LineAnnotationType.{LineAnnotationType}
-use Rattle.snippet_view.specs.declared.entries.LineAnnotationType.TheVariants.{Singleline, MultilineStart, MultilineEnd, MultilineLine}
-use Rattle.snippet_view.proofs.AmongLemmas.{all_among, among_filter_map}
+use Rattle.snippet_parts.specs.declared.entries.LineAnnotation.{LineAnnotation}
+use Rattle.snippet_parts.specs.declared.entries.LineAnnotationType.{LineAnnotationType}
+use Rattle.snippet_parts.specs.declared.entries.LineAnnotationType.TheVariants.{Singleline, MultilineStart, MultilineEnd, MultilineLine}
+use Rattle.snippet_parts.proofs.AmongLemmas.{all_among, among_filter_map}
 use Rattle.snippet_grid.specs.Layout.{Layout}
-use Rattle.snippet_marks.specs.declared.positions.PlacedEntry.{PlacedEntry}
-use Rattle.snippet_marks.specs.Entries.{shifted}
-use Rattle.snippet_marks.specs.Painting.{marks_of, painting_order, stroke_role}
-use Rattle.snippet_marks.specs.Writes.{Write, glyph_at, painted}
-use Rattle.snippet_marks.proofs.PlacedLemmas.{entries_all}
+use Rattle.snippet_labels.specs.declared.positions.PlacedEntry.{PlacedEntry}
+use Rattle.snippet_labels.specs.Entries.{shifted}
+use Rattle.snippet_strokes.specs.Painting.{marks_of, painting_order, stroke_role}
+use Rattle.snippet_strokes.specs.Writes.{Write, glyph_at, painted}
+use Rattle.snippet_labels.proofs.PlacedLemmas.{entries_all}
 use Rattle.snippet_strokes.specs.declared.bars.BarStroke.TheVariants.{Dotted, Solid, Top}
 use Rattle.snippet_strokes.specs.Bars.{Bar, HasOwnDepth, bar_at, bar_of, bars_apart, ends_of_bars, has_depth, is_whole_line, with_bars}
 use Rattle.snippet_strokes.specs.Drawing.{row_count}

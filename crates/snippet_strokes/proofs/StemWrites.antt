@@ -8,18 +8,18 @@ use Rattle.snippet_style.specs.Glyphs.{strokes_of}
 use Rattle.snippet_style.specs.Cell.{Cell}
 use Rattle.snippet_text.specs.Normalized.{is_listed}
 use Rattle.snippet_grid.specs.Layout.{Layout}
-use Rattle.snippet_marks.specs.declared.positions.PlacedEntry.{PlacedEntry}
+use Rattle.snippet_labels.specs.declared.positions.PlacedEntry.{PlacedEntry}
 use Rattle.snippet_strokes.specs.EntryMarks.{has_mark_role}
 use Rattle.snippet_model.specs.AnnotationKind.{is_primary}
 use Rattle.snippet_strokes.specs.Drawing.{DrawsFrom, HasRows, MarksStarts, StandsFrom, foot_glyph}
-use Rattle.snippet_marks.specs.Positions.{has_label, has_stem}
-use Rattle.snippet_marks.specs.Writes.{Write, painted}
+use Rattle.snippet_labels.specs.Positions.{has_label, has_stem}
+use Rattle.snippet_strokes.specs.Writes.{Write, painted}
 use Rattle.snippet_strokes.specs.Reach.{Reaches, IsWithin, cell_of_write}
 use Rattle.snippet_strokes.specs.Strokes.{is_stem_covered, stem_write, stem_of, stems_of}
-use Rattle.snippet_marks.proofs.StrokeLemmas.{free_strokes}
+use Rattle.snippet_strokes.proofs.MarkStrokeLemmas.{free_strokes}
 use Rattle.snippet_strokes.proofs.StrokeGlyphs.{of_foot}
 use Rattle.snippet_strokes.proofs.WriteLaws.{DrawsFrom-painted, painted-cell, painted-count}
-use Rattle.snippet_marks.proofs.WriteLemmas.{painted-append}
+use Rattle.snippet_strokes.proofs.WriteLemmas.{painted-append}
 
 -- what holds of each cell of a stem holds of those of all
 pub All-stem_of : (P : Write → Type 0) (layout : Layout) (row : ℕ) (e : PlacedEntry) → ((b : ℕ) → b ≤ e.position → P (stem_write layout row e b))

@@ -7,19 +7,19 @@ use Rattle.snippet_model.specs.AnnotationKind.{is_primary}
 use Rattle.snippet_style.specs.Cell.{Cell, unlinked_cell}
 use Rattle.snippet_style.specs.Glyphs.{strokes_of, underline_role}
 use Rattle.snippet_style.specs.declared.glyphs.DecorStyle.{DecorStyle}
-use Rattle.snippet_marks.proofs.StrokeLemmas.{of_first}
+use Rattle.snippet_strokes.proofs.MarkStrokeLemmas.{of_first}
 use Rattle.snippet_strokes.proofs.StrokeGlyphs.{code_among, of_foot}
-use Rattle.snippet_view.specs.declared.entries.LineAnnotationType.{LineAnnotationType}
-use Rattle.snippet_view.specs.declared.entries.LineAnnotationType.TheVariants.{Singleline, MultilineStart, MultilineEnd, MultilineLine}
+use Rattle.snippet_parts.specs.declared.entries.LineAnnotationType.{LineAnnotationType}
+use Rattle.snippet_parts.specs.declared.entries.LineAnnotationType.TheVariants.{Singleline, MultilineStart, MultilineEnd, MultilineLine}
 use Rattle.snippet_grid.specs.Layout.{Layout}
-use Rattle.snippet_marks.specs.declared.positions.PlacedEntry.{PlacedEntry}
+use Rattle.snippet_labels.specs.declared.positions.PlacedEntry.{PlacedEntry}
 use Rattle.snippet_strokes.specs.EntryMarks.{HasBarCell, HasBarCellAt}
 use Rattle.snippet_strokes.specs.Labels.{IsStrokeCell, stroke_glyphs}
-use Rattle.snippet_marks.specs.Painting.{first_glyph, mark_end, mark_of, marks_of, stroke_role}
+use Rattle.snippet_strokes.specs.Painting.{first_glyph, mark_end, mark_of, marks_of, stroke_role}
 use Rattle.snippet_strokes.specs.Drawing.{foot_glyph}
-use Rattle.snippet_marks.specs.Positions.{has_label}
+use Rattle.snippet_labels.specs.Positions.{has_label}
 use Rattle.snippet_strokes.specs.Reach.{Reaches, cell_of_write}
-use Rattle.snippet_marks.specs.Writes.{Write, glyph_at, painted, stretch_of}
+use Rattle.snippet_strokes.specs.Writes.{Write, glyph_at, painted, stretch_of}
 use Rattle.snippet_strokes.specs.Strokes.{bar_of, connector_of, connectors_of, corner_by, corner_of, corners_of, label_of, label_write, labels_of, stems_of}
 use Rattle.snippet_strokes.specs.Strokes.{line_strokes, stem_of}
 use Rattle.snippet_strokes.proofs.BarWrites.{All-column_of, All-connector_of, All-stretch_of}

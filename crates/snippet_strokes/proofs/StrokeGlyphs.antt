@@ -6,8 +6,8 @@ use Rattle.snippet_style.specs.Glyphs.{strokes_of}
 use Rattle.snippet_style.specs.declared.glyphs.DecorStyle.{DecorStyle}
 use Rattle.snippet_style.specs.declared.glyphs.DecorStyle.TheVariants.{Ascii, Unicode}
 use Rattle.snippet_style.proofs.StrokeLemmas.{EachBar, EachCode, EachStem, each_bar, each_code, each_stem}
-use Rattle.snippet_view.specs.declared.entries.LineAnnotationType.{LineAnnotationType}
-use Rattle.snippet_view.specs.declared.entries.LineAnnotationType.TheVariants.{Singleline, MultilineStart, MultilineEnd, MultilineLine}
+use Rattle.snippet_parts.specs.declared.entries.LineAnnotationType.{LineAnnotationType}
+use Rattle.snippet_parts.specs.declared.entries.LineAnnotationType.TheVariants.{Singleline, MultilineStart, MultilineEnd, MultilineLine}
 use Rattle.snippet_strokes.specs.Drawing.{foot_of}
 use Rattle.snippet_strokes.specs.Labels.{stem_glyphs, stroke_glyphs}
 

@@ -10,8 +10,8 @@ use Rattle.std.proofs.lemmas.List.{length-append, length-replicate, length-map, 
 use Rattle.std.proofs.lemmas.List.{get_or-drop, drop_more, take-take}
 use Rattle.std.proofs.lemmas.List.Elements.{All-from_get_or, All-nil, All-cons}
 use Rattle.std.proofs.lemmas.List.Sorted.{IsPermutation-map, IsPermutation-trans, length_permutation}
-use Rattle.snippet_view.specs.declared.entries.LineAnnotation.{LineAnnotation}
-use Rattle.snippet_view.specs.Window.{AreReplaced}
+use Rattle.snippet_parts.specs.declared.entries.LineAnnotation.{LineAnnotation}
+use Rattle.snippet_window.specs.Window.{AreReplaced}
 use Rattle.snippet_style.specs.Glyphs.{placeholder_of}
 use Rattle.snippet_grid.specs.Print.{row_text}
 use Rattle.snippet_grid.specs.Grid.{cell_at, row_at, cells_written}
@@ -19,15 +19,15 @@ use Rattle.snippet_style.specs.Cell.{Cell, SPACE, text_cells, written}
 use Rattle.snippet_grid.proofs.GridLemmas.{row_at-cells_written_same}
 use Rattle.snippet_style.proofs.CellLemmas.{length-written}
 use Rattle.snippet_grid.specs.Layout.{Layout}
-use Rattle.snippet_marks.specs.declared.positions.PlacedEntry.{PlacedEntry}
+use Rattle.snippet_labels.specs.declared.positions.PlacedEntry.{PlacedEntry}
 use Rattle.snippet_strokes.specs.EntryMarks.{EntryCovers, HasBarCell, IsBarCell, are_plain, is_single, has_mark_role, wide_entries}
-use Rattle.snippet_marks.specs.Entries.{HasPlace, label_text, label_role}
+use Rattle.snippet_labels.specs.Entries.{HasPlace, label_text, label_role}
 use Rattle.snippet_model.specs.Rows.{IsFreeCell, IsFree}
-use Rattle.snippet_marks.specs.Painting.{IsPaintedAt, AreMarked, mark_end, marks_of, painting_order, StandsWhole}
-use Rattle.snippet_marks.specs.Writes.{painted}
+use Rattle.snippet_strokes.specs.Painting.{IsPaintedAt, AreMarked, mark_end, marks_of, painting_order, StandsWhole}
+use Rattle.snippet_strokes.specs.Writes.{painted}
 use Rattle.snippet_strokes.specs.Drawing.{DrawsFrom, DrawsBarCells, HasRows, KeepsBarCells, MarksStarts, StandsFrom, row_count}
-use Rattle.snippet_marks.specs.Positions.{HasItsLabel, has_label, has_stem, takes_space, positions, line_positions, ArePlaced}
-use Rattle.snippet_marks.specs.SourceRows.{bare_row}
+use Rattle.snippet_labels.specs.Positions.{HasItsLabel, has_label, has_stem, takes_space, positions, line_positions, ArePlaced}
+use Rattle.snippet_strokes.specs.SourceRows.{bare_row}
 use Rattle.snippet_strokes.specs.Cuts.{cut_rows, cuts_of}
 use Rattle.snippet_strokes.specs.Rows.{CutsRows, IsBeside, IsCut, HasNoBars, IsStrokeRow, AddsStrokes, ShowsMarks}
 use Rattle.snippet_style.specs.Separators.{separator_row}
@@ -39,9 +39,9 @@ use Rattle.snippet_strokes.proofs.StrokeCells.{cell_of_strokes}
 use Rattle.snippet_strokes.proofs.StemCells.{IsHung, all_hung}
 use Rattle.snippet_strokes.proofs.MarkLemmas.{mark_shown}
 use Rattle.snippet_strokes.proofs.PlainMarks.{IsPlainEntry, covered_painted, mark_end_plain, spaceless}
-use Rattle.snippet_marks.proofs.PlacedLemmas.{entries_all}
-use Rattle.snippet_marks.proofs.LabelKept.{labels_kept}
-use Rattle.snippet_marks.proofs.MarkWrites.{AreMarked-marks}
+use Rattle.snippet_labels.proofs.PlacedLemmas.{entries_all}
+use Rattle.snippet_strokes.proofs.LabelKept.{labels_kept}
+use Rattle.snippet_strokes.proofs.MarkWriteLemmas.{AreMarked-marks}
 use Rattle.snippet_strokes.proofs.BarWrites.{DrawsBarCells-corners, DrawsFrom-connectors, KeepsBarCells-connectors, connectors_none, corners_none}
 use Rattle.snippet_strokes.proofs.StemWrites.{DrawsFrom-stems, stems_none, stems_start}
 use Rattle.snippet_strokes.proofs.LabelWrites.{DrawsFrom-labels, label_lone, labels_none, labels_unmarked}

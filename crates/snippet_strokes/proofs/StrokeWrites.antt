@@ -7,16 +7,16 @@ use Rattle.snippet_style.specs.declared.role.ElementStyle.{ElementStyle}
 use Rattle.snippet_style.specs.Cell.{Cell, text_cells}
 use Rattle.snippet_grid.specs.Grid.{cells_written}
 use Rattle.snippet_grid.specs.Layout.{Layout}
-use Rattle.snippet_marks.specs.declared.positions.PlacedEntry.{PlacedEntry}
+use Rattle.snippet_labels.specs.declared.positions.PlacedEntry.{PlacedEntry}
 use Rattle.snippet_style.specs.Glyphs.{strokes_of, underline_role}
 use Rattle.snippet_model.specs.AnnotationKind.{is_primary}
-use Rattle.snippet_marks.specs.Entries.{label_role, label_text}
+use Rattle.snippet_labels.specs.Entries.{label_role, label_text}
 use Rattle.snippet_strokes.specs.Drawing.{foot_glyph}
-use Rattle.snippet_marks.specs.Positions.{has_label, label_place}
-use Rattle.snippet_marks.specs.Writes.{Write, glyph_at, painted, written_by}
+use Rattle.snippet_labels.specs.Positions.{has_label, label_place}
+use Rattle.snippet_strokes.specs.Writes.{Write, glyph_at, painted, written_by}
 use Rattle.snippet_strokes.specs.Strokes.{column_of, connectors_of, corners_of, label_write, label_of, labels_of, stem_write, stems_of, line_strokes}
-use Rattle.snippet_marks.specs.Painting.{marks_of}
-use Rattle.snippet_marks.proofs.WriteLemmas.{painted-append}
+use Rattle.snippet_strokes.specs.Painting.{marks_of}
+use Rattle.snippet_strokes.proofs.WriteLemmas.{painted-append}
 
 -- a label is written where the entry has one
 pub label_painted : (layout : Layout) (row : ℕ) (e : PlacedEntry) (place : ℕ × ℕ) (role : ElementStyle) (text : List ℕ) (old new : List (List Cell))

@@ -2,16 +2,16 @@
 use Rattle.std.proofs.Common.{◌≡◌, ℕ, ◌+◌, ◌-◌, ◌≤◌, min, cond, ltb, false, None, Some, List, length, ap, ◌∙◌, arith, unwrap_or}
 use Rattle.std.proofs.lemmas.Bool.{le-leb}
 use Rattle.std.proofs.lemmas.List.{take_all}
-use Rattle.snippet_view.specs.declared.margin.Margin.{Margin}
-use Rattle.snippet_view.specs.Margin.{bounds_of}
-use Rattle.snippet_view.specs.Window.{reaching_last, window_left, window_right, inner_part, covered_columns, uncovered_part, covered_end}
+use Rattle.snippet_window.specs.declared.margin.Margin.{Margin}
+use Rattle.snippet_window.specs.Margin.{bounds_of}
+use Rattle.snippet_window.specs.Window.{reaching_last, window_left, window_right, inner_part, covered_columns, uncovered_part, covered_end}
 use Rattle.snippet_style.specs.declared.glyphs.DecorStyle.{DecorStyle}
 use Rattle.snippet_style.specs.declared.role.ElementStyle.TheVariants.{Quotation}
 use Rattle.snippet_style.specs.Glyphs.{placeholder_of}
 use Rattle.snippet_style.specs.Cell.{Cell, text_cells}
 use Rattle.snippet_text.specs.Width.{width_of}
-use Rattle.snippet_marks.specs.SourceRows.{shown_cells, window_cells}
-use Rattle.snippet_view.proofs.LineWindowLemmas.{reaching-none, fitting_all}
+use Rattle.snippet_strokes.specs.SourceRows.{shown_cells, window_cells}
+use Rattle.snippet_window.proofs.LineWindowLemmas.{reaching-none, fitting_all}
 
 -- a window with no bound on the left begins at column 0
 pub left-none : (text : List ℕ) → window_left 0 text ≡ 0

@@ -4,22 +4,22 @@ use Rattle.std.specs.Char.{is_whitespace}
 use Rattle.std.specs.List.{list_all}
 use Rattle.std.proofs.lemmas.Bool.{false≢true}
 use Rattle.std.proofs.lemmas.List.{length_push}
-use Rattle.snippet_view.specs.declared.entries.LineAnnotation.{LineAnnotation}
-use Rattle.snippet_view.specs.declared.entries.LineAnnotationType.{LineAnnotationType}
-use Rattle.snippet_view.specs.declared.entries.LineAnnotationType.TheVariants.{Singleline, MultilineStart, MultilineEnd, MultilineLine}
-use Rattle.snippet_view.specs.Measures.{is_bar, is_single_part}
-use Rattle.snippet_view.specs.Window.{AreReplaced}
+use Rattle.snippet_parts.specs.declared.entries.LineAnnotation.{LineAnnotation}
+use Rattle.snippet_parts.specs.declared.entries.LineAnnotationType.{LineAnnotationType}
+use Rattle.snippet_parts.specs.declared.entries.LineAnnotationType.TheVariants.{Singleline, MultilineStart, MultilineEnd, MultilineLine}
+use Rattle.snippet_parts.specs.Entries.{is_bar, is_single_part}
+use Rattle.snippet_window.specs.Window.{AreReplaced}
 use Rattle.snippet_style.specs.declared.glyphs.DecorStyle.{DecorStyle}
 use Rattle.snippet_style.specs.Glyphs.{placeholder_of}
 use Rattle.snippet_style.specs.Cell.{Cell}
 use Rattle.snippet_grid.specs.Layout.{Layout}
 use Rattle.snippet_strokes.specs.EntryMarks.{are_plain, is_single, wide_entries}
-use Rattle.snippet_marks.specs.Entries.{label_text, shifted}
+use Rattle.snippet_labels.specs.Entries.{label_text, shifted}
 use Rattle.snippet_strokes.specs.Labels.{IsLabelledAtEnd}
 use Rattle.snippet_strokes.proofs.LabelPlaces.{LabelsStand-none}
 use Rattle.std.proofs.lemmas.List.Elements.{All-cons, All-head, All-nil, All-tail}
 use Rattle.snippet_strokes.specs.Bars.{DrawsBars, is_beside, is_whole_line}
-use Rattle.snippet_marks.specs.Positions.{is_start_part}
+use Rattle.snippet_labels.specs.Positions.{is_start_part}
 use Rattle.snippet_strokes.specs.Rows.{AddsStrokes, AreStrokes, HasNoBars, IsBeside}
 use Rattle.snippet_strokes.proofs.BarLemmas.{AddsStrokes-drawn}
 

@@ -10,9 +10,9 @@ use Rattle.snippet_grid.proofs.GridLemmas.{WritesCells-cells_written}
 use Rattle.snippet_style.proofs.CellLemmas.{length-text_cells, slice_index_or-text_cells}
 use Rattle.snippet_model.specs.Rows.{IsFreeCell}
 use Rattle.snippet_strokes.specs.Drawing.{DrawsFrom}
-use Rattle.snippet_marks.specs.Writes.{Write, written_by, painted}
+use Rattle.snippet_strokes.specs.Writes.{Write, written_by, painted}
 use Rattle.snippet_strokes.specs.Reach.{Reaches, IsWithin, cell_of_write}
-use Rattle.snippet_marks.proofs.WriteLemmas.{painted-append}
+use Rattle.snippet_strokes.proofs.WriteLemmas.{painted-append}
 
 -- a cell after one write: the write's where it reaches, else what was there
 pub cell-written : (w : Write) (rows : List (List Cell)) (r c : ℕ) → Reaches r c w → cell_at (written_by rows w) r c ≡ cell_of_write w c

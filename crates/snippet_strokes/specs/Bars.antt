@@ -3,10 +3,10 @@ use Rattle.std.specs.Prelude.{◌≡◌, ◌<◌, ◌≤◌, ◌+◌, ◌==◌, 
 use Rattle.std.specs.Prelude.{length, map, take}
 use Rattle.std.specs.Char.{is_whitespace}
 use Rattle.std.specs.List.{filter_map, list_all, list_any, slice_index_or}
-use Rattle.snippet_view.specs.declared.entries.LineAnnotation.{LineAnnotation}
-use Rattle.snippet_view.specs.declared.entries.LineAnnotationType.{LineAnnotationType}
-use Rattle.snippet_view.specs.declared.entries.LineAnnotationType.TheVariants.{Singleline, MultilineStart, MultilineEnd, MultilineLine}
-use Rattle.snippet_view.specs.Measures.{is_bar}
+use Rattle.snippet_parts.specs.declared.entries.LineAnnotation.{LineAnnotation}
+use Rattle.snippet_parts.specs.declared.entries.LineAnnotationType.{LineAnnotationType}
+use Rattle.snippet_parts.specs.declared.entries.LineAnnotationType.TheVariants.{Singleline, MultilineStart, MultilineEnd, MultilineLine}
+use Rattle.snippet_parts.specs.Entries.{is_bar}
 use Rattle.snippet_style.specs.Glyphs.{strokes_of, underline_role}
 use Rattle.snippet_grid.specs.Grid.{row_at}
 use Rattle.snippet_style.specs.Cell.{Cell, SPACE, unlinked_cell, written}
@@ -18,7 +18,7 @@ use Rattle.snippet_strokes.specs.declared.bars.BarStroke.TheVariants.{Top, Solid
 use Rattle.snippet_strokes.specs.EntryMarks.{IsBarCell}
 use Rattle.snippet_model.specs.AnnotationKind.{is_primary}
 use Rattle.snippet_model.specs.Rows.{IsFree}
-use Rattle.snippet_marks.specs.Positions.{is_start_part}
+use Rattle.snippet_labels.specs.Positions.{is_start_part}
 
 -- a bar, under a name that other crates can use
 abbrev pub Bar : Type 0

@@ -7,11 +7,11 @@ use Rattle.snippet_style.specs.Glyphs.{placeholder_of}
 use Rattle.snippet_style.specs.declared.glyphs.DecorStyle.{DecorStyle}
 use Rattle.snippet_style.specs.declared.role.ElementStyle.TheVariants.{LineNumber}
 use Rattle.snippet_grid.specs.Grid.{cells_replaced, replaced_within}
-use Rattle.snippet_view.specs.declared.entries.LineAnnotation.{LineAnnotation}
-use Rattle.snippet_view.specs.Measures.{is_wide_entry}
+use Rattle.snippet_parts.specs.declared.entries.LineAnnotation.{LineAnnotation}
+use Rattle.snippet_parts.specs.Entries.{is_wide_entry}
 use Rattle.snippet_grid.specs.Layout.{Layout, code_cell}
-use Rattle.snippet_marks.specs.declared.positions.PlacedEntry.{PlacedEntry}
-use Rattle.snippet_marks.specs.Positions.{crosses, do_overlap, has_label, position_after, position_at}
+use Rattle.snippet_labels.specs.declared.positions.PlacedEntry.{PlacedEntry}
+use Rattle.snippet_labels.specs.Positions.{crosses, do_overlap, has_label, position_after, position_at}
 
 -- ---- which entries are overlapped, by those that are looked at while places for labels are sought: the original's rule
 

@@ -4,17 +4,17 @@ use Rattle.std.specs.List.{list_all, list_any}
 use Rattle.snippet_model.specs.AnnotationKind.{is_primary}
 use Rattle.snippet_model.specs.declared.snippet.AnnotationKind.{AnnotationKind}
 use Rattle.snippet_model.specs.declared.snippet.AnnotationKind.TheVariants.{Primary}
-use Rattle.snippet_view.specs.declared.entries.LineAnnotation.{LineAnnotation}
-use Rattle.snippet_view.specs.declared.entries.LineAnnotationType.{LineAnnotationType}
-use Rattle.snippet_view.specs.declared.entries.LineAnnotationType.TheVariants.{Singleline, MultilineStart, MultilineEnd, MultilineLine}
-use Rattle.snippet_view.specs.Measures.{is_single_part, is_wide_entry}
+use Rattle.snippet_parts.specs.declared.entries.LineAnnotation.{LineAnnotation}
+use Rattle.snippet_parts.specs.declared.entries.LineAnnotationType.{LineAnnotationType}
+use Rattle.snippet_parts.specs.declared.entries.LineAnnotationType.TheVariants.{Singleline, MultilineStart, MultilineEnd, MultilineLine}
+use Rattle.snippet_parts.specs.Entries.{is_single_part, is_wide_entry}
 use Rattle.snippet_grid.specs.Layout.{Layout, inner_cell}
 use Rattle.snippet_style.specs.Glyphs.{IsMarkGlyph, underline_role, placeholder_of, bar_glyphs}
 use Rattle.snippet_style.specs.Cell.{Cell}
 use Rattle.snippet_style.specs.declared.glyphs.DecorStyle.{DecorStyle}
 use Rattle.snippet_style.specs.declared.role.ElementStyle.{ElementStyle}
 use Rattle.snippet_style.specs.declared.role.ElementStyle.TheVariants.{UnderlinePrimary, UnderlineSecondary}
-use Rattle.snippet_marks.specs.Entries.{entry_width}
+use Rattle.snippet_labels.specs.Entries.{entry_width}
 
 -- the entry covers this column
 abbrev pub EntryCovers : LineAnnotation → ℕ → Type 0

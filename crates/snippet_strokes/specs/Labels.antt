@@ -6,12 +6,12 @@ use Rattle.snippet_style.specs.Cell.{Cell, SPACE, unlinked_cell}
 use Rattle.snippet_style.specs.declared.glyphs.DecorStyle.{DecorStyle}
 use Rattle.snippet_style.specs.Glyphs.{code_strokes, strokes_of, stem_strokes}
 use Rattle.snippet_grid.specs.Grid.{cell_at}
-use Rattle.snippet_view.specs.Measures.{is_bar}
-use Rattle.snippet_view.specs.declared.entries.LineAnnotation.{LineAnnotation}
+use Rattle.snippet_parts.specs.Entries.{is_bar}
+use Rattle.snippet_parts.specs.declared.entries.LineAnnotation.{LineAnnotation}
 use Rattle.snippet_grid.specs.Layout.{Layout, code_cell}
 use Rattle.snippet_strokes.specs.EntryMarks.{has_mark_role}
-use Rattle.snippet_marks.specs.Entries.{label_role, label_text}
-use Rattle.snippet_marks.specs.Positions.{is_start_part}
+use Rattle.snippet_labels.specs.Entries.{label_role, label_text}
+use Rattle.snippet_labels.specs.Positions.{is_start_part}
 
 -- where the label of an entry begins: in which row of a line's strokes, that of the marks first, and in which cell of it
 pub record PlacedLabel : Type 0 where

@@ -1,10 +1,10 @@
 -- The rows of a snippet.
 use Rattle.std.specs.Prelude.{◌≡◌, ◌⊎◌, ℕ, ◌+◌, ◌<◌, ◌≤◌, ◌==◌, ◌&&◌, Bool, false, not, List, [], ◌∷◌, ◌++◌, All, drop, filter, length, map, chars}
-use Rattle.snippet_view.specs.declared.entries.AnnotatedLineInfo.{AnnotatedLineInfo}
-use Rattle.snippet_view.specs.declared.margin.Margin.{Margin}
-use Rattle.snippet_view.specs.Margin.{bounds_of}
-use Rattle.snippet_view.specs.Measures.{is_bar}
-use Rattle.snippet_view.specs.Window.{dropped_part, window}
+use Rattle.snippet_parts.specs.declared.entries.AnnotatedLineInfo.{AnnotatedLineInfo}
+use Rattle.snippet_window.specs.declared.margin.Margin.{Margin}
+use Rattle.snippet_window.specs.Margin.{bounds_of}
+use Rattle.snippet_parts.specs.Entries.{is_bar}
+use Rattle.snippet_window.specs.Window.{dropped_part, window}
 use Rattle.snippet_grid.specs.Layout.{Layout}
 use Rattle.snippet_style.specs.Glyphs.{placeholder_of}
 use Rattle.snippet_style.specs.Cell.{Cell, text_cells}
@@ -12,7 +12,7 @@ use Rattle.snippet_style.specs.declared.role.ElementStyle.TheVariants.{Quotation
 use Rattle.snippet_grid.specs.Print.{row_text}
 use Rattle.snippet_text.specs.Normalized.{norm}
 use Rattle.snippet_text.specs.Width.{width_of}
-use Rattle.snippet_marks.specs.Entries.{is_end_part, shifted}
+use Rattle.snippet_labels.specs.Entries.{is_end_part, shifted}
 use Rattle.snippet_strokes.specs.EntryMarks.{wide_entries}
 use Rattle.snippet_strokes.specs.declared.bars.OpenBar.{OpenBar}
 use Rattle.snippet_strokes.specs.declared.bars.BarStroke.TheVariants.{Dotted}
@@ -21,7 +21,7 @@ use Rattle.snippet_strokes.specs.LineRows.{AreLineRows}
 use Rattle.snippet_lines.specs.declared.number.LineNumbers.{LineNumbers}
 use Rattle.snippet_lines.specs.Number.{shown_number}
 use Rattle.snippet_model.specs.Rows.{HasNoNumber, IsFree}
-use Rattle.snippet_marks.specs.SourceRows.{IsSourceRow, window_cells}
+use Rattle.snippet_strokes.specs.SourceRows.{IsSourceRow, window_cells}
 use Rattle.snippet_strokes.specs.Rows.{IsBeside, IsElisionRow, IsHighlighted, AreStrokes, bare_elision_row}
 
 -- the rows show this line: the first its number and the window of its source, normalised, with what its entries highlight

@@ -3,24 +3,24 @@
 use Rattle.std.specs.Prelude.{ℕ, ◌+◌, ◌-◌, ◌≡◌, List, [], ◌∷◌, map, if◌then◌else◌, ◌==◌, ◌&&◌, nat_le, Bool, false, ◌++◌, length, replicate, drop, take}
 use Rattle.std.specs.List.{range_with_len, flat_map}
 use Rattle.snippet_style.specs.declared.role.ElementStyle.{ElementStyle}
-use Rattle.snippet_marks.specs.Writes.{Write, glyph_at, painted, stretch_of}
+use Rattle.snippet_strokes.specs.Writes.{Write, glyph_at, painted, stretch_of}
 use Rattle.snippet_style.specs.Glyphs.{strokes_of}
-use Rattle.snippet_view.specs.declared.entries.LineAnnotationType.{LineAnnotationType}
-use Rattle.snippet_view.specs.declared.entries.LineAnnotationType.TheVariants.{Singleline, MultilineStart, MultilineEnd, MultilineLine}
+use Rattle.snippet_parts.specs.declared.entries.LineAnnotationType.{LineAnnotationType}
+use Rattle.snippet_parts.specs.declared.entries.LineAnnotationType.TheVariants.{Singleline, MultilineStart, MultilineEnd, MultilineLine}
 use Rattle.snippet_model.specs.AnnotationKind.{is_primary}
 use Rattle.snippet_grid.specs.Layout.{Layout, bar_cell, code_cell, inner_cell}
-use Rattle.snippet_marks.specs.declared.positions.PlacedEntry.{PlacedEntry}
-use Rattle.snippet_marks.specs.Entries.{label_role, label_text}
+use Rattle.snippet_labels.specs.declared.positions.PlacedEntry.{PlacedEntry}
+use Rattle.snippet_labels.specs.Entries.{label_role, label_text}
 use Rattle.snippet_strokes.specs.EntryMarks.{wide_entries}
-use Rattle.snippet_view.specs.declared.entries.LineAnnotation.{LineAnnotation}
+use Rattle.snippet_parts.specs.declared.entries.LineAnnotation.{LineAnnotation}
 use Rattle.snippet_style.specs.Cell.{Cell}
 use Rattle.snippet_style.specs.Separators.{separator_row}
 use Rattle.snippet_strokes.specs.Drawing.{foot_glyph, row_count}
-use Rattle.snippet_marks.specs.Painting.{painting_order, marks_of, stroke_role}
-use Rattle.snippet_marks.specs.Positions.{ArePlaced, has_label, has_stem, label_place, placed_of}
+use Rattle.snippet_strokes.specs.Painting.{painting_order, marks_of, stroke_role}
+use Rattle.snippet_labels.specs.Positions.{ArePlaced, has_label, has_stem, label_place, placed_of}
 use Rattle.snippet_strokes.specs.Cuts.{cut_row, cuts_of, overlapped}
 use Rattle.snippet_strokes.specs.Rows.{CutsRows}
-use Rattle.snippet_marks.specs.SourceRows.{bare_row}
+use Rattle.snippet_strokes.specs.SourceRows.{bare_row}
 
 -- ---- labels
 

@@ -7,10 +7,11 @@ ghost use Rattle.snippet_strokes.specs.Bars.{HasRoom, StandsBeside, bar_part, ba
 ghost use Rattle.snippet_style.specs.Cell.{SPACE, written};
 ghost use Rattle.snippet_grid.specs.Layout.{bar_cell};
 
-use snippet_grid::StyledBuffer;
-use snippet_marks::{Layout, is_primary, repeated};
+use crate::lines::repeated;
+use crate::roles::is_primary;
+use snippet_grid::{Layout, StyledBuffer};
+use snippet_parts::{LineAnnotation, LineAnnotationType};
 use snippet_style::DecorStyle;
-use snippet_view::{LineAnnotation, LineAnnotationType};
 use std::alloc::{AllocError, Global};
 
 /// A bar that an entry of a line opens or closes.

@@ -1,16 +1,18 @@
 //! The lines that lead from the ends of spans of several lines to their bars.
 ghost use Rattle.std.specs.Prelude.{◌≡◌, ◌+◌, ◌<◌, All, OnOk, length};
-ghost use Rattle.snippet_marks.specs.Entries.{HasPlace};
+ghost use Rattle.snippet_labels.specs.Entries.{HasPlace};
 ghost use Rattle.snippet_strokes.specs.EntryMarks.{HasBarCell};
 ghost use Rattle.snippet_strokes.specs.Drawing.{HasRows};
 ghost use Rattle.snippet_strokes.specs.Strokes.{connector_of, connectors_of, line_to};
-ghost use Rattle.snippet_marks.specs.Writes.{painted};
+ghost use Rattle.snippet_strokes.specs.Writes.{painted};
 ghost use Rattle.snippet_grid.specs.Layout.{inner_cell};
 ghost use Rattle.snippet_style.specs.Bounds.{AreRows};
 
-use snippet_grid::StyledBuffer;
-use snippet_marks::{Layout, PlacedEntry, draw_stretch, is_primary};
-use snippet_view::LineAnnotationType;
+use crate::lines::draw_stretch;
+use crate::roles::is_primary;
+use snippet_grid::{Layout, StyledBuffer};
+use snippet_labels::PlacedEntry;
+use snippet_parts::LineAnnotationType;
 use std::alloc::{AllocError, Global};
 
 /// Draws the lines that lead from starts and ends of spans of several lines to their bars, each in the row of its position,

@@ -3,13 +3,14 @@ ghost use Rattle.std.specs.Prelude.{◌≡◌, ◌+◌, ◌<◌, ◌≤◌, All,
 ghost use Rattle.snippet_strokes.specs.EntryMarks.{HasBarCell};
 ghost use Rattle.snippet_strokes.specs.Drawing.{HasRows};
 ghost use Rattle.snippet_strokes.specs.Strokes.{bar_of, bottom_of, corner_of, corners_of, top_of};
-ghost use Rattle.snippet_marks.specs.Writes.{painted};
+ghost use Rattle.snippet_strokes.specs.Writes.{painted};
 ghost use Rattle.snippet_grid.specs.Layout.{inner_cell};
 ghost use Rattle.snippet_style.specs.Bounds.{AreRows};
 
-use snippet_grid::StyledBuffer;
-use snippet_marks::{Layout, PlacedEntry, is_primary};
-use snippet_view::LineAnnotationType;
+use crate::roles::is_primary;
+use snippet_grid::{Layout, StyledBuffer};
+use snippet_labels::PlacedEntry;
+use snippet_parts::LineAnnotationType;
 use std::alloc::AllocError;
 
 /// Draws the bars of the spans that begin or end on a line whose source row has this number, with the corners where their

@@ -1,21 +1,21 @@
 //! Wide spans, of which the middle gives its place to the placeholder, in the source row and in the row of the marks.
 ghost use Rattle.std.specs.Prelude.{◌≡◌, ◌+◌, ◌<◌, ◌≤◌, true, All, IfOk, IfSome, OnOk, length};
 ghost use Rattle.std.specs.List.{list_any, position};
-ghost use Rattle.snippet_view.specs.Measures.{is_wide_entry};
+ghost use Rattle.snippet_parts.specs.Entries.{is_wide_entry};
 ghost use Rattle.snippet_style.specs.Glyphs.{placeholder_of};
 ghost use Rattle.snippet_grid.specs.Grid.{cells_replaced};
 ghost use Rattle.snippet_style.specs.Cell.{text_cells};
 ghost use Rattle.snippet_style.specs.declared.role.ElementStyle.TheVariants.{LineNumber};
 ghost use Rattle.snippet_strokes.specs.Cuts as spec;
 ghost use Rattle.snippet_strokes.specs.Cuts.{is_wide_at};
-ghost use Rattle.snippet_marks.specs.Entries.{HasPlace};
-ghost use Rattle.snippet_marks.specs.Positions.{crosses, do_overlap};
+ghost use Rattle.snippet_labels.specs.Entries.{HasPlace};
+ghost use Rattle.snippet_labels.specs.Positions.{crosses, do_overlap};
 ghost use Rattle.snippet_style.specs.Bounds.{AreRows, HasNext};
 
-use snippet_grid::StyledBuffer;
-use snippet_marks::{Layout, PlacedEntry, crosses, overlap, position_after, position_at};
+use snippet_grid::{Layout, StyledBuffer};
+use snippet_labels::{PlacedEntry, crosses, overlap, position_after, position_at};
+use snippet_parts::{LineAnnotation, LineAnnotationType};
 use snippet_style::{DecorStyle, char_count};
-use snippet_view::{LineAnnotation, LineAnnotationType};
 use std::alloc::{AllocError, Global};
 
 /// The fewest columns that stay at each end of a span that is cut.

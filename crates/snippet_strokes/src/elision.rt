@@ -3,14 +3,13 @@ ghost use Rattle.std.specs.Prelude.{◌≡◌, ◌+◌, ◌^◌, ◌<◌, ◌≤
 ghost use Rattle.snippet_strokes.specs.Bars.{HasRoom};
 ghost use Rattle.snippet_strokes.specs.Rows.{bare_elision_row};
 ghost use Rattle.snippet_strokes.specs.Snippet.{AddsElision, AddsGap};
-ghost use Rattle.snippet_view.specs.ShownLines.{infos_of};
+ghost use Rattle.snippet_parts.specs.ShownLines.{infos_of};
 ghost use Rattle.snippet_grid.specs.Layout.{inner_cell};
 
 use crate::bars::{BarStroke, OpenBar, draw_bars};
-use snippet_grid::StyledBuffer;
-use snippet_marks::Layout;
+use snippet_grid::{Layout, StyledBuffer};
+use snippet_parts::ShownLine;
 use snippet_style::{DecorStyle, ElementStyle};
-use snippet_view::ShownLine;
 use std::alloc::{AllocError, Global};
 
 /// Draws the row that stands for the lines between one of this number and the first of the lines after it, if there are any.

@@ -1,13 +1,13 @@
 //! The parts of the source that are coloured as their marks are.
 ghost use Rattle.std.specs.Prelude.{◌+◌, ◌≡◌, OnOk, filter, length, not};
-ghost use Rattle.snippet_marks.specs.Entries as spec;
+ghost use Rattle.snippet_labels.specs.Entries as spec;
 ghost use Rattle.snippet_grid.specs.Grid.{changed_within, row_at};
 ghost use Rattle.snippet_strokes.specs.Rows.{Restyled, highlighted_row};
 ghost use Rattle.snippet_style.specs.Bounds.{IsRowEnd, IsWindowColumn};
 
-use snippet_grid::StyledBuffer;
-use snippet_marks::{Layout, is_primary};
-use snippet_view::{LineAnnotation, LineAnnotationType};
+use crate::roles::is_primary;
+use snippet_grid::{Layout, StyledBuffer};
+use snippet_parts::{LineAnnotation, LineAnnotationType};
 use std::alloc::AllocError;
 
 /// Gives the characters of a source row, of which this many columns are dropped on the left, that entries ask to highlight the

@@ -1,15 +1,16 @@
 //! The labels of marks.
 ghost use Rattle.std.specs.Prelude.{◌≡◌, All, OnOk, length};
-ghost use Rattle.snippet_marks.specs.Entries.{HasPlace, label_text};
+ghost use Rattle.snippet_labels.specs.Entries.{HasPlace, label_text};
 ghost use Rattle.snippet_strokes.specs.Drawing.{HasRows};
-ghost use Rattle.snippet_marks.specs.Positions as spec;
-ghost use Rattle.snippet_marks.specs.Positions.{HasItsLabel};
+ghost use Rattle.snippet_labels.specs.Positions as spec;
+ghost use Rattle.snippet_labels.specs.Positions.{HasItsLabel};
 ghost use Rattle.snippet_strokes.specs.Strokes.{label_of, labels_of};
-ghost use Rattle.snippet_marks.specs.Writes.{painted};
+ghost use Rattle.snippet_strokes.specs.Writes.{painted};
 ghost use Rattle.snippet_style.specs.Bounds.{AreRows, FitsRow, HasNext};
 
-use snippet_grid::StyledBuffer;
-use snippet_marks::{Layout, PlacedEntry, label_role};
+use crate::roles::label_role;
+use snippet_grid::{Layout, StyledBuffer};
+use snippet_labels::PlacedEntry;
 use std::alloc::AllocError;
 
 /// Draws the labels of some entries, the first row of which is that of the marks.

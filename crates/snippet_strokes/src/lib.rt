@@ -1,4 +1,4 @@
-//! The strokes of a snippet: for each line that is shown its source row, and below it the rows of its marks and labels.
+//! What is painted for a snippet: for each line that is shown its source row, and below it the rows of its marks and labels.
 #![tactic(auto)]
 
 mod bars;
@@ -8,10 +8,14 @@ mod cuts;
 mod elision;
 mod highlight;
 mod labels;
+mod lines;
+mod marks;
+mod roles;
+mod row;
 mod snippet;
+mod source_row;
 mod stems;
 mod strokes;
 mod whole_line;
 
 pub use snippet::draw_snippet;
-pub use snippet_marks::Layout;

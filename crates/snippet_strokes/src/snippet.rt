@@ -1,9 +1,10 @@
 //! The rows of a snippet: those of each line that is shown.
 ghost use Rattle.std.specs.Prelude.{◌≡◌, ◌+◌, ◌≤◌, ◌++◌, ◌∷◌, [], false, List, All, IfOk, IfSome, OnOk};
 ghost use Rattle.std.specs.Prelude.{chars, length, map};
-ghost use Rattle.snippet_view.specs.Measures.{StandsClear, is_bar};
-ghost use Rattle.snippet_view.specs.ShownLines.{infos_of};
-ghost use Rattle.snippet_marks.specs.Entries.{HasPlace, shifted};
+ghost use Rattle.snippet_window.specs.Measures.{StandsClear};
+ghost use Rattle.snippet_parts.specs.Entries.{is_bar};
+ghost use Rattle.snippet_parts.specs.ShownLines.{infos_of};
+ghost use Rattle.snippet_labels.specs.Entries.{HasPlace, shifted};
 ghost use Rattle.snippet_strokes.specs.EntryMarks.{HasBarCell};
 ghost use Rattle.snippet_strokes.specs.Bars.{HasRoom, ends_of_bars, open_below};
 ghost use Rattle.snippet_lines.specs.Number.{shown_number};
@@ -18,12 +19,13 @@ ghost use Rattle.snippet_text.specs.Bounds.{TextFits};
 use crate::bars::{BarStroke, OpenBar, bars_apart, draw_bars, ends_on};
 use crate::elision::draw_gap;
 use crate::highlight::highlight_source;
+use crate::source_row::draw_source_row;
 use crate::strokes::draw_strokes;
 use crate::whole_line::is_whole_line;
-use snippet_grid::StyledBuffer;
+use snippet_grid::{Layout, StyledBuffer};
 use snippet_lines::LineNumbers;
-use snippet_marks::{Layout, draw_source_row};
-use snippet_view::{AnnotatedLineInfo, Margin, ShownLine};
+use snippet_parts::{AnnotatedLineInfo, ShownLine};
+use snippet_window::Margin;
 use std::alloc::{AllocError, Global};
 
 /// Draws the lines of a snippet below all that stands in the grid: for each line its source row and its strokes. Where the

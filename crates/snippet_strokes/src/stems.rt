@@ -1,15 +1,16 @@
 //! The stems that lead from marks down to their labels, or to the lines to their bars.
 ghost use Rattle.std.specs.Prelude.{◌≡◌, ◌==◌, ◌∷◌, [], if◌then◌else◌, All, OnOk, length};
-ghost use Rattle.snippet_marks.specs.Entries.{HasPlace};
+ghost use Rattle.snippet_labels.specs.Entries.{HasPlace};
 ghost use Rattle.snippet_strokes.specs.Drawing.{HasRows, foot_glyph};
-ghost use Rattle.snippet_marks.specs.Writes.{painted};
+ghost use Rattle.snippet_strokes.specs.Writes.{painted};
 ghost use Rattle.snippet_strokes.specs.Strokes.{is_stem_covered, stem_of, stems_of};
 ghost use Rattle.snippet_style.specs.Bounds.{AreRows};
 
-use snippet_grid::StyledBuffer;
-use snippet_marks::{Layout, PlacedEntry, is_primary};
+use crate::roles::is_primary;
+use snippet_grid::{Layout, StyledBuffer};
+use snippet_labels::PlacedEntry;
+use snippet_parts::LineAnnotationType;
 use snippet_style::DecorStyle;
-use snippet_view::LineAnnotationType;
 use std::alloc::AllocError;
 
 /// Draws the stems of the entries that have one, from the row of the marks on.

@@ -1,9 +1,9 @@
 //! All that stands below the source row of a line, and the bars beside it of spans that begin or end there.
 ghost use Rattle.std.specs.Prelude.{◌≡◌, ◌+◌, ◌<◌, ◌≤◌, ◌++◌, ◌∷◌, [], if◌then◌else◌, All, IfSome, List, OnOk};
 ghost use Rattle.std.specs.Prelude.{false, length, map, true};
-ghost use Rattle.snippet_marks.specs.Entries.{HasPlace, shifted};
+ghost use Rattle.snippet_labels.specs.Entries.{HasPlace, shifted};
 ghost use Rattle.snippet_strokes.specs.EntryMarks.{HasBarCell};
-ghost use Rattle.snippet_view.specs.Measures.{is_bar};
+ghost use Rattle.snippet_parts.specs.Entries.{is_bar};
 ghost use Rattle.snippet_style.specs.Cell.{Cell};
 ghost use Rattle.snippet_strokes.specs.Drawing as spec;
 ghost use Rattle.snippet_strokes.specs.Rows.{AddsStrokes, HasNoBars};
@@ -17,12 +17,12 @@ use crate::connectors::draw_connectors;
 use crate::corners::draw_corners;
 use crate::cuts::{cut_wide, overlapping};
 use crate::labels::draw_labels;
+use crate::marks::draw_marks;
+use crate::row::{begin_closing_row, begin_rows};
 use crate::stems::draw_stems;
-use snippet_grid::StyledBuffer;
-use snippet_marks::{
-    Layout, PlacedEntry, are_starts, begin_closing_row, begin_rows, draw_marks, placed_entries,
-};
-use snippet_view::LineAnnotation;
+use snippet_grid::{Layout, StyledBuffer};
+use snippet_labels::{PlacedEntry, are_starts, placed_entries};
+use snippet_parts::LineAnnotation;
 use std::alloc::{AllocError, Global};
 
 /// Draws the strokes of a line, of which this many columns are dropped on the left, below its source row, which has this number

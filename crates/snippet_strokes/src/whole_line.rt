@@ -5,7 +5,7 @@ ghost use Rattle.std.specs.List.{list_all};
 ghost use Rattle.snippet_strokes.specs.Bars as spec;
 ghost use Rattle.snippet_text.specs.Normalized.{norm, shown};
 
-use snippet_view::{LineAnnotation, LineAnnotationType};
+use snippet_parts::{LineAnnotation, LineAnnotationType};
 
 /// Whether a line is marked as a whole: it has entries, and each is a bar, or a start with nothing but whitespace before it.
 ///

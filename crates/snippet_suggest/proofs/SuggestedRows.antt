@@ -27,7 +27,7 @@ use Rattle.snippet_suggest.specs.Cells.{begin_cells, diff_cells, emptied_cells, 
 use Rattle.snippet_suggest.specs.Cells.{shown_cells, taken_cells, with_stretches}
 use Rattle.snippet_suggest.specs.Given.{edits_of, first_given, given_lines, given_ranges, is_left_out, last_reached, last_removed, shown_kind, trimmed_of}
 use Rattle.snippet_suggest.specs.Given.{unless_stays}
-use Rattle.snippet_view.specs.Numbered.{numbered_source}
+use Rattle.snippet_parts.specs.Numbered.{numbered_source}
 use Rattle.snippet_suggest.specs.Order.{Begins, Empty, Ends, Offers, Removes, SuggestionRow, changed_rows, counted_from, is_diff, number_after, numbered_at}
 use Rattle.snippet_suggest.specs.Order.{removed_from, row_of_shown, rows_of_suggestion}
 use Rattle.snippet_suggest.specs.Rows.{rows_shared}

@@ -12,7 +12,7 @@ use Rattle.snippet_splice.specs.Overlap.{AreDisjoint}
 use Rattle.snippet_splice.specs.Stretches.{line_stretches, new_stretches, replaced_stretches}
 use Rattle.snippet_suggest.specs.declared.prepared.PreparedSuggestion.{PreparedSuggestion}
 use Rattle.snippet_suggest.specs.Given.{counted_line, edits_of, first_given, given_lines, given_ranges, given_text, shown_kind, trimmed_of}
-use Rattle.snippet_view.specs.Numbered.{numbered_source}
+use Rattle.snippet_parts.specs.Numbered.{numbered_source}
 use Rattle.snippet_text.specs.Bounds.{TextFits}
 use Rattle.snippet_style.specs.Bounds.{IsUsize}
 

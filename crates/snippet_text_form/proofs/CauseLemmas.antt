@@ -20,14 +20,14 @@ use Rattle.snippet_lines.specs.declared.place.Loc.{Loc}
 use Rattle.snippet_lines.proofs.OrderLemmas.{sorted-only, map-ordered_by}
 use Rattle.snippet_model.specs.declared.snippet.Annotation.{Annotation}
 use Rattle.snippet_model.specs.declared.snippet.Snippet.{Snippet}
-use Rattle.snippet_view.specs.Mark.{is_marking}
+use Rattle.snippet_parts.specs.Mark.{is_marking}
 use Rattle.snippet_text_form.specs.Cause.{after_place, cause_form, is_named_before, further_indent, is_labelled, kind_rank, label_characters, named_spans}
 use Rattle.snippet_text_form.specs.Cause.{span_form, span_place, spans_form}
-use Rattle.snippet_view.specs.Numbered.{numbered_source}
+use Rattle.snippet_parts.specs.Numbered.{numbered_source}
 use Rattle.snippet_text_form.specs.Form.{FormPiece, Break, bare}
 use Rattle.snippet_text_form.specs.Position.{place}
 use Rattle.snippet_text_form.specs.declared.cause.NamedSpan.{NamedSpan}
-use Rattle.snippet_view.proofs.PartLemmas.{All-order}
+use Rattle.snippet_parts.proofs.PartLemmas.{All-order}
 
 -- ---- the order
 

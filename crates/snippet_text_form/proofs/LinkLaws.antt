@@ -31,7 +31,7 @@ use Rattle.snippet_titles.specs.Heading.{address_of, heading_lines, is_set}
 use Rattle.snippet_titles.specs.Title.{id_links, text_links}
 use Rattle.snippet_titles.specs.declared.style.HeadingRoles.{HeadingRoles}
 use Rattle.snippet_text_form.specs.Cause.{cause_form, is_labelled, named_spans, further_indent, span_form, span_text, spans_form}
-use Rattle.snippet_view.specs.Numbered.{numbered_source}
+use Rattle.snippet_parts.specs.Numbered.{numbered_source}
 use Rattle.snippet_text_form.specs.Form.{FormPiece, bare, form_links, styled}
 use Rattle.snippet_text_form.specs.Heading.{before_id, before_name, colon_form, further_line, heading_form, id_form, id_text_form, label_form, heading_label}
 use Rattle.snippet_text_form.specs.Heading.{link_for, linking, lines_form, name_form, text_roles_of}

@@ -18,7 +18,7 @@ use Rattle.snippet_titles.specs.declared.style.HeadingRoles.{HeadingRoles}
 use Rattle.snippet_titles.proofs.OriginFree.{each-fails}
 use Rattle.snippet_text_form.specs.Cause.{after_place, cause_form, is_labelled, label_characters, named_spans, further_indent, span_form, span_place}
 use Rattle.snippet_text_form.specs.Cause.{spans_form}
-use Rattle.snippet_view.specs.Numbered.{numbered_source}
+use Rattle.snippet_parts.specs.Numbered.{numbered_source}
 use Rattle.snippet_text_form.specs.Form.{FormPiece, Char, Break, Styled, bare, begun_after, plain_from}
 use Rattle.snippet_text_form.specs.Heading.{heading_form, label_form, heading_label, lines_form, text_roles_of}
 use Rattle.snippet_text_form.specs.Order.{StandInOrder}

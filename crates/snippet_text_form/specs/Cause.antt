@@ -6,7 +6,7 @@ use Rattle.std.specs.Cow.{cow_str_bytes}
 use Rattle.std.specs.Fmt.{decimal}
 use Rattle.std.specs.List.{flat_map, list_all}
 use Rattle.std.specs.Option.{option_map}
-use Rattle.snippet_view.specs.Numbered.{numbered_source}
+use Rattle.snippet_parts.specs.Numbered.{numbered_source}
 use Rattle.snippet_lines.specs.Lines.{Source, line_at}
 use Rattle.snippet_lines.specs.Order.{ordered_by}
 use Rattle.snippet_lines.specs.Place.{locations_of}
@@ -15,7 +15,7 @@ use Rattle.snippet_model.specs.declared.snippet.Annotation.{Annotation}
 use Rattle.snippet_model.specs.declared.snippet.AnnotationKind.{AnnotationKind}
 use Rattle.snippet_model.specs.declared.snippet.AnnotationKind.TheVariants.{Primary, Context, Visible}
 use Rattle.snippet_model.specs.declared.snippet.Snippet.{Snippet}
-use Rattle.snippet_view.specs.Mark.{is_marking}
+use Rattle.snippet_parts.specs.Mark.{is_marking}
 use Rattle.snippet_text.specs.Normalized.{normalized_chars}
 use Rattle.snippet_titles.specs.Origin.{line_name}
 use Rattle.snippet_text_form.specs.Form.{FormPiece, Break, bare}

@@ -9,15 +9,16 @@ ghost use Rattle.std.specs.Ordering.{nat_cmp, ordering_then};
 ghost use Rattle.snippet_lines.specs.Span.{IsSpan};
 ghost use Rattle.snippet_text_form.specs.Cause.{cause_form, end_in_file, end_on_line, is_labelled, kind_rank};
 ghost use Rattle.snippet_text_form.specs.Cause.{span_form, span_place, spans_form};
-ghost use Rattle.snippet_view.specs.Numbered.{numbered_source};
+ghost use Rattle.snippet_parts.specs.Numbered.{numbered_source};
 ghost use Rattle.snippet_text_form.specs.Cause as spec;
 ghost use Rattle.snippet_text_form.specs.Form.{bare};
 ghost use Rattle.snippet_text.specs.Bounds.{IsOffset};
 
 use crate::form::TextForm;
 use crate::position::{add_column, add_line, add_place, add_place_in_file, add_place_on_line};
+use snippet_lines::Loc;
 use snippet_model::snippet::{Annotation, AnnotationKind, Snippet};
-use snippet_parts::{Loc, SourceMap, is_marking};
+use snippet_parts::{SourceMap, is_marking};
 use snippet_text::{CowStr, normalized};
 use std::alloc::{AllocError, Global};
 use std::cmp::Ordering;

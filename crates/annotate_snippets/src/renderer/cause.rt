@@ -9,8 +9,8 @@
 //! ```
 ghost use Rattle.std.specs.Prelude.{◌≡◌, ◌+◌, ◌≤◌, ◌<◌, ◌^◌, ◌++◌, OnOk, map};
 ghost use Rattle.snippet_model.specs.declared.snippet.Element.TheVariants.{Cause};
-ghost use Rattle.snippet_view.specs.Annotated.{seen_kept};
-ghost use Rattle.snippet_view.specs.Entries.{AllEntries, HasCharacterRoom};
+ghost use Rattle.snippet_parts.specs.Annotated.{seen_kept};
+ghost use Rattle.snippet_parts.specs.Entries.{AllEntries, HasCharacterRoom};
 ghost use Rattle.annotate_snippets.specs.Drawn.{AddsCause, AddsCauseLines, HasRoomFor};
 ghost use Rattle.annotate_snippets.specs.Prepared.{IsCausePrepared};
 ghost use Rattle.annotate_snippets.specs.Rows as spec;
@@ -22,14 +22,13 @@ use crate::renderer::elements::origin_layout;
 use crate::renderer::gutter::line_numbers;
 use crate::renderer::preprocess::PreparedCause;
 use snippet_grid::{Layout, StyledBuffer};
-use snippet_parts::{
-    AnnotatedLineInfo, margin_for, primary_place, secondary_place, with_lines_between,
-};
+use snippet_parts::{AnnotatedLineInfo, primary_place, secondary_place, with_lines_between};
 use snippet_strokes::draw_snippet;
 use snippet_titles::{
     OriginLocation, draw_closing, draw_nameless_head, draw_opening_head, draw_primary_head,
     draw_secondary_head, draw_separator,
 };
+use snippet_window::margin_for;
 use std::alloc::{AllocError, Global};
 
 /// Draws an annotated snippet below all that stands in the grid.

@@ -9,8 +9,8 @@ ghost use Rattle.snippet_style.specs.Bounds.{IsUsize};
 
 use crate::renderer::error::RenderError;
 use crate::renderer::form::Form;
+use snippet_lines::{SpanFault, check_span, line_feed_count, newline_count};
 use snippet_model::snippet::{Annotation, Element, Group, Marker, Patch, Snippet};
-use snippet_parts::{SpanFault, check_span, line_feed_count, newline_count};
 use snippet_splice::check_patches;
 
 /// The refusal of a report in a form, if it is refused: for a missing title where the form needs one, then for its first fault,

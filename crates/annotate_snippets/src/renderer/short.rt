@@ -10,7 +10,7 @@ ghost use Rattle.std.specs.Option.{option_copied};
 ghost use Rattle.std.specs.Str.{IsUtf8};
 ghost use Rattle.snippet_lines.specs.Span.{IsSpan};
 ghost use Rattle.snippet_model.specs.Fits.{AnnotationFits, SnippetFits};
-ghost use Rattle.snippet_view.specs.Annotated.{annotated_lines};
+ghost use Rattle.snippet_parts.specs.Annotated.{annotated_lines};
 ghost use Rattle.annotate_snippets.specs.Prepared.{IsDrawable, IsGroupDrawable};
 ghost use Rattle.annotate_snippets.specs.Rows.{place_named};
 ghost use Rattle.annotate_snippets.specs.Short as spec;

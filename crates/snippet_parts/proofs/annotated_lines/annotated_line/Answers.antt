@@ -1,7 +1,7 @@
 use Rattle.std.proofs.Common.{eqb, refl, map, ap, sym, ◌∙◌}
 use Rattle.std.specs.List.{filter}
-use Rattle.snippet_view.specs.Annotated.{PartEntry, seen_part}
-use Rattle.snippet_view.proofs.ShownLemmas.{filter-map, same-kept}
+use Rattle.snippet_parts.specs.Annotated.{PartEntry, seen_part}
+use Rattle.snippet_parts.proofs.ShownLemmas.{filter-map, same-kept}
 use Rattle.snippet_parts.proofs.annotated_lines.annotated_line.Goals as goal
 
 pub returns : goal.returns

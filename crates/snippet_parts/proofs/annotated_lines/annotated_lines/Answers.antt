@@ -1,7 +1,7 @@
 use Rattle.std.proofs.Common.{ap, subst, sym, ◌∙◌}
 use Rattle.std.specs.List.{All}
 use Rattle.std.proofs.lemmas.Result.{IfOk-weaker}
-use Rattle.snippet_view.specs.Annotated.{annotated_lines, deepest}
+use Rattle.snippet_parts.specs.Annotated.{annotated_lines, deepest}
 use Rattle.snippet_parts.specs.Located.{IsLocated, annotations_of}
 use Rattle.snippet_parts.proofs.annotated_lines.annotated_lines.Goals as goal
 

@@ -2,11 +2,11 @@ use Rattle.std.proofs.Common.{◌≡◌, ◌+◌, ◌<◌, ◌++◌, ℕ, List, 
 use Rattle.std.specs.List.{filter}
 use Rattle.std.proofs.lemmas.List.{map_more, map_push, take_all}
 use Rattle.std.proofs.lemmas.List.Elements.{All-same}
-use Rattle.snippet_view.specs.declared.entries.AnnotatedLineInfo.{AnnotatedLineInfo}
-use Rattle.snippet_view.specs.Annotated.{KeptLine, PartEntry, seen_kept, seen_part, kept_line}
+use Rattle.snippet_parts.specs.declared.entries.AnnotatedLineInfo.{AnnotatedLineInfo}
+use Rattle.snippet_parts.specs.Annotated.{KeptLine, PartEntry, seen_kept, seen_part, kept_line}
 use Rattle.snippet_lines.specs.Lines.{source_lines}
-use Rattle.snippet_view.proofs.ShownLemmas.{same-kept}
-use Rattle.snippet_view.proofs.PartLemmas.{list_any-map}
+use Rattle.snippet_parts.proofs.ShownLemmas.{same-kept}
+use Rattle.snippet_parts.proofs.PartLemmas.{list_any-map}
 use Rattle.snippet_parts.specs.declared.located.LocatedSpan.{LocatedSpan}
 use Rattle.snippet_parts.specs.Located.{annotations_of}
 use Rattle.snippet_parts.specs.Stretches.{is_seen}

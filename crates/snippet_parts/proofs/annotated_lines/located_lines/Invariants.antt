@@ -1,5 +1,5 @@
 use Rattle.std.proofs.Common.{◌≡◌, map, take}
-use Rattle.snippet_view.specs.Annotated.{seen_kept, kept_line}
+use Rattle.snippet_parts.specs.Annotated.{seen_kept, kept_line}
 use Rattle.snippet_parts.specs.Located.{annotations_of}
 use Rattle.snippet_parts.proofs.annotated_lines.located_lines.Given as goal
 

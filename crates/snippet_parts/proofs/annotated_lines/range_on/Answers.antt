@@ -1,8 +1,8 @@
 use Rattle.std.proofs.Common.{◌-◌, ◌≤◌, ℕ, leb, ltb, rules, arith, get_or}
 use Rattle.std.proofs.lemmas.Bool.{leb-true, leb-false, ltb-true, ltb-false}
 use Rattle.std.proofs.lemmas.List.Sorted.{IsPartitionedBy-leb, IsPartitionedBy-ltb, IsPartitionPoint-from_clause}
-use Rattle.snippet_view.specs.declared.entries.LineAnnotation.{LineAnnotation}
-use Rattle.snippet_view.proofs.ShownLemmas.{on-line, from-to, at-line}
+use Rattle.snippet_parts.specs.declared.entries.LineAnnotation.{LineAnnotation}
+use Rattle.snippet_parts.proofs.ShownLemmas.{on-line, from-to, at-line}
 use Rattle.snippet_parts.proofs.annotated_lines.range_on.Goals as goal
 
 pub returns : goal.returns

@@ -1,9 +1,9 @@
 use Rattle.std.proofs.Common.{◌+◌, eqb, rules, ap, ◌∙◌}
 use Rattle.std.specs.List.{filter}
 use Rattle.std.proofs.lemmas.List.Sorted.{answers_always, IsNonDecreasingBy-from_sort_by_key}
-use Rattle.snippet_view.specs.declared.entries.LineAnnotation.{LineAnnotation}
-use Rattle.snippet_view.specs.Annotated.{PartEntry}
-use Rattle.snippet_view.proofs.ShownLemmas.{stable-on-line}
+use Rattle.snippet_parts.specs.declared.entries.LineAnnotation.{LineAnnotation}
+use Rattle.snippet_parts.specs.Annotated.{PartEntry}
+use Rattle.snippet_parts.proofs.ShownLemmas.{stable-on-line}
 use Rattle.snippet_parts.proofs.annotated_lines.sorted_entries.Goals as goal
 
 pub returns-clause-sorted : goal.returns-clause-sorted

@@ -1,5 +1,5 @@
 use Rattle.std.proofs.Common.{◌+◌, ◌-◌, min, not, ap, sym, ◌∙◌, arith}
-use Rattle.snippet_view.specs.Kept.{is_trivial_line}
+use Rattle.snippet_parts.specs.Kept.{is_trivial_line}
 use Rattle.snippet_parts.proofs.BarLemmas.{bars-found, bars-none}
 use Rattle.snippet_parts.proofs.bars.bars_end.Goals as goal
 

@@ -2,13 +2,13 @@ use Rattle.std.proofs.Common.{◌≡◌, ◌<◌, ◌^◌, All, None, Some, List
 use Rattle.std.specs.Vec.Iter.{into_iter_items}
 use Rattle.std.proofs.lemmas.List.{map_push}
 use Rattle.std.proofs.lemmas.List.Elements.{All-tail}
-use Rattle.snippet_view.specs.declared.entries.AnnotatedLineInfo.{AnnotatedLineInfo}
-use Rattle.snippet_view.specs.declared.shown_line.ShownLine.{ShownLine}
-use Rattle.snippet_view.specs.Annotated.{KeptLine, seen_kept}
-use Rattle.snippet_view.specs.Between.{lines_between}
-use Rattle.snippet_view.specs.ShownLines.{infos_of, kept_of}
-use Rattle.snippet_view.proofs.BetweenLemmas.{filled, filled-shown}
-use Rattle.snippet_view.proofs.ShownLineLemmas.{infos_of-push, kept_of-kept}
+use Rattle.snippet_parts.specs.declared.entries.AnnotatedLineInfo.{AnnotatedLineInfo}
+use Rattle.snippet_parts.specs.declared.shown_line.ShownLine.{ShownLine}
+use Rattle.snippet_parts.specs.Annotated.{KeptLine, seen_kept}
+use Rattle.snippet_parts.specs.Between.{lines_between}
+use Rattle.snippet_parts.specs.ShownLines.{infos_of, kept_of}
+use Rattle.snippet_parts.proofs.BetweenLemmas.{filled, filled-shown}
+use Rattle.snippet_parts.proofs.ShownLineLemmas.{infos_of-push, kept_of-kept}
 use Rattle.snippet_parts.proofs.between.with_lines_between.Goals as goal
 
 nothing_left : {X : Type 0} (l : List X) → length l ≡ 0 → l ≡ []

@@ -1,8 +1,8 @@
 use Rattle.std.proofs.Common.{◌≡◌, ◌++◌, ◌<◌, ◌^◌, All, None, map, length}
 use Rattle.std.specs.Vec.Iter.{into_iter_items, into_iter_len}
-use Rattle.snippet_view.specs.Annotated.{seen_kept}
-use Rattle.snippet_view.specs.ShownLines.{infos_of, kept_of}
-use Rattle.snippet_view.proofs.BetweenLemmas.{filled}
+use Rattle.snippet_parts.specs.Annotated.{seen_kept}
+use Rattle.snippet_parts.specs.ShownLines.{infos_of, kept_of}
+use Rattle.snippet_parts.proofs.BetweenLemmas.{filled}
 use Rattle.snippet_parts.proofs.between.with_lines_between.Given as goal
 
 -- the lines so far, and after them those of the lines that are left

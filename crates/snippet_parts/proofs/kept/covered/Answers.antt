@@ -1,7 +1,7 @@
 use Rattle.std.proofs.Common.{◌≡◌, ◌+◌, ◌∷◌, [], ◌++◌, map, take, ltb, ap, sym, ◌∙◌, arith}
 use Rattle.std.specs.List.{range_with_len}
 use Rattle.std.proofs.lemmas.List.FromFn.{map-range_with_len_more}
-use Rattle.snippet_view.specs.Measures.{greatest}
+use Rattle.snippet_parts.specs.Least.{greatest}
 use Rattle.snippet_parts.specs.Stretches.{is_covered}
 use Rattle.snippet_parts.proofs.KeptLemmas.{greatest-more}
 use Rattle.snippet_parts.proofs.kept.covered.Goals as goal

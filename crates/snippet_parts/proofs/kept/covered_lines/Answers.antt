@@ -1,5 +1,5 @@
 use Rattle.std.proofs.Common.{◌≡◌, ◌+◌, ◌||◌, ℕ, not, ltb, take, ap, sym, ◌∙◌, arith}
-use Rattle.snippet_view.specs.Measures.{greatest}
+use Rattle.snippet_parts.specs.Least.{greatest}
 use Rattle.snippet_parts.specs.Stretches.{is_covered}
 use Rattle.snippet_parts.proofs.KeptLemmas.{greatest-more, line-kept, line-left}
 use Rattle.snippet_parts.proofs.kept.covered_lines.Goals as goal

@@ -1,6 +1,6 @@
 use Rattle.std.proofs.Common.{◌≡◌, ◌||◌, not, take}
 use Rattle.std.specs.List.{filter, range_with_len}
-use Rattle.snippet_view.specs.Measures.{greatest}
+use Rattle.snippet_parts.specs.Least.{greatest}
 use Rattle.snippet_parts.specs.Stretches.{is_covered}
 use Rattle.snippet_parts.proofs.kept.covered_lines.Given as goal
 

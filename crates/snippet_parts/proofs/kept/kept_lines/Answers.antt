@@ -4,8 +4,8 @@ use Rattle.std.proofs.lemmas.Result.{IfOk-weaker}
 use Rattle.snippet_lines.specs.Lines.{source_lines}
 use Rattle.std.proofs.lemmas.List.{take_at}
 use Rattle.std.proofs.lemmas.List.Elements.{filter_agree}
-use Rattle.snippet_view.proofs.PartLemmas.{list_any-map}
-use Rattle.snippet_view.specs.Kept.{keeps}
+use Rattle.snippet_parts.proofs.PartLemmas.{list_any-map}
+use Rattle.snippet_parts.specs.Kept.{keeps}
 use Rattle.snippet_parts.specs.Located.{annotations_of}
 use Rattle.snippet_parts.specs.declared.located.LocatedSpan.{LocatedSpan}
 use Rattle.snippet_parts.specs.Stretches.{is_covered}

@@ -1,7 +1,7 @@
 use Rattle.std.proofs.Common.{◌≡◌, ℕ, length, take}
 use Rattle.std.specs.List.{list_any}
 use Rattle.snippet_lines.specs.Lines.{source_lines}
-use Rattle.snippet_view.specs.Kept.{keeps}
+use Rattle.snippet_parts.specs.Kept.{keeps}
 use Rattle.snippet_parts.specs.declared.located.LocatedSpan.{LocatedSpan}
 use Rattle.snippet_parts.specs.Stretches.{is_covered}
 use Rattle.snippet_parts.proofs.kept.kept_lines.Given as goal

@@ -2,9 +2,9 @@ use Rattle.std.proofs.Common.{List, ◌≡◌, ◌+◌, ◌-◌, ◌≤◌, ℕ,
 use mir.Val.{bool_byte}
 use Rattle.std.specs.List.{list_any, range_with_len}
 use Rattle.snippet_model.specs.declared.snippet.Annotation.{Annotation}
-use Rattle.snippet_view.specs.Kept.{is_trivial_line}
-use Rattle.snippet_view.specs.Mark.{is_marking}
-use Rattle.snippet_view.specs.Marked.{first_line}
+use Rattle.snippet_parts.specs.Kept.{is_trivial_line}
+use Rattle.snippet_parts.specs.Mark.{is_marking}
+use Rattle.snippet_parts.specs.Marked.{first_line}
 use Rattle.snippet_parts.proofs.LocatedLemmas.{located-ordered, located-within}
 use Rattle.snippet_parts.proofs.KeptLemmas.{keeps-ends, last_bar-is, last_bar-apart}
 use Rattle.snippet_parts.proofs.kept.kept_stretches.Goals as goal

@@ -4,8 +4,8 @@ use Rattle.std.specs.List.{list_any, range_with_len}
 use Rattle.std.proofs.lemmas.List.FromFn.{get_or-map-range_with_len}
 use Rattle.snippet_lines.specs.Lines.{source_lines}
 use Rattle.snippet_model.specs.declared.snippet.Annotation.{Annotation}
-use Rattle.snippet_view.specs.Mark.{is_marking}
-use Rattle.snippet_view.proofs.PartLemmas.{list_any-map}
+use Rattle.snippet_parts.specs.Mark.{is_marking}
+use Rattle.snippet_parts.proofs.PartLemmas.{list_any-map}
 use Rattle.snippet_parts.specs.declared.located.LocatedSpan.{LocatedSpan}
 use Rattle.snippet_parts.specs.Stretches.{is_seen}
 use Rattle.snippet_parts.proofs.KeptLemmas.{unseen}

@@ -3,8 +3,8 @@ use Rattle.snippet_lines.specs.declared.place.Loc.{Loc}
 use Rattle.snippet_lines.specs.Lines.{Source}
 use Rattle.snippet_lines.specs.Place.{locations_of}
 use Rattle.snippet_model.specs.declared.snippet.Annotation.{Annotation}
-use Rattle.snippet_view.specs.Marked.{last_line}
-use Rattle.snippet_view.proofs.MarkLemmas.{first-from, end-line}
+use Rattle.snippet_parts.specs.Marked.{last_line}
+use Rattle.snippet_parts.proofs.MarkLemmas.{first-from, end-line}
 use Rattle.snippet_parts.proofs.located.located_span.Goals as goal
 
 -- the line on which an annotation's locations end

@@ -1,5 +1,5 @@
 use Rattle.std.proofs.Common.{◌≡◌, map, take}
-use Rattle.snippet_view.specs.Annotated.{long_place}
+use Rattle.snippet_parts.specs.Annotated.{long_place}
 use Rattle.snippet_parts.specs.LongSpans.{seen_long}
 use Rattle.snippet_parts.proofs.long_spans.places.Given as goal
 

@@ -2,7 +2,7 @@ use Rattle.std.proofs.Common.{◌-◌, ◌≤◌, ℕ, leb, ltb, rules, arith, g
 use Rattle.std.proofs.lemmas.Bool.{leb-true, leb-false, ltb-true, ltb-false}
 use Rattle.std.proofs.lemmas.List.Sorted.{IsPartitionedBy-leb, IsPartitionedBy-ltb, IsPartitionPoint-from_clause}
 use Rattle.snippet_parts.specs.declared.long_spans.LongSpan.{LongSpan}
-use Rattle.snippet_view.proofs.ShownLemmas.{on-line, from-to}
+use Rattle.snippet_parts.proofs.ShownLemmas.{on-line, from-to}
 use Rattle.snippet_parts.proofs.EntryLemmas.{no_span}
 use Rattle.snippet_parts.proofs.long_spans.range_on.Goals as goal
 

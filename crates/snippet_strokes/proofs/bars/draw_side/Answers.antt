@@ -6,7 +6,7 @@ use Rattle.snippet_grid.specs.Grid.{cells_written}
 use Rattle.snippet_strokes.specs.Bars.{bar_glyph, bar_part}
 use Rattle.snippet_strokes.proofs.BarRows.{ChangesRows-next, ChangesRows-none, changed-is}
 use Rattle.snippet_style.specs.Cell.{text_cells, unlinked_cell}
-use Rattle.snippet_marks.proofs.LineLemmas.{text_cells-replicate, some_bytes}
+use Rattle.snippet_strokes.proofs.LineLemmas.{text_cells-replicate, some_bytes}
 use Rattle.snippet_style.specs.declared.glyphs.Strokes.{Strokes}
 use Rattle.snippet_strokes.proofs.bars.draw_side.Goals as goal
 

@@ -1,6 +1,6 @@
 use Rattle.std.proofs.Common.{◌≡◌, take}
 use Rattle.snippet_strokes.specs.Strokes.{connectors_of}
-use Rattle.snippet_marks.specs.Writes.{painted}
+use Rattle.snippet_strokes.specs.Writes.{painted}
 use Rattle.snippet_strokes.proofs.connectors.draw_connectors.Given as goal
 
 -- the lines so far are drawn

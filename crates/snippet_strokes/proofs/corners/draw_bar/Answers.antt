@@ -5,7 +5,7 @@ use Rattle.snippet_model.specs.AnnotationKind.{is_primary}
 use Rattle.snippet_style.specs.Cell.{unlinked_cell}
 use Rattle.snippet_style.specs.Glyphs.{strokes_of, underline_role}
 use Rattle.snippet_strokes.specs.Strokes.{bar_of}
-use Rattle.snippet_marks.specs.Writes.{painted}
+use Rattle.snippet_strokes.specs.Writes.{painted}
 use Rattle.snippet_style.specs.declared.glyphs.Strokes.{Strokes}
 use Rattle.snippet_strokes.proofs.BarWrites.{bar_of-none, bar_painted}
 use Rattle.snippet_strokes.proofs.corners.draw_bar.Goals as goal

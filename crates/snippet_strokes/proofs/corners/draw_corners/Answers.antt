@@ -3,13 +3,13 @@ use Rattle.std.proofs.lemmas.List.{take_all}
 use Rattle.std.proofs.lemmas.List.Elements.{All-take}
 use Rattle.snippet_style.specs.Cell.{Cell}
 use Rattle.snippet_grid.specs.Layout.{Layout}
-use Rattle.snippet_marks.specs.declared.positions.PlacedEntry.{PlacedEntry}
+use Rattle.snippet_labels.specs.declared.positions.PlacedEntry.{PlacedEntry}
 use Rattle.snippet_strokes.specs.EntryMarks.{HasBarCell}
 use Rattle.snippet_strokes.specs.Drawing.{HasRows}
 use Rattle.snippet_strokes.specs.Strokes.{corner_of, corners_of}
-use Rattle.snippet_marks.specs.Writes.{painted}
+use Rattle.snippet_strokes.specs.Writes.{painted}
 use Rattle.snippet_strokes.proofs.BarWrites.{DrawsBarCells-corners}
-use Rattle.snippet_marks.proofs.WriteLemmas.{painted_more}
+use Rattle.snippet_strokes.proofs.WriteLemmas.{painted_more}
 use Rattle.snippet_strokes.proofs.corners.draw_corners.Goals as goal
 
 -- bars add no row

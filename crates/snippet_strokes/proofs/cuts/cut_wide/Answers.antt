@@ -1,5 +1,5 @@
 use Rattle.std.proofs.Common.{◌∙◌, ◌+◌, ◌<◌, List, false, sym, ap, arith, length, drop, get_or}
-use Rattle.snippet_marks.specs.declared.positions.PlacedEntry.{PlacedEntry}
+use Rattle.snippet_labels.specs.declared.positions.PlacedEntry.{PlacedEntry}
 use Rattle.snippet_strokes.specs.Cuts.{Stretch, cut_of, cut_rows, cuts_of}
 use Rattle.snippet_strokes.proofs.CutLemmas.{cut_rows-append, cuts_of-more}
 use Rattle.snippet_strokes.proofs.cuts.cut_wide.Goals as goal

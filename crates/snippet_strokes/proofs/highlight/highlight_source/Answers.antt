@@ -2,8 +2,8 @@ use Rattle.std.proofs.Common.{◌≡◌, ◌∙◌, ◌+◌, List, ap, arith, ta
 use Rattle.std.specs.Prelude.{filter, not}
 use Rattle.std.proofs.lemmas.List.{take_all}
 use Rattle.snippet_grid.specs.Grid.{changed_within}
-use Rattle.snippet_view.specs.declared.entries.LineAnnotation.{LineAnnotation}
-use Rattle.snippet_marks.specs.Entries.{is_end_part}
+use Rattle.snippet_parts.specs.declared.entries.LineAnnotation.{LineAnnotation}
+use Rattle.snippet_labels.specs.Entries.{is_end_part}
 use Rattle.snippet_strokes.specs.Rows.{highlighted_row}
 use Rattle.snippet_strokes.proofs.HighlightLaws.{highlighted_rows}
 use Rattle.snippet_strokes.proofs.highlight.highlight_source.Goals as goal

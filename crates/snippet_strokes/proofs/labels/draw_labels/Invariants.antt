@@ -1,6 +1,6 @@
 use Rattle.std.proofs.Common.{◌≡◌, take}
 use Rattle.snippet_strokes.specs.Strokes.{labels_of}
-use Rattle.snippet_marks.specs.Writes.{painted}
+use Rattle.snippet_strokes.specs.Writes.{painted}
 use Rattle.snippet_strokes.proofs.labels.draw_labels.Given as goal
 
 -- the labels so far are written

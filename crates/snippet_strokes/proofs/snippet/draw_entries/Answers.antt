@@ -4,10 +4,10 @@ use Rattle.snippet_strokes.specs.declared.bars.BarStroke.TheVariants.{Top}
 use Rattle.std.proofs.lemmas.List.Elements.{All-same}
 use Rattle.std.proofs.lemmas.Result.{on_ok_weaker}
 use Rattle.snippet_grid.proofs.OutcomeLemmas.{on_ok_two}
-use Rattle.snippet_marks.specs.Entries.{shifted}
+use Rattle.snippet_labels.specs.Entries.{shifted}
 use Rattle.snippet_strokes.specs.Strokes.{AddsPainted}
 use Rattle.snippet_style.specs.Cell.{Cell}
-use Rattle.snippet_view.specs.declared.entries.LineAnnotation.{LineAnnotation}
+use Rattle.snippet_parts.specs.declared.entries.LineAnnotation.{LineAnnotation}
 use Rattle.snippet_strokes.specs.Bars.{HasRoom, barred, ends_of_bars, is_whole_line}
 use Rattle.snippet_strokes.proofs.BarLemmas.{DrawsBars-barred}
 use Rattle.snippet_strokes.proofs.LineRowLemmas.{own_strokes, own_whole}

@@ -2,9 +2,9 @@ use Rattle.std.proofs.Common.{◌≡◌, ◌∙◌, ◌+◌, All, List, ap, arit
 use Rattle.std.specs.Prelude.{filter, not}
 use Rattle.std.proofs.lemmas.List.{length_push}
 use Rattle.std.proofs.lemmas.List.Elements.{All-same}
-use Rattle.snippet_view.specs.declared.entries.LineAnnotation.{LineAnnotation}
+use Rattle.snippet_parts.specs.declared.entries.LineAnnotation.{LineAnnotation}
 use Rattle.snippet_grid.specs.Grid.{changed_within}
-use Rattle.snippet_marks.specs.Entries.{is_end_part}
+use Rattle.snippet_labels.specs.Entries.{is_end_part}
 use Rattle.snippet_strokes.specs.Bars.{HasRoom, bars_apart, ends_of_bars}
 use Rattle.snippet_strokes.specs.Rows.{highlighted_row}
 use Rattle.snippet_strokes.proofs.HighlightLaws.{IsHighlighted-rows, highlighted_count, unlit_rows}

@@ -1,9 +1,9 @@
 use Rattle.std.proofs.Common.{◌≡◌, ◌∙◌, ◌+◌, ◌-◌, take, ◌==◌, ◌&&◌, [], All, sym, ap, subst, arith, length, drop}
 use Rattle.std.proofs.lemmas.List.{take_rest}
 use Rattle.std.proofs.lemmas.List.Elements.{All-nil, All-same}
-use Rattle.snippet_view.specs.declared.shown_line.ShownLine.{ShownLine}
-use Rattle.snippet_view.specs.ShownLines.{infos_of}
-use Rattle.snippet_view.proofs.ShownLineLemmas.{infos_of-at, infos_of-drop, infos_of-length}
+use Rattle.snippet_parts.specs.declared.shown_line.ShownLine.{ShownLine}
+use Rattle.snippet_parts.specs.ShownLines.{infos_of}
+use Rattle.snippet_parts.proofs.ShownLineLemmas.{infos_of-at, infos_of-drop, infos_of-length}
 use Rattle.snippet_strokes.specs.EntryMarks.{HasBarCell}
 use Rattle.snippet_strokes.specs.Bars.{HasRoom, open_below}
 use Rattle.snippet_strokes.specs.Snippet.{AddsGap, AddsLine}

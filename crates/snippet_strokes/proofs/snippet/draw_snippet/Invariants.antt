@@ -1,5 +1,5 @@
 use Rattle.std.proofs.Common.{All}
-use Rattle.snippet_view.specs.ShownLines.{infos_of}
+use Rattle.snippet_parts.specs.ShownLines.{infos_of}
 use Rattle.snippet_strokes.specs.Bars.{HasRoom}
 use Rattle.snippet_strokes.proofs.SnippetLemmas.{AddsLines}
 use Rattle.snippet_strokes.proofs.snippet.draw_snippet.Given as goal

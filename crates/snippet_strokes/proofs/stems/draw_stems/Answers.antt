@@ -2,7 +2,7 @@ use Rattle.std.proofs.Common.{◌≡◌, ◌∙◌, ◌+◌, ◌-◌, ◌∷◌,
 use Rattle.std.proofs.lemmas.List.{drop_more, drop_all, length-drop, take_all}
 use Rattle.snippet_strokes.specs.Drawing.{HasRows}
 use Rattle.snippet_strokes.specs.Strokes.{is_stem_covered, stems_of}
-use Rattle.snippet_marks.specs.Writes.{painted}
+use Rattle.snippet_strokes.specs.Writes.{painted}
 use Rattle.snippet_strokes.proofs.StemWrites.{stem_count, stems_next, stems_skip}
 use Rattle.snippet_strokes.proofs.stems.draw_stems.Goals.{then-not-is_stem_covered+in_ok-draw_stem, else-not-is_stem_covered}
 use Rattle.snippet_strokes.proofs.stems.draw_stems.Goals as goal

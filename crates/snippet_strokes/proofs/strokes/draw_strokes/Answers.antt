@@ -3,21 +3,21 @@ use Rattle.std.proofs.lemmas.Result.{on_ok_weaker}
 use Rattle.snippet_grid.specs.Layout.{Layout}
 use Rattle.std.proofs.lemmas.List.{length_push, length-map}
 use Rattle.std.proofs.lemmas.List.Sorted.{All-permutation, length_permutation}
-use Rattle.snippet_view.specs.declared.entries.LineAnnotation.{LineAnnotation}
-use Rattle.snippet_marks.specs.declared.positions.PlacedEntry.{PlacedEntry}
-use Rattle.snippet_marks.specs.Painting.{marks_of, painting_order}
-use Rattle.snippet_marks.specs.Positions.{HasItsLabel}
+use Rattle.snippet_parts.specs.declared.entries.LineAnnotation.{LineAnnotation}
+use Rattle.snippet_labels.specs.declared.positions.PlacedEntry.{PlacedEntry}
+use Rattle.snippet_strokes.specs.Painting.{marks_of, painting_order}
+use Rattle.snippet_labels.specs.Positions.{HasItsLabel}
 use Rattle.snippet_strokes.specs.Drawing.{row_count}
 use Rattle.snippet_style.specs.Cell.{Cell}
-use Rattle.snippet_marks.specs.Entries.{HasPlace, label_text, shifted}
+use Rattle.snippet_labels.specs.Entries.{HasPlace, label_text, shifted}
 use Rattle.snippet_strokes.specs.EntryMarks.{HasBarCell}
 use Rattle.snippet_strokes.proofs.ShiftLemmas.{shifted_places}
 use Rattle.std.specs.List.{list_any}
 use Rattle.snippet_strokes.specs.Cuts.{cut_rows, cuts_of, is_wide_at, overlapped}
-use Rattle.snippet_marks.specs.SourceRows.{bare_row}
+use Rattle.snippet_strokes.specs.SourceRows.{bare_row}
 use Rattle.snippet_style.specs.Separators.{separator_row}
-use Rattle.snippet_marks.proofs.OrderLemmas.{IsPermutation-painting_order}
-use Rattle.snippet_marks.proofs.PlacedLemmas.{entries_all}
+use Rattle.snippet_strokes.proofs.PaintOrder.{IsPermutation-painting_order}
+use Rattle.snippet_labels.proofs.PlacedLemmas.{entries_all}
 use Rattle.snippet_strokes.proofs.PositionLemmas.{row_count_some, positions_of_placed}
 use Rattle.snippet_strokes.proofs.BegunLemmas.{rows_begun}
 use Rattle.snippet_strokes.proofs.ReadyRows.{count_connectors, count_corners, count_labels, count_marks, count_stems, enough_begun, rows_beside, rows_for}
@@ -25,7 +25,7 @@ use Rattle.snippet_strokes.proofs.StrokeLemmas.{strokes_drawn}
 use Rattle.snippet_strokes.proofs.NoStrokes.{strokes_none}
 use Rattle.snippet_strokes.proofs.TextLemmas.{labels_short}
 use Rattle.snippet_strokes.specs.Strokes.{connectors_of, corners_of, labels_of, stems_of, line_strokes}
-use Rattle.snippet_marks.specs.Writes.{painted}
+use Rattle.snippet_strokes.specs.Writes.{painted}
 use Rattle.snippet_strokes.proofs.StrokeWrites.{strokes_painted}
 use Rattle.snippet_strokes.proofs.LineRowLemmas.{painted_added}
 use Rattle.snippet_strokes.proofs.strokes.draw_strokes.Goals as goal

@@ -13,7 +13,7 @@ use Rattle.snippet_splice.specs.Splice.{IsSplice}
 use Rattle.snippet_splice.specs.Shown.{first_start, shown_start, shown_text}
 use Rattle.snippet_splice.specs.Stretches.{new_stretches, replaced_stretches}
 use Rattle.snippet_suggest.specs.Given.{edits_of, given_ranges, given_text, shown_kind, trimmed_of}
-use Rattle.snippet_view.specs.Numbered.{numbered_source}
+use Rattle.snippet_parts.specs.Numbered.{numbered_source}
 use Rattle.snippet_suggest.specs.Kind.{kind_of}
 use Rattle.snippet_suggest.proofs.PreparedLemmas.{counted-is, some-left}
 use Rattle.snippet_suggest.proofs.prepared.prepare_suggestion.Goals as goal

@@ -1,6 +1,6 @@
 -- The spans so far are those that are marked.
 use Rattle.std.proofs.Common.{◌≡◌, filter, map, take}
-use Rattle.snippet_view.specs.Mark.{is_marking}
+use Rattle.snippet_parts.specs.Mark.{is_marking}
 use Rattle.snippet_text_form.proofs.CauseLemmas.{annotation_of}
 use Rattle.snippet_text_form.proofs.cause.named_spans.Given as goal
 

@@ -6,17 +6,17 @@ use Rattle.snippet_lines.specs.Lines.{Source}
 use Rattle.snippet_lines.specs.Number.{shown_number}
 use Rattle.snippet_lines.specs.Span.{IsSpan}
 use Rattle.snippet_lines.specs.declared.number.LineNumbers.{LineNumbers}
-use Rattle.snippet_view.specs.declared.entries.AnnotatedLineInfo.{AnnotatedLineInfo}
-use Rattle.snippet_view.specs.ShownLines.{infos_of, kept_of}
-use Rattle.snippet_view.proofs.ShownLineLemmas.{infos_all}
-use Rattle.snippet_view.specs.Annotated.{annotated_lines, kept_line, seen_kept}
-use Rattle.snippet_view.specs.Kept.{kept_lines, shown_lines}
-use Rattle.snippet_view.specs.Margin.{bounds_of}
-use Rattle.snippet_view.specs.Measures.{margin_of}
-use Rattle.snippet_view.specs.declared.entries.LineAnnotation.{LineAnnotation}
-use Rattle.snippet_view.specs.Measures.{StandsClear}
+use Rattle.snippet_parts.specs.declared.entries.AnnotatedLineInfo.{AnnotatedLineInfo}
+use Rattle.snippet_parts.specs.ShownLines.{infos_of, kept_of}
+use Rattle.snippet_parts.proofs.ShownLineLemmas.{infos_all}
+use Rattle.snippet_parts.specs.Annotated.{annotated_lines, kept_line, seen_kept}
+use Rattle.snippet_parts.specs.Kept.{kept_lines, shown_lines}
+use Rattle.snippet_window.specs.Margin.{bounds_of}
+use Rattle.snippet_window.specs.Measures.{margin_of}
+use Rattle.snippet_parts.specs.declared.entries.LineAnnotation.{LineAnnotation}
+use Rattle.snippet_window.specs.Measures.{StandsClear}
 use Rattle.snippet_grid.specs.Layout.{Layout}
-use Rattle.snippet_marks.specs.Entries.{HasPlace}
+use Rattle.snippet_labels.specs.Entries.{HasPlace}
 use Rattle.snippet_strokes.specs.EntryMarks.{HasBarCell}
 use Rattle.snippet_strokes.specs.Snippet.{AreLinesShown}
 use Rattle.annotate_snippets.specs.Gutter.{numbered_source}

@@ -6,7 +6,7 @@ use Rattle.snippet_lines.specs.Lines.{Source, newline_count}
 use Rattle.snippet_lines.specs.Span.{IsSpan}
 use Rattle.snippet_lines.proofs.LinesLemmas.{length-source_lines}
 use Rattle.snippet_model.specs.Fits.{TextFits}
-use Rattle.snippet_view.specs.Annotated.{annotated_lines}
+use Rattle.snippet_parts.specs.Annotated.{annotated_lines}
 use Rattle.snippet_titles.specs.Origin.{origin_text}
 use Rattle.snippet_titles.specs.declared.origin.OriginLocation.{OriginLocation}
 use Rattle.annotate_snippets.specs.Around.{path_bytes}

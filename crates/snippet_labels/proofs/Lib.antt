@@ -1,0 +1,3 @@
+pub mod CharLemmas
+pub mod OrderLemmas
+pub mod PlacedLemmas

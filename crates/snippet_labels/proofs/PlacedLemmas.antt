@@ -1,0 +1,185 @@
+-- How the entries of a line are placed, one position after another.
+use Rattle.std.proofs.Common.{◌≡◌, ℕ, suc, ◌+◌, ◌-◌, ◌<◌, ◌≤◌, ◌^◌, ◌==◌, ◌&&◌, ◌||◌, cond, Bool, true, false, List, [], ◌∷◌, ◌++◌, length, map, drop, take}
+use Rattle.std.proofs.Common.{set, get_or, refl, sym, ap, ◌∙◌, subst, arith, All, zero}
+use Rattle.std.specs.List.{list_all, list_any}
+use Rattle.std.specs.Cow.{cow_str_bytes}
+use Rattle.std.proofs.lemmas.Bool.Decides.{nat_tests}
+use Rattle.std.proofs.lemmas.Simd.{map-map}
+use Rattle.std.proofs.lemmas.List.{append_assoc, append-nil, drop_more, drop_all, take_more, take_more_set, take_all, length-map, get_or-map}
+use Rattle.std.proofs.lemmas.List.Folds.{list_all-map}
+use Rattle.std.specs.List.Sorted.{IsPermutation}
+use Rattle.std.proofs.lemmas.List.Sorted.{All-permutation, IsPermutation-map}
+use Rattle.snippet_lines.specs.Order.{ordered_by}
+use Rattle.snippet_parts.specs.declared.entries.LineAnnotation.{LineAnnotation}
+use Rattle.snippet_labels.specs.declared.positions.PlacedEntry.{PlacedEntry}
+use Rattle.snippet_labels.specs.Positions.{ArePlaced, IsFromRight, HasItsBytes, HasItsLabel, asks, do_overlap, ends_no_later, has_label, takes_space, is_start}
+use Rattle.snippet_labels.specs.Positions.{are_starts, crosses, crowds, position_at, position_after, positions, flipped, line_positions, unplaced}
+use Rattle.snippet_labels.specs.Positions.{is_placed_before}
+use Rattle.snippet_parts.specs.Least.{greatest}
+use Rattle.snippet_parts.proofs.PartLemmas.{list_any-map}
+use Rattle.std.proofs.lemmas.List.Elements.{All-map}
+use Rattle.snippet_labels.specs.Entries.{shifted}
+
+-- one more position is known
+pub positions_more : (ps : List ℕ) (es : List PlacedEntry) (all : List ℕ) (i reached : ℕ) (d : PlacedEntry) → i < length es
+    → ps ++ positions reached (drop i es) ≡ all → let e = get_or es i d in let others = drop (i + 1) es in
+    (ps ++ position_at reached e others ∷ []) ++ positions (position_after (position_at reached e others) e others) others ≡ all
+positions_more ps es all i reached d within so_far =
+    let e = get_or es i d in
+    let others = drop (i + 1) es in
+    append_assoc ps (position_at reached e others ∷ []) (positions (position_after (position_at reached e others) e others) others) ∙ sym (ap (λ xs. ps ++ positions reached xs) (drop_more es i d within)) ∙ so_far
+
+-- the position reached grows by one at most, from 1 on
+pub reached_low : (reached i : ℕ) (e : PlacedEntry) (others : List PlacedEntry) → reached ≤ i + 1
+    → position_after (position_at reached e others) e others ≤ i + 1 + 1
+reached_low reached i e others low =
+    grind (arith, nat_tests)
+
+-- a position is given to one more entry
+pub placed_more : (es first : List PlacedEntry) (ps : List ℕ) (i : ℕ) (e : PlacedEntry) → i < length es → i < length ps
+    → map (λ (x : PlacedEntry). x.position) (take i es) ≡ take i ps → e.position ≡ get_or ps i 0
+    → map (λ (x : PlacedEntry). x.position) (take (i + 1) (set es i e)) ≡ take (i + 1) ps
+placed_more es first ps i e within within_ps so_far is =
+    ap (map (λ (x : PlacedEntry). x.position)) (take_more_set es i e within) ∙ map-push (take i es) e ∙ ap (λ xs. xs ++ e.position ∷ []) so_far ∙ ap (λ p. take i ps ++ p ∷ []) is ∙ sym (take_more ps i 0 within_ps)
+  where
+    map-push : (xs : List PlacedEntry) (x : PlacedEntry)
+        → map (λ (y : PlacedEntry). y.position) (xs ++ x ∷ []) ≡ map (λ (y : PlacedEntry). y.position) xs ++ x.position ∷ []
+    map-push [] x = refl
+    map-push (y ∷ ys) x = ap (λ zs. y.position ∷ zs) (map-push ys x)
+
+-- there are as many positions as entries
+pub length-positions : (p : ℕ) (es : List PlacedEntry) → length (positions p es) ≡ length es
+length-positions p [] = refl
+length-positions p (e ∷ others) =
+    ap suc (length-positions (position_after (position_at p e others) e others) others)
+
+-- what holds of the entries of a line holds of the placed ones
+pub entries_all : (Q : LineAnnotation → Type 0) (es : List LineAnnotation) (ps : List PlacedEntry) → IsPermutation es (map (λ (e : PlacedEntry). e.entry) ps)
+    → All Q es → All (λ (e : PlacedEntry). Q e.entry) ps
+entries_all Q es ps same all k d within =
+    let f : PlacedEntry → LineAnnotation = λ e. e.entry in
+    subst Q (get_or-map f ps k d d.entry within) (All-permutation Q es (map f ps) same all k d.entry (omega (arith, within, length-map ps f)))
+
+-- entries changed in what the rule of positions doesn't look at have the same positions
+module _ (f : PlacedEntry → PlacedEntry)
+    (has : (e : PlacedEntry) → has_label (f e) ≡ has_label e)
+    (crossing : (e : PlacedEntry) → (λ (g : PlacedEntry). crosses (f e) (f g)) ≡ crosses e)
+    (crowding : (p : ℕ) (e : PlacedEntry) → (λ (g : PlacedEntry). crowds p (f e) (f g)) ≡ crowds p e)
+    (starting : (λ (e : PlacedEntry). is_start (f e)) ≡ is_start) where
+  pub position_at-changed : (p : ℕ) (e : PlacedEntry) (others : List PlacedEntry) → position_at p (f e) (map f others) ≡ position_at p e others
+  position_at-changed p e others =
+      ap (λ b. cond ((p == 0) && (b && list_any (crosses (f e)) (map f others))) 1 p) (has e)
+      ∙ ap (λ b. cond ((p == 0) && (has_label e && b)) 1 p) (list_any-map (crosses (f e)) f others ∙ ap (λ q. list_any q others) (crossing e))
+
+  pub position_after-changed : (p : ℕ) (e : PlacedEntry) (others : List PlacedEntry) → position_after p (f e) (map f others) ≡ position_after p e others
+  position_after-changed p e others =
+      ap (λ b. cond b (p + 1) p) (list_any-map (crowds p (f e)) f others ∙ ap (λ q. list_any q others) (crowding p e))
+
+  positions-changed : (p : ℕ) (es : List PlacedEntry) → positions p (map f es) ≡ positions p es
+  positions-changed p [] = refl
+  positions-changed p (e ∷ others) =
+      let here = position_at p e others in
+      ap (λ q. q ∷ positions (position_after q (f e) (map f others)) (map f others)) (position_at-changed p e others)
+      ∙ ap (λ q. here ∷ positions q (map f others)) (position_after-changed here e others)
+      ∙ ap (λ qs. here ∷ qs) (positions-changed (position_after here e others) others)
+
+  pub are_starts-changed : (es : List PlacedEntry) → are_starts (map f es) ≡ are_starts es
+  are_starts-changed es = list_all-map is_start f es ∙ ap (λ q. list_all q es) starting
+
+  pub line_positions-changed : (es : List PlacedEntry) → line_positions (map f es) ≡ line_positions es
+  line_positions-changed es =
+      ap (λ b. cond b (flipped (positions 0 (map f es))) (positions 0 (map f es))) (are_starts-changed es) ∙ ap (λ ps. cond (are_starts es) (flipped ps) ps) (positions-changed 0 es)
+
+-- what doesn't look at positions is kept where nothing else changes
+pub all_kept : (P : PlacedEntry → Type 0) (es fs : List PlacedEntry) → ((e : PlacedEntry) → P (unplaced e) → P e) → ((e : PlacedEntry) → P e → P (unplaced e))
+    → map unplaced es ≡ map unplaced fs → All P fs → All P es
+all_kept P es fs back forth kept all k d within =
+    let long : length es ≡ length fs = sym (length-map es unplaced) ∙ ap length kept ∙ length-map fs unplaced in
+    let inside : k < length fs = omega (arith, long, within) in
+    let same : unplaced (get_or es k d) ≡ unplaced (get_or fs k d) = sym (get_or-map unplaced es k d (unplaced d) within) ∙ ap (λ xs. get_or xs k (unplaced d)) kept ∙ get_or-map unplaced fs k d (unplaced d) inside in
+    back (get_or es k d) (subst P (sym same) (forth (get_or fs k d) (all k d inside)))
+
+pub entries_kept : (es fs : List PlacedEntry) → map unplaced es ≡ map unplaced fs
+    → map (λ (e : PlacedEntry). e.entry) es ≡ map (λ (e : PlacedEntry). e.entry) fs
+entries_kept es fs kept =
+    let f : PlacedEntry → LineAnnotation = λ e. e.entry in
+    sym (map-map f unplaced es) ∙ ap (map f) kept ∙ map-map f unplaced fs
+
+-- each entry of a line has a position
+pub length-line_positions : (es : List PlacedEntry) → length (line_positions es) ≡ length es
+length-line_positions es =
+    elim (are_starts es) as (λ b. length (cond b (flipped (positions 0 es)) (positions 0 es)) ≡ length es) [
+      | true ↦ length-map (positions 0 es) (λ p. greatest (positions 0 es) - p) ∙ length-positions 0 es
+      | false ↦ length-positions 0 es
+    ]
+
+-- so positions don't depend on positions
+line_positions-unplaced : (es : List PlacedEntry) → line_positions (map unplaced es) ≡ line_positions es
+line_positions-unplaced = line_positions-changed unplaced (λ e. refl) (λ e. refl) (λ p e. refl) refl
+
+pub line_positions_kept : (es fs : List PlacedEntry) → map unplaced es ≡ map unplaced fs → line_positions es ≡ line_positions fs
+line_positions_kept es fs kept = sym (line_positions-unplaced es) ∙ ap line_positions kept ∙ line_positions-unplaced fs
+
+-- a part that was lent, as long as the whole, comes back in its place
+pub written_back : (xs ys : List PlacedEntry) (len : ℕ) → len ≡ length ys → map unplaced xs ≡ map unplaced ys → take len (xs ++ drop (length xs) ys) ≡ xs
+written_back xs ys len is kept =
+    let long : length xs ≡ length ys = sym (length-map xs unplaced) ∙ ap length kept ∙ length-map ys unplaced in
+    ap (λ rest. take len (xs ++ rest)) (drop_all (length xs) ys (omega (arith, long))) ∙ ap (take len) (append-nil xs) ∙ take_all len xs (omega (arith, is, long))
+
+-- entries that were put in an order and got the positions of it are placed
+pub ArePlaced-from : (es : List LineAnnotation) (labelled sorted placed : List PlacedEntry) (ps : List ℕ)
+    → map (λ (e : PlacedEntry). e.entry) labelled ≡ es → All HasItsLabel labelled → All HasItsBytes labelled → IsPermutation labelled sorted
+    → map (λ (e : PlacedEntry). e.entry) sorted ≡ ordered_by is_placed_before (map (λ (e : PlacedEntry). e.entry) labelled)
+    → IsFromRight (map (λ (e : PlacedEntry). e.entry) sorted) → ps ≡ line_positions sorted → map (λ (e : PlacedEntry). e.position) placed ≡ ps
+    → map unplaced placed ≡ map unplaced sorted → ArePlaced es placed
+ArePlaced-from es labelled sorted placed ps entries labels bytes same order ordered are got kept =
+    let f : PlacedEntry → LineAnnotation = λ e. e.entry in
+    record {
+      order = entries_kept placed sorted kept ∙ order ∙ ap (ordered_by is_placed_before) entries;
+      same = subst (IsPermutation es) (sym (entries_kept placed sorted kept)) (subst (λ xs. IsPermutation xs (map f sorted)) entries (IsPermutation-map f labelled sorted same));
+      from_right = subst IsFromRight (sym (entries_kept placed sorted kept)) ordered;
+      labels = all_kept HasItsLabel placed sorted (λ e has. has) (λ e has. has) kept (All-permutation HasItsLabel labelled sorted same labels);
+      bytes = all_kept HasItsBytes placed sorted (λ e has. has) (λ e has. has) kept (All-permutation HasItsBytes labelled sorted same bytes);
+      positions_are = got ∙ are ∙ sym (line_positions_kept placed sorted kept);
+    }
+
+-- ---- entries that ask for no row
+
+any_none : {X : Type 0} (q : X → Bool) (xs : List X) → ((k : ℕ) (d : X) → k < length xs → q (get_or xs k d) ≡ false) → list_any q xs ≡ false
+any_none q [] none = refl
+any_none q (x ∷ xs) none =
+    ap (λ b. b || list_any q xs) (none 0 x (omega arith)) ∙ any_none q xs (λ k d within. none (suc k) d (omega (arith, within)))
+
+any_front : {X : Type 0} (q : X → Bool) (n : ℕ) (xs : List X) → ((k : ℕ) (d : X) → n ≤ k → k < length xs → q (get_or xs k d) ≡ false)
+    → list_any q (take n xs) ≡ list_any q xs
+any_front q zero xs none = sym (any_none q xs (λ k d within. none k d (omega arith) within))
+any_front q (suc n) [] none = refl
+any_front q (suc n) (x ∷ xs) none =
+    ap (λ b. q x || b) (any_front q n xs (λ k d past within. none (suc k) d (omega (arith, past)) (omega (arith, within))))
+
+-- an entry that asks for no row crowds no other
+uncrowding : (p : ℕ) (e other : PlacedEntry) → asks other ≡ false → crowds p e other ≡ false
+uncrowding p e other none =
+    by_tests (takes_space e) (has_label e) (has_label other) (takes_space other) (do_overlap other (length (cow_str_bytes other.label) + 2) e) (has_label e || (p == 0 && ends_no_later other e)) none
+  where
+    by_tests : (own_space own_label label space overlap wide : Bool) → (label || space) ≡ false
+        → (((own_space && (label || space)) || (own_label && space)) || (label && overlap && wide)) ≡ false
+    by_tests own_space own_label true space overlap wide is = cc is
+    by_tests own_space own_label false true overlap wide is = cc is
+    by_tests true true false false overlap wide is = refl
+    by_tests true false false false overlap wide is = refl
+    by_tests false true false false overlap wide is = refl
+    by_tests false false false false overlap wide is = refl
+
+-- so only those that ask decide which position is reached
+pub position_after-front : (p : ℕ) (e : PlacedEntry) (others : List PlacedEntry) (n : ℕ)
+    → ((k : ℕ) (d : PlacedEntry) → n ≤ k → k < length others → asks (get_or others k d) ≡ false)
+    → position_after p e (take n others) ≡ position_after p e others
+position_after-front p e others n none =
+    ap (λ b. cond b (p + 1) p) (any_front (crowds p e) n others (λ k d past within. uncrowding p e (get_or others k d) (none k d past within)))
+
+-- shifted entries end no farther right
+pub shifted_narrow : (dropped : ℕ) (es : List LineAnnotation) → All (λ e. e.end.display < 2 ^ 60) es
+    → All (λ e. e.end.display < 2 ^ 60) (map (shifted dropped) es)
+shifted_narrow dropped es narrow =
+    All-map (λ (e : LineAnnotation). e.end.display < 2 ^ 60) (shifted dropped) es (λ k d within. omega (arith, narrow k d within))

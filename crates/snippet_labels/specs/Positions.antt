@@ -1,0 +1,165 @@
+-- Where the labels of a line stand, and the lines that lead to bars.
+use Rattle.std.specs.Prelude.{◌≡◌, ℕ, ◌+◌, ◌-◌, ◌<◌, ◌≤◌, ◌==◌, ◌&&◌, ◌||◌, nat_le, nat_lt, not, Bool, true, false, List, [], ◌∷◌, All, IsPermutation, length}
+use Rattle.std.specs.Prelude.{map, chars, encode_utf8_all, slice_index_or, if◌then◌else◌}
+use Rattle.std.specs.List.{list_all, list_any, zip}
+use Rattle.std.specs.declared.borrow.CowStr.TheVariants.{Borrowed}
+use Rattle.std.specs.Cow.{cow_str_bytes}
+use Rattle.snippet_parts.specs.declared.entries.LineAnnotation.{LineAnnotation}
+use Rattle.snippet_parts.specs.declared.entries.LineAnnotationType.{LineAnnotationType}
+use Rattle.snippet_parts.specs.declared.entries.LineAnnotationType.TheVariants.{Singleline, MultilineStart, MultilineEnd, MultilineLine}
+use Rattle.snippet_lines.specs.Order.{ordered_by}
+use Rattle.snippet_parts.specs.Least.{greatest}
+use Rattle.snippet_labels.specs.declared.positions.PlacedEntry.{PlacedEntry}
+use Rattle.snippet_labels.specs.Entries.{is_end_part, label_text}
+
+-- the label holds the characters that its entry shows
+abbrev pub HasItsLabel : PlacedEntry → Type 0
+HasItsLabel e = chars (cow_str_bytes e.label) ≡ label_text e.entry
+
+-- the label's bytes are those of these characters
+abbrev pub HasItsBytes : PlacedEntry → Type 0
+HasItsBytes e = cow_str_bytes e.label ≡ encode_utf8_all (label_text e.entry)
+
+-- whether an entry has a label that shows anything
+abbrev pub has_label : PlacedEntry → Bool
+has_label e = not (length (chars (cow_str_bytes e.label)) == 0)
+
+-- whether an entry is the start or the end of a span of several lines, so that a line leads from its mark to a bar
+abbrev pub takes_space : PlacedEntry → Bool
+takes_space e = is_end_part e.entry.annotation_type
+
+-- whether a stem leads down from its mark: to its label, or to the line to its bar
+abbrev pub has_stem : PlacedEntry → Bool
+has_stem e = nat_lt 0 e.position && (has_label e || takes_space e)
+
+-- whether one of two entries starts in the columns of the other, those of the first being `more` more
+abbrev pub do_overlap : PlacedEntry → ℕ → PlacedEntry → Bool
+do_overlap e more f =
+    (nat_le f.entry.start.display e.entry.start.display && nat_lt e.entry.start.display f.entry.end.display) || (nat_le e.entry.start.display f.entry.start.display && nat_lt f.entry.start.display (e.entry.end.display + more))
+
+-- whether two entries have the same start and the same end, in columns and in characters
+abbrev pub is_same_place : PlacedEntry → PlacedEntry → Bool
+is_same_place e f =
+    e.entry.start.display == f.entry.start.display && e.entry.start.char == f.entry.start.char && e.entry.end.display == f.entry.end.display && e.entry.end.char == f.entry.end.char
+
+-- whether an entry ends no later than another: at a lesser column, or at the same one and no greater character
+abbrev pub ends_no_later : PlacedEntry → PlacedEntry → Bool
+ends_no_later e f =
+    nat_lt e.entry.end.display f.entry.end.display || (e.entry.end.display == f.entry.end.display && nat_le e.entry.end.char f.entry.end.char)
+
+-- whether another entry's mark stands in the way of a label after its mark: they overlap, and aren't one mark of which
+-- the other has no label
+abbrev pub crosses : PlacedEntry → PlacedEntry → Bool
+crosses e other = do_overlap other 0 e && (has_label other || not (is_same_place e other))
+
+-- whether the lines to bars of two entries, or such a line and a label, would meet in one row: one of the two is a start or
+-- an end, and the other is too, or has a label
+abbrev pub blocks : PlacedEntry → PlacedEntry → Bool
+blocks e other = (takes_space e && (has_label other || takes_space other)) || (has_label e && takes_space other)
+
+-- whether another entry's label, and the two columns after it, would reach into this entry, which has a label too, or
+-- stands at position 0 and ends no earlier
+abbrev pub reaches : ℕ → PlacedEntry → PlacedEntry → Bool
+reaches p e other =
+    has_label other && do_overlap other (length (cow_str_bytes other.label) + 2) e && (has_label e || (p == 0 && ends_no_later other e))
+
+-- whether another entry needs a row below that of this entry, which has position p
+abbrev pub crowds : ℕ → PlacedEntry → PlacedEntry → Bool
+crowds p e other = blocks e other || reaches p e other
+
+-- whether an entry may need a row of its own at all: it has a label, or a line to a bar
+abbrev pub asks : PlacedEntry → Bool
+asks e = has_label e || takes_space e
+
+-- no entry from this place on does
+abbrev pub AsksBefore : ℕ → List PlacedEntry → Type 0
+AsksBefore end es = (k : ℕ) (d : PlacedEntry) → end ≤ k → k < length es → asks (slice_index_or es k d) ≡ false
+
+-- the position of an entry in front of others, where p is the one reached: position 0 isn't taken where a mark stands in
+-- the way
+abbrev pub position_at : ℕ → PlacedEntry → List PlacedEntry → ℕ
+position_at p e others = if p == 0 && (has_label e && list_any (crosses e) others) then 1 else p
+
+-- the position reached after it: one more where an entry after needs a row of its own
+abbrev pub position_after : ℕ → PlacedEntry → List PlacedEntry → ℕ
+position_after p e others = if list_any (crowds p e) others then p + 1 else p
+
+-- the positions of entries, in their order, from the one reached on
+abbrev pub positions : ℕ → List PlacedEntry → List ℕ
+positions p [] = []
+positions p (e ∷ others) =
+    position_at p e others ∷ positions (position_after (position_at p e others) e others) others
+
+-- whether a part of a span is the start of one of several lines
+abbrev pub is_start_part : LineAnnotationType → Bool
+is_start_part Singleline = false
+is_start_part (MultilineStart depth) = true
+is_start_part (MultilineEnd depth) = false
+is_start_part (MultilineLine depth) = false
+
+-- whether an entry is such a start, and has no label that shows anything; and whether all entries of a line are
+abbrev pub is_start : PlacedEntry → Bool
+is_start e = is_start_part e.entry.annotation_type && not (has_label e)
+
+abbrev pub are_starts : List PlacedEntry → Bool
+are_starts es = list_all is_start es
+
+-- positions flipped: the greatest becomes 0, and 0 the greatest
+abbrev pub flipped : List ℕ → List ℕ
+flipped ps = map (λ p. greatest ps - p) ps
+
+-- the positions of the entries of a line: flipped where all are starts
+abbrev pub line_positions : List PlacedEntry → List ℕ
+line_positions es = if are_starts es then flipped (positions 0 es) else positions 0 es
+
+-- where the label of an entry begins: how many rows below the row of the marks, and at which column; a mark that ends at
+-- column 0 still takes that column
+abbrev pub label_place : PlacedEntry → ℕ × ℕ
+label_place e =
+    if e.position == 0 then (0, if e.entry.end.display == 0 then 2 else e.entry.end.display + 1) else (e.position + 1, e.entry.start.display)
+
+-- an entry without its position
+abbrev pub unplaced : PlacedEntry → PlacedEntry
+unplaced e = record e { position = 0 }
+
+-- the later entry may stand after the earlier one: it starts farther left, or at the same column and no greater
+-- character
+pub record StandsLeft (earlier later : LineAnnotation) : Type 0 where
+  pub column : later.start.display ≤ earlier.start.display
+  pub character : later.start.display ≡ earlier.start.display → later.start.char ≤ earlier.start.char
+
+-- the entries stand from right to left
+abbrev pub IsFromRight : List LineAnnotation → Type 0
+IsFromRight es = (i j : ℕ) (d : LineAnnotation) → i ≤ j → j < length es → StandsLeft (slice_index_or es i d) (slice_index_or es j d)
+
+-- whether an entry is placed before another: it starts farther right, or at the same column and a greater character
+abbrev pub is_placed_before : LineAnnotation → LineAnnotation → Bool
+is_placed_before e f =
+    nat_lt f.start.display e.start.display || (e.start.display == f.start.display && nat_lt f.start.char e.start.char)
+
+-- the entries of a line from right to left, and as they are given where they start at one character, each with its label, at the
+-- positions of that order (`same` and `from_right` follow from `order`)
+pub record ArePlaced (es : List LineAnnotation) (placed : List PlacedEntry) : Type 0 where
+  pub order : map (λ e. e.entry) placed ≡ ordered_by is_placed_before es
+  pub same : IsPermutation es (map (λ e. e.entry) placed)
+  pub from_right : IsFromRight (map (λ e. e.entry) placed)
+  pub labels : All HasItsLabel placed
+  pub bytes : All HasItsBytes placed
+  pub positions_are : map (λ e. e.position) placed ≡ line_positions placed
+
+-- ---- the same as a value
+
+-- an entry with its label, which is held as borrowed bytes, at this position
+abbrev pub placed_at : LineAnnotation × ℕ → PlacedEntry
+placed_at pair =
+    record { entry = pair.0; label = Borrowed (record { ref_ptr = (0, 0); now = encode_utf8_all (label_text pair.0) }); position = pair.1 }
+
+-- entries with their labels, none of which is placed yet
+abbrev pub labelled : List LineAnnotation → List PlacedEntry
+labelled es = map (λ e. placed_at (e, 0)) es
+
+-- the entries of a line from right to left, each with its label, at the positions of that order
+abbrev pub placed_of : List LineAnnotation → List PlacedEntry
+placed_of es =
+    let ordered = ordered_by is_placed_before es in
+    map placed_at (zip ordered (line_positions (labelled ordered)))

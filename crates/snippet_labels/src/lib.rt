@@ -1,0 +1,8 @@
+//! Where labels stand: how many rows below its line each label of a line is drawn, so that none stands in another's way.
+#![tactic(auto)]
+
+pub mod positions;
+
+pub use positions::{
+    PlacedEntry, are_starts, crosses, overlap, placed_entries, position_after, position_at,
+};

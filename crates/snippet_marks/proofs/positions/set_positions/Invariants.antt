@@ -1,8 +1,0 @@
-use Rattle.std.proofs.Common.{◌≡◌, length, map, take}
-use Rattle.snippet_marks.specs.Positions.{unplaced}
-use Rattle.snippet_marks.proofs.positions.set_positions.Given as goal
-
--- the entries so far have their positions
-abbrev pub invariant-loop-i : goal.invariant-loop-i
-invariant-loop-i l =
-    (length l.entries ≡ length l.initial.entries) × (map (λ e. e.position) (take l.i l.entries) ≡ take l.i l.positions) × (map unplaced l.entries ≡ map unplaced l.initial.entries)

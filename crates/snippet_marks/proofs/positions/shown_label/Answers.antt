@@ -1,7 +1,0 @@
-use Rattle.std.proofs.Common.{◌∙◌, sym, ap}
-use Rattle.std.proofs.lemmas.Str.{chars-nil}
-use Rattle.snippet_marks.specs.Entries.{label_chars}
-use Rattle.snippet_marks.proofs.positions.shown_label.Goals as goal
-
-pub returns-in-None : goal.returns-in-None
-returns-in-None c = record { shows = chars-nil ∙ sym (ap label_chars c.in-None.is) }

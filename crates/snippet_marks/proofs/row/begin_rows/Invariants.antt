@@ -1,8 +1,0 @@
-use Rattle.std.proofs.Common.{◌≡◌, ◌-◌, ◌^◌, ◌≤◌, ◌++◌, length, replicate}
-use Rattle.snippet_style.specs.Separators.{separator_row}
-use Rattle.snippet_marks.proofs.row.begin_rows.Given as goal
-
--- so many rows are begun
-abbrev pub invariant-loop : goal.invariant-loop
-invariant-loop l =
-    (l.buffer ≡ l.initial.buffer ++ replicate (l.counter - 1) (separator_row l.layout.decor l.layout.gutter)) × (length l.buffer ≤ 2 ^ 60)

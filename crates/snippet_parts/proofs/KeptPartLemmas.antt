@@ -1,0 +1,143 @@
+-- Entries stand on lines that are kept.
+use Rattle.std.proofs.Common.{◌≡◌, ℕ, ◌+◌, ◌-◌, ◌≤◌, Bool, true, false, ◌&&◌, ◌||◌, not, eqb, leb, ltb, List, [], inl, inr, refl, ap, subst, ◌∙◌, arith}
+use Rattle.std.specs.List.{All, Contains, list_any, range_with_len}
+use Rattle.std.proofs.lemmas.Bool.{and_from, and_parts, or_left, or_right, eq-eqb, le-leb, lt-ltb, ne_eqb, both_ways, false_from_ne_true}
+use Rattle.std.proofs.lemmas.List.Elements.{All-contains, All-weaker, All-contains_itself}
+use Rattle.std.proofs.lemmas.List.Folds.{list_any_at, list_any_none}
+use Rattle.snippet_model.specs.declared.snippet.Annotation.{Annotation}
+use Rattle.snippet_model.specs.declared.snippet.AnnotationKind.{AnnotationKind}
+use Rattle.snippet_parts.specs.Annotated.{PartEntry, is_short, is_long, long_entry, depth_of, single_part, made_parts, parts_on, bar_lines}
+use Rattle.snippet_parts.specs.Kept.{beginning, has_bar, is_trivial_line, keeps}
+use Rattle.snippet_lines.specs.Lines.{Source, source_lines}
+use Rattle.snippet_parts.specs.Mark.{is_marking, touches}
+use Rattle.snippet_parts.specs.Marked.{first_line, last_line}
+use Rattle.snippet_lines.specs.Span.{IsSpan}
+use Rattle.snippet_parts.proofs.MarkLemmas.{start-line, end-line, entry_of-line}
+use Rattle.snippet_parts.proofs.PartLemmas.{HoldsOfSpan, IsBarLine, bar-lines, filter-none, made-all}
+use Rattle.snippet_lines.proofs.PlaceLemmas.{line_of-mono, line_of-within}
+
+-- a test that one of some passes
+pub any-member : {X : Type 0} (p : X → Bool) (xs : List X) (x : X) → Contains xs x → p x ≡ true → list_any p xs ≡ true
+any-member p xs x among passes = list_any_at p xs among.0 x among.1 (ap p among.2 ∙ passes)
+
+-- a span ends on its first line or below
+pub lines-ordered : (source : List ℕ) (a : Annotation) → IsSpan source a.span.start a.span.end → first_line source a ≤ last_line source a
+lines-ordered source a span = line_of-mono (source_lines source) a.span.start a.span.end (omega (arith, line_of-within source 0)) span.ordered
+
+-- ---- lines that a span keeps
+
+first-of-four : (a b c d e : Bool) → e ≡ true → a ≡ true → (e && (a || b || c || d)) ≡ true
+first-of-four true b c d true t u = refl
+first-of-four false b c d e t u = cc
+first-of-four a b c d false t u = cc
+
+second-of-four : (a b c d e : Bool) → e ≡ true → b ≡ true → (e && (a || b || c || d)) ≡ true
+second-of-four true b c d true t u = refl
+second-of-four false true c d true t u = refl
+second-of-four a false c d e t u = cc
+second-of-four a b c d false t u = cc
+
+third-of-four : (a b c d e : Bool) → e ≡ true → c ≡ true → (e && (a || b || c || d)) ≡ true
+third-of-four true b c d true t u = refl
+third-of-four false true c d true t u = refl
+third-of-four false false true d true t u = refl
+third-of-four a b false d e t u = cc
+third-of-four a b c d false t u = cc
+
+fourth-of-four : (a b c d e : Bool) → e ≡ true → d ≡ true → (e && (a || b || c || d)) ≡ true
+fourth-of-four true b c d true t u = refl
+fourth-of-four false true c d true t u = refl
+fourth-of-four false false true d true t u = refl
+fourth-of-four false false false true true t u = refl
+fourth-of-four a b c false e t u = cc
+fourth-of-four a b c d false t u = cc
+
+touched : (source : List ℕ) (a : Annotation) (k : ℕ) → first_line source a ≤ k → k ≤ last_line source a → touches source a k ≡ true
+touched source a k from to = and_from (leb (first_line source a) k) (leb k (last_line source a)) (le-leb (first_line source a) k from) (le-leb k (last_line source a) to)
+
+-- the line on which a span starts is kept
+pub keeps-first : (source : List ℕ) (a : Annotation) (k : ℕ) → IsSpan source a.span.start a.span.end → k ≡ first_line source a → keeps source k a ≡ true
+keeps-first source a k span is =
+    first-of-four (eqb k (first_line source a)) (eqb k (last_line source a)) (not (is_marking a.kind)) (has_bar source a k) (touches source a k) (touched source a k (omega arith) (omega (arith, lines-ordered source a span))) (eq-eqb k (first_line source a) is)
+
+-- the line on which a span ends is kept
+pub keeps-last : (source : List ℕ) (a : Annotation) (k : ℕ) → IsSpan source a.span.start a.span.end → k ≡ last_line source a → keeps source k a ≡ true
+keeps-last source a k span is =
+    second-of-four (eqb k (first_line source a)) (eqb k (last_line source a)) (not (is_marking a.kind)) (has_bar source a k) (touches source a k) (touched source a k (omega (arith, lines-ordered source a span)) (omega arith)) (eq-eqb k (last_line source a) is)
+
+-- an annotation that isn't marked keeps each line that it touches
+pub keeps-unmarked : (source : List ℕ) (a : Annotation) (k : ℕ) → not (is_marking a.kind) ≡ true → touches source a k ≡ true → keeps source k a ≡ true
+keeps-unmarked source a k unmarked there =
+    third-of-four (eqb k (first_line source a)) (eqb k (last_line source a)) (not (is_marking a.kind)) (has_bar source a k) (touches source a k) there unmarked
+
+keeps-bar : (source : List ℕ) (a : Annotation) (k : ℕ) → IsBarLine source (first_line source a) (last_line source a) k → keeps source k a ≡ true
+keeps-bar source a k bar =
+    let shown : Bool = list_any (λ j. not (is_trivial_line source j)) (range_with_len k (beginning source a - k)) in
+    let closing : Bool = eqb (k + 1) (last_line source a) && ltb (beginning source a) k && not (is_trivial_line source k) in
+    let there : has_bar source a k ≡ true = and_from (ltb (first_line source a) k) (shown || closing) (lt-ltb (first_line source a) k bar.from) (elim bar.shown [
+      | inl t ↦ or_left shown closing t
+      | inr t ↦ or_right shown closing (and_from (eqb (k + 1) (last_line source a) && ltb (beginning source a) k) (not (is_trivial_line source k)) (and_from (eqb (k + 1) (last_line source a)) (ltb (beginning source a) k) (eq-eqb (k + 1) (last_line source a) t.0) t.1) t.2)
+    ]) in
+    fourth-of-four (eqb k (first_line source a)) (eqb k (last_line source a)) (not (is_marking a.kind)) (has_bar source a k) (touches source a k) (touched source a k (omega (arith, bar.from)) bar.to) there
+
+-- ---- the line of an entry
+
+-- the line on which an entry stands is one that a span keeps
+abbrev pub StandsOnKept : Source → List Annotation → PartEntry → Type 0
+StandsOnKept s marks p = (k : ℕ) → p.entry.start.line ≡ s.first + k → list_any (keeps s.text k) marks ≡ true
+
+pub made-kept : (s : Source) (marks : List Annotation) → All (λ a. IsSpan s.text a.span.start a.span.end) marks
+    → All (StandsOnKept s marks) (made_parts s marks)
+made-kept s marks spans = made-all (StandsOnKept s marks) s marks short long
+  where
+    is-span : (a : Annotation) → Contains marks a → IsSpan s.text a.span.start a.span.end
+    is-span a among = All-contains (λ a. IsSpan s.text a.span.start a.span.end) marks a spans among
+
+    short : (a : Annotation) → Contains marks a → is_short s.text a ≡ true → StandsOnKept s marks (single_part s a)
+    short a among is k at = any-member (keeps s.text k) marks a among (keeps-first s.text a k (is-span a among) (omega (arith, entry_of-line s a)))
+
+    first : (a : Annotation) → (long_entry s a).start.line ≡ s.first + first_line s.text a
+    first a = start-line s a.span.start a.span.end
+
+    last : (a : Annotation) → (long_entry s a).end.line ≡ s.first + last_line s.text a
+    last a = end-line s a.span.start a.span.end
+
+    at-last : (a : Annotation) → Contains marks a → (k : ℕ) → (long_entry s a).end.line ≡ s.first + k → list_any (keeps s.text k) marks ≡ true
+    at-last a among k at = any-member (keeps s.text k) marks a among (keeps-last s.text a k (is-span a among) (omega (arith, last a)))
+
+    bar : (a : Annotation) → Contains marks a → (k n : ℕ) → IsBarLine s.text ((long_entry s a).start.line - s.first) ((long_entry s a).end.line - s.first) k
+        → s.first + k ≡ s.first + n → list_any (keeps s.text n) marks ≡ true
+    bar a among k n is at =
+        let from : (long_entry s a).start.line - s.first ≡ first_line s.text a = omega (arith, first a) in
+        let to : (long_entry s a).end.line - s.first ≡ last_line s.text a = omega (arith, last a) in
+        let here : k ≡ n = omega arith in
+        any-member (keeps s.text n) marks a among (keeps-bar s.text a n (subst (λ m. IsBarLine s.text (first_line s.text a) (last_line s.text a) m) here (subst (λ m. IsBarLine s.text (first_line s.text a) m k) to (subst (λ m. IsBarLine s.text m ((long_entry s a).end.line - s.first) k) from is))))
+
+    long : (a : Annotation) → Contains marks a → is_long s.text a ≡ true → (kind : AnnotationKind)
+        → HoldsOfSpan (StandsOnKept s marks) s (depth_of s marks a) (record (long_entry s a) { kind = kind })
+    long a among is kind = record {
+      start = λ k at. any-member (keeps s.text k) marks a among (keeps-first s.text a k (is-span a among) (omega (arith, first a)));
+      bars = All-weaker (IsBarLine s.text ((long_entry s a).start.line - s.first) ((long_entry s a).end.line - s.first))
+          (λ k. (n : ℕ) → s.first + k ≡ s.first + n → list_any (keeps s.text n) marks ≡ true) (λ k is n at. bar a among k n is at)
+          (bar_lines s.text ((long_entry s a).start.line - s.first) ((long_entry s a).end.line - s.first))
+          (bar-lines s.text ((long_entry s a).start.line - s.first) ((long_entry s a).end.line - s.first));
+      end = λ k at. at-last a among k at;
+      again = λ k at. at-last a among k at;
+    }
+
+-- no entry stands on a line that no span keeps
+pub none-unkept : (s : Source) (marks : List Annotation) (k : ℕ) → All (λ a. IsSpan s.text a.span.start a.span.end) marks
+    → list_any (keeps s.text k) marks ≡ false → parts_on s marks k ≡ []
+none-unkept s marks k spans none =
+    filter-none (λ (p : PartEntry). eqb p.entry.start.line (s.first + k)) (made_parts s marks)
+    (All-weaker (StandsOnKept s marks) (λ p. eqb p.entry.start.line (s.first + k) ≡ false)
+    (λ p kept. ne_eqb p.entry.start.line (s.first + k) (λ at. both_ways (list_any (keeps s.text k) marks) none (kept k at))) (made_parts s marks)
+    (made-kept s marks spans))
+
+-- and no span keeps it without marking it
+pub unseen-unkept : (s : Source) (marks : List Annotation) (k : ℕ) → list_any (keeps s.text k) marks ≡ false
+    → list_any (λ a. not (is_marking a.kind) && touches s.text a k) marks ≡ false
+unseen-unkept s marks k none =
+    list_any_none (λ (a : Annotation). not (is_marking a.kind) && touches s.text a k) marks (All-weaker (Contains marks) (λ a. (not (is_marking a.kind) && touches s.text a k) ≡ false) (λ a among. false_from_ne_true (not (is_marking a.kind) && touches s.text a k) (λ t.
+    let parts = and_parts (not (is_marking a.kind)) (touches s.text a k) t in
+    both_ways (list_any (keeps s.text k) marks) none (any-member (keeps s.text k) marks a among (keeps-unmarked s.text a k parts.0 parts.1)))) marks (All-contains_itself marks))

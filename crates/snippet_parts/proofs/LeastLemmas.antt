@@ -1,0 +1,36 @@
+-- Lemmas on the least and the greatest of some numbers.
+use Rattle.std.proofs.Common.{◌≡◌, ℕ, ◌≤◌, min, max, List, [], ◌∷◌, ◌++◌, Option, Some, All, refl, sym, ap}
+use Rattle.std.proofs.Common.{◌∙◌, arith, unwrap_or, append_assoc}
+use Rattle.std.specs.Option.{option_map_or}
+use Rattle.std.proofs.lemmas.List.Sums.{fold_push}
+use Rattle.std.proofs.lemmas.List.Elements.{All-nil, All-cons}
+use Rattle.snippet_parts.specs.Least.{least, greatest}
+
+-- one more number
+pub least-push : (ns : List ℕ) (n : ℕ) → least (ns ++ n ∷ []) ≡ Some (option_map_or (λ m. min m n) (least ns) n)
+least-push [] n = refl
+least-push (k ∷ []) n = refl
+least-push (k ∷ m ∷ ns) n =
+    ap (λ (o : Option ℕ). Some (option_map_or (λ j. min k j) o k)) (least-push (m ∷ ns) n) ∙ ap Some (omega arith)
+
+-- the greatest, where one number more is added
+pub greatest-push : (ns : List ℕ) (n : ℕ) → greatest (ns ++ n ∷ []) ≡ max (greatest ns) n
+greatest-push ns n = fold_push (λ m k. max m k) 0 ns n
+
+-- two more numbers
+pub least-push_two : (ns : List ℕ) (n m : ℕ)
+    → least (ns ++ n ∷ m ∷ []) ≡ Some (option_map_or (λ k. min k m) (Some (option_map_or (λ k. min k n) (least ns) n)) m)
+least-push_two ns n m =
+    ap least (sym (append_assoc ns (n ∷ []) (m ∷ []))) ∙ least-push (ns ++ n ∷ []) m ∙ ap (λ (o : Option ℕ). Some (option_map_or (λ k. min k m) o m)) (least-push ns n)
+
+pub greatest-push_two : (ns : List ℕ) (n m : ℕ) → greatest (ns ++ n ∷ m ∷ []) ≡ max (max (greatest ns) n) m
+greatest-push_two ns n m =
+    ap greatest (sym (append_assoc ns (n ∷ []) (m ∷ []))) ∙ greatest-push (ns ++ n ∷ []) m ∙ ap (λ k. max k m) (greatest-push ns n)
+
+-- no number is below the least
+pub least_below : (ns : List ℕ) → All (λ n. unwrap_or (least ns) 0 ≤ n) ns
+least_below [] = All-nil (λ n. 0 ≤ n)
+least_below (n ∷ []) = All-cons (λ k. n ≤ k) n [] (omega arith) (All-nil (λ k. n ≤ k))
+least_below (n ∷ m ∷ ns) =
+    let rest = least_below (m ∷ ns) in
+    All-cons (λ k. unwrap_or (least (n ∷ m ∷ ns)) 0 ≤ k) n (m ∷ ns) (omega arith) (λ k d within. omega (arith, rest k d within))

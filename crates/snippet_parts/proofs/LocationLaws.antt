@@ -1,0 +1,385 @@
+-- The place that the head of a primary snippet names, in words of its spans.
+use Rattle.std.proofs.Common.{◌≡◌, ℕ, suc, ◌+◌, ◌<◌, ◌≤◌, Bool, true, false, ◌&&◌, ◌||◌, cond, not, eqb, min, Option, Some, None, List, [], ◌∷◌, map, get_or}
+use Rattle.std.proofs.Common.{inl, inr, refl, sym, ap, subst, ◌∙◌, arith}
+use Rattle.std.specs.List.{All, Contains, filter, list_any}
+use Rattle.std.specs.Option.{IsSomeAnd, is_some, option_map, option_map_or, option_or}
+use Rattle.std.proofs.lemmas.Bool.{cases_Bool, cases_lt, cond-true, cond-false, and_from, and_left, and_parts, false_from_ne_true, both_ways, eq-eqb, eqb-true}
+use Rattle.std.proofs.lemmas.List.Elements.{All-head, All-tail, All-contains, All-contains_itself, All-filter, Contains-get_or, filter_passes}
+use Rattle.std.proofs.lemmas.Simd.{map-map}
+use Rattle.snippet_model.specs.declared.snippet.Annotation.{Annotation}
+use Rattle.snippet_model.specs.declared.snippet.AnnotationKind.{AnnotationKind}
+use Rattle.snippet_model.specs.declared.snippet.AnnotationKind.TheVariants.{Primary, Context, Visible}
+use Rattle.snippet_lines.specs.Lines.{Source}
+use Rattle.snippet_lines.specs.Place.{locations_of}
+use Rattle.snippet_lines.specs.Span.{IsSpan}
+use Rattle.snippet_parts.specs.declared.location.Location.{Location}
+use Rattle.snippet_parts.specs.Annotated.{PartEntry, KeptLine, annotated_lines, is_long, kept_line, parts_on, single_part}
+use Rattle.snippet_model.specs.AnnotationKind.{is_primary}
+use Rattle.snippet_parts.specs.Entries.{Ascends, is_untouched}
+use Rattle.snippet_parts.specs.Kept.{kept_lines}
+use Rattle.snippet_parts.specs.Mark.{is_marking, is_marked_on, is_single_line, touches}
+use Rattle.snippet_parts.specs.Marked.{first_line}
+use Rattle.snippet_parts.specs.Least.{least}
+use Rattle.snippet_parts.specs.Location.{start_columns, primary_parts, all_parts, least_place, first_place, primary_place, naming_kind, start_at, IsLocation}
+use Rattle.snippet_parts.proofs.EntryFacts.{filter-filter, untouched-parts}
+use Rattle.snippet_parts.proofs.KeptPartLemmas.{any-member}
+use Rattle.snippet_parts.proofs.PartLemmas.{filter-none}
+use Rattle.snippet_parts.proofs.ShownFacts.{contains-cases, contains-filter, contains-here, contains-there, first-kept, kept-ascends}
+use Rattle.snippet_parts.proofs.ShownLemmas.{filter-map}
+
+-- ---- lists
+
+-- the element at which a number is least, among some that aren't none
+pub record IsLeast {X : Type 0} (f : X → ℕ) (xs : List X) (x : X) : Type 0 where
+  pub among : Contains xs x
+  pub is : least (map f xs) ≡ Some (f x)
+  pub lowest : (y : X) → Contains xs y → f x ≤ f y
+
+-- of some elements one has the least number
+pub least-first : {X : Type 0} (f : X → ℕ) (x : X) (xs : List X) → (y : X) × IsLeast f (x ∷ xs) y
+least-first f x [] = (x, record { among = contains-here x x [] refl; is = refl; lowest = only })
+  where
+    only : (y : _) → Contains (x ∷ []) y → f x ≤ f y
+    only y found =
+        elim (contains-cases y x [] found) [ inl same ↦ omega (arith, ap f same) | inr later ↦ absurd (omega (arith, later.1)) ]
+least-first f x (z ∷ zs) =
+    let rest = least-first f z zs in
+    let m : ℕ = f rest.0 in
+    let is : least (map f (x ∷ z ∷ zs)) ≡ Some (min (f x) m) = ap (λ (o : Option ℕ). Some (option_map_or (λ n. min (f x) n) o (f x))) rest.1.is in
+    let lower : (y : _) → Contains (x ∷ z ∷ zs) y → min (f x) m ≤ f y = λ y found. elim (contains-cases y x (z ∷ zs) found) [
+      | inl same ↦ omega (arith, ap f same)
+      | inr later ↦ omega (arith, rest.1.lowest y later)
+    ] in
+    elim (cases_lt m (f x)) [
+      | inl below ↦ (rest.0, record { among = contains-there rest.0 x (z ∷ zs) rest.1.among; is = is ∙ ap Some (omega arith); lowest = λ y found. omega (arith, lower y found) })
+      | inr upto ↦ (x, record { among = contains-here x x (z ∷ zs) refl; is = is ∙ ap Some (omega arith); lowest = λ y found. omega (arith, lower y found) })
+    ]
+
+-- some elements have one, where one is known to be among them, and where the least number is known
+least-among : {X : Type 0} (f : X → ℕ) (xs : List X) (x : X) → Contains xs x → (y : X) × IsLeast f xs y
+least-among f [] x among = absurd (omega (arith, among.1))
+least-among f (z ∷ zs) x among = least-first f z zs
+
+-- those that pass a test are among the others
+passing : {X : Type 0} (p : X → Bool) (xs : List X) (x : X) → Contains (filter p xs) x → Contains xs x × (p x ≡ true)
+passing p xs x found =
+    (All-contains (Contains xs) (filter p xs) x (All-filter p (Contains xs) xs (All-contains_itself xs)) found, All-contains (λ y. p y ≡ true) (filter p xs) x (filter_passes p xs) found)
+
+-- a test that one of some passes, and one that none passes
+member-passing : {X : Type 0} (p : X → Bool) (xs : List X) → list_any p xs ≡ true → (x : X) × Contains xs x × (p x ≡ true)
+member-passing p [] some = cc
+member-passing p (x ∷ xs) some =
+    elim (cases_Bool (p x)) [
+      | inl t ↦ (x, contains-here x x xs refl, t)
+      | inr f ↦ let rest = member-passing p xs (ap (λ b. b || list_any p xs) (sym f) ∙ some) in (rest.0, contains-there rest.0 x xs rest.1, rest.2)
+    ]
+
+none-member : {X : Type 0} (p : X → Bool) (xs : List X) (x : X) → Contains xs x → list_any p xs ≡ false → p x ≡ false
+none-member p xs x among none = false_from_ne_true (p x) (λ t. both_ways (list_any p xs) none (any-member p xs x among t))
+
+filter-agree : {X : Type 0} (p q : X → Bool) (xs : List X) → All (λ x. p x ≡ q x) xs → filter p xs ≡ filter q xs
+filter-agree p q [] same = refl
+filter-agree p q (x ∷ xs) same =
+    ap (λ b. cond b (x ∷ filter p xs) (filter p xs)) (All-head (λ x. p x ≡ q x) x xs same) ∙ ap (λ ys. cond (q x) (x ∷ ys) ys) (filter-agree p q xs (All-tail (λ x. p x ≡ q x) x xs same))
+
+-- ---- the first line that has a place
+
+-- numbers that ascend do so after the first too
+pub ascends-tail : (k : ℕ) (ks : List ℕ) → Ascends (k ∷ ks) → Ascends ks
+ascends-tail k ks rises i j d less within = rises (suc i) (suc j) d (omega arith) (omega arith)
+
+-- the first of numbers that ascend is less than each further one
+pub ascends-head : (k : ℕ) (ks : List ℕ) (j : ℕ) → Ascends (k ∷ ks) → Contains ks j → k < j
+ascends-head k ks j rises found = omega (arith, rises 0 (suc found.0) j (omega arith) (omega (arith, found.1)), found.2)
+
+-- it is the place on one of the lines, and no line above has one
+record IsFirst (place_on : KeptLine → Option Location) (line_at : ℕ → KeptLine) (ks : List ℕ) (k : ℕ) (place : Location) : Type 0 where
+  pub among : Contains ks k
+  pub has : place_on (line_at k) ≡ Some place
+  pub is : first_place place_on (map line_at ks) ≡ Some place
+  pub none : (j : ℕ) → Contains ks j → j < k → place_on (line_at j) ≡ None
+
+-- the first of them has one
+first-here : (place_on : KeptLine → Option Location) (line_at : ℕ → KeptLine) (k : ℕ) (ks : List ℕ) (place : Location) → Ascends (k ∷ ks)
+    → place_on (line_at k) ≡ Some place → IsFirst place_on line_at (k ∷ ks) k place
+first-here place_on line_at k ks place rises has = record {
+  among = contains-here k k ks refl;
+  has = has;
+  is = ap (λ o. option_or o (first_place place_on (map line_at ks))) has;
+  none = λ j found less. elim (contains-cases j k ks found) [ inl same ↦ absurd (omega arith) | inr later ↦ absurd (omega (arith, ascends-head k ks j rises later)) ];
+}
+
+-- it has none
+first-there : (place_on : KeptLine → Option Location) (line_at : ℕ → KeptLine) (k : ℕ) (ks : List ℕ) (n : ℕ) (place : Location) → place_on (line_at k) ≡ None
+    → IsFirst place_on line_at ks n place → IsFirst place_on line_at (k ∷ ks) n place
+first-there place_on line_at k ks n place missing first = record {
+  among = contains-there n k ks first.among;
+  has = first.has;
+  is = ap (λ o. option_or o (first_place place_on (map line_at ks))) missing ∙ first.is;
+  none = λ j found less. elim (contains-cases j k ks found) [ inl same ↦ ap (λ n. place_on (line_at n)) (sym same) ∙ missing | inr later ↦ first.none j later less ];
+}
+
+first-of : (place_on : KeptLine → Option Location) (line_at : ℕ → KeptLine) (ks : List ℕ) (some : ℕ) → Ascends ks → Contains ks some
+    → is_some (place_on (line_at some)) ≡ true → (k : ℕ) × (place : Location) × IsFirst place_on line_at ks k place
+first-of place_on line_at [] some rises among has = absurd (omega (arith, among.1))
+first-of place_on line_at (k ∷ ks) some rises among has =
+    by (place_on (line_at k)) refl (λ later. first-of place_on line_at ks some (ascends-tail k ks rises) later has)
+  where
+    later-ones : place_on (line_at k) ≡ None → Contains ks some
+    later-ones missing =
+        elim (contains-cases some k ks among) [
+          | inl same ↦ absurd (both_ways (is_some (place_on (line_at some))) (ap (λ n. is_some (place_on (line_at n))) (sym same) ∙ ap is_some missing) has)
+          | inr later ↦ later
+        ]
+
+    by : (o : Option Location) → place_on (line_at k) ≡ o → (Contains ks some → (n : ℕ) × (place : Location) × IsFirst place_on line_at ks n place)
+        → (n : ℕ) × (place : Location) × IsFirst place_on line_at (k ∷ ks) n place
+    by None is rest =
+        let found = rest (later-ones is) in (found.0, found.1, first-there place_on line_at k ks found.0 found.1 is found.2)
+    by (Some place) is rest = (k, place, first-here place_on line_at k ks place rises is)
+
+-- where no line has a place there is none
+pub first-none : (place_on : KeptLine → Option Location) (line_at : ℕ → KeptLine) (ks : List ℕ) → ((k : ℕ) → place_on (line_at k) ≡ None)
+    → first_place place_on (map line_at ks) ≡ None
+first-none place_on line_at [] none = refl
+first-none place_on line_at (k ∷ ks) none =
+    ap (λ o. option_or o (first_place place_on (map line_at ks))) (none k) ∙ first-none place_on line_at ks none
+
+-- ---- the spans that start on a line
+
+-- those that pass a test and start on line k
+starting : (Annotation → Bool) → Source → List Annotation → ℕ → List Annotation
+starting test s marks k = filter (λ a. test a && eqb (first_line s.text a) k) marks
+
+-- the entries of a choice are on each line those of such spans
+record Chooses (choice : List PartEntry → List PartEntry) (test : Annotation → Bool) (s : Source) (marks : List Annotation) : Type 0 where
+  pub parts : (k : ℕ) → choice (parts_on s marks k) ≡ map (single_part s) (starting test s marks k)
+
+starts-there : (test : Annotation → Bool) (s : Source) (marks : List Annotation) (k : ℕ) (a : Annotation) → Contains marks a → test a ≡ true
+    → first_line s.text a ≡ k → Contains (starting test s marks k) a
+unfolding starting
+starts-there test s marks k a among passes on =
+    contains-filter (λ (a : Annotation). test a && eqb (first_line s.text a) k) a marks (and_from (test a) (eqb (first_line s.text a) k) passes (eq-eqb (first_line s.text a) k on)) among
+
+start_at-single : (s : Source) (spans : List Annotation) → start_columns (map (single_part s) spans) ≡ map (start_at s) spans
+unfolding locations_of
+start_at-single s spans = map-map (λ (p : PartEntry). p.entry.start.char + 1) (single_part s) spans
+
+-- the place on a line is that of the least column at which such a span starts there
+place-on : (choice : List PartEntry → List PartEntry) (test : Annotation → Bool) (s : Source) (marks : List Annotation) (k : ℕ)
+    → Chooses choice test s marks → least_place choice (kept_line s marks k)
+    ≡ option_map (λ column. record { line = s.first + k; column = Some column }) (least (map (start_at s) (starting test s marks k)))
+place-on choice test s marks k chooses =
+    ap (λ ns. option_map (λ column. record { line = s.first + k; column = Some column }) (least ns)) (ap start_columns (chooses.parts k) ∙ start_at-single s (starting test s marks k))
+
+-- ---- the first line with such a span
+
+-- a place is that of a span that passes a test: it is on the first line on which one starts, at the least column
+record IsPlaceBy (test : Annotation → Bool) (s : Source) (marks : List Annotation) (place : Location) : Type 0 where
+  pub span : Annotation
+  pub among : Contains marks span
+  pub passes : test span ≡ true
+  pub line : place.line ≡ s.first + first_line s.text span
+  pub column : place.column ≡ Some (start_at s span)
+  pub first : (other : Annotation) → Contains marks other → test other ≡ true → first_line s.text span ≤ first_line s.text other
+  pub lowest : (other : Annotation) → Contains marks other → test other ≡ true → first_line s.text other ≡ first_line s.text span
+      → start_at s span ≤ start_at s other
+
+-- the place of a column on line k
+at-column : Source → ℕ → ℕ → Location
+at-column s k column = record { line = s.first + k; column = Some column }
+
+-- a line on which such a span starts has a place
+has-place : (choice : List PartEntry → List PartEntry) (test : Annotation → Bool) (s : Source) (marks : List Annotation) (k : ℕ) (a : Annotation)
+    → Chooses choice test s marks → Contains (starting test s marks k) a → is_some (least_place choice (kept_line s marks k)) ≡ true
+unfolding at-column
+has-place choice test s marks k a chooses there =
+    let lowest = least-among (start_at s) (starting test s marks k) a there in
+    ap is_some (place-on choice test s marks k chooses) ∙ ap (λ o. is_some (option_map (at-column s k) o)) lowest.1.is
+
+-- and the place of a line is that of a span of least column
+place-is : (choice : List PartEntry → List PartEntry) (test : Annotation → Bool) (s : Source) (marks : List Annotation) (k : ℕ) (place : Location)
+    → Chooses choice test s marks → least_place choice (kept_line s marks k) ≡ Some place
+    → (a : Annotation) × IsLeast (start_at s) (starting test s marks k) a × (place ≡ at-column s k (start_at s a))
+unfolding at-column
+place-is choice test s marks k place chooses has =
+    by (starting test s marks k) refl (sym has ∙ place-on choice test s marks k chooses)
+  where
+    by : (spans : List Annotation) → starting test s marks k ≡ spans
+        → Some place ≡ option_map (at-column s k) (least (map (start_at s) (starting test s marks k)))
+        → (a : Annotation) × IsLeast (start_at s) (starting test s marks k) a × (place ≡ at-column s k (start_at s a))
+    by [] is known =
+        let none : Some place ≡ None = known ∙ ap (λ spans. option_map (at-column s k) (least (map (start_at s) spans))) is in cc
+    by (a ∷ spans) is known =
+        let lowest = least-among (start_at s) (starting test s marks k) a (subst (λ spans. Contains spans a) (sym is) (contains-here a a spans refl)) in
+        let same : Some place ≡ Some (at-column s k (start_at s lowest.0)) = known ∙ ap (option_map (at-column s k)) lowest.1.is in (lowest.0, lowest.1, cc)
+
+-- the first line on which such a span starts is named, at the least column of one there
+named-by : (choice : List PartEntry → List PartEntry) (test : Annotation → Bool) (fold : Bool) (s : Source) (marks : List Annotation) (a : Annotation)
+    → All (λ a. IsSpan s.text a.span.start a.span.end) marks → Chooses choice test s marks → Contains marks a → test a ≡ true
+    → (place : Location) × (first_place (least_place choice) (annotated_lines fold s marks) ≡ Some place) × IsPlaceBy test s marks place
+unfolding at-column starting
+named-by choice test fold s marks a spans chooses among passes =
+    let ks : List ℕ = kept_lines fold s.text marks in
+    let kept-first : (b : Annotation) → Contains marks b → Contains ks (first_line s.text b) = λ b found. first-kept fold s.text marks b found (All-contains (λ a. IsSpan s.text a.span.start a.span.end) marks b spans found) in
+    let has : (b : Annotation) → Contains marks b → test b ≡ true → is_some (least_place choice (kept_line s marks (first_line s.text b))) ≡ true = λ b found passed. has-place choice test s marks (first_line s.text b) b chooses (starts-there test s marks (first_line s.text b) b found passed refl) in
+    let first = first-of (least_place choice) (kept_line s marks) ks (first_line s.text a) (kept-ascends fold s.text marks) (kept-first a among) (has a among passes) in
+    let k : ℕ = first.0 in
+    let lowest = place-is choice test s marks k first.1 chooses first.2.has in
+    let span : Annotation = lowest.0 in
+    let chosen = passing (λ (b : Annotation). test b && eqb (first_line s.text b) k) marks span lowest.1.among in
+    let parts = and_parts (test span) (eqb (first_line s.text span) k) chosen.1 in
+    let on : first_line s.text span ≡ k = eqb-true (first_line s.text span) k parts.1 in (
+      first.1,
+      first.2.is,
+      record {
+        span = span;
+        among = chosen.0;
+        passes = parts.0;
+        line = ap (λ (p : Location). p.line) lowest.2 ∙ ap (λ n. s.first + n) (sym on);
+        column = ap (λ (p : Location). p.column) lowest.2;
+        first = λ other found passed. elim (cases_lt (first_line s.text other) k) [
+          | inl above ↦ absurd (both_ways (is_some (least_place choice (kept_line s marks (first_line s.text other)))) (ap is_some (first.2.none (first_line s.text other) (kept-first other found) above)) (has other found passed))
+          | inr below ↦ omega arith
+        ];
+        lowest = λ other found passed beside. lowest.1.lowest other (starts-there test s marks k other found passed (beside ∙ on));
+      },
+    )
+
+-- ---- the kinds of spans
+
+-- a span of several lines isn't marked
+abbrev NoneLong : Source → List Annotation → Type 0
+NoneLong s marks = All (λ a. is_long s.text a ≡ false) marks
+
+untouched : (s : Source) (marks : List Annotation) (k : ℕ) → NoneLong s marks → is_untouched s.text marks k ≡ true
+untouched s [] k none = refl
+untouched s (a ∷ marks) k none =
+    and_from (not (is_marking a.kind && touches s.text a k && not (is_single_line s.text a))) (is_untouched s.text marks k)
+    (apart (is_marking a.kind) (touches s.text a k) (is_single_line s.text a) (All-head (λ a. is_long s.text a ≡ false) a marks none))
+    (untouched s marks k (All-tail (λ a. is_long s.text a ≡ false) a marks none))
+  where
+    apart : (marked there single : Bool) → (marked && not single) ≡ false → not (marked && there && not single) ≡ true
+    apart true true true none = refl
+    apart true true false none = cc
+    apart true false single none = refl
+    apart false there single none = refl
+
+-- so a span that is marked is marked on the line on which it starts
+marked-there : (s : Source) (k : ℕ) (a : Annotation) → is_long s.text a ≡ false → is_marked_on s.text k a ≡ (is_marking a.kind && eqb (first_line s.text a) k)
+marked-there s k a none = by (is_marking a.kind) (is_single_line s.text a) (eqb (first_line s.text a) k) none
+  where
+    by : (marked single there : Bool) → (marked && not single) ≡ false → (marked && single && there) ≡ (marked && there)
+    by true true there none = refl
+    by true false there none = cc
+    by false single there none = refl
+
+parts-marked : (s : Source) (marks : List Annotation) (k : ℕ) → All (λ a. IsSpan s.text a.span.start a.span.end) marks → NoneLong s marks
+    → parts_on s marks k ≡ map (single_part s) (starting (λ a. is_marking a.kind) s marks k)
+unfolding starting
+parts-marked s marks k spans none =
+    untouched-parts s marks k spans (untouched s marks k none)
+    ∙ ap (map (single_part s)) (filter-agree (is_marked_on s.text k) (λ (a : Annotation). is_marking a.kind && eqb (first_line s.text a) k) marks (λ i d within. marked-there s k (get_or marks i d) (none i d within)))
+
+-- the entries are those of the spans that are marked
+chooses-all : (s : Source) (marks : List Annotation) → All (λ a. IsSpan s.text a.span.start a.span.end) marks → NoneLong s marks
+    → Chooses all_parts (λ a. is_marking a.kind) s marks
+chooses-all s marks spans none = record { parts = λ k. parts-marked s marks k spans none }
+
+-- and the primary ones those of the primary spans
+chooses-primary : (s : Source) (marks : List Annotation) → All (λ a. IsSpan s.text a.span.start a.span.end) marks → NoneLong s marks
+    → Chooses primary_parts (λ a. is_primary a.kind) s marks
+unfolding starting
+chooses-primary s marks spans none = record { parts = on }
+  where
+    by : (kind : AnnotationKind) (there : Bool) → (is_marking kind && there && is_primary kind) ≡ (is_primary kind && there)
+    by Primary true = refl
+    by Primary false = refl
+    by Context true = refl
+    by Context false = refl
+    by Visible there = refl
+
+    on : (k : ℕ) → primary_parts (parts_on s marks k) ≡ map (single_part s) (starting (λ a. is_primary a.kind) s marks k)
+    on k =
+        ap primary_parts (parts-marked s marks k spans none)
+        ∙ filter-map (λ (p : PartEntry). is_primary p.entry.kind) (single_part s) (starting (λ a. is_marking a.kind) s marks k)
+        ∙ ap (map (single_part s))
+        (filter-filter (λ (a : Annotation). is_primary a.kind) (λ (a : Annotation). is_marking a.kind && eqb (first_line s.text a)
+        k) marks ∙ filter-agree (λ (a : Annotation). is_marking a.kind && eqb (first_line s.text a) k && is_primary a.kind)
+        (λ (a : Annotation). is_primary a.kind && eqb (first_line s.text a) k)
+        marks (λ i d within. by (get_or marks i d).kind (eqb (first_line s.text (get_or marks i d)) k)))
+
+-- ---- the kind that names
+
+-- where a span is primary, the primary ones name, and else the context ones
+named-primary : (s : Source) (marks : List Annotation) (place : Location) → list_any (λ a. is_primary a.kind) marks ≡ true
+    → IsPlaceBy (λ a. is_primary a.kind) s marks place → IsLocation s marks place
+named-primary s marks place some by = record {
+  span = by.span;
+  naming = (by.among, primary by.span.kind by.passes ∙ sym kind);
+  line = by.line;
+  column = by.column;
+  first = λ other naming. by.first other naming.0 (ap is_primary (naming.1 ∙ kind));
+  least = λ other naming beside. by.lowest other naming.0 (ap is_primary (naming.1 ∙ kind)) beside;
+}
+  where
+    kind : naming_kind marks ≡ Primary
+    kind = cond-true (list_any (λ a. is_primary a.kind) marks) Primary Context some
+
+    primary : (kind : AnnotationKind) → is_primary kind ≡ true → kind ≡ Primary
+    primary Primary is = refl
+    primary Context is = cc
+    primary Visible is = cc
+
+named-context : (s : Source) (marks : List Annotation) (place : Location) → list_any (λ a. is_primary a.kind) marks ≡ false
+    → IsPlaceBy (λ a. is_marking a.kind) s marks place → IsLocation s marks place
+named-context s marks place none by = record {
+  span = by.span;
+  naming = (by.among, context by.span.kind by.passes (not-primary by.span by.among) ∙ sym kind);
+  line = by.line;
+  column = by.column;
+  first = λ other naming. by.first other naming.0 (ap is_marking (naming.1 ∙ kind));
+  least = λ other naming beside. by.lowest other naming.0 (ap is_marking (naming.1 ∙ kind)) beside;
+}
+  where
+    kind : naming_kind marks ≡ Context
+    kind = cond-false (list_any (λ a. is_primary a.kind) marks) Primary Context none
+
+    not-primary : (a : Annotation) → Contains marks a → is_primary a.kind ≡ false
+    not-primary a among = none-member (λ a. is_primary a.kind) marks a among none
+
+    context : (kind : AnnotationKind) → is_marking kind ≡ true → is_primary kind ≡ false → kind ≡ Context
+    context Primary marked other = cc
+    context Context marked other = refl
+    context Visible marked other = cc
+
+-- without primary spans no line has a place of a primary entry
+no-primary : (s : Source) (marks : List Annotation) (fold : Bool) → All (λ a. IsSpan s.text a.span.start a.span.end) marks → NoneLong s marks
+    → list_any (λ a. is_primary a.kind) marks ≡ false → first_place (least_place primary_parts) (annotated_lines fold s marks) ≡ None
+unfolding starting
+no-primary s marks fold spans none other =
+    first-none (least_place primary_parts) (kept_line s marks) (kept_lines fold s.text marks)
+    (λ k. place-on primary_parts (λ a. is_primary a.kind) s marks k (chooses-primary s marks spans none)
+    ∙ ap (λ spans. option_map (λ column. record { line = s.first + k; column = Some column }) (least (map (start_at s) spans)))
+    (filter-none (λ (a : Annotation). is_primary a.kind && eqb (first_line s.text a)
+    k) marks (λ i d within. and_left (is_primary (get_or marks i d).kind) (eqb (first_line s.text (get_or marks i d)) k)
+    (none-member (λ a. is_primary a.kind) marks (get_or marks i d) (Contains-get_or marks i d within) other))))
+
+-- what the head of a primary snippet names, where a span is marked and none of several lines is
+pub place-named : (fold : Bool) (s : Source) (marks : List Annotation) (lines : List KeptLine)
+    → All (λ a. IsSpan s.text a.span.start a.span.end) marks → lines ≡ annotated_lines fold s marks → list_any (λ a. is_marking a.kind) marks ≡ true
+    → All (λ a. is_long s.text a ≡ false) marks → IsSomeAnd (primary_place lines) (IsLocation s marks)
+place-named fold s marks lines spans are some none =
+    subst (λ lines. IsSomeAnd (primary_place lines) (IsLocation s marks)) (sym are) (elim (cases_Bool (list_any (λ a. is_primary a.kind) marks)) [
+      | inl primary ↦
+          let a = member-passing (λ a. is_primary a.kind) marks primary in
+          let named = named-by primary_parts (λ a. is_primary a.kind) fold s marks a.0 spans (chooses-primary s marks spans none) a.1 a.2 in
+          known (primary_place (annotated_lines fold s marks)) named.0 (ap (λ o. option_or o (first_place (least_place all_parts) (annotated_lines fold s marks))) named.1) (named-primary s marks named.0 primary named.2)
+      | inr other ↦
+          let a = member-passing (λ a. is_marking a.kind) marks some in
+          let named = named-by all_parts (λ a. is_marking a.kind) fold s marks a.0 spans (chooses-all s marks spans none) a.1 a.2 in
+          known (primary_place (annotated_lines fold s marks)) named.0 (ap (λ o. option_or o (first_place (least_place all_parts) (annotated_lines fold s marks))) (no-primary s marks fold spans none other) ∙ named.1) (named-context s marks named.0 other named.2)
+    ])
+  where
+    known : (o : Option Location) (place : Location) → o ≡ Some place → IsLocation s marks place → IsSomeAnd o (IsLocation s marks)
+    known o place is named = subst (λ o. IsSomeAnd o (IsLocation s marks)) (sym is) named

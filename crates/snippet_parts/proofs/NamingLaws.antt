@@ -1,0 +1,444 @@
+-- The place that the head of a primary snippet names is that of a byte: the first one at which a span starts that names it.
+use Rattle.std.proofs.Common.{◌≡◌, ℕ, ◌+◌, ◌-◌, ◌<◌, ◌≤◌, Bool, true, false, cond, not, eqb, ltb, min, Option, Some, None, List, [], ◌∷◌, ◌++◌, map, length}
+use Rattle.std.proofs.Common.{take, drop, chars, ◌⊎◌, inl, inr, refl, sym, ap, subst, ◌∙◌, arith}
+use Rattle.std.specs.List.{All, Contains, filter}
+use Rattle.std.specs.Option.{IfSome, option_map, option_map_or, option_or}
+use Rattle.std.specs.Str.{IsUtf8}
+use Rattle.std.proofs.Math.Seq.{take-add}
+use Rattle.std.proofs.lemmas.Bool.{cases_Bool, cases_eq, cases_lt, and_from, and_parts, eq-eqb, eqb-true, le-ltb, lt-ltb}
+use Rattle.std.proofs.lemmas.List.{length-append, take_all}
+use Rattle.std.proofs.lemmas.Str.{IsUtf8-take, chars-append}
+use Rattle.snippet_model.specs.AnnotationKind.{is_primary}
+use Rattle.snippet_model.specs.declared.snippet.Annotation.{Annotation}
+use Rattle.snippet_model.specs.declared.snippet.AnnotationKind.{AnnotationKind}
+use Rattle.snippet_model.specs.declared.snippet.AnnotationKind.TheVariants.{Primary, Context, Visible}
+use Rattle.snippet_lines.specs.declared.place.Loc.{Loc}
+use Rattle.snippet_lines.specs.Lines.{Line, Source, source_lines, start_of, text_at}
+use Rattle.snippet_lines.specs.Place.{line_of, location_of, place_of, prefix_at, start_location, steps_after_text}
+use Rattle.snippet_lines.specs.Span.{IsSpan, IsSpanBorder}
+use Rattle.snippet_lines.proofs.LinesLemmas.{IsUtf8-text_at}
+use Rattle.snippet_lines.proofs.PlaceLemmas.{IsCharBoundary-prefix, line_of-mono, line_of-within, locations_of-start, place_of-character, start_location-line}
+use Rattle.snippet_parts.specs.declared.location.Location.{Location}
+use Rattle.snippet_parts.specs.Annotated.{PartEntry, KeptLine, annotated_lines, is_long, is_short, kept_line, long_entry, long_parts, long_place, long_places}
+use Rattle.snippet_parts.specs.Annotated.{long_spans, made_parts, parts_on, single_part, stands_before}
+use Rattle.snippet_parts.specs.Kept.{kept_lines}
+use Rattle.snippet_parts.specs.Entries.{Ascends}
+use Rattle.snippet_parts.specs.Location.{all_parts, first_place, least_place, marked_starts, naming_start, place_at, primary_place, primary_starts}
+use Rattle.snippet_parts.specs.Location.{start_columns}
+use Rattle.snippet_parts.specs.Mark.{is_marking, is_single_line}
+use Rattle.snippet_parts.specs.Marked.{Entry, first_line, last_line}
+use Rattle.snippet_parts.specs.Least.{least}
+use Rattle.snippet_parts.proofs.AmongLemmas.{Among, all_among, among_filter, among_in_order, among_left, among_map, among_right, append_cases, filter_cases}
+use Rattle.snippet_parts.proofs.AmongLemmas.{in_order_cases, least_among, least_le, map_cases}
+use Rattle.snippet_parts.proofs.KeptPartLemmas.{lines-ordered}
+use Rattle.snippet_parts.proofs.LocationLaws.{ascends-head, ascends-tail, first-none, least-first}
+use Rattle.snippet_parts.proofs.LongStarts.{IsBy, IsChoice, IsReached, IsSeen, StandsAt, by-same, reached, same-start, started}
+use Rattle.snippet_parts.proofs.MarkLemmas.{end-line, start-line}
+use Rattle.snippet_parts.proofs.ShownFacts.{contains-cases, contains-here, contains-there, first-kept, kept-ascends}
+
+-- ---- lists
+
+contains-among : {X : Type 0} (xs : List X) (x : X) → Contains xs x → Among xs x
+contains-among [] x among = absurd (omega (arith, among.1))
+contains-among (y ∷ xs) x among = elim (contains-cases x y xs among) [ inl same ↦ inl same | inr later ↦ inr (contains-among xs x later) ]
+
+among-contains : {X : Type 0} (xs : List X) (x : X) → Among xs x → Contains xs x
+among-contains [] x among = absurd among
+among-contains (y ∷ xs) x (inl same) = contains-here x y xs same
+among-contains (y ∷ xs) x (inr later) = contains-there x y xs (among-contains xs x later)
+
+none-among : {X : Type 0} (xs : List X) → ((x : X) → Among xs x → ⊥) → xs ≡ []
+none-among [] none = refl
+none-among (x ∷ xs) none = absurd (none x (inl refl))
+
+-- a number that stands in a list, and is no greater than any there, is the least
+least-is : (ns : List ℕ) (n : ℕ) → Among ns n → ((m : ℕ) → Among ns m → n ≤ m) → least ns ≡ Some n
+least-is [] n here low = absurd here
+least-is (m ∷ ns) n here low =
+    let first : ℕ = option_map_or (λ k. min m k) (least ns) m in
+    let down : first ≤ n = least_le (m ∷ ns) n here in
+    let up : n ≤ first = low first (least_among m ns) in
+    let same : first ≡ n = omega (arith, down, up) in
+    ap Some same
+
+-- the first line that has a place, where no line above has one
+first-is : (place_on : KeptLine → Option Location) (line_at : ℕ → KeptLine) (ks : List ℕ) (k : ℕ) (place : Location) → Ascends ks → Contains ks k
+    → place_on (line_at k) ≡ Some place → ((j : ℕ) → j < k → place_on (line_at j) ≡ None) → first_place place_on (map line_at ks) ≡ Some place
+first-is place_on line_at [] k place rises among has none = absurd (omega (arith, among.1))
+first-is place_on line_at (j ∷ ks) k place rises among has none =
+    elim (contains-cases k j ks among) [
+      | inl same ↦ ap (λ o. option_or o (first_place place_on (map line_at ks))) (ap (λ n. place_on (line_at n)) same ∙ has)
+      | inr later ↦ ap (λ o. option_or o (first_place place_on (map line_at ks))) (none j (ascends-head j ks k rises later)) ∙ first-is place_on line_at ks k place (ascends-tail j ks rises) later has none
+    ]
+
+-- ---- the places of bytes
+
+-- a text has no more characters up to a byte than up to a later one
+chars-more : (text : List ℕ) (m n : ℕ) → IsUtf8 (take m text) → m ≤ n → length (chars (take m text)) ≤ length (chars (take n text))
+chars-more text m n utf8 upto =
+    let rest : List ℕ = take (n - m) (drop m text) in
+    let parts : take n text ≡ take m text ++ rest = ap (λ k. take k text) (let e : n ≡ m + (n - m) = omega arith in e) ∙ take-add m (n - m) text in
+    omega (arith, ap (λ t. length (chars t)) parts, ap length (chars-append (take m text) rest utf8), length-append (chars (take m text)) (chars rest))
+
+prefix-utf8 : (text : List ℕ) (b : ℕ) → IsUtf8 text → IsUtf8 (take (min b (length text)) text) → IsUtf8 (take b text)
+prefix-utf8 text b utf8 cut =
+    elim (cases_lt b (length text)) [
+      | inl inside ↦ subst (λ n. IsUtf8 (take n text)) (let e : min b (length text) ≡ b = omega arith in e) cut
+      | inr past ↦ subst IsUtf8 (sym (take_all b text past)) utf8
+    ]
+
+abbrev step : Bool → ℕ
+step b = cond b 1 0
+
+steps-more : (e a b : ℕ) → a ≤ b → step (ltb e a) ≤ step (ltb e b)
+steps-more e a b upto =
+    elim (cases_lt e a) [
+      | inl after ↦ omega (arith, ap step (lt-ltb e a after), ap step (lt-ltb e b (omega arith)))
+      | inr before ↦ omega (arith, ap step (le-ltb e a before))
+    ]
+
+start-char : (s : Source) (b : ℕ) → (start_location s b).char ≡ (place_of s.text b).character + steps_after_text s.text b
+unfolding start_location location_of
+start-char s b = refl
+
+steps-are : (source : List ℕ) (b k : ℕ) → line_of (source_lines source) b ≡ k
+    → steps_after_text source b ≡ step (ltb (start_of (source_lines source) k + length (text_at (source_lines source) k)) b)
+unfolding steps_after_text
+steps-are source b k on = ap (λ n. step (ltb (start_of (source_lines source) n + length (text_at (source_lines source) n)) b)) on
+
+-- a span that starts at an earlier byte starts at an earlier place, or at the same
+pub place-by : (s : Source) (a b : ℕ) → IsUtf8 s.text → IsSpanBorder s.text a → a ≤ b → IsBy (start_location s a) (start_location s b)
+place-by s a b utf8 border upto =
+    (omega (arith, start_location-line s a, start_location-line s b, line_of-mono ls a b (omega (arith, line_of-within s.text 0)) upto), λ same. on-line (omega (arith, same, start_location-line s a, start_location-line s b)))
+  where
+    ls : List Line
+    ls = source_lines s.text
+
+    on-line : line_of (source_lines s.text) a ≡ line_of (source_lines s.text) b → (start_location s a).char ≤ (start_location s b).char
+    on-line one =
+        let ls : List Line = source_lines s.text in
+        let k : ℕ = line_of ls a in
+        let text : List ℕ = text_at ls k in
+        let cut : IsUtf8 (take (a - start_of ls k) text) = prefix-utf8 text (a - start_of ls k) (IsUtf8-text_at s.text k utf8) (IsUtf8-take text (min (a - start_of ls k) (length text)) (IsUtf8-text_at s.text k utf8) (IsCharBoundary-prefix s.text a border)) in
+        let more = chars-more text (a - start_of ls k) (b - start_of ls k) cut (omega arith) in
+        let later : (place_of s.text b).character ≡ length (chars (take (b - start_of ls k) text)) = place_of-character s.text b ∙ ap (λ n. length (chars (prefix_at ls n b))) (sym one) in
+        omega (arith, start-char s a, start-char s b, place_of-character s.text a, later, more, steps-are s.text a k refl, steps-are s.text b k (sym one), steps-more (start_of ls k + length text) a b upto)
+
+-- ---- the entries of spans
+
+-- where a span starts, by its byte
+start-of-span : (s : Source) (a : Annotation) → (long_entry s a).start ≡ start_location s a.span.start
+start-of-span s a = locations_of-start s a.span.start a.span.end
+
+start-byte : (s : Source) (b : ℕ) → (start_location s b).byte ≡ b
+unfolding start_location location_of
+start-byte s b = refl
+
+-- a span of several lines ends on a later line
+long-seen : (s : Source) (a : Annotation) → IsSpan s.text a.span.start a.span.end → is_long s.text a ≡ true → IsSeen s (long_entry s a)
+long-seen s a span long =
+    record {
+      start = start-of-span s a ∙ ap (start_location s) (sym (ap (λ (l : Loc). l.byte) (start-of-span s a) ∙ start-byte s a.span.start));
+      later = omega (arith, start-line s a.span.start a.span.end, end-line s a.span.start a.span.end, apart (cases_eq (last_line s.text a) (first_line s.text a)));
+    }
+  where
+    other : (b : Bool) → not b ≡ true → b ≡ true → ⊥
+    other true is also = cc
+    other false is also = cc
+
+    apart : (last_line s.text a ≡ first_line s.text a) ⊎ (last_line s.text a ≡ first_line s.text a → ⊥) → first_line s.text a < last_line s.text a
+    apart (inl same) = absurd (other (is_single_line s.text a) (and_parts (is_marking a.kind) (not (is_single_line s.text a)) long).1 (eq-eqb (last_line s.text a) (first_line s.text a) same))
+    apart (inr differ) = elim (cases_lt (first_line s.text a) (last_line s.text a)) [
+      | inl less ↦ less
+      | inr upto ↦ absurd (differ (omega (arith, lines-ordered s.text a span, upto)))
+    ]
+
+-- the span of which an entry of several lines is
+record IsOfSpan (s : Source) (marks : List Annotation) (e : Entry) : Type 0 where
+  pub span : Annotation
+  pub among : Among marks span
+  pub long : is_long s.text span ≡ true
+  pub is : long_entry s span ≡ e
+
+of-span : (s : Source) (marks : List Annotation) (e : Entry) → Among (long_spans s marks) e → IsOfSpan s marks e
+of-span s marks e among =
+    let given = map_cases (long_entry s) (filter (is_long s.text) marks) e (in_order_cases stands_before (map (long_entry s) (filter (is_long s.text) marks)) e among) in
+    let span = filter_cases (is_long s.text) marks given.0 given.1 in
+    record { span = given.0; among = span.0; long = span.1; is = given.2 }
+
+all-seen : (s : Source) (marks : List Annotation) → ((a : Annotation) → Among marks a → IsSpan s.text a.span.start a.span.end) → (e : Entry)
+    → Among (long_spans s marks) e → IsSeen s e
+all-seen s marks spans e among =
+    let of = of-span s marks e among in
+    subst (IsSeen s) of.is (long-seen s of.span (spans of.span of.among) of.long)
+
+-- where a marked span starts an entry of its kind stands
+marked-started : (t : AnnotationKind → Bool) → IsChoice t → (s : Source) (marks : List Annotation)
+    → ((a : Annotation) → Among marks a → IsSpan s.text a.span.start a.span.end) → (a : Annotation) → Among marks a → is_marking a.kind ≡ true
+    → t a.kind ≡ true → StandsAt t (made_parts s marks) (start_location s a.span.start)
+marked-started t choice s marks spans a among marked passes =
+    elim (cases_Bool (is_single_line s.text a)) [
+      | inl single ↦ record {
+        part = single_part s a;
+        among = among_left singles longs (single_part s a) (among_map (single_part s) (filter (is_short s.text) marks) a (among_filter (is_short s.text) marks a among (and_from (is_marking a.kind) (is_single_line s.text a) marked single)));
+        passes = passes;
+        at_is = start-of-span s a;
+      }
+      | inr several ↦
+          let long : is_long s.text a ≡ true = and_from (is_marking a.kind) (not (is_single_line s.text a)) marked (ap not several) in
+          let e : Entry = long_entry s a in
+          let there : Among (long_spans s marks) e = among_in_order stands_before (map (long_entry s) (filter (is_long s.text) marks)) e (among_map (long_entry s) (filter (is_long s.text) marks) a (among_filter (is_long s.text) marks a among long)) in
+          let one = started t choice s (long_places s marks) [] (long_spans s marks) (long_place e) e there refl (inl passes) in
+          record {
+            part = one.stands.part;
+            among = among_right singles longs one.stands.part one.stands.among;
+            passes = one.stands.passes;
+            at_is = one.stands.at_is ∙ same-start s one.span e (all-seen s marks spans one.span one.among) (all-seen s marks spans e there) one.same ∙ start-of-span s a;
+          }
+    ]
+  where
+    singles : List PartEntry
+    singles = map (single_part s) (filter (is_short s.text) marks)
+
+    longs : List PartEntry
+    longs = long_parts s (long_places s marks) [] (long_spans s marks)
+
+-- and each entry of a kind stands at the start of such a span or after it
+record IsAfterStart (t : AnnotationKind → Bool) (s : Source) (marks : List Annotation) (p : PartEntry) : Type 0 where
+  pub span : Annotation
+  pub among : Among marks span
+  pub marked : is_marking span.kind ≡ true
+  pub passes : t span.kind ≡ true
+  pub by : IsBy (start_location s span.span.start) p.entry.start
+
+part-after : (t : AnnotationKind → Bool) → IsChoice t → (s : Source) (marks : List Annotation)
+    → ((a : Annotation) → Among marks a → IsSpan s.text a.span.start a.span.end) → (p : PartEntry) → Among (made_parts s marks) p → t p.entry.kind ≡ true
+    → IsAfterStart t s marks p
+part-after t choice s marks spans p among passes =
+    elim (append_cases (map (single_part s) (filter (is_short s.text) marks)) (long_parts s (long_places s marks) [] (long_spans s marks)) p among) [
+      | inl single ↦
+          let a = map_cases (single_part s) (filter (is_short s.text) marks) p single in
+          let given = filter_cases (is_short s.text) marks a.0 a.1 in
+          record {
+            span = a.0;
+            among = given.0;
+            marked = (and_parts (is_marking a.0.kind) (is_single_line s.text a.0) given.1).0;
+            passes = ap (λ (q : PartEntry). t q.entry.kind) a.2 ∙ passes;
+            by = by-same (start_location s a.0.span.start) p.entry.start (sym (start-of-span s a.0) ∙ ap (λ (q : PartEntry). q.entry.start) a.2);
+          }
+      | inr several ↦ long (all_among (λ p. t p.entry.kind ≡ true → IsReached t [] (long_spans s marks) p)
+          (long_parts s (long_places s marks) [] (long_spans s marks))
+          p (reached t choice s (long_places s marks) [] (long_spans s marks) (λ d none. absurd none) (all-seen s marks spans)) several passes)
+    ]
+  where
+    from : (e : Entry) → Among (long_spans s marks) e → t e.kind ≡ true → IsBy e.start p.entry.start → IsAfterStart t s marks p
+    from e here own by =
+        let of = of-span s marks e here in
+        record {
+          span = of.span;
+          among = of.among;
+          marked = (and_parts (is_marking of.span.kind) (not (is_single_line s.text of.span)) of.long).0;
+          passes = ap (λ (d : Entry). t d.kind) of.is ∙ own;
+          by = subst (λ (l : Loc). IsBy l p.entry.start) (sym (sym (start-of-span s of.span) ∙ ap (λ (d : Entry). d.start) of.is)) by;
+        }
+
+    long : IsReached t [] (long_spans s marks) p → IsAfterStart t s marks p
+    long is = elim is.among [ inl none ↦ absurd none | inr here ↦ from is.span here is.passes is.by ]
+
+-- ---- the place of the first of these spans
+
+-- the entries of a choice
+abbrev chosen : (AnnotationKind → Bool) → List PartEntry → List PartEntry
+chosen t parts = filter (λ p. t p.entry.kind) parts
+
+-- a marked span of a choice starts at a place, or after it, where no such span starts before
+record IsFirstStart (t : AnnotationKind → Bool) (s : Source) (marks : List Annotation) (a : Annotation) : Type 0 where
+  pub among : Among marks a
+  pub marked : is_marking a.kind ≡ true
+  pub passes : t a.kind ≡ true
+  pub first : (b : Annotation) → Among marks b → is_marking b.kind ≡ true → t b.kind ≡ true
+      → IsBy (start_location s a.span.start) (start_location s b.span.start)
+
+-- the entries of a choice on a line, one by one
+on-line : (t : AnnotationKind → Bool) (s : Source) (marks : List Annotation) (k : ℕ) (p : PartEntry) → Among (chosen t (parts_on s marks k)) p
+    → Among (made_parts s marks) p × (p.entry.start.line ≡ s.first + k) × (t p.entry.kind ≡ true)
+on-line t s marks k p among =
+    let outer = filter_cases (λ (q : PartEntry). t q.entry.kind) (parts_on s marks k) p among in
+    let inner = filter_cases (λ (q : PartEntry). eqb q.entry.start.line (s.first + k)) (made_parts s marks) p outer.0 in
+    (inner.0, eqb-true p.entry.start.line (s.first + k) inner.1, outer.1)
+
+-- above the line of the first span there is no entry of the choice
+none-above : (t : AnnotationKind → Bool) → IsChoice t → (s : Source) (marks : List Annotation)
+    → ((a : Annotation) → Among marks a → IsSpan s.text a.span.start a.span.end) → (a : Annotation) → IsFirstStart t s marks a → (j : ℕ)
+    → j < first_line s.text a → chosen t (parts_on s marks j) ≡ []
+none-above t choice s marks spans a least j above =
+    none-among (chosen t (parts_on s marks j)) (λ p among.
+    let on = on-line t s marks j p among in
+    let after = part-after t choice s marks spans p on.0 on.2 in
+    omega (arith, above, on.1, after.by.0, (least.first after.span after.among after.marked after.passes).0, start_location-line s a.span.start))
+
+-- on it the least column is that of the span
+least-there : (t : AnnotationKind → Bool) → IsChoice t → (s : Source) (marks : List Annotation)
+    → ((a : Annotation) → Among marks a → IsSpan s.text a.span.start a.span.end) → (a : Annotation) → IsFirstStart t s marks a
+    → least (start_columns (chosen t (parts_on s marks (first_line s.text a)))) ≡ Some ((start_location s a.span.start).char + 1)
+least-there t choice s marks spans a least-start =
+    least-is (start_columns (chosen t (parts_on s marks k))) ((start_location s a.span.start).char + 1) there low
+  where
+    k : ℕ
+    k = first_line s.text a
+
+    column : PartEntry → ℕ
+    column p = p.entry.start.char + 1
+
+    there : Among (start_columns (chosen t (parts_on s marks (first_line s.text a)))) ((start_location s a.span.start).char + 1)
+    there =
+        let one = marked-started t choice s marks spans a least-start.among least-start.marked least-start.passes in
+        let on : eqb one.part.entry.start.line (s.first + first_line s.text a) ≡ true = eq-eqb one.part.entry.start.line (s.first + first_line s.text a) (ap (λ (l : Loc). l.line) one.at_is ∙ start_location-line s a.span.start) in
+        let part : Among (chosen t (parts_on s marks (first_line s.text a))) one.part =
+        among_filter (λ (q : PartEntry). t q.entry.kind) (parts_on s marks (first_line s.text a))
+        one.part (among_filter (λ (q : PartEntry). eqb q.entry.start.line (s.first + first_line s.text a)) (made_parts s
+        marks) one.part one.among on) one.passes in
+        subst (Among (start_columns (chosen t (parts_on s marks (first_line s.text a))))) (ap (λ (l : Loc). l.char + 1) one.at_is) (among_map (λ (q : PartEntry). q.entry.start.char + 1) (chosen t (parts_on s marks (first_line s.text a))) one.part part)
+
+    low : (m : ℕ) → Among (start_columns (chosen t (parts_on s marks (first_line s.text a)))) m → (start_location s a.span.start).char + 1 ≤ m
+    low m among =
+        let p = map_cases (λ (q : PartEntry). q.entry.start.char + 1) (chosen t (parts_on s marks (first_line s.text a))) m among in
+        let on = on-line t s marks (first_line s.text a) p.0 p.1 in
+        let after = part-after t choice s marks spans p.0 on.0 on.2 in
+        let before = least-start.first after.span after.among after.marked after.passes in
+        let line : (start_location s a.span.start).line ≡ s.first + first_line s.text a = start_location-line s a.span.start in
+        let beside : (start_location s after.span.span.start).line ≡ p.0.entry.start.line = omega (arith, line, on.1, after.by.0, before.0) in
+        let level : (start_location s a.span.start).line ≡ (start_location s after.span.span.start).line = omega (arith, line, on.1, beside) in
+        omega (arith, p.2, after.by.1 beside, before.1 level)
+
+-- the first line with an entry of the choice is that of the span, and the least column there its column
+first-start : (t : AnnotationKind → Bool) → IsChoice t → (fold : Bool) (s : Source) (marks : List Annotation)
+    → ((a : Annotation) → Among marks a → IsSpan s.text a.span.start a.span.end) → (a : Annotation) → IsFirstStart t s marks a
+    → first_place (least_place (chosen t)) (annotated_lines fold s marks) ≡ Some (place_at s a.span.start)
+first-start t choice fold s marks spans a first =
+    first-is (least_place (chosen t)) (kept_line s marks) (kept_lines fold s.text marks) (first_line s.text a) (place_at s a.span.start) (kept-ascends fold s.text marks) (first-kept fold s.text marks a (among-contains marks a first.among) (spans a first.among))
+    (ap (option_map (λ column. record { line = s.first + first_line s.text a; column = Some column })) (least-there t choice s marks spans a first) ∙ ap (λ n. Some (record { line = n; column = Some ((start_location s a.span.start).char + 1) })) (sym (start_location-line s a.span.start)))
+    (λ j above. ap (λ ps. option_map (λ column. record { line = s.first + j; column = Some column }) (least (start_columns ps))) (none-above t choice s marks spans a first j above))
+
+-- where no span of the choice is marked, no line has a place
+no-start : (t : AnnotationKind → Bool) → IsChoice t → (fold : Bool) (s : Source) (marks : List Annotation)
+    → ((a : Annotation) → Among marks a → IsSpan s.text a.span.start a.span.end)
+    → ((a : Annotation) → Among marks a → is_marking a.kind ≡ true → t a.kind ≡ true → ⊥)
+    → first_place (least_place (chosen t)) (annotated_lines fold s marks) ≡ None
+no-start t choice fold s marks spans none =
+    first-none (least_place (chosen t)) (kept_line s marks) (kept_lines fold s.text marks) (λ k. ap (λ ps. option_map (λ column. record { line = s.first + k; column = Some column }) (least (start_columns ps))) (none-among (chosen t (parts_on s marks k)) (λ p among.
+    let on = on-line t s marks k p among in
+    let after = part-after t choice s marks spans p on.0 on.2 in
+    none after.span after.among after.marked after.passes)))
+
+-- ---- by the bytes at which the spans start
+
+-- a test of spans is that of marked ones of a choice
+record IsTestOf (test : Annotation → Bool) (t : AnnotationKind → Bool) : Type 0 where
+  pub marked : (a : Annotation) → test a ≡ true → is_marking a.kind ≡ true
+  pub passes : (a : Annotation) → test a ≡ true → t a.kind ≡ true
+  pub all : (a : Annotation) → is_marking a.kind ≡ true → t a.kind ≡ true → test a ≡ true
+
+-- so the place is that of the least byte at which one of them starts
+start-named : (test : Annotation → Bool) (t : AnnotationKind → Bool) → IsTestOf test t → IsChoice t
+    → (fold : Bool) (s : Source) (marks : List Annotation) → IsUtf8 s.text
+    → ((a : Annotation) → Among marks a → IsSpan s.text a.span.start a.span.end)
+    → first_place (least_place (chosen t)) (annotated_lines fold s marks) ≡ option_map (place_at s)
+    (least (map (λ (a : Annotation). a.span.start) (filter test marks)))
+start-named test t is choice fold s marks utf8 spans = by (filter test marks) refl
+  where
+    start : Annotation → ℕ
+    start a = a.span.start
+
+    found : (a : Annotation) (others : List Annotation) → filter test marks ≡ a ∷ others
+        → first_place (least_place (chosen t)) (annotated_lines fold s marks) ≡ option_map (place_at s) (least (map (λ (a : Annotation). a.span.start) (filter test marks)))
+    found a others are =
+        let low = least-first (λ (a : Annotation). a.span.start) a others in
+        let given = filter_cases test marks low.0 (subst (λ xs. Among xs low.0) (sym are) (contains-among (a ∷ others) low.0 low.1.among)) in
+        let first : IsFirstStart t s marks low.0 = record {
+          among = given.0;
+          marked = is.marked low.0 given.1;
+          passes = is.passes low.0 given.1;
+          first = λ b among marked passes. place-by s low.0.span.start b.span.start utf8 (spans low.0 given.0).from (low.1.lowest b (among-contains (a ∷ others) b (subst (λ xs. Among xs b) are (among_filter test marks b among (is.all b marked passes)))));
+        } in
+        first-start t choice fold s marks spans low.0 first
+        ∙ sym (ap (λ xs. option_map (place_at s) (least (map (λ (a : Annotation). a.span.start) xs))) are ∙ ap (option_map (place_at s)) low.1.is)
+
+    by : (xs : List Annotation) → filter test marks ≡ xs
+        → first_place (least_place (chosen t)) (annotated_lines fold s marks) ≡ option_map (place_at s) (least (map (λ (a : Annotation). a.span.start) (filter test marks)))
+    by [] are =
+        no-start t choice fold s marks spans (λ a among marked passes. subst (λ xs. Among xs a) are (among_filter test marks a among (is.all a marked passes)))
+        ∙ sym (ap (λ xs. option_map (place_at s) (least (map (λ (a : Annotation). a.span.start) xs))) are)
+    by (a ∷ others) are = found a others are
+
+primary-choice : IsChoice is_primary
+primary-choice = record { primary = refl; others = λ k is. inl is }
+
+any-choice : IsChoice (λ k. true)
+any-choice = record { primary = refl; others = λ k is. inr (λ j. refl) }
+
+primary-test : IsTestOf (λ a. is_primary a.kind) is_primary
+primary-test = record { marked = λ a is. marked a.kind is; passes = λ a is. is; all = λ a marked is. is }
+  where
+    marked : (k : AnnotationKind) → is_primary k ≡ true → is_marking k ≡ true
+    marked Primary is = refl
+    marked Context is = cc
+    marked Visible is = cc
+
+any-test : IsTestOf (λ a. is_marking a.kind) (λ k. true)
+any-test = record { marked = λ a is. is; passes = λ a is. refl; all = λ a marked is. marked }
+
+all-chosen : (parts : List PartEntry) → chosen (λ k. true) parts ≡ parts
+all-chosen [] = refl
+all-chosen (p ∷ parts) = ap (λ ps. p ∷ ps) (all-chosen parts)
+
+all-places : (lines : List KeptLine) → first_place (least_place all_parts) lines ≡ first_place (least_place (chosen (λ k. true))) lines
+all-places [] = refl
+all-places (line ∷ lines) =
+    ap (λ ps. option_or (option_map (λ column. record { line = line.number; column = Some column }) (least (start_columns ps))) (first_place (least_place all_parts) lines)) (sym (all-chosen line.parts)) ∙ ap (option_or (least_place (chosen (λ k. true)) line)) (all-places lines)
+
+-- the place that the head of a primary snippet names is that of the first byte at which a span starts that names it
+pub naming-place : (marks : List Annotation) (start : Option ℕ) → start ≡ naming_start marks → (fold : Bool) (s : Source) → IsUtf8 s.text
+    → All (λ a. IsSpan s.text a.span.start a.span.end) marks → primary_place (annotated_lines fold s marks) ≡ option_map (place_at s) start
+naming-place marks start is fold s utf8 all =
+    ap (λ o. option_or o (first_place (least_place all_parts) (annotated_lines fold s marks))) (start-named (λ a. is_primary a.kind) is_primary primary-test primary-choice fold s marks utf8 spans)
+    ∙ ap (option_or (option_map (place_at s) (least (primary_starts marks)))) (all-places (annotated_lines fold s marks) ∙ start-named (λ a. is_marking a.kind) (λ k. true) any-test any-choice fold s marks utf8 spans)
+    ∙ either (least (primary_starts marks)) (least (marked_starts marks))
+    ∙ ap (option_map (place_at s)) (sym is)
+  where
+    spans : (a : Annotation) → Among marks a → IsSpan s.text a.span.start a.span.end
+    spans a among = all_among (λ a. IsSpan s.text a.span.start a.span.end) marks a all among
+
+    either : (o p : Option ℕ) → option_or (option_map (place_at s) o) (option_map (place_at s) p) ≡ option_map (place_at s) (option_or o p)
+    either None p = refl
+    either (Some n) p = refl
+
+-- ---- a span of no bytes may stand at this byte
+
+start-border : (test : Annotation → Bool) (source : List ℕ) (marks : List Annotation)
+    → ((a : Annotation) → Among marks a → IsSpan source a.span.start a.span.end)
+    → IfSome (least (map (λ (a : Annotation). a.span.start) (filter test marks))) (λ b. IsSpan source b b)
+start-border test source marks spans = by (filter test marks) refl
+  where
+    empty : (a : Annotation) → IsSpan source a.span.start a.span.end → IsSpan source a.span.start a.span.start
+    empty a span = record { ordered = omega arith; within = omega (arith, span.ordered, span.within); from = span.from; to = span.from }
+
+    by : (xs : List Annotation) → filter test marks ≡ xs → IfSome (least (map (λ (a : Annotation). a.span.start) (filter test marks))) (λ b. IsSpan source b b)
+    by [] are = subst (λ xs. IfSome (least (map (λ (a : Annotation). a.span.start) xs)) (λ b. IsSpan source b b)) (sym are) tt
+    by (a ∷ others) are =
+        let low = least-first (λ (b : Annotation). b.span.start) a others in
+        let given = filter_cases test marks low.0 (subst (λ xs. Among xs low.0) (sym are) (contains-among (a ∷ others) low.0 low.1.among)) in
+        subst (λ xs. IfSome (least (map (λ (b : Annotation). b.span.start) xs)) (λ b. IsSpan source b b)) (sym are) (subst (λ o. IfSome o (λ b. IsSpan source b b)) (sym low.1.is) (empty low.0 (spans low.0 given.0)))
+
+-- the start that names a snippet is a border of characters
+pub naming-border : (marks : List Annotation) (start : Option ℕ) → start ≡ naming_start marks → (source : List ℕ)
+    → All (λ a. IsSpan source a.span.start a.span.end) marks → IfSome start (λ b. IsSpan source b b)
+naming-border marks start is source all =
+    subst (λ o. IfSome o (λ b. IsSpan source b b)) (sym is) (either (least (primary_starts marks)) (least (marked_starts marks)) (start-border (λ a. is_primary a.kind) source marks spans) (start-border (λ a. is_marking a.kind) source marks spans))
+  where
+    spans : (a : Annotation) → Among marks a → IsSpan source a.span.start a.span.end
+    spans a among = all_among (λ a. IsSpan source a.span.start a.span.end) marks a all among
+
+    either : (o p : Option ℕ) → IfSome o (λ b. IsSpan source b b) → IfSome p (λ b. IsSpan source b b) → IfSome (option_or o p) (λ b. IsSpan source b b)
+    either None p first second = second
+    either (Some n) p first second = first

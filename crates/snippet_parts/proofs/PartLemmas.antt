@@ -1,0 +1,139 @@
+-- What holds of each entry that is made: of those of each span.
+use Rattle.std.proofs.Common.{◌≡◌, ℕ, ◌+◌, ◌-◌, ◌<◌, ◌≤◌, Bool, true, false, ◌&&◌, cond, not, ltb, min, List, [], ◌∷◌, ◌++◌, map, get_or, ◌⊎◌, inl, inr, ◌||◌}
+use Rattle.std.proofs.Common.{refl, ap, arith}
+use Rattle.std.specs.List.{All, Contains, filter, list_any, range_with_len}
+use Rattle.std.proofs.lemmas.Bool.{cond_both, and_parts, ltb-true}
+use Rattle.std.proofs.lemmas.List.Elements.{All-nil, All-cons, All-head, All-tail, All-append, All-map, All-weaker, All-contains_itself}
+use Rattle.std.proofs.lemmas.List.FromFn.{length-range_with_len, get_or-range_with_len}
+use Rattle.snippet_model.specs.declared.snippet.Annotation.{Annotation}
+use Rattle.snippet_model.specs.declared.snippet.AnnotationKind.{AnnotationKind}
+use Rattle.snippet_model.specs.declared.snippet.AnnotationKind.TheVariants.{Primary}
+use Rattle.snippet_parts.specs.declared.depths.LongExtent.{LongExtent}
+use Rattle.snippet_parts.specs.declared.entries.LineAnnotationType.TheVariants.{Singleline, MultilineEnd}
+use Rattle.snippet_parts.specs.Annotated.{PartEntry, is_short, is_long, long_entry, long_place, long_places, long_spans, stands_before, depth_of, single_part}
+use Rattle.snippet_parts.specs.Annotated.{start_part, bar_part, end_part, bar_lines, span_parts, long_parts, made_parts, promoted, is_promoted}
+use Rattle.snippet_lines.specs.Order.{ordered_by}
+use Rattle.snippet_parts.specs.Depths.{depth_among, same_place}
+use Rattle.snippet_parts.specs.Kept.{is_trivial_line}
+use Rattle.snippet_lines.specs.Lines.{Source}
+use Rattle.snippet_parts.specs.Marked.{Entry}
+use Rattle.snippet_lines.proofs.OrderLemmas.{All-put_in}
+pub use Rattle.snippet_lines.proofs.OrderLemmas.{filter-none}
+
+-- ---- lists
+
+-- of each element that passes a test
+pub All-filtered : {X : Type 0} (p : X → Bool) (Q : X → Type 0) (xs : List X) → All (λ x. p x ≡ true → Q x) xs → All Q (filter p xs)
+All-filtered p Q [] all = All-nil Q
+All-filtered p Q (x ∷ xs) all =
+    let rest : All Q (filter p xs) = All-filtered p Q xs (All-tail (λ x. p x ≡ true → Q x) x xs all) in
+    cond_both (p x) (x ∷ filter p xs) (filter p xs) (All Q) (λ t. All-cons Q x (filter p xs) (All-head (λ x. p x ≡ true → Q x) x xs all t) rest) (λ _. rest)
+
+-- what holds of each element holds of each once they are in order
+pub All-order : {X : Type 0} (before : X → X → Bool) (Q : X → Type 0) (xs : List X) → All Q xs → All Q (ordered_by before xs)
+All-order before Q [] all = All-nil Q
+All-order before Q (x ∷ xs) all = All-put_in before Q x (ordered_by before xs) (All-head Q x xs all) (All-order before Q xs (All-tail Q x xs all))
+
+-- each number of a range is at least its first, and less than its end
+pub All-range : (a n : ℕ) → All (λ k. (a ≤ k) × (k < a + n)) (range_with_len a n)
+All-range a n k d within =
+    let below : k < n = omega (arith, length-range_with_len a n) in
+    let at : get_or (range_with_len a n) k d ≡ a + k = get_or-range_with_len a n k d below in (omega arith, omega arith)
+
+-- what holds of each element that is made holds of what each was made from
+pub All-unmapped : {X Y : Type 0} (P : Y → Type 0) (f : X → Y) (xs : List X) → All P (map f xs) → All (λ x. P (f x)) xs
+All-unmapped P f [] all = All-nil (λ x. P (f x))
+All-unmapped P f (x ∷ xs) all = All-cons (λ x. P (f x)) x xs (All-head P (f x) (map f xs) all) (All-unmapped P f xs (All-tail P (f x) (map f xs) all))
+
+-- ---- bars
+
+-- where a span of several lines has a bar
+pub record IsBarLine (source : List ℕ) (first last k : ℕ) : Type 0 where
+  pub from : first < k
+  pub to : k ≤ last
+  pub shown : (list_any (λ j. not (is_trivial_line source j)) (range_with_len k (min (first + 4) last - k)) ≡ true) ⊎ ((k + 1 ≡ last) × (ltb (min (first + 4) last) k ≡ true) × (not (is_trivial_line source k) ≡ true))
+
+-- each line of a bar lies where the span's bars may stand
+pub bar-lines : (source : List ℕ) (first last : ℕ) → All (IsBarLine source first last) (bar_lines source first last)
+bar-lines source first last =
+    let beginning : ℕ = min (first + 4) last in
+    let test = λ (k : ℕ). list_any (λ j. not (is_trivial_line source j)) (range_with_len k (beginning - k)) in
+    let closing : Bool = ltb beginning (last - 1) && not (is_trivial_line source (last - 1)) in
+    All-append (IsBarLine source first last) (filter test (range_with_len (first + 1) (beginning - first))) (cond closing ((last - 1) ∷ []) [])
+    (All-filtered test (IsBarLine source first last) (range_with_len (first + 1) (beginning - first))
+    (All-weaker (λ k. (first + 1 ≤ k) × (k < first + 1 + (beginning - first))) (λ k. test k ≡ true → IsBarLine source first last k)
+    (λ k within passes. record { from = omega (arith, within.0); to = omega (arith, within.1); shown = inl passes })
+    (range_with_len (first + 1) (beginning - first)) (All-range (first + 1) (beginning - first))))
+    (cond_both closing ((last - 1) ∷ []) [] (All (IsBarLine source first last)) (λ there. All-cons (IsBarLine source first last) (last - 1) [] (last-bar there) (All-nil (IsBarLine source first last))) (λ _. All-nil (IsBarLine source first last)))
+  where
+    last-bar : (ltb (min (first + 4) last) (last - 1) && not (is_trivial_line source (last - 1))) ≡ true → IsBarLine source first last (last - 1)
+    last-bar there =
+        let parts = and_parts (ltb (min (first + 4) last) (last - 1)) (not (is_trivial_line source (last - 1))) there in
+        let less : min (first + 4) last < last - 1 = ltb-true (min (first + 4) last) (last - 1) parts.0 in
+        record { from = omega arith; to = omega arith; shown = inr (omega arith, parts.0, parts.1) }
+
+-- ---- entries
+
+-- what holds of each entry that a span of several lines may have
+pub record HoldsOfSpan (P : PartEntry → Type 0) (s : Source) (depth : ℕ) (e : Entry) : Type 0 where
+  pub start : P (start_part e depth)
+  pub bars : All (λ k. P (bar_part e depth (s.first + k))) (bar_lines s.text (e.start.line - s.first) (e.end.line - s.first))
+  pub end : P (end_part e (MultilineEnd depth))
+  pub again : P (end_part e Singleline)
+
+-- what holds of what a span's parts are made of holds of each part
+pub span-all : (P : PartEntry → Type 0) (s : Source) (depth : ℕ) (again : Bool) (e : Entry) → HoldsOfSpan P s depth e → All P (span_parts s depth again e)
+span-all P s depth true e holds = All-cons P (end_part e Singleline) [] holds.again (All-nil P)
+span-all P s depth false e holds =
+    let bars : List PartEntry = map (λ k. bar_part e depth (s.first + k)) (bar_lines s.text (e.start.line - s.first) (e.end.line - s.first)) in
+    All-cons P (start_part e depth) (bars ++ end_part e (MultilineEnd depth) ∷ [])
+    holds.start (All-append P bars (end_part e (MultilineEnd depth) ∷ [])
+    (All-map P (λ k. bar_part e depth (s.first + k)) (bar_lines s.text (e.start.line - s.first) (e.end.line - s.first)) holds.bars)
+    (All-cons P (end_part e (MultilineEnd depth)) [] holds.end (All-nil P)))
+
+-- a span as it is drawn has another kind at most
+drawn-all : (P : PartEntry → Type 0) (s : Source) (depth : ℕ) (before : List Entry) (e : Entry)
+    → ((kind : AnnotationKind) → HoldsOfSpan P s depth (record e { kind = kind })) → HoldsOfSpan P s depth (promoted before e)
+drawn-all P s depth before e holds =
+    cond_both (is_promoted before e) (record e { kind = Primary }) e (HoldsOfSpan P s depth) (λ _. holds Primary) (λ _. holds e.kind)
+
+long-all : (P : PartEntry → Type 0) (s : Source) (places : List LongExtent) (before es : List Entry)
+    → All (λ e. (kind : AnnotationKind) → HoldsOfSpan P s (depth_among places (long_place e)) (record e { kind = kind })) es
+    → All P (long_parts s places before es)
+long-all P s places before [] all = All-nil P
+long-all P s places before (e ∷ later) all =
+    let Q = λ (e : Entry). (kind : AnnotationKind) → HoldsOfSpan P s (depth_among places (long_place e)) (record e { kind = kind }) in
+    All-append P (span_parts s (depth_among places (long_place e)) (list_any (λ d. same_place (long_place e) (long_place d)) later)
+    (promoted before e)) (long_parts s places (before ++ e ∷ []) later)
+    (span-all P s (depth_among places (long_place e)) (list_any (λ d. same_place (long_place e) (long_place d)) later) (promoted before e)
+    (drawn-all P s (depth_among places (long_place e)) before e (All-head Q e later all)))
+    (long-all P s places (before ++ e ∷ []) later (All-tail Q e later all))
+
+-- what holds of the entries of each span of several lines holds of those of all of them
+pub longs-all : (P : PartEntry → Type 0) (s : Source) (marks : List Annotation)
+    → ((a : Annotation) → Contains marks a → is_long s.text a ≡ true → (kind : AnnotationKind) → HoldsOfSpan P s (depth_of s marks a) (record
+    (long_entry s a) { kind = kind })) → All P (long_parts s (long_places s marks) [] (long_spans s marks))
+longs-all P s marks long =
+    let Q = λ (e : Entry). (kind : AnnotationKind) → HoldsOfSpan P s (depth_among (long_places s marks) (long_place e)) (record e { kind = kind }) in
+    let given : All Q (map (long_entry s) (filter (is_long s.text) marks)) =
+    All-map Q (long_entry s) (filter (is_long s.text) marks)
+    (All-filtered (is_long s.text) (λ a. Q (long_entry s a))
+    marks (All-weaker (Contains marks) (λ a. is_long s.text a ≡ true → Q (long_entry s a)) long marks (All-contains_itself marks))) in
+    long-all P s (long_places s marks) [] (long_spans s marks) (All-order stands_before Q (map (long_entry s) (filter (is_long s.text) marks)) given)
+
+-- what holds of the entries of each span holds of all entries
+pub made-all : (P : PartEntry → Type 0) (s : Source) (marks : List Annotation)
+    → ((a : Annotation) → Contains marks a → is_short s.text a ≡ true → P (single_part s a))
+    → ((a : Annotation) → Contains marks a → is_long s.text a ≡ true → (kind : AnnotationKind) → HoldsOfSpan P s (depth_of s marks a) (record
+    (long_entry s a) { kind = kind })) → All P (made_parts s marks)
+made-all P s marks short long =
+    let singles : All P (map (single_part s) (filter (is_short s.text) marks)) =
+    All-map P (single_part s) (filter (is_short s.text) marks)
+    (All-filtered (is_short s.text) (λ a. P (single_part s a))
+    marks (All-weaker (Contains marks) (λ a. is_short s.text a ≡ true → P (single_part s a)) short marks (All-contains_itself marks))) in
+    All-append P (map (single_part s) (filter (is_short s.text) marks)) (long_parts s (long_places s marks) [] (long_spans s marks)) singles (longs-all P s marks long)
+
+-- a test of elements that were made from others, by those
+pub list_any-map : {X Y : Type 0} (p : Y → Bool) (f : X → Y) (xs : List X) → list_any p (map f xs) ≡ list_any (λ x. p (f x)) xs
+list_any-map p f [] = refl
+list_any-map p f (x ∷ xs) = ap (λ b. p (f x) || b) (list_any-map p f xs)

@@ -1,0 +1,157 @@
+-- The lines that are kept, each with its entries.
+use Rattle.std.proofs.Common.{None, ◌≡◌, ℕ, zero, suc, ◌+◌, ◌-◌, ◌<◌, ◌≤◌, Bool, true, false, ◌&&◌, ◌||◌, cond, not, eqb, List, [], ◌∷◌, ◌++◌, map, length}
+use Rattle.std.proofs.Common.{take, drop, get_or, inl, inr, refl, sym, ap, ◌∙◌, arith}
+use Rattle.std.specs.List.{Contains, filter, list_any, range_with_len}
+use Rattle.std.specs.List.Sorted.{IsStableByKey, ties}
+use Rattle.std.specs.Ordering.{is_lt, nat_cmp}
+use Rattle.std.proofs.lemmas.Bool.{cases_Bool, cases_lt, or_left, or_right, cond-true, cond-false, eq-eqb, ne_eqb}
+use Rattle.std.proofs.lemmas.Bool.Decides.{nat_tests}
+use Rattle.std.proofs.lemmas.List.{map-append, map-id, map_push, append-nil}
+use Rattle.std.proofs.lemmas.List.Elements.{filter-append, filter_agree}
+use Rattle.std.proofs.lemmas.List.FromFn.{map-range_with_len_more}
+use Rattle.snippet_model.specs.declared.snippet.Annotation.{Annotation}
+use Rattle.snippet_model.specs.declared.snippet.AnnotationKind.TheVariants.{Primary}
+use Rattle.snippet_parts.specs.declared.entries.AnnotatedLineInfo.{AnnotatedLineInfo}
+use Rattle.snippet_parts.specs.declared.entries.LineAnnotation.{LineAnnotation}
+use Rattle.snippet_parts.specs.declared.entries.LineAnnotationType.TheVariants.{Singleline}
+use Rattle.snippet_parts.specs.Annotated.{is_long, long_entry, long_place, long_places, long_spans, stands_before, depth_of, PartEntry, seen_part, KeptLine}
+use Rattle.snippet_parts.specs.Annotated.{seen_kept}
+use Rattle.snippet_lines.specs.Order.{put_in, ordered_by}
+use Rattle.snippet_lines.specs.Lines.{Source}
+use Rattle.snippet_parts.specs.Depths.{same_place, share_line}
+use Rattle.snippet_parts.proofs.DepthLemmas.{distinct-places}
+use Rattle.snippet_parts.proofs.RawDepthLemmas.{same-refl}
+use Rattle.snippet_parts.proofs.PartLemmas.{list_any-map}
+
+-- those that pass among the made elements are made from those whose made ones pass
+pub filter-map : {X Y : Type 0} (p : Y → Bool) (f : X → Y) (xs : List X) → filter p (map f xs) ≡ map f (filter (λ x. p (f x)) xs)
+filter-map p f [] = refl
+filter-map p f (x ∷ xs) =
+    elim (cases_Bool (p (f x))) [
+      | inl t ↦ cond-true (p (f x)) (f x ∷ filter p (map f xs)) (filter p (map f xs)) t ∙ ap (λ ys. f x ∷ ys) (filter-map p f xs) ∙ ap (map f) (sym (cond-true (p (f x)) (x ∷ filter (λ x. p (f x)) xs) (filter (λ x. p (f x)) xs) t))
+      | inr e ↦ cond-false (p (f x)) (f x ∷ filter p (map f xs)) (filter p (map f xs)) e ∙ filter-map p f xs ∙ ap (map f) (sym (cond-false (p (f x)) (x ∷ filter (λ x. p (f x)) xs) (filter (λ x. p (f x)) xs) e))
+    ]
+
+-- ---- entries of a line in a sorted list
+
+-- the entries between those above a line and those below it are those of the line
+pub on-line : {X : Type 0} (line : X → ℕ) (xs : List X) (n from to m : ℕ) → to ≡ from + m
+    → ((j : ℕ) (d : X) → j < from → j < length xs → line (get_or xs j d) < n)
+    → ((j : ℕ) (d : X) → from ≤ j → j < length xs → n ≤ line (get_or xs j d)) → ((j : ℕ) (d : X) → j < to → j < length xs → line (get_or xs j d) ≤ n)
+    → ((j : ℕ) (d : X) → to ≤ j → j < length xs → n < line (get_or xs j d)) → take m (drop from xs) ≡ filter (λ e. eqb (line e) n) xs
+on-line line [] n zero to zero is below from' upto after = refl
+on-line line [] n zero to (suc m) is below from' upto after = refl
+on-line line [] n (suc from) to zero is below from' upto after = refl
+on-line line [] n (suc from) to (suc m) is below from' upto after = refl
+on-line line (x ∷ xs) n (suc from) to m is below from' upto after =
+    on-line line xs n from (to - 1) m (omega arith) (λ j d a b. below (suc j) d (omega arith) (omega arith)) (λ j d a b. from' (suc j) d (omega arith) (omega arith)) (λ j d a b. upto (suc j) d (omega arith) (omega arith)) (λ j d a b. after (suc j) d (omega arith) (omega arith))
+    ∙ sym (cond-false (eqb (line x) n) (x ∷ filter (λ e. eqb (line e) n) xs) (filter (λ e. eqb (line e) n) xs) (ne_eqb (line x) n (λ same. absurd (omega (arith, same, below 0 x (omega arith) (omega arith))))))
+on-line line (x ∷ xs) n zero to (suc m) is below from' upto after =
+    ap (λ ys. x ∷ ys) (on-line line xs n zero (to - 1) m (omega arith) (λ j d a b. absurd (omega arith)) (λ j d a b. from' (suc j) d (omega arith) (omega arith)) (λ j d a b. upto (suc j) d (omega arith) (omega arith)) (λ j d a b. after (suc j) d (omega arith) (omega arith)))
+    ∙ sym (cond-true (eqb (line x) n) (x ∷ filter (λ e. eqb (line e) n) xs) (filter (λ e. eqb (line e) n) xs) (eq-eqb (line x) n (omega (arith, from' 0 x (omega arith) (omega arith), upto 0 x (omega arith) (omega arith)))))
+on-line line (x ∷ xs) n zero to zero is below from' upto after =
+    on-line line xs n zero zero zero (omega arith) (λ j d a b. absurd (omega arith)) (λ j d a b. from' (suc j) d (omega arith) (omega arith)) (λ j d a b. absurd (omega arith)) (λ j d a b. after (suc j) d (omega arith) (omega arith))
+    ∙ sym (cond-false (eqb (line x) n) (x ∷ filter (λ e. eqb (line e) n) xs) (filter (λ e. eqb (line e) n) xs) (ne_eqb (line x) n (λ same. absurd (omega (arith, same, after 0 x (omega arith) (omega arith))))))
+
+-- ---- a stable sort by lines
+
+ties-line : (n m : ℕ) → (not (is_lt (nat_cmp n m)) && not (is_lt (nat_cmp m n))) ≡ eqb m n
+ties-line n m = grind (arith, nat_tests)
+
+-- an entry at the start of a line
+pub at-line : ℕ → LineAnnotation
+at-line n = record { start = record { line = n; char = 0; display = 0; byte = 0 }; end = record { line = n; char = 0; display = 0; byte = 0 }; kind = Primary; label = None; annotation_type = Singleline; highlight_source = false }
+
+-- a stable sort by lines leaves the entries of one line in the order in which they were made
+pub stable-on-line : (made sorted : List LineAnnotation) (n : ℕ) → IsStableByKey (λ (e : LineAnnotation). e.start.line) nat_cmp made sorted
+    → filter (λ (p : PartEntry). eqb p.entry.start.line n) (map seen_part sorted) ≡ filter (λ (p : PartEntry). eqb p.entry.start.line n) (map seen_part made)
+unfolding at-line
+stable-on-line made sorted n stable =
+    filter-map (λ (p : PartEntry). eqb p.entry.start.line n) seen_part sorted
+    ∙ ap (map seen_part) (sym (filter_agree (ties (λ (x : LineAnnotation) (y : LineAnnotation). is_lt (nat_cmp x.start.line y.start.line)) (at-line
+    n)) (λ (e : LineAnnotation). eqb e.start.line n) (λ e. ties-line n e.start.line) sorted) ∙ stable (at-line n)
+    ∙ filter_agree (ties (λ (x : LineAnnotation) (y : LineAnnotation). is_lt (nat_cmp x.start.line y.start.line)) (at-line n))
+    (λ (e : LineAnnotation). eqb e.start.line n) (λ e. ties-line n e.start.line) made)
+    ∙ sym (filter-map (λ (p : PartEntry). eqb p.entry.start.line n) seen_part made)
+
+-- ---- lines so far
+
+-- a range with one number more ends in that number
+pub range-more : (i : ℕ) → range_with_len 0 (i + 1) ≡ range_with_len 0 i ++ i ∷ []
+range-more i = sym (map-id (range_with_len 0 (i + 1))) ∙ map-range_with_len_more (λ (k : ℕ). k) 0 i i (omega arith) ∙ ap (λ ks. ks ++ i ∷ []) (map-id (range_with_len 0 i))
+
+pub lines-shown : (p : ℕ → Bool) (f : ℕ → KeptLine) (i : ℕ) (now new : List AnnotatedLineInfo) (info : AnnotatedLineInfo) → p i ≡ true
+    → new ≡ now ++ info ∷ [] → seen_kept info ≡ f i → map seen_kept now ≡ map f (filter p (range_with_len 0 i))
+    → map seen_kept new ≡ map f (filter p (range_with_len 0 (i + 1)))
+lines-shown p f i now new info there pushed is before =
+    ap (map seen_kept) pushed ∙ map_push seen_kept now info ∙ ap (λ ls. ls ++ seen_kept info ∷ []) before ∙ ap (λ l. map f (filter p (range_with_len 0 i)) ++ l ∷ []) is
+    ∙ sym (ap (λ ks. map f (filter p ks)) (range-more i) ∙ ap (map f) (filter-append p (range_with_len 0 i) (i ∷ []) ∙ ap (λ b. filter p (range_with_len 0 i) ++ cond b (i ∷ []) []) there) ∙ map-append f (filter p (range_with_len 0 i)) (i ∷ []))
+
+pub lines-left : (p : ℕ → Bool) (f : ℕ → KeptLine) (i : ℕ) (now : List AnnotatedLineInfo) → p i ≡ false
+    → map seen_kept now ≡ map f (filter p (range_with_len 0 i)) → map seen_kept now ≡ map f (filter p (range_with_len 0 (i + 1)))
+lines-left p f i now none before =
+    before ∙ sym (ap (λ ks. map f (filter p ks)) (range-more i) ∙ ap (map f) (filter-append p (range_with_len 0 i) (i ∷ []) ∙ ap (λ b. filter p (range_with_len 0 i) ++ cond b (i ∷ []) []) none ∙ append-nil (filter p (range_with_len 0 i))))
+
+-- two lines that are seen alike
+pub same-kept : (number number' : ℕ) (text text' : List ℕ) (parts parts' : List PartEntry) (keep keep' : Bool) → number ≡ number' → text ≡ text'
+    → parts ≡ parts' → keep ≡ keep' → ◌≡◌ {A = KeptLine} (record { number = number; text = text; parts = parts; keep = keep })
+    (record { number = number'; text = text'; parts = parts'; keep = keep' })
+same-kept number number' text text' parts parts' keep keep' a b c d = cc
+
+-- where lines before a stretch are too low and those after it too high, it doesn't end before it starts
+pub from-to : {X : Type 0} (line : X → ℕ) (none : X) (xs : List X) (n from to : ℕ) → from ≤ length xs
+    → ((j : ℕ) (d : X) → j < from → j < length xs → line (get_or xs j d) < n) → ((j : ℕ) (d : X) → to ≤ j → j < length xs → n < line (get_or xs j d))
+    → from ≤ to
+from-to line none xs n from to within below after =
+    elim (cases_lt to from) [
+      | inr le ↦ le
+      | inl less ↦ absurd (omega (arith, below to none less (omega arith), after to none (omega arith) (omega arith)))
+    ]
+
+-- ---- depths of annotations
+
+any-put : {X : Type 0} (before : X → X → Bool) (q : X → Bool) (x : X) (ys : List X) → list_any q (put_in before x ys) ≡ (q x || list_any q ys)
+any-put before q x [] = refl
+any-put before q x (y ∷ ys) =
+    elim (cases_Bool (before y x)) [
+      | inl t ↦ ap (list_any q) (cond-true (before y x) (y ∷ put_in before x ys) (x ∷ y ∷ ys) t) ∙ ap (λ b. q y || b) (any-put before q x ys) ∙ swapped (q y) (q x) (list_any q ys)
+      | inr f ↦ ap (list_any q) (cond-false (before y x) (y ∷ put_in before x ys) (x ∷ y ∷ ys) f)
+    ]
+  where
+    swapped : (a b c : Bool) → (a || (b || c)) ≡ (b || (a || c))
+    swapped true true c = refl
+    swapped true false c = refl
+    swapped false true c = refl
+    swapped false false c = refl
+
+any-order : {X : Type 0} (before : X → X → Bool) (q : X → Bool) (xs : List X) → list_any q (ordered_by before xs) ≡ list_any q xs
+any-order before q [] = refl
+any-order before q (x ∷ xs) = any-put before q x (ordered_by before xs) ∙ ap (λ b. q x || b) (any-order before q xs)
+
+any-filter : {X : Type 0} (q p : X → Bool) (xs : List X) (k : ℕ) (d : X) → k < length xs → p (get_or xs k d) ≡ true → q (get_or xs k d) ≡ true
+    → list_any q (filter p xs) ≡ true
+any-filter q p [] k d within pass hit = absurd (omega arith)
+any-filter q p (x ∷ xs) zero d within pass hit = ap (list_any q) (cond-true (p x) (x ∷ filter p xs) (filter p xs) pass) ∙ or_left (q x) (list_any q (filter p xs)) hit
+any-filter q p (x ∷ xs) (suc k) d within pass hit =
+    elim (cases_Bool (p x)) [
+      | inl t ↦ ap (list_any q) (cond-true (p x) (x ∷ filter p xs) (filter p xs) t) ∙ or_right (q x) (list_any q (filter p xs)) (any-filter q p xs k d (omega arith) pass hit)
+      | inr f ↦ ap (list_any q) (cond-false (p x) (x ∷ filter p xs) (filter p xs) f) ∙ any-filter q p xs k d (omega arith) pass hit
+    ]
+
+-- the place of a span of several lines stands among the places
+pub place-among : (s : Source) (marks : List Annotation) (a : Annotation) → Contains marks a → is_long s.text a ≡ true
+    → list_any (same_place (long_place (long_entry s a))) (long_places s marks) ≡ true
+place-among s marks a among long =
+    list_any-map (same_place (long_place (long_entry s a))) long_place (long_spans s marks)
+    ∙ any-order stands_before (λ e. same_place (long_place (long_entry s a)) (long_place e)) (map (long_entry s) (filter (is_long s.text) marks))
+    ∙ list_any-map (λ e. same_place (long_place (long_entry s a)) (long_place e)) (long_entry s) (filter (is_long s.text) marks)
+    ∙ any-filter (λ b. same_place (long_place (long_entry s a)) (long_place (long_entry s b))) (is_long s.text)
+    marks among.0 a among.1 (ap (is_long s.text) among.2 ∙ long)
+    (ap (λ b. same_place (long_place (long_entry s a)) (long_place (long_entry s b))) among.2 ∙ same-refl (long_place (long_entry s a)))
+
+-- spans of several lines that share a line and have one depth have one place
+pub annotations-distinct : (s : Source) (marks : List Annotation) (a b : Annotation) → Contains marks a → Contains marks b → is_long s.text a ≡ true
+    → is_long s.text b ≡ true → share_line (long_place (long_entry s a)) (long_place (long_entry s b)) ≡ true
+    → depth_of s marks a ≡ depth_of s marks b → long_place (long_entry s a) ≡ long_place (long_entry s b)
+annotations-distinct s marks a b among-a among-b long-a long-b share same =
+    distinct-places (long_places s marks) (long_place (long_entry s a)) (long_place (long_entry s b)) (place-among s marks a among-a long-a) (place-among s marks b among-b long-b) share same

@@ -1,0 +1,7 @@
+use Rattle.std.proofs.Common.{◌≡◌, drop, length}
+use Rattle.snippet_parts.specs.Depths.{raw_depths}
+use Rattle.snippet_parts.proofs.depths.raw_depths.Given as goal
+
+-- the raw depths from here on
+abbrev pub invariant-loop-i : goal.invariant-loop-i
+invariant-loop-i l = (drop l.i l.raws.items ≡ raw_depths (drop l.i l.places)) × (length l.raws.items ≡ length l.places)

@@ -1,0 +1,67 @@
+-- The depths of spans of several lines: how far right the bar of each stands.
+use Rattle.std.specs.Prelude.{◌≡◌, ℕ, ◌+◌, ◌-◌, ◌≤◌, ◌==◌, ◌&&◌, ◌||◌, ◌⊎◌, nat_lt, nat_le, max, Bool, true, List, [], ◌∷◌, length, if◌then◌else◌}
+use Rattle.std.specs.List.{list_any}
+use Rattle.snippet_parts.specs.declared.depths.LongExtent.{LongExtent}
+
+-- whether two places of spans of several lines are the same; their lines follow from their bytes
+abbrev pub same_place : LongExtent → LongExtent → Bool
+same_place p q = p.from == q.from && (p.to == q.to && (p.first == q.first && p.last == q.last))
+
+-- whether two such places share a line
+abbrev pub share_line : LongExtent → LongExtent → Bool
+share_line p q = nat_le p.first q.last && nat_le q.first p.last
+
+-- whether a place comes before another: by first line, then the one with the later last line
+abbrev pub comes_before : LongExtent → LongExtent → Bool
+comes_before p q = nat_lt p.first q.first || p.first == q.first && nat_lt q.last p.last
+
+-- the places of some spans, each once: where the last span of that place stands
+abbrev pub places_of : List LongExtent → List LongExtent
+places_of [] = []
+places_of (p ∷ ps) = if list_any (same_place p) ps then places_of ps else p ∷ places_of ps
+
+-- the raw depth of a place, from the places after it: one more than the greatest raw depth of those that share a line
+-- with it, and 1 where none does
+abbrev pub raw_depth : LongExtent → List LongExtent → ℕ
+raw_depth p [] = 1
+raw_depth p (q ∷ later) = max (raw_depth p later) (if share_line p q then raw_depth q later + 1 else 1)
+
+-- the raw depth of a place that stands among some, and 0 of another one
+abbrev pub raw_depth_among : List LongExtent → LongExtent → ℕ
+raw_depth_among [] p = 0
+raw_depth_among (q ∷ later) p = if same_place p q then raw_depth q later else raw_depth_among later p
+
+-- the greatest raw depth of some places, 0 where there are none
+abbrev pub greatest_raw_depth : List LongExtent → ℕ
+greatest_raw_depth [] = 0
+greatest_raw_depth (p ∷ later) = max (raw_depth p later) (greatest_raw_depth later)
+
+-- the greatest depth of some spans, and the depth of a span at one of their places: the deepest come first
+abbrev pub greatest_depth : List LongExtent → ℕ
+greatest_depth ps = greatest_raw_depth (places_of ps)
+
+abbrev pub depth_among : List LongExtent → LongExtent → ℕ
+depth_among ps p = greatest_depth ps - raw_depth_among (places_of ps) p + 1
+
+-- a place shares a line with the first of some others, if there is one
+abbrev pub SharesWithFirst : LongExtent → List LongExtent → Type 0
+SharesWithFirst p [] = Unit {0}
+SharesWithFirst p (q ∷ qs) = share_line p q ≡ true
+
+-- `chain` is some of the places, in their order, and each shares a line with the next
+abbrev pub IsChainOf : List LongExtent → List LongExtent → Type 0
+IsChainOf [] chain = chain ≡ []
+IsChainOf (p ∷ ps) chain =
+    IsChainOf ps chain ⊎ ((rest : List LongExtent) × (chain ≡ p ∷ rest) × SharesWithFirst p rest × IsChainOf ps rest)
+
+-- a number is the length of a longest chain of some places
+pub record IsLongestChain (ps : List LongExtent) (n : ℕ) : Type 0 where
+  pub chain : List LongExtent
+  pub is_chain : IsChainOf ps chain
+  pub long : length chain ≡ n
+  pub longest : (other : List LongExtent) → IsChainOf ps other → length other ≤ n
+
+-- the raw depths of spans at these places, each among itself and those after it
+abbrev pub raw_depths : List LongExtent → List ℕ
+raw_depths [] = []
+raw_depths (p ∷ later) = raw_depth_among (places_of (p ∷ later)) p ∷ raw_depths later

@@ -1,0 +1,100 @@
+-- The place that the head of a snippet names after its path: a line, and a column there.
+use Rattle.std.specs.Prelude.{◌≡◌, ℕ, ◌+◌, ◌≤◌, List, [], ◌∷◌, Option, Some, None, Contains, map, filter, if◌then◌else◌}
+use Rattle.std.specs.List.{list_any, slice_get}
+use Rattle.std.specs.Option.{option_map, option_or}
+use Rattle.snippet_model.specs.declared.snippet.Annotation.{Annotation}
+use Rattle.snippet_model.specs.declared.snippet.AnnotationKind.{AnnotationKind}
+use Rattle.snippet_model.specs.declared.snippet.AnnotationKind.TheVariants.{Primary, Context}
+use Rattle.snippet_parts.specs.declared.location.Location.{Location}
+use Rattle.snippet_lines.specs.Lines.{Source}
+use Rattle.snippet_lines.specs.Place.{start_location}
+use Rattle.snippet_parts.specs.Annotated.{PartEntry, KeptLine}
+use Rattle.snippet_model.specs.AnnotationKind.{is_primary}
+use Rattle.snippet_parts.specs.Mark.{is_marking}
+use Rattle.snippet_parts.specs.Marked.{first_line}
+use Rattle.snippet_parts.specs.Least.{least}
+
+-- ---- by the entries of the lines that are kept
+
+-- the columns at which some entries start: characters, counted from 1
+abbrev pub start_columns : List PartEntry → List ℕ
+start_columns parts = map (λ p. p.entry.start.char + 1) parts
+
+-- two choices among entries: the primary ones, and all
+abbrev pub primary_parts : List PartEntry → List PartEntry
+primary_parts parts = filter (λ p. is_primary p.entry.kind) parts
+
+abbrev pub all_parts : List PartEntry → List PartEntry
+all_parts parts = parts
+
+-- the least column on a line at which an entry of this choice starts, if there is one
+abbrev pub least_place : (List PartEntry → List PartEntry) → KeptLine → Option Location
+least_place choice line =
+    option_map (λ column. record { line = line.number; column = Some column }) (least (start_columns (choice line.parts)))
+
+-- the column on a line at which its first entry starts, if there is one
+abbrev pub entry_place : KeptLine → Option Location
+entry_place line =
+    option_map (λ column. record { line = line.number; column = Some column }) (slice_get (start_columns line.parts) 0)
+
+-- a line alone
+abbrev pub bare_place : KeptLine → Option Location
+bare_place line = Some (record { line = line.number; column = None })
+
+-- the place on the first of some lines that has one
+abbrev pub first_place : (KeptLine → Option Location) → List KeptLine → Option Location
+first_place place_on [] = None
+first_place place_on (line ∷ lines) = option_or (place_on line) (first_place place_on lines)
+
+-- what the head of a primary snippet names: the first line with a primary entry, and the least column of a primary one
+-- there; else the first line with an entry, and the least column there
+abbrev pub primary_place : List KeptLine → Option Location
+primary_place lines = option_or (first_place (least_place primary_parts) lines) (first_place (least_place all_parts) lines)
+
+-- what the head of another snippet names: the first line with an entry, and the column of the first one there; else the
+-- first line alone
+abbrev pub secondary_place : List KeptLine → Option Location
+secondary_place lines = option_or (first_place entry_place lines) (first_place bare_place lines)
+
+-- ---- by the bytes at which spans start
+
+-- the bytes at which the primary spans start, and those at which the marked ones do
+abbrev pub primary_starts : List Annotation → List ℕ
+primary_starts marks = map (λ a. a.span.start) (filter (λ a. is_primary a.kind) marks)
+
+abbrev pub marked_starts : List Annotation → List ℕ
+marked_starts marks = map (λ a. a.span.start) (filter (λ a. is_marking a.kind) marks)
+
+-- the byte at which the first primary span starts; where none is primary, the first that is marked
+abbrev pub naming_start : List Annotation → Option ℕ
+naming_start marks = option_or (least (primary_starts marks)) (least (marked_starts marks))
+
+-- the place of a byte at which a span starts, as a head names it
+abbrev pub place_at : Source → ℕ → Location
+place_at s b =
+    let at = start_location s b in
+    record { line = at.line; column = Some (at.char + 1) }
+
+-- ---- by the spans of a snippet
+
+-- the kind whose spans a primary snippet is named by: `Primary` where it has such a span, else `Context`
+abbrev pub naming_kind : List Annotation → AnnotationKind
+naming_kind marks = if list_any (λ a. is_primary a.kind) marks then Primary else Context
+
+-- a span that a primary snippet is named by
+abbrev pub IsNaming : List Annotation → Annotation → Type 0
+IsNaming marks a = Contains marks a × (a.kind ≡ naming_kind marks)
+
+-- the column at which a span starts: characters, counted from 1, and one more after the end of the line's text
+abbrev pub start_at : Source → Annotation → ℕ
+start_at s a = (start_location s a.span.start).char + 1
+
+-- a place is that of a span of this kind: such a span starts on the line at the column, none starts on an earlier line, and
+-- none on this line at a lesser column
+pub record IsLocation (s : Source) (marks : List Annotation) (place : Location) : Type 0 where
+  pub span : Annotation
+  pub naming : IsNaming marks span
+  pub line : place.line ≡ s.first + first_line s.text span
+  pub column : place.column ≡ Some (start_at s span)
+  pub first : (other : Annotation) → IsNaming marks other → first_line s.text span ≤ first_line s.text other
+  pub least : (other : Annotation) → IsNaming marks other → first_line s.text other ≡ first_line s.text span → start_at s span ≤ start_at s other

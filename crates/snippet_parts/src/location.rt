@@ -1,0 +1,167 @@
+//! The place that the head of a snippet names after its path.
+ghost use Rattle.std.specs.Prelude.{◌≡◌, ℕ, true, false, Bool, List, All, IfSome, map};
+ghost use Rattle.std.specs.List.{list_any};
+ghost use Rattle.std.specs.Option.{IsSomeAnd, option_map};
+ghost use Rattle.std.specs.Str.{IsUtf8};
+ghost use Rattle.snippet_model.specs.declared.snippet.Annotation.{Annotation};
+ghost use Rattle.snippet_lines.specs.Lines.{Source};
+ghost use Rattle.snippet_lines.specs.Span.{IsSpan};
+ghost use Rattle.snippet_parts.specs.Annotated.{annotated_lines, is_long, seen_kept, seen_part};
+ghost use Rattle.snippet_parts.specs.Entries.{AllEntries, HasCharacterRoom};
+ghost use Rattle.snippet_parts.specs.Mark.{is_marking};
+ghost use Rattle.snippet_parts.specs.Least.{least};
+ghost use Rattle.snippet_parts.specs.Location as spec;
+ghost use Rattle.snippet_parts.specs.Location.{IsLocation, marked_starts, place_at, primary_starts, start_columns};
+
+use crate::entries::{AnnotatedLineInfo, LineAnnotation};
+use crate::least::lesser;
+use snippet_model::snippet::{Annotation, AnnotationKind};
+
+/// A line of a source, and a column there, as the head of a snippet names them.
+#[derive(Clone, Copy, Debug)]
+pub struct Location {
+    /// The line's number.
+    pub line: usize,
+    /// The column, in characters, from 1; `None` where no annotation stands on the line.
+    pub column: Option<usize>,
+}
+
+/// The place that the head of a primary snippet names, given the lines that are kept.
+///
+/// It is on the first line with a primary entry, at the least column of a primary one; where no entry is primary, on the
+/// first line with an entry, at the least column there. `None` where no line has an entry.
+pub fn primary_place(lines: &[AnnotatedLineInfo<'_>]) -> Option<Location>
+    requires room { AllEntries HasCharacterRoom lines.now }
+    ensures value { result ≡ spec.primary_place (map seen_kept lines.now) }
+    // Of a snippet that has a span that is marked, and none of several lines: the place where one of its spans starts.
+    ensures named { (fold : Bool) (s : Source) (marks : List Annotation) → All (λ a. IsSpan s.text a.span.start a.span.end) marks
+        → map seen_kept lines.now ≡ annotated_lines fold s marks
+        → list_any (λ a. is_marking a.kind) marks ≡ true → All (λ a. is_long s.text a ≡ false) marks
+        → IsSomeAnd result (IsLocation s marks) }
+{
+    let mut first = None;
+    for info in lines {
+        if let Some(column) = least_primary_column(&info.annotations) {
+            return Some(Location {
+                line: info.line_index,
+                column: Some(column),
+            });
+        }
+        if first.is_none() {
+            first = least_place(info);
+        }
+    }
+    first
+}
+
+/// The place that the head of a snippet names that isn't primary, given the lines that are kept.
+///
+/// It is on the first line with an entry, at the column of the first one there; without entries it is the first line
+/// alone. `None` where there are no lines.
+pub fn secondary_place(lines: &[AnnotatedLineInfo<'_>]) -> Option<Location>
+    requires room { AllEntries HasCharacterRoom lines.now }
+    ensures value { result ≡ spec.secondary_place (map seen_kept lines.now) }
+{
+    for info in lines {
+        if let Some(entry) = info.annotations.first() {
+            return Some(Location {
+                line: info.line_index,
+                column: Some(entry.start.char + 1),
+            });
+        }
+    }
+    let first = lines.first()?;
+    Some(Location {
+        line: first.line_index,
+        column: None,
+    })
+}
+
+/// The byte at which the first primary span starts; where none is primary, the first span that is marked. `None` where none
+/// is.
+///
+/// The place of this byte is the one that `primary_place` finds among the lines that are kept.
+pub fn naming_start(annotations: &[Annotation<'_>]) -> Option<usize>
+    ensures value { result ≡ spec.naming_start annotations.now }
+    // A span of no bytes may stand there.
+    ensures border { (source : List ℕ) → All (λ a. IsSpan source a.span.start a.span.end) annotations.now
+        → IfSome result (λ start. IsSpan source start start) }
+    ensures named { (fold : Bool) (s : Source) → IsUtf8 s.text → All (λ a. IsSpan s.text a.span.start a.span.end) annotations.now
+        → spec.primary_place (annotated_lines fold s annotations.now) ≡ option_map (place_at s) result }
+{
+    match first_primary(annotations) {
+        Some(start) => Some(start),
+        None => first_marked(annotations),
+    }
+}
+
+/// The least byte at which one of some spans starts that are primary, if there are any.
+fn first_primary(annotations: &[Annotation<'_>]) -> Option<usize>
+    ensures value { result ≡ least (primary_starts annotations.now) }
+{
+    let mut least = None;
+    for annotation in annotations {
+        if annotation.kind == AnnotationKind::Primary {
+            least = lesser(least, annotation.span.start);
+        }
+    }
+    least
+}
+
+/// The same of those that are marked.
+fn first_marked(annotations: &[Annotation<'_>]) -> Option<usize>
+    ensures value { result ≡ least (marked_starts annotations.now) }
+{
+    let mut least = None;
+    for annotation in annotations {
+        if is_marking(annotation.kind) {
+            least = lesser(least, annotation.span.start);
+        }
+    }
+    least
+}
+
+/// Whether spans of this kind are marked, and don't just keep their lines.
+pub fn is_marking(kind: AnnotationKind) -> bool
+    ensures value { result ≡ is_marking kind }
+{
+    matches!(kind, AnnotationKind::Primary | AnnotationKind::Context)
+}
+
+/// The place on a line of the least column at which an entry starts, if there is one.
+fn least_place(info: &AnnotatedLineInfo<'_>) -> Option<Location>
+    requires room { All HasCharacterRoom info.now.annotations.items }
+    ensures value { result ≡ spec.least_place spec.all_parts (seen_kept info.now) }
+{
+    let column = least_column(&info.annotations)?;
+    Some(Location {
+        line: info.line_index,
+        column: Some(column),
+    })
+}
+
+/// The least column at which one of some entries starts, if there are any.
+fn least_column(entries: &[LineAnnotation<'_>]) -> Option<usize>
+    requires room { All HasCharacterRoom entries.now }
+    ensures value { result ≡ least (start_columns (map seen_part entries.now)) }
+{
+    let mut least = None;
+    for entry in entries {
+        least = lesser(least, entry.start.char + 1);
+    }
+    least
+}
+
+/// The least column at which a primary one of some entries starts, if there are any.
+fn least_primary_column(entries: &[LineAnnotation<'_>]) -> Option<usize>
+    requires room { All HasCharacterRoom entries.now }
+    ensures value { result ≡ least (start_columns (spec.primary_parts (map seen_part entries.now))) }
+{
+    let mut least = None;
+    for entry in entries {
+        if entry.kind == AnnotationKind::Primary {
+            least = lesser(least, entry.start.char + 1);
+        }
+    }
+    least
+}

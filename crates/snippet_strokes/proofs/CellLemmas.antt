@@ -1,0 +1,219 @@
+-- The cells of a window, and how they are written.
+use Rattle.std.proofs.Common.{◌≡◌, ℕ, ◌+◌, ◌-◌, ◌<◌, ◌≤◌, ◌^◌, ◌==◌, cond, true, false, Option, None, Some, IfSome, List, [], ◌∷◌, ◌++◌, length, drop, refl}
+use Rattle.std.proofs.Common.{sym, ap, ◌∙◌, arith, add-zero, All, chars, IsUtf8}
+use Rattle.std.proofs.lemmas.List.{places, same_lists}
+use Rattle.std.proofs.lemmas.List.Elements.{All-take, All-drop}
+use Rattle.std.proofs.lemmas.Str.{chars-nil}
+use Rattle.snippet_model.proofs.RowLemmas.{each_fails}
+use Rattle.snippet_window.proofs.LineWindowLemmas.{uncovered_short, part_short}
+use Rattle.snippet_window.specs.declared.margin.Margin.{Margin}
+use Rattle.snippet_window.specs.Margin.{bounds_of}
+use Rattle.std.proofs.lemmas.Bool.Decides.{nat_tests}
+use Rattle.snippet_text.specs.Width.{width_of}
+use Rattle.snippet_window.specs.Window.{reaching, fitting, window_left, window_right, inner_part, covered_columns, uncovered_part, covered_end}
+use Rattle.snippet_style.specs.declared.glyphs.DecorStyle.{DecorStyle}
+use Rattle.snippet_style.specs.declared.glyphs.DecorStyle.TheVariants.{Ascii, Unicode}
+use Rattle.snippet_style.specs.declared.role.ElementStyle.{ElementStyle}
+use Rattle.snippet_style.specs.declared.role.ElementStyle.TheVariants.{LineNumber, Quotation}
+use Rattle.snippet_style.specs.Glyphs.{placeholder_of}
+use Rattle.snippet_grid.specs.Grid.{cells_written}
+use Rattle.snippet_style.specs.Cell.{Cell, SPACE, text_cells, written}
+use Rattle.snippet_grid.proofs.GridLemmas.{cells_written_last}
+use Rattle.snippet_style.proofs.CellLemmas.{length-text_cells, length-written}
+use Rattle.snippet_text.specs.Normalized.{is_listed}
+use Rattle.snippet_model.specs.Rows.{IsFree}
+use Rattle.snippet_strokes.specs.SourceRows.{begun_cells, ended_cells, shown_cells, window_cells, with_cells}
+use Rattle.snippet_model.proofs.RowLemmas.{free_drawn, free_written}
+use Rattle.snippet_grid.proofs.GridShown.{chars_some}
+
+-- the cells that are written from a cell on, after those that stand there
+abbrev pub put : ℕ → List Cell → List Cell → List Cell
+put k cells [] = cells
+put k cells (y ∷ ys) = written SPACE cells k (y ∷ ys)
+
+with_cells-some : (code : ℕ) (cells row : List Cell) → 0 < length cells → with_cells code cells row ≡ written SPACE row code cells
+with_cells-some code [] row some = absurd (omega arith)
+with_cells-some code (c ∷ cells) row some = refl
+
+-- writing after a row that has some cells from `code` on
+written_after : (code k : ℕ) (cells row ys : List Cell) → length row ≤ code → 0 < length cells
+    → written SPACE (written SPACE row code cells) (code + k) ys ≡ written SPACE row code (written SPACE cells k ys)
+written_after code k cells row ys ends some =
+    same_lists _ _ (unfold written in grind (arith, places)) (λ i d h. unfold written in grind (arith, places))
+
+written_first : (code k : ℕ) (row ys : List Cell) → length row ≤ code → written SPACE row (code + k) ys ≡ written SPACE row code (written SPACE [] k ys)
+written_first code k row ys ends =
+    same_lists _ _ (unfold written in grind (arith, places)) (λ i d h. unfold written in grind (arith, places))
+
+-- one write more
+put_more : (code k : ℕ) (cells row : List Cell) (y : Cell) (ys : List Cell) → length row ≤ code
+    → written SPACE (with_cells code cells row) (code + k) (y ∷ ys) ≡ with_cells code (written SPACE cells k (y ∷ ys)) row
+put_more code k [] row y ys ends =
+    written_first code k row (y ∷ ys) ends ∙ sym (with_cells-some code (written SPACE [] k (y ∷ ys)) row (omega (arith, length-written SPACE [] k (y ∷ ys))))
+put_more code k (c ∷ cells) row y ys ends =
+    written_after code k (c ∷ cells) row (y ∷ ys) ends (omega arith) ∙ sym (with_cells-some code (written SPACE (c ∷ cells) k (y ∷ ys)) row (omega (arith, length-written SPACE (c ∷ cells) k (y ∷ ys))))
+
+-- a text that is put after the cells of the last row
+pub put_text : (above mid new : List (List Cell)) (cells row : List Cell) (r code k : ℕ) (bytes : List ℕ) (role : ElementStyle) → IsUtf8 bytes
+    → length row ≤ code → mid ≡ above ++ with_cells code cells row ∷ [] → r ≡ length above
+    → (0 < length bytes → new ≡ cells_written mid r (code + k) (text_cells role (chars bytes))) → (bytes ≡ [] → new ≡ mid)
+    → new ≡ above ++ with_cells code (put k cells (text_cells role (chars bytes))) row ∷ []
+put_text above mid new cells row r code k [] role utf8 ends before last writes stays =
+    stays refl ∙ before ∙ ap (λ cs. above ++ with_cells code (put k cells (text_cells role cs)) row ∷ []) (sym chars-nil)
+put_text above mid new cells row r code k (b ∷ bs) role utf8 ends before last writes stays =
+    some (chars (b ∷ bs)) (chars_some (b ∷ bs) utf8 (omega arith)) (writes (omega arith))
+  where
+    some : (cs : List ℕ) → 0 < length cs → new ≡ cells_written mid r (code + k) (text_cells role cs)
+        → new ≡ above ++ with_cells code (put k cells (text_cells role cs)) row ∷ []
+    some [] none is = absurd (omega arith)
+    some (c ∷ cs) more is =
+        is ∙ ap (λ rows. cells_written rows r (code + k) (text_cells role (c ∷ cs))) before
+        ∙ ap (λ i. cells_written (above ++ with_cells code cells row ∷ []) i (code + k) (text_cells role (c ∷ cs))) last
+        ∙ cells_written_last above (with_cells code cells row) (code + k) (text_cells role (c ∷ cs))
+        ∙ ap (λ r. above ++ r ∷ []) (put_more code k cells row _ _ ends)
+
+-- the cells of a text that begins a window
+pub put_alone : (role : ElementStyle) (cs : List ℕ) → put 0 [] (text_cells role cs) ≡ text_cells role cs
+put_alone role [] = refl
+put_alone role (c ∷ cs) =
+    same_lists _ _ (unfold written in grind (arith, places)) (λ i d h. unfold written in grind (arith, places))
+
+placeholder_some : (decor : DecorStyle) (cells : List Cell) (k : ℕ)
+    → put k cells (text_cells LineNumber (placeholder_of decor)) ≡ written SPACE cells k (text_cells LineNumber (placeholder_of decor))
+placeholder_some Ascii cells k = refl
+placeholder_some Unicode cells k = refl
+
+-- a number above zero isn't zero
+pub above_zero : (n : ℕ) → 0 < n → (n == 0) ≡ false
+above_zero n some = grind (arith, nat_tests, some)
+
+pub put_begun : (decor : DecorStyle) (columns : ℕ) (cs : List ℕ)
+    → put columns (put 0 [] (text_cells LineNumber (placeholder_of decor))) (text_cells Quotation cs) ≡ begun_cells decor (Some columns) cs
+put_begun decor columns [] = put_alone LineNumber (placeholder_of decor)
+put_begun decor columns (c ∷ cs) =
+    ap (λ cells. written SPACE cells columns (text_cells Quotation (c ∷ cs))) (put_alone LineNumber (placeholder_of decor))
+    ∙ ap (λ b. cond b (text_cells LineNumber (placeholder_of decor))
+    (written SPACE (text_cells LineNumber (placeholder_of decor)) columns (text_cells Quotation (c ∷ cs))))
+    (sym (above_zero (length (c ∷ cs)) (omega arith)))
+
+pub put_ended : (decor : DecorStyle) (at : ℕ) (cells : List Cell)
+    → put at cells (text_cells LineNumber (placeholder_of decor)) ≡ ended_cells decor (Some at) cells
+put_ended decor at cells = placeholder_some decor cells at
+
+-- no cell of it is listed
+pub free_placeholder : (decor : DecorStyle) → IsFree (text_cells LineNumber (placeholder_of decor))
+free_placeholder Ascii = free_drawn LineNumber (placeholder_of Ascii) (each_fails is_listed (placeholder_of Ascii) refl)
+free_placeholder Unicode = free_drawn LineNumber (placeholder_of Unicode) (each_fails is_listed (placeholder_of Unicode) refl)
+
+free_begun : (decor : DecorStyle) (start : Option ℕ) (text : List ℕ) → All (λ c. is_listed c ≡ false) text → IsFree (begun_cells decor start text)
+free_begun decor None text free = free_drawn Quotation text free
+free_begun decor (Some columns) text free =
+    elim (length text == 0) as (λ b. IsFree (cond b (text_cells LineNumber (placeholder_of decor)) (written SPACE (text_cells LineNumber (placeholder_of decor)) columns (text_cells Quotation text)))) [
+      | true ↦ free_placeholder decor
+      | false ↦ free_written (text_cells LineNumber (placeholder_of decor)) columns (text_cells Quotation text) (free_placeholder decor) (free_drawn Quotation text free)
+    ]
+
+-- the cells that show a text without listed characters are free
+pub free_shown : (decor : DecorStyle) (start : Option ℕ) (text : List ℕ) (end : Option ℕ) → All (λ c. is_listed c ≡ false) text
+    → IsFree (shown_cells decor start text end)
+free_shown decor start text None free = free_begun decor start text free
+free_shown decor start text (Some at) free =
+    free_written (begun_cells decor start text) at (text_cells LineNumber (placeholder_of decor)) (free_begun decor start text free) (free_placeholder decor)
+
+-- a placeholder is at most three cells
+placeholder_short : (decor : DecorStyle) → length (text_cells LineNumber (placeholder_of decor)) ≤ 3
+placeholder_short Ascii = omega arith
+placeholder_short Unicode = omega arith
+
+begun_short : (decor : DecorStyle) (start : Option ℕ) (text : List ℕ) → IfSome start (λ s. s < 2 ^ 59) → length text < 2 ^ 60
+    → length (begun_cells decor start text) < 2 ^ 61
+begun_short decor None text few short = omega (arith, length-text_cells Quotation text)
+begun_short decor (Some columns) text few short =
+    elim (length text == 0) as (λ b. length (cond b (text_cells LineNumber (placeholder_of decor)) (written SPACE (text_cells LineNumber (placeholder_of decor)) columns (text_cells Quotation text))) < 2 ^ 61) [
+      | true ↦ omega (arith, placeholder_short decor)
+      | false ↦ omega (arith, placeholder_short decor, length-written SPACE (text_cells LineNumber (placeholder_of decor)) columns (text_cells Quotation text), length-text_cells Quotation text, few, short)
+    ]
+
+-- the cells that show a short text are few
+pub shown_short : (decor : DecorStyle) (start : Option ℕ) (text : List ℕ) (end : Option ℕ) → IfSome start (λ s. s < 2 ^ 59) → length text < 2 ^ 60
+    → IfSome end (λ at. at < 2 ^ 61) → length (shown_cells decor start text end) < 2 ^ 61 + 4
+shown_short decor start text None few short ends = omega (arith, begun_short decor start text few short)
+shown_short decor start text (Some at) few short ends =
+    omega (arith, begun_short decor start text few short, length-written SPACE (begun_cells decor start text) at (text_cells LineNumber (placeholder_of decor)), placeholder_short decor, ends)
+
+-- the text of a window holds no listed character
+pub unlisted_part : (left room from right : ℕ) (placeholder text : List ℕ) → All (λ c. is_listed c ≡ false) text
+    → All (λ c. is_listed c ≡ false) (uncovered_part left placeholder (inner_part room from right text))
+unlisted_part left room from right placeholder text free =
+    let P : ℕ → Type 0 = λ c. is_listed c ≡ false in
+    let rest = drop (reaching (window_left from text) text) text in
+    let inner = inner_part room from right text in
+    let free_inner : All P inner = All-take P (fitting (window_right room from right text - window_left from text) rest) rest (All-drop P (reaching (window_left from text) text) text free) in
+    elim (left == 0) as (λ b. All P (cond b inner (drop (reaching (width_of placeholder) inner) inner))) [
+      | true ↦ free_inner
+      | false ↦ All-drop P (reaching (width_of placeholder) inner) inner free_inner
+    ]
+
+-- the beginning of a window is written, where lines aren't cut on the left
+pub begun_plain : (decor : DecorStyle) (start : Option ℕ) (above old new : List (List Cell)) (row : List Cell) (r code : ℕ) (text : List ℕ)
+    → start ≡ None → IsUtf8 text → (0 < length text → new ≡ cells_written old r code (text_cells Quotation (chars text))) → (text ≡ [] → new ≡ old)
+    → r ≡ length above → length row ≤ code → old ≡ above ++ row ∷ [] → new ≡ above ++ with_cells code (begun_cells decor start (chars text)) row ∷ []
+begun_plain decor start above old new row r code text none utf8 writes stays last ends before =
+    put_text above old new [] row r code 0 text Quotation utf8 ends before last
+    (λ some. writes some ∙ ap (λ k. cells_written old r k (text_cells Quotation (chars text))) (sym (add-zero code))) stays
+    ∙ ap (λ cells. above ++ with_cells code cells row ∷ []) (put_alone Quotation (chars text))
+    ∙ ap (λ s. above ++ with_cells code (begun_cells decor s (chars text)) row ∷ []) (sym none)
+
+-- and where they are
+pub begun_cut : (decor : DecorStyle) (start : Option ℕ) (columns : ℕ) (above old mid new : List (List Cell)) (row : List Cell) (r code : ℕ)
+    (placeholder text : List ℕ) → start ≡ Some columns → IsUtf8 placeholder → IsUtf8 text → chars placeholder ≡ placeholder_of decor
+    → (0 < length placeholder → mid ≡ cells_written old r code (text_cells LineNumber (chars placeholder))) → (placeholder ≡ [] → mid ≡ old)
+    → (0 < length text → new ≡ cells_written mid r (code + columns) (text_cells Quotation (chars text))) → (text ≡ [] → new ≡ mid) → r ≡ length above
+    → length row ≤ code → old ≡ above ++ row ∷ [] → new ≡ above ++ with_cells code (begun_cells decor start (chars text)) row ∷ []
+begun_cut decor start columns above old mid new row r code placeholder text some utf8_placeholder utf8 is first first_stays writes stays last ends before =
+    let placed = put_text above old mid [] row r code 0 placeholder LineNumber utf8_placeholder ends before last (λ more. first more ∙ ap (λ k. cells_written old r k (text_cells LineNumber (chars placeholder))) (sym (add-zero code))) first_stays in
+    put_text above mid new (put 0 [] (text_cells LineNumber (chars placeholder))) row r code columns text Quotation utf8 ends placed last writes stays
+    ∙ ap (λ (cs : List ℕ). above ++ with_cells code (put columns (put 0 [] (text_cells LineNumber cs)) (text_cells Quotation (chars text)))
+    row ∷ []) is ∙ ap (λ cells. above ++ with_cells code cells row ∷ []) (put_begun decor columns (chars text))
+    ∙ ap (λ s. above ++ with_cells code (begun_cells decor s (chars text)) row ∷ []) (sym some)
+
+-- the end of a window is written
+pub ended_cut : (decor : DecorStyle) (end : Option ℕ) (at : ℕ) (above old new : List (List Cell)) (row cells : List Cell) (r code : ℕ)
+    (placeholder : List ℕ) → end ≡ Some at → IsUtf8 placeholder → chars placeholder ≡ placeholder_of decor
+    → (0 < length placeholder → new ≡ cells_written old r (code + at) (text_cells LineNumber (chars placeholder))) → (placeholder ≡ [] → new ≡ old)
+    → r ≡ length above → length row ≤ code → old ≡ above ++ with_cells code cells row ∷ []
+    → new ≡ above ++ with_cells code (ended_cells decor end cells) row ∷ []
+ended_cut decor end at above old new row cells r code placeholder some utf8 is writes stays last ends before =
+    put_text above old new cells row r code at placeholder LineNumber utf8 ends before last writes stays
+    ∙ ap (λ (cs : List ℕ). above ++ with_cells code (put at cells (text_cells LineNumber cs)) row ∷ []) is
+    ∙ ap (λ cs. above ++ with_cells code cs row ∷ []) (put_ended decor at cells)
+    ∙ ap (λ e. above ++ with_cells code (ended_cells decor e cells) row ∷ []) (sym some)
+
+-- the text of a window is no longer than its line
+pub part_few : (left room from right : ℕ) (placeholder text : List ℕ) → length (uncovered_part left placeholder (inner_part room from right text)) ≤ length text
+part_few left room from right placeholder text =
+    let inner = inner_part room from right text in
+    omega (
+      arith,
+      uncovered_short left placeholder inner,
+      part_short (reaching (window_left from text) text)
+          (fitting (window_right room from right text - window_left from text) (drop (reaching (window_left from text) text) text))
+          text (drop (reaching (window_left from text) text) text) inner refl refl,
+    )
+
+-- the cells of a window that was found
+pub cells_are : (decor : DecorStyle) (margin : Margin) (start end : Option ℕ) (shown placeholder cs text : List ℕ)
+    → placeholder ≡ placeholder_of decor → cs ≡ text
+    → start ≡ covered_columns (bounds_of margin).left placeholder (inner_part margin.term_width (bounds_of margin).left (bounds_of margin).right cs)
+    → shown ≡ uncovered_part (bounds_of margin).left placeholder (inner_part margin.term_width (bounds_of margin).left (bounds_of margin).right cs)
+    → end ≡ covered_end margin.term_width (bounds_of margin).left (bounds_of margin).right placeholder cs
+    → shown_cells decor start shown end ≡ window_cells decor margin text
+cells_are decor margin start end shown placeholder cs text is_placeholder is_text is_start is_shown is_end =
+    let left = (bounds_of margin).left in
+    let right = (bounds_of margin).right in
+    let room = margin.term_width in
+    let made = ap (λ s. shown_cells decor s shown end) is_start
+    ∙ ap (λ t. shown_cells decor (covered_columns left placeholder (inner_part room left right cs)) t end) is_shown
+    ∙ ap (λ e. shown_cells decor (covered_columns left placeholder (inner_part room left right cs))
+    (uncovered_part left placeholder (inner_part room left right cs)) e) is_end in
+    made ∙ ap (λ p. shown_cells decor (covered_columns left p (inner_part room left right cs)) (uncovered_part left p (inner_part room left right cs)) (covered_end room left right p cs)) is_placeholder ∙ ap (λ t. window_cells decor margin t) is_text

@@ -1,0 +1,26 @@
+-- The table of strokes: no glyph is a listed character, and what holds of each holds of the first of a mark.
+use Rattle.std.proofs.Common.{◌≡◌, ℕ, cond, Bool, true, false, refl}
+use Rattle.snippet_style.specs.Glyphs.{strokes_of}
+use Rattle.snippet_style.specs.declared.glyphs.DecorStyle.{DecorStyle}
+use Rattle.snippet_style.specs.declared.glyphs.DecorStyle.TheVariants.{Ascii, Unicode}
+use Rattle.snippet_model.specs.AnnotationKind.{is_primary}
+use Rattle.snippet_labels.specs.declared.positions.PlacedEntry.{PlacedEntry}
+use Rattle.snippet_strokes.specs.Painting.{first_glyph}
+use Rattle.snippet_labels.specs.Positions.{has_stem, takes_space}
+use Rattle.snippet_text.specs.Normalized.{is_listed}
+use Rattle.snippet_style.proofs.StrokeLemmas.{EachCode, each_code}
+
+pub free_strokes : (decor : DecorStyle) (primary : Bool) → EachCode (λ ch. is_listed ch ≡ false) (strokes_of decor primary)
+free_strokes Ascii true = each_code is_listed false (strokes_of Ascii true) refl
+free_strokes Ascii false = each_code is_listed false (strokes_of Ascii false) refl
+free_strokes Unicode true = each_code is_listed false (strokes_of Unicode true) refl
+free_strokes Unicode false = each_code is_listed false (strokes_of Unicode false) refl
+
+-- what holds of each glyph that stands from the code on holds of an entry's first one
+pub of_first : (P : ℕ → Type 0) (decor : DecorStyle) (e : PlacedEntry) → EachCode P (strokes_of decor (is_primary e.entry.kind)) → P (first_glyph decor e)
+of_first P decor e each =
+    either (takes_space e) _ _ (either (has_stem e) _ _ each.end_down each.end_flat) (either (has_stem e) _ _ each.label_start each.underline)
+  where
+    either : (b : Bool) (x y : ℕ) → P x → P y → P (cond b x y)
+    either true x y one other = one
+    either false x y one other = other

@@ -1,0 +1,156 @@
+-- The order that entries are painted in.
+use Rattle.std.proofs.Common.{◌≡◌, ℕ, zero, suc, ◌≤◌, ◌==◌, ◌&&◌, ◌||◌, nat_lt, not, Bool, true, false, List, [], ◌∷◌, map, get_or, refl, All}
+use Rattle.std.proofs.Common.{sym, subst, arith, inl, inr, nat_cmp, is_lt}
+use Rattle.std.specs.Cmp.{IsStrictWeakOrder}
+use Rattle.std.specs.List.Sorted.{IsPermutation, IsSortedBy, IsStableBy}
+use Rattle.std.specs.Ordering.{ordering_then, bool_cmp}
+use Rattle.std.specs.declared.cmp.Reverse.{Reverse}
+use Rattle.std.proofs.lemmas.Bool.{cases_Bool, cond-false, cond-true}
+use Rattle.std.proofs.lemmas.Bool.Decides.{nat_tests}
+use Rattle.std.proofs.lemmas.List.Elements.{All-cons, All-nil}
+use Rattle.std.proofs.lemmas.List.Sorted.{IsPermutation-cons, IsPermutation-middle, IsPermutation-refl, IsPermutation-sym, IsPermutation-trans}
+use Rattle.snippet_lines.specs.Order.{ordered_by, put_in}
+use Rattle.snippet_lines.proofs.OrderLemmas.{All-put_in, map-ordered_by, sorted-only}
+use Rattle.snippet_parts.specs.declared.entries.LineAnnotation.{LineAnnotation}
+use Rattle.snippet_labels.specs.declared.positions.PlacedEntry.{PlacedEntry}
+use Rattle.snippet_labels.specs.Entries.{entry_width}
+use Rattle.snippet_model.specs.AnnotationKind.{is_primary}
+use Rattle.snippet_strokes.specs.Painting.{CoversOver, IsPaintingOrder, is_painted_before, painting_order}
+use Rattle.snippet_labels.proofs.OrderLemmas.{sorted_same, stable_same}
+
+-- the key that entries are sorted by
+abbrev pub paint_key : PlacedEntry → Reverse ℕ × Bool
+paint_key e = (record { 0 = entry_width e.entry }, is_primary e.entry.kind)
+
+CoversOver-refl : (e : LineAnnotation) → CoversOver e e
+CoversOver-refl e = record { narrower = omega arith; primary = λ _ h. h }
+
+CoversOver-trans : (a b c : LineAnnotation) → CoversOver a b → CoversOver b c → CoversOver a c
+CoversOver-trans a b c first second =
+    record {
+      narrower = omega (arith, first.narrower, second.narrower);
+      primary = λ same is. second.primary (omega (arith, first.narrower, second.narrower)) (first.primary (omega (arith, first.narrower, second.narrower)) is);
+    }
+
+-- the code's order of painting is that of the definition
+abbrev pub paint_less : PlacedEntry → PlacedEntry → Bool
+paint_less x y =
+    is_lt (ordering_then (nat_cmp (paint_key y).0.0 (paint_key x).0.0) (bool_cmp (paint_key x).1 (paint_key y).1))
+
+paint_tells : (m n : ℕ) (x y : Bool) → is_lt (ordering_then (nat_cmp n m) (bool_cmp x y)) ≡ (nat_lt n m || (m == n && (not x && y)))
+paint_tells m n true true = grind (arith, nat_tests)
+paint_tells m n true false = grind (arith, nat_tests)
+paint_tells m n false true = grind (arith, nat_tests)
+paint_tells m n false false = grind (arith, nat_tests)
+
+painted_before : PlacedEntry → PlacedEntry → Bool
+painted_before x y = is_painted_before x.entry y.entry
+
+paint_one_way : (m n : ℕ) (x y : Bool) → (nat_lt n m || (m == n && (not x && y))) ≡ true → (nat_lt m n || (n == m && (not y && x))) ≡ false
+paint_one_way m n true true h = grind (arith, nat_tests, h)
+paint_one_way m n true false h = grind (arith, nat_tests, h)
+paint_one_way m n false true h = grind (arith, nat_tests, h)
+paint_one_way m n false false h = grind (arith, nat_tests, h)
+
+paint_chain : (m n o : ℕ) (x y z : Bool) → (nat_lt n m || (m == n && (not x && y))) ≡ false → (nat_lt o n || (n == o && (not y && z))) ≡ false
+    → (nat_lt o m || (m == o && (not x && z))) ≡ false
+paint_chain m n o true y true g h = grind (arith, nat_tests, g, h)
+paint_chain m n o true y false g h = grind (arith, nat_tests, g, h)
+paint_chain m n o false true true g h = grind (arith, nat_tests, g, h)
+paint_chain m n o false true false g h = grind (arith, nat_tests, g, h)
+paint_chain m n o false false true g h = grind (arith, nat_tests, g, h)
+paint_chain m n o false false false g h = grind (arith, nat_tests, g, h)
+
+paint_order : IsStrictWeakOrder painted_before
+unfolding painted_before
+paint_order = record {
+  one_way = λ x y h. paint_one_way (entry_width x.entry) (entry_width y.entry) (is_primary x.entry.kind) (is_primary y.entry.kind) h;
+  chain = λ x y z g h. paint_chain (entry_width x.entry) (entry_width y.entry) (entry_width z.entry) (is_primary x.entry.kind) (is_primary y.entry.kind) (is_primary z.entry.kind) g h;
+}
+
+-- entries that are sorted stably by the code's test stand in the order of painting
+pub painting_order_of_sort : (given sorted : List PlacedEntry) → IsSortedBy paint_less sorted → IsStableBy paint_less given sorted
+    → sorted ≡ painting_order given
+unfolding painted_before
+painting_order_of_sort given sorted up stable =
+    let same : (x y : PlacedEntry) → paint_less x y ≡ painted_before x y = λ x y. paint_tells (entry_width x.entry) (entry_width y.entry) (is_primary x.entry.kind) (is_primary y.entry.kind) in
+    sorted-only painted_before paint_order given sorted (sorted_same paint_less painted_before same sorted up) (stable_same paint_less painted_before same given sorted stable)
+
+-- each entry may be painted over all before it
+abbrev AllCover : List LineAnnotation → Type 0
+AllCover [] = Unit {0}
+AllCover (e ∷ es) = All (CoversOver e) es × AllCover es
+
+-- what the test says of widths and kinds: where it answers yes the second may cover the first, and else the first the second
+paint_yes : (m n : ℕ) (x y : Bool) → (nat_lt n m || (m == n && (not x && y))) ≡ true → (n ≤ m) × (n ≡ m → x ≡ true → y ≡ true)
+paint_yes m n true true h = (grind (arith, nat_tests, h), λ _ _. refl)
+paint_yes m n true false h = (grind (arith, nat_tests, h), λ same _. grind (arith, nat_tests, h))
+paint_yes m n false true h = (grind (arith, nat_tests, h), λ _ _. refl)
+paint_yes m n false false h = (grind (arith, nat_tests, h), λ _ never. never)
+
+paint_no : (m n : ℕ) (x y : Bool) → (nat_lt n m || (m == n && (not x && y))) ≡ false → (m ≤ n) × (m ≡ n → y ≡ true → x ≡ true)
+paint_no m n true y h = (grind (arith, nat_tests, h), λ _ _. refl)
+paint_no m n false true h = (grind (arith, nat_tests, h), λ same _. grind (arith, nat_tests, h))
+paint_no m n false false h = (grind (arith, nat_tests, h), λ _ never. never)
+
+covers_after : (e f : LineAnnotation) → is_painted_before e f ≡ true → CoversOver e f
+covers_after e f is =
+    let step = paint_yes (entry_width e) (entry_width f) (is_primary e.kind) (is_primary f.kind) is in
+    record { narrower = step.0; primary = step.1 }
+
+covers_before : (e f : LineAnnotation) → is_painted_before e f ≡ false → CoversOver f e
+covers_before e f is =
+    let step = paint_no (entry_width e) (entry_width f) (is_primary e.kind) (is_primary f.kind) is in
+    record { narrower = step.0; primary = step.1 }
+
+AllCover-put_in : (e : LineAnnotation) (fs : List LineAnnotation) → AllCover fs → AllCover (put_in is_painted_before e fs)
+AllCover-put_in e [] up = (All-nil (CoversOver e), tt)
+AllCover-put_in e (f ∷ fs) up =
+    let here = f ∷ put_in is_painted_before e fs in
+    let there = e ∷ f ∷ fs in
+    elim (cases_Bool (is_painted_before f e)) [
+      | inl over ↦
+          subst AllCover (sym (cond-true (is_painted_before f e) here there over)) (All-put_in is_painted_before (CoversOver f) e fs (covers_after f e over) up.0, AllCover-put_in e fs up.1)
+      | inr under ↦
+          let first = covers_before f e under in
+          subst AllCover (sym (cond-false (is_painted_before f e) here there under)) (All-cons (CoversOver e) f fs first (λ k d within. CoversOver-trans e f (get_or fs k d) first (up.0 k d within)), up)
+    ]
+
+AllCover-ordered_by : (es : List LineAnnotation) → AllCover (ordered_by is_painted_before es)
+AllCover-ordered_by [] = tt
+AllCover-ordered_by (e ∷ es) = AllCover-put_in e (ordered_by is_painted_before es) (AllCover-ordered_by es)
+
+IsPaintingOrder-covers : (es : List LineAnnotation) → AllCover es → IsPaintingOrder es
+IsPaintingOrder-covers [] up i j d before within = absurd (omega (arith, within))
+IsPaintingOrder-covers (e ∷ es) up zero zero d before within = CoversOver-refl e
+IsPaintingOrder-covers (e ∷ es) up zero (suc j) d before within = up.0 j d (omega (arith, within))
+IsPaintingOrder-covers (e ∷ es) up (suc i) zero d before within = absurd (omega (arith, before))
+IsPaintingOrder-covers (e ∷ es) up (suc i) (suc j) d before within = IsPaintingOrder-covers es up.1 i j d (omega (arith, before)) (omega (arith, within))
+
+-- in the order of painting each entry may be painted over all before it
+pub IsPaintingOrder-painting_order : (placed : List PlacedEntry) → IsPaintingOrder (map (λ (e : PlacedEntry). e.entry) (painting_order placed))
+IsPaintingOrder-painting_order placed =
+    let f : PlacedEntry → LineAnnotation = λ e. e.entry in
+    subst IsPaintingOrder (sym (map-ordered_by f is_painted_before placed)) (IsPaintingOrder-covers (ordered_by is_painted_before (map f placed)) (AllCover-ordered_by (map f placed)))
+
+IsPermutation-put_in : {X : Type 0} (before : X → X → Bool) (x : X) (ys : List X) → IsPermutation (x ∷ ys) (put_in before x ys)
+IsPermutation-put_in before x [] = IsPermutation-refl (x ∷ [])
+IsPermutation-put_in before x (y ∷ ys) =
+    let here = y ∷ put_in before x ys in
+    let there = x ∷ y ∷ ys in
+    elim (cases_Bool (before y x)) [
+      | inl over ↦
+          subst (IsPermutation there) (sym (cond-true (before y x) here there over))
+          (IsPermutation-trans there (y ∷ x ∷ ys) here (IsPermutation-sym (y ∷ x ∷ ys) there (IsPermutation-middle (y ∷ []) x ys))
+          (IsPermutation-cons y (x ∷ ys) (put_in before x ys) (IsPermutation-put_in before x ys)))
+      | inr under ↦ subst (IsPermutation there) (sym (cond-false (before y x) here there under)) (IsPermutation-refl there)
+    ]
+
+IsPermutation-ordered_by : {X : Type 0} (before : X → X → Bool) (xs : List X) → IsPermutation xs (ordered_by before xs)
+IsPermutation-ordered_by before [] = IsPermutation-refl []
+IsPermutation-ordered_by before (x ∷ xs) =
+    IsPermutation-trans (x ∷ xs) (x ∷ ordered_by before xs) (put_in before x (ordered_by before xs)) (IsPermutation-cons x xs (ordered_by before xs) (IsPermutation-ordered_by before xs)) (IsPermutation-put_in before x (ordered_by before xs))
+
+-- it is an order of the same entries
+pub IsPermutation-painting_order : (placed : List PlacedEntry) → IsPermutation placed (painting_order placed)
+IsPermutation-painting_order placed = IsPermutation-ordered_by (λ e f. is_painted_before e.entry f.entry) placed

@@ -1,0 +1,158 @@
+-- What the writes of a source row make of it.
+use Rattle.std.proofs.Common.{◌≡◌, ◌≢◌, ℕ, ◌+◌, ◌-◌, ◌<◌, ◌≤◌, false, List, [], ◌∷◌, ◌++◌, length, take, drop, replicate, refl, sym, ap, ◌∙◌, arith, inl, inr}
+use Rattle.std.proofs.Common.{subst, All, chars}
+use Rattle.std.specs.List.{slice_index_or}
+use Rattle.std.proofs.lemmas.Bool.{cases_lt}
+use Rattle.std.proofs.lemmas.List.{places, same_lists, append-nil, length-replicate, length-append, get_or_at, get_or_append_left, get_or-replicate}
+use Rattle.std.proofs.lemmas.List.{get_or_past, take_at, take-take, take-append-le, drop_all}
+use Rattle.std.proofs.lemmas.Str.{chars-nil}
+use Rattle.snippet_style.specs.declared.glyphs.DecorStyle.{DecorStyle}
+use Rattle.snippet_style.specs.declared.role.ElementStyle.TheVariants.{LineNumber}
+use Rattle.snippet_style.specs.Glyphs.{separator_of}
+use Rattle.snippet_grid.specs.Grid.{cells_written}
+use Rattle.snippet_style.specs.Cell.{Cell, SPACE, text_cells, unlinked_cell, written}
+use Rattle.snippet_style.proofs.CellLemmas.{length-text_cells, length-written, drop-written, take-written_past, slice_index_or-written_before}
+use Rattle.snippet_style.proofs.CellLemmas.{slice_index_or-written_after}
+use Rattle.snippet_text.specs.Normalized.{is_listed}
+use Rattle.snippet_model.specs.Rows.{IsFreeCell, IsFree}
+use Rattle.snippet_model.proofs.RowLemmas.{free_drawn}
+use Rattle.snippet_grid.specs.Layout.{Layout}
+use Rattle.snippet_strokes.specs.SourceRows.{IsSourceRow, AddsSourceRow, source_row, with_cells}
+use Rattle.snippet_style.specs.Separators.{separator_row}
+use Rattle.snippet_grid.proofs.RowLemmas.{separator_row-begun as begun, texted, text_put}
+use Rattle.snippet_model.proofs.RowLemmas.{free_separator_row, free_written}
+
+-- writing from a list's start on
+written_start : (xs new : List Cell) → written SPACE xs 0 new ≡ new ++ drop (length new) xs
+written_start xs new =
+    same_lists _ _ (unfold written in grind (arith, places)) (λ k d h. unfold written in grind (arith, places))
+
+-- the row that has its number
+abbrev pub front : Layout → List ℕ → List Cell
+front layout shown = written SPACE (separator_row layout.decor layout.gutter) 0 (text_cells LineNumber shown)
+
+-- a text put at the row's start, also one with no bytes
+texted_start : (bytes : List ℕ) (row : List Cell)
+    → texted bytes row 0 (text_cells LineNumber (chars bytes)) ≡ written SPACE row 0 (text_cells LineNumber (chars bytes))
+texted_start [] row =
+    sym (ap (λ cs. written SPACE row 0 (text_cells LineNumber cs)) chars-nil ∙ written_start row [])
+texted_start (b ∷ bs) row = refl
+
+-- a separator row ends with the separator
+pub length-separator_row : (decor : DecorStyle) (gutter : ℕ) → length (separator_row decor gutter) ≡ gutter + 2
+length-separator_row decor gutter =
+    omega (arith, length-append (replicate (gutter + 1) SPACE) (text_cells LineNumber (separator_of decor ∷ [])), length-replicate (gutter + 1) SPACE)
+
+-- the separator row, read cell by cell
+pub separator_row_at : (decor : DecorStyle) (gutter : ℕ)
+    → slice_index_or (separator_row decor gutter) (gutter + 1) SPACE ≡ unlinked_cell LineNumber (separator_of decor)
+separator_row_at decor gutter =
+    get_or_at (replicate (gutter + 1) SPACE) (unlinked_cell LineNumber (separator_of decor)) [] SPACE (gutter + 1) (length-replicate (gutter + 1) SPACE)
+
+-- a separator row is blank but for its separator
+pub separator_row_blank : (decor : DecorStyle) (gutter c : ℕ) → c ≢ gutter + 1 → slice_index_or (separator_row decor gutter) c SPACE ≡ SPACE
+separator_row_blank decor gutter c other =
+    let len = length-replicate (gutter + 1) SPACE in
+    elim (cases_lt c (gutter + 1)) [
+      | inl left ↦
+          get_or_append_left (replicate (gutter + 1) SPACE) (text_cells LineNumber (separator_of decor ∷ [])) SPACE c (omega arith) ∙ get_or-replicate (gutter + 1) c SPACE SPACE left
+      | inr right ↦ get_or_past (separator_row decor gutter) c SPACE (omega (arith, length-separator_row decor gutter))
+    ]
+
+-- the row that has its number, read
+length-front : (layout : Layout) (shown : List ℕ) → length shown ≤ layout.gutter + 1 → length (front layout shown) ≡ layout.gutter + 2
+length-front layout shown short =
+    omega (arith, length-written SPACE (separator_row layout.decor layout.gutter) 0 (text_cells LineNumber shown), length-separator_row layout.decor layout.gutter, length-text_cells LineNumber shown)
+
+take-front : (layout : Layout) (shown : List ℕ) → take (length shown) (front layout shown) ≡ text_cells LineNumber shown
+take-front layout shown =
+    let row = separator_row layout.decor layout.gutter in
+    let cells = text_cells LineNumber shown in
+    ap (take (length shown)) (written_start row cells) ∙ take_at cells (drop (length cells) row) (length shown) (length-text_cells LineNumber shown)
+
+front_after : (layout : Layout) (shown : List ℕ) (c : ℕ) → length shown ≤ c
+    → slice_index_or (front layout shown) c SPACE ≡ slice_index_or (separator_row layout.decor layout.gutter) c SPACE
+front_after layout shown c after =
+    slice_index_or-written_after SPACE (separator_row layout.decor layout.gutter) 0 (text_cells LineNumber shown) c SPACE (omega (arith, length-text_cells LineNumber shown))
+
+free_front : (layout : Layout) (shown : List ℕ) → All (λ c. is_listed c ≡ false) shown → IsFree (front layout shown)
+free_front layout shown free =
+    let P : Cell → Type 0 = IsFreeCell in
+    free_written (separator_row layout.decor layout.gutter) 0 (text_cells LineNumber shown) (free_separator_row layout.decor layout.gutter) (free_drawn LineNumber shown free)
+
+-- the row of a line that has no text
+source_bare : (layout : Layout) (shown : List ℕ) → layout.gutter + 3 ≤ layout.code → length shown ≤ layout.gutter + 1 → All (λ c. is_listed c ≡ false) shown
+    → IsSourceRow layout shown [] (front layout shown)
+source_bare layout shown place short free =
+    record {
+      is = refl;
+      shows = record {
+        number = take-front layout shown;
+        code = drop_all layout.code (front layout shown) (omega (arith, length-front layout shown short));
+      };
+      separator = front_after layout shown (layout.gutter + 1) short ∙ separator_row_at layout.decor layout.gutter;
+      blank = λ c after other left. front_after layout shown c after ∙ separator_row_blank layout.decor layout.gutter c other;
+      free = free_front layout shown free;
+    }
+
+-- the row of a line of which some cells are shown
+source_full : (layout : Layout) (shown : List ℕ) (cells : List Cell) → layout.gutter + 3 ≤ layout.code → length shown ≤ layout.gutter + 1
+    → All (λ c. is_listed c ≡ false) shown → IsFree cells
+    → source_row layout shown cells ≡ written SPACE (front layout shown) layout.code cells
+    → IsSourceRow layout shown cells (written SPACE (front layout shown) layout.code cells)
+source_full layout shown cells place short free_shown free_cells is =
+    let start = front layout shown in
+    let row = written SPACE start layout.code cells in
+    let ends : length start ≤ layout.code = omega (arith, length-front layout shown short) in
+    let bare = source_bare layout shown place short free_shown in
+    let before : (c : ℕ) → c < layout.code → slice_index_or row c SPACE ≡ slice_index_or start c SPACE = λ c left. slice_index_or-written_before SPACE start layout.code cells c left in
+    record {
+      is = sym is;
+      shows = record {
+        number = sym (take-take (length shown) layout.code row (omega arith))
+            ∙ ap (take (length shown)) (take-written_past SPACE start layout.code cells ends)
+            ∙ take-append-le (length shown) start (replicate (layout.code - length start) SPACE) (omega (arith, length-front layout shown short))
+            ∙ take-front layout shown;
+        code = drop-written SPACE start layout.code cells ∙ ap (λ rest. cells ++ rest) (drop_all (layout.code + length cells) start (omega arith)) ∙ append-nil cells;
+      };
+      separator = before (layout.gutter + 1) (omega arith) ∙ bare.separator;
+      blank = λ c after other left. before c left ∙ bare.blank c after other left;
+      free = free_written start layout.code cells bare.free free_cells;
+    }
+
+-- the row of a line, whether any of its cells are shown or not
+source_celled : (layout : Layout) (shown : List ℕ) (cells : List Cell) → layout.gutter + 3 ≤ layout.code → length shown ≤ layout.gutter + 1
+    → All (λ c. is_listed c ≡ false) shown → IsFree cells → IsSourceRow layout shown cells (with_cells layout.code cells (front layout shown))
+source_celled layout shown [] place short free_shown free_cells = source_bare layout shown place short free_shown
+source_celled layout shown (cell ∷ cells) place short free_shown free_cells =
+    source_full layout shown (cell ∷ cells) place short free_shown free_cells refl
+
+-- the number is written
+pub number_written : (layout : Layout) (number : List ℕ) (old begun mid : List (List Cell)) (row : ℕ) → row ≡ length old
+    → begun ≡ old ++ separator_row layout.decor layout.gutter ∷ []
+    → (0 < length number → mid ≡ cells_written begun row 0 (text_cells LineNumber (chars number))) → (number ≡ [] → mid ≡ begun)
+    → mid ≡ old ++ front layout (chars number) ∷ []
+number_written layout number old begun mid row last begins numbers number_stays =
+    text_put old begun mid (separator_row layout.decor layout.gutter) row 0 number (text_cells LineNumber (chars number)) begins last numbers number_stays ∙ ap (λ r. old ++ r ∷ []) (texted_start number (separator_row layout.decor layout.gutter))
+
+-- the row that has its number ends left of the code
+pub front_short : (layout : Layout) (shown : List ℕ) → layout.gutter + 3 ≤ layout.code → length shown ≤ layout.gutter + 1
+    → length (front layout shown) ≤ layout.code
+front_short layout shown place short = omega (arith, length-front layout shown short)
+
+-- the number and the cells of the window make the source row
+pub source_row_added : (layout : Layout) (number : List ℕ) (cells : List Cell) (old new : List (List Cell)) → layout.gutter + 3 ≤ layout.code
+    → length (chars number) ≤ layout.gutter + 1 → All (λ c. is_listed c ≡ false) (chars number) → IsFree cells
+    → new ≡ old ++ with_cells layout.code cells (front layout (chars number)) ∷ [] → AddsSourceRow layout (chars number) cells old new
+source_row_added layout number cells old new place short free_number free_cells writes =
+    record {
+      row = with_cells layout.code cells (front layout (chars number));
+      added = writes;
+      is = source_celled layout (chars number) cells place short free_number free_cells;
+    }
+
+-- a source row of the same number and cells
+pub AddsSourceRow-same : (layout : Layout) (shown shown_here : List ℕ) (cells cells_here : List Cell) (old new : List (List Cell)) → shown ≡ shown_here
+    → cells ≡ cells_here → AddsSourceRow layout shown cells old new → AddsSourceRow layout shown_here cells_here old new
+AddsSourceRow-same layout shown shown_here cells cells_here old new same_shown same_cells adds =
+    subst (λ s. AddsSourceRow layout s cells_here old new) same_shown (subst (λ t. AddsSourceRow layout shown t old new) same_cells adds)

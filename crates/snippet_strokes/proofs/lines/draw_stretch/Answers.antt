@@ -1,0 +1,28 @@
+use Rattle.std.proofs.Common.{◌≡◌, ◌∙◌, ◌-◌, ◌<◌, ap, sym, arith, length, replicate}
+use Rattle.std.proofs.lemmas.List.{length-replicate}
+use Rattle.std.proofs.lemmas.Result.{on_ok_weaker}
+use Rattle.std.specs.Str.{chars}
+use Rattle.snippet_strokes.specs.Writes.{painted}
+use Rattle.snippet_strokes.proofs.LineLemmas.{some_bytes}
+use Rattle.snippet_strokes.proofs.WriteLemmas.{stretch_of-none, stretch_painted}
+use Rattle.snippet_strokes.proofs.lines.draw_stretch.Goals as goal
+
+pub puts-requires-clause-end : goal.puts-requires-clause-end
+puts-requires-clause-end c =
+    let n = c.args.to - c.args.from in
+    let is : chars c.as_str.result.now ≡ replicate n c.args.glyph = ap chars c.as_str.ensures.value ∙ c.in_ok-text.ensures.value in
+    omega (arith, ap length is, length-replicate n c.args.glyph, c.if-to-from.false)
+
+pub returns-then-to-from : goal.returns-then-to-from
+returns-then-to-from c =
+    record { painted = sym (ap (λ ws. painted ws c.args.buffer.now) (stretch_of-none c.args.row c.args.from c.args.to c.args.glyph c.args.role (omega (arith, c.if-to-from.true)))) }
+
+pub returns : goal.returns
+returns c =
+    let n = c.args.to - c.args.from in
+    let some : c.args.from < c.args.to = omega (arith, c.if-to-from.false) in
+    let is : chars c.as_str.result.now ≡ replicate n c.args.glyph = ap chars c.as_str.ensures.value ∙ c.in_ok-text.ensures.value in
+    let bytes = some_bytes c.as_str.result.now n c.args.glyph is (omega (arith, some)) in
+    record {
+      painted = on_ok_weaker c.puts.result (λ writes. stretch_painted c.args.row c.args.from c.args.to c.args.glyph c.args.role (chars c.as_str.result.now) c.args.buffer.now c.puts.new.self some is (writes bytes)) c.puts.ensures.ok;
+    }

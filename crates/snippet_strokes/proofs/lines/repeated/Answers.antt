@@ -1,0 +1,16 @@
+use Rattle.std.proofs.Common.{◌≡◌, ◌∙◌, List, ℕ, ap, replicate, string_bytes}
+use Rattle.std.proofs.lemmas.Result.{IfOk-weaker}
+use Rattle.std.proofs.lemmas.Str.{IsUtf8-string_bytes}
+use Rattle.std.specs.List.{repeat}
+use Rattle.std.specs.Str.{chars}
+use Rattle.snippet_strokes.proofs.LineLemmas.{chars-repeat}
+use Rattle.snippet_strokes.proofs.lines.repeated.Goals as goal
+
+pub returns : goal.returns
+returns c =
+    record {
+      value = IfOk-weaker c.repeat.result (λ text. string_bytes text ≡ repeat c.args.count c.encode_utf8.result.now)
+          (λ text. chars (string_bytes text) ≡ replicate c.args.count c.args.glyph)
+          (λ text is. chars-repeat c.args.count c.args.glyph (string_bytes text) (IsUtf8-string_bytes text)
+          (is ∙ ap (λ (t : List ℕ). repeat c.args.count t) c.encode_utf8.ensures.value)) c.repeat.ensures.bytes;
+    }

@@ -1,0 +1,21 @@
+use Rattle.std.proofs.Common.{◌∙◌, ◌<◌, ◌^◌, All, ap, sym, subst}
+use Rattle.std.proofs.lemmas.List.Sorted.{All-permutation}
+use Rattle.std.proofs.lemmas.Result.{on_ok_weaker}
+use Rattle.snippet_labels.specs.declared.positions.PlacedEntry.{PlacedEntry}
+use Rattle.snippet_strokes.specs.Painting.{marks_of, painting_order}
+use Rattle.snippet_strokes.specs.Writes.{painted}
+use Rattle.snippet_strokes.proofs.PaintOrder.{IsPermutation-painting_order}
+use Rattle.snippet_strokes.proofs.marks.draw_marks.Goals as goal
+
+pub paint_entries-requires-clause-columns : goal.paint_entries-requires-clause-columns
+paint_entries-requires-clause-columns c =
+    let P : PlacedEntry → Type 0 = λ e. e.entry.end.display < 2 ^ 60 in
+    let es = c.args.placed.now.items in
+    subst (All P) (sym (c.deref.ensures.value ∙ c.in_ok-sort_for_painting.ensures.order)) (All-permutation P es (painting_order es) (IsPermutation-painting_order es) c.requires.columns)
+
+pub returns : goal.returns
+returns c =
+    record {
+      painted = on_ok_weaker c.paint_entries.result (λ drawn_now. drawn_now ∙ ap (λ xs. painted (marks_of c.args.layout c.args.row xs) c.args.buffer.now) c.deref.ensures.value) c.paint_entries.ensures.painted;
+      order = on_ok_weaker c.paint_entries.result (λ _. c.in_ok-sort_for_painting.ensures.order) c.paint_entries.ensures.painted;
+    }

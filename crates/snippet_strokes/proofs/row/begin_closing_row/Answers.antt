@@ -1,0 +1,15 @@
+use Rattle.std.proofs.Common.{◌∙◌, ◌+◌, ap, sym}
+use Rattle.snippet_grid.specs.Layout.{separator_cell}
+use Rattle.std.proofs.lemmas.Result.{on_ok_weaker}
+use Rattle.snippet_style.specs.Glyphs.{closing_of}
+use Rattle.snippet_grid.proofs.RowLemmas.{begun_by_text}
+use Rattle.snippet_style.proofs.RowLemmas.{closing_some}
+use Rattle.snippet_strokes.proofs.row.begin_closing_row.Goals as goal
+
+pub returns-clause-added : goal.returns-clause-added
+returns-clause-added c =
+    let wrote = rw (c.separator_cell.ensures.value ∙ ap separator_cell (sym c.layout.view_is)) at c.puts.ensures.ok in
+    rw (← c.layout.view_is) (on_ok_weaker c.puts.result
+    (λ writes. begun_by_text c.args.buffer.now c.puts.new.self c.num_lines-row.result (c.layout.inside.gutter + 1)
+    c.closing.result.now (closing_of c.layout.inside.decor) c.num_lines-row.ensures.count c.closing.ensures.value (closing_some c.layout.inside.decor)
+    writes) wrote)

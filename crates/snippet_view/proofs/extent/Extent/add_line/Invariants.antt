@@ -1,9 +1,0 @@
-use Rattle.std.proofs.Common.{◌≡◌, ◌++◌, List, take}
-use Rattle.snippet_view.specs.declared.entries.LineAnnotation.{LineAnnotation}
-use Rattle.snippet_view.specs.Extent.{ReachesEntries}
-use Rattle.snippet_view.proofs.extent.Extent.add_line.Given as goal
-
--- the entries so far are taken in
-abbrev pub invariant-loop-entry : goal.invariant-loop-entry
-invariant-loop-entry l =
-    ((before : List LineAnnotation) → ReachesEntries before l.initial.self → ReachesEntries (before ++ take l.entry-index l.entry-items) l.self) × (l.self.whitespace ≡ l.initial.self.whitespace) × (l.self.widest ≡ l.initial.self.widest)

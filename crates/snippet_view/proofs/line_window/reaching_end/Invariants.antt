@@ -1,6 +1,0 @@
-use Rattle.std.proofs.Common.{◌<◌, ◌+◌, length, chars}
-use Rattle.snippet_view.proofs.LineWindowLemmas.{ReachesSoFar}
-use Rattle.snippet_view.proofs.line_window.reaching_end.Given as goal
-
-abbrev pub invariant-loop-c : goal.invariant-loop-c
-invariant-loop-c l = ReachesSoFar l.columns (chars l.text) (length l.yielded) l.at l.width × (l.width < l.columns + 4)

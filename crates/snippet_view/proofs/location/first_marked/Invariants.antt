@@ -1,8 +1,0 @@
-use Rattle.std.proofs.Common.{◌≡◌, take}
-use Rattle.snippet_view.specs.Measures.{least}
-use Rattle.snippet_view.specs.Location.{marked_starts}
-use Rattle.snippet_view.proofs.location.first_marked.Given as goal
-
--- the least byte of the marked spans so far
-abbrev pub invariant-loop-annotation : goal.invariant-loop-annotation
-invariant-loop-annotation l = l.least ≡ least (marked_starts (take l.annotation-index l.annotations))

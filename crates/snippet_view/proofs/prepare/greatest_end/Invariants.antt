@@ -1,6 +1,0 @@
-use Rattle.std.proofs.Common.{◌≡◌, take}
-use Rattle.snippet_view.specs.Prepare.{greatest_end}
-use Rattle.snippet_view.proofs.prepare.greatest_end.Given as goal
-
-abbrev pub invariant-loop-annotation : goal.invariant-loop-annotation
-invariant-loop-annotation l = l.end ≡ greatest_end (take l.annotation-index l.annotations)

@@ -1,0 +1,7 @@
+pub mod Examples
+pub mod ExtentLemmas
+pub mod LineWindowLemmas
+pub mod MarginLaws
+pub mod NearLemmas
+pub mod UncutLaws
+pub mod WindowLemmas

@@ -1,0 +1,408 @@
+-- The bounds of a snippet's window follow from its spans, as they do from the entries of its lines.
+use Rattle.std.proofs.Common.{◌≡◌, ◌∙◌, ◌⊎◌, ℕ, ◌+◌, ◌-◌, ◌<◌, ◌≤◌, Bool, true, false, not, cond, eqb, leb, ◌&&◌, ◌||◌, List, [], ◌∷◌, ◌++◌, All, Option, None}
+use Rattle.std.proofs.Common.{map, chars, unwrap_or, refl, sym, ap, subst, inl, inr, arith, length}
+use Rattle.std.specs.List.{filter, flat_map, list_any, range_with_len}
+use Rattle.std.specs.Option.{option_copied}
+use Rattle.std.proofs.lemmas.Bool.{cases_Bool, cond-true, cond-false, or_right, and_parts, and_from, not-true, eq-eqb, eqb-true}
+use Rattle.std.proofs.lemmas.Bool.Decides.{nat_tests}
+use Rattle.std.proofs.lemmas.List.{map-append}
+use Rattle.snippet_model.specs.declared.snippet.Annotation.{Annotation}
+use Rattle.snippet_model.specs.declared.snippet.AnnotationKind.TheVariants.{Primary}
+use Rattle.snippet_parts.specs.declared.depths.LongExtent.{LongExtent}
+use Rattle.snippet_parts.specs.declared.entries.AnnotatedLineInfo.{AnnotatedLineInfo}
+use Rattle.snippet_parts.specs.declared.entries.LineAnnotation.{LineAnnotation}
+use Rattle.snippet_parts.specs.declared.entries.LineAnnotationType.{LineAnnotationType}
+use Rattle.snippet_parts.specs.declared.entries.LineAnnotationType.TheVariants.{Singleline, MultilineEnd}
+use Rattle.snippet_lines.specs.declared.place.Loc.{Loc}
+use Rattle.snippet_parts.specs.Annotated.{PartEntry, seen_part, long_entry, long_place, is_long, is_short, stands_before, long_spans, long_places, bar_lines}
+use Rattle.snippet_parts.specs.Annotated.{bar_part, single_part}
+use Rattle.snippet_parts.specs.Annotated.{start_part, end_part, span_parts, stands_among, promoted, is_promoted, long_parts, made_parts, parts_on, KeptLine}
+use Rattle.snippet_parts.specs.Annotated.{seen_kept, kept_line, annotated_lines}
+use Rattle.snippet_parts.specs.Depths.{same_place, depth_among}
+use Rattle.snippet_parts.specs.Kept.{keeps, kept_lines}
+use Rattle.snippet_lines.specs.Lines.{Source, source_lines}
+use Rattle.snippet_window.specs.Margin.{margin_bounds}
+use Rattle.snippet_parts.specs.Mark.{is_marking, is_single_line}
+use Rattle.snippet_parts.specs.Marked.{Entry, first_line, last_line}
+use Rattle.snippet_window.specs.Measures.{bounds_for, bounds_of_lines, columns_of, end_with, ends_of, entries_of, margin_of}
+use Rattle.snippet_parts.specs.Least.{greatest, least}
+use Rattle.snippet_parts.specs.Entries.{is_bar}
+use Rattle.snippet_window.specs.Measures.{span_columns, span_ends, texts_of, whitespaces_of, widths_of, with_columns}
+use Rattle.snippet_lines.specs.Place.{start_location}
+use Rattle.snippet_lines.specs.Span.{IsSpan}
+use Rattle.snippet_window.specs.Window.{chars_at}
+use Rattle.snippet_parts.proofs.AmongLemmas.{Among, all_among, among_left, among_right, append_cases, among_map, map_cases, among_filter, filter_cases}
+use Rattle.snippet_parts.proofs.AmongLemmas.{among_flat_map, flat_map_cases, among_in_order, in_order_cases, among_range, any_among, any_cases, least_same}
+use Rattle.snippet_parts.proofs.AmongLemmas.{greatest_same}
+use Rattle.snippet_parts.proofs.MarkLemmas.{start-line, end-line, entry_of-line}
+use Rattle.snippet_lines.proofs.PlaceLemmas.{line_of-mono, line_of-within, locations_of-start}
+use Rattle.snippet_parts.proofs.StartByte.{start_byte}
+
+-- what is measured of an entry: some numbers, by where it starts and ends and by its label
+abbrev Measure : Type 0
+Measure = Loc → Loc → Option (List ℕ) → List ℕ
+
+-- the columns at which an entry starts and ends
+abbrev pub columns : Measure
+columns start end label = start.display ∷ end.display ∷ []
+
+abbrev ends : Measure
+ends start end label = end_with end.display label ∷ []
+
+-- what is measured of a part
+abbrev pub measured : Measure → PartEntry → List ℕ
+measured g p = g p.entry.start p.entry.end p.entry.label
+
+-- whether a part has columns
+abbrev has_columns : PartEntry → Bool
+has_columns p = not (is_bar p.part)
+
+abbrev measured_parts : Measure → List PartEntry → List ℕ
+measured_parts g ps = flat_map (measured g) (filter has_columns ps)
+
+-- ---- entries as they are seen
+
+measured_entries : (g : Measure) (es : List LineAnnotation)
+    → flat_map (λ (e : LineAnnotation). g e.start e.end (option_copied e.label)) (with_columns es) ≡ measured_parts g (map seen_part es)
+measured_entries g [] = refl
+measured_entries g (e ∷ es) =
+    let here : List ℕ = g e.start e.end (option_copied e.label) in
+    let read : LineAnnotation → List ℕ = λ x. g x.start x.end (option_copied x.label) in
+    elim (cases_Bool (not (is_bar e.annotation_type))) [
+      | inl some ↦ ap (flat_map read) (cond-true (not (is_bar e.annotation_type)) (e ∷ with_columns es) (with_columns es) some)
+          ∙ ap (λ ns. here ++ ns) (measured_entries g es)
+          ∙ sym (ap (flat_map (measured g))
+          (cond-true (not (is_bar e.annotation_type)) (seen_part e ∷ filter has_columns (map seen_part es)) (filter has_columns (map seen_part es))
+          some))
+      | inr none ↦ ap (flat_map read) (cond-false (not (is_bar e.annotation_type)) (e ∷ with_columns es) (with_columns es) none)
+          ∙ measured_entries g es ∙ sym
+          (ap (flat_map (measured g))
+          (cond-false (not (is_bar e.annotation_type)) (seen_part e ∷ filter has_columns (map seen_part es)) (filter has_columns (map seen_part es))
+          none))
+    ]
+
+single_list : {X : Type 0} (f : X → ℕ) (xs : List X) → map f xs ≡ flat_map (λ x. f x ∷ []) xs
+single_list f [] = refl
+single_list f (x ∷ xs) = ap (λ ns. f x ∷ ns) (single_list f xs)
+
+seen_entries : (infos : List AnnotatedLineInfo) → map seen_part (entries_of infos) ≡ flat_map (λ (l : KeptLine). l.parts) (map seen_kept infos)
+seen_entries [] = refl
+seen_entries (info ∷ infos) =
+    map-append seen_part info.annotations.items (entries_of infos) ∙ ap (λ ps. map seen_part info.annotations.items ++ ps) (seen_entries infos)
+
+seen_texts : (infos : List AnnotatedLineInfo) → texts_of infos ≡ map (λ (l : KeptLine). chars l.text) (map seen_kept infos)
+seen_texts [] = refl
+seen_texts (info ∷ infos) = ap (λ ts. chars info.line.now ∷ ts) (seen_texts infos)
+
+kept_texts : (s : Source) (marks : List Annotation) (ks : List ℕ) → map (λ (l : KeptLine). chars l.text) (map (kept_line s marks) ks) ≡ map (chars_at s.text) ks
+kept_texts s marks [] = refl
+kept_texts s marks (k ∷ ks) = ap (λ ts. chars_at s.text k ∷ ts) (kept_texts s marks ks)
+
+-- ---- what is measured of a span
+
+-- what is measured of a span of several lines: its start, and its end
+abbrev pub measured_long : Measure → Entry → List ℕ
+measured_long g e = measured g (start_part e 0) ++ measured g (end_part e Singleline)
+
+abbrev measured_span : Measure → Source → Annotation → List ℕ
+measured_span g s a =
+    cond (not (is_marking a.kind)) [] (cond (is_single_line s.text a) (measured g (single_part s a)) (measured_long g (long_entry s a)))
+
+-- what is measured of a span on one line is measured of its part
+pub short_span : (g : Measure) (s : Source) (a : Annotation) → is_short s.text a ≡ true → measured_span g s a ≡ measured g (single_part s a)
+short_span g s a short =
+    let both = and_parts (is_marking a.kind) (is_single_line s.text a) short in
+    ap (λ b. cond (not b) [] (cond (is_single_line s.text a) (measured g (single_part s a)) (measured_long g (long_entry s a)))) both.0 ∙ ap (λ b. cond b (measured g (single_part s a)) (measured_long g (long_entry s a))) both.1
+
+-- what is measured of a span of several lines is measured of its entry
+pub long_span : (g : Measure) (s : Source) (a : Annotation) → is_long s.text a ≡ true → measured_span g s a ≡ measured_long g (long_entry s a)
+long_span g s a long =
+    let both = and_parts (is_marking a.kind) (not (is_single_line s.text a)) long in
+    ap (λ b. cond (not b) [] (cond (is_single_line s.text a) (measured g (single_part s a)) (measured_long g (long_entry s a)))) both.0 ∙ ap (λ b. cond b (measured g (single_part s a)) (measured_long g (long_entry s a))) (not-true (is_single_line s.text a) both.1)
+
+-- the kind with which a span is drawn isn't measured
+drawn_start : (g : Measure) (before : List Entry) (e : Entry) (depth : ℕ) → measured g (start_part (promoted before e) depth) ≡ measured g (start_part e 0)
+drawn_start g before e depth =
+    elim (is_promoted before e) as (λ b. measured g (start_part (cond b (record e { kind = Primary }) e) depth) ≡ measured g (start_part e 0)) [ true ↦ refl | false ↦ refl ]
+
+drawn_end : (g : Measure) (before : List Entry) (e : Entry) (part : LineAnnotationType)
+    → measured g (end_part (promoted before e) part) ≡ measured g (end_part e Singleline)
+drawn_end g before e part =
+    elim (is_promoted before e) as (λ b. measured g (end_part (cond b (record e { kind = Primary }) e) part) ≡ measured g (end_part e Singleline)) [ true ↦ refl | false ↦ refl ]
+
+-- ---- what is measured of the parts is measured of the spans
+
+-- each bar has no columns
+bars_none : (e : Entry) (depth first : ℕ) (ks : List ℕ) (p : PartEntry) → Among (map (λ k. bar_part e depth (first + k)) ks) p → has_columns p ≡ true → ⊥
+bars_none e depth first ks p here some =
+    let bar = map_cases (λ k. bar_part e depth (first + k)) ks p here in
+    let none : has_columns p ≡ false = ap has_columns (sym bar.2) in
+    absurd cc
+
+span_part : (g : Measure) (s : Source) (before : List Entry) (depth : ℕ) (again : Bool) (e : Entry) (p : PartEntry) (c : ℕ)
+    → Among (span_parts s depth again (promoted before e)) p → has_columns p ≡ true → Among (measured g p) c → Among (measured_long g e) c
+span_part g s before depth true e p c (inl same) some inside =
+    among_right (measured g (start_part e 0)) (measured g (end_part e Singleline)) c (subst (λ ns. Among ns c) (ap (measured g) (sym same) ∙ drawn_end g before e Singleline) inside)
+span_part g s before depth true e p c (inr later) some inside = elim later [ ]
+span_part g s before depth false e p c (inl same) some inside =
+    among_left (measured g (start_part e 0)) (measured g (end_part e Singleline)) c (subst (λ ns. Among ns c) (ap (measured g) (sym same) ∙ drawn_start g before e depth) inside)
+span_part g s before depth false e p c (inr later) some inside =
+    let x = promoted before e in
+    let lines = bar_lines s.text (x.start.line - s.first) (x.end.line - s.first) in
+    elim (append_cases (map (λ k. bar_part x depth (s.first + k)) lines) (end_part x (MultilineEnd depth) ∷ []) p later) [
+      | inl bar ↦ absurd (bars_none x depth s.first lines p bar some)
+      | inr last ↦ closing last
+    ]
+  where
+    closing : Among (end_part (promoted before e) (MultilineEnd depth) ∷ []) p → Among (measured_long g e) c
+    closing (inl same) = among_right (measured g (start_part e 0)) (measured g (end_part e Singleline)) c (subst (λ ns. Among ns c) (ap (measured g) (sym same) ∙ drawn_end g before e (MultilineEnd depth)) inside)
+    closing (inr none) = absurd none
+
+long_part : (g : Measure) (s : Source) (places : List LongExtent) (before es : List Entry) (p : PartEntry) (c : ℕ) → Among (long_parts s places before es) p
+    → has_columns p ≡ true → Among (measured g p) c → (e : Entry) × Among es e × Among (measured_long g e) c
+long_part g s places before [] p c here some inside = absurd here
+long_part g s places before (e ∷ later) p c here some inside =
+    elim (append_cases (span_parts s (depth_among places (long_place e)) (stands_among e later) (promoted before e)) (long_parts s places (before ++ e ∷ []) later) p here) [
+      | inl first ↦ (e, inl refl, span_part g s before (depth_among places (long_place e)) (stands_among e later) e p c first some inside)
+      | inr rest ↦ (let more = long_part g s places (before ++ e ∷ []) later p c rest some inside in (more.0, inr more.1, more.2))
+    ]
+
+-- an entry among the spans of several lines stands for one of them
+long_among : (s : Source) (marks : List Annotation) (e : Entry) → Among (long_spans s marks) e
+    → (a : Annotation) × Among marks a × (is_long s.text a ≡ true) × (long_entry s a ≡ e)
+long_among s marks e here =
+    let found = map_cases (long_entry s) (filter (is_long s.text) marks) e (in_order_cases stands_before (map (long_entry s) (filter (is_long s.text) marks)) e here) in
+    let taken = filter_cases (is_long s.text) marks found.0 found.1 in
+    (found.0, taken.0, taken.1, found.2)
+
+made_part : (g : Measure) (s : Source) (marks : List Annotation) (p : PartEntry) (c : ℕ) → Among (made_parts s marks) p → has_columns p ≡ true
+    → Among (measured g p) c → Among (flat_map (measured_span g s) marks) c
+made_part g s marks p c here some inside =
+    elim (append_cases (map (single_part s) (filter (is_short s.text) marks)) (long_parts s (long_places s marks) [] (long_spans s marks)) p here) [
+      | inl single ↦
+          let found = map_cases (single_part s) (filter (is_short s.text) marks) p single in
+          let taken = filter_cases (is_short s.text) marks found.0 found.1 in
+          among_flat_map (measured_span g s) marks found.0 c taken.0 (subst (λ ns. Among ns c) (ap (measured g) (sym found.2) ∙ sym (short_span g s found.0 taken.1)) inside)
+      | inr several ↦
+          let part = long_part g s (long_places s marks) [] (long_spans s marks) p c several some inside in
+          let found = long_among s marks part.0 part.1 in
+          among_flat_map (measured_span g s) marks found.0 c found.1 (subst (λ ns. Among ns c) (ap (measured_long g) (sym found.3) ∙ sym (long_span g s found.0 found.2)) part.2)
+    ]
+
+-- the parts of the kept lines
+abbrev kept_parts : Bool → Source → List Annotation → List PartEntry
+kept_parts fold s marks = flat_map (λ (l : KeptLine). l.parts) (annotated_lines fold s marks)
+
+kept_part : (fold : Bool) (s : Source) (marks : List Annotation) (p : PartEntry) → Among (kept_parts fold s marks) p → Among (made_parts s marks) p
+kept_part fold s marks p here =
+    let line = flat_map_cases (λ (l : KeptLine). l.parts) (annotated_lines fold s marks) p here in
+    let number = map_cases (kept_line s marks) (kept_lines fold s.text marks) line.0 line.1 in
+    let on : Among (parts_on s marks number.0) p = subst (λ (l : KeptLine). Among l.parts p) (sym number.2) line.2 in
+    (filter_cases (λ (q : PartEntry). eqb q.entry.start.line (s.first + number.0)) (made_parts s marks) p on).0
+
+parts_there : (g : Measure) (fold : Bool) (s : Source) (marks : List Annotation) (c : ℕ) → Among (measured_parts g (kept_parts fold s marks)) c
+    → Among (flat_map (measured_span g s) marks) c
+parts_there g fold s marks c here =
+    let part = flat_map_cases (measured g) (filter has_columns (kept_parts fold s marks)) c here in
+    let taken = filter_cases has_columns (kept_parts fold s marks) part.0 part.1 in
+    made_part g s marks part.0 c (kept_part fold s marks part.0 taken.0) taken.1 part.2
+
+-- ---- what is measured of the spans is measured of the parts
+
+drawn_start_line : (before : List Entry) (e : Entry) → (promoted before e).start.line ≡ e.start.line
+drawn_start_line before e =
+    elim (is_promoted before e) as (λ b. (cond b (record e { kind = Primary }) e).start.line ≡ e.start.line) [ true ↦ refl | false ↦ refl ]
+
+drawn_end_line : (before : List Entry) (e : Entry) → (promoted before e).end.line ≡ e.end.line
+drawn_end_line before e =
+    elim (is_promoted before e) as (λ b. (cond b (record e { kind = Primary }) e).end.line ≡ e.end.line) [ true ↦ refl | false ↦ refl ]
+
+-- a part with columns on this line, of which these numbers are measured
+abbrev Stands : Measure → List PartEntry → ℕ → List ℕ → Type 0
+Stands g ps line ns =
+    (p : PartEntry) × Among ps p × (has_columns p ≡ true) × (p.entry.start.line ≡ line) × (measured g p ≡ ns)
+
+-- the end of a span has a part
+span_end : (g : Measure) (s : Source) (before : List Entry) (depth : ℕ) (again : Bool) (e : Entry)
+    → Stands g (span_parts s depth again (promoted before e)) e.end.line (measured g (end_part e Singleline))
+span_end g s before depth true e =
+    (end_part (promoted before e) Singleline, inl refl, refl, drawn_end_line before e, drawn_end g before e Singleline)
+span_end g s before depth false e =
+    let x = promoted before e in
+    let bars = map (λ k. bar_part x depth (s.first + k)) (bar_lines s.text (x.start.line - s.first) (x.end.line - s.first)) in
+    let p = end_part x (MultilineEnd depth) in
+    (p, inr (among_right bars (p ∷ []) p (inl refl)), refl, drawn_end_line before e, drawn_end g before e (MultilineEnd depth))
+
+end_there : (g : Measure) (s : Source) (places : List LongExtent) (before es : List Entry) (e : Entry) → Among es e
+    → Stands g (long_parts s places before es) e.end.line (measured g (end_part e Singleline))
+end_there g s places before [] e here = absurd here
+end_there g s places before (d ∷ later) e (inl same) =
+    let depth = depth_among places (long_place d) in
+    let again = stands_among d later in
+    let found = span_end g s before depth again d in
+    (found.0, among_left (span_parts s depth again (promoted before d)) (long_parts s places (before ++ d ∷ []) later) found.0 found.1, found.2, found.3 ∙ ap (λ (x : Entry). x.end.line) same, found.4 ∙ ap (λ (x : Entry). measured g (end_part x Singleline)) same)
+end_there g s places before (d ∷ later) e (inr more) =
+    let depth = depth_among places (long_place d) in
+    let again = stands_among d later in
+    let found = end_there g s places (before ++ d ∷ []) later e more in
+    (found.0, among_right (span_parts s depth again (promoted before d)) (long_parts s places (before ++ d ∷ []) later) found.0 found.1, found.2, found.3, found.4)
+
+-- of the spans of one place the last has a part at its start
+abbrev StandsSomewhere : Measure → Source → List LongExtent → List Entry → List Entry → Entry → Type 0
+StandsSomewhere g s places before es e =
+    (d : Entry) × Among es d × (d.start.byte ≡ e.start.byte) × Stands g (long_parts s places before es) d.start.line (measured g (start_part d 0))
+
+later_stands : (g : Measure) (s : Source) (places : List LongExtent) (before later : List Entry) (d e : Entry)
+    → StandsSomewhere g s places (before ++ d ∷ []) later e → StandsSomewhere g s places before (d ∷ later) e
+later_stands g s places before later d e found =
+    let first = span_parts s (depth_among places (long_place d)) (stands_among d later) (promoted before d) in
+    let part = found.3 in
+    (found.0, inr found.1, found.2, (part.0, among_right first (long_parts s places (before ++ d ∷ []) later) part.0 part.1, part.2, part.3, part.4))
+
+start_there : (g : Measure) (s : Source) (places : List LongExtent) (before es : List Entry) (e : Entry) → Among es e → StandsSomewhere g s places before es e
+start_there g s places before [] e here = absurd here
+start_there g s places before (d ∷ later) e (inr more) =
+    later_stands g s places before later d e (start_there g s places (before ++ d ∷ []) later e more)
+start_there g s places before (d ∷ later) e (inl same) =
+    let depth = depth_among places (long_place d) in
+    let rest = long_parts s places (before ++ d ∷ []) later in
+    elim (cases_Bool (stands_among d later)) [
+      | inl again ↦
+          let next = any_cases (λ q. same_place (long_place d) (long_place q)) later again in
+          let place = and_parts (eqb d.start.byte next.0.start.byte) (eqb d.end.byte next.0.end.byte && (eqb d.start.line next.0.start.line && eqb d.end.line next.0.end.line)) next.2 in
+          let byte : d.start.byte ≡ next.0.start.byte = eqb-true d.start.byte next.0.start.byte place.0 in
+          let found = start_there g s places (before ++ d ∷ []) later next.0 next.1 in
+          later_stands g s places before later d e (found.0, found.1, found.2 ∙ sym byte ∙ ap (λ (x : Entry). x.start.byte) same, found.3)
+      | inr last ↦
+          let p = start_part (promoted before d) depth in
+          let here : Among (span_parts s depth (stands_among d later) (promoted before d)) p = subst (λ b. Among (span_parts s depth b (promoted before d)) p) (sym last) (inl refl) in
+          (d, inl refl, ap (λ (x : Entry). x.start.byte) same, (p, among_left (span_parts s depth (stands_among d later) (promoted before d)) rest p here, refl, drawn_start_line before d, drawn_start g before d depth))
+    ]
+
+-- the lines on which a span starts and ends are kept
+keeps_ends : (f l k : ℕ) (x y : Bool) → f ≤ l → (k ≡ f) ⊎ (k ≡ l) → (leb f k && leb k l && (eqb k f || eqb k l || x || y)) ≡ true
+keeps_ends f l k x y up (inl first) = grind (arith, nat_tests)
+keeps_ends f l k x y up (inr last) = grind (arith, nat_tests)
+
+line_kept : (fold : Bool) (source : List ℕ) (marks : List Annotation) (a : Annotation) (k : ℕ) → Among marks a → k < length (source_lines source)
+    → keeps source k a ≡ true → Among (kept_lines fold source marks) k
+line_kept fold source marks a k here within keep =
+    among_filter (λ j. not fold || list_any (keeps source j) marks) (range_with_len 0 (length (source_lines source))) k (among_range 0 (length (source_lines source)) k (omega arith) (omega arith)) (or_right (not fold) (list_any (keeps source k) marks) (any_among (keeps source k) marks a here keep))
+
+first_kept : (fold : Bool) (source : List ℕ) (marks : List Annotation) (a : Annotation) → a.span.start ≤ a.span.end → Among marks a
+    → Among (kept_lines fold source marks) (first_line source a)
+first_kept fold source marks a ordered here =
+    let up : first_line source a ≤ last_line source a = line_of-mono (source_lines source) a.span.start a.span.end (omega (arith, line_of-within source 0)) ordered in
+    line_kept fold source marks a (first_line source a) here (line_of-within source a.span.start) (keeps_ends (first_line source a) (last_line source a) (first_line source a) _ _ up (inl refl))
+
+last_kept : (fold : Bool) (source : List ℕ) (marks : List Annotation) (a : Annotation) → a.span.start ≤ a.span.end → Among marks a
+    → Among (kept_lines fold source marks) (last_line source a)
+last_kept fold source marks a ordered here =
+    let up : first_line source a ≤ last_line source a = line_of-mono (source_lines source) a.span.start a.span.end (omega (arith, line_of-within source 0)) ordered in
+    line_kept fold source marks a (last_line source a) here (line_of-within source a.span.end) (keeps_ends (first_line source a) (last_line source a) (last_line source a) _ _ up (inr refl))
+
+-- a part that stands on a kept line is measured
+part_measured : (g : Measure) (fold : Bool) (s : Source) (marks : List Annotation) (k c : ℕ) (ns : List ℕ) → Among (kept_lines fold s.text marks) k
+    → Stands g (made_parts s marks) (s.first + k) ns → Among ns c → Among (measured_parts g (kept_parts fold s marks)) c
+part_measured g fold s marks k c ns kept found inside =
+    let p = found.0 in
+    let on : Among (parts_on s marks k) p = among_filter (λ (q : PartEntry). eqb q.entry.start.line (s.first + k)) (made_parts s marks) p found.1 (eq-eqb p.entry.start.line (s.first + k) found.3) in
+    let here : Among (kept_parts fold s marks) p = among_flat_map (λ (l : KeptLine). l.parts) (annotated_lines fold s marks) (kept_line s marks k) p (among_map (kept_line s marks) (kept_lines fold s.text marks) k kept) on in
+    among_flat_map (measured g) (filter has_columns (kept_parts fold s marks)) p c (among_filter has_columns (kept_parts fold s marks) p here found.2) (subst (λ ms. Among ms c) (sym found.4) inside)
+
+same_start : (s : Source) (a b : Annotation) → a.span.start ≡ b.span.start → (long_entry s a).start ≡ (long_entry s b).start
+same_start s a b same =
+    locations_of-start s a.span.start a.span.end ∙ ap (start_location s) same ∙ sym (locations_of-start s b.span.start b.span.end)
+
+long_there : (s : Source) (marks : List Annotation) (a : Annotation) → Among marks a → is_long s.text a ≡ true → Among (long_spans s marks) (long_entry s a)
+long_there s marks a here long =
+    among_in_order stands_before (map (long_entry s) (filter (is_long s.text) marks)) (long_entry s a) (among_map (long_entry s) (filter (is_long s.text) marks) a (among_filter (is_long s.text) marks a here long))
+
+made_long : (g : Measure) (s : Source) (marks : List Annotation) (line : ℕ) (ns : List ℕ)
+    → Stands g (long_parts s (long_places s marks) [] (long_spans s marks)) line ns → Stands g (made_parts s marks) line ns
+made_long g s marks line ns found =
+    (found.0, among_right (map (single_part s) (filter (is_short s.text) marks)) (long_parts s (long_places s marks) [] (long_spans s marks)) found.0 found.1, found.2, found.3, found.4)
+
+short_back : (g : Measure) (fold : Bool) (s : Source) (marks : List Annotation) (a : Annotation) (c : ℕ) → a.span.start ≤ a.span.end → Among marks a
+    → is_short s.text a ≡ true → Among (measured g (single_part s a)) c → Among (measured_parts g (kept_parts fold s marks)) c
+short_back g fold s marks a c ordered here short inside =
+    let p = single_part s a in
+    let made : Among (made_parts s marks) p = among_left (map (single_part s) (filter (is_short s.text) marks)) (long_parts s (long_places s marks) [] (long_spans s marks)) p (among_map (single_part s) (filter (is_short s.text) marks) a (among_filter (is_short s.text) marks a here short)) in
+    part_measured g fold s marks (first_line s.text a) c (measured g p) (first_kept fold s.text marks a ordered here) (p, made, refl, entry_of-line s a, refl) inside
+
+start_back : (g : Measure) (fold : Bool) (s : Source) (marks : List Annotation) (a : Annotation) (c : ℕ)
+    → All (λ (b : Annotation). IsSpan s.text b.span.start b.span.end) marks → Among marks a → is_long s.text a ≡ true
+    → Among (measured g (start_part (long_entry s a) 0)) c → Among (measured_parts g (kept_parts fold s marks)) c
+start_back g fold s marks a c spans here long inside =
+    let there = start_there g s (long_places s marks) [] (long_spans s marks) (long_entry s a) (long_there s marks a here long) in
+    let found = long_among s marks there.0 there.1 in
+    let b = found.0 in
+    let span = all_among (λ (x : Annotation). IsSpan s.text x.span.start x.span.end) marks b spans found.1 in
+    let byte : b.span.start ≡ a.span.start = sym (start_byte s b) ∙ ap (λ (x : Entry). x.start.byte) found.3 ∙ there.2 ∙ start_byte s a in
+    let start : there.0.start ≡ (long_entry s a).start = ap (λ (x : Entry). x.start) (sym found.3) ∙ same_start s b a byte in
+    let line : there.0.start.line ≡ s.first + first_line s.text b = ap (λ (x : Entry). x.start.line) (sym found.3) ∙ start-line s b.span.start b.span.end in
+    let part = there.3 in
+    let read : Loc → List ℕ = λ l. g l (record { line = l.line; char = l.char + 1; display = l.display + 1; byte = l.byte }) None in
+    part_measured g fold s marks (first_line s.text b) c (measured g (start_part (long_entry s a) 0))
+    (first_kept fold s.text marks b span.ordered found.1)
+    (made_long g s marks (s.first + first_line s.text b) (measured g (start_part (long_entry s a) 0))
+    (part.0, part.1, part.2, part.3 ∙ line, part.4 ∙ ap read start)) inside
+
+end_back : (g : Measure) (fold : Bool) (s : Source) (marks : List Annotation) (a : Annotation) (c : ℕ) → a.span.start ≤ a.span.end → Among marks a
+    → is_long s.text a ≡ true → Among (measured g (end_part (long_entry s a) Singleline)) c → Among (measured_parts g (kept_parts fold s marks)) c
+end_back g fold s marks a c ordered here long inside =
+    let part = end_there g s (long_places s marks) [] (long_spans s marks) (long_entry s a) (long_there s marks a here long) in
+    part_measured g fold s marks (last_line s.text a) c (measured g (end_part (long_entry s a) Singleline))
+    (last_kept fold s.text marks a ordered here)
+    (made_long g s marks (s.first + last_line s.text a) (measured g (end_part (long_entry s a) Singleline))
+    (part.0, part.1, part.2, part.3 ∙ end-line s a.span.start a.span.end, part.4)) inside
+
+parts_back : (g : Measure) (fold : Bool) (s : Source) (marks : List Annotation) (c : ℕ) → All (λ (b : Annotation). IsSpan s.text b.span.start b.span.end) marks
+    → Among (flat_map (measured_span g s) marks) c → Among (measured_parts g (kept_parts fold s marks)) c
+parts_back g fold s marks c spans here =
+    let found = flat_map_cases (measured_span g s) marks c here in
+    let a = found.0 in
+    let ordered : a.span.start ≤ a.span.end = (all_among (λ (x : Annotation). IsSpan s.text x.span.start x.span.end) marks a spans found.1).ordered in
+    let single = measured g (single_part s a) in
+    let several = measured_long g (long_entry s a) in
+    elim (cases_Bool (is_marking a.kind)) [
+      | inr unmarked ↦ absurd (subst (λ b. Among (cond (not b) [] (cond (is_single_line s.text a) single several)) c) unmarked found.2)
+      | inl marked ↦ elim (cases_Bool (is_single_line s.text a)) [
+        | inl one ↦
+            let short : is_short s.text a ≡ true = and_from (is_marking a.kind) (is_single_line s.text a) marked one in
+            short_back g fold s marks a c ordered found.1 short (subst (λ ns. Among ns c) (short_span g s a short) found.2)
+        | inr some ↦
+            let long : is_long s.text a ≡ true = and_from (is_marking a.kind) (not (is_single_line s.text a)) marked (ap not some) in
+            elim (append_cases (measured g (start_part (long_entry s a) 0)) (measured g (end_part (long_entry s a) Singleline)) c (subst (λ ns. Among ns c) (long_span g s a long) found.2)) [
+              | inl start ↦ start_back g fold s marks a c spans found.1 long start
+              | inr end ↦ end_back g fold s marks a c ordered found.1 long end
+            ]
+      ]
+    ]
+
+-- ---- the laws
+
+-- the bounds of the lines that are kept are those of the spans
+pub margin_of_kept : (room : ℕ) (fold : Bool) (s : Source) (marks : List Annotation) (infos : List AnnotatedLineInfo)
+    → map seen_kept infos ≡ annotated_lines fold s marks → All (λ (a : Annotation). IsSpan s.text a.span.start a.span.end) marks
+    → bounds_of_lines room infos ≡ margin_of room fold s marks
+margin_of_kept room fold s marks infos kept spans =
+    let es = entries_of infos in
+    let texts = map (chars_at s.text) (kept_lines fold s.text marks) in
+    let same_texts : texts_of infos ≡ texts = seen_texts infos ∙ ap (map (λ (l : KeptLine). chars l.text)) kept ∙ kept_texts s marks (kept_lines fold s.text marks) in
+    let same_parts : map seen_part es ≡ kept_parts fold s marks = seen_entries infos ∙ ap (flat_map (λ (l : KeptLine). l.parts)) kept in
+    let all_columns : columns_of es ≡ measured_parts columns (kept_parts fold s marks) = measured_entries columns es ∙ ap (measured_parts columns) same_parts in
+    let all_ends : ends_of es ≡ measured_parts ends (kept_parts fold s marks) = single_list (λ (e : LineAnnotation). end_with e.end.display (option_copied e.label)) (with_columns es) ∙ measured_entries ends es ∙ ap (measured_parts ends) same_parts in
+    let low : unwrap_or (least (columns_of es)) 0 ≡ unwrap_or (least (flat_map (span_columns s) marks)) 0 =
+    ap (λ ns. unwrap_or (least ns) 0) all_columns
+    ∙ least_same (measured_parts columns (kept_parts fold s marks)) (flat_map (span_columns s) marks) (parts_there columns fold s marks)
+    (λ c. parts_back columns fold s marks c spans) in
+    let high : greatest (columns_of es) ≡ greatest (flat_map (span_columns s) marks) = ap greatest all_columns ∙ greatest_same (measured_parts columns (kept_parts fold s marks)) (flat_map (span_columns s) marks) (parts_there columns fold s marks) (λ c. parts_back columns fold s marks c spans) in
+    let after : greatest (ends_of es) ≡ greatest (flat_map (span_ends s) marks) = ap greatest all_ends ∙ greatest_same (measured_parts ends (kept_parts fold s marks)) (flat_map (span_ends s) marks) (parts_there ends fold s marks) (λ c. parts_back ends fold s marks c spans) in
+    ap (λ ts. bounds_for room (whitespaces_of ts) (columns_of es) (ends_of es) (widths_of ts)) same_texts
+    ∙ ap (λ n. margin_bounds (unwrap_or (least (whitespaces_of texts)) 0) n (greatest (columns_of es)) (greatest (ends_of es))
+    room (greatest (widths_of texts))) low ∙ ap
+    (λ n. margin_bounds (unwrap_or (least (whitespaces_of texts)) 0) (unwrap_or (least (flat_map (span_columns s) marks)) 0)
+    n (greatest (ends_of es)) room (greatest (widths_of texts))) high
+    ∙ ap (λ n. margin_bounds (unwrap_or (least (whitespaces_of texts)) 0) (unwrap_or (least (flat_map (span_columns s) marks)) 0)
+    (greatest (flat_map (span_columns s) marks)) n room (greatest (widths_of texts))) after

@@ -1,0 +1,36 @@
+use Rattle.std.proofs.Common.{◌++◌, ◌∷◌, [], sym, ◌≡◌, ◌∙◌, ◌≤◌, ℕ, Option, take, ap, subst, arith, unwrap_or}
+use Rattle.std.proofs.lemmas.List.{take_all}
+use Rattle.snippet_window.specs.Extent.{ReachesLines}
+use Rattle.snippet_parts.specs.declared.shown_line.ShownLine.{ShownLine}
+use Rattle.snippet_parts.specs.ShownLines.{kept_of}
+use Rattle.snippet_window.specs.Measures.{StandsClear, columns_of, entries_of}
+use Rattle.snippet_parts.specs.Least.{least}
+use Rattle.snippet_parts.proofs.LeastLemmas.{least_below}
+use Rattle.snippet_window.proofs.ExtentLemmas.{lines_all, starts_all}
+use Rattle.snippet_parts.proofs.ShownLineLemmas.{kept_of-next, kept_of-past}
+use Rattle.snippet_window.proofs.extent.margin_for.Goals as goal
+use Rattle.snippet_window.proofs.extent.margin_for.Goals.{else-not-line, then-not-line}
+
+pub returns-clause-clear : goal.returns-clause-clear
+returns-clause-clear c =
+    let lines = c.args.lines.now in
+    let all : take c.loop-line.line-index lines ≡ lines = take_all c.loop-line.line-index lines (omega arith) in
+    let reaches = subst (λ ls. ReachesLines (kept_of ls) c.loop-line.extent) all c.loop-line.invariant in
+    let columns = columns_of (entries_of (kept_of lines)) in
+    let first : c.unwrap_or-2.result ≡ unwrap_or (least columns) 0 = c.unwrap_or-2.ensures ∙ ap (λ (o : Option ℕ). unwrap_or o 0) reaches.entries.first in
+    let starts = starts_all (λ n. unwrap_or (least columns) 0 ≤ n) (entries_of (kept_of lines)) (least_below columns) in
+    lines_all (StandsClear c.new.result) (kept_of lines) (λ k d within not_bar cut. omega (arith, starts k d within not_bar, c.new.ensures.padded cut, first))
+
+pub loop-line-preserved : goal.loop-line-preserved
+loop-line-preserved c =
+    let lines = c.args.lines.now in
+    let i = c.loop-line.line-index in
+    let line : ShownLine = c.line-item.result in
+    elim c.if-not-line.branch [
+      | then-not-line w ↦
+          let next = kept_of-next lines i line c.loop-line-test.true c.line-item.is w.if-not-line.true in
+          subst (λ is. ReachesLines is c.if-not-line.extent) (sym next) (subst (ReachesLines (kept_of (take i lines) ++ line.info ∷ [])) (sym w.extent-is) (w.add_line.ensures.adds (kept_of (take i lines)) c.loop-line.invariant))
+      | else-not-line w ↦
+          let past = kept_of-past lines i line c.loop-line-test.true c.line-item.is w.if-not-line.false in
+          subst (λ is. ReachesLines is c.if-not-line.extent) (sym past) (subst (ReachesLines (kept_of (take i lines))) (sym w.extent-is) c.loop-line.invariant)
+    ]

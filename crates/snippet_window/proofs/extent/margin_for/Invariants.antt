@@ -1,0 +1,8 @@
+use Rattle.std.proofs.Common.{take}
+use Rattle.snippet_window.specs.Extent.{ReachesLines}
+use Rattle.snippet_parts.specs.ShownLines.{kept_of}
+use Rattle.snippet_window.proofs.extent.margin_for.Given as goal
+
+-- those of the lines so far that are kept are taken in
+abbrev pub invariant-loop-line : goal.invariant-loop-line
+invariant-loop-line l = ReachesLines (kept_of (take l.line-index l.lines)) l.extent

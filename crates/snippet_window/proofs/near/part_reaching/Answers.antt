@@ -1,0 +1,26 @@
+use Rattle.std.proofs.Common.{◌≡◌, ◌∙◌, ◌-◌, arith, ap, sym, take, chars}
+use Rattle.snippet_text.specs.Width.{width_of}
+use Rattle.snippet_window.specs.Window.{reaching}
+use Rattle.snippet_window.proofs.LineWindowLemmas.{cut_boundary, cut_front, reaching_whole}
+use Rattle.snippet_window.proofs.near.part_reaching.Goals as goal
+
+pub range-requires-clause-end_boundary : goal.range-requires-clause-end_boundary
+range-requires-clause-end_boundary c =
+    cut_boundary c.args.text.now (reaching c.args.columns (chars c.args.text.now)) c.reaching_end-at.result.0 c.utf8.text c.reaching_end-at.ensures.bytes
+
+pub returns-then-width-columns-clause-value : goal.returns-then-width-columns-clause-value
+returns-then-width-columns-clause-value c =
+    sym (reaching_whole c.args.columns (chars c.args.text.now) (omega (arith, c.requires.width, c.if-width-columns.true)))
+
+pub returns-clause-value : goal.returns-clause-value
+returns-clause-value c =
+    let n = c.reaching_end-at.result.0 in
+    let same : n - 0 ≡ n = omega arith in
+    ap chars (c.range.ensures.value ∙ ap (λ k. take k c.args.text.now) same) ∙ cut_front c.args.text.now (reaching c.args.columns (chars c.args.text.now)) n c.utf8.text c.reaching_end-at.ensures.bytes
+
+pub returns-clause-near : goal.returns-clause-near
+returns-clause-near c =
+    let n = c.reaching_end-at.result.0 in
+    let same : n - 0 ≡ n = omega arith in
+    let is = ap chars (c.range.ensures.value ∙ ap (λ k. take k c.args.text.now) same) ∙ cut_front c.args.text.now (reaching c.args.columns (chars c.args.text.now)) n c.utf8.text c.reaching_end-at.ensures.bytes in
+    omega (arith, ap width_of is, c.reaching_end-at.ensures.width, c.reaching_end-at.ensures.near)

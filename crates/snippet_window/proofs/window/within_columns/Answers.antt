@@ -1,0 +1,21 @@
+use Rattle.std.proofs.Common.{◌≡◌, ◌∙◌, ◌-◌, arith, ap, sym, take, chars}
+use Rattle.snippet_text.specs.Width.{width_of}
+use Rattle.snippet_window.specs.Window.{fitting}
+use Rattle.snippet_window.proofs.LineWindowLemmas.{cut_boundary, cut_front}
+use Rattle.snippet_window.proofs.window.within_columns.Goals as goal
+
+pub range-requires-clause-end_boundary : goal.range-requires-clause-end_boundary
+range-requires-clause-end_boundary c =
+    cut_boundary c.args.text.now (fitting c.args.columns (chars c.args.text.now)) c.fitting_end-at.result.0 c.utf8.text c.fitting_end-at.ensures.bytes
+
+pub returns-clause-value : goal.returns-clause-value
+returns-clause-value c =
+    let n = c.fitting_end-at.result.0 in
+    let same : n - 0 ≡ n = omega arith in
+    ap chars (c.range.ensures.value ∙ ap (λ k. take k c.args.text.now) same) ∙ cut_front c.args.text.now (fitting c.args.columns (chars c.args.text.now)) c.fitting_end-at.result.0 c.utf8.text c.fitting_end-at.ensures.bytes
+
+pub returns-clause-width : goal.returns-clause-width
+returns-clause-width c =
+    let n = c.fitting_end-at.result.0 in
+    let same : n - 0 ≡ n = omega arith in
+    c.fitting_end-at.ensures.width ∙ ap width_of (sym (ap chars (c.range.ensures.value ∙ ap (λ k. take k c.args.text.now) same) ∙ cut_front c.args.text.now (fitting c.args.columns (chars c.args.text.now)) c.fitting_end-at.result.0 c.utf8.text c.fitting_end-at.ensures.bytes))

@@ -1,0 +1,5 @@
+pub mod Extent
+pub mod Margin
+pub mod Measures
+pub mod NearPart
+pub mod Window

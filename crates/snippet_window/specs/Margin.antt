@@ -1,0 +1,41 @@
+-- The bounds between which a snippet's lines are shown.
+use Rattle.std.specs.Prelude.{ℕ, ◌+◌, ◌-◌, ◌*◌, ◌/◌, ◌^◌, ◌&&◌, nat_le, nat_lt, min, max, if◌then◌else◌}
+use Rattle.snippet_window.specs.declared.margin.Margin.{Margin}
+
+-- two bounds, in columns: what lies between them is shown
+pub record Bounds : Type 0 where
+  pub left : ℕ
+  pub right : ℕ
+
+-- the bounds of a margin
+abbrev pub bounds_of : Margin → Bounds
+bounds_of m = record { left = m.computed_left; right = m.computed_right }
+
+-- a sum, which stops at the greatest number that there is
+abbrev pub capped_sum : ℕ → ℕ → ℕ
+capped_sum a b = min (a + b) (2 ^ 64 - 1)
+
+-- the room from this column on
+abbrev pub room_from : ℕ → ℕ → Bounds
+room_from room left = record { left = left; right = capped_sum left room }
+
+-- the bounds of a snippet's window in a room of so many columns, where the whitespace that all its lines begin with has
+-- this width, its spans reach from column `first` to column `last`, their labels to column `label_end`, and its widest line
+-- has this width. Six columns stay free around the spans and after the labels, for the placeholders.
+-- Of whitespace that is wider than 20 columns, less those six, all but 16 is cut. If a line then still reaches past the
+-- room, the room begins, with the first of these that brings all of it inside, where the whitespace ends; or farther right,
+-- with spans and labels in the middle; or with the spans so that two fifths of what is left stand before them. If nothing
+-- does, the spans alone are shown
+abbrev pub margin_bounds : ℕ → ℕ → ℕ → ℕ → ℕ → ℕ → Bounds
+margin_bounds whitespace first last label_end room widest =
+    let blank = min whitespace first - 6 in
+    let from = first - 6 in
+    let to = capped_sum last 6 in
+    let after = capped_sum label_end 6 in
+    let left = if nat_lt 20 blank then blank - 16 else 0 in
+    let right = max widest left in
+    if nat_le (right - left) room then record { left = left; right = right }
+    else if nat_le (after - blank) room && nat_le blank after then room_from room blank
+    else if nat_le (after - from) room then room_from room (from - (room - (after - from)) / 2)
+    else if nat_le (to - from) room then room_from room (from - (room - (to - from)) / 5 * 2)
+    else record { left = from; right = to }

@@ -1,0 +1,148 @@
+-- The window of a line: the part of it that is shown.
+use Rattle.std.specs.Prelude.{◌≡◌, ℕ, ◌+◌, ◌-◌, ◌≤◌, ◌==◌, ◌&&◌, ◌||◌, ◌⊎◌, nat_lt, nat_le, min, zero, suc, Bool, false, not, List, [], ◌∷◌, ◌++◌, Option, Some}
+use Rattle.std.specs.Prelude.{None, is_none, chars, unwrap_or, length, take, drop, if◌then◌else◌}
+use Rattle.std.specs.List.{list_all, list_any}
+use Rattle.std.specs.Option.{option_map}
+use Rattle.std.specs.Char.{is_whitespace}
+use Rattle.snippet_model.specs.declared.snippet.Annotation.{Annotation}
+use Rattle.snippet_style.specs.Cell.{written}
+use Rattle.snippet_text.specs.Width.{char_width, width_of}
+use Rattle.snippet_lines.specs.Lines.{source_lines, text_at}
+use Rattle.snippet_lines.specs.Place.{end_location}
+use Rattle.snippet_parts.specs.Mark.{is_marking, is_single_line, is_marked_on, is_wide, start_column}
+use Rattle.snippet_parts.specs.Kept.{kept_lines}
+
+-- the columns of a character of leading whitespace: four of a tab, one of any other
+abbrev pub whitespace_width : ℕ → ℕ
+whitespace_width c = if c == 9 then 4 else 1
+
+-- the width of the whitespace that a line begins with; none of a blank line, which is nothing else
+abbrev pub leading_whitespace : List ℕ → Option ℕ
+leading_whitespace [] = None
+leading_whitespace (c ∷ cs) =
+    if is_whitespace c then option_map (λ columns. whitespace_width c + columns) (leading_whitespace cs) else Some 0
+
+-- how many characters, from the first on, reach so many columns: the fewest, or all
+abbrev pub reaching : ℕ → List ℕ → ℕ
+reaching columns [] = 0
+reaching columns (c ∷ cs) = if columns == 0 then 0 else reaching (columns - char_width c) cs + 1
+
+-- how many characters, from the first on, fit in so many columns: the most
+abbrev pub fitting : ℕ → List ℕ → ℕ
+fitting columns [] = 0
+fitting columns (c ∷ cs) = if nat_le (char_width c) columns then fitting (columns - char_width c) cs + 1 else 0
+
+-- where the window of a text begins, and where it ends, in columns, in a room of so many: at these bounds, but a text
+-- that fits after its beginning isn't cut at the right
+abbrev pub window_left : ℕ → List ℕ → ℕ
+window_left left text = min left (width_of text)
+
+abbrev pub window_right : ℕ → ℕ → ℕ → List ℕ → ℕ
+window_right room left right text =
+    if nat_le (width_of text - window_left left text) room then width_of text else min (width_of text) right
+
+-- the characters left of the window, and those in it
+abbrev pub dropped_part : ℕ → List ℕ → List ℕ
+dropped_part left text = take (reaching (window_left left text) text) text
+
+abbrev pub inner_part : ℕ → ℕ → ℕ → List ℕ → List ℕ
+inner_part room left right text =
+    let rest = drop (reaching (window_left left text) text) text in
+    take (fitting (window_right room left right text - window_left left text) rest) rest
+
+-- how many characters, up to the last one, reach so many columns: the fewest, or all
+abbrev pub reaching_last : ℕ → List ℕ → ℕ
+reaching_last columns [] = 0
+reaching_last columns (c ∷ cs) =
+    if nat_le columns (width_of cs) then reaching_last columns cs else length cs + 1
+
+-- where lines are cut on the left, the first characters in the window, as many as reach the width of the placeholder, give
+-- their place to it: these are the columns that they take, and the characters after them
+abbrev pub covered_columns : ℕ → List ℕ → List ℕ → Option ℕ
+covered_columns left placeholder inner =
+    if left == 0 then None else Some (width_of (take (reaching (width_of placeholder) inner) inner))
+
+abbrev pub uncovered_part : ℕ → List ℕ → List ℕ → List ℕ
+uncovered_part left placeholder inner =
+    if left == 0 then inner else drop (reaching (width_of placeholder) inner) inner
+
+-- where the line is cut on the right, the cell from which on the placeholder covers its last characters, as many as reach
+-- its width
+abbrev pub covered_end : ℕ → ℕ → ℕ → List ℕ → List ℕ → Option ℕ
+covered_end room left right placeholder text =
+    let inner = inner_part room left right text in
+    let at = unwrap_or (covered_columns left placeholder inner) 0 + length (uncovered_part left placeholder inner) in
+    if nat_lt (window_right room left right text) (width_of text) then Some (at - reaching_last (width_of placeholder) inner) else None
+
+-- a text, which stands after as many columns, if lines are cut on the left, with the placeholder at their beginning. If
+-- nothing stands after them, there is the placeholder alone
+abbrev pub begun_with : List ℕ → Option ℕ → List ℕ → List ℕ
+begun_with placeholder None text = text
+begun_with placeholder (Some columns) text =
+    if length text == 0 then placeholder else written 32 placeholder columns text
+
+-- a text with the placeholder over its end, from this cell on, if there is one
+abbrev pub ended_with : List ℕ → Option ℕ → List ℕ → List ℕ
+ended_with placeholder None text = text
+ended_with placeholder (Some at) text = written 32 text at placeholder
+
+-- the window of a text between these bounds: what stands in it, with the placeholder over each end that is cut
+abbrev pub window : List ℕ → ℕ → ℕ → ℕ → List ℕ → List ℕ
+window placeholder room left right text =
+    let inner = inner_part room left right text in
+    let begun = begun_with placeholder (covered_columns left placeholder inner) (uncovered_part left placeholder inner) in
+    ended_with placeholder (covered_end room left right placeholder text) begun
+
+-- one stretch of a text is replaced by the placeholder
+pub record IsReplaced (placeholder before after : List ℕ) : Type 0 where
+  pub front : List ℕ
+  pub stretch : List ℕ
+  pub back : List ℕ
+  pub before_is : before ≡ front ++ stretch ++ back
+  pub after_is : after ≡ front ++ placeholder ++ back
+
+-- at most n stretches of a text are replaced by the placeholder, one after the other
+abbrev pub AreReplaced : List ℕ → ℕ → List ℕ → List ℕ → Type 0
+AreReplaced placeholder zero before after = after ≡ before
+AreReplaced placeholder (suc n) before after =
+    (after ≡ before) ⊎ ((now : List ℕ) × IsReplaced placeholder before now × AreReplaced placeholder n now after)
+
+-- `shown` is the window of a text between these bounds, left of which so many columns are dropped; where the line has wide
+-- spans, one stretch for each may then be replaced by the placeholder
+pub record IsWindowOf (placeholder : List ℕ) (room wide left right : ℕ) (text : List ℕ) (dropped : ℕ) (shown : List ℕ) : Type 0 where
+  pub ordered : left ≤ right
+  pub dropped_is : dropped ≡ width_of (dropped_part left text)
+  pub shown_is : AreReplaced placeholder wide (window placeholder room left right text) shown
+
+-- the characters of line k of a source
+abbrev pub chars_at : List ℕ → ℕ → List ℕ
+chars_at source k = chars (text_at (source_lines source) k)
+
+-- the width is known and at most 26, up to which nothing is cut from the left
+abbrev pub is_near : Option ℕ → Bool
+is_near None = false
+is_near (Some columns) = nat_le columns 26
+
+-- the column of the mark at the end of a span of several lines: it is one column wide, and ends where the span does, which
+-- is one column farther right where the span ends after the end of its line's text
+abbrev pub end_mark_column : List ℕ → Annotation → ℕ
+end_mark_column source a =
+    (end_location (record { text = source; first = 0 }) a.span.start a.span.end).display - 1
+
+-- whether a span that is marked starts within those columns, or the mark at its end does
+abbrev pub is_near_span : List ℕ → Annotation → Bool
+is_near_span source a =
+    is_marking a.kind && (nat_le (start_column source a) 26 || (not (is_single_line source a) && nat_le (end_mark_column source a) 26))
+
+-- whether nothing is cut from the left of these lines: all are blank, or one begins after its whitespace within those
+-- columns, or a span does, or none is marked
+abbrev pub is_near_left : List ℕ → List ℕ → List Annotation → Bool
+is_near_left source kept marks =
+    list_all (λ k. is_none (leading_whitespace (chars_at source k))) kept || list_any (λ k. is_near (leading_whitespace (chars_at source k))) kept || list_any (is_near_span source) marks || list_all (λ a. not (is_marking a.kind)) marks
+
+-- whether line k stands whole, in a room of so many columns: it and all lines that are kept fit the room, nothing is
+-- cut from the left, and no span on the line is wide
+abbrev pub stands_whole : ℕ → ℕ → Bool → List ℕ → List Annotation → ℕ → Bool
+stands_whole room placeholder_width fold source marks k =
+    let kept = kept_lines fold source marks in
+    nat_le (width_of (chars_at source k)) room && list_all (λ j. nat_le (width_of (chars_at source j)) room) kept && is_near_left source kept marks && list_all (λ a. not (is_marked_on source k a && is_wide room placeholder_width source a)) marks
