@@ -2,7 +2,7 @@
 ghost use Rattle.std.specs.Prelude.{◌≡◌, ◌≤◌, ◌==◌, count_by, length, take};
 ghost use Rattle.snippet_lines.specs.Lines.{is_lf, last_byte, newline_count};
 
-use memchr::memchr;
+use std::simd::prelude::*;
 
 /// The number of line feeds in a text.
 pub fn line_feed_count(text: &str) -> usize
@@ -28,16 +28,38 @@ pub fn ends_with_line_feed(bytes: &[u8]) -> bool
     matches!(bytes, [.., b'\n'])
 }
 
-/// The number of line feeds in some bytes, from one find to the next.
+/// How many bytes are looked at together.
+const LANES: usize = 64;
+
+/// The number of line feeds in some bytes.
 fn count_line_feeds(bytes: &[u8]) -> usize
     ensures value { result ≡ count_by is_lf bytes.now }
     ensures bound { result ≤ length bytes.now }
 {
     let mut rest = bytes;
     let mut count = 0;
-    while let Some(at) = memchr(b'\n', rest) {
-        count += 1;
-        rest = &rest[at + 1..];
+    while LANES <= rest.len() {
+        let (lanes, after) = rest.split_at(LANES);
+        count += line_feeds_among(lanes);
+        rest = after;
     }
-    count
+    count + line_feeds_one_by_one(rest)
+}
+
+/// The number of line feeds among bytes that are looked at together.
+fn line_feeds_among(lanes: &[u8]) -> usize
+    requires full { length lanes.now ≡ 64 }
+    ensures value { result ≡ count_by is_lf lanes.now }
+{
+    let feeds = u8x64::from_slice(lanes)
+        .simd_eq(u8x64::splat(b'\n'))
+        .to_bitmask();
+    feeds.count_ones() as usize
+}
+
+/// The number of line feeds in a few bytes.
+fn line_feeds_one_by_one(bytes: &[u8]) -> usize
+    ensures value { result ≡ count_by is_lf bytes.now }
+{
+    bytes.iter().filter(|byte| **byte == b'\n').count()
 }

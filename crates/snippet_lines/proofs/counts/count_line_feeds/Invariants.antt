@@ -2,9 +2,9 @@ use Rattle.std.proofs.Common.{◌≡◌, ◌+◌, ◌≤◌, count_by, length}
 use Rattle.snippet_lines.specs.Lines.{is_lf}
 use Rattle.snippet_lines.proofs.counts.count_line_feeds.Given as goal
 
-abbrev pub invariant-loop-at : goal.invariant-loop-at
-invariant-loop-at l =
+abbrev pub invariant-loop-rest : goal.invariant-loop-rest
+invariant-loop-rest l =
     (l.count + count_by is_lf l.rest ≡ count_by is_lf l.fn.bytes) × (l.count + length l.rest ≤ length l.fn.bytes)
 
-abbrev pub decreases-loop-at : goal.decreases-loop-at
-decreases-loop-at l = length l.rest
+abbrev pub decreases-loop-rest : goal.decreases-loop-rest
+decreases-loop-rest l = length l.rest
