@@ -10,7 +10,7 @@ use Rattle.std.proofs.lemmas.Option.{slice_get-get_or, slice_get_within}
 use Rattle.snippet_model.specs.declared.snippet.Group.{Group}
 use Rattle.snippet_parts.proofs.PartLemmas.{All-unmapped}
 use Rattle.snippet_style.specs.declared.glyphs.DecorStyle.{DecorStyle}
-use Rattle.annotate_snippets.specs.Around.{drawn_elements, file_of_group, place_at}
+use Rattle.annotate_snippets.specs.Around.{drawn_elements, file_of_group, position_of_group}
 use Rattle.annotate_snippets.specs.Drawn.{AreGridsOf, HasRoomFor, IsGroupGrid}
 use Rattle.annotate_snippets.specs.Gutter.{code_after, depth_of_group, layout_of_group, gutter_of_report}
 use Rattle.annotate_snippets.specs.Prepared.{IsGroupDrawable, IsGroupPrepared, element_of}
@@ -28,7 +28,7 @@ pub record GridsSoFar (r : Renderer) (groups : List Group) (n : ℕ) (grids : Li
   pub count : length grids ≡ n
   pub levels : map (λ (grid : GroupGrid). grid.level) grids ≡ map (λ (g : Group). g.level) (take n groups)
   pub each : (i : ℕ) (g : Group) (grid : GroupGrid) → slice_get groups i ≡ Some g → slice_get grids i ≡ Some grid
-      → IsGroupGrid r (layout_of_group r groups g) (place_at (length groups) i) (file_of_group groups g) g grid.buffer
+      → IsGroupGrid r (layout_of_group r groups g) (position_of_group (length groups) i) (file_of_group groups g) g grid.buffer
 
 -- no grid stands for the first none of the groups
 pub grids_none : (r : Renderer) (groups : List Group) (grids : List GroupGrid) → grids ≡ [] → GridsSoFar r groups 0 grids
@@ -89,7 +89,7 @@ turn_room r groups ps n i p layout drawable prepared same turn is =
 pub turn_grid : (r : Renderer) (groups : List Group) (ps : List PreparedGroup) (n m i : ℕ) (p : PreparedGroup) (layout : Layout) (place : GroupPosition)
     (file : Option (List ℕ)) (grid : GroupGrid) (grids new : List GroupGrid) → map group_of ps ≡ groups
     → (n < length (enumerate_from 0 ps)) × ((i, p) ≡ get_or (enumerate_from 0 ps) n (i, p)) → layout ≡ layout_of_group r groups p.group.now
-    → place ≡ place_at (length groups) i → file ≡ file_of_group groups p.group.now → grid.level ≡ p.group.now.level
+    → place ≡ position_of_group (length groups) i → file ≡ file_of_group groups p.group.now → grid.level ≡ p.group.now.level
     → IsGroupGrid r layout place file p.group.now grid.buffer → new ≡ grids ++ grid ∷ [] → m ≡ n + 1 → GridsSoFar r groups n grids
     → GridsSoFar r groups m new
 turn_grid r groups ps n m i p layout place file grid grids new same turn layout_here place_here file_here level drawn pushed next before =
@@ -100,10 +100,10 @@ turn_grid r groups ps n m i p layout place file grid grids new same turn layout_
     let found : Some (get_or groups n g) ≡ Some g = sym (slice_get-get_or groups n g within) ∙ here in
     let is : get_or groups n g ≡ g = cc in
     let taken : take m groups ≡ take n groups ++ g ∷ [] = ap (λ k. take k groups) next ∙ take_more groups n g within ∙ ap (λ x. take n groups ++ x ∷ []) is in
-    let whole : IsGroupGrid r (layout_of_group r groups g) (place_at (length groups) n) (file_of_group groups g) g grid.buffer =
-    subst (λ f. IsGroupGrid r f (place_at (length groups) n) (file_of_group groups g) g grid.buffer)
+    let whole : IsGroupGrid r (layout_of_group r groups g) (position_of_group (length groups) n) (file_of_group groups g) g grid.buffer =
+    subst (λ f. IsGroupGrid r f (position_of_group (length groups) n) (file_of_group groups g) g grid.buffer)
     layout_here (subst (λ at_place. IsGroupGrid r layout at_place (file_of_group groups g) g grid.buffer)
-    (place_here ∙ ap (place_at (length groups)) at) (subst (λ path. IsGroupGrid r layout place path g grid.buffer) file_here drawn)) in
+    (place_here ∙ ap (position_of_group (length groups)) at) (subst (λ path. IsGroupGrid r layout place path g grid.buffer) file_here drawn)) in
     record {
       count = ap length pushed ∙ omega (arith, length-append grids (grid ∷ []), before.count, next);
       levels = ap (map (λ (d : GroupGrid). d.level)) pushed ∙ map-append (λ (d : GroupGrid). d.level) grids (grid ∷ [])
@@ -119,9 +119,9 @@ turn_grid r groups ps n m i p layout place file grid grids new same turn layout_
                 let group_same : Some g ≡ Some h = sym here ∙ ap (slice_get groups) equal ∙ is_group in
                 let grid_same : grid ≡ d = last grids grid d j (before.count ∙ equal) put in
                 let g_is : g ≡ h = cc in
-                subst (λ k. IsGroupGrid r (layout_of_group r groups h) (place_at (length groups) k) (file_of_group groups h) h d.buffer)
-                equal (subst (λ x. IsGroupGrid r (layout_of_group r groups h) (place_at (length groups) n) (file_of_group groups h) h x.buffer)
-                grid_same (subst (λ y. IsGroupGrid r (layout_of_group r groups y) (place_at (length groups) n) (file_of_group groups y) y grid.buffer)
+                subst (λ k. IsGroupGrid r (layout_of_group r groups h) (position_of_group (length groups) k) (file_of_group groups h) h d.buffer)
+                equal (subst (λ x. IsGroupGrid r (layout_of_group r groups h) (position_of_group (length groups) n) (file_of_group groups h) h x.buffer)
+                grid_same (subst (λ y. IsGroupGrid r (layout_of_group r groups y) (position_of_group (length groups) n) (file_of_group groups y) y grid.buffer)
                 g_is whole))
           ];
     }

@@ -45,7 +45,7 @@ use Rattle.snippet_strokes.specs.Painting.{first_glyph, mark_end, painting_order
 use Rattle.snippet_strokes.specs.Drawing.{row_count}
 use Rattle.snippet_labels.specs.Positions.{has_label}
 use Rattle.snippet_strokes.specs.SourceRows.{bare_row}
-use Rattle.snippet_strokes.specs.Strokes.{StrokesPainted, bar_of, begun_rows, connector_of, connectors_of, corner_by, corner_of}
+use Rattle.snippet_strokes.specs.Strokes.{StrokesPainted, bar_writes, begun_rows, connector_of, connectors_of, corner_by, corner_of}
 use Rattle.snippet_strokes.specs.Strokes.{corners_of, label_of, label_write, labels_of, stem_write, stems_of, line_strokes, column_of}
 use Rattle.snippet_strokes.specs.Writes.{Write, glyph_at, painted, stretch_of}
 use Rattle.snippet_grid.specs.Layout.{Layout, bar_cell as bar_column}
@@ -134,7 +134,7 @@ module _ (layout : Layout) where
   corners_plain row count es =
       All-flat_map IsPlainWrite (corner_of layout row count) es (λ k d within. by_part (get_or es k d) (get_or es k d).entry.annotation_type)
     where
-      bar : (e : _) (depth start end : ℕ) → All IsPlainWrite (bar_of layout e depth start end)
+      bar : (e : _) (depth start end : ℕ) → All IsPlainWrite (bar_writes layout e depth start end)
       bar e depth start end =
           column_plain start end (bar_column layout depth) _ (stroke_role e) (bars_plain layout.decor (is_primary e.entry.kind)).bar
 
@@ -144,13 +144,13 @@ module _ (layout : Layout) where
           let at : ℕ = row + 1 + e.position in
           let corner : ℕ = (strokes_of layout.decor (is_primary e.entry.kind)).bar_top in
           let first : Write = glyph_at at (bar_column layout depth) corner (stroke_role e) in
-          All-cons IsPlainWrite first (bar_of layout e depth (at + 1) count) (alone corner (bars_plain layout.decor (is_primary e.entry.kind)).bar_top) (bar e depth (at + 1) count)
+          All-cons IsPlainWrite first (bar_writes layout e depth (at + 1) count) (alone corner (bars_plain layout.decor (is_primary e.entry.kind)).bar_top) (bar e depth (at + 1) count)
       by_part e (MultilineEnd depth) =
           let at : ℕ = row + 1 + e.position in
           let corner : ℕ = (strokes_of layout.decor (is_primary e.entry.kind)).bar_bottom in
           let last : Write = glyph_at at (bar_column layout depth) corner (stroke_role e) in
           let one : All IsPlainWrite (last ∷ []) = All-cons IsPlainWrite last [] (alone corner (bars_plain layout.decor (is_primary e.entry.kind)).bar_bottom) (All-nil IsPlainWrite) in
-          All-append IsPlainWrite (bar_of layout e depth row at) (last ∷ []) (bar e depth row at) one
+          All-append IsPlainWrite (bar_writes layout e depth row at) (last ∷ []) (bar e depth row at) one
       by_part e (MultilineLine depth) = All-nil IsPlainWrite
 
   stems_plain : (row : ℕ) (es : _) → All IsPlainWrite (stems_of layout row es)

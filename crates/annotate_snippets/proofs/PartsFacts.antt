@@ -22,7 +22,7 @@ use Rattle.snippet_parts.specs.declared.entries.LineAnnotation.{LineAnnotation}
 use Rattle.snippet_parts.specs.declared.entries.LineAnnotationType.{LineAnnotationType}
 use Rattle.snippet_parts.specs.declared.entries.LineAnnotationType.TheVariants.{Singleline, MultilineStart, MultilineEnd, MultilineLine}
 use Rattle.snippet_window.specs.declared.margin.Margin.{Margin}
-use Rattle.snippet_parts.specs.Entries.{Ascends, HasDepthWithin, HasRoom}
+use Rattle.snippet_parts.specs.Entries.{Ascends, HasDepthWithin, HasColumnRoom}
 use Rattle.snippet_parts.proofs.EntryFacts.{depths-fit, each-line, labels-fit, places-fit, texts-fit, untouched-parts, wide-count}
 use Rattle.snippet_window.proofs.MarginLaws.{margin_of_kept}
 use Rattle.snippet_window.proofs.UncutLaws.{margin_whole}
@@ -114,8 +114,8 @@ module _ (s : Source) (marks : List Annotation) (spans : All (λ a. IsSpan s.tex
 
   -- the entries of kept lines have places, where the source fits
   pub lines_places : length s.text < 2 ^ 56 → All (λ info. All HasPlace info.annotations.items) infos
-  lines_places short = All-weaker (λ (info : AnnotatedLineInfo). All HasRoom info.annotations.items) (λ info. All HasPlace info.annotations.items)
-      (λ info places. All-weaker HasRoom HasPlace (λ e room. record { ordered = room.0; near = room.1 }) info.annotations.items places)
+  lines_places short = All-weaker (λ (info : AnnotatedLineInfo). All HasColumnRoom info.annotations.items) (λ info. All HasPlace info.annotations.items)
+      (λ info places. All-weaker HasColumnRoom HasPlace (λ e room. record { ordered = room.0; near = room.1 }) info.annotations.items places)
       infos (places-fit s marks ks infos same short)
 
   -- the bars on kept lines have cells between the gutter and the code, where the code stands far enough right

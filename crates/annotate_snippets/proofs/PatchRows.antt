@@ -30,7 +30,7 @@ use Rattle.snippet_suggest.specs.declared.SuggestionStart.{SuggestionStart}
 use Rattle.snippet_suggest.specs.declared.SuggestionStart.TheVariants.{Opening, Next, Path}
 use Rattle.snippet_suggest.specs.Given.{counted_line, first_given, given_lines, given_text}
 use Rattle.snippet_suggest.specs.Order.{Ends, SuggestionRow, rows_of_suggestion}
-use Rattle.snippet_suggest.specs.Rows.{AddsSuggestion, HasGutter, IsStart, IsStrokeRow, IsTail, Shows, begin_glyph, beside_gutter, is_stroke, rows_shared}
+use Rattle.snippet_suggest.specs.Rows.{AddsSuggestion, HasGutter, IsStart, IsEdgeRow, IsTail, Shows, begin_glyph, beside_gutter, is_stroke, rows_shared}
 use Rattle.snippet_suggest.specs.Suggested.{body_cells, cells_of as row_cells, suggestion_cells}
 use Rattle.snippet_suggest.proofs.BareLemmas.{stroke_led}
 use Rattle.snippet_suggest.proofs.DrawnLemmas.{zip_push}
@@ -44,7 +44,7 @@ use Rattle.snippet_grid.specs.Layout.{Layout}
 use Rattle.annotate_snippets.specs.declared.renderer.element_context.ElementContext.{ElementContext}
 
 -- the separator row shows no line
-pub separator_stroke : (decor : DecorStyle) (gutter : ℕ) → IsStrokeRow decor gutter (beside_gutter gutter (begin_glyph decor Path)) (separator_row decor gutter)
+pub separator_stroke : (decor : DecorStyle) (gutter : ℕ) → IsEdgeRow decor gutter (beside_gutter gutter (begin_glyph decor Path)) (separator_row decor gutter)
 separator_stroke decor gutter =
     stroke_led decor gutter (gutter + 1) LineNumber (separator_of decor ∷ []) (omega arith) (strokes decor) (unlisted decor)
   where

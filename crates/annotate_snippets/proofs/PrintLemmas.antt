@@ -2,7 +2,7 @@
 use Rattle.std.proofs.Common.{◌≡◌, ℕ, zero, suc, ◌+◌, ◌<◌, List, [], ◌∷◌, ◌++◌, length, take, get_or, refl, sym, ap, subst, ◌∙◌, arith}
 use Rattle.std.specs.List.{AllZip, flat_map, join_with_byte}
 use Rattle.std.proofs.lemmas.List.{append_assoc, take_more}
-use Rattle.snippet_grid.specs.Woven.{AddsRows, Prints, piece_text}
+use Rattle.snippet_grid.specs.Woven.{WeavesRows, Prints, piece_text}
 use Rattle.snippet_style.specs.declared.stylesheet.Stylesheet.{Stylesheet}
 use Rattle.annotate_snippets.specs.Page.{PrintsGrids}
 use Rattle.annotate_snippets.specs.declared.renderer.graphic.GroupGrid.{GroupGrid}
@@ -25,7 +25,7 @@ abbrev pub IsPart : Stylesheet → GroupGrid → List ℕ → Type 0
 IsPart sheet grid part = Prints sheet grid.level grid.buffer part
 
 -- what was added to a text is such a part
-pub IsPart-added : (sheet : Stylesheet) (grid : GroupGrid) (old new : List ℕ) (adds : AddsRows sheet grid.level grid.buffer old new)
+pub IsPart-added : (sheet : Stylesheet) (grid : GroupGrid) (old new : List ℕ) (adds : WeavesRows sheet grid.level grid.buffer old new)
     → IsPart sheet grid (flat_map piece_text adds.pieces)
 IsPart-added sheet grid old new adds = record { pieces = adds.pieces; text_is = refl; prints = adds.are }
 

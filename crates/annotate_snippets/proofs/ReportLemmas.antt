@@ -19,7 +19,7 @@ use Rattle.snippet_model.specs.Trusted.{trusted_texts}
 use Rattle.snippet_model.specs.declared.snippet.Group.{Group}
 use Rattle.annotate_snippets.specs.declared.renderer.Renderer.{Renderer}
 use Rattle.annotate_snippets.specs.declared.renderer.graphic.GroupGrid.{GroupGrid}
-use Rattle.annotate_snippets.specs.Around.{drawn_elements, file_of_group, next_of, place_at}
+use Rattle.annotate_snippets.specs.Around.{drawn_elements, file_of_group, next_of, position_of_group}
 use Rattle.annotate_snippets.specs.Drawn.{AreGridsOf}
 use Rattle.annotate_snippets.specs.Fault.{first_fault, first_refusal, form_of, missing_title}
 use Rattle.annotate_snippets.specs.Feeds.{HasOneLineRows, HasOneLineTexts, IsOneLineGroup}
@@ -56,16 +56,16 @@ one_more n i = omega arith
 module _ (r : Renderer) (groups : List Group) where
   -- a group of the report, which stands at this place in it
   abbrev IsShownAt : ℕ → Group → GroupPage → Type 0
-  IsShownAt i g page = ShowsGroup r (layout_of_group r groups g) (place_at (length groups) i) (file_of_group groups g) g page
+  IsShownAt i g page = ShowsGroup r (layout_of_group r groups g) (position_of_group (length groups) i) (file_of_group groups g) g page
 
   abbrev IsGridShown : ℕ → Group → GroupGrid → Type 0
   IsGridShown i g grid =
-      GroupShown r (layout_of_group r groups g) (place_at (length groups) i) (file_of_group groups g) g grid.buffer
+      GroupShown r (layout_of_group r groups g) (position_of_group (length groups) i) (file_of_group groups g) g grid.buffer
 
   -- the page of a group of the report, which stands at this place in it
   abbrev page_at : ℕ × Group → GroupPage
   page_at pair =
-      group_page r (layout_of_group r groups pair.1) (place_at (length groups) pair.0) (file_of_group groups pair.1) pair.1
+      group_page r (layout_of_group r groups pair.1) (position_of_group (length groups) pair.0) (file_of_group groups pair.1) pair.1
 
   -- the page of some groups, whose grids these are, and of which the first is the report's n-th
   record PageOf (n : ℕ) (gs : List Group) (grids : List GroupGrid) : Type 0 where
@@ -159,7 +159,7 @@ module _ (r : Renderer) (groups : List Group) (grids : List GroupGrid) (drawable
   report_page =
       PageOf-grids r groups 0 groups grids are.levels
       (λ i g grid at there. subst (λ k. IsGridShown r groups k g grid) (sym (zero-add i))
-      (group_shown r (layout_of_group r groups g) (place_at (length groups) i) (file_of_group groups g) g grid.buffer (All-in i g at)
+      (group_shown r (layout_of_group r groups g) (position_of_group (length groups) i) (file_of_group groups g) g grid.buffer (All-in i g at)
       (room_in_report r groups drawable i g at) (are.each i g grid at there)))
     where
       All-in : (i : ℕ) (g : Group) → slice_get groups i ≡ Some g → IsGroupDrawable g
@@ -206,8 +206,8 @@ module _ (r : Renderer) (groups : List Group) (grids : List GroupGrid) (drawable
         links = links_of_page;
         one_line = report_page.one_line;
         lines = λ plain. lines_of_page report_page.page (report_page.one_line plain);
-        numbers = λ i g part at there. group_numbered r (layout_of_group r groups g) (place_at (length groups) i) (file_of_group groups g) (drawn_elements g) part (page_shows.each i g part at there).elements;
-        titles = λ i g part title at there titled words. group_title_unnumbered r (layout_of_group r groups g) (place_at (length groups) i) (next_of (drawn_elements g)) g.title title part.title (page_shows.each i g part at there).title titled words;
+        numbers = λ i g part at there. group_numbered r (layout_of_group r groups g) (position_of_group (length groups) i) (file_of_group groups g) (drawn_elements g) part (page_shows.each i g part at there).elements;
+        titles = λ i g part title at there titled words. group_title_unnumbered r (layout_of_group r groups g) (position_of_group (length groups) i) (next_of (drawn_elements g)) g.title title part.title (page_shows.each i g part at there).title titled words;
       })
 
 -- a text that prints a page is woven of its characters, with what it links to

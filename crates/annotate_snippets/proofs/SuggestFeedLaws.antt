@@ -32,7 +32,7 @@ use Rattle.snippet_style.specs.Glyphs.{suggestion_glyph_of, suggestion_role_of}
 use Rattle.snippet_suggest.specs.Order.{Begins, Empty, Ends, Offers, Removes, Skips, SuggestionRow, is_diff, number_after, rows_of_suggestion}
 use Rattle.snippet_suggest.specs.Rows.{IsBareRow, IsBeforeSign, IsLeftOver, IsMarkOrSpace, IsRemovedRow, Shows, is_stroke}
 use Rattle.snippet_suggest.specs.Shown.{is_touched}
-use Rattle.snippet_suggest.specs.Suggested.{body_cells, cells_of as row_cells, cells_over, new_on, replaced_on, with_left_out}
+use Rattle.snippet_suggest.specs.Suggested.{body_cells, cells_of as row_cells, cells_over, new_on, suggested_stretches, with_left_out}
 use Rattle.snippet_suggest.specs.declared.SuggestionLayout.{SuggestionLayout}
 use Rattle.snippet_suggest.specs.declared.SuggestionStart.{SuggestionStart}
 use Rattle.snippet_suggest.specs.declared.SuggestionStart.TheVariants as start
@@ -251,7 +251,7 @@ module _ (suggested : SuggestionLayout) (s : Snippet Patch) (utf8 : IsUtf8 (give
       → AllZip IsPlainOffer shown (with_left_out suggested s lines rows)
   offers_left_out [] shown rows plain = plain
   offers_left_out (line ∷ lines) shown rows plain =
-      let gone : List SubstitutionHighlight = cond (bytes_eq line (last_reached s)) (replaced_on s (last_line_reached (cow_str_bytes s.source) (edits_of s) - first_given s)) [] in
+      let gone : List SubstitutionHighlight = cond (bytes_eq line (last_reached s)) (suggested_stretches s (last_line_reached (cow_str_bytes s.source) (edits_of s) - first_given s)) [] in
       let f : List Cell → List Cell = left_out_cells suggested.base.gutter line gone (new_on s 0) in
       let keeps : (row : List Cell) → HasNoFeed row → HasNoFeed (f row) =
       λ row own. stretches_plain Addition suggested.base.gutter (chars line) (new_on s 0) (with_stretches Removal suggested.base.gutter (chars line) gone row) (stretches_plain Removal suggested.base.gutter (chars line) gone row own) in

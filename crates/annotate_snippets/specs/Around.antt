@@ -122,8 +122,8 @@ context_at place file es i e =
     }
 
 -- where group i of so many stands
-abbrev pub place_at : ℕ → ℕ → GroupPosition
-place_at count i = if count == 1 then place.Only else (if i == 0 then place.First else place.Later)
+abbrev pub position_of_group : ℕ → ℕ → GroupPosition
+position_of_group count i = if count == 1 then place.Only else (if i == 0 then place.First else place.Later)
 
 -- whether a group is its report's first, and whether it is the first of several
 abbrev pub is_first_group : GroupPosition → Bool

@@ -31,7 +31,7 @@ use Rattle.snippet_grid.specs.Layout.{Layout}
 use Rattle.annotate_snippets.specs.declared.renderer.graphic.GroupGrid.{GroupGrid}
 use Rattle.annotate_snippets.specs.declared.renderer.element_context.GroupPosition.{GroupPosition}
 use Rattle.annotate_snippets.specs.declared.renderer.element_context.ElementContext.{ElementContext}
-use Rattle.annotate_snippets.specs.Around.{closes_with, drawn_elements, file_of_group, is_end, next_of, place_at, context_at, suggestion_rows}
+use Rattle.annotate_snippets.specs.Around.{closes_with, drawn_elements, file_of_group, is_end, next_of, position_of_group, context_at, suggestion_rows}
 use Rattle.annotate_snippets.specs.Gutter.{code_after, depth_of_element, layout_of_group, line_numbers, numbered_source, width_wanted}
 use Rattle.annotate_snippets.specs.Rows.{cause_head, message_rows, origin_rows, rows_after_cause, suggestion_head, title_part}
 use Rattle.snippet_model.specs.declared.snippet.Title.{Title}
@@ -168,7 +168,7 @@ pub record IsGroupGrid (r : Renderer) (layout : Layout) (place : GroupPosition) 
 pub record AreGridsOf (r : Renderer) (groups : List Group) (grids : List GroupGrid) : Type 0 where
   pub levels : map (λ grid. grid.level) grids ≡ map (λ g. g.level) groups
   pub each : (i : ℕ) (g : Group) (grid : GroupGrid) → slice_get groups i ≡ Some g → slice_get grids i ≡ Some grid
-      → IsGroupGrid r (layout_of_group r groups g) (place_at (length groups) i) (file_of_group groups g) g grid.buffer
+      → IsGroupGrid r (layout_of_group r groups g) (position_of_group (length groups) i) (file_of_group groups g) g grid.buffer
 
 -- the one grid of the short form is that of the first group, which has a title
 pub record IsShortPage (r : Renderer) (groups : List Group) (grids : List GroupGrid) : Type 0 where

@@ -33,7 +33,7 @@ use Rattle.annotate_snippets.specs.declared.renderer.Renderer.{Renderer}
 use Rattle.snippet_grid.specs.Layout.{Layout}
 use Rattle.annotate_snippets.specs.declared.renderer.element_context.GroupPosition.{GroupPosition}
 use Rattle.annotate_snippets.specs.declared.renderer.element_context.ElementContext.{ElementContext}
-use Rattle.annotate_snippets.specs.Around.{closes_with, context_at, drawn_elements, file_of_group, is_end, next_of, place_at, suggestion_rows}
+use Rattle.annotate_snippets.specs.Around.{closes_with, context_at, drawn_elements, file_of_group, is_end, next_of, position_of_group, suggestion_rows}
 use Rattle.annotate_snippets.specs.Drawn.{found_at, suggestion_lines}
 use Rattle.annotate_snippets.specs.Gutter.{layout_of_group, number_text, numbered_source}
 use Rattle.annotate_snippets.specs.LineRows.{bars_on, entries_on}
@@ -142,5 +142,5 @@ group_page r layout place file g =
 -- the page of a report
 abbrev pub graphic_form : Renderer → List Group → Page
 graphic_form r groups =
-    map (λ pair. group_page r (layout_of_group r groups pair.1) (place_at (length groups) pair.0) (file_of_group groups pair.1) pair.1)
+    map (λ pair. group_page r (layout_of_group r groups pair.1) (position_of_group (length groups) pair.0) (file_of_group groups pair.1) pair.1)
     (enumerate_from 0 groups)

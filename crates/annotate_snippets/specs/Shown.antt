@@ -60,7 +60,7 @@ use Rattle.snippet_grid.specs.Layout.{Layout, code_cell, inner_cell}
 use Rattle.annotate_snippets.specs.declared.renderer.element_context.GroupPosition.{GroupPosition}
 use Rattle.annotate_snippets.specs.declared.renderer.element_context.Next.{Next}
 use Rattle.annotate_snippets.specs.declared.renderer.element_context.ElementContext.{ElementContext}
-use Rattle.annotate_snippets.specs.Around.{closes_with, drawn_elements, file_of_group, is_end, next_of, path_bytes, place_at, context_at, suggestion_rows}
+use Rattle.annotate_snippets.specs.Around.{closes_with, drawn_elements, file_of_group, is_end, next_of, path_bytes, position_of_group, context_at, suggestion_rows}
 use Rattle.annotate_snippets.specs.Drawn.{found_at, suggestion_layout, suggestion_lines}
 pub use Rattle.annotate_snippets.specs.GraphicForm.{name_of_row}
 use Rattle.annotate_snippets.specs.GraphicForm.{graphic_form}
@@ -381,7 +381,7 @@ pub record ShowsGroup (r : Renderer) (layout : Layout) (place : GroupPosition) (
 pub record AreGroupsShown (r : Renderer) (groups : List Group) (page : Page) : Type 0 where
   pub count : length page ≡ length groups
   pub each : (i : ℕ) (g : Group) (part : GroupPage) → slice_get groups i ≡ Some g → slice_get page i ≡ Some part
-      → ShowsGroup r (layout_of_group r groups g) (place_at (length groups) i) (file_of_group groups g) g part
+      → ShowsGroup r (layout_of_group r groups g) (position_of_group (length groups) i) (file_of_group groups g) g part
 
 -- each listed character is one of a trusted text
 abbrev pub IsFreeBut : List (List ℕ) → List ℕ → Type 0

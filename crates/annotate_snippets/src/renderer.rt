@@ -9,7 +9,6 @@ mod error;
 mod form;
 mod graphic;
 mod gutter;
-mod judge;
 mod layout;
 pub mod parts;
 mod paths;
@@ -20,13 +19,13 @@ mod suggestions;
 mod text_form;
 mod title;
 mod to_writer;
+mod validate;
 
 pub use crate::snippet::Id;
 use crate::snippet::Report;
 use drawn::{Drawn, draw, text_under, texts_under};
 pub use error::RenderError;
 use form::form_of;
-use judge::first_refusal;
 pub use snippet_model::MessageOrTitle;
 pub use snippet_style::{
     DEFAULT_ADDITION_STYLE, DEFAULT_CONTEXT_STYLE, DEFAULT_EMPHASIS_STYLE, DEFAULT_ERROR_STYLE,
@@ -36,6 +35,7 @@ pub use snippet_style::{
 use std::alloc::Global;
 pub use style::{AnsiColor, Color, Effects, Style, Stylesheet, open_code, reset_code};
 pub use to_writer::RenderToError;
+use validate::first_refusal;
 
 /// The width that lines are cut to where no other is set, in columns.
 pub const DEFAULT_TERM_WIDTH: usize = 140;

@@ -8,7 +8,7 @@ use std::fmt;
 
 /// What is wrong with a document.
 #[derive(Drop)]
-pub struct Troubles {
+pub struct Problems {
     alloc: Global,
     /// Lines `WAY: expected WHAT`, in the order of reading.
     pub lines: Vec<String>,
@@ -16,10 +16,10 @@ pub struct Troubles {
     pub is_refused: bool,
 }
 
-impl Troubles {
+impl Problems {
     /// Nothing is wrong yet.
-    pub fn new(alloc: Global) -> Troubles {
-        Troubles {
+    pub fn new(alloc: Global) -> Problems {
+        Problems {
             alloc,
             lines: Vec::new(alloc),
             is_refused: false,
@@ -63,18 +63,18 @@ impl<'v> List<'v, '_> {
 
 impl<'v> Node<'v, '_> {
     /// Tells that this was expected here.
-    pub fn tell<E: fmt::Display + Copy>(&self, troubles: &mut Troubles, expected: E) {
-        troubles.add(self.place, expected);
+    pub fn tell<E: fmt::Display + Copy>(&self, problems: &mut Problems, expected: E) {
+        problems.add(self.place, expected);
     }
 
     /// Tells that this was expected in the field of this name.
     pub fn tell_field<E: fmt::Display + Copy>(
         &self,
         name: &str,
-        troubles: &mut Troubles,
+        problems: &mut Problems,
         expected: E,
     ) {
-        troubles.add(Place::Field(&self.place, name), expected);
+        problems.add(Place::Field(&self.place, name), expected);
     }
 
     /// What stands in the field of this name.
@@ -91,31 +91,31 @@ impl<'v> Node<'v, '_> {
     }
 
     /// Whether the value is an object.
-    pub fn is_object(&self, troubles: &mut Troubles) -> bool {
+    pub fn is_object(&self, problems: &mut Problems) -> bool {
         let is_object = self.value.is_object();
         if !is_object {
-            self.tell(troubles, Expectation::Object);
+            self.tell(problems, Expectation::Object);
         }
         is_object
     }
 
     /// The object in the field of this name, which has to be there.
-    pub fn needed<'n>(&'n self, name: &'n str, troubles: &mut Troubles) -> Option<Node<'v, 'n>> {
+    pub fn needed<'n>(&'n self, name: &'n str, problems: &mut Problems) -> Option<Node<'v, 'n>> {
         if !self.has(name) {
-            self.tell_field(name, troubles, Expectation::Object);
+            self.tell_field(name, problems, Expectation::Object);
         }
-        self.object(name, troubles)
+        self.object(name, problems)
     }
 
     /// The object in the field of this name.
-    pub fn object<'n>(&'n self, name: &'n str, troubles: &mut Troubles) -> Option<Node<'v, 'n>> {
+    pub fn object<'n>(&'n self, name: &'n str, problems: &mut Problems) -> Option<Node<'v, 'n>> {
         match self.field(name) {
             Some(value) if value.is_object() => Some(Node {
                 value,
                 place: Place::Field(&self.place, name),
             }),
             Some(_) => {
-                self.tell_field(name, troubles, Expectation::Object);
+                self.tell_field(name, problems, Expectation::Object);
                 None
             }
             None => None,
@@ -123,13 +123,13 @@ impl<'v> Node<'v, '_> {
     }
 
     /// The list in the field of this name; an empty one where there is none.
-    pub fn list<'n>(&'n self, name: &'n str, troubles: &mut Troubles) -> List<'v, 'n> {
+    pub fn list<'n>(&'n self, name: &'n str, problems: &mut Problems) -> List<'v, 'n> {
         let items: &'v [Value] = match self.field(name) {
             None => &[],
             Some(value) => match value.as_array() {
                 Some(items) => items.as_slice(),
                 None => {
-                    self.tell_field(name, troubles, Expectation::List);
+                    self.tell_field(name, problems, Expectation::List);
                     &[]
                 }
             },
@@ -141,39 +141,39 @@ impl<'v> Node<'v, '_> {
     }
 
     /// The list in the field of this name, which has to be there.
-    pub fn needed_list<'n>(&'n self, name: &'n str, troubles: &mut Troubles) -> List<'v, 'n> {
+    pub fn needed_list<'n>(&'n self, name: &'n str, problems: &mut Problems) -> List<'v, 'n> {
         if !self.has(name) {
-            self.tell_field(name, troubles, Expectation::List);
+            self.tell_field(name, problems, Expectation::List);
         }
-        self.list(name, troubles)
+        self.list(name, problems)
     }
 
     /// The text in the field of this name.
-    pub fn text(&self, name: &str, troubles: &mut Troubles) -> Option<&'v str> {
+    pub fn text(&self, name: &str, problems: &mut Problems) -> Option<&'v str> {
         let value = self.field(name);
         let text = value.and_then(Value::as_str);
         if value.is_some() && text.is_none() {
-            self.tell_field(name, troubles, Expectation::AnyText);
+            self.tell_field(name, problems, Expectation::AnyText);
         }
         text
     }
 
     /// The text in the field of this name, which has to be there.
-    pub fn needed_text(&self, name: &str, troubles: &mut Troubles) -> Option<&'v str> {
+    pub fn needed_text(&self, name: &str, problems: &mut Problems) -> Option<&'v str> {
         if !self.has(name) {
-            self.tell_field(name, troubles, Expectation::AnyText);
+            self.tell_field(name, problems, Expectation::AnyText);
         }
-        self.text(name, troubles)
+        self.text(name, problems)
     }
 
     /// The whole number in the field of this name. The number -1 stands for none.
-    pub fn number(&self, name: &str, troubles: &mut Troubles) -> Option<usize> {
+    pub fn number(&self, name: &str, problems: &mut Problems) -> Option<usize> {
         let value = self.field(name)?;
         match value.as_u64() {
             Some(number) => Some(number as usize),
             None => {
                 if value.as_i64() != Some(-1) {
-                    self.tell_field(name, troubles, Expectation::FromZero);
+                    self.tell_field(name, problems, Expectation::FromZero);
                 }
                 None
             }
@@ -181,10 +181,10 @@ impl<'v> Node<'v, '_> {
     }
 
     /// The line or the column in the field of this name, counted from 1.
-    pub fn from_one(&self, name: &str, troubles: &mut Troubles) -> Option<usize> {
+    pub fn from_one(&self, name: &str, problems: &mut Problems) -> Option<usize> {
         let number = self.field(name)?.as_u64().unwrap_or(0);
         if number == 0 {
-            self.tell_field(name, troubles, Expectation::FromOne);
+            self.tell_field(name, problems, Expectation::FromOne);
             return None;
         }
         Some(number as usize)

@@ -8,14 +8,14 @@ ghost use Rattle.redraw_read.specs.Placed.{IsFindingOf, IsMarkOf, IsRemarkOf, at
 
 use crate::hand::Hand;
 use crate::offers::offers_of;
-use crate::sources::{Shelf, Sources, first_home};
+use crate::sources::{SourceFiles, Sources, first_home};
 pub use crate::spot::Placing;
 use redraw_report::diagnostic::{Child, Diagnostic, Edit, FileSpan};
 use redraw_report::finding::{Finding, Mark, Remark};
 use std::alloc::{AllocError, Global};
 
 /// Reads each file that a diagnostic speaks of.
-pub fn load_files<S: Shelf + Drop>(
+pub fn load_files<S: SourceFiles + Drop>(
     sources: &mut Sources<S>,
     diagnostic: &Diagnostic,
 ) -> Result<(), AllocError> {
@@ -29,7 +29,7 @@ pub fn load_files<S: Shelf + Drop>(
 }
 
 /// Reads each file that these places are in.
-fn load_spans<S: Shelf + Drop>(
+fn load_spans<S: SourceFiles + Drop>(
     sources: &mut Sources<S>,
     homes: &[String],
     spans: &[FileSpan],
@@ -41,7 +41,7 @@ fn load_spans<S: Shelf + Drop>(
 }
 
 /// Reads each file that these alternatives change.
-fn load_edits<S: Shelf + Drop>(
+fn load_edits<S: SourceFiles + Drop>(
     sources: &mut Sources<S>,
     homes: &[String],
     alternatives: &[Vec<Edit>],
@@ -65,7 +65,7 @@ impl Placing {
     }
 
     /// The finding that a diagnostic reports. In the short form places are told by marks alone.
-    pub fn finding<'a, S: Shelf + Drop>(
+    pub fn finding<'a, S: SourceFiles + Drop>(
         &mut self,
         sources: &'a Sources<S>,
         diagnostic: &'a Diagnostic,

@@ -10,7 +10,7 @@ use crate::source::Source;
 use std::alloc::{AllocError, Global};
 
 /// Where files are read from.
-pub trait Shelf {
+pub trait SourceFiles {
     /// The bytes of the file of this name; `None` where it can't be read.
     fn bytes(&self, name: &str) -> Result<Option<Vec<u8>>, AllocError>;
 }
@@ -48,24 +48,24 @@ impl File {
 #[derive(Drop)]
 pub struct Sources<S: Drop> {
     alloc: Global,
-    shelf: S,
+    source_files: S,
     files: Vec<File>,
     /// The names of those that couldn't be read, until they are told.
     unread: Vec<String>,
 }
 
-impl<S: Shelf + Drop> Sources<S> {
-    /// No files yet; they are read from this shelf.
-    pub fn new(alloc: Global, shelf: S) -> Sources<S> {
+impl<S: SourceFiles + Drop> Sources<S> {
+    /// No files yet; they are read from this source_files.
+    pub fn new(alloc: Global, source_files: S) -> Sources<S> {
         Sources {
             alloc,
-            shelf,
+            source_files,
             files: Vec::new(alloc),
             unread: Vec::new(alloc),
         }
     }
 
-    /// Reads the file of this name, unless it was asked for before. One that isn't on the shelf by its name is looked for
+    /// Reads the file of this name, unless it was asked for before. One that isn't on the source_files by its name is looked for
     /// below the folders of these files.
     pub fn load(&mut self, name: &str, homes: &[String]) -> Result<(), AllocError> {
         let home = first_home(homes);
@@ -76,9 +76,9 @@ impl<S: Shelf + Drop> Sources<S> {
         Ok(())
     }
 
-    /// What a file of this name holds, on the shelf or below these files' folders.
+    /// What a file of this name holds, on the source_files or below these files' folders.
     fn source_of(&self, name: &str, homes: &[String]) -> Result<Option<Source>, AllocError> {
-        let bytes = match self.shelf.bytes(name)? {
+        let bytes = match self.source_files.bytes(name)? {
             Some(bytes) => Some(bytes),
             None => self.bytes_near(name, homes)?,
         };
@@ -109,7 +109,7 @@ impl<S: Shelf + Drop> Sources<S> {
                 return Ok(None);
             };
             let near = format!(in self.alloc; "{folder}/{name}")?;
-            if let Some(bytes) = self.shelf.bytes(near.as_str())? {
+            if let Some(bytes) = self.source_files.bytes(near.as_str())? {
                 return Ok(Some(bytes));
             }
             path = folder;

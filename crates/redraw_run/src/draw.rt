@@ -22,7 +22,7 @@ use redraw_command::tally::Tally;
 use redraw_command::tell::tell;
 use redraw_command::workflow::command_of;
 use redraw_read::place::load_files;
-use redraw_read::sources::{Shelf, Sources};
+use redraw_read::sources::{SourceFiles, Sources};
 use redraw_report::diagnostic::{Diagnostic, FileSpan, Severity};
 use serde_json::Value;
 use std::alloc::{AllocError, Global};
@@ -50,7 +50,7 @@ pub struct Drawing<'w, S: Drop> {
     pub line: u64,
 }
 
-impl<S: Shelf + Drop> Drawing<'_, S> {
+impl<S: SourceFiles + Drop> Drawing<'_, S> {
     /// Draws what a part of the input reports, or says what is wrong with it. Cargo's message is given where it is one.
     pub fn finding<W: Write, V: Write>(
         &mut self,

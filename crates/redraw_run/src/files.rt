@@ -1,14 +1,14 @@
 //! The files that a log may name.
 
 use redraw_command::relative::below;
-use redraw_read::sources::Shelf;
+use redraw_read::sources::SourceFiles;
 use std::alloc::AllocError;
 use std::fs;
 use std::rt::Files;
 
 /// The files below a folder, or below the one that the program runs in.
 #[derive(Drop)]
-pub struct Below<'r, 'w, R> {
+pub struct FilesUnder<'r, 'w, R> {
     pub rt: &'r R,
     /// The folder, where one is given.
     pub root: Option<&'w str>,
@@ -16,7 +16,7 @@ pub struct Below<'r, 'w, R> {
     pub is_confined: bool,
 }
 
-impl<R: Files + AllocGlobal> Shelf for Below<'_, '_, R> {
+impl<R: Files + AllocGlobal> SourceFiles for FilesUnder<'_, '_, R> {
     fn bytes(&self, name: &str) -> Result<Option<Vec<u8>>, AllocError> {
         match self.root {
             Some(root) if !name.starts_with('/') => {
@@ -28,7 +28,7 @@ impl<R: Files + AllocGlobal> Shelf for Below<'_, '_, R> {
     }
 }
 
-impl<R: Files + AllocGlobal> Below<'_, '_, R> {
+impl<R: Files + AllocGlobal> FilesUnder<'_, '_, R> {
     /// The bytes of a file by its path; `None` where it can't be read, or may not be.
     fn read(&self, path: &str) -> Option<Vec<u8>> {
         if self.is_confined {

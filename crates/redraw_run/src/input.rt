@@ -14,7 +14,7 @@ use redraw_command::stop::Stop;
 use redraw_read::cargo::packaged_diagnostic_of;
 use redraw_read::json::listed;
 use redraw_read::rustc::diagnostic_of;
-use redraw_read::sources::Shelf;
+use redraw_read::sources::SourceFiles;
 use serde_json::Value;
 use std::alloc::Global;
 use std::io::{BufRead, Write};
@@ -102,7 +102,7 @@ impl Reading {
     }
 
     /// Takes a line, with its end.
-    pub fn line<S: Shelf + Drop, W: Write, V: Write>(
+    pub fn line<S: SourceFiles + Drop, W: Write, V: Write>(
         &mut self,
         bytes: &[u8],
         drawing: &mut Drawing<'_, S>,
@@ -133,7 +133,7 @@ impl Reading {
     }
 
     /// Takes a line that begins as an object does.
-    fn object<S: Shelf + Drop, W: Write, V: Write>(
+    fn object<S: SourceFiles + Drop, W: Write, V: Write>(
         &mut self,
         line: &str,
         bytes: &[u8],
@@ -154,7 +154,7 @@ impl Reading {
 
     /// Takes a line that begins as an object does and isn't JSON: the first such may begin a document, and another one is told
     /// and left out.
-    fn no_value<S: Shelf + Drop, V: Write>(
+    fn no_value<S: SourceFiles + Drop, V: Write>(
         &mut self,
         line: &str,
         error: &serde_json::Error,
@@ -176,7 +176,7 @@ impl Reading {
     }
 
     /// Takes a line of a document. One that isn't UTF-8 is told, and then nothing of the document is drawn.
-    fn document_line<S: Shelf + Drop, V: Write>(
+    fn document_line<S: SourceFiles + Drop, V: Write>(
         &mut self,
         bytes: &[u8],
         drawing: &mut Drawing<'_, S>,
@@ -193,7 +193,7 @@ impl Reading {
     }
 
     /// Ends the input: a document is read when all of its lines are there. An input in which nothing begins as an object does is told.
-    pub fn end<S: Shelf + Drop, W: Write, V: Write>(
+    pub fn end<S: SourceFiles + Drop, W: Write, V: Write>(
         &mut self,
         drawing: &mut Drawing<'_, S>,
         out: &mut W,
@@ -212,7 +212,7 @@ impl Reading {
     }
 
     /// Takes a document, if all of it is UTF-8.
-    fn document<S: Shelf + Drop, W: Write, V: Write>(
+    fn document<S: SourceFiles + Drop, W: Write, V: Write>(
         &mut self,
         document: &[u8],
         drawing: &mut Drawing<'_, S>,
@@ -234,7 +234,7 @@ impl Reading {
 
     /// Takes a value of JSON, which is this line where it isn't a document. A line of no known form after one that is of one is
     /// handed on: what else writes there may write JSON too.
-    fn value<S: Shelf + Drop, W: Write, V: Write>(
+    fn value<S: SourceFiles + Drop, W: Write, V: Write>(
         &mut self,
         value: &Value,
         line: Option<&[u8]>,
@@ -257,7 +257,7 @@ impl Reading {
     }
 
     /// Takes a value of JSON of a known kind.
-    fn known<S: Shelf + Drop, W: Write, V: Write>(
+    fn known<S: SourceFiles + Drop, W: Write, V: Write>(
         &mut self,
         kind: Kind,
         value: &Value,
@@ -284,7 +284,11 @@ impl Reading {
 }
 
 /// Tells where these bytes aren't UTF-8, and leaves them out.
-fn check_text<S: Shelf + Drop, V: Write>(bytes: &[u8], drawing: &mut Drawing<'_, S>, err: &mut V)
+fn check_text<S: SourceFiles + Drop, V: Write>(
+    bytes: &[u8],
+    drawing: &mut Drawing<'_, S>,
+    err: &mut V,
+)
     ensures does { (out : Option (List ℕ)) → Does [] (standing drawing.old out (V.contents err.old))
         (standing drawing.new out (V.contents err.new)) }
 {
@@ -300,7 +304,7 @@ fn without_end(text: &str) -> &str {
 }
 
 /// Takes cargo's message, which has a diagnostic of rustc in it.
-fn cargo_message<S: Shelf + Drop, W: Write, V: Write>(
+fn cargo_message<S: SourceFiles + Drop, W: Write, V: Write>(
     node: &Node<'_, '_>,
     drawing: &mut Drawing<'_, S>,
     out: &mut W,
@@ -313,7 +317,7 @@ fn cargo_message<S: Shelf + Drop, W: Write, V: Write>(
 }
 
 /// Takes a SARIF log. One whose runs are no list is told and left out.
-fn sarif_log<S: Shelf + Drop, W: Write, V: Write>(
+fn sarif_log<S: SourceFiles + Drop, W: Write, V: Write>(
     node: &Node<'_, '_>,
     drawing: &mut Drawing<'_, S>,
     out: &mut W,
@@ -327,7 +331,7 @@ fn sarif_log<S: Shelf + Drop, W: Write, V: Write>(
 
 /// Draws what an input holds, each part before the next is waited for, and answers whether it is of a form that is known,
 /// or empty.
-pub fn draw_input<B: BufRead + Drop, S: Shelf + Drop, W: Write, V: Write>(
+pub fn draw_input<B: BufRead + Drop, S: SourceFiles + Drop, W: Write, V: Write>(
     input: B,
     drawing: &mut Drawing<'_, S>,
     out: &mut W,
@@ -341,7 +345,7 @@ pub fn draw_input<B: BufRead + Drop, S: Shelf + Drop, W: Write, V: Write>(
 }
 
 /// Takes the lines that an input holds, each before the next is waited for.
-fn draw_lines<B: BufRead + Drop, S: Shelf + Drop, W: Write, V: Write>(
+fn draw_lines<B: BufRead + Drop, S: SourceFiles + Drop, W: Write, V: Write>(
     mut input: B,
     reading: &mut Reading,
     drawing: &mut Drawing<'_, S>,

@@ -9,7 +9,7 @@ ghost use Rattle.redraw_command.specs.Told.{Tells, TellsOfWords};
 ghost use Rattle.redraw_run.specs.Lines.{SumsUp};
 
 use crate::draw::Drawing;
-use crate::files::Below;
+use crate::files::FilesUnder;
 use crate::input::draw_input;
 use crate::look::renderer_for;
 use redraw_command::relative::folder_of;
@@ -19,7 +19,7 @@ use redraw_command::tally::{CLEAN, FAILED, Tally};
 use redraw_command::tell::{tell, tell_error};
 use redraw_command::terminal::Surroundings;
 use redraw_command::words::{Request, matches_of, request_of};
-use redraw_read::sources::{Shelf, Sources};
+use redraw_read::sources::{SourceFiles, Sources};
 use std::alloc::{AllocError, Global};
 use std::fs;
 use std::io::{self, BufRead, BufReader, Write};
@@ -48,7 +48,7 @@ fn answer_error<W: Write, V: Write>(
     out: &mut W,
     err: &mut V,
 ) -> u8
-    ensures misuse { kind_of error.now ≢ kind.DisplayHelp → kind_of error.now ≢ kind.DisplayVersion
+    ensures usage_error { kind_of error.now ≢ kind.DisplayHelp → kind_of error.now ≢ kind.DisplayVersion
         → (result ≡ 2) × (out.new ≡ out.old) }
     ensures told { kind_of error.now ≢ kind.DisplayHelp → kind_of error.now ≢ kind.DisplayVersion
         → TellsOfWords (V.contents err.old) (V.contents err.new) }
@@ -81,7 +81,7 @@ fn draw_all<'w, R: Files + Input + AllocGlobal, W: Write, V: Write>(
         tell(alloc, Stop::Memory, err);
         return FAILED;
     };
-    let shelf = Below {
+    let source_files = FilesUnder {
         rt,
         root: request.root,
         is_confined: request.is_confined,
@@ -90,7 +90,7 @@ fn draw_all<'w, R: Files + Input + AllocGlobal, W: Write, V: Write>(
         alloc,
         renderer: renderer_for(&request.look, around),
         choice: request.choice,
-        sources: Sources::new(alloc, shelf),
+        sources: Sources::new(alloc, source_files),
         folder,
         tally: Tally::default(),
         seen: Seen::new(alloc),
@@ -115,7 +115,7 @@ const INPUT: &str = "standard input";
 
 /// Draws what each input holds, or standard input where there are none, and answers whether all of it could be read and is of
 /// a form that is known. It stops where nothing can be written.
-fn draw_inputs<'r, R: Files + Input + AllocGlobal, S: Shelf + Drop, W: Write, V: Write>(
+fn draw_inputs<'r, R: Files + Input + AllocGlobal, S: SourceFiles + Drop, W: Write, V: Write>(
     rt: &R,
     names: Option<&[&'r str]>,
     drawing: &mut Drawing<'r, S>,
@@ -132,7 +132,7 @@ fn draw_inputs<'r, R: Files + Input + AllocGlobal, S: Shelf + Drop, W: Write, V:
 }
 
 /// The same of further inputs, after others of which all could be read or not.
-fn draw_rest<'r, R: Files + Input + AllocGlobal, S: Shelf + Drop, W: Write, V: Write>(
+fn draw_rest<'r, R: Files + Input + AllocGlobal, S: SourceFiles + Drop, W: Write, V: Write>(
     rt: &R,
     names: &[&'r str],
     is_whole: bool,
@@ -148,7 +148,7 @@ fn draw_rest<'r, R: Files + Input + AllocGlobal, S: Shelf + Drop, W: Write, V: W
 }
 
 /// The same of one input, by its name.
-fn draw_named<'r, R: Files + Input + AllocGlobal, S: Shelf + Drop, W: Write, V: Write>(
+fn draw_named<'r, R: Files + Input + AllocGlobal, S: SourceFiles + Drop, W: Write, V: Write>(
     rt: &R,
     name: &'r str,
     drawing: &mut Drawing<'r, S>,
@@ -164,7 +164,7 @@ fn draw_named<'r, R: Files + Input + AllocGlobal, S: Shelf + Drop, W: Write, V: 
 }
 
 /// The same of standard input.
-fn draw_standard<R: Files + Input + AllocGlobal, S: Shelf + Drop, W: Write, V: Write>(
+fn draw_standard<R: Files + Input + AllocGlobal, S: SourceFiles + Drop, W: Write, V: Write>(
     rt: &R,
     drawing: &mut Drawing<'_, S>,
     out: &mut W,
@@ -176,7 +176,7 @@ fn draw_standard<R: Files + Input + AllocGlobal, S: Shelf + Drop, W: Write, V: W
 }
 
 /// The same of one file.
-fn draw_file<R: Files + AllocGlobal, S: Shelf + Drop, W: Write, V: Write>(
+fn draw_file<R: Files + AllocGlobal, S: SourceFiles + Drop, W: Write, V: Write>(
     rt: &R,
     name: &str,
     drawing: &mut Drawing<'_, S>,
@@ -191,7 +191,7 @@ fn draw_file<R: Files + AllocGlobal, S: Shelf + Drop, W: Write, V: Write>(
 }
 
 /// The same of an input that could be opened or not.
-pub fn draw_opened<B: BufRead + Drop, S: Shelf + Drop, W: Write, V: Write>(
+pub fn draw_opened<B: BufRead + Drop, S: SourceFiles + Drop, W: Write, V: Write>(
     input: io::Result<B>,
     drawing: &mut Drawing<'_, S>,
     out: &mut W,

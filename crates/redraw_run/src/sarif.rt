@@ -2,16 +2,16 @@
 ghost use Rattle.redraw_run.specs.Deeds.{TellsAll};
 
 use crate::draw::Drawing;
-use json_node::lenient::{List, Node, Troubles};
+use json_node::lenient::{List, Node, Problems};
 use json_node::place::Place;
 use redraw_command::stop::Stop;
-use redraw_read::sources::Shelf;
+use redraw_read::sources::SourceFiles;
 use redraw_sarif::sarif::Run;
 use serde_json::Value;
 use std::io::Write;
 
 /// Draws what the results of a log's runs tell, each before the next is read.
-pub fn draw_runs<S: Shelf + Drop, W: Write, V: Write>(
+pub fn draw_runs<S: SourceFiles + Drop, W: Write, V: Write>(
     runs: &[Value],
     drawing: &mut Drawing<'_, S>,
     out: &mut W,
@@ -29,16 +29,16 @@ pub fn draw_runs<S: Shelf + Drop, W: Write, V: Write>(
 }
 
 /// Draws what the results of a run tell.
-fn draw_run<S: Shelf + Drop, W: Write, V: Write>(
+fn draw_run<S: SourceFiles + Drop, W: Write, V: Write>(
     node: Node<'_, '_>,
     drawing: &mut Drawing<'_, S>,
     out: &mut W,
     err: &mut V,
 ) -> Result<(), Stop> {
-    let mut troubles = Troubles::new(drawing.alloc);
-    let run = Run::new(node, &mut troubles);
-    let results = run.results(&mut troubles);
-    tell_all(&troubles, drawing, err)?;
+    let mut problems = Problems::new(drawing.alloc);
+    let run = Run::new(node, &mut problems);
+    let results = run.results(&mut problems);
+    tell_all(&problems, drawing, err)?;
     for (index, value) in results.items.iter().enumerate() {
         draw_result(&run, &results.node(index, value), drawing, out, err)?;
     }
@@ -46,16 +46,16 @@ fn draw_run<S: Shelf + Drop, W: Write, V: Write>(
 }
 
 /// Draws what a result of a run reports, after what is wrong with it.
-fn draw_result<'v, S: Shelf + Drop, W: Write, V: Write>(
+fn draw_result<'v, S: SourceFiles + Drop, W: Write, V: Write>(
     run: &Run<'v, '_>,
     reported: &Node<'v, '_>,
     drawing: &mut Drawing<'_, S>,
     out: &mut W,
     err: &mut V,
 ) -> Result<(), Stop> {
-    let mut troubles = Troubles::new(drawing.alloc);
-    let found = run.finding(drawing.alloc, reported, &mut troubles)?;
-    tell_all(&troubles, drawing, err)?;
+    let mut problems = Problems::new(drawing.alloc);
+    let found = run.finding(drawing.alloc, reported, &mut problems)?;
+    tell_all(&problems, drawing, err)?;
     match found {
         Some(diagnostic) => drawing.take(diagnostic, None, out, err),
         None => {
@@ -66,17 +66,17 @@ fn draw_result<'v, S: Shelf + Drop, W: Write, V: Write>(
 }
 
 /// Tells what is wrong with a part of a log.
-fn tell_all<S: Shelf + Drop, V: Write>(
-    troubles: &Troubles,
+fn tell_all<S: SourceFiles + Drop, V: Write>(
+    problems: &Problems,
     drawing: &Drawing<'_, S>,
     err: &mut V,
 ) -> Result<(), Stop>
     ensures told { TellsAll (V.contents err.old) (V.contents err.new) }
 {
-    for line in &troubles.lines {
+    for line in &problems.lines {
         drawing.tell(line.as_str(), err);
     }
-    if troubles.is_refused {
+    if problems.is_refused {
         return Err(Stop::Memory);
     }
     Ok(())

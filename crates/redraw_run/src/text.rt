@@ -8,7 +8,7 @@ use annotate_snippets::renderer::RenderError;
 use annotate_snippets::snippet::report_fits;
 use annotate_snippets::{Group, Renderer};
 use redraw_read::place::Placing;
-use redraw_read::sources::{Shelf, Sources};
+use redraw_read::sources::{SourceFiles, Sources};
 use redraw_report::diagnostic::Diagnostic;
 use redraw_report::report::report;
 use std::alloc::{AllocError, Global};
@@ -25,7 +25,7 @@ pub struct Drawn {
 }
 
 /// What is drawn of a diagnostic, whose files were read.
-pub fn drawn_of<S: Shelf + Drop>(
+pub fn drawn_of<S: SourceFiles + Drop>(
     alloc: Global,
     renderer: &Renderer,
     sources: &Sources<S>,

@@ -4,7 +4,7 @@ use crate::location::Context;
 use crate::message::text_in;
 use crate::region::{carried_in, region_of};
 use crate::uri::path_in;
-use json_node::lenient::{List, Node, Troubles};
+use json_node::lenient::{List, Node, Problems};
 use redraw_report::diagnostic::{Carried, Child, Edit, LineRegion, Region, Severity, Unit};
 use std::alloc::{AllocError, Global};
 
@@ -17,10 +17,10 @@ pub fn add_fixes(
     children: &mut Vec<Child>,
     fixes: &List<'_, '_>,
     context: &Context<'_>,
-    troubles: &mut Troubles,
+    problems: &mut Problems,
 ) -> Result<(), AllocError> {
     for (index, value) in fixes.items.iter().enumerate() {
-        take_fix(children, &fixes.node(index, value), context, troubles)?;
+        take_fix(children, &fixes.node(index, value), context, problems)?;
     }
     Ok(())
 }
@@ -30,11 +30,11 @@ fn take_fix(
     children: &mut Vec<Child>,
     fix: &Node<'_, '_>,
     context: &Context<'_>,
-    troubles: &mut Troubles,
+    problems: &mut Problems,
 ) -> Result<(), AllocError> {
-    match edits_of(fix, context, troubles)? {
+    match edits_of(fix, context, problems)? {
         Some(edits) => {
-            let message = description_of(fix, context, troubles)?;
+            let message = description_of(fix, context, problems)?;
             add_fix(children, message, edits, context)
         }
         None => Ok(()),
@@ -45,9 +45,9 @@ fn take_fix(
 fn description_of(
     fix: &Node<'_, '_>,
     context: &Context<'_>,
-    troubles: &mut Troubles,
+    problems: &mut Problems,
 ) -> Result<String, AllocError> {
-    match text_in(context.alloc, fix, "description", &context.rule, troubles)? {
+    match text_in(context.alloc, fix, "description", &context.rule, problems)? {
         Some(message) => Ok(message),
         None => String::from_str(context.alloc, UNDESCRIBED),
     }
@@ -94,11 +94,11 @@ fn help_of(message: String, edits: Vec<Edit>, context: &Context<'_>) -> Result<C
 fn edits_of(
     fix: &Node<'_, '_>,
     context: &Context<'_>,
-    troubles: &mut Troubles,
+    problems: &mut Problems,
 ) -> Result<Option<Vec<Edit>>, AllocError> {
-    let told = troubles.lines.len();
-    let edits = edits_in(fix, context, troubles)?;
-    if troubles.lines.len() > told {
+    let told = problems.lines.len();
+    let edits = edits_in(fix, context, problems)?;
+    if problems.lines.len() > told {
         Ok(None)
     } else {
         Ok(Some(edits))
@@ -109,12 +109,12 @@ fn edits_of(
 fn edits_in(
     fix: &Node<'_, '_>,
     context: &Context<'_>,
-    troubles: &mut Troubles,
+    problems: &mut Problems,
 ) -> Result<Vec<Edit>, AllocError> {
     let mut edits = Vec::new(context.alloc);
-    let changes = fix.needed_list("artifactChanges", troubles);
+    let changes = fix.needed_list("artifactChanges", problems);
     for (index, value) in changes.items.iter().enumerate() {
-        add_change(&mut edits, &changes.node(index, value), context, troubles)?;
+        add_change(&mut edits, &changes.node(index, value), context, problems)?;
     }
     Ok(edits)
 }
@@ -124,10 +124,10 @@ fn add_change(
     edits: &mut Vec<Edit>,
     change: &Node<'_, '_>,
     context: &Context<'_>,
-    troubles: &mut Troubles,
+    problems: &mut Problems,
 ) -> Result<(), AllocError> {
-    match path_in(context.alloc, change, context.run, troubles)? {
-        Some(file) => add_replacements(edits, change, file.as_str(), context, troubles),
+    match path_in(context.alloc, change, context.run, problems)? {
+        Some(file) => add_replacements(edits, change, file.as_str(), context, problems),
         None => Ok(()),
     }
 }
@@ -138,16 +138,16 @@ fn add_replacements(
     change: &Node<'_, '_>,
     file: &str,
     context: &Context<'_>,
-    troubles: &mut Troubles,
+    problems: &mut Problems,
 ) -> Result<(), AllocError> {
-    let replacements = change.needed_list("replacements", troubles);
+    let replacements = change.needed_list("replacements", problems);
     for (index, value) in replacements.items.iter().enumerate() {
         add_replacement(
             edits,
             &replacements.node(index, value),
             file,
             context,
-            troubles,
+            problems,
         )?;
     }
     Ok(())
@@ -159,9 +159,9 @@ fn add_replacement(
     replacement: &Node<'_, '_>,
     file: &str,
     context: &Context<'_>,
-    troubles: &mut Troubles,
+    problems: &mut Problems,
 ) -> Result<(), AllocError> {
-    if let Some(edit) = edit_of(replacement, file, context, troubles)? {
+    if let Some(edit) = edit_of(replacement, file, context, problems)? {
         edits.push(edit)?;
     }
     Ok(())
@@ -172,22 +172,22 @@ fn edit_of(
     replacement: &Node<'_, '_>,
     file: &str,
     context: &Context<'_>,
-    troubles: &mut Troubles,
+    problems: &mut Problems,
 ) -> Result<Option<Edit>, AllocError> {
-    let Some(deleted) = replacement.needed("deletedRegion", troubles) else {
+    let Some(deleted) = replacement.needed("deletedRegion", problems) else {
         return Ok(None);
     };
-    let region = deleted_in(&deleted, context.unit, troubles);
-    let (Some(region), Some(text)) = (region, inserted_in(replacement, troubles)) else {
+    let region = deleted_in(&deleted, context.unit, problems);
+    let (Some(region), Some(text)) = (region, inserted_in(replacement, problems)) else {
         return Ok(None);
     };
-    let carried = carried_in(context.alloc, &deleted, context.unit, troubles)?;
+    let carried = carried_in(context.alloc, &deleted, context.unit, problems)?;
     Ok(Some(edit_with(context.alloc, file, region, text, carried)?))
 }
 
 /// The part of a file that goes. Without columns it is all of its lines, with the blanks that they begin with.
-fn deleted_in(deleted: &Node<'_, '_>, unit: Unit, troubles: &mut Troubles) -> Option<Region> {
-    match region_of(deleted, unit, troubles) {
+fn deleted_in(deleted: &Node<'_, '_>, unit: Unit, problems: &mut Problems) -> Option<Region> {
+    match region_of(deleted, unit, problems) {
         Some(Region::Lines(lines)) => Some(Region::Lines(LineRegion {
             start_column: lines.start_column.or(Some(1)),
             ..lines
@@ -215,12 +215,12 @@ fn edit_with(
 }
 
 /// The text that a replacement puts in: none where it only takes text away.
-fn inserted_in<'v>(replacement: &Node<'v, '_>, troubles: &mut Troubles) -> Option<&'v str> {
+fn inserted_in<'v>(replacement: &Node<'v, '_>, problems: &mut Problems) -> Option<&'v str> {
     if !replacement.has("insertedContent") {
         return Some("");
     }
-    match replacement.needed("insertedContent", troubles) {
-        Some(content) => content.needed_text("text", troubles),
+    match replacement.needed("insertedContent", problems) {
+        Some(content) => content.needed_text("text", problems),
         None => None,
     }
 }

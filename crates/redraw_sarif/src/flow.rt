@@ -2,7 +2,7 @@
 
 use crate::location::{Context, message_at, place_at};
 use crate::steps::{left_out, shown_steps, step_label};
-use json_node::lenient::{List, Node, Troubles};
+use json_node::lenient::{List, Node, Problems};
 use redraw_report::diagnostic::{Child, FileSpan, Severity};
 use std::alloc::AllocError;
 
@@ -21,23 +21,23 @@ pub fn add_steps(
     told: &mut Told,
     reported: &Node<'_, '_>,
     context: &Context<'_>,
-    troubles: &mut Troubles,
+    problems: &mut Problems,
 ) -> Result<(), AllocError> {
-    let flows = reported.list("codeFlows", troubles);
-    let Some(flow) = first_of(&flows, troubles) else {
+    let flows = reported.list("codeFlows", problems);
+    let Some(flow) = first_of(&flows, problems) else {
         return Ok(());
     };
-    let threads = flow.needed_list("threadFlows", troubles);
-    match first_of(&threads, troubles) {
-        Some(thread) => add_thread(told, &thread, context, troubles),
+    let threads = flow.needed_list("threadFlows", problems);
+    match first_of(&threads, problems) {
+        Some(thread) => add_thread(told, &thread, context, problems),
         None => Ok(()),
     }
 }
 
 /// The first item of a list, if there is one that is an object.
-fn first_of<'v, 'n>(list: &'n List<'v, '_>, troubles: &mut Troubles) -> Option<Node<'v, 'n>> {
+fn first_of<'v, 'n>(list: &'n List<'v, '_>, problems: &mut Problems) -> Option<Node<'v, 'n>> {
     let first = list.node(0, list.items.first()?);
-    if first.is_object(troubles) {
+    if first.is_object(problems) {
         Some(first)
     } else {
         None
@@ -49,13 +49,13 @@ fn add_thread(
     told: &mut Told,
     thread: &Node<'_, '_>,
     context: &Context<'_>,
-    troubles: &mut Troubles,
+    problems: &mut Problems,
 ) -> Result<(), AllocError> {
-    let steps = thread.needed_list("locations", troubles);
+    let steps = thread.needed_list("locations", problems);
     let count = steps.items.len();
     let shown = shown_steps(context.alloc, count)?;
     for index in &shown {
-        add_step_at(told, &steps, *index, context, troubles)?;
+        add_step_at(told, &steps, *index, context, problems)?;
     }
     let hidden = count.saturating_sub(shown.len());
     if hidden > 0 {
@@ -71,12 +71,12 @@ fn add_step_at(
     steps: &List<'_, '_>,
     index: usize,
     context: &Context<'_>,
-    troubles: &mut Troubles,
+    problems: &mut Problems,
 ) -> Result<(), AllocError> {
     match steps.items.get(index) {
         Some(value) => {
             let number = index.saturating_add(1);
-            add_step(told, &steps.node(index, value), number, context, troubles)
+            add_step(told, &steps.node(index, value), number, context, problems)
         }
         None => Ok(()),
     }
@@ -88,17 +88,17 @@ fn add_step(
     step: &Node<'_, '_>,
     number: usize,
     context: &Context<'_>,
-    troubles: &mut Troubles,
+    problems: &mut Problems,
 ) -> Result<(), AllocError> {
-    if !step.is_object(troubles) {
+    if !step.is_object(problems) {
         return Ok(());
     }
-    let Some(location) = step.object("location", troubles) else {
+    let Some(location) = step.object("location", problems) else {
         return Ok(());
     };
-    let message = message_at(&location, context, troubles)?;
+    let message = message_at(&location, context, problems)?;
     let label = step_label(context.alloc, number, text_of(&message))?;
-    match place_at(&location, context, troubles)? {
+    match place_at(&location, context, problems)? {
         Some(place) => mark_step(&mut told.spans, place, message, label),
         None if message.is_some() => add_note(told, label, context),
         None => Ok(()),

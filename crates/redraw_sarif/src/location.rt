@@ -4,7 +4,7 @@ use crate::message::text_in;
 use crate::region::{carried_of, region_of};
 use crate::rule::Rule;
 use crate::uri::path_in;
-use json_node::lenient::{List, Node, Troubles};
+use json_node::lenient::{List, Node, Problems};
 use redraw_report::diagnostic::{FileSpan, Region, Unit};
 use serde_json::Value;
 use std::alloc::{AllocError, Global};
@@ -28,11 +28,11 @@ pub fn add_spans(
     locations: &List<'_, '_>,
     context: &Context<'_>,
     is_primary: bool,
-    troubles: &mut Troubles,
+    problems: &mut Problems,
 ) -> Result<(), AllocError> {
     for (index, value) in locations.items.iter().enumerate() {
         let location = locations.node(index, value);
-        if let Some(span) = span_of(&location, context, is_primary, troubles)? {
+        if let Some(span) = span_of(&location, context, is_primary, problems)? {
             spans.push(span)?;
         }
     }
@@ -44,15 +44,15 @@ fn span_of(
     location: &Node<'_, '_>,
     context: &Context<'_>,
     is_primary: bool,
-    troubles: &mut Troubles,
+    problems: &mut Problems,
 ) -> Result<Option<FileSpan>, AllocError> {
-    if !location.is_object(troubles) {
+    if !location.is_object(problems) {
         return Ok(None);
     }
-    let Some(place) = place_at(location, context, troubles)? else {
+    let Some(place) = place_at(location, context, problems)? else {
         return Ok(None);
     };
-    let label = message_at(location, context, troubles)?;
+    let label = message_at(location, context, problems)?;
     Ok(Some(FileSpan {
         label,
         is_primary,
@@ -64,22 +64,22 @@ fn span_of(
 pub fn message_at(
     location: &Node<'_, '_>,
     context: &Context<'_>,
-    troubles: &mut Troubles,
+    problems: &mut Problems,
 ) -> Result<Option<String>, AllocError> {
-    text_in(context.alloc, location, "message", &context.rule, troubles)
+    text_in(context.alloc, location, "message", &context.rule, problems)
 }
 
 /// The place of a location, as one of context of which nothing is said; `None` where it has no file.
 pub fn place_at(
     location: &Node<'_, '_>,
     context: &Context<'_>,
-    troubles: &mut Troubles,
+    problems: &mut Problems,
 ) -> Result<Option<FileSpan>, AllocError> {
-    let Some(physical) = location.object("physicalLocation", troubles) else {
+    let Some(physical) = location.object("physicalLocation", problems) else {
         return Ok(None);
     };
-    match path_in(context.alloc, &physical, context.run, troubles)? {
-        Some(file) => Ok(Some(place_in(file, &physical, context, troubles)?)),
+    match path_in(context.alloc, &physical, context.run, problems)? {
+        Some(file) => Ok(Some(place_in(file, &physical, context, problems)?)),
         None => Ok(None),
     }
 }
@@ -89,23 +89,23 @@ fn place_in(
     file: String,
     physical: &Node<'_, '_>,
     context: &Context<'_>,
-    troubles: &mut Troubles,
+    problems: &mut Problems,
 ) -> Result<FileSpan, AllocError> {
-    let region = physical.object("region", troubles);
-    let around = physical.object("contextRegion", troubles);
+    let region = physical.object("region", problems);
+    let around = physical.object("contextRegion", problems);
     Ok(FileSpan {
         file,
-        region: region_or_start(&region, context.unit, troubles),
+        region: region_or_start(&region, context.unit, problems),
         label: None,
         is_primary: false,
-        carried: carried_of(context.alloc, &around, &region, context.unit, troubles)?,
+        carried: carried_of(context.alloc, &around, &region, context.unit, problems)?,
     })
 }
 
 /// The region of a location; the start of its file where it has none, or a wrong one.
-fn region_or_start(region: &Option<Node<'_, '_>>, unit: Unit, troubles: &mut Troubles) -> Region {
+fn region_or_start(region: &Option<Node<'_, '_>>, unit: Unit, problems: &mut Problems) -> Region {
     match region {
-        Some(region) => region_of(region, unit, troubles).unwrap_or(START),
+        Some(region) => region_of(region, unit, problems).unwrap_or(START),
         None => START,
     }
 }

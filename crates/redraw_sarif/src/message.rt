@@ -4,7 +4,7 @@ use crate::expectation::Expectation;
 use crate::links::without_links;
 use crate::placeholders::filled;
 use crate::rule::Rule;
-use json_node::lenient::{Node, Troubles};
+use json_node::lenient::{Node, Problems};
 use serde_json::Value;
 use std::alloc::{AllocError, Global};
 
@@ -16,10 +16,10 @@ pub fn text_in(
     object: &Node<'_, '_>,
     name: &str,
     rule: &Rule<'_>,
-    troubles: &mut Troubles,
+    problems: &mut Problems,
 ) -> Result<Option<String>, AllocError> {
-    match object.object(name, troubles) {
-        Some(message) => text_of(alloc, &message, rule, troubles),
+    match object.object(name, problems) {
+        Some(message) => text_of(alloc, &message, rule, problems),
         None => Ok(None),
     }
 }
@@ -29,14 +29,14 @@ fn text_of(
     alloc: Global,
     message: &Node<'_, '_>,
     rule: &Rule<'_>,
-    troubles: &mut Troubles,
+    problems: &mut Problems,
 ) -> Result<Option<String>, AllocError> {
-    let arguments = message.list("arguments", troubles).items;
-    let told = troubles.lines.len();
-    let own = message.text("text", troubles);
-    let Some(text) = own.or(text_by_id(message, rule, troubles)) else {
-        if troubles.lines.len() == told {
-            message.tell(troubles, Expectation::Message);
+    let arguments = message.list("arguments", problems).items;
+    let told = problems.lines.len();
+    let own = message.text("text", problems);
+    let Some(text) = own.or(text_by_id(message, rule, problems)) else {
+        if problems.lines.len() == told {
+            message.tell(problems, Expectation::Message);
         }
         return Ok(None);
     };
@@ -62,9 +62,9 @@ fn with_arguments(
 fn text_by_id<'v>(
     message: &Node<'_, '_>,
     rule: &Rule<'v>,
-    troubles: &mut Troubles,
+    problems: &mut Problems,
 ) -> Option<&'v str> {
-    match message.text("id", troubles) {
+    match message.text("id", problems) {
         Some(id) => rule.message_string(id),
         None => None,
     }

@@ -1,34 +1,34 @@
 //! The regions of files, and what a log itself holds of them.
 
 use crate::expectation::Expectation;
-use json_node::lenient::{Node, Troubles};
+use json_node::lenient::{Node, Problems};
 use redraw_report::diagnostic::{Carried, LineRegion, Region, Unit};
 use serde_json::Value;
 use std::alloc::{AllocError, Global};
 
 /// The part of a file that a region names. Where it says no place to begin at, that is reported, unless what it says in its
 /// stead has been.
-pub fn region_of(region: &Node<'_, '_>, unit: Unit, troubles: &mut Troubles) -> Option<Region> {
-    let told = troubles.lines.len();
-    let found = region_in(region, unit, troubles);
-    if found.is_none() && troubles.lines.len() == told {
-        region.tell(troubles, Expectation::RegionStart);
+pub fn region_of(region: &Node<'_, '_>, unit: Unit, problems: &mut Problems) -> Option<Region> {
+    let told = problems.lines.len();
+    let found = region_in(region, unit, problems);
+    if found.is_none() && problems.lines.len() == told {
+        region.tell(problems, Expectation::RegionStart);
     }
     found
 }
 
 /// The part of a file that a region names: by lines and columns, else by characters, else by bytes.
-fn region_in(region: &Node<'_, '_>, unit: Unit, troubles: &mut Troubles) -> Option<Region> {
-    if let Some(start_line) = region.from_one("startLine", troubles) {
-        return Some(Region::Lines(line_region(region, start_line, unit, troubles)));
+fn region_in(region: &Node<'_, '_>, unit: Unit, problems: &mut Problems) -> Option<Region> {
+    if let Some(start_line) = region.from_one("startLine", problems) {
+        return Some(Region::Lines(line_region(region, start_line, unit, problems)));
     }
-    if let Some(start) = region.number("charOffset", troubles) {
-        let length = region.number("charLength", troubles).unwrap_or(0);
+    if let Some(start) = region.number("charOffset", problems) {
+        let length = region.number("charLength", problems).unwrap_or(0);
         let end = start.saturating_add(length);
         return Some(Region::Chars { start, end, unit });
     }
-    if let Some(start) = region.number("byteOffset", troubles) {
-        let length = region.number("byteLength", troubles).unwrap_or(0);
+    if let Some(start) = region.number("byteOffset", problems) {
+        let length = region.number("byteLength", problems).unwrap_or(0);
         let end = start.saturating_add(length);
         return Some(Region::Bytes { start, end });
     }
@@ -40,13 +40,13 @@ fn line_region(
     region: &Node<'_, '_>,
     start_line: usize,
     unit: Unit,
-    troubles: &mut Troubles,
+    problems: &mut Problems,
 ) -> LineRegion {
     LineRegion {
         start_line,
-        start_column: region.from_one("startColumn", troubles),
-        end_line: region.from_one("endLine", troubles).unwrap_or(start_line),
-        end_column: region.from_one("endColumn", troubles),
+        start_column: region.from_one("startColumn", problems),
+        end_line: region.from_one("endLine", problems).unwrap_or(start_line),
+        end_column: region.from_one("endColumn", problems),
         unit,
     }
 }
@@ -57,15 +57,15 @@ pub fn carried_of(
     around: &Option<Node<'_, '_>>,
     region: &Option<Node<'_, '_>>,
     unit: Unit,
-    troubles: &mut Troubles,
+    problems: &mut Problems,
 ) -> Result<Option<Carried>, AllocError> {
     if let Some(around) = around {
-        if let Some(carried) = carried_in(alloc, around, unit, troubles)? {
+        if let Some(carried) = carried_in(alloc, around, unit, problems)? {
             return Ok(Some(carried));
         }
     }
     match region {
-        Some(region) => carried_in(alloc, region, unit, troubles),
+        Some(region) => carried_in(alloc, region, unit, problems),
         None => Ok(None),
     }
 }
@@ -76,14 +76,14 @@ pub fn carried_in(
     alloc: Global,
     region: &Node<'_, '_>,
     unit: Unit,
-    troubles: &mut Troubles,
+    problems: &mut Problems,
 ) -> Result<Option<Carried>, AllocError> {
-    let (Some(snippet), Some(first_line)) = (snippet_in(region, troubles), first_line_of(region))
+    let (Some(snippet), Some(first_line)) = (snippet_in(region, problems), first_line_of(region))
     else {
         return Ok(None);
     };
     // What is wrong with the region itself is reported where it is read.
-    let mut told_elsewhere = Troubles::new(alloc);
+    let mut told_elsewhere = Problems::new(alloc);
     let lines = line_region(region, first_line, unit, &mut told_elsewhere);
     let before = lines.start_column.unwrap_or(1).saturating_sub(1);
     let is_whole = has_whole_lines(&lines, before, snippet);
@@ -96,9 +96,9 @@ pub fn carried_in(
 }
 
 /// The text of a region's snippet.
-fn snippet_in<'v>(region: &Node<'v, '_>, troubles: &mut Troubles) -> Option<&'v str> {
-    match region.object("snippet", troubles) {
-        Some(snippet) => snippet.text("text", troubles),
+fn snippet_in<'v>(region: &Node<'v, '_>, problems: &mut Problems) -> Option<&'v str> {
+    match region.object("snippet", problems) {
+        Some(snippet) => snippet.text("text", problems),
         None => None,
     }
 }

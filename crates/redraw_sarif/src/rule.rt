@@ -1,7 +1,7 @@
 //! The rule that a result breaks, and how severe that is.
 
 use crate::expectation::Expectation;
-use json_node::lenient::{Node, Troubles, field_at, item_at, text_at, text_field};
+use json_node::lenient::{Node, Problems, field_at, item_at, text_at, text_field};
 use redraw_report::diagnostic::{Code, Severity};
 use serde_json::Value;
 use std::alloc::{AllocError, Global};
@@ -45,8 +45,8 @@ fn text_of_string<'v>(strings: Option<&'v Value>, id: &str) -> Option<&'v str> {
 }
 
 /// The rule of a result: by its number, or else by its id. Where it is the number of no rule, that is reported.
-pub fn rule_of<'v>(run: &'v Value, reported: &Node<'v, '_>, troubles: &mut Troubles) -> Rule<'v> {
-    let index = index_of(reported, troubles);
+pub fn rule_of<'v>(run: &'v Value, reported: &Node<'v, '_>, problems: &mut Problems) -> Rule<'v> {
+    let index = index_of(reported, problems);
     let component = component_of(run, reported.value);
     let rules = rules_of(component);
     let rule = match index {
@@ -54,16 +54,16 @@ pub fn rule_of<'v>(run: &'v Value, reported: &Node<'v, '_>, troubles: &mut Troub
         None => rule_by_id(rules, id_of(reported.value).unwrap_or("")),
     };
     if index.is_some() && rule.is_none() {
-        reported.tell(troubles, Expectation::Rule);
+        reported.tell(problems, Expectation::Rule);
     }
     Rule { component, rule }
 }
 
 /// The number of the rule that a result names.
-fn index_of(reported: &Node<'_, '_>, troubles: &mut Troubles) -> Option<usize> {
-    let own = reported.number("ruleIndex", troubles);
-    match reported.object("rule", troubles) {
-        Some(reference) => reference.number("index", troubles).or(own),
+fn index_of(reported: &Node<'_, '_>, problems: &mut Problems) -> Option<usize> {
+    let own = reported.number("ruleIndex", problems);
+    match reported.object("rule", problems) {
+        Some(reference) => reference.number("index", problems).or(own),
         None => own,
     }
 }
@@ -154,14 +154,14 @@ fn owned(alloc: Global, text: Option<&str>) -> Result<Option<String>, AllocError
 }
 
 /// How severe a result is: by its level, else a note where it isn't of the kind `fail`, else by its rule, else a warning.
-pub fn severity_of(reported: &Node<'_, '_>, rule: &Rule<'_>, troubles: &mut Troubles) -> Severity {
-    if let Some(level) = reported.text("level", troubles) {
+pub fn severity_of(reported: &Node<'_, '_>, rule: &Rule<'_>, problems: &mut Problems) -> Severity {
+    if let Some(level) = reported.text("level", problems) {
         match severity_by_name(level) {
             Some(severity) => return severity,
-            None => reported.tell_field("level", troubles, Expectation::Level),
+            None => reported.tell_field("level", problems, Expectation::Level),
         }
     }
-    match reported.text("kind", troubles) {
+    match reported.text("kind", problems) {
         Some(kind) if kind != "fail" => Severity::Note,
         _ => rule.severity().unwrap_or(Severity::Warning),
     }

@@ -7,7 +7,7 @@ use crate::location::{Context, add_spans};
 use crate::message::text_in;
 use crate::primary::choose_primary;
 use crate::rule::{Rule, code_of, rule_of, severity_of};
-use json_node::lenient::{List, Node, Troubles};
+use json_node::lenient::{List, Node, Problems};
 use redraw_report::diagnostic::{Diagnostic, FileSpan, Unit};
 use std::alloc::{AllocError, Global};
 
@@ -24,15 +24,15 @@ pub struct Run<'v, 'p> {
 
 impl<'v, 'p> Run<'v, 'p> {
     /// The run that this value describes. A value that is no object is a run without results, and is reported.
-    pub fn new(node: Node<'v, 'p>, troubles: &mut Troubles) -> Run<'v, 'p> {
-        let _is_told = node.is_object(troubles);
-        let unit = unit_of(&node, troubles);
+    pub fn new(node: Node<'v, 'p>, problems: &mut Problems) -> Run<'v, 'p> {
+        let _is_told = node.is_object(problems);
+        let unit = unit_of(&node, problems);
         Run { node, unit }
     }
 
     /// The results of the run.
-    pub fn results(&self, troubles: &mut Troubles) -> List<'v, '_> {
-        self.node.list("results", troubles)
+    pub fn results(&self, problems: &mut Problems) -> List<'v, '_> {
+        self.node.list("results", problems)
     }
 
     /// What a result of the run reports; `None` for a value that is no object, which is reported as wrong.
@@ -40,28 +40,28 @@ impl<'v, 'p> Run<'v, 'p> {
         &self,
         alloc: Global,
         reported: &Node<'v, '_>,
-        troubles: &mut Troubles,
+        problems: &mut Problems,
     ) -> Result<Option<Diagnostic>, AllocError> {
-        if !reported.is_object(troubles) {
+        if !reported.is_object(problems) {
             return Ok(None);
         }
         let context = Context {
             alloc,
             run: self.node.value,
-            rule: rule_of(self.node.value, reported, troubles),
+            rule: rule_of(self.node.value, reported, problems),
             unit: self.unit,
         };
-        Ok(Some(diagnostic_of(reported, &context, troubles)?))
+        Ok(Some(diagnostic_of(reported, &context, problems)?))
     }
 }
 
 /// What the columns of a run count: units of UTF-16 where it doesn't say.
-fn unit_of(run: &Node<'_, '_>, troubles: &mut Troubles) -> Unit {
-    match run.text("columnKind", troubles) {
+fn unit_of(run: &Node<'_, '_>, problems: &mut Problems) -> Unit {
+    match run.text("columnKind", problems) {
         Some("unicodeCodePoints") => Unit::CodePoints,
         Some("utf16CodeUnits") | None => Unit::Utf16,
         Some(_) => {
-            run.tell_field("columnKind", troubles, Expectation::ColumnKind);
+            run.tell_field("columnKind", problems, Expectation::ColumnKind);
             Unit::Utf16
         }
     }
@@ -71,12 +71,12 @@ fn unit_of(run: &Node<'_, '_>, troubles: &mut Troubles) -> Unit {
 fn diagnostic_of(
     reported: &Node<'_, '_>,
     context: &Context<'_>,
-    troubles: &mut Troubles,
+    problems: &mut Problems,
 ) -> Result<Diagnostic, AllocError> {
-    let severity = severity_of(reported, &context.rule, troubles);
-    let message = message_of(reported, context, troubles)?;
+    let severity = severity_of(reported, &context.rule, problems);
+    let message = message_of(reported, context, problems)?;
     let code = code_of(context.alloc, reported.value, &context.rule)?;
-    let told = told_of(reported, context, troubles)?;
+    let told = told_of(reported, context, problems)?;
     Ok(Diagnostic {
         severity,
         message,
@@ -91,9 +91,9 @@ fn diagnostic_of(
 fn message_of(
     reported: &Node<'_, '_>,
     context: &Context<'_>,
-    troubles: &mut Troubles,
+    problems: &mut Problems,
 ) -> Result<String, AllocError> {
-    match text_in(context.alloc, reported, "message", &context.rule, troubles)? {
+    match text_in(context.alloc, reported, "message", &context.rule, problems)? {
         Some(text) => Ok(text),
         None => String::from_str(context.alloc, description_of(&context.rule)),
     }
@@ -108,14 +108,14 @@ fn description_of<'v>(rule: &Rule<'v>) -> &'v str {
 fn told_of(
     reported: &Node<'_, '_>,
     context: &Context<'_>,
-    troubles: &mut Troubles,
+    problems: &mut Problems,
 ) -> Result<Told, AllocError> {
-    let spans = spans_of(reported, context, troubles)?;
+    let spans = spans_of(reported, context, problems)?;
     let children = Vec::new(context.alloc);
     let mut told = Told { spans, children };
-    add_steps(&mut told, reported, context, troubles)?;
-    let fixes = reported.list("fixes", troubles);
-    add_fixes(&mut told.children, &fixes, context, troubles)?;
+    add_steps(&mut told, reported, context, problems)?;
+    let fixes = reported.list("fixes", problems);
+    add_fixes(&mut told.children, &fixes, context, problems)?;
     Ok(told)
 }
 
@@ -123,13 +123,13 @@ fn told_of(
 fn spans_of(
     reported: &Node<'_, '_>,
     context: &Context<'_>,
-    troubles: &mut Troubles,
+    problems: &mut Problems,
 ) -> Result<Vec<FileSpan>, AllocError> {
     let mut spans = Vec::new(context.alloc);
-    let own = reported.list("locations", troubles);
-    add_spans(&mut spans, &own, context, true, troubles)?;
+    let own = reported.list("locations", problems);
+    add_spans(&mut spans, &own, context, true, problems)?;
     choose_primary(&mut spans);
-    let related = reported.list("relatedLocations", troubles);
-    add_spans(&mut spans, &related, context, false, troubles)?;
+    let related = reported.list("relatedLocations", problems);
+    add_spans(&mut spans, &related, context, false, problems)?;
     Ok(spans)
 }

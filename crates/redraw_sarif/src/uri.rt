@@ -1,7 +1,7 @@
 //! The files that a log names by addresses.
 
 use crate::expectation::Expectation;
-use json_node::lenient::{Node, Troubles, field_at, item_at, text_at, text_field};
+use json_node::lenient::{Node, Problems, field_at, item_at, text_at, text_field};
 use percent_encoding::percent_decode;
 use serde_json::Value;
 use std::alloc::{AllocError, Global};
@@ -26,15 +26,15 @@ pub fn path_in(
     alloc: Global,
     object: &Node<'_, '_>,
     run: &Value,
-    troubles: &mut Troubles,
+    problems: &mut Problems,
 ) -> Result<Option<String>, AllocError> {
-    let Some(location) = object.needed("artifactLocation", troubles) else {
+    let Some(location) = object.needed("artifactLocation", problems) else {
         return Ok(None);
     };
     match address_of(run, location.value) {
         Some(address) => Ok(Some(path_at(alloc, run, address)?)),
         None => {
-            location.tell(troubles, Expectation::Artifact);
+            location.tell(problems, Expectation::Artifact);
             Ok(None)
         }
     }

@@ -12,15 +12,15 @@ use Rattle.std.proofs.lemmas.List.{append-nil, length_push}
 use Rattle.std.proofs.lemmas.List.Folds.{concat-append}
 use Rattle.replay_run.specs.Answer.{AnswersLine, AnswersLines, AreFirstLines, AreLines, Numbered, first_after, number_after}
 use Rattle.replay_run.specs.Answered.{AnswersReader, AppendsFirst, AreFirstRead, AreRead, StopsAfter, StopsFor, StopsLine, StopsReader, line_after}
-use Rattle.replay_run.specs.Judged.{most}
-use Rattle.replay_run.specs.Trouble.{IsTroubleWith, IsWrite}
+use Rattle.replay_run.specs.Checked.{most}
+use Rattle.replay_run.specs.Problem.{IsProblemWith, IsWrite}
 use Rattle.replay_run.specs.declared.lines.Way.{Way}
-use Rattle.replay_run.specs.declared.trouble.Line.{Line}
-use Rattle.replay_run.specs.declared.trouble.Line.TheVariants.{Case}
-use Rattle.replay_run.specs.declared.trouble.Trouble.{Trouble}
-use Rattle.replay_run.specs.declared.trouble.Trouble.TheVariants.{NotText, NotJson, Wrong, Unpaired, TooManyLines, NotCases, Read, Clock, Write, Memory}
+use Rattle.replay_run.specs.declared.problem.Line.{Line}
+use Rattle.replay_run.specs.declared.problem.Line.TheVariants.{Case}
+use Rattle.replay_run.specs.declared.problem.Problem.{Problem}
+use Rattle.replay_run.specs.declared.problem.Problem.TheVariants.{NotText, NotJson, Wrong, Unpaired, TooManyLines, NotCases, Read, Clock, Write, Memory}
 use Rattle.replay_run.proofs.Growing.{appends_kept, appends_none, appends_twice}
-use Rattle.replay_run.proofs.Judging.{GivesLine, ended}
+use Rattle.replay_run.proofs.Checking.{GivesLine, ended}
 
 -- the first text, and those after it
 not_first : {X : Type 0} (lines : List X) → first_after false lines ≡ false
@@ -194,10 +194,10 @@ answered_all way told is_first still_first number held left next old new r h is 
     }
 
 -- what was written can't be handed on after the lines so far
-pub stops_after : (way : Way) (told is_first still_first : Bool) (number : ℕ) (held left old mid new : Option (List ℕ)) (trouble : Trouble)
+pub stops_after : (way : Way) (told is_first still_first : Bool) (number : ℕ) (held left old mid new : Option (List ℕ)) (problem : Problem)
     → HaveAnswered way told is_first still_first number held left old mid
-    → Keeps mid new → IsWrite trouble → StopsReader way is_first held old new trouble
-stops_after way told is_first still_first number held left old mid new trouble h kept write =
+    → Keeps mid new → IsWrite problem → StopsReader way is_first held old new problem
+stops_after way told is_first still_first number held left old mid new problem h kept write =
     record {
       lines = h.lines;
       read = left_first held left h.lines h.leaves;
@@ -215,10 +215,10 @@ stops_after way told is_first still_first number held left old mid new trouble h
       );
     }
 
-stops_in : (way : Way) (told here is_first still_first : Bool) (number more : ℕ) (held left next old mid new : Option (List ℕ)) (trouble : Trouble) (line text : List ℕ)
-    → HaveAnswered way told is_first still_first number held left old mid → more ≡ min (number + 1) most → GivesLine left next line → IsWrite trouble
-    → AnswersLine way here still_first (more, line) text → AppendsFirst mid new text → StopsReader way is_first held old new trouble
-stops_in way told here is_first still_first number more held left next old mid new trouble line text h step gives write answers first =
+stops_in : (way : Way) (told here is_first still_first : Bool) (number more : ℕ) (held left next old mid new : Option (List ℕ)) (problem : Problem) (line text : List ℕ)
+    → HaveAnswered way told is_first still_first number held left old mid → more ≡ min (number + 1) most → GivesLine left next line → IsWrite problem
+    → AnswersLine way here still_first (more, line) text → AppendsFirst mid new text → StopsReader way is_first held old new problem
+stops_in way told here is_first still_first number more held left next old mid new problem line text h step gives write answers first =
     let this : Numbered = next_line h.lines line in
     let one = answer_after way here is_first still_first number more h.lines line text h.counted step h.still answers in
     let whole : concat (h.texts ++ text ∷ []) ≡ concat h.texts ++ text = concat-append h.texts (text ∷ []) ∙ ap (λ (l : List ℕ). concat h.texts ++ l) (append-nil text) in
@@ -240,39 +240,39 @@ stops_in way told here is_first still_first number more held left next old mid n
     }
 
 -- a line that is no case stands after the lines so far
-trouble_after : {E : Type 0} (held left next : Option (List ℕ)) (lines : List Numbered) (at : Line) (line : Result (String Global) E) (trouble : Trouble)
+problem_after : {E : Type 0} (held left next : Option (List ℕ)) (lines : List Numbered) (at : Line) (line : Result (String Global) E) (problem : Problem)
     → LeavesAfter held left lines
-    → YieldsKnownPiece string_bytes first_line 10 left (Some line) next → at ≡ line_after lines → IsTroubleWith at line trouble → StopsAfter held lines trouble
-trouble_after held left next lines at line (NotText place) h gives at_is with = with ∙ at_is
-trouble_after held left next lines at (Ok x) (NotJson place column ends_early) h gives at_is with = (
+    → YieldsKnownPiece string_bytes first_line 10 left (Some line) next → at ≡ line_after lines → IsProblemWith at line problem → StopsAfter held lines problem
+problem_after held left next lines at line (NotText place) h gives at_is with = with ∙ at_is
+problem_after held left next lines at (Ok x) (NotJson place column ends_early) h gives at_is with = (
   with.0 ∙ at_is,
   string_bytes x,
   left_first held next (lines ++ next_line lines (string_bytes x) ∷ []) (left_more held left next lines (string_bytes x) h gives),
   with.1,
 )
-trouble_after held left next lines at (Err e) (NotJson place column ends_early) h gives at_is with = absurd with.1
-trouble_after held left next lines at (Ok x) (Wrong place words) h gives at_is with = (
+problem_after held left next lines at (Err e) (NotJson place column ends_early) h gives at_is with = absurd with.1
+problem_after held left next lines at (Ok x) (Wrong place words) h gives at_is with = (
   with.0 ∙ at_is,
   string_bytes x,
   left_first held next (lines ++ next_line lines (string_bytes x) ∷ []) (left_more held left next lines (string_bytes x) h gives),
   with.1.0,
   with.1.1,
 )
-trouble_after held left next lines at (Err e) (Wrong place words) h gives at_is with = absurd with.1
-trouble_after held left next lines at line (Unpaired number) h gives at_is with = absurd with
-trouble_after held left next lines at line TooManyLines h gives at_is with = absurd with
-trouble_after held left next lines at line NotCases h gives at_is with = absurd with
-trouble_after held left next lines at line (Read error) h gives at_is with = tt
-trouble_after held left next lines at line (Clock error) h gives at_is with = absurd with
-trouble_after held left next lines at line (Write error) h gives at_is with = absurd with
-trouble_after held left next lines at line Memory h gives at_is with = tt
+problem_after held left next lines at (Err e) (Wrong place words) h gives at_is with = absurd with.1
+problem_after held left next lines at line (Unpaired number) h gives at_is with = absurd with
+problem_after held left next lines at line TooManyLines h gives at_is with = absurd with
+problem_after held left next lines at line NotCases h gives at_is with = absurd with
+problem_after held left next lines at line (Read error) h gives at_is with = tt
+problem_after held left next lines at line (Clock error) h gives at_is with = absurd with
+problem_after held left next lines at line (Write error) h gives at_is with = absurd with
+problem_after held left next lines at line Memory h gives at_is with = tt
 
 -- it stops within one line more, or at it
-pub stops_within : {E : Type 0} (way : Way) (told is_first still_first : Bool) (number more : ℕ) (held left next old mid new : Option (List ℕ)) (trouble : Trouble)
+pub stops_within : {E : Type 0} (way : Way) (told is_first still_first : Bool) (number more : ℕ) (held left next old mid new : Option (List ℕ)) (problem : Problem)
     (r : Option (Result (String Global) E)) (line : Result (String Global) E) → HaveAnswered way told is_first still_first number held left old mid
     → more ≡ min (number + 1) most → r ≡ Some line → YieldsKnownPiece string_bytes first_line 10 left r next
-    → StopsLine way still_first more line mid new trouble → StopsReader way is_first held old new trouble
-stops_within way told is_first still_first number more held left next old mid new trouble r line h step is gives (inr with) =
+    → StopsLine way still_first more line mid new problem → StopsReader way is_first held old new problem
+stops_within way told is_first still_first number more held left next old mid new problem r line h step is gives (inr with) =
     record {
       lines = h.lines;
       read = left_first held left h.lines h.leaves;
@@ -281,13 +281,13 @@ stops_within way told is_first still_first number more held left next old mid ne
       answered = h.answered;
       written = inr (
         appends_kept old mid new (concat h.texts) h.written with.0,
-        trouble_after held left next h.lines (Case more) line trouble h.leaves (subst (λ item. YieldsKnownPiece string_bytes first_line 10 left item next) is gives)
+        problem_after held left next h.lines (Case more) line problem h.leaves (subst (λ item. YieldsKnownPiece string_bytes first_line 10 left item next) is gives)
             (ap Case (next_number (length h.lines) number more h.counted step)) with.1,
         with.2,
       );
     }
-stops_within way told is_first still_first number more held left next old mid new trouble r (Ok x) h step is gives (inl part) =
+stops_within way told is_first still_first number more held left next old mid new problem r (Ok x) h step is gives (inl part) =
     let (here, text, answers, first) = part.1 in
     let piece : GivesLine left next (string_bytes x) = subst (λ item. YieldsKnownPiece string_bytes first_line 10 left item next) is gives in
-    stops_in way told here is_first still_first number more held left next old mid new trouble (string_bytes x) text h step piece part.0 answers first
-stops_within way told is_first still_first number more held left next old mid new trouble r (Err e) h step is gives (inl part) = absurd part.1
+    stops_in way told here is_first still_first number more held left next old mid new problem (string_bytes x) text h step piece part.0 answers first
+stops_within way told is_first still_first number more held left next old mid new problem r (Err e) h step is gives (inl part) = absurd part.1

@@ -12,9 +12,9 @@ use Rattle.std.proofs.lemmas.List.Elements.{All-push}
 use Rattle.replay_run.specs.Answer.{AnswersLines, Numbered, first_after}
 use Rattle.replay_run.specs.Answered.{AnswersReader, AnswersReaders, AppendsFirst, AreRead, IsEndTrouble, StopsAfter, StopsAt, StopsFor, StopsReader}
 use Rattle.replay_run.specs.Answered.{StopsReaders}
-use Rattle.replay_run.specs.Trouble.{IsWrite}
+use Rattle.replay_run.specs.Problem.{IsWrite}
 use Rattle.replay_run.specs.Words.{Word}
-use Rattle.replay_run.specs.declared.trouble.Trouble.{Trouble}
+use Rattle.replay_run.specs.declared.problem.Problem.{Problem}
 use Rattle.replay_run.specs.declared.lines.Way.{Way}
 use Rattle.replay_run.proofs.AnsweredLines.{answered_twice, first_twice, written_twice}
 use Rattle.replay_run.proofs.Growing.{appends_kept, appends_none}
@@ -120,15 +120,15 @@ pub if_err : {T E : Type 0} {P Q : E → Type 0} (r : Result T E) → ((e : E) �
 if_err (Ok x) tells h = tt
 if_err (Err e) tells h = tells e h
 
-pub stopped_same : (way : Way) (is_first : Bool) (held same old new : Option (List ℕ)) (trouble : Trouble) → held ≡ same
-    → StopsReader way is_first held old new trouble → StopsReader way is_first same old new trouble
-stopped_same way is_first held same old new trouble is h =
-    subst (λ bytes. StopsReader way is_first bytes old new trouble) is h
+pub stopped_same : (way : Way) (is_first : Bool) (held same old new : Option (List ℕ)) (problem : Problem) → held ≡ same
+    → StopsReader way is_first held old new problem → StopsReader way is_first same old new problem
+stopped_same way is_first held same old new problem is h =
+    subst (λ bytes. StopsReader way is_first bytes old new problem) is h
 
-part_kept : (way : Way) (held old mid new : Option (List ℕ)) (lines : List Numbered) (whole : List ℕ) (trouble : Trouble)
-    → (IsWrite trouble × AppendsFirst old mid whole) ⊎ (Appends old mid whole × StopsAfter held lines trouble × StopsFor way trouble)
-    → Keeps mid new → (IsWrite trouble × AppendsFirst old new whole) ⊎ (Appends old new whole × StopsAfter held lines trouble × StopsFor way trouble)
-part_kept way held old mid new lines whole trouble (inl h) kept =
+part_kept : (way : Way) (held old mid new : Option (List ℕ)) (lines : List Numbered) (whole : List ℕ) (problem : Problem)
+    → (IsWrite problem × AppendsFirst old mid whole) ⊎ (Appends old mid whole × StopsAfter held lines problem × StopsFor way problem)
+    → Keeps mid new → (IsWrite problem × AppendsFirst old new whole) ⊎ (Appends old new whole × StopsAfter held lines problem × StopsFor way problem)
+part_kept way held old mid new lines whole problem (inl h) kept =
     inl (
       h.0,
       record {
@@ -138,26 +138,26 @@ part_kept way held old mid new lines whole trouble (inl h) kept =
         added = appends_kept old mid new h.1.part h.1.added kept;
       },
     )
-part_kept way held old mid new lines whole trouble (inr h) kept = inr (appends_kept old mid new whole h.0 kept, h.1, h.2)
+part_kept way held old mid new lines whole problem (inr h) kept = inr (appends_kept old mid new whole h.0 kept, h.1, h.2)
 
 -- nothing more is written after it stopped
-stopped_kept : (way : Way) (is_first : Bool) (held old mid new : Option (List ℕ)) (trouble : Trouble) → StopsReader way is_first held old mid trouble
-    → Keeps mid new → StopsReader way is_first held old new trouble
-stopped_kept way is_first held old mid new trouble h kept =
+stopped_kept : (way : Way) (is_first : Bool) (held old mid new : Option (List ℕ)) (problem : Problem) → StopsReader way is_first held old mid problem
+    → Keeps mid new → StopsReader way is_first held old new problem
+stopped_kept way is_first held old mid new problem h kept =
     record {
       lines = h.lines;
       read = h.read;
       texts = h.texts;
       told = h.told;
       answered = h.answered;
-      written = part_kept way held old mid new h.lines (concat h.texts) trouble h.written kept;
+      written = part_kept way held old mid new h.lines (concat h.texts) problem h.written kept;
     }
 
-at_kept : {Reader : Type 0} (bytes : Reader → Option (List ℕ)) (way : Way) (is_first : Bool) (old mid new : Option (List ℕ)) (trouble : Trouble)
-    → StopsAt Reader bytes way is_first old mid trouble → Keeps mid new → StopsAt Reader bytes way is_first old new trouble
-at_kept bytes way is_first old mid new trouble (inl h) kept = inl (Keeps-trans old mid new h.0 kept, h.1)
-at_kept bytes way is_first old mid new trouble (inr h) kept =
-    inr (h.0, stopped_kept way is_first (bytes h.0) old mid new trouble h.1 kept)
+at_kept : {Reader : Type 0} (bytes : Reader → Option (List ℕ)) (way : Way) (is_first : Bool) (old mid new : Option (List ℕ)) (problem : Problem)
+    → StopsAt Reader bytes way is_first old mid problem → Keeps mid new → StopsAt Reader bytes way is_first old new problem
+at_kept bytes way is_first old mid new problem (inl h) kept = inl (Keeps-trans old mid new h.0 kept, h.1)
+at_kept bytes way is_first old mid new problem (inr h) kept =
+    inr (h.0, stopped_kept way is_first (bytes h.0) old mid new problem h.1 kept)
 
 -- the name at this place, and those before and after it
 pub names_at : (refs : List (Bor Word)) (i : ℕ) (d : Bor Word) → i < length refs
@@ -169,30 +169,30 @@ names_at (r ∷ refs) (suc i) d within =
     (r.now ∷ before, after, ap (λ (l : List Word). r.now ∷ l) split, ap suc many)
 
 -- with so many readers answered it stops at the next
-pub readers_stop : {Reader : Type 0} (bytes : Reader → Option (List ℕ)) (way : Way) (told : Bool) (count : ℕ) (names before after : List Word) (name : Word) (is_first : Bool) (old mid new : Option (List ℕ)) (trouble : Trouble)
+pub readers_stop : {Reader : Type 0} (bytes : Reader → Option (List ℕ)) (way : Way) (told : Bool) (count : ℕ) (names before after : List Word) (name : Word) (is_first : Bool) (old mid new : Option (List ℕ)) (problem : Problem)
     → HaveAnsweredReaders Reader bytes way told count is_first old mid → names ≡ before ++ name ∷ after → length before ≡ count
-    → StopsAt Reader bytes way is_first mid new trouble → StopsReaders Reader bytes way names old new name trouble
-readers_stop {Reader} bytes way told count names before after name is_first old mid new trouble h split many stops =
+    → StopsAt Reader bytes way is_first mid new problem → StopsReaders Reader bytes way names old new name problem
+readers_stop {Reader} bytes way told count names before after name is_first old mid new problem h split many stops =
     let all : HaveAnsweredReaders Reader bytes way told (length before) is_first old mid = subst (λ n. HaveAnsweredReaders Reader bytes way told n is_first old mid) (sym many) h in
     record {
       before = before;
       mid = mid;
       told = told;
       answered = all.all;
-      stops = inl (after, split, subst (λ f. StopsAt Reader bytes way f mid new trouble) all.still stops);
+      stops = inl (after, split, subst (λ f. StopsAt Reader bytes way f mid new problem) all.still stops);
     }
 
 -- it stops at the first reader
-pub first_stops : {Reader : Type 0} (bytes : Reader → Option (List ℕ)) (way : Way) (name : Word) (old new : Option (List ℕ)) (trouble : Trouble)
-    → StopsAt Reader bytes way true old new trouble → StopsReaders Reader bytes way (name ∷ []) old new name trouble
-first_stops bytes way name old new trouble stops =
-    readers_stop bytes way false 0 (name ∷ []) [] [] name true old old new trouble (readers_none bytes way old) refl refl stops
+pub first_stops : {Reader : Type 0} (bytes : Reader → Option (List ℕ)) (way : Way) (name : Word) (old new : Option (List ℕ)) (problem : Problem)
+    → StopsAt Reader bytes way true old new problem → StopsReaders Reader bytes way (name ∷ []) old new name problem
+first_stops bytes way name old new problem stops =
+    readers_stop bytes way false 0 (name ∷ []) [] [] name true old old new problem (readers_none bytes way old) refl refl stops
 
 -- it stops where all readers are answered: as the last flush fails, or as a line was no case
-pub all_stop : {Reader : Type 0} (bytes : Reader → Option (List ℕ)) (way : Way) (told : Bool) (names : List Word) (old mid new : Option (List ℕ)) (trouble : Trouble)
+pub all_stop : {Reader : Type 0} (bytes : Reader → Option (List ℕ)) (way : Way) (told : Bool) (names : List Word) (old mid new : Option (List ℕ)) (problem : Problem)
     → AnswersReaders Reader bytes way told (length names) old mid
-    → Keeps mid new → IsEndTrouble told trouble → StopsReaders Reader bytes way names old new (codes "standard output") trouble
-all_stop bytes way told names old mid new trouble h kept end =
+    → Keeps mid new → IsEndTrouble told problem → StopsReaders Reader bytes way names old new (codes "standard output") problem
+all_stop bytes way told names old mid new problem h kept end =
     record {
       before = names;
       mid = mid;
@@ -201,18 +201,18 @@ all_stop bytes way told names old mid new trouble h kept end =
       stops = inr (refl, refl, end, kept);
     }
 
-pub stops_kept : {Reader : Type 0} (bytes : Reader → Option (List ℕ)) (way : Way) (names : List Word) (old mid new : Option (List ℕ)) (name : Word) (trouble : Trouble) → StopsReaders Reader bytes way names old mid name trouble → Keeps mid new → StopsReaders Reader bytes way names old new name trouble
-stops_kept {Reader} bytes way names old mid new name trouble h kept = kept_at h.stops
+pub stops_kept : {Reader : Type 0} (bytes : Reader → Option (List ℕ)) (way : Way) (names : List Word) (old mid new : Option (List ℕ)) (name : Word) (problem : Problem) → StopsReaders Reader bytes way names old mid name problem → Keeps mid new → StopsReaders Reader bytes way names old new name problem
+stops_kept {Reader} bytes way names old mid new name problem h kept = kept_at h.stops
   where
-    kept_at : ((after : List Word) × (names ≡ h.before ++ name ∷ after) × StopsAt Reader bytes way (first_after true (lines_of h.answered.readers)) h.mid mid trouble)
-        ⊎ ((names ≡ h.before) × (name ≡ codes "standard output") × IsEndTrouble h.told trouble × Keeps h.mid mid) → StopsReaders Reader bytes way names old new name trouble
+    kept_at : ((after : List Word) × (names ≡ h.before ++ name ∷ after) × StopsAt Reader bytes way (first_after true (lines_of h.answered.readers)) h.mid mid problem)
+        ⊎ ((names ≡ h.before) × (name ≡ codes "standard output") × IsEndTrouble h.told problem × Keeps h.mid mid) → StopsReaders Reader bytes way names old new name problem
     kept_at (inl at) =
         record {
           before = h.before;
           mid = h.mid;
           told = h.told;
           answered = h.answered;
-          stops = inl (at.0, at.1, at_kept bytes way _ h.mid mid new trouble at.2 kept);
+          stops = inl (at.0, at.1, at_kept bytes way _ h.mid mid new problem at.2 kept);
         }
     kept_at (inr end) =
         record {

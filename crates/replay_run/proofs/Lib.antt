@@ -4,7 +4,7 @@ pub mod Commands
 pub mod Ending
 pub mod GoingOn
 pub mod Growing
-pub mod Judging
+pub mod Checking
 pub mod Reading
 mod NotStopped
 pub mod Telling

@@ -7,13 +7,13 @@ use Rattle.replay_run.specs.Answer.{AnswersLine, AnswersLines, AreFirstLines, Nu
 use Rattle.replay_answer.specs.Answer.{answer_of, told_of}
 use Rattle.replay_run.specs.Answered.{AppendsFirst, StopsAfter, StopsFor, StopsReader}
 use Rattle.replay_answer.specs.Answer.{column_text}
-use Rattle.replay_run.specs.Trouble.{IsWrite}
+use Rattle.replay_run.specs.Problem.{IsWrite}
 use Rattle.replay_run.specs.declared.lines.Form.TheVariants.{Json}
 use Rattle.replay_run.specs.declared.lines.Way.{Way}
-use Rattle.replay_run.specs.declared.trouble.Line.{Line}
-use Rattle.replay_run.specs.declared.trouble.Line.TheVariants.{Case, Expected}
-use Rattle.replay_run.specs.declared.trouble.Trouble.{Trouble}
-use Rattle.replay_run.specs.declared.trouble.Trouble.TheVariants.{NotText, NotJson}
+use Rattle.replay_run.specs.declared.problem.Line.{Line}
+use Rattle.replay_run.specs.declared.problem.Line.TheVariants.{Case, Expected}
+use Rattle.replay_run.specs.declared.problem.Problem.{Problem}
+use Rattle.replay_run.specs.declared.problem.Problem.TheVariants.{NotText, NotJson}
 
 -- with status 0 or 1 standard error holds what it held, so nothing is told there
 pub noise : (status b : ℕ) (rest : List ℕ) → status ≤ 1 → (status ≤ 1 → Some (b ∷ rest) ≡ Some []) → ⊥
@@ -35,14 +35,14 @@ part_of_none b rest whole part more none split is =
     omega (arith, ap length none, ap length split, ap length is, long)
 
 -- an answer that is written where nothing was read is no answer: `{"id":"a","ok":[]}` before it stops
-pub invented : (way : Way) (is_first : Bool) (b : ℕ) (rest : List ℕ) (trouble : Trouble)
-    → StopsReader way is_first (Some []) (Some []) (Some (b ∷ rest)) trouble → ⊥
-invented way is_first b rest trouble h = written h.written
+pub invented : (way : Way) (is_first : Bool) (b : ℕ) (rest : List ℕ) (problem : Problem)
+    → StopsReader way is_first (Some []) (Some []) (Some (b ∷ rest)) problem → ⊥
+invented way is_first b rest problem h = written h.written
   where
     none : concat h.texts ≡ []
     none = none_of_none way h.told is_first h.lines h.texts h.read h.answered
 
-    written : (IsWrite trouble × AppendsFirst (Some []) (Some (b ∷ rest)) (concat h.texts)) ⊎ (Appends (Some []) (Some (b ∷ rest)) (concat h.texts) × StopsAfter (Some []) h.lines trouble × StopsFor way trouble) → ⊥
+    written : (IsWrite problem × AppendsFirst (Some []) (Some (b ∷ rest)) (concat h.texts)) ⊎ (Appends (Some []) (Some (b ∷ rest)) (concat h.texts) × StopsAfter (Some []) h.lines problem × StopsFor way problem) → ⊥
     written (inl w) = part_of_none b rest (concat h.texts) w.1.part w.1.rest none w.1.split w.1.added
     written (inr w) =
         let same : b ∷ rest ≡ concat h.texts = w.0 in

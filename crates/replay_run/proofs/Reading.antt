@@ -6,15 +6,15 @@ use Rattle.std.specs.declared.vec.Vec.{Vec}
 use Rattle.serde_json.specs.Data.{Data}
 use Rattle.serde_json.specs.Read.{read}
 use Rattle.replay_run.specs.Answer.{AnswersCase, AnswersValue}
-use Rattle.replay_run.specs.Trouble.{IsMisread, IsTroubleWith}
+use Rattle.replay_run.specs.Problem.{IsMisread, IsProblemWith}
 use Rattle.replay_run.specs.declared.lines.Form.{Form}
-use Rattle.replay_run.specs.declared.trouble.Line.{Line}
-use Rattle.replay_run.specs.declared.trouble.Trouble.{Trouble}
-use Rattle.replay_run.specs.declared.trouble.Trouble.TheVariants.{NotText, NotJson, Wrong, Unpaired, TooManyLines, NotCases, Read, Clock, Write, Memory}
-use Rattle.replay_run.proofs.Judging.{ok_and}
+use Rattle.replay_run.specs.declared.problem.Line.{Line}
+use Rattle.replay_run.specs.declared.problem.Problem.{Problem}
+use Rattle.replay_run.specs.declared.problem.Problem.TheVariants.{NotText, NotJson, Wrong, Unpaired, TooManyLines, NotCases, Read, Clock, Write, Memory}
+use Rattle.replay_run.proofs.Checking.{ok_and}
 
 -- what answers the value answers the line
-pub line_answered : {E : Type 0} (form : Form) (is_first : Bool) (line : Result (String Global) E) (d : Data) (r : Result (Vec ℕ Global) Trouble)
+pub line_answered : {E : Type 0} (form : Form) (is_first : Bool) (line : Result (String Global) E) (d : Data) (r : Result (Vec ℕ Global) Problem)
     → IsOkAnd line (λ text. read (string_bytes text) ≡ Some d) → IfOk r (λ text. AnswersValue form is_first d text.items)
     → IfOk r (λ text. IsOkAnd line (λ line. AnswersCase form is_first (string_bytes line) text.items))
 line_answered form is_first line d (Ok text) reads h =
@@ -24,12 +24,12 @@ line_answered form is_first line d (Ok text) reads h =
       became = record { described = d; reads = is; case_is = h.case_is; became = h.became };
       text_is = h.text_is;
     }) reads
-line_answered form is_first line d (Err trouble) reads h = tt
+line_answered form is_first line d (Err problem) reads h = tt
 
 -- a value that describes nothing is that of a line that does
-pub line_misread : {T E : Type 0} (at : Line) (line : Result (String Global) E) (d : Data) (r : Result T Trouble)
+pub line_misread : {T E : Type 0} (at : Line) (line : Result (String Global) E) (d : Data) (r : Result T Problem)
     → IsOkAnd line (λ text. read (string_bytes text) ≡ Some d)
-    → IfErr r (IsMisread at) → IfErr r (IsTroubleWith at line)
+    → IfErr r (IsMisread at) → IfErr r (IsProblemWith at line)
 line_misread at line d (Ok x) reads h = tt
 line_misread at line d (Err (NotText place)) reads h = absurd h
 line_misread at line d (Err (NotJson place column ends_early)) reads h = absurd h

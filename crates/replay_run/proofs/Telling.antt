@@ -2,7 +2,7 @@
 use Rattle.std.proofs.Common.{◌≡◌, ℕ, List, String, Global, ap, chars, encode_utf8_all, string_bytes, sym, ◌∙◌}
 use Rattle.std.proofs.lemmas.Str.{IsUtf8-string_bytes, encodes-chars}
 use Rattle.annotate_snippets.specs.Normalized.{norm}
-use Rattle.replay_run.specs.Trouble.{shown}
+use Rattle.replay_run.specs.Problem.{shown}
 
 -- what is shown for a text is spelled by the characters that are shown for it
 pub shown_message : (text : String Global) (given whole : List ℕ) → chars (string_bytes text) ≡ norm (chars given) → given ≡ whole

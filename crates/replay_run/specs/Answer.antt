@@ -8,7 +8,7 @@ use Rattle.serde_json.specs.Data.{Data}
 use Rattle.serde_json.specs.Written.{compact_text}
 use Rattle.replay_answer.specs.Answer.{IsNoCase, answer_of, told_of}
 use Rattle.replay_answer.specs.Case.{IsCaseOf}
-use Rattle.replay_run.specs.Judged.{most}
+use Rattle.replay_run.specs.Checked.{most}
 use Rattle.replay_answer.specs.Outcome.{Becomes, IsOutcomeOf}
 use Rattle.replay_answer.specs.declared.case.Case.{Case}
 use Rattle.replay_run.specs.declared.lines.Form.{Form}

@@ -8,13 +8,13 @@ use Rattle.std.specs.List.{concat, flat_map}
 use Rattle.serde_json.specs.Data.{Data}
 use Rattle.serde_json.specs.Read.{read}
 use Rattle.replay_run.specs.Answer.{AreFirstLines, AreLines, AnswersLine, AnswersLines, Numbered, first_after, number_after}
-use Rattle.replay_run.specs.Trouble.{IsFinal, IsRead, IsTroubleWith, IsWrite}
+use Rattle.replay_run.specs.Problem.{IsFinal, IsRead, IsProblemWith, IsWrite}
 use Rattle.replay_run.specs.Words.{Word}
 use Rattle.replay_run.specs.declared.lines.Way.{Way}
-use Rattle.replay_run.specs.declared.trouble.Line.{Line}
-use Rattle.replay_run.specs.declared.trouble.Line.TheVariants.{Case}
-use Rattle.replay_run.specs.declared.trouble.Trouble.{Trouble}
-use Rattle.replay_run.specs.declared.trouble.Trouble.TheVariants.{NotText, NotJson, Wrong, Unpaired, TooManyLines, NotCases, Read, Clock, Write, Memory}
+use Rattle.replay_run.specs.declared.problem.Line.{Line}
+use Rattle.replay_run.specs.declared.problem.Line.TheVariants.{Case}
+use Rattle.replay_run.specs.declared.problem.Problem.{Problem}
+use Rattle.replay_run.specs.declared.problem.Problem.TheVariants.{NotText, NotJson, Wrong, Unpaired, TooManyLines, NotCases, Read, Clock, Write, Memory}
 
 -- the lines that were read of what a reader holds: all its lines, where it is known what it holds
 abbrev pub AreRead : Option (List ℕ) → List Numbered → Type 0
@@ -51,17 +51,17 @@ pub record AppendsFirst (old new : Option (List ℕ)) (whole : List ℕ) : Type 
   pub split : whole ≡ part ++ rest
   pub added : Appends old new part
 
--- it is trouble to stop for: where it is to go on, it isn't with what a line says
-abbrev pub StopsFor : Way → Trouble → Type 0
-StopsFor way trouble = IsTrue way.keep_going → IsFinal trouble
+-- it is problem to stop for: where it is to go on, it isn't with what a line says
+abbrev pub StopsFor : Way → Problem → Type 0
+StopsFor way problem = IsTrue way.keep_going → IsFinal problem
 
 -- answering a line stops: a write failed, and of the text that answers it a first part is added to what a writer held; or nothing is
 -- added, and the line of this number is no case, and it isn't to go on, or can't
-abbrev pub StopsLine : {E : Type 0} → Way → Bool → ℕ → Result (String Global) E → Option (List ℕ) → Option (List ℕ) → Trouble → Type 0
-StopsLine way is_first number line old new trouble =
-    (IsWrite trouble × IsOkAnd line (λ line. (told : Bool) × (text : List ℕ)
+abbrev pub StopsLine : {E : Type 0} → Way → Bool → ℕ → Result (String Global) E → Option (List ℕ) → Option (List ℕ) → Problem → Type 0
+StopsLine way is_first number line old new problem =
+    (IsWrite problem × IsOkAnd line (λ line. (told : Bool) × (text : List ℕ)
     × AnswersLine way told is_first (number, string_bytes line) text × AppendsFirst old new text))
-    ⊎ (Keeps old new × IsTroubleWith (Case number) line trouble × StopsFor way trouble)
+    ⊎ (Keeps old new × IsProblemWith (Case number) line problem × StopsFor way problem)
 
 -- the line after these, by its number, as far as can be counted
 abbrev pub line_after : List Numbered → Line
@@ -69,7 +69,7 @@ line_after lines = Case (number_after (length lines))
 
 -- it stops at the line after these, which is no case: it is no text, or no JSON, or JSON that describes none; or what the reader holds
 -- couldn't be read any further, or there was no memory
-abbrev pub StopsAfter : Option (List ℕ) → List Numbered → Trouble → Type 0
+abbrev pub StopsAfter : Option (List ℕ) → List Numbered → Problem → Type 0
 StopsAfter held lines (NotText place) = place ≡ line_after lines
 StopsAfter held lines (NotJson place column ends_early) =
     (place ≡ line_after lines) × (line : List ℕ) × AreFirstRead held (lines ++ (number_after (length lines), line) ∷ []) × (read line ≡ None)
@@ -86,31 +86,31 @@ StopsAfter held lines Memory = Unit {0}
 
 -- answering a reader stops: its first lines are answered, in order. To what a writer held the texts that answer them are added, all of
 -- them and nothing else, and it stops at the line after these; or a write failed, and a first part of the texts is added
-pub record StopsReader (way : Way) (is_first : Bool) (held old new : Option (List ℕ)) (trouble : Trouble) : Type 0 where
+pub record StopsReader (way : Way) (is_first : Bool) (held old new : Option (List ℕ)) (problem : Problem) : Type 0 where
   pub lines : List Numbered
   pub read : AreFirstRead held lines
   pub texts : List (List ℕ)
   pub told : Bool
   pub answered : AnswersLines way told is_first lines texts
-  pub written : (IsWrite trouble × AppendsFirst old new (concat texts))
-      ⊎ (Appends old new (concat texts) × StopsAfter held lines trouble × StopsFor way trouble)
+  pub written : (IsWrite problem × AppendsFirst old new (concat texts))
+      ⊎ (Appends old new (concat texts) × StopsAfter held lines problem × StopsFor way problem)
 
 -- answering stops at a reader that can't be had, or within it
-abbrev pub StopsAt : (Reader : Type 0) → (Reader → Option (List ℕ)) → Way → Bool → Option (List ℕ) → Option (List ℕ) → Trouble → Type 0
-StopsAt Reader bytes way is_first old new trouble =
-    (Keeps old new × IsRead trouble) ⊎ ((reader : Reader) × StopsReader way is_first (bytes reader) old new trouble)
+abbrev pub StopsAt : (Reader : Type 0) → (Reader → Option (List ℕ)) → Way → Bool → Option (List ℕ) → Option (List ℕ) → Problem → Type 0
+StopsAt Reader bytes way is_first old new problem =
+    (Keeps old new × IsRead problem) ⊎ ((reader : Reader) × StopsReader way is_first (bytes reader) old new problem)
 
--- the trouble with readers that are all answered: what was written can't be handed on, or an answer tells that its line is no case
-abbrev pub IsEndTrouble : Bool → Trouble → Type 0
-IsEndTrouble told trouble = IsWrite trouble ⊎ (IsTrue told × (trouble ≡ NotCases))
+-- the problem with readers that are all answered: what was written can't be handed on, or an answer tells that its line is no case
+abbrev pub IsEndTrouble : Bool → Problem → Type 0
+IsEndTrouble told problem = IsWrite problem ⊎ (IsTrue told × (problem ≡ NotCases))
 
 -- answering the readers of these names stops: those of the first names are answered, each to its end, and it stops at the next; or all
--- are answered, and there is trouble with that
-pub record StopsReaders (Reader : Type 0) (bytes : Reader → Option (List ℕ)) (way : Way) (names : List Word) (old new : Option (List ℕ)) (name : Word) (trouble : Trouble) : Type 0 where
+-- are answered, and there is problem with that
+pub record StopsReaders (Reader : Type 0) (bytes : Reader → Option (List ℕ)) (way : Way) (names : List Word) (old new : Option (List ℕ)) (name : Word) (problem : Problem) : Type 0 where
   pub before : List Word
   pub mid : Option (List ℕ)
   pub told : Bool
   pub answered : AnswersReaders Reader bytes way told (length before) old mid
   pub stops : ((after : List Word) × (names ≡ before ++ name ∷ after)
-      × StopsAt Reader bytes way (first_after true (flat_map (λ reader. reader.1) answered.readers)) mid new trouble)
-      ⊎ ((names ≡ before) × (name ≡ codes "standard output") × IsEndTrouble told trouble × Keeps mid new)
+      × StopsAt Reader bytes way (first_after true (flat_map (λ reader. reader.1) answered.readers)) mid new problem)
+      ⊎ ((names ≡ before) × (name ≡ codes "standard output") × IsEndTrouble told problem × Keeps mid new)

@@ -2,7 +2,7 @@
 use Rattle.std.specs.Prelude.{◌≡◌, ◌↔◌, ℕ, ◌/◌, List, [], ◌++◌, Option, codes, decimal}
 use Rattle.std.specs.Io.KnownBytes.{Appends}
 use Rattle.replay_run.specs.Answer.{line_of}
-use Rattle.replay_run.specs.Judged.{CountsFiles}
+use Rattle.replay_run.specs.Checked.{CountsFiles}
 use Rattle.replay_run.specs.declared.check.Counts.{Counts}
 
 -- the line that tells counts

@@ -3,6 +3,6 @@ pub mod Answered
 pub mod Compared
 pub mod Expected
 pub mod Growth
-pub mod Judged
-pub mod Trouble
+pub mod Checked
+pub mod Problem
 pub mod Words

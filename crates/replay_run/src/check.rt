@@ -5,11 +5,11 @@ ghost use Rattle.std.specs.Prelude.{string_bytes};
 ghost use Rattle.serde_json.specs.View.{view};
 ghost use Rattle.replay_run.specs.Expected.{IsExpectedOf, IsMet};
 ghost use Rattle.replay_run.specs.Growth.{Grows};
-ghost use Rattle.replay_run.specs.Judged.{CountsLines, JudgesCase, JudgesLine, most};
+ghost use Rattle.replay_run.specs.Checked.{CountsLines, ChecksCase, ChecksLine, most};
 
 use crate::expected::{Expected, expected_of, write_wanted};
 use crate::lines::{numbered_case, value_of, write_line, write_outcome};
-use crate::trouble::{Line, Trouble, wrong_line};
+use crate::problem::{Line, Problem, wrong_line};
 use replay_answer::outcome::{Outcome, outcome_of};
 use serde_json::Value;
 use std::alloc::Global;
@@ -68,7 +68,7 @@ pub fn check_lines<B: BufRead + Drop, C: BufRead + Drop, W: Write>(
     expected: B,
     cases: C,
     out: &mut W,
-) -> Result<Counts, Trouble>
+) -> Result<Counts, Problem>
     ensures counts { IfOk result (CountsLines (B.remaining expected) (C.remaining cases)) }
     ensures added { OnOk result (Grows (W.contents out.old) (W.contents out.new)) }
     ensures silent { IfOk result (λ counts. counts.failed ≡ 0 → out.new ≡ out.old) }
@@ -83,10 +83,10 @@ pub fn check_lines<B: BufRead + Drop, C: BufRead + Drop, W: Write>(
                 let passes = check_line(alloc, number, answer, line, out)?;
                 counts = counts.with(passes);
             }
-            _ => return Err(Trouble::Unpaired(number)),
+            _ => return Err(Problem::Unpaired(number)),
         }
     }
-    Err(Trouble::TooManyLines)
+    Err(Problem::TooManyLines)
 }
 
 /// Whether a case became what is expected; if not, it is written.
@@ -96,15 +96,15 @@ fn check_line<W: Write>(
     answer: io::Result<String>,
     line: io::Result<String>,
     out: &mut W,
-) -> Result<bool, Trouble>
-    ensures judges { IfOk result (λ passes. IsOkAnd answer (λ answer. IsOkAnd line (λ line.
-        JudgesLine (string_bytes answer) (string_bytes line) passes))) }
+) -> Result<bool, Problem>
+    ensures checks { IfOk result (λ passes. IsOkAnd answer (λ answer. IsOkAnd line (λ line.
+        ChecksLine (string_bytes answer) (string_bytes line) passes))) }
     ensures added { OnOk result (Grows (W.contents out.old) (W.contents out.new)) }
     ensures silent { IfOk result (λ passes. passes ≡ true → out.new ≡ out.old) }
 {
     let value = value_of(alloc, Line::Expected(number), answer)?;
     let expected = numbered_answer(alloc, &value, number)?;
-    let passes = judge_line(alloc, number, &expected, line, out)?;
+    let passes = compare_line(alloc, number, &expected, line, out)?;
     Ok(passes)
 }
 
@@ -113,39 +113,39 @@ fn numbered_answer<'v>(
     alloc: Global,
     value: &'v Value,
     number: u64,
-) -> Result<Expected<'v>, Trouble>
+) -> Result<Expected<'v>, Problem>
     ensures value { IfOk result (IsExpectedOf (view value.now)) }
 {
     expected_of(alloc, value).map_err(|fault| wrong_line(Line::Expected(number), fault))
 }
 
 /// Whether the case of a line became what is expected; if not, it is written.
-fn judge_line<W: Write>(
+fn compare_line<W: Write>(
     alloc: Global,
     number: u64,
     expected: &Expected<'_>,
     line: io::Result<String>,
     out: &mut W,
-) -> Result<bool, Trouble>
-    ensures judges { IfOk result (λ passes. IsOkAnd line (λ line. JudgesCase expected.now (string_bytes line) passes)) }
+) -> Result<bool, Problem>
+    ensures checks { IfOk result (λ passes. IsOkAnd line (λ line. ChecksCase expected.now (string_bytes line) passes)) }
     ensures added { OnOk result (Grows (W.contents out.old) (W.contents out.new)) }
     ensures silent { IfOk result (λ passes. passes ≡ true → out.new ≡ out.old) }
 {
     let value = value_of(alloc, Line::Case(number), line)?;
     let case = numbered_case(alloc, &value, number)?;
     let outcome = outcome_of(alloc, &case)?;
-    let passes = judge_case(alloc, expected, case.id, &outcome, out)?;
+    let passes = check_case(alloc, expected, case.id, &outcome, out)?;
     Ok(passes)
 }
 
 /// Whether the case of this name became what is expected; if not, it is written.
-pub fn judge_case<W: Write>(
+pub fn check_case<W: Write>(
     alloc: Global,
     expected: &Expected<'_>,
     id: &str,
     outcome: &Outcome,
     out: &mut W,
-) -> Result<bool, Trouble>
+) -> Result<bool, Problem>
     ensures passes { IfOk result (λ passes. IsTrue passes ↔ IsMet expected.now id.now outcome.now) }
     ensures added { OnOk result (Grows (W.contents out.old) (W.contents out.new)) }
     ensures silent { IfOk result (λ passes. passes ≡ true → out.new ≡ out.old) }
@@ -155,7 +155,7 @@ pub fn judge_case<W: Write>(
     }
     let name = expected.id;
     let head = format!(in alloc; "{id:?} differs\nexpected of {name:?}:")?;
-    write_difference(head.as_str(), expected, outcome, out).map_err(Trouble::Write)?;
+    write_difference(head.as_str(), expected, outcome, out).map_err(Problem::Write)?;
     Ok(false)
 }
 

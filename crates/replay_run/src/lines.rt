@@ -15,10 +15,10 @@ ghost use Rattle.replay_run.specs.Answer.{told_text};
 ghost use Rattle.replay_run.specs.Answered.{AnswersReader, StopsFor, StopsLine, StopsReader};
 ghost use Rattle.replay_answer.specs.Outcome.{IsOutcomeOf};
 ghost use Rattle.replay_answer.specs.Case.{IsCaseOf};
-ghost use Rattle.replay_run.specs.Trouble.{IsFault, IsFinal, IsMisread, IsTroubleWith};
+ghost use Rattle.replay_run.specs.Problem.{IsFault, IsFinal, IsMisread, IsProblemWith};
 ghost use Rattle.replay_answer.specs.declared.outcome.Outcome.{Outcome};
 
-use crate::trouble::{Line, Trouble, fault_words, wrong_line};
+use crate::problem::{Line, Problem, fault_words, wrong_line};
 use program::line::write_whole;
 use replay_answer::answer::{answer_json, told_json};
 use replay_answer::case::Case;
@@ -62,7 +62,7 @@ pub fn answer_lines<B: BufRead + Drop, W: Write>(
     way: Way,
     is_first: &mut bool,
     out: &mut W,
-) -> Result<bool, Trouble>
+) -> Result<bool, Problem>
     ensures answers { IfOk result (λ told. AnswersReader way told is_first.old is_first.new (B.remaining input)
         (W.contents out.old) (W.contents out.new)) }
     ensures stops { IfErr result (StopsReader way is_first.old (B.remaining input) (W.contents out.old) (W.contents out.new)) }
@@ -73,11 +73,11 @@ pub fn answer_lines<B: BufRead + Drop, W: Write>(
         number = number.saturating_add(1);
         match answer_line(alloc, line, number, way, *is_first, out) {
             Ok(here) => told = either(told, here),
-            Err(trouble) => return Err(trouble),
+            Err(problem) => return Err(problem),
         }
         match out.flush() {
             Ok(()) => {}
-            Err(error) => return Err(Trouble::Write(error)),
+            Err(error) => return Err(Problem::Write(error)),
         }
         *is_first = false;
     }
@@ -99,7 +99,7 @@ fn answer_line<W: Write>(
     way: Way,
     is_first: bool,
     out: &mut W,
-) -> Result<bool, Trouble>
+) -> Result<bool, Problem>
     ensures answers { IfOk result (λ told. IsOkAnd line (λ line. (text : List ℕ)
         × AnswersLine way told is_first (number, string_bytes line) text
         × Appends (W.contents out.old) (W.contents out.new) text)) }
@@ -108,9 +108,9 @@ fn answer_line<W: Write>(
     match answer_for(alloc, line, number, way, is_first) {
         Ok(answer) => match write_whole(answer.text.as_slice(), out) {
             Ok(()) => Ok(answer.told),
-            Err(error) => Err(Trouble::Write(error)),
+            Err(error) => Err(Problem::Write(error)),
         },
-        Err(trouble) => Err(trouble),
+        Err(problem) => Err(problem),
     }
 }
 
@@ -122,42 +122,42 @@ fn answer_for(
     number: u64,
     way: Way,
     is_first: bool,
-) -> Result<LineAnswer, Trouble>
+) -> Result<LineAnswer, Problem>
     ensures answers { IfOk result (λ answer. IsOkAnd line (λ line.
         AnswersLine way answer.told is_first (number, string_bytes line) answer.text.items)) }
-    ensures stops { IfErr result (λ trouble. IsTroubleWith (Line.Case number) line trouble × StopsFor way trouble) }
+    ensures stops { IfErr result (λ problem. IsProblemWith (Line.Case number) line problem × StopsFor way problem) }
 {
     match text_for(alloc, line, number, way.form, is_first) {
         Ok(text) => Ok(LineAnswer { told: false, text }),
-        Err(trouble) => {
+        Err(problem) => {
             if way.keep_going {
-                told_for(alloc, trouble, number, way.form, is_first)
+                told_for(alloc, problem, number, way.form, is_first)
             } else {
-                Err(trouble)
+                Err(problem)
             }
         }
     }
 }
 
-/// What tells of this trouble with the line of this number, where it is one with what the line says; else the trouble.
+/// What tells of this problem with the line of this number, where it is one with what the line says; else the problem.
 fn told_for(
     alloc: Global,
-    trouble: Trouble,
+    problem: Problem,
     number: u64,
     form: Form,
     is_first: bool,
-) -> Result<LineAnswer, Trouble>
+) -> Result<LineAnswer, Problem>
     ensures told { IfOk result (λ answer. answer.told ≡ true) }
-    ensures text { IfOk result (λ answer. (words : List ℕ) × IsFault trouble words
+    ensures text { IfOk result (λ answer. (words : List ℕ) × IsFault problem words
         × (answer.text.items ≡ told_text form is_first number words)) }
-    ensures last { IfErr result (λ stop. IsFinal stop × ((stop ≡ trouble) ⊎ (stop ≡ Trouble.Memory))) }
+    ensures last { IfErr result (λ stop. IsFinal stop × ((stop ≡ problem) ⊎ (stop ≡ Problem.Memory))) }
 {
-    match fault_words(alloc, trouble) {
+    match fault_words(alloc, problem) {
         Ok(words) => match told_line(alloc, words.as_str(), number, form, is_first) {
             Ok(text) => Ok(LineAnswer { told: true, text }),
-            Err(AllocError) => Err(Trouble::Memory),
+            Err(AllocError) => Err(Problem::Memory),
         },
-        Err(trouble) => Err(trouble),
+        Err(problem) => Err(problem),
     }
 }
 
@@ -210,12 +210,12 @@ fn write_told_json<W: Write>(
     words: &str,
     number: u64,
     out: &mut W,
-) -> Result<(), Trouble>
+) -> Result<(), Problem>
     ensures line { OnOk result (Appends (W.contents out.old) (W.contents out.new)
         (told_text Form.Json true number words.now)) }
 {
     let line = told_json(alloc, words, number)?;
-    write_line(line.as_str(), out).map_err(Trouble::Write)
+    write_line(line.as_str(), out).map_err(Problem::Write)
 }
 
 /// Writes that the line of this number is no case, as a text.
@@ -224,13 +224,13 @@ fn write_told_text<W: Write>(
     number: u64,
     is_first: bool,
     out: &mut W,
-) -> Result<(), Trouble>
+) -> Result<(), Problem>
     ensures line { OnOk result (Appends (W.contents out.old) (W.contents out.new)
         (told_text Form.Texts is_first number words.now)) }
 {
-    write_gap(is_first, out).map_err(Trouble::Write)?;
+    write_gap(is_first, out).map_err(Problem::Write)?;
     out.writeln(format_args!("line {number}: no case: {words}"))
-        .map_err(Trouble::Write)
+        .map_err(Problem::Write)
 }
 
 /// What is to be written for the line of this number, which is to be a case.
@@ -240,13 +240,13 @@ fn text_for(
     number: u64,
     form: Form,
     is_first: bool,
-) -> Result<Vec<u8>, Trouble>
+) -> Result<Vec<u8>, Problem>
     ensures answers { IfOk result (λ text. IsOkAnd line (λ line. AnswersCase form is_first (string_bytes line) text.items)) }
-    ensures stops { IfErr result (IsTroubleWith (Line.Case number) line) }
+    ensures stops { IfErr result (IsProblemWith (Line.Case number) line) }
 {
     match value_of(alloc, Line::Case(number), line) {
         Ok(value) => text_of(alloc, &value, number, form, is_first),
-        Err(trouble) => Err(trouble),
+        Err(problem) => Err(problem),
     }
 }
 
@@ -257,16 +257,16 @@ fn text_of(
     number: u64,
     form: Form,
     is_first: bool,
-) -> Result<Vec<u8>, Trouble>
+) -> Result<Vec<u8>, Problem>
     ensures answers { IfOk result (λ text. AnswersValue form is_first (view value.now) text.items) }
     ensures misread { IfErr result (IsMisread (Line.Case number)) }
 {
     match numbered_case(alloc, value, number) {
         Ok(case) => match case_text(alloc, &case, form, is_first) {
             Ok(text) => Ok(text),
-            Err(AllocError) => Err(Trouble::Memory),
+            Err(AllocError) => Err(Problem::Memory),
         },
-        Err(trouble) => Err(trouble),
+        Err(problem) => Err(problem),
     }
 }
 
@@ -289,7 +289,7 @@ fn case_text(
 }
 
 /// The case that the line of this number describes.
-pub fn numbered_case<'v>(alloc: Global, value: &'v Value, number: u64) -> Result<Case<'v>, Trouble>
+pub fn numbered_case<'v>(alloc: Global, value: &'v Value, number: u64) -> Result<Case<'v>, Problem>
     ensures value { IfOk result (IsCaseOf (view value.now)) }
     ensures fits { IfOk result (λ case. ReportFits case.groups.items) }
     ensures misread { IfErr result (IsMisread (Line.Case number)) }
@@ -301,29 +301,29 @@ pub fn numbered_case<'v>(alloc: Global, value: &'v Value, number: u64) -> Result
 }
 
 /// What this line holds.
-pub fn value_of(alloc: Global, line: Line, text: io::Result<String>) -> Result<Value, Trouble>
+pub fn value_of(alloc: Global, line: Line, text: io::Result<String>) -> Result<Value, Problem>
     ensures value { IfOk result (λ value. IsOkAnd text (λ text. read (string_bytes text) ≡ Some (view value))) }
-    ensures stops { IfErr result (IsTroubleWith line text) }
+    ensures stops { IfErr result (IsProblemWith line text) }
 {
     match text {
         Ok(text) => match Value::from_str(alloc, text.as_str()) {
             Ok(value) => Ok(value),
             Err(error) => Err(not_json(line, error)),
         },
-        Err(error) if error.kind() == io::ErrorKind::InvalidData => Err(Trouble::NotText(line)),
-        Err(error) => Err(Trouble::Read(error)),
+        Err(error) if error.kind() == io::ErrorKind::InvalidData => Err(Problem::NotText(line)),
+        Err(error) => Err(Problem::Read(error)),
     }
 }
 
-/// The trouble with a line at which reading JSON met this.
-fn not_json(line: Line, error: Error) -> Trouble
-    ensures memory { IsMemory error → result ≡ Trouble.Memory }
-    ensures text { (IsMemory error → ⊥) → (column : ℕ) × (ends_early : Bool) × (result ≡ Trouble.NotJson line column ends_early) }
+/// The problem with a line at which reading JSON met this.
+fn not_json(line: Line, error: Error) -> Problem
+    ensures memory { IsMemory error → result ≡ Problem.Memory }
+    ensures text { (IsMemory error → ⊥) → (column : ℕ) × (ends_early : Bool) × (result ≡ Problem.NotJson line column ends_early) }
 {
     if error.is_memory() {
-        Trouble::Memory
+        Problem::Memory
     } else {
-        Trouble::NotJson(line, error.column(), error.is_eof())
+        Problem::NotJson(line, error.column(), error.is_eof())
     }
 }
 
@@ -334,7 +334,7 @@ fn write_answer<W: Write>(
     form: Form,
     is_first: bool,
     out: &mut W,
-) -> Result<(), Trouble>
+) -> Result<(), Problem>
     requires fits { ReportFits case.now.groups.items }
     ensures answer { OnOk result ((outcome : Outcome) × IsOutcomeOf case.now outcome
         × Appends (W.contents out.old) (W.contents out.new) (answer_text form is_first case.now.id.now outcome)) }
@@ -354,20 +354,20 @@ fn write_json<W: Write>(
     id: &str,
     outcome: Outcome,
     out: &mut W,
-) -> Result<(), Trouble>
+) -> Result<(), Problem>
     ensures line { OnOk result (Appends (W.contents out.old) (W.contents out.new)
         (line_of (compact_text (answer_of id.now outcome)))) }
 {
     let line = answer_json(alloc, id, outcome)?;
-    write_line(line.as_str(), out).map_err(Trouble::Write)
+    write_line(line.as_str(), out).map_err(Problem::Write)
 }
 
 /// Writes the texts of a report, after a blank line if they aren't the first.
-fn write_report<W: Write>(outcome: Outcome, is_first: bool, out: &mut W) -> Result<(), Trouble>
+fn write_report<W: Write>(outcome: Outcome, is_first: bool, out: &mut W) -> Result<(), Problem>
     ensures text { OnOk result (Appends (W.contents out.old) (W.contents out.new)
         (gap is_first ++ outcome_text outcome)) }
 {
-    write_texts(&outcome, is_first, out).map_err(Trouble::Write)
+    write_texts(&outcome, is_first, out).map_err(Problem::Write)
 }
 
 /// The same, of texts that stay.

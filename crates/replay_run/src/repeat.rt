@@ -3,7 +3,7 @@
 ghost use Rattle.annotate_snippets.specs.Fits.{ReportFits};
 
 use crate::lines::{numbered_case, value_of};
-use crate::trouble::{Line, Trouble};
+use crate::problem::{Line, Problem};
 use annotate_snippets::renderer::RenderError;
 use replay_answer::case::Case;
 use std::alloc::Global;
@@ -27,7 +27,7 @@ pub fn repeat_lines<K: Clock, B: BufRead + Drop>(
     input: B,
     times: u64,
     tally: &mut Tally,
-) -> Result<(), Trouble> {
+) -> Result<(), Problem> {
     let mut number = 0u64;
     for line in input.lines(alloc) {
         number = number.saturating_add(1);
@@ -45,16 +45,16 @@ fn repeat_case<K: Clock>(
     case: &Case<'_>,
     times: u64,
     tally: Tally,
-) -> Result<Tally, Trouble>
+) -> Result<Tally, Problem>
     requires fits { ReportFits case.now.groups.items }
 {
-    let start = Instant::now(clock).map_err(Trouble::Clock)?;
+    let start = Instant::now(clock).map_err(Problem::Clock)?;
     let mut drawn = match draw_often(alloc, case, times, tally) {
         Ok(drawn) => drawn,
-        Err(RenderError::Memory(refused)) => return Err(Trouble::from(refused)),
+        Err(RenderError::Memory(refused)) => return Err(Problem::from(refused)),
         Err(_) => return Ok(tally),
     };
-    let taken = start.elapsed(clock).map_err(Trouble::Clock)?;
+    let taken = start.elapsed(clock).map_err(Problem::Clock)?;
     drawn.time = drawn.time.saturating_add(taken);
     Ok(drawn)
 }

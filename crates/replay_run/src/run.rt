@@ -9,22 +9,22 @@ ghost use Rattle.program.specs.Stream.{Receives};
 ghost use Rattle.replay_run.specs.Answered.{AnswersReader, AnswersReaders, StopsAt, StopsReaders};
 ghost use Rattle.replay_run.specs.Compared.{EndsComparison, count_line};
 ghost use Rattle.replay_run.specs.Growth.{Grows};
-ghost use Rattle.replay_run.specs.Judged.{CountsLines};
+ghost use Rattle.replay_run.specs.Checked.{CountsLines};
 ghost use Rattle.replay_run.specs.Answer.{line_of};
-ghost use Rattle.replay_run.specs.Trouble.{IsRead, TellsMisuse, TellsStop, misuse_text, shown, stop_text};
+ghost use Rattle.replay_run.specs.Problem.{IsRead, TellsUsageError, TellsStop, usage_text, shown, stop_text};
 ghost use Rattle.replay_run.specs.Words.{Word, words_at, usage_text, AsksAnswers, IsCommandLine, IsComparison};
 ghost use Rattle.replay_run.specs.Words.{IfAnswers, IfComparison, Compares};
 ghost use Rattle.replay_run.specs.declared.command.Command.{Command};
 ghost use Rattle.replay_run.specs.declared.command.Command.TheVariants.{Help};
 ghost use Rattle.replay_run.specs.declared.lines.Way.{Way};
-ghost use Rattle.replay_run.specs.declared.trouble.Trouble.{Trouble};
+ghost use Rattle.replay_run.specs.declared.problem.Problem.{Problem};
 
 use crate::check::{Counts, check_lines};
 use crate::command::{Command, command_of};
 use crate::lines::{Way, answer_lines, either, write_line as write_answer_line};
-use crate::misuse::{Misuse, misuse_of};
+use crate::problem::{Problem, words_of};
 use crate::repeat::{Tally, repeat_lines, write_tally};
-use crate::trouble::{Trouble, words_of};
+use crate::usage_error::{UsageError, usage_error_of};
 use annotate_snippets::text::normalize_untrusted_str;
 use program::line::write_line;
 use std::alloc::{AllocError, Global};
@@ -52,16 +52,16 @@ const STOPPED: u8 = 2;
 #[derive(Drop)]
 struct Stop<'a> {
     file: &'a str,
-    trouble: Trouble,
+    problem: Problem,
 }
 
-/// What was tried with this file; trouble with it stops the run.
-fn or_stop<'a, T>(file: &'a str, tried: Result<T, Trouble>) -> Result<T, Stop<'a>>
+/// What was tried with this file; problem with it stops the run.
+fn or_stop<'a, T>(file: &'a str, tried: Result<T, Problem>) -> Result<T, Stop<'a>>
     ensures done { IfOk result (λ done. tried ≡ Ok done) }
 {
     match tried {
         Ok(done) => Ok(done),
-        Err(trouble) => Err(Stop { file, trouble }),
+        Err(problem) => Err(Stop { file, problem }),
     }
 }
 
@@ -74,8 +74,8 @@ pub fn run<R: Files + Input + Clock + AllocGlobal, W: Write, V: Write>(
 ) -> u8
     ensures status { result ≤ 2 }
     ensures silent { result ≤ 1 → err.new ≡ err.old }
-    ensures told { result ≡ 2 → TellsMisuse (Receives V.contents err.old err.new)
-        ⊎ ((name : Word) × (trouble : Trouble) × TellsStop name trouble (Receives V.contents err.old err.new)) }
+    ensures told { result ≡ 2 → TellsUsageError (Receives V.contents err.old err.new)
+        ⊎ ((name : Word) × (problem : Problem) × TellsStop name problem (Receives V.contents err.old err.new)) }
     ensures usage { (IsCommandLine (words_at words.now) → ⊥) → result ≡ 2 }
     ensures no_answer { (IsCommandLine (words_at words.now) → ⊥) → out.new ≡ out.old }
     ensures differs { result ≡ 1 → Compares (words_at words.now) }
@@ -88,17 +88,17 @@ pub fn run<R: Files + Input + Clock + AllocGlobal, W: Write, V: Write>(
         → AnswersReaders R.Reader R.Reader.remaining way false 1 (W.contents out.old) (W.contents out.new) }
     ensures stops { result ≡ 2 → (way : Way) → (files : List Word) → AsksAnswers (words_at words.now) way files
         → 0 < length files
-        → (name : Word) × (trouble : Trouble) × TellsStop name trouble (Receives V.contents err.old err.new)
-        × StopsReaders R.File R.File.remaining way files (W.contents out.old) (W.contents out.new) name trouble }
+        → (name : Word) × (problem : Problem) × TellsStop name problem (Receives V.contents err.old err.new)
+        × StopsReaders R.File R.File.remaining way files (W.contents out.old) (W.contents out.new) name problem }
     ensures stops_input { result ≡ 2 → (way : Way) → AsksAnswers (words_at words.now) way []
-        → (name : Word) × (trouble : Trouble) × TellsStop name trouble (Receives V.contents err.old err.new)
+        → (name : Word) × (problem : Problem) × TellsStop name problem (Receives V.contents err.old err.new)
         × StopsReaders R.Reader R.Reader.remaining way (codes "standard input" ∷ [])
-        (W.contents out.old) (W.contents out.new) name trouble }
+        (W.contents out.old) (W.contents out.new) name problem }
     ensures help { result ≡ 0 → words_at words.now ≡ codes "--help" ∷ []
         → Appends (W.contents out.old) (W.contents out.new) (line_of usage_text) }
 {
     let Some(command) = command_of(words) else {
-        tell_misuse(rt.alloc(), misuse_of(words), err);
+        tell_usage_error(rt.alloc(), usage_error_of(words), err);
         return STOPPED;
     };
     match finish(rt, &command, out) {
@@ -126,10 +126,10 @@ fn finish<'a, R: Files + Input + Clock + AllocGlobal, W: Write>(
         → AnswersReaders R.Reader R.Reader.remaining way false 1 (W.contents out.old) (W.contents out.new))) }
     ensures stops { IfErr result (λ stop. IfAnswers command.now (λ way files. 0 < length files
         → StopsReaders R.File R.File.remaining way files (W.contents out.old) (W.contents out.new)
-        stop.file.now stop.trouble)) }
+        stop.file.now stop.problem)) }
     ensures stops_input { IfErr result (λ stop. IfAnswers command.now (λ way files. length files ≡ 0
         → StopsReaders R.Reader R.Reader.remaining way (codes "standard input" ∷ [])
-        (W.contents out.old) (W.contents out.new) stop.file.now stop.trouble)) }
+        (W.contents out.old) (W.contents out.new) stop.file.now stop.problem)) }
     ensures help { OnOk result (command.now ≡ Help → Appends (W.contents out.old) (W.contents out.new) (line_of usage_text)) }
 {
     match do_command(rt, command, out) {
@@ -137,7 +137,7 @@ fn finish<'a, R: Files + Input + Clock + AllocGlobal, W: Write>(
             Ok(()) => Ok(status),
             Err(error) => Err(Stop {
                 file: OUTPUT,
-                trouble: Trouble::Write(error),
+                problem: Problem::Write(error),
             }),
         },
         Err(stop) => {
@@ -148,27 +148,27 @@ fn finish<'a, R: Files + Input + Clock + AllocGlobal, W: Write>(
 }
 
 /// Tells what is wrong with the words, or that there was no memory for that.
-fn tell_misuse<V: Write>(alloc: Global, misuse: Misuse<'_>, err: &mut V)
-    ensures told { TellsMisuse (Receives V.contents err.old err.new) }
+fn tell_usage_error<V: Write>(alloc: Global, usage_error: UsageError<'_>, err: &mut V)
+    ensures told { TellsUsageError (Receives V.contents err.old err.new) }
 {
-    match misuse_message(alloc, misuse) {
+    match usage_message(alloc, usage_error) {
         Ok(message) => write_line(message.as_str(), err),
         Err(AllocError) => write_line(OUT_OF_MEMORY, err),
     };
 }
 
 /// What is told of words that aren't of the form.
-fn misuse_message(alloc: Global, misuse: Misuse<'_>) -> Result<String, AllocError>
-    ensures message { IfOk result (λ text. (said : List ℕ) × (string_bytes text ≡ shown (misuse_text said))) }
+fn usage_message(alloc: Global, usage_error: UsageError<'_>) -> Result<String, AllocError>
+    ensures message { IfOk result (λ text. (said : List ℕ) × (string_bytes text ≡ shown (usage_text said))) }
 {
-    let said = format!(in alloc; "{misuse}")?;
+    let said = format!(in alloc; "{usage_error}")?;
     let message = format!(in alloc; "replay: {said}\n{USAGE}")?;
     normalize_untrusted_str(alloc, message.as_str())
 }
 
 /// Tells what stopped a run, or that there was no memory for that.
 fn tell_stop<V: Write>(alloc: Global, stop: &Stop<'_>, err: &mut V)
-    ensures told { TellsStop stop.now.file.now stop.now.trouble (Receives V.contents err.old err.new) }
+    ensures told { TellsStop stop.now.file.now stop.now.problem (Receives V.contents err.old err.new) }
 {
     match stop_message(alloc, stop) {
         Ok(message) => write_line(message.as_str(), err),
@@ -179,10 +179,10 @@ fn tell_stop<V: Write>(alloc: Global, stop: &Stop<'_>, err: &mut V)
 /// What is told of what stopped a run.
 fn stop_message(alloc: Global, stop: &Stop<'_>) -> Result<String, AllocError>
     ensures message { IfOk result (λ text. (said : List ℕ)
-        × (string_bytes text ≡ shown (stop_text stop.now.file.now stop.now.trouble said))) }
+        × (string_bytes text ≡ shown (stop_text stop.now.file.now stop.now.problem said))) }
 {
     let file = stop.file;
-    let words = words_of(alloc, &stop.trouble)?;
+    let words = words_of(alloc, &stop.problem)?;
     let message = format!(in alloc; "replay: {file}: {words}")?;
     normalize_untrusted_str(alloc, message.as_str())
 }
@@ -203,10 +203,10 @@ fn do_command<'a, R: Files + Input + Clock + AllocGlobal, W: Write>(
         → AnswersReaders R.Reader R.Reader.remaining way false 1 (W.contents out.old) (W.contents out.new))) }
     ensures stops { IfErr result (λ stop. IfAnswers command.now (λ way files. 0 < length files
         → StopsReaders R.File R.File.remaining way files (W.contents out.old) (W.contents out.new)
-        stop.file.now stop.trouble)) }
+        stop.file.now stop.problem)) }
     ensures stops_input { IfErr result (λ stop. IfAnswers command.now (λ way files. length files ≡ 0
         → StopsReaders R.Reader R.Reader.remaining way (codes "standard input" ∷ [])
-        (W.contents out.old) (W.contents out.new) stop.file.now stop.trouble)) }
+        (W.contents out.old) (W.contents out.new) stop.file.now stop.problem)) }
     ensures help { OnOk result (command.now ≡ Help → Appends (W.contents out.old) (W.contents out.new) (line_of usage_text)) }
 {
     match *command {
@@ -216,7 +216,7 @@ fn do_command<'a, R: Files + Input + Clock + AllocGlobal, W: Write>(
         Command::Help => {
             or_stop(
                 OUTPUT,
-                write_answer_line(USAGE, out).map_err(Trouble::Write),
+                write_answer_line(USAGE, out).map_err(Problem::Write),
             )?;
             Ok(DONE)
         }
@@ -239,16 +239,16 @@ fn answer<'a, R: Files + Input + AllocGlobal, W: Write>(
     ensures answers_input { OnOk result (length (words_at files.now) ≡ 0
         → AnswersReaders R.Reader R.Reader.remaining way false 1 (W.contents out.old) (W.contents out.new)) }
     ensures stops { IfErr result (λ stop. 0 < length (words_at files.now) → StopsReaders R.File R.File.remaining way
-        (words_at files.now) (W.contents out.old) (W.contents out.new) stop.file.now stop.trouble) }
+        (words_at files.now) (W.contents out.old) (W.contents out.new) stop.file.now stop.problem) }
     ensures stops_input { IfErr result (λ stop. length (words_at files.now) ≡ 0 → StopsReaders R.Reader R.Reader.remaining way
-        (codes "standard input" ∷ []) (W.contents out.old) (W.contents out.new) stop.file.now stop.trouble) }
+        (codes "standard input" ∷ []) (W.contents out.old) (W.contents out.new) stop.file.now stop.problem) }
 {
     if files.is_empty() {
         match answer_input(rt, way, out) {
             Ok(told) => ended(told),
-            Err(trouble) => Err(Stop {
+            Err(problem) => Err(Stop {
                 file: INPUT,
-                trouble,
+                problem,
             }),
         }
     } else {
@@ -259,17 +259,17 @@ fn answer<'a, R: Files + Input + AllocGlobal, W: Write>(
     }
 }
 
-/// The status where all lines are answered: it is trouble if one of the answers tells that its line is no case.
+/// The status where all lines are answered: it is problem if one of the answers tells that its line is no case.
 fn ended<'a>(told: bool) -> Result<u8, Stop<'a>>
     ensures status { IfOk result (λ status. status ≡ 0) }
     ensures cases { OnOk result (told ≡ false) }
-    ensures stops { IfErr result (λ stop. told ≡ true × (stop.trouble ≡ Trouble.NotCases)
+    ensures stops { IfErr result (λ stop. told ≡ true × (stop.problem ≡ Problem.NotCases)
         × (stop.file.now ≡ codes "standard output")) }
 {
     if told {
         Err(Stop {
             file: OUTPUT,
-            trouble: Trouble::NotCases,
+            problem: Problem::NotCases,
         })
     } else {
         Ok(DONE)
@@ -286,17 +286,17 @@ fn answer_files<'a, R: Files + AllocGlobal, W: Write>(
     ensures answers { IfOk result (λ told. AnswersReaders R.File R.File.remaining way told (length (words_at files.now))
         (W.contents out.old) (W.contents out.new)) }
     ensures stops { IfErr result (λ stop. StopsReaders R.File R.File.remaining way (words_at files.now)
-        (W.contents out.old) (W.contents out.new) stop.file.now stop.trouble) }
+        (W.contents out.old) (W.contents out.new) stop.file.now stop.problem) }
 {
     let mut is_first = true;
     let mut told = false;
     for file in files {
         match answer_file(rt, way, file, &mut is_first, out) {
             Ok(here) => told = either(told, here),
-            Err(trouble) => {
+            Err(problem) => {
                 return Err(Stop {
                     file: *file,
-                    trouble,
+                    problem,
                 });
             }
         }
@@ -305,7 +305,7 @@ fn answer_files<'a, R: Files + AllocGlobal, W: Write>(
 }
 
 /// The bytes of a file.
-fn opened<R: Files + AllocGlobal>(rt: &R, file: &str) -> Result<BufReader<R::File>, Trouble>
+fn opened<R: Files + AllocGlobal>(rt: &R, file: &str) -> Result<BufReader<R::File>, Problem>
     ensures bytes { IfOk result (λ reader.
         reader_remaining R.File.remaining reader ≡ R.File.remaining (reader_inner reader)) }
     ensures unread { IfErr result IsRead }
@@ -313,21 +313,21 @@ fn opened<R: Files + AllocGlobal>(rt: &R, file: &str) -> Result<BufReader<R::Fil
     match fs::open(rt, file) {
         Ok(input) => match BufReader::new(rt.alloc(), input) {
             Ok(reader) => Ok(reader),
-            Err(error) => Err(Trouble::Read(error)),
+            Err(error) => Err(Problem::Read(error)),
         },
-        Err(error) => Err(Trouble::Read(error)),
+        Err(error) => Err(Problem::Read(error)),
     }
 }
 
 /// The bytes of standard input.
-fn opened_input<R: Input + AllocGlobal>(rt: &R) -> Result<BufReader<R::Reader>, Trouble>
+fn opened_input<R: Input + AllocGlobal>(rt: &R) -> Result<BufReader<R::Reader>, Problem>
     ensures bytes { IfOk result (λ reader.
         reader_remaining R.Reader.remaining reader ≡ R.Reader.remaining (reader_inner reader)) }
     ensures unread { IfErr result IsRead }
 {
     match BufReader::new(rt.alloc(), rt.reader()) {
         Ok(reader) => Ok(reader),
-        Err(error) => Err(Trouble::Read(error)),
+        Err(error) => Err(Problem::Read(error)),
     }
 }
 
@@ -336,7 +336,7 @@ fn answer_input<R: Input + AllocGlobal, W: Write>(
     rt: &R,
     way: Way,
     out: &mut W,
-) -> Result<bool, Trouble>
+) -> Result<bool, Problem>
     ensures answers { IfOk result (λ told.
         AnswersReaders R.Reader R.Reader.remaining way told 1 (W.contents out.old) (W.contents out.new)) }
     ensures stops { IfErr result (StopsReaders R.Reader R.Reader.remaining way (codes "standard input" ∷ [])
@@ -345,7 +345,7 @@ fn answer_input<R: Input + AllocGlobal, W: Write>(
     let mut is_first = true;
     match opened_input(rt) {
         Ok(input) => answer_lines(rt.alloc(), input, way, &mut is_first, out),
-        Err(trouble) => Err(trouble),
+        Err(problem) => Err(problem),
     }
 }
 
@@ -356,14 +356,14 @@ fn answer_file<R: Files + AllocGlobal, W: Write>(
     file: &str,
     is_first: &mut bool,
     out: &mut W,
-) -> Result<bool, Trouble>
+) -> Result<bool, Problem>
     ensures answers { IfOk result (λ told. (input : R.File) × AnswersReader way told is_first.old is_first.new (R.File.remaining input)
         (W.contents out.old) (W.contents out.new)) }
     ensures stops { IfErr result (StopsAt R.File R.File.remaining way is_first.old (W.contents out.old) (W.contents out.new)) }
 {
     match opened(rt, file) {
         Ok(input) => answer_lines(rt.alloc(), input, way, is_first, out),
-        Err(trouble) => Err(trouble),
+        Err(problem) => Err(problem),
     }
 }
 
@@ -382,15 +382,15 @@ fn check<'a, R: Files + AllocGlobal, W: Write>(
         let (expected, cases) = (files[2 * pair], files[2 * pair + 1]);
         match check_pair(rt, expected, cases, out) {
             Ok(more) => counts = counts.plus(more),
-            Err(trouble) => {
+            Err(problem) => {
                 return Err(Stop {
                     file: cases,
-                    trouble,
+                    problem,
                 });
             }
         }
     }
-    or_stop(OUTPUT, write_counts(counts, out).map_err(Trouble::Write))?;
+    or_stop(OUTPUT, write_counts(counts, out).map_err(Problem::Write))?;
     Ok(if counts.failed == 0 { DONE } else { DIFFERS })
 }
 
@@ -412,7 +412,7 @@ fn check_pair<R: Files + AllocGlobal, W: Write>(
     expected: &str,
     cases: &str,
     out: &mut W,
-) -> Result<Counts, Trouble>
+) -> Result<Counts, Problem>
     ensures counts { IfOk result (λ counts. (answers : R.File) × (lines : R.File)
         × CountsLines (R.File.remaining answers) (R.File.remaining lines) counts) }
     ensures added { OnOk result (Grows (W.contents out.old) (W.contents out.new)) }
@@ -444,6 +444,6 @@ fn repeat<'a, R: Files + Input + Clock + AllocGlobal, W: Write>(
         let input = or_stop(file, opened(rt, file))?;
         or_stop(file, repeat_lines(rt, rt.alloc(), input, times, &mut tally))?;
     }
-    or_stop(OUTPUT, write_tally(&tally, out).map_err(Trouble::Write))?;
+    or_stop(OUTPUT, write_tally(&tally, out).map_err(Problem::Write))?;
     Ok(DONE)
 }

@@ -11,7 +11,7 @@ use Rattle.snip_run.specs.declared.words.Command.{Command}
 use Rattle.snip_run.specs.declared.run.Failure.{Failure}
 use Rattle.snip_run.specs.declared.run.Failure.TheVariants.{Refused}
 use Rattle.snip_run.specs.Report.{RefusesCommand}
-use Rattle.snip_run.specs.Run.{Ends, Failed, Fails, IsReadable, Misused, Printed, ShowsFile, Unprinted, message, shown_name, usage}
+use Rattle.snip_run.specs.Run.{Ends, Failed, Fails, IsReadable, BadUsage, Printed, ShowsFile, Unprinted, message, shown_name, usage}
 use Rattle.snip_run.specs.Text.{IsShownText}
 use Rattle.snip_run.specs.Words.{AreLine, Line, Word, IsCommandLine, IsCommandOf}
 
@@ -81,9 +81,9 @@ ends_unprinted words file command text Out Err of shows out err =
     record { end = Unprinted text; may = (command, of, shows); status_is = refl; out = out; err = err }
 
 -- a run for words that aren't of the form
-pub ends_misused : (words : List Word) (file : Option (List ℕ)) (Out Err : Output → Type 0) → (IsCommandLine words → ⊥) → Out Silent → Err (Told usage)
+pub ends_bad_usage : (words : List Word) (file : Option (List ℕ)) (Out Err : Output → Type 0) → (IsCommandLine words → ⊥) → Out Silent → Err (Told usage)
     → Ends words file 2 Out Err
-ends_misused words file Out Err none out err = record { end = Misused; may = none; status_is = refl; out = out; err = err }
+ends_bad_usage words file Out Err none out err = record { end = BadUsage; may = none; status_is = refl; out = out; err = err }
 
 -- words that no line is are of no form
 pub no_command : (words : List Word) → ((line : Line) → AreLine words line → ⊥) → IsCommandLine words → ⊥

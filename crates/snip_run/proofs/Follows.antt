@@ -3,7 +3,7 @@ use Rattle.std.proofs.Common.{◌≡◌, ◌⊎◌, ℕ, List, Option, Some, Non
 use Rattle.program.specs.Stream.{Output, Silent, Whole}
 use Rattle.snip_run.specs.declared.words.Command.{Command}
 use Rattle.snip_run.specs.Report.{ShowsCommand}
-use Rattle.snip_run.specs.Run.{End, Ends, Failed, MayEnd, Misused, Printed, Unprinted, err_of, out_of, status_of}
+use Rattle.snip_run.specs.Run.{End, Ends, Failed, MayEnd, BadUsage, Printed, Unprinted, err_of, out_of, status_of}
 use Rattle.snip_run.specs.Text.{IsShownText}
 use Rattle.snip_run.specs.Words.{Word, IsCommandOf}
 
@@ -17,7 +17,7 @@ module _ (words : List Word) (file : Option (List ℕ)) (Out Err : Output → Ty
   read_at (Printed text) may is = may.2.readable.text
   read_at (Unprinted text) may is = cc
   read_at (Failed name failure) may is = cc
-  read_at Misused may is = cc
+  read_at BadUsage may is = cc
 
   -- with status 0 FILE holds a text that can be shown
   pub read : (status : ℕ) → Ends words file status Out Err → status ≡ 0 → IsSomeAnd file IsShownText
@@ -33,7 +33,7 @@ module _ (words : List Word) (file : Option (List ℕ)) (Out Err : Output → Ty
       if_some file (λ source. ShowsCommand may.0 source text) Prints (λ source shows. (text, out, may.0, may.1, shows)) may.2.shows
   printed_at (Unprinted text) may out is = cc
   printed_at (Failed name failure) may out is = cc
-  printed_at Misused may out is = cc
+  printed_at BadUsage may out is = cc
 
   -- with status 0 standard output is given the report that the words ask for, over what FILE holds
   pub printed : (status : ℕ) → Ends words file status Out Err → status ≡ 0 → IfSome file Prints
@@ -43,7 +43,7 @@ module _ (words : List Word) (file : Option (List ℕ)) (Out Err : Output → Ty
   no_fault_at (Printed text) err is = err
   no_fault_at (Unprinted text) err is = err
   no_fault_at (Failed name failure) err is = cc
-  no_fault_at Misused err is = cc
+  no_fault_at BadUsage err is = cc
 
   -- with status 0 standard error is given nothing
   pub no_fault : (status : ℕ) → Ends words file status Out Err → status ≡ 0 → Err Silent
@@ -54,7 +54,7 @@ module _ (words : List Word) (file : Option (List ℕ)) (Out Err : Output → Ty
   failed_at (Printed text) may out err is = cc
   failed_at (Unprinted text) may out err is = inr (err, may.2.readable.text)
   failed_at (Failed name failure) may out err is = inl out
-  failed_at Misused may out err is = cc
+  failed_at BadUsage may out err is = cc
 
   -- with status 1 either standard output is given nothing; or there was a report, and standard error is given nothing
   pub failed : (status : ℕ) → Ends words file status Out Err → status ≡ 1 → Out Silent ⊎ (Err Silent × IsSomeAnd file IsShownText)
@@ -64,7 +64,7 @@ module _ (words : List Word) (file : Option (List ℕ)) (Out Err : Output → Ty
   no_report_at (Printed text) out is = cc
   no_report_at (Unprinted text) out is = cc
   no_report_at (Failed name failure) out is = out
-  no_report_at Misused out is = out
+  no_report_at BadUsage out is = out
 
   -- with status 2 standard output is given nothing
   pub no_report : (status : ℕ) → Ends words file status Out Err → status ≡ 2 → Out Silent

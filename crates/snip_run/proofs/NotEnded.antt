@@ -1,14 +1,14 @@
 -- Ends of a run that the definition excludes: what a wrong program would give the streams.
 use Rattle.std.proofs.Common.{◌≡◌, ℕ, zero, suc, List, [], ◌∷◌, Option, Some, None, ap, arith, codes, inl, inr, take}
 use Rattle.program.specs.Stream.{Output, Silent, Told, Receives, line_of}
-use Rattle.snip_run.specs.Run.{End, Ends, Failed, MayEnd, Misused, Printed, Unprinted, err_of, out_of, status_of, usage}
+use Rattle.snip_run.specs.Run.{End, Ends, Failed, MayEnd, BadUsage, Printed, Unprinted, err_of, out_of, status_of, usage}
 use Rattle.snip_run.specs.Words.{Word}
 
 silent_for : (words : List Word) (Out : Output → Type 0) (end : End) → MayEnd words None end → Out (out_of end) → Out Silent
 silent_for words Out (Printed text) may out = absurd may.2.readable.text
 silent_for words Out (Unprinted text) may out = absurd may.2.readable.text
 silent_for words Out (Failed name failure) may out = out
-silent_for words Out Misused may out = out
+silent_for words Out BadUsage may out = out
 
 -- where FILE can't be read, standard output is given nothing
 pub silent_without_file : (words : List Word) (status : ℕ) (Out Err : Output → Type 0) → Ends words None status Out Err → Out Silent
@@ -25,7 +25,7 @@ usage_for : (Err : Output → Type 0) (end : End) → 2 ≡ status_of end → Er
 usage_for Err (Printed text) status err = cc
 usage_for Err (Unprinted text) status err = cc
 usage_for Err (Failed name failure) status err = cc
-usage_for Err Misused status err = err
+usage_for Err BadUsage status err = err
 
 -- with status 2 standard error is given how the words are to be written
 pub usage_told : (words : List Word) (file : Option (List ℕ)) (Out Err : Output → Type 0) → Ends words file 2 Out Err → Err (Told usage)
@@ -61,7 +61,7 @@ silent_when_printed : (Err : Output → Type 0) (end : End) → 0 ≡ status_of 
 silent_when_printed Err (Printed text) status err = err
 silent_when_printed Err (Unprinted text) status err = err
 silent_when_printed Err (Failed name failure) status err = cc
-silent_when_printed Err Misused status err = cc
+silent_when_printed Err BadUsage status err = cc
 
 -- with status 0 nothing is told
 pub told_when_printed : (words : List Word) (file : Option (List ℕ)) (Out : Output → Type 0) (rest : List ℕ)

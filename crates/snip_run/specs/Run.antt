@@ -50,7 +50,7 @@ pub data End : Type 0 where
   Printed : (text : List ℕ) → End
   Unprinted : (text : List ℕ) → End
   Failed : (name : Word) (failure : Failure) → End
-  Misused : End
+  BadUsage : End
 
 -- whether a run of these words over what FILE holds may end so
 abbrev pub MayEnd : List Word → Option (List ℕ) → End → Type 0
@@ -58,28 +58,28 @@ MayEnd words file (Printed text) = (command : Command) × IsCommandOf words comm
 MayEnd words file (Unprinted text) = (command : Command) × IsCommandOf words command × ShowsFile words file command text
 MayEnd words file (Failed name failure) =
     (command : Command) × IsCommandOf words command × (command.file.now ≡ name) × Fails words file command failure
-MayEnd words file Misused = IsCommandLine words → ⊥
+MayEnd words file BadUsage = IsCommandLine words → ⊥
 
 -- the status that it ends with
 abbrev pub status_of : End → ℕ
 status_of (Printed text) = 0
 status_of (Unprinted text) = 1
 status_of (Failed name failure) = 1
-status_of Misused = 2
+status_of BadUsage = 2
 
 -- what standard output is given
 abbrev pub out_of : End → Output
 out_of (Printed text) = Whole text
 out_of (Unprinted text) = CutShort text
 out_of (Failed name failure) = Silent
-out_of Misused = Silent
+out_of BadUsage = Silent
 
 -- what standard error is given
 abbrev pub err_of : End → Output
 err_of (Printed text) = Silent
 err_of (Unprinted text) = Silent
 err_of (Failed name failure) = Told (message name failure)
-err_of Misused = Told usage
+err_of BadUsage = Told usage
 
 -- a run of these words over what FILE holds ends with this status, and gives the two streams what they are given
 pub record Ends (words : List Word) (file : Option (List ℕ)) (status : ℕ) (Out Err : Output → Type 0) : Type 0 where

@@ -13,7 +13,7 @@ use Rattle.snippet_grid.proofs.ShownLemmas.{painted-append, All-tail, pick, cell
 use Rattle.snippet_grid.specs.Changes.{num_touched}
 use Rattle.snippet_style.specs.Cell.{Cell, SPACE}
 use Rattle.snippet_grid.specs.Runs.{IsRun, IsPart, BeginsWith, ShowsMore, ShowsCopy, AddsRun, IsRow, EndsBy, Precedes, run_bytes, run_chars, run_cell, holds}
-use Rattle.snippet_grid.specs.Runs.{painted, shown}
+use Rattle.snippet_grid.specs.Runs.{painted_over, shown_cell}
 use Rattle.snippet_grid.specs.declared.runs.Run.{Run}
 
 -- whether a cell is among those that are copied
@@ -33,10 +33,10 @@ pub copied_after : (from to at c : ℕ) → at + (to - from) ≤ c → is_copied
 copied_after from to at c after = and_right _ _ (le-ltb c (at + (to - from)) after)
 
 -- what runs show where none reaches
-pub shown_past : (text : List ℕ) (r c n : ℕ) (d : Cell) (runs : List Run) → EndsBy n runs → n ≤ c → painted text r c d runs ≡ d
+pub shown_past : (text : List ℕ) (r c n : ℕ) (d : Cell) (runs : List Run) → EndsBy n runs → n ≤ c → painted_over text r c d runs ≡ d
 shown_past text r c n d [] ends past = refl
 shown_past text r c n d (run ∷ runs) ends past =
-    ap (λ (cell : Cell). painted text r c cell runs) (pick (run_cell text run c) d (holds_after run r c (omega (arith, ends 0 run (omega arith))))) ∙ shown_past text r c n d runs (All-tail (λ x. x.cell + x.count ≤ n) run runs ends) past
+    ap (λ (cell : Cell). painted_over text r c cell runs) (pick (run_cell text run c) d (holds_after run r c (omega (arith, ends 0 run (omega arith))))) ∙ shown_past text r c n d runs (All-tail (λ x. x.cell + x.count ≤ n) run runs ends) past
 
 num_touched-append : (from to : ℕ) (xs ys : List Run) → num_touched from to (xs ++ ys) ≡ num_touched from to xs + num_touched from to ys
 num_touched-append from to [] ys = omega arith
@@ -71,10 +71,10 @@ copy_start old out runs row from to at is ends =
       tight = λ m all k d within. omega (arith, ends k d within);
       before = λ k d first within j e inside. omega (arith, ends j e inside);
       shows = λ r c. elim (cases_lt c at) [
-        | inl before ↦ sym (pick SPACE (shown old out r c) (copied_before from to at c before))
+        | inl before ↦ sym (pick SPACE (shown_cell old out r c) (copied_before from to at c before))
         | inr low ↦ elim (cases_lt c (at + (to - from))) [
-          | inl high ↦ shown_past old r c at SPACE out ends low ∙ sym (pick SPACE (shown old out r c) (copied_yes from to at c low high))
-          | inr after ↦ sym (pick SPACE (shown old out r c) (copied_after from to at c after))
+          | inl high ↦ shown_past old r c at SPACE out ends low ∙ sym (pick SPACE (shown_cell old out r c) (copied_yes from to at c low high))
+          | inr after ↦ sym (pick SPACE (shown_cell old out r c) (copied_after from to at c after))
         ]
       ];
       count = omega arith;
@@ -138,9 +138,9 @@ copied_cell old now run part piece from to at start end r c before outside grows
 
 -- the runs so far show one more
 shown_more : (text : List ℕ) (runs : List Run) (n r c : ℕ) (d : Run) → n < length runs
-    → shown text (take (n + 1) runs) r c ≡ (let run = get_or runs n d in if holds run r c then run_cell text run c else shown text (take n runs) r c)
+    → shown_cell text (take (n + 1) runs) r c ≡ (let run = get_or runs n d in if holds run r c then run_cell text run c else shown_cell text (take n runs) r c)
 shown_more text runs n r c d within =
-    ap (λ (xs : List Run). shown text xs r c) (take_more runs n d within) ∙ painted-append text r c SPACE (take n runs) (get_or runs n d ∷ [])
+    ap (λ (xs : List Run). shown_cell text xs r c) (take_more runs n d within) ∙ painted-append text r c SPACE (take n runs) (get_or runs n d ∷ [])
 
 -- with one more run copied the runs so far are copied
 pub copy_next : (old now new : List ℕ) (out_old out_now out_new runs : List Run) (run part piece : Run) (row from to at n start end : ℕ)
@@ -179,9 +179,9 @@ copy_next old now new out_old out_now out_new runs run part piece row from to at
           adds.ends (at + (next.cell - from)) (so_far.before k d (omega arith) inside) (omega arith);
       shows = λ r c.
           let there = from + (c - at) in
-          let before = shown old (take n runs) r there in
-          let outside = shown old out_old r c in
-          let one_more : shown old (take (n + 1) runs) r there ≡ (if holds run r there then run_cell old run there else before) = shown_more old runs n r there run within ∙ ap (λ (x : Run). if holds x r there then run_cell old x there else before) (sym read) in
+          let before = shown_cell old (take n runs) r there in
+          let outside = shown_cell old out_old r c in
+          let one_more : shown_cell old (take (n + 1) runs) r there ≡ (if holds run r there then run_cell old run there else before) = shown_more old runs n r there run within ∙ ap (λ (x : Run). if holds x r there then run_cell old x there else before) (sym read) in
           shows r c ∙ ap (λ (d : Cell). if holds piece r c then run_cell now piece c else d) (so_far.shows r c)
           ∙ copied_cell old now run part piece from to at start end r c before outside so_far.grows is cut is_start is_end some
           (piece_row ∙ sym run_row) cell count starts ends role link
@@ -202,15 +202,15 @@ copy_past old now out_old out_now runs run row from to at n start end within rea
       before = λ k d later inside. so_far.before k d (omega arith) inside;
       shows = λ r c.
           let there = from + (c - at) in
-          let before = shown old (take n runs) r there in
-          let outside = shown old out_old r c in
-          let one_more : shown old (take (n + 1) runs) r there ≡ (if holds run r there then run_cell old run there else before) = shown_more old runs n r there run within ∙ ap (λ (x : Run). if holds x r there then run_cell old x there else before) (sym read) in
+          let before = shown_cell old (take n runs) r there in
+          let outside = shown_cell old out_old r c in
+          let one_more : shown_cell old (take (n + 1) runs) r there ≡ (if holds run r there then run_cell old run there else before) = shown_more old runs n r there run within ∙ ap (λ (x : Run). if holds x r there then run_cell old x there else before) (sym read) in
           so_far.shows r c ∙ elim (cases_lt c at) [
-            | inl left ↦ pick before outside (copied_before from to at c left) ∙ sym (pick (shown old (take (n + 1) runs) r there) outside (copied_before from to at c left))
+            | inl left ↦ pick before outside (copied_before from to at c left) ∙ sym (pick (shown_cell old (take (n + 1) runs) r there) outside (copied_before from to at c left))
             | inr above ↦ elim (cases_lt c (at + (to - from))) [
-              | inr after ↦ pick before outside (copied_after from to at c after) ∙ sym (pick (shown old (take (n + 1) runs) r there) outside (copied_after from to at c after))
+              | inr after ↦ pick before outside (copied_after from to at c after) ∙ sym (pick (shown_cell old (take (n + 1) runs) r there) outside (copied_after from to at c after))
               | inl below ↦
-                  let gone : shown old (take (n + 1) runs) r there ≡ before = elim (cases_lt there run.cell) [
+                  let gone : shown_cell old (take (n + 1) runs) r there ≡ before = elim (cases_lt there run.cell) [
                     | inl short ↦ one_more ∙ pick (run_cell old run there) before (holds_before run r there short)
                     | inr reaches ↦ one_more ∙ pick (run_cell old run there) before (holds_after run r there (omega arith))
                   ] in

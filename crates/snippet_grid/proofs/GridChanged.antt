@@ -15,7 +15,7 @@ use Rattle.snippet_grid.proofs.StretchLemmas.{stretch}
 use Rattle.snippet_grid.specs.Changes.{RowAt, ShowsSpan, is_within}
 use Rattle.snippet_grid.specs.Grid.{row_at, cell_at, cells_changed, ChangesCells}
 use Rattle.snippet_style.specs.Cell.{Cell, SPACE}
-use Rattle.snippet_grid.specs.Runs.{IsRun, IsRow, IsGrid, BeginsWith, EndsBy, FitIn, shown, grid_shown}
+use Rattle.snippet_grid.specs.Runs.{IsRun, IsRow, IsGrid, BeginsWith, EndsBy, FitIn, shown_cell, grid_shown}
 use Rattle.snippet_grid.specs.declared.runs.Run.{Run}
 
 -- grids whose rows have the same cells are one
@@ -47,17 +47,17 @@ ChangesCells-unique f old a b row start end one two =
 
 -- runs that show cells of a row changed, read cell by cell
 ChangesCells-shown : (f : Cell → Cell) (old new : List ℕ) (runs now : List Run) (w : List ℕ) (row start end last : ℕ)
-    → last ≡ min end (get_or w row 0) → FitIn w runs → FitIn w now → ShowsSpan old new runs now row start last (λ c. f (shown old runs row c))
-    → ((r c : ℕ) → r ≢ row → shown new now r c ≡ shown old runs r c) → ChangesCells f (grid_shown old runs w) (grid_shown new now w) row start end
+    → last ≡ min end (get_or w row 0) → FitIn w runs → FitIn w now → ShowsSpan old new runs now row start last (λ c. f (shown_cell old runs row c))
+    → ((r c : ℕ) → r ≢ row → shown_cell new now r c ≡ shown_cell old runs r c) → ChangesCells f (grid_shown old runs w) (grid_shown new now w) row start end
 ChangesCells-shown f old new runs now w row start end last is_last fit_old fit_new shows others =
     let before = grid_shown old runs w in
     let follows = grid_shown new now w in
-    let g = λ (c : ℕ). f (shown old runs row c) in
+    let g = λ (c : ℕ). f (shown_cell old runs row c) in
     let stays : (c : ℕ) → is_within start last c ≡ false → cell_at follows row c ≡ cell_at before row c = λ c no.
-    cell_shown new now w row c fit_new ∙ shows c ∙ pick (g c) (shown old runs row c) no ∙ sym (cell_shown old runs w row c fit_old) in
+    cell_shown new now w row c fit_new ∙ shows c ∙ pick (g c) (shown_cell old runs row c) no ∙ sym (cell_shown old runs w row c fit_old) in
     record {
       inside = λ c low high within.
-          cell_shown new now w row c fit_new ∙ shows c ∙ pick (g c) (shown old runs row c) (within_yes start last c low (omega (arith, width_shown old runs w row))) ∙ ap f (sym (cell_shown old runs w row c fit_old));
+          cell_shown new now w row c fit_new ∙ shows c ∙ pick (g c) (shown_cell old runs row c) (within_yes start last c low (omega (arith, width_shown old runs w row))) ∙ ap f (sym (cell_shown old runs w row c fit_old));
       before = λ c low. stays c (within_before start last c low);
       after = λ c high. stays c (within_after start last c (omega arith));
       others = λ r other. same_row old new runs now w w r refl (λ c. others r c other);
@@ -67,8 +67,8 @@ ChangesCells-shown f old new runs now w row start end last is_last fit_old fit_n
 
 -- and so what they show is the change
 pub grid_span : (f : Cell → Cell) (old new : List ℕ) (runs now : List Run) (w : List ℕ) (row start end last : ℕ) → last ≡ min end (get_or w row 0)
-    → FitIn w runs → FitIn w now → ShowsSpan old new runs now row start last (λ c. f (shown old runs row c))
-    → ((r c : ℕ) → r ≢ row → shown new now r c ≡ shown old runs r c) → grid_shown new now w ≡ cells_changed f (grid_shown old runs w) row start end
+    → FitIn w runs → FitIn w now → ShowsSpan old new runs now row start last (λ c. f (shown_cell old runs row c))
+    → ((r c : ℕ) → r ≢ row → shown_cell new now r c ≡ shown_cell old runs r c) → grid_shown new now w ≡ cells_changed f (grid_shown old runs w) row start end
 grid_span f old new runs now w row start end last is_last fit_old fit_new shows others =
     let before = grid_shown old runs w in
     ChangesCells-unique f before (grid_shown new now w) (cells_changed f before row start end) row start end (ChangesCells-shown f old new runs now w row start end last is_last fit_old fit_new shows others) (ChangesCells-cells_changed f before row start end)
@@ -85,7 +85,7 @@ pub record IsExchanged (old new : List ℕ) (runs now fresh : List Run) (row sta
 
 -- runs that are put in one row leave each other row as it was
 pub put_elsewhere : (old new : List ℕ) (runs now fresh : List Run) (row start end r c : ℕ) → IsExchanged old new runs now fresh row start end → r ≢ row
-    → shown new now r c ≡ shown old runs r c
+    → shown_cell new now r c ≡ shown_cell old runs r c
 put_elsewhere old new runs now fresh row start end r c put other =
     put_others new runs now fresh row start end r c put.at put.is_row.in_row put.is other ∙ painted-grown old new r c SPACE runs put.grows put.are_runs
 
@@ -109,12 +109,12 @@ FitIn-put old new runs now fresh w row start end put fit ends =
 -- a grid whose runs show changed cells in a stretch is that grid with its cells changed there
 pub grid_changed : (f : Cell → Cell) (old new : List ℕ) (runs now fresh : List Run) (w : List ℕ) (row start end last from to : ℕ)
     → IsExchanged old new runs now fresh row from to → last ≡ min end (get_or w row 0) → FitIn w runs → FitIn w now
-    → ShowsSpan old new (stretch runs from to) fresh row start last (λ c. f (shown old (stretch runs from to) row c))
+    → ShowsSpan old new (stretch runs from to) fresh row start last (λ c. f (shown_cell old (stretch runs from to) row c))
     → grid_shown new now w ≡ cells_changed f (grid_shown old runs w) row start end
 grid_changed f old new runs now fresh w row start end last from to put is_last fit_old fit_new shows =
-    let was : (c : ℕ) → shown old (stretch runs from to) row c ≡ shown old runs row c = λ c. row_shows old runs row from to c put.at in
-    let g = λ (c : ℕ). f (shown old (stretch runs from to) row c) in
-    let h = λ (c : ℕ). f (shown old runs row c) in
+    let was : (c : ℕ) → shown_cell old (stretch runs from to) row c ≡ shown_cell old runs row c = λ c. row_shows old runs row from to c put.at in
+    let g = λ (c : ℕ). f (shown_cell old (stretch runs from to) row c) in
+    let h = λ (c : ℕ). f (shown_cell old runs row c) in
     let here : ShowsSpan old new runs fresh row start last h = λ c. shows c ∙ ap (λ (d : Cell). (let cell : Cell = if is_within start last c then f d else d in cell)) (was c) in
     let there : ShowsSpan old new runs now row start last h = λ c. put_shows new runs now fresh row from to c put.at put.is ∙ here c in
     grid_span f old new runs now w row start end last is_last fit_old fit_new there (λ r c other. put_elsewhere old new runs now fresh row from to r c put other)

@@ -14,7 +14,7 @@ use Rattle.snippet_grid.proofs.StretchLemmas.{stretch, stretch_added, BeginsWith
 use Rattle.snippet_grid.proofs.ShownLemmas.{All-tail, pick, cell_same, painted-grown, All-IsRun-grown, holds_inside, holds_elsewhere, holds_before, holds_after}
 use Rattle.snippet_grid.specs.Grid.{row_at, cell_at, cells_written, WritesCells}
 use Rattle.snippet_style.specs.Cell.{Cell, SPACE, text_cells}
-use Rattle.snippet_grid.specs.Runs.{IsRun, BeginsWith, ShowsMore, FitIn, IsGrid, IsWord, IsWidened, run_bytes, run_chars, run_cell, holds, painted, shown}
+use Rattle.snippet_grid.specs.Runs.{IsRun, BeginsWith, ShowsMore, FitIn, IsGrid, IsWord, IsWidened, run_bytes, run_chars, run_cell, holds, painted_over, shown_cell}
 use Rattle.snippet_grid.specs.Runs.{grid_shown}
 use Rattle.snippet_style.specs.declared.role.ElementStyle.{ElementStyle}
 use Rattle.snippet_grid.specs.declared.runs.Run.{Run}
@@ -22,26 +22,26 @@ use Rattle.snippet_grid.specs.declared.runs.Run.{Run}
 -- a shown grid has a row for each width
 pub count_shown : (text : List ℕ) (runs : List Run) (widths : List ℕ) → length (grid_shown text runs widths) ≡ length widths
 unfolding grid_shown
-count_shown text runs widths = length-map-range_with_len (λ r. map (λ c. shown text runs r c) (range_with_len 0 (get_or widths r 0))) 0 (length widths)
+count_shown text runs widths = length-map-range_with_len (λ r. map (λ c. shown_cell text runs r c) (range_with_len 0 (get_or widths r 0))) 0 (length widths)
 
 -- a row of a shown grid is its cells, up to the row's width
 pub row_shown : (text : List ℕ) (runs : List Run) (widths : List ℕ) (r : ℕ)
-    → row_at (grid_shown text runs widths) r ≡ map (λ c. shown text runs r c) (range_with_len 0 (get_or widths r 0))
+    → row_at (grid_shown text runs widths) r ≡ map (λ c. shown_cell text runs r c) (range_with_len 0 (get_or widths r 0))
 unfolding grid_shown
 row_shown text runs widths r =
-    let line = λ (k : ℕ). map (λ c. shown text runs k c) (range_with_len 0 (get_or widths k 0)) in
+    let line = λ (k : ℕ). map (λ c. shown_cell text runs k c) (range_with_len 0 (get_or widths k 0)) in
     elim (cases_lt r (length widths)) [
       | inl within ↦ get_or-map-range_with_len line 0 (length widths) r r [] within (omega arith)
-      | inr past ↦ get_or_past (map line (range_with_len 0 (length widths))) r [] (omega (arith, length-map-range_with_len line 0 (length widths))) ∙ sym (ap (λ n. map (λ c. shown text runs r c) (range_with_len 0 n)) (get_or_past widths r 0 past))
+      | inr past ↦ get_or_past (map line (range_with_len 0 (length widths))) r [] (omega (arith, length-map-range_with_len line 0 (length widths))) ∙ sym (ap (λ n. map (λ c. shown_cell text runs r c) (range_with_len 0 n)) (get_or_past widths r 0 past))
     ]
 
 -- a row of a shown grid is as long as its width says
 pub width_shown : (text : List ℕ) (runs : List Run) (widths : List ℕ) (r : ℕ) → length (row_at (grid_shown text runs widths) r) ≡ get_or widths r 0
 width_shown text runs widths r =
-    ap length (row_shown text runs widths r) ∙ length-map-range_with_len (λ c. shown text runs r c) 0 (get_or widths r 0)
+    ap length (row_shown text runs widths r) ∙ length-map-range_with_len (λ c. shown_cell text runs r c) 0 (get_or widths r 0)
 
 -- no run holds a cell after a row's end
-unheld : (text : List ℕ) (widths : List ℕ) (r c : ℕ) (d : Cell) (runs : List Run) → FitIn widths runs → get_or widths r 0 ≤ c → painted text r c d runs ≡ d
+unheld : (text : List ℕ) (widths : List ℕ) (r c : ℕ) (d : Cell) (runs : List Run) → FitIn widths runs → get_or widths r 0 ≤ c → painted_over text r c d runs ≡ d
 unheld text widths r c d [] fit past = refl
 unheld text widths r c d (run ∷ runs) fit past =
     let rest = unheld text widths r c d runs (All-tail (λ x. x.cell + x.count ≤ get_or widths x.row 0) run runs fit) past in
@@ -50,13 +50,13 @@ unheld text widths r c d (run ∷ runs) fit past =
       | inl here ↦ holds_after run r c (omega (arith, subst (λ k. run.cell + run.count ≤ get_or widths k 0) here first))
       | inr other ↦ holds_elsewhere run r c other
     ] in
-    ap (λ (cell : Cell). painted text r c cell runs) (pick (run_cell text run c) d no) ∙ rest
+    ap (λ (cell : Cell). painted_over text r c cell runs) (pick (run_cell text run c) d no) ∙ rest
 
 -- a cell of a shown grid is what the runs show there
 pub cell_shown : (text : List ℕ) (runs : List Run) (widths : List ℕ) (r c : ℕ) → FitIn widths runs
-    → cell_at (grid_shown text runs widths) r c ≡ shown text runs r c
+    → cell_at (grid_shown text runs widths) r c ≡ shown_cell text runs r c
 cell_shown text runs widths r c fit =
-    let line = λ (k : ℕ). shown text runs r k in
+    let line = λ (k : ℕ). shown_cell text runs r k in
     let n = get_or widths r 0 in
     ap (λ (cells : List Cell). get_or cells c SPACE) (row_shown text runs widths r) ∙ elim (cases_lt c n) [
       | inl within ↦ get_or-map-range_with_len line 0 n c c SPACE within (omega arith)
@@ -65,17 +65,17 @@ cell_shown text runs widths r c fit =
 
 -- rows that show the same
 pub same_row : (old new : List ℕ) (runs now : List Run) (w v : List ℕ) (r : ℕ) → get_or v r 0 ≡ get_or w r 0
-    → ((c : ℕ) → shown new now r c ≡ shown old runs r c) → row_at (grid_shown new now v) r ≡ row_at (grid_shown old runs w) r
+    → ((c : ℕ) → shown_cell new now r c ≡ shown_cell old runs r c) → row_at (grid_shown new now v) r ≡ row_at (grid_shown old runs w) r
 same_row old new runs now w v r width same =
-    let f = λ (c : ℕ). shown new now r c in
-    let g = λ (c : ℕ). shown old runs r c in
+    let f = λ (c : ℕ). shown_cell new now r c in
+    let g = λ (c : ℕ). shown_cell old runs r c in
     let n = get_or w r 0 in
     row_shown new now v r ∙ ap (λ k. map f (range_with_len 0 k)) width ∙ same_lists (map f (range_with_len 0 n)) (map g (range_with_len 0 n)) (length-map-range_with_len f 0 n ∙ sym (length-map-range_with_len g 0 n)) (λ k d within.
     let inside : k < n = omega (arith, length-map-range_with_len f 0 n) in
     get_or-map-range_with_len f 0 n k k d inside (omega arith) ∙ same k ∙ sym (get_or-map-range_with_len g 0 n k k d inside (omega arith))) ∙ sym (row_shown old runs w r)
 
 -- a grid whose runs show the same is the same
-pub grid_same : (old new : List ℕ) (runs now : List Run) (widths : List ℕ) → ((r c : ℕ) → shown new now r c ≡ shown old runs r c)
+pub grid_same : (old new : List ℕ) (runs now : List Run) (widths : List ℕ) → ((r c : ℕ) → shown_cell new now r c ≡ shown_cell old runs r c)
     → grid_shown new now widths ≡ grid_shown old runs widths
 grid_same old new runs now widths same =
     let a = grid_shown new now widths in
@@ -117,8 +117,8 @@ WritesCells-shown old mid new runs now w v run row at role word grows are fit_ol
     let follows = grid_shown new now v in
     let long : length cells ≡ length (chars word) = length-text_cells role (chars word) in
     let count : run.count ≡ length (chars word) = is.is_run.counted ∙ ap length is.chars_are in
-    let unchanged : (r c : ℕ) → holds run r c ≡ false → shown new now r c ≡ shown old runs r c = λ r c no.
-    shows r c ∙ pick (run_cell mid run c) (shown mid runs r c) no ∙ painted-grown old mid r c SPACE runs grows are in
+    let unchanged : (r c : ℕ) → holds run r c ≡ false → shown_cell new now r c ≡ shown_cell old runs r c = λ r c no.
+    shows r c ∙ pick (run_cell mid run c) (shown_cell mid runs r c) no ∙ painted-grown old mid r c SPACE runs grows are in
     let same_cell : (r c : ℕ) → holds run r c ≡ false → cell_at follows r c ≡ cell_at before r c = λ r c no.
     cell_shown new now v r c fit_new ∙ unchanged r c no ∙ sym (cell_shown old runs w r c fit_old) in
     record {
@@ -126,7 +126,7 @@ WritesCells-shown old mid new runs now w v run row at role word grows are fit_ol
           let yes = holds_inside run row (at + k) is.row_is (omega (arith, is.cell_is)) (omega (arith, is.cell_is, count, long)) in
           let index : (at + k) - run.cell ≡ k = omega (arith, is.cell_is) in
           let ch : get_or (run_chars mid run) ((at + k) - run.cell) 32 ≡ get_or (chars word) k 0 = ap (λ (cs : List ℕ). get_or cs ((at + k) - run.cell) 32) is.chars_are ∙ ap (λ i. get_or (chars word) i 32) index ∙ get_or_default (chars word) k 32 0 (omega arith) in
-          cell_shown new now v row (at + k) fit_new ∙ shows row (at + k) ∙ pick (run_cell mid run (at + k)) (shown mid runs row (at + k)) yes
+          cell_shown new now v row (at + k) fit_new ∙ shows row (at + k) ∙ pick (run_cell mid run (at + k)) (shown_cell mid runs row (at + k)) yes
           ∙ cell_same (run_cell mid run (at + k)) record { ch = get_or (chars word) k 0; role = role; link = None } ch is.role_is is.unlinked
           ∙ sym (slice_index_or-text_cells role (chars word) k SPACE (omega arith));
       before = λ c low. same_cell row c (holds_before run row c (omega (arith, is.cell_is)));
@@ -212,7 +212,7 @@ on_err_from (Err e) is = is
 pub grid_none : (text : List ℕ) (runs : List Run) (widths : List ℕ) → widths ≡ [] → grid_shown text runs widths ≡ []
 unfolding grid_shown
 grid_none text runs widths none =
-    ap (λ (w : List ℕ). map (λ r. map (λ c. shown text runs r c) (range_with_len 0 (get_or w r 0))) (range_with_len 0 (length w))) none
+    ap (λ (w : List ℕ). map (λ r. map (λ c. shown_cell text runs r c) (range_with_len 0 (get_or w r 0))) (range_with_len 0 (length w))) none
 
 -- a text that has a byte has a character
 pub chars_some : (text : List ℕ) → IsUtf8 text → 0 < length text → 0 < length (chars text)

@@ -14,7 +14,7 @@ use Rattle.snippet_grid.proofs.StretchLemmas.{stretch, below_take}
 use Rattle.snippet_grid.proofs.TouchLemmas.{cases_held, touched_stretch, IsPut-touched}
 use Rattle.snippet_style.specs.Cell.{Cell, SPACE}
 use Rattle.snippet_grid.specs.Runs.{IsRun, IsRow, IsPart, BeginsWith, ShowsMore, AddsRun, EndsBy, Precedes, Differ, Continues, Touches, IsClear, IsJoined}
-use Rattle.snippet_grid.specs.Runs.{IsTouched, IsFront, IsBack, ArePieces, IsPut, run_chars, run_cell, holds, painted, shown}
+use Rattle.snippet_grid.specs.Runs.{AreTouchedRuns, IsFront, IsBack, ArePieces, IsPut, run_chars, run_cell, holds, painted_over, shown_cell}
 use Rattle.snippet_grid.specs.declared.runs.Run.{Run}
 
 -- a part of a run shows what the run shows where it holds the same
@@ -87,7 +87,7 @@ IsFront-none text runs run all =
     }
 
 -- where the first run begins after a cell, each does
-pub begin_after : (text : List ℕ) (run : Run) (runs : List Run) (n : ℕ) (d : Run) → IsTouched text run runs → n ≤ (get_or runs 0 d).cell
+pub begin_after : (text : List ℕ) (run : Run) (runs : List Run) (n : ℕ) (d : Run) → AreTouchedRuns text run runs → n ≤ (get_or runs 0 d).cell
     → All (λ x. n ≤ x.cell) runs
 begin_after text run runs n d is first =
     λ k e within.
@@ -100,7 +100,7 @@ begin_after text run runs n d is first =
     ]
 
 -- where the last run ends before a cell, each does
-pub end_before : (text : List ℕ) (run : Run) (runs : List Run) (n i : ℕ) (d : Run) → IsTouched text run runs → i + 1 ≡ length runs
+pub end_before : (text : List ℕ) (run : Run) (runs : List Run) (n i : ℕ) (d : Run) → AreTouchedRuns text run runs → i + 1 ≡ length runs
     → (get_or runs i d).cell + (get_or runs i d).count ≤ n → All (λ x. x.cell + x.count ≤ n) runs
 end_before text run runs n i d is is_last last =
     λ k e within.
@@ -113,7 +113,7 @@ end_before text run runs n i d is is_last last =
     ]
 
 -- the first run begins before the run
-front_first : (text : List ℕ) (first : Run) (runs : List Run) (run left : Run) → IsTouched text run (first ∷ runs) → first.cell < run.cell
+front_first : (text : List ℕ) (first : Run) (runs : List Run) (run left : Run) → AreTouchedRuns text run (first ∷ runs) → first.cell < run.cell
     → IsPart text first first.cell run.cell left → IsFront text (first ∷ runs) run (left ∷ [])
 front_first text first runs run left is before cut =
     let touch = is.touch 0 first (omega arith) in
@@ -135,7 +135,7 @@ front_first text first runs run left is before cut =
     }
 
 -- the front of the first touched run is what of it stands left of the run that is put in
-pub IsFront-some : (text : List ℕ) (runs : List Run) (run first left : Run) → IsTouched text run runs → 0 < length runs → first ≡ get_or runs 0 first
+pub IsFront-some : (text : List ℕ) (runs : List Run) (run first left : Run) → AreTouchedRuns text run runs → 0 < length runs → first ≡ get_or runs 0 first
     → first.cell < run.cell → IsPart text first first.cell run.cell left → IsFront text runs run (left ∷ [])
 IsFront-some text [] run first left is some read before cut = absurd (omega arith)
 IsFront-some text (x ∷ runs) run first left is some read before cut =
@@ -156,7 +156,7 @@ IsBack-none text runs run all =
     }
 
 -- the last run ends after the run
-pub IsBack-some : (text : List ℕ) (runs : List Run) (run last right : Run) (i from to : ℕ) → IsTouched text run runs → i + 1 ≡ length runs
+pub IsBack-some : (text : List ℕ) (runs : List Run) (run last right : Run) (i from to : ℕ) → AreTouchedRuns text run runs → i + 1 ≡ length runs
     → last ≡ get_or runs i last → from ≡ run.cell + run.count → to ≡ last.cell + last.count → from < to → IsPart text last from to right
     → IsBack text runs run (right ∷ [])
 IsBack-some text runs run last right i from to is is_last read is_from is_to past cut =
@@ -177,7 +177,7 @@ IsBack-some text runs run last right i from to is is_last read is_from is_to pas
           subst (λ (x : Run). x.cell + x.count ≤ c) (sym seen) (omega (arith, end, starts, is_from, after))) in
           part_shows text last right from to r c SPACE cut starts (omega (arith, is_to))
           (λ low high. (omega (arith, is_from, after), omega (arith, is_to, high)))
-          ∙ sym (ap (λ (l : List Run). shown text l r c) split ∙ painted-append text r c SPACE (take i runs) (last ∷ []) ∙ ap (λ (d : Cell).
+          ∙ sym (ap (λ (l : List Run). shown_cell text l r c) split ∙ painted-append text r c SPACE (take i runs) (last ∷ []) ∙ ap (λ (d : Cell).
           if holds last r c then run_cell text last c else d) (painted_unheld text r c SPACE (take i runs) front));
       starts = All-cons (λ x. run.cell + run.count ≤ x.cell) right [] (omega (arith, cut.cell, is_from)) (All-nil _);
       ends = λ n all.
@@ -223,25 +223,25 @@ begun_by old new runs front begun run is is_front shows are adds =
     }
 
 -- the pieces show the run over what the touched runs show
-pieces_show : (t0 t1 t2 : List ℕ) (runs front begun pieces back : List Run) (run : Run) → IsTouched t0 run runs → IsFront t0 runs run front
-    → IsBack t0 runs run back → ShowsMore t0 t1 front begun run → ((r c : ℕ) → shown t2 pieces r c ≡ painted t0 r c (shown t1 begun r c) back)
+pieces_show : (t0 t1 t2 : List ℕ) (runs front begun pieces back : List Run) (run : Run) → AreTouchedRuns t0 run runs → IsFront t0 runs run front
+    → IsBack t0 runs run back → ShowsMore t0 t1 front begun run → ((r c : ℕ) → shown_cell t2 pieces r c ≡ painted_over t0 r c (shown_cell t1 begun r c) back)
     → ShowsMore t0 t2 runs pieces run
 pieces_show t0 t1 t2 runs front begun pieces back run touched is_front is_back shows over =
     λ r c.
     let x = run_cell t0 run c in
-    let was = shown t0 runs r c in
-    let left = shown t0 front r c in
+    let was = shown_cell t0 runs r c in
+    let left = shown_cell t0 front r c in
     elim (cases_lt c run.cell) [
       | inl below ↦
           let no = holds_before run r c below in
           let no_back = unheld_before r c back (λ k d within here. omega (arith, is_back.starts k d within)) in
-          over r c ∙ painted_unheld t0 r c (shown t1 begun r c) back no_back ∙ shows r c ∙ pick x left no ∙ is_front.shows r c below ∙ sym (pick x was no)
+          over r c ∙ painted_unheld t0 r c (shown_cell t1 begun r c) back no_back ∙ shows r c ∙ pick x left no ∙ is_front.shows r c below ∙ sym (pick x was no)
       | inr low ↦
           let blank : left ≡ SPACE = shown_past t0 r c run.cell SPACE front is_front.ends low in
           elim (cases_lt c (run.cell + run.count)) [
             | inl high ↦
                 let no_back = unheld_before r c back (λ k d within here. omega (arith, is_back.starts k d within)) in
-                let same : shown t2 pieces r c ≡ (if holds run r c then x else left) = over r c ∙ painted_unheld t0 r c (shown t1 begun r c) back no_back ∙ shows r c in
+                let same : shown_cell t2 pieces r c ≡ (if holds run r c then x else left) = over r c ∙ painted_unheld t0 r c (shown_cell t1 begun r c) back no_back ∙ shows r c in
                 elim (cases_eq run.row r) [
                   | inl here ↦
                       let yes = holds_inside run r c here low high in
@@ -253,13 +253,13 @@ pieces_show t0 t1 t2 runs front begun pieces back run touched is_front is_back s
                 ]
             | inr past ↦
                 let no = holds_after run r c past in
-                let begun_is : shown t1 begun r c ≡ SPACE = shows r c ∙ pick x left no ∙ blank in
-                over r c ∙ ap (λ (d : Cell). painted t0 r c d back) begun_is ∙ is_back.shows r c past ∙ sym (pick x was no)
+                let begun_is : shown_cell t1 begun r c ≡ SPACE = shows r c ∙ pick x left no ∙ blank in
+                over r c ∙ ap (λ (d : Cell). painted_over t0 r c d back) begun_is ∙ is_back.shows r c past ∙ sym (pick x was no)
           ]
     ]
 
 -- with nothing after the run
-pub ArePieces-two : (old new : List ℕ) (runs front pieces : List Run) (run : Run) → IsTouched old run runs → IsRun old run
+pub ArePieces-two : (old new : List ℕ) (runs front pieces : List Run) (run : Run) → AreTouchedRuns old run runs → IsRun old run
     → IsFront old runs run front → IsBack old runs run [] → ShowsMore old new front pieces run → All (λ x. IsRun new x) pieces
     → AddsRun front pieces run → ArePieces old new runs pieces run
 ArePieces-two old new runs front pieces run touched is is_front is_back shows are adds =
@@ -276,7 +276,7 @@ ArePieces-two old new runs front pieces run touched is is_front is_back shows ar
     }
 
 -- with what the last run holds after it
-pub ArePieces-three : (t0 t1 t2 : List ℕ) (runs front begun pieces : List Run) (run right : Run) → IsTouched t0 run runs → IsRun t0 run
+pub ArePieces-three : (t0 t1 t2 : List ℕ) (runs front begun pieces : List Run) (run right : Run) → AreTouchedRuns t0 run runs → IsRun t0 run
     → IsFront t0 runs run front → IsBack t0 runs run (right ∷ []) → ShowsMore t0 t1 front begun run → All (λ x. IsRun t1 x) begun
     → AddsRun front begun run → BeginsWith t0 t1 → ShowsMore t1 t2 begun pieces right → All (λ x. IsRun t2 x) pieces → AddsRun begun pieces right
     → ArePieces t0 t2 runs pieces run
@@ -288,7 +288,7 @@ ArePieces-three t0 t1 t2 runs front begun pieces run right touched is is_front i
     let same_cell : (c : ℕ) → run_cell t1 right c ≡ run_cell t0 right c = λ c. run_cell-grown t0 t1 right c grows is_right in
     record {
       is_row = IsRow-added t1 t2 run.row (run.cell + run.count) begun pieces right begins.is_row begins.ends starts row are_more adds_more;
-      shows = pieces_show t0 t1 t2 runs front begun pieces (right ∷ []) run touched is_front is_back shows (λ r c. shows_more r c ∙ ap (λ (d : Cell). if holds right r c then d else shown t1 begun r c) (same_cell c));
+      shows = pieces_show t0 t1 t2 runs front begun pieces (right ∷ []) run touched is_front is_back shows (λ r c. shows_more r c ∙ ap (λ (d : Cell). if holds right r c then d else shown_cell t1 begun r c) (same_cell c));
       ends = λ n all high. adds_more.ends n (λ k d within. omega (arith, begins.ends k d within)) (is_back.ends n all 0 right (omega arith));
       follows = λ x clear all. adds_more.follows x (begins.follows x clear (is_front.follows x all)) record { rows = omega (arith, clear.rows, row); cells = λ h. omega (arith, clear.cells (h ∙ row), starts) };
       apart_follows = λ x clear all. adds_more.apart_follows x (begins.apart_follows x clear (is_front.apart_follows x all)) (λ at. absurd (omega (arith, clear.cells (at.row ∙ row), at.touches, starts)));
@@ -311,7 +311,7 @@ IsFront-all text runs run is_row ends one =
     }
 
 -- one run is touched, and the run goes on where it ends: it is made longer
-ArePieces-one : (old new : List ℕ) (first run whole : Run) → BeginsWith old new → IsTouched old run (first ∷ []) → IsRun old run → Continues first run
+ArePieces-one : (old new : List ℕ) (first run whole : Run) → BeginsWith old new → AreTouchedRuns old run (first ∷ []) → IsRun old run → Continues first run
     → IsJoined old new first run whole → ArePieces old new (first ∷ []) (whole ∷ []) run
 ArePieces-one old new first run whole grows touched is goes joined =
     let runs = first ∷ [] in
@@ -334,6 +334,6 @@ pub IsPut-one : (old new : List ℕ) (runs : List Run) (run first whole : Run) (
 IsPut-one old new runs run first whole start end one within read above touch below are ordered apart grows is goes joined =
     let low : start ≤ end = omega (arith, one) in
     let only : stretch runs start end ≡ first ∷ [] = ap (λ n. take n (drop start runs)) one ∙ take_more (drop start runs) 0 first (omega (arith, length-drop start runs, one, within)) ∙ ap (λ x. x ∷ []) (get_or-drop start runs 0 first ∙ ap (λ k. get_or runs k first) (omega arith) ∙ sym read) in
-    let touched : IsTouched old run (first ∷ []) = subst (λ (l : List Run). IsTouched old run l) only (touched_stretch old runs run start end low within are ordered apart touch) in
+    let touched : AreTouchedRuns old run (first ∷ []) = subst (λ (l : List Run). AreTouchedRuns old run l) only (touched_stretch old runs run start end low within are ordered apart touch) in
     let pieces = subst (λ (l : List Run). ArePieces old new l (whole ∷ []) run) (sym only) (ArePieces-one old new first run whole grows touched is goes joined) in
     IsPut-touched old new runs (set runs start whole) (whole ∷ []) run start end low within above touch below are ordered apart grows pieces (set_split runs start end whole (omega (arith, one)) within)

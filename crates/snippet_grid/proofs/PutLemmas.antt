@@ -8,7 +8,7 @@ use Rattle.std.specs.List.{AllPairs}
 use Rattle.snippet_grid.proofs.StretchLemmas.{stretch, below_take, get_or-stretch}
 use Rattle.snippet_grid.proofs.ShownLemmas.{painted-append, All-tail, All-IsRun-grown, pick, holds_elsewhere}
 use Rattle.snippet_style.specs.Cell.{Cell, SPACE}
-use Rattle.snippet_grid.specs.Runs.{IsRun, BeginsWith, AddsRun, IsRow, EndsBy, FitIn, Precedes, Differ, run_cell, painted, shown}
+use Rattle.snippet_grid.specs.Runs.{IsRun, BeginsWith, AddsRun, IsRow, EndsBy, FitIn, Precedes, Differ, run_cell, painted_over, shown_cell}
 use Rattle.snippet_grid.specs.declared.runs.Run.{Run}
 
 -- runs that stand in order of rows and cells
@@ -89,10 +89,10 @@ IsRow-added old new row n runs now run is ends before in_row are adds =
     }
 
 -- what is painted by runs of other rows
-pub painted_elsewhere : (text : List ℕ) (r c : ℕ) (d : Cell) (runs : List Run) → All (λ x. x.row ≡ r → ⊥) runs → painted text r c d runs ≡ d
+pub painted_elsewhere : (text : List ℕ) (r c : ℕ) (d : Cell) (runs : List Run) → All (λ x. x.row ≡ r → ⊥) runs → painted_over text r c d runs ≡ d
 painted_elsewhere text r c d [] others = refl
 painted_elsewhere text r c d (run ∷ runs) others =
-    ap (λ (cell : Cell). painted text r c cell runs) (pick (run_cell text run c) d (holds_elsewhere run r c (others 0 run (omega arith)))) ∙ painted_elsewhere text r c d runs (All-tail (λ x. x.row ≡ r → ⊥) run runs others)
+    ap (λ (cell : Cell). painted_over text r c cell runs) (pick (run_cell text run c) d (holds_elsewhere run r c (others 0 run (omega arith)))) ∙ painted_elsewhere text r c d runs (All-tail (λ x. x.row ≡ r → ⊥) run runs others)
 
 -- a list in three parts
 pub split_three : {X : Type 0} (xs : List X) (i j : ℕ) → i ≤ j → j ≤ length xs → xs ≡ take i xs ++ stretch xs i j ++ drop j xs
@@ -101,15 +101,15 @@ split_three xs i j low high =
 
 -- what three parts show, where the outer two hold nothing of the row
 pub painted_middle : (text : List ℕ) (r c : ℕ) (xs ys zs : List Run) → All (λ x. x.row ≡ r → ⊥) xs → All (λ x. x.row ≡ r → ⊥) zs
-    → shown text (xs ++ ys ++ zs) r c ≡ shown text ys r c
+    → shown_cell text (xs ++ ys ++ zs) r c ≡ shown_cell text ys r c
 painted_middle text r c xs ys zs left right =
-    painted-append text r c SPACE (xs ++ ys) zs ∙ painted_elsewhere text r c (painted text r c SPACE (xs ++ ys)) zs right ∙ painted-append text r c SPACE xs ys ∙ ap (λ (d : Cell). painted text r c d ys) (painted_elsewhere text r c SPACE xs left)
+    painted-append text r c SPACE (xs ++ ys) zs ∙ painted_elsewhere text r c (painted_over text r c SPACE (xs ++ ys)) zs right ∙ painted-append text r c SPACE xs ys ∙ ap (λ (d : Cell). painted_over text r c d ys) (painted_elsewhere text r c SPACE xs left)
 
 -- and where the middle holds nothing of the row
 pub painted_outer : (text : List ℕ) (r c : ℕ) (xs ys zs : List Run) → All (λ x. x.row ≡ r → ⊥) ys
-    → shown text (xs ++ ys ++ zs) r c ≡ painted text r c (shown text xs r c) zs
+    → shown_cell text (xs ++ ys ++ zs) r c ≡ painted_over text r c (shown_cell text xs r c) zs
 painted_outer text r c xs ys zs none =
-    painted-append text r c SPACE (xs ++ ys) zs ∙ ap (λ (d : Cell). painted text r c d zs) (painted-append text r c SPACE xs ys ∙ painted_elsewhere text r c (shown text xs r c) ys none)
+    painted-append text r c SPACE (xs ++ ys) zs ∙ ap (λ (d : Cell). painted_over text r c d zs) (painted-append text r c SPACE xs ys ∙ painted_elsewhere text r c (shown_cell text xs r c) ys none)
 
 -- what holds of the pairs of two lists and of each pair across holds of the pairs of both together
 pub AllPairs-append : {X : Type 0} (R : X → X → Type 0) (xs ys : List X) → AllPairs R xs → AllPairs R ys

@@ -17,7 +17,7 @@ use Rattle.snippet_grid.proofs.StretchLemmas.{stretch, below_take, BeginsWith-tr
 use Rattle.snippet_grid.specs.Changes.{ShowsSpan, ShowsReplaced}
 use Rattle.snippet_grid.specs.Grid.{row_at, cell_at, cells_replaced, ReplacesCells}
 use Rattle.snippet_style.specs.Cell.{Cell, SPACE, text_cells}
-use Rattle.snippet_grid.specs.Runs.{IsRun, IsRow, IsWord, BeginsWith, EndsBy, FitIn, ShowsCopy, ShowsMore, run_cell, run_chars, shown, grid_shown}
+use Rattle.snippet_grid.specs.Runs.{IsRun, IsRow, IsWord, BeginsWith, EndsBy, FitIn, ShowsCopy, ShowsMore, run_cell, run_chars, shown_cell, grid_shown}
 use Rattle.snippet_style.specs.declared.role.ElementStyle.{ElementStyle}
 use Rattle.snippet_grid.specs.declared.runs.Run.{Run}
 
@@ -28,8 +28,8 @@ span_empty text out row at word g none =
     λ c.
     let no_char : length (chars word) ≡ 0 = ap (λ (w : List ℕ). length (chars w)) (nil_from_length word (omega (arith, none))) ∙ ap length chars-nil in
     sym (elim (cases_lt c at) [
-      | inl before ↦ pick (g c) (shown text out row c) (within_before at (at + length (chars word)) c before)
-      | inr low ↦ pick (g c) (shown text out row c) (within_after at (at + length (chars word)) c (omega arith))
+      | inl before ↦ pick (g c) (shown_cell text out row c) (within_before at (at + length (chars word)) c before)
+      | inr low ↦ pick (g c) (shown_cell text out row c) (within_after at (at + length (chars word)) c (omega arith))
     ])
 
 -- a word that was added after some runs
@@ -40,19 +40,19 @@ word_span t0 t1 t2 out now run row at role word grows are is shows =
     λ c.
     let end = at + length (chars word) in
     let x = run_cell t1 run c in
-    let y = shown t1 out row c in
+    let y = shown_cell t1 out row c in
     let g : Cell = get_or (text_cells role (chars word)) (c - at) SPACE in
-    let stays : y ≡ shown t0 out row c = painted-grown t0 t1 row c SPACE out grows are in
+    let stays : y ≡ shown_cell t0 out row c = painted-grown t0 t1 row c SPACE out grows are in
     let count : run.count ≡ length (chars word) = is.is_run.counted ∙ ap length is.chars_are in
     shows row c ∙ elim (cases_lt c at) [
-      | inl before ↦ pick x y (holds_before run row c (omega (arith, is.cell_is))) ∙ stays ∙ sym (pick g (shown t0 out row c) (within_before at end c before))
+      | inl before ↦ pick x y (holds_before run row c (omega (arith, is.cell_is))) ∙ stays ∙ sym (pick g (shown_cell t0 out row c) (within_before at end c before))
       | inr low ↦ elim (cases_lt c end) [
-        | inr after ↦ pick x y (holds_after run row c (omega (arith, is.cell_is))) ∙ stays ∙ sym (pick g (shown t0 out row c) (within_after at end c after))
+        | inr after ↦ pick x y (holds_after run row c (omega (arith, is.cell_is))) ∙ stays ∙ sym (pick g (shown_cell t0 out row c) (within_after at end c after))
         | inl high ↦
             let inside : c - at < length (chars word) = omega arith in
             let ch : get_or (run_chars t1 run) (c - run.cell) 32 ≡ get_or (chars word) (c - at) 0 = ap (λ (cs : List ℕ). get_or cs (c - run.cell) 32) is.chars_are ∙ ap (λ i. get_or (chars word) (c - i) 32) is.cell_is ∙ get_or_default (chars word) (c - at) 32 0 inside in
             let yes = holds_inside run row c is.row_is (omega (arith, is.cell_is)) (omega (arith, is.cell_is)) in
-            pick x y yes ∙ cell_same x record { ch = get_or (chars word) (c - at) 0; role = role; link = None } ch is.role_is is.unlinked ∙ sym (slice_index_or-text_cells role (chars word) (c - at) SPACE inside) ∙ sym (pick g (shown t0 out row c) (within_yes at end c low high))
+            pick x y yes ∙ cell_same x record { ch = get_or (chars word) (c - at) 0; role = role; link = None } ch is.role_is is.unlinked ∙ sym (slice_index_or-text_cells role (chars word) (c - at) SPACE inside) ∙ sym (pick g (shown_cell t0 out row c) (within_yes at end c low high))
       ]
     ]
 
@@ -63,24 +63,24 @@ pub row_replaced : (t0 t1 t2 t3 : List ℕ) (runs f0 f1 f2 f3 : List Run) (row s
     → ShowsReplaced t0 t3 runs f3 row start end cells
 row_replaced t0 t1 t2 t3 runs f0 f1 f2 f3 row start end at top cells some is_at wide are grows more first second ends third =
     let g = λ (c : ℕ). get_or cells (c - start) SPACE in
-    let back = λ (c : ℕ). shown t2 runs row (end + (c - at)) in
-    let up_to : (c : ℕ) → c < at → shown t3 f3 row c ≡ shown t2 f2 row c = λ c before.
-    third row c ∙ pick (back c) (shown t2 f2 row c) (copied_before end top at c before) in
+    let back = λ (c : ℕ). shown_cell t2 runs row (end + (c - at)) in
+    let up_to : (c : ℕ) → c < at → shown_cell t3 f3 row c ≡ shown_cell t2 f2 row c = λ c before.
+    third row c ∙ pick (back c) (shown_cell t2 f2 row c) (copied_before end top at c before) in
     record {
       before = λ c left.
-          let front : Cell = shown t0 runs row (0 + (c - 0)) in
-          up_to c (omega arith) ∙ second c ∙ pick (g c) (shown t1 f1 row c) (within_before start at c left) ∙ first row c ∙ pick front (shown t0 f0 row c) (copied_yes 0 start 0 c (omega arith) (omega arith)) ∙ ap (λ i. shown t0 runs row i) (omega arith);
+          let front : Cell = shown_cell t0 runs row (0 + (c - 0)) in
+          up_to c (omega arith) ∙ second c ∙ pick (g c) (shown_cell t1 f1 row c) (within_before start at c left) ∙ first row c ∙ pick front (shown_cell t0 f0 row c) (copied_yes 0 start 0 c (omega arith) (omega arith)) ∙ ap (λ i. shown_cell t0 runs row i) (omega arith);
       inside = λ k within.
           let index : (start + k) - start ≡ k = omega arith in
-          up_to (start + k) (omega arith) ∙ second (start + k) ∙ pick (g (start + k)) (shown t1 f1 row (start + k)) (within_yes start at (start + k) (omega arith) (omega arith)) ∙ ap (λ i. get_or cells i SPACE) index;
+          up_to (start + k) (omega arith) ∙ second (start + k) ∙ pick (g (start + k)) (shown_cell t1 f1 row (start + k)) (within_yes start at (start + k) (omega arith) (omega arith)) ∙ ap (λ i. get_or cells i SPACE) index;
       after = λ k.
           let c = start + length cells + k in
           let there : end + (c - at) ≡ end + k = omega arith in
-          let outside = shown t2 f2 row c in
+          let outside = shown_cell t2 f2 row c in
           third row c ∙ elim (cases_lt c (at + (top - end))) [
-            | inl below ↦ pick (back c) outside (copied_yes end top at c (omega arith) below) ∙ ap (λ i. shown t2 runs row i) there ∙ painted-grown t0 t2 row (end + k) SPACE runs (BeginsWith-trans t0 t1 t2 grows more) are.are_runs
+            | inl below ↦ pick (back c) outside (copied_yes end top at c (omega arith) below) ∙ ap (λ i. shown_cell t2 runs row i) there ∙ painted-grown t0 t2 row (end + k) SPACE runs (BeginsWith-trans t0 t1 t2 grows more) are.are_runs
             | inr beyond ↦
-                let gone : shown t0 runs row (end + k) ≡ SPACE = shown_past t0 row (end + k) top SPACE runs (λ i d within. omega (arith, (are.are_runs i d within).fits)) (omega arith) in
+                let gone : shown_cell t0 runs row (end + k) ≡ SPACE = shown_past t0 row (end + k) top SPACE runs (λ i d within. omega (arith, (are.are_runs i d within).fits)) (omega arith) in
                 pick (back c) outside (copied_after end top at c beyond) ∙ shown_past t2 row c at SPACE f2 ends (omega arith) ∙ sym gone
           ];
     }
@@ -112,8 +112,8 @@ grid_replaced old new runs now fresh w v row start end from to cells put some wi
     let before = grid_shown old runs w in
     let follows = grid_shown new now v in
     let width : length (row_at before row) ≡ get_or w row 0 = width_shown old runs w row in
-    let was : (c : ℕ) → shown old (stretch runs from to) row c ≡ cell_at before row c = λ c. row_shows old runs row from to c put.at ∙ sym (cell_shown old runs w row c fit_old) in
-    let is : (c : ℕ) → cell_at follows row c ≡ shown new fresh row c = λ c. cell_shown new now v row c fit_new ∙ put_shows new runs now fresh row from to c put.at put.is in
+    let was : (c : ℕ) → shown_cell old (stretch runs from to) row c ≡ cell_at before row c = λ c. row_shows old runs row from to c put.at ∙ sym (cell_shown old runs w row c fit_old) in
+    let is : (c : ℕ) → cell_at follows row c ≡ shown_cell new fresh row c = λ c. cell_shown new now v row c fit_new ∙ put_shows new runs now fresh row from to c put.at put.is in
     let reads : ReplacesCells before follows row start end cells = record {
       inside = λ _ _ k inside. is (start + k) ∙ shows.inside k inside;
       after = λ _ _ k. is (start + length cells + k) ∙ shows.after k ∙ was (end + k);

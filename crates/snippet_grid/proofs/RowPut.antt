@@ -4,7 +4,7 @@ use Rattle.std.proofs.lemmas.List.{get_or-take, get_or-drop, length-append, leng
 use Rattle.snippet_grid.proofs.PutLemmas.{painted_middle, painted_outer, split_three}
 use Rattle.snippet_grid.proofs.StretchLemmas.{stretch, below_take, get_or-stretch}
 use Rattle.snippet_grid.specs.Changes.{RowAt}
-use Rattle.snippet_grid.specs.Runs.{IsRun, EndsBy, FitIn, shown}
+use Rattle.snippet_grid.specs.Runs.{IsRun, EndsBy, FitIn, shown_cell}
 use Rattle.snippet_grid.specs.declared.runs.Run.{Run}
 
 -- the runs above a row hold none of its cells, nor do those below it
@@ -28,23 +28,23 @@ no_middle runs row start end r at other =
 
 -- a row shows what its own runs show
 pub row_shows : (text : List ℕ) (runs : List Run) (row start end c : ℕ) → RowAt runs row start end
-    → shown text (stretch runs start end) row c ≡ shown text runs row c
+    → shown_cell text (stretch runs start end) row c ≡ shown_cell text runs row c
 row_shows text runs row start end c at =
-    sym (ap (λ (l : List Run). shown text l row c) (split_three runs start end at.ordered at.within) ∙ painted_middle text row c (take start runs) (stretch runs start end) (drop end runs) (no_left runs row start end at) (no_right runs row start end at))
+    sym (ap (λ (l : List Run). shown_cell text l row c) (split_three runs start end at.ordered at.within) ∙ painted_middle text row c (take start runs) (stretch runs start end) (drop end runs) (no_left runs row start end at) (no_right runs row start end at))
 
 -- and after others took their place, what these show
 pub put_shows : (text : List ℕ) (runs now fresh : List Run) (row start end c : ℕ) → RowAt runs row start end → now ≡ take start runs ++ fresh ++ drop end runs
-    → shown text now row c ≡ shown text fresh row c
+    → shown_cell text now row c ≡ shown_cell text fresh row c
 put_shows text runs now fresh row start end c at is =
-    ap (λ (l : List Run). shown text l row c) is ∙ painted_middle text row c (take start runs) fresh (drop end runs) (no_left runs row start end at) (no_right runs row start end at)
+    ap (λ (l : List Run). shown_cell text l row c) is ∙ painted_middle text row c (take start runs) fresh (drop end runs) (no_left runs row start end at) (no_right runs row start end at)
 
 -- the other rows stay
 pub put_others : (text : List ℕ) (runs now fresh : List Run) (row start end r c : ℕ) → RowAt runs row start end → All (λ x. x.row ≡ row) fresh
-    → now ≡ take start runs ++ fresh ++ drop end runs → r ≢ row → shown text now r c ≡ shown text runs r c
+    → now ≡ take start runs ++ fresh ++ drop end runs → r ≢ row → shown_cell text now r c ≡ shown_cell text runs r c
 put_others text runs now fresh row start end r c at in_row is other =
     let no_fresh : All (λ x. x.row ≡ r → ⊥) fresh = λ k d within same. other (sym same ∙ in_row k d within) in
-    ap (λ (l : List Run). shown text l r c) is ∙ painted_outer text r c (take start runs) fresh (drop end runs) no_fresh
-    ∙ sym (ap (λ (l : List Run). shown text l r c) (split_three runs start end at.ordered at.within) ∙ painted_outer text r c (take start
+    ap (λ (l : List Run). shown_cell text l r c) is ∙ painted_outer text r c (take start runs) fresh (drop end runs) no_fresh
+    ∙ sym (ap (λ (l : List Run). shown_cell text l r c) (split_three runs start end at.ordered at.within) ∙ painted_outer text r c (take start
     runs) (stretch runs start end) (drop end runs) (no_middle runs row start end r at other))
 
 -- as many runs are added as are put in, and as many are gone as stood there

@@ -10,7 +10,7 @@ use Rattle.snippet_grid.proofs.ShownLemmas.{painted-append, All-tail, pick, hold
 use Rattle.snippet_grid.proofs.StretchPrinted.{alike, stretch_printed}
 use Rattle.snippet_grid.proofs.WeaveLemmas.{Url, Goes}
 use Rattle.snippet_style.specs.Cell.{Cell, SPACE}
-use Rattle.snippet_grid.specs.Runs.{IsRun, IsRow, Precedes, run_chars, run_cell, holds, painted, shown, cells_to}
+use Rattle.snippet_grid.specs.Runs.{IsRun, IsRow, Precedes, run_chars, run_cell, holds, painted_over, shown_cell, cells_to}
 use Rattle.snippet_grid.specs.Stretch.{PrintsStretch}
 use Rattle.snippet_style.specs.Stylesheet.{style_of}
 use Rattle.snippet_style.specs.declared.role.ElementStyle.TheVariants.{NoStyle}
@@ -20,21 +20,21 @@ use Rattle.snippet_style.specs.declared.style.Style.{Style}
 use Rattle.snippet_style.specs.declared.stylesheet.Stylesheet.{Stylesheet}
 
 -- a cell that no run holds is as it was before any is painted
-pub painted_unheld : (text : List ℕ) (r c : ℕ) (d : Cell) (runs : List Run) → All (λ x. holds x r c ≡ false) runs → painted text r c d runs ≡ d
+pub painted_unheld : (text : List ℕ) (r c : ℕ) (d : Cell) (runs : List Run) → All (λ x. holds x r c ≡ false) runs → painted_over text r c d runs ≡ d
 painted_unheld text r c d [] none = refl
 painted_unheld text r c d (run ∷ runs) none =
-    ap (λ (cell : Cell). painted text r c cell runs) (pick (run_cell text run c) d (none 0 run (omega arith))) ∙ painted_unheld text r c d runs (All-tail (λ x. holds x r c ≡ false) run runs none)
+    ap (λ (cell : Cell). painted_over text r c cell runs) (pick (run_cell text run c) d (none 0 run (omega arith))) ∙ painted_unheld text r c d runs (All-tail (λ x. holds x r c ≡ false) run runs none)
 
 -- a run shows its own cells, whatever stands after it
 pub shown_in : (text : List ℕ) (row c n : ℕ) (runs : List Run) (d : Run) → IsRow text row runs → n < length runs
-    → (let run = get_or runs n d in run.cell ≤ c → c < run.cell + run.count → shown text runs row c ≡ run_cell text run c)
+    → (let run = get_or runs n d in run.cell ≤ c → c < run.cell + run.count → shown_cell text runs row c ≡ run_cell text run c)
 shown_in text row c n runs d is within =
     λ low high.
     let run : Run = get_or runs n d in
     let front = take n runs in
     let back = drop (n + 1) runs in
     let split : runs ≡ front ++ run ∷ back = sym (take-append-drop n runs) ∙ ap (λ (xs : List Run). front ++ xs) (drop_more runs n d within) in
-    let below : Cell = shown text front row c in
+    let below : Cell = shown_cell text front row c in
     let none : All (λ x. holds x row c ≡ false) back = λ k e inside.
     let later : n + 1 + k < length runs = omega (arith, length-drop (n + 1) runs) in
     let precedes : Precedes (get_or runs n e) (get_or runs (n + 1 + k) e) = is.ordered n (n + 1 + k) e (omega arith) later in
@@ -42,12 +42,12 @@ shown_in text row c n runs d is within =
     let rows : (get_or runs n e).row ≡ (get_or runs (n + 1 + k) e).row = is.in_row n e within ∙ sym (is.in_row (n + 1 + k) e later) in
     let gap : run.cell + run.count ≤ (get_or runs (n + 1 + k) e).cell = subst (λ (x : Run). x.cell + x.count ≤ (get_or runs (n + 1 + k) e).cell) first_is (precedes.cells rows) in
     subst (λ (x : Run). holds x row c ≡ false) (sym (get_or-drop (n + 1) runs k e)) (holds_before (get_or runs (n + 1 + k) e) row c (omega arith)) in
-    ap (λ (xs : List Run). shown text xs row c) split ∙ painted-append text row c SPACE front (run ∷ back) ∙ painted_unheld text row c (if holds run row c then run_cell text run c else below) back none ∙ pick (run_cell text run c) below (holds_inside run row c (is.in_row n d within) low high)
+    ap (λ (xs : List Run). shown_cell text xs row c) split ∙ painted-append text row c SPACE front (run ∷ back) ∙ painted_unheld text row c (if holds run row c then run_cell text run c else below) back none ∙ pick (run_cell text run c) below (holds_inside run row c (is.in_row n d within) low high)
 
 -- nothing is shown between two runs
 pub shown_gap : (text : List ℕ) (row c n : ℕ) (runs : List Run)
     → ((k : ℕ) (d : Run) → k < n → k < length runs → (get_or runs k d).cell + (get_or runs k d).count ≤ c)
-    → ((k : ℕ) (d : Run) → n ≤ k → k < length runs → c < (get_or runs k d).cell) → shown text runs row c ≡ SPACE
+    → ((k : ℕ) (d : Run) → n ≤ k → k < length runs → c < (get_or runs k d).cell) → shown_cell text runs row c ≡ SPACE
 shown_gap text row c n runs after ahead =
     painted_unheld text row c SPACE runs (λ k d within. elim (cases_lt k n) [
       | inl before ↦ holds_after (get_or runs k d) row c (after k d before within)
@@ -56,9 +56,9 @@ shown_gap text row c n runs after ahead =
 
 -- further cells of a row
 cells_more : (text : List ℕ) (runs : List Run) (row a b : ℕ) (more : List Cell) → a + length more ≡ b
-    → ((k : ℕ) → k < length more → get_or more k SPACE ≡ shown text runs row (a + k)) → cells_to text runs row b ≡ cells_to text runs row a ++ more
+    → ((k : ℕ) → k < length more → get_or more k SPACE ≡ shown_cell text runs row (a + k)) → cells_to text runs row b ≡ cells_to text runs row a ++ more
 cells_more text runs row a b more long same =
-    let f = λ (c : ℕ). shown text runs row c in
+    let f = λ (c : ℕ). shown_cell text runs row c in
     let xs = cells_to text runs row a in
     let xs_long : length xs ≡ a = length-map-range_with_len f 0 a in
     same_lists (cells_to text runs row b) (xs ++ more) (omega (arith, length-map-range_with_len f 0 b, length-append xs more)) (λ k d within.

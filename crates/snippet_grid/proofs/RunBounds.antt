@@ -11,7 +11,7 @@ use Rattle.snippet_grid.proofs.RunLemmas.{none}
 use Rattle.snippet_grid.proofs.ShownLemmas.{painted-append, pick, holds_inside, holds_elsewhere, holds_before, holds_after}
 use Rattle.snippet_style.specs.Cell.{Cell, SPACE}
 use Rattle.snippet_grid.specs.RunBounds.{Look, look_of, goes_on, fewest_after, most_after, fewest_runs, most_runs}
-use Rattle.snippet_grid.specs.Runs.{IsGrid, Precedes, run_cell, holds, shown, grid_shown}
+use Rattle.snippet_grid.specs.Runs.{IsGrid, Precedes, run_cell, holds, shown_cell, grid_shown}
 use Rattle.snippet_grid.specs.declared.runs.Run.{Run}
 
 -- the look of a run
@@ -34,7 +34,7 @@ record AreSplit (runs : List Run) (row cell k : ℕ) : Type 0 where
 
 -- no run holds a cell between these
 space_between : (text : List ℕ) (runs : List Run) (row low high c k : ℕ) → AreSplit runs row low k → AreSplit runs row high k → low ≤ c → c < high
-    → shown text runs row c ≡ SPACE
+    → shown_cell text runs row c ≡ SPACE
 space_between text runs row low high c k start end after ahead =
     painted_unheld text row c SPACE runs (λ j d within.
     elim (cases_eq (get_or runs j d).row row) [
@@ -47,14 +47,14 @@ space_between text runs row low high c k start end after ahead =
 
 -- a run's cells have its look
 look_within : (text : List ℕ) (runs : List Run) (row c k : ℕ) (d : Run) → AllPairs (λ a b. Precedes a b) runs → k < length runs
-    → (let run = get_or runs k d in run.row ≡ row → run.cell ≤ c → c < run.cell + run.count → run_look run ≡ look_of (shown text runs row c))
+    → (let run = get_or runs k d in run.row ≡ row → run.cell ≤ c → c < run.cell + run.count → run_look run ≡ look_of (shown_cell text runs row c))
 look_within text runs row c k d ordered within =
     λ here low high.
     let run : Run = get_or runs k d in
     let front = take k runs in
     let back = drop (k + 1) runs in
     let split : runs ≡ front ++ run ∷ back = sym (take-append-drop k runs) ∙ ap (λ (xs : List Run). front ++ xs) (drop_more runs k d within) in
-    let below : Cell = shown text front row c in
+    let below : Cell = shown_cell text front row c in
     let later : All (λ x. holds x row c ≡ false) back = λ j e inside.
     let after : k + 1 + j < length runs = omega (arith, length-drop (k + 1) runs) in
     let precedes : Precedes run (get_or runs (k + 1 + j) e) = subst (λ (x : Run). Precedes x (get_or runs (k + 1 + j) e)) (get_or_default runs k e d within)
@@ -64,8 +64,8 @@ look_within text runs row c k d ordered within =
       | inl same ↦ holds_before (get_or runs (k + 1 + j) e) row c (omega (arith, precedes.cells (here ∙ sym same)))
     ] in
     subst (λ (x : Run). holds x row c ≡ false) (sym (get_or-drop (k + 1) runs j e)) no in
-    let cell : shown text runs row c ≡ run_cell text run c =
-    ap (λ (xs : List Run). shown text xs row c) split ∙ painted-append text row c SPACE front (run ∷ back) ∙ painted_unheld text row c
+    let cell : shown_cell text runs row c ≡ run_cell text run c =
+    ap (λ (xs : List Run). shown_cell text xs row c) split ∙ painted-append text row c SPACE front (run ∷ back) ∙ painted_unheld text row c
     (if holds run row c then run_cell text run c else below) back later ∙ pick (run_cell text run c) below (holds_inside run row c here low high) in
     sym (ap look_of cell)
 
@@ -74,17 +74,17 @@ record IsCounted (text : List ℕ) (runs : List Run) (row cell width k : ℕ) : 
   next : ℕ
   within : next ≤ length runs
   split : AreSplit runs (row + 1) 0 next
-  least : (s : Option Look) → fewest_after s (cells_at (λ c. shown text runs row c) cell (width - cell)) ≤ next - k
+  least : (s : Option Look) → fewest_after s (cells_at (λ c. shown_cell text runs row c) cell (width - cell)) ≤ next - k
   some : k ≤ next
-  free : next ≤ k + most_after None (cells_at (λ c. shown text runs row c) cell (width - cell))
+  free : next ≤ k + most_after None (cells_at (λ c. shown_cell text runs row c) cell (width - cell))
   touched : (look : Look) → ((get_or runs k none).row ≡ row → (get_or runs k none).cell ≡ cell → k < length runs → look ≡ run_look (get_or runs k none) → ⊥)
-      → next ≤ k + most_after (Some look) (cells_at (λ c. shown text runs row c) cell (width - cell))
+      → next ≤ k + most_after (Some look) (cells_at (λ c. shown_cell text runs row c) cell (width - cell))
 
 -- where the rest of a row is bare spaces, none is counted
 rest_bare : (text : List ℕ) (runs : List Run) (row cell width k : ℕ) → cell ≤ width → k ≤ length runs → AreSplit runs row cell k →
     ((j : ℕ) (d : Run) → k ≤ j → j < length runs → row < (get_or runs j d).row) → IsCounted text runs row cell width k
 rest_bare text runs row cell width k fits within split past =
-    let f = λ (c : ℕ). shown text runs row c in
+    let f = λ (c : ℕ). shown_cell text runs row c in
     let end : AreSplit runs row width k = record {
       before = λ j d first inside. record {
         rows = (split.before j d first inside).rows;
@@ -116,7 +116,7 @@ row_counted : (text : List ℕ) (runs : List Run) (widths : List ℕ) (row width
 row_counted text runs widths row width grid is zero k cell all fits split =
     rest_bare text runs row cell width k fits (omega arith) split (λ j d later inside. absurd (omega arith))
 row_counted text runs widths row width grid is (suc left) k cell all fits split =
-    let f = λ (c : ℕ). shown text runs row c in
+    let f = λ (c : ℕ). shown_cell text runs row c in
     let run : Run = get_or runs k none in
     let within : k < length runs = omega arith in
     let follows : (j : ℕ) (d : Run) → k < j → j < length runs → Precedes run (get_or runs j d) = λ j d later inside. subst
@@ -217,7 +217,7 @@ row_counted text runs widths row width grid is (suc left) k cell all fits split 
 
 -- the row of this number, as runs show it
 abbrev line : List ℕ → List Run → List ℕ → ℕ → List Cell
-line text runs widths r = map (λ c. shown text runs r c) (range_with_len 0 (get_or widths r 0))
+line text runs widths r = map (λ c. shown_cell text runs r c) (range_with_len 0 (get_or widths r 0))
 
 -- what is counted from a row on, before which so many runs stand
 record AreCounted (text : List ℕ) (runs : List Run) (widths : List ℕ) (rows : List (List Cell)) (k : ℕ) : Type 0 where
@@ -238,7 +238,7 @@ rows_counted text runs widths grid zero r k all within split =
       most = omega arith;
     }
 rows_counted text runs widths grid (suc left) r k all within split =
-    let f = λ (c : ℕ). shown text runs r c in
+    let f = λ (c : ℕ). shown_cell text runs r c in
     let width = get_or widths r 0 in
     let row : IsCounted text runs r 0 width k = row_counted text runs widths r width grid refl (length runs - k) k 0 (omega arith) (omega arith) split in
     let below : AreCounted text runs widths (map (line text runs widths) (range_with_len (r + 1) left)) row.next = rows_counted text runs widths grid left

@@ -11,11 +11,11 @@ use Rattle.std.specs.Option.{option_copied}
 use Rattle.std.specs.Str.{chars}
 use Rattle.snippet_grid.proofs.RunLemmas.{run_bytes-grown, IsRun-grown}
 use Rattle.snippet_style.specs.Cell.{Cell, SPACE}
-use Rattle.snippet_grid.specs.Runs.{IsRun, IsJoined, Continues, BeginsWith, ShowsMore, run_chars, run_cell, holds, painted, shown, Precedes, Differ, AddsRun}
+use Rattle.snippet_grid.specs.Runs.{IsRun, IsJoined, Continues, BeginsWith, ShowsMore, run_chars, run_cell, holds, painted_over, shown_cell, Precedes, Differ, AddsRun}
 use Rattle.snippet_grid.specs.declared.runs.Run.{Run}
 
 -- painting two lists of runs is painting one after the other
-pub painted-append : (text : List ℕ) (r c : ℕ) (d : Cell) (xs ys : List Run) → painted text r c d (xs ++ ys) ≡ painted text r c (painted text r c d xs) ys
+pub painted-append : (text : List ℕ) (r c : ℕ) (d : Cell) (xs ys : List Run) → painted_over text r c d (xs ++ ys) ≡ painted_over text r c (painted_over text r c d xs) ys
 painted-append text r c d [] ys = refl
 painted-append text r c d (run ∷ xs) ys =
     painted-append text r c (if holds run r c then run_cell text run c else d) xs ys
@@ -31,10 +31,10 @@ All-tail P x xs all = λ k d within. all (suc k) d (omega arith)
 
 -- what runs show stays when the text grows
 pub painted-grown : (old new : List ℕ) (r c : ℕ) (d : Cell) (runs : List Run) → BeginsWith old new → All (λ run. IsRun old run) runs
-    → painted new r c d runs ≡ painted old r c d runs
+    → painted_over new r c d runs ≡ painted_over old r c d runs
 painted-grown old new r c d [] grows are = refl
 painted-grown old new r c d (run ∷ runs) grows are =
-    ap (λ (cell : Cell). painted new r c (if holds run r c then cell else d) runs) (run_cell-grown old new run c grows (are 0 run (omega arith))) ∙ painted-grown old new r c (if holds run r c then run_cell old run c else d) runs grows (All-tail (λ x. IsRun old x) run runs are)
+    ap (λ (cell : Cell). painted_over new r c (if holds run r c then cell else d) runs) (run_cell-grown old new run c grows (are 0 run (omega arith))) ∙ painted-grown old new r c (if holds run r c then run_cell old run c else d) runs grows (All-tail (λ x. IsRun old x) run runs are)
 
 -- runs of a text are runs of it also once it has grown
 pub All-IsRun-grown : (old new : List ℕ) (runs : List Run) → BeginsWith old new → All (λ run. IsRun old run) runs → All (λ run. IsRun new run) runs
@@ -127,18 +127,18 @@ ShowsMore-joined old new runs i last run whole is_last read grows are is goes jo
     let split : runs ≡ front ++ last ∷ [] = sym (take_all (i + 1) runs (omega arith)) ∙ take_more runs i last within ∙ ap (λ x. front ++ x ∷ []) (sym read) in
     let now : set runs i whole ≡ front ++ whole ∷ [] = sym (take_all (i + 1) (set runs i whole) (omega (arith, length-set runs i whole))) ∙ take_more_set runs i whole within in
     let is_run : IsRun old last = subst (λ x. IsRun old x) (sym read) (are i last within) in
-    let below = shown new front r c in
-    let stays : below ≡ shown old front r c = painted-grown old new r c SPACE front grows (All-take (λ x. IsRun old x) i runs are) in
-    ap (λ (xs : List Run). shown new xs r c) now ∙ painted-append new r c SPACE front (whole ∷ [])
+    let below = shown_cell new front r c in
+    let stays : below ≡ shown_cell old front r c = painted-grown old new r c SPACE front grows (All-take (λ x. IsRun old x) i runs are) in
+    ap (λ (xs : List Run). shown_cell new xs r c) now ∙ painted-append new r c SPACE front (whole ∷ [])
     ∙ joined_cell old new last run whole r c below is_run is goes joined
     ∙ ap (λ (d : Cell). if holds run r c then run_cell old run c else (if holds last r c then run_cell old last c else d)) stays
     ∙ ap (λ (d : Cell). if holds run r c then run_cell old run c else d)
-    (sym (ap (λ (xs : List Run). shown old xs r c) split ∙ painted-append old r c SPACE front (last ∷ [])))
+    (sym (ap (λ (xs : List Run). shown_cell old xs r c) split ∙ painted-append old r c SPACE front (last ∷ [])))
 
 -- a run that was pushed
 pub ShowsMore-pushed : (text : List ℕ) (runs now : List Run) (run : Run) → now ≡ runs ++ run ∷ [] → ShowsMore text text runs now run
 ShowsMore-pushed text runs now run pushed =
-    λ r c. ap (λ (xs : List Run). shown text xs r c) pushed ∙ painted-append text r c SPACE runs (run ∷ [])
+    λ r c. ap (λ (xs : List Run). shown_cell text xs r c) pushed ∙ painted-append text r c SPACE runs (run ∷ [])
 
 pub AllPairs-push : {X : Type 0} (R : X → X → Type 0) (xs : List X) (y : X) → AllPairs R xs → All (λ x. R x y) xs → AllPairs R (xs ++ y ∷ [])
 AllPairs-push R xs y pairs all =

@@ -7,9 +7,9 @@ use Rattle.std.specs.Option.{option_copied}
 use Rattle.std.specs.Str.{chars, IsUtf8}
 use Rattle.snippet_grid.proofs.GridShown.{IsWord-pushed}
 use Rattle.snippet_grid.proofs.ShownLemmas.{pick, cell_same}
-use Rattle.snippet_grid.specs.Changes.{IsGap, is_within, ShowsSpan}
+use Rattle.snippet_grid.specs.Changes.{IsBlankRun, is_within, ShowsSpan}
 use Rattle.snippet_style.specs.Cell.{Cell, SPACE}
-use Rattle.snippet_grid.specs.Runs.{run_cell, shown}
+use Rattle.snippet_grid.specs.Runs.{run_cell, shown_cell}
 use Rattle.snippet_style.specs.declared.role.ElementStyle.TheVariants.{NoStyle}
 use Rattle.snippet_grid.specs.declared.runs.Run.{Run}
 
@@ -31,8 +31,8 @@ pub span_joined : (t0 t1 t2 : List ℕ) (o0 o1 o2 : List Run) (row from mid to :
     → ShowsSpan t1 t2 o1 o2 row mid to h → ShowsSpan t0 t2 o0 o2 row from to k
 span_joined t0 t1 t2 o0 o1 o2 row from mid to g h k first_le second_le first_is second_is first second =
     λ c.
-    let s0 = shown t0 o0 row c in
-    let s1 = shown t1 o1 row c in
+    let s0 = shown_cell t0 o0 row c in
+    let s1 = shown_cell t1 o1 row c in
     elim (cases_lt c from) [
       | inl before ↦ second c ∙ pick (h c) s1 (within_before mid to c (omega arith)) ∙ first c ∙ pick (g c) s0 (within_before from mid c before) ∙ sym (pick (k c) s0 (within_before from to c before))
       | inr low ↦ elim (cases_lt c mid) [
@@ -55,7 +55,7 @@ spaces_at n k =
 -- spaces that were put at the end of the text
 pub IsGap-pushed : (old new : List ℕ) (run : Run) (row from to n : ℕ) → IsUtf8 old → IsUtf8 new → from < to → to < 2 ^ 64 → n ≡ to - from
     → new ≡ old ++ replicate n 32 → run.row ≡ row → run.cell ≡ from → run.count ≡ n → run.start ≡ length old → run.end ≡ length new
-    → run.role ≡ NoStyle → option_copied run.link ≡ None → IsGap new row from to run
+    → run.role ≡ NoStyle → option_copied run.link ≡ None → IsBlankRun new row from to run
 IsGap-pushed old new run row from to n utf8 utf8_new some fits is_n pushed row_is cell_is count start end role link =
     let word : List ℕ = replicate n 32 in
     let spelled : chars word ≡ word = chars-IsAscii word (λ i. elim (cases_lt i n) [

@@ -10,8 +10,8 @@ use Rattle.snippet_grid.proofs.ShownLemmas.{All-IsRun-grown, painted-append, pai
 use Rattle.snippet_grid.proofs.PutLemmas.{AreOrdered, AreApart, AllPairs-append, AllPairs-take, AllPairs-drop, split_three, IsRow-stretch, inside-put}
 use Rattle.snippet_grid.proofs.RowWoven.{painted_unheld}
 use Rattle.snippet_style.specs.Cell.{Cell, SPACE}
-use Rattle.snippet_grid.specs.Runs.{IsRun, BeginsWith, ShowsMore, AddsRun, Precedes, Differ, BeginsAfter, BeginsBy, IsClear, Touches, IsTouched, ArePieces}
-use Rattle.snippet_grid.specs.Runs.{IsPut, EndsBy, run_cell, holds, painted, shown}
+use Rattle.snippet_grid.specs.Runs.{IsRun, BeginsWith, ShowsMore, AddsRun, Precedes, Differ, BeginsAfter, BeginsBy, IsClear, Touches, AreTouchedRuns, ArePieces}
+use Rattle.snippet_grid.specs.Runs.{IsPut, EndsBy, run_cell, holds, painted_over, shown_cell}
 use Rattle.snippet_grid.specs.declared.runs.Run.{Run}
 
 -- a run that holds a cell of a row holds nothing before its first cell, after its last, or in other rows
@@ -60,12 +60,12 @@ pub ShowsMore-touch : (old new : List ℕ) (xs ys zs fresh : List Run) (run : Ru
 ShowsMore-touch old new xs ys zs fresh run grows are are_xs are_zs before after order_old order_new shows =
     λ r c.
     let x = run_cell old run c in
-    let new_is : shown new (xs ++ fresh ++ zs) r c ≡ painted old r c (painted new r c (shown old xs r c) fresh) zs =
-    painted-append new r c SPACE (xs ++ fresh) zs ∙ painted-grown old new r c (painted new r c SPACE (xs ++ fresh)) zs grows are_zs
-    ∙ ap (λ (d : Cell). painted old r c d zs)
-    (painted-append new r c SPACE xs fresh ∙ ap (λ (d : Cell). painted new r c d fresh) (painted-grown old new r c SPACE xs grows are_xs)) in
-    let old_is : shown old (xs ++ ys ++ zs) r c ≡ painted old r c (painted old r c (shown old xs r c) ys) zs = painted-append old r c SPACE (xs ++ ys) zs ∙ ap (λ (d : Cell). painted old r c d zs) (painted-append old r c SPACE xs ys) in
-    let was = shown old (xs ++ ys ++ zs) r c in
+    let new_is : shown_cell new (xs ++ fresh ++ zs) r c ≡ painted_over old r c (painted_over new r c (shown_cell old xs r c) fresh) zs =
+    painted-append new r c SPACE (xs ++ fresh) zs ∙ painted-grown old new r c (painted_over new r c SPACE (xs ++ fresh)) zs grows are_zs
+    ∙ ap (λ (d : Cell). painted_over old r c d zs)
+    (painted-append new r c SPACE xs fresh ∙ ap (λ (d : Cell). painted_over new r c d fresh) (painted-grown old new r c SPACE xs grows are_xs)) in
+    let old_is : shown_cell old (xs ++ ys ++ zs) r c ≡ painted_over old r c (painted_over old r c (shown_cell old xs r c) ys) zs = painted-append old r c SPACE (xs ++ ys) zs ∙ ap (λ (d : Cell). painted_over old r c d zs) (painted-append old r c SPACE xs ys) in
+    let was = shown_cell old (xs ++ ys ++ zs) r c in
     elim (cases_some xs r c) [
       | inl some ↦
           let at : (d : Run) → Held (get_or xs some.place d) r c = some.held in
@@ -77,11 +77,11 @@ ShowsMore-touch old new xs ys zs fresh run grows are are_xs are_zs before after 
           let no_fresh : All (λ z. holds z r c ≡ false) fresh = λ k d within. past (get_or fresh k d) d (order_new some.place k d some.within within) in
           let no_ys : All (λ z. holds z r c ≡ false) ys = λ k d within. past (get_or ys k d) d (order_old some.place k d some.within within) in
           let no_run = past run run (before some.place run some.within) in
-          new_is ∙ ap (λ (d : Cell). painted old r c d zs) (painted_unheld new r c (shown old xs r c) fresh no_fresh ∙ sym (painted_unheld old r c (shown old xs r c) ys no_ys)) ∙ sym old_is ∙ sym (pick x was no_run)
+          new_is ∙ ap (λ (d : Cell). painted_over old r c d zs) (painted_unheld new r c (shown_cell old xs r c) fresh no_fresh ∙ sym (painted_unheld old r c (shown_cell old xs r c) ys no_ys)) ∙ sym old_is ∙ sym (pick x was no_run)
       | inr none ↦
-          let blank : shown old xs r c ≡ SPACE = painted_unheld old r c SPACE xs none in
-          let new_there : shown new (xs ++ fresh ++ zs) r c ≡ painted old r c (if holds run r c then x else shown old ys r c) zs = new_is ∙ ap (λ (d : Cell). painted old r c (painted new r c d fresh) zs) blank ∙ ap (λ (d : Cell). painted old r c d zs) (shows r c) in
-          let old_there : was ≡ painted old r c (shown old ys r c) zs = old_is ∙ ap (λ (d : Cell). painted old r c (painted old r c d ys) zs) blank in
+          let blank : shown_cell old xs r c ≡ SPACE = painted_unheld old r c SPACE xs none in
+          let new_there : shown_cell new (xs ++ fresh ++ zs) r c ≡ painted_over old r c (if holds run r c then x else shown_cell old ys r c) zs = new_is ∙ ap (λ (d : Cell). painted_over old r c (painted_over new r c d fresh) zs) blank ∙ ap (λ (d : Cell). painted_over old r c d zs) (shows r c) in
+          let old_there : was ≡ painted_over old r c (shown_cell old ys r c) zs = old_is ∙ ap (λ (d : Cell). painted_over old r c (painted_over old r c d ys) zs) blank in
           elim (cases_held run r c) [
             | inl held ↦
                 let yes : holds run r c ≡ true = holds_inside run r c held.row_is held.low held.high in
@@ -90,8 +90,8 @@ ShowsMore-touch old new xs ys zs fresh run grows are are_xs are_zs before after 
                   | inl here ↦ holds_before (get_or zs k d) r c (omega (arith, held.high, (after k d within).cells (held.row_is ∙ sym here)))
                   | inr other ↦ holds_elsewhere (get_or zs k d) r c other
                 ] in
-                new_there ∙ ap (λ (d : Cell). painted old r c d zs) (pick x (shown old ys r c) yes) ∙ painted_unheld old r c x zs no_zs ∙ sym (pick x was yes)
-            | inr free ↦ new_there ∙ ap (λ (d : Cell). painted old r c d zs) (pick x (shown old ys r c) free) ∙ sym old_there ∙ sym (pick x was free)
+                new_there ∙ ap (λ (d : Cell). painted_over old r c d zs) (pick x (shown_cell old ys r c) yes) ∙ painted_unheld old r c x zs no_zs ∙ sym (pick x was yes)
+            | inr free ↦ new_there ∙ ap (λ (d : Cell). painted_over old r c d zs) (pick x (shown_cell old ys r c) free) ∙ sym old_there ∙ sym (pick x was free)
           ]
     ]
 
@@ -192,7 +192,7 @@ AllPairs-put R runs fresh run start end low high above below pairs middle first 
 -- the runs that a run touches
 pub touched_stretch : (text : List ℕ) (runs : List Run) (run : Run) (start end : ℕ) → start ≤ end → end ≤ length runs → All (λ x. IsRun text x) runs
     → AreOrdered runs → AreApart runs → ((k : ℕ) (d : Run) → start ≤ k → k < end → Touches (get_or runs k d) run)
-    → IsTouched text run (stretch runs start end)
+    → AreTouchedRuns text run (stretch runs start end)
 touched_stretch text runs run start end low high are ordered apart touch =
     let ys = stretch runs start end in
     record {

@@ -12,7 +12,7 @@ use Rattle.snippet_style.proofs.StyleLemmas.{cases_style}
 use Rattle.snippet_style.specs.Codes.{reset}
 use Rattle.snippet_style.specs.Cell.{Cell}
 use Rattle.snippet_style.specs.Stylesheet.{style_of}
-use Rattle.snippet_grid.specs.Woven.{Piece, Char, Opening, Reset, LinkTo, LinkEnd, piece_text, PrintsCells, PrintsRow, PrintsFurther, AddsRow}
+use Rattle.snippet_grid.specs.Woven.{Piece, Char, Opening, Reset, LinkTo, LinkEnd, piece_text, PrintsCells, PrintsRow, PrintsFurther, WeavesRow}
 use Rattle.snippet_style.specs.declared.role.LevelInner.{LevelInner}
 use Rattle.snippet_style.specs.declared.style.Style.{Style}
 use Rattle.snippet_style.specs.declared.stylesheet.Stylesheet.{Stylesheet}
@@ -151,7 +151,7 @@ cell_printed sheet level style next link done old now ended changed begun new ce
 
 -- a row whose last cell was printed is whole
 whole : (sheet : Stylesheet) (level : LevelInner) (row : List Cell) (old now new : List ℕ) (rest : List Piece) → new ≡ now ++ flat_map piece_text rest
-    → Completes sheet level row old now rest [] → AddsRow sheet level row old new
+    → Completes sheet level row old now rest [] → WeavesRow sheet level row old new
 whole sheet level row old now new rest is completes =
     record {
       pieces = completes.pieces;
@@ -162,7 +162,7 @@ whole sheet level row old now new rest is completes =
 -- a row was closed
 pub row_closed : (sheet : Stylesheet) (level : LevelInner) (style : Style) (link : Option Url) (row : List Cell) (old now ended new : List ℕ)
     → (link ≡ None → ended ≡ now) → (link ≢ None → link ≢ None → ended ≡ now ++ flat_map piece_text (LinkEnd ∷ []))
-    → new ≡ ended ++ encode_utf8_all (reset style) → Goes sheet level (Some style) link row old now → AddsRow sheet level row old new
+    → new ≡ ended ++ encode_utf8_all (reset style) → Goes sheet level (Some style) link row old now → WeavesRow sheet level row old new
 row_closed sheet level style link row old now ended new absent ends closed goes =
     let code : List ℕ = encode_utf8_all (reset style) in
     let close : flat_map piece_text (Reset style ∷ []) ≡ code = append-nil code in

@@ -18,7 +18,7 @@ use Rattle.snippet_grid.specs.Print.{row_text, further_text, plain_text}
 use Rattle.snippet_style.specs.Style.{is_plain_style}
 use Rattle.snippet_style.specs.Stylesheet.{style_of, level_style, is_plain_sheet}
 use Rattle.snippet_grid.specs.Woven.{Piece, Char, Opening, Reset, LinkTo, LinkEnd, piece_text, plain_piece, piece_link, next_style, next_link, PrintsCells}
-use Rattle.snippet_grid.specs.Woven.{PrintsRow, PrintsFurther, PrintsRows, AddsRows, Prints, IsStyleOf, IsOfSheet, AreLinksEnded, IsWoven, link_begun}
+use Rattle.snippet_grid.specs.Woven.{PrintsRow, PrintsFurther, PrintsRows, WeavesRows, Prints, IsStyleOf, IsOfSheet, AreLinksEnded, IsWoven, link_begun}
 use Rattle.snippet_grid.specs.Woven.{links_after, links_of}
 use Rattle.snippet_style.specs.declared.role.ElementStyle.{ElementStyle}
 use Rattle.snippet_style.specs.declared.role.ElementStyle.TheVariants.{MainHeaderMsg, HeaderMsg, LineAndColumn, Quotation, NoStyle, LineNumber}
@@ -220,13 +220,13 @@ IsWoven-from_prints sheet level rows text prints =
 
 -- what was added, where the rows are read as others
 pub AddsRows-same : (sheet : Stylesheet) (level : LevelInner) (rows added : List (List Cell)) (old start text : List ℕ) → added ≡ rows → start ≡ old
-    → AddsRows sheet level added start text → AddsRows sheet level rows old text
+    → WeavesRows sheet level added start text → WeavesRows sheet level rows old text
 AddsRows-same sheet level rows added old start text same begun adds =
-    subst (λ (t : List ℕ). AddsRows sheet level rows t text) begun (subst (λ (rs : List (List Cell)). AddsRows sheet level rs start text) same adds)
+    subst (λ (t : List ℕ). WeavesRows sheet level rows t text) begun (subst (λ (rs : List (List Cell)). WeavesRows sheet level rs start text) same adds)
 
 -- what was added to an empty text
 pub Prints-from_adds : (sheet : Stylesheet) (level : LevelInner) (rows added : List (List Cell)) (old text : List ℕ) → added ≡ rows → old ≡ []
-    → AddsRows sheet level added old text → Prints sheet level rows text
+    → WeavesRows sheet level added old text → Prints sheet level rows text
 Prints-from_adds sheet level rows added old text same none adds =
     record {
       pieces = adds.pieces;

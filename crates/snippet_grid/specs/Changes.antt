@@ -3,7 +3,7 @@ use Rattle.std.specs.Prelude.{◌≡◌, ◌<◌, ◌≤◌, ◌+◌, ℕ, nat_l
 use Rattle.std.specs.List.{slice_index_or}
 use Rattle.snippet_grid.specs.Grid.{restyled, linked}
 use Rattle.snippet_style.specs.Cell.{Cell, SPACE}
-use Rattle.snippet_grid.specs.Runs.{IsRun, run_cell, shown}
+use Rattle.snippet_grid.specs.Runs.{IsRun, run_cell, shown_cell}
 use Rattle.snippet_grid.specs.declared.change.Change.{Change}
 use Rattle.snippet_grid.specs.declared.change.Change.TheVariants.{Restyle, Link}
 use Rattle.snippet_grid.specs.declared.runs.Run.{Run}
@@ -23,7 +23,7 @@ pub record IsChanged (change : Change) (run changed : Run) : Type 0 where
   pub cells : (text : List ℕ) (c : ℕ) → run_cell text changed c ≡ changed_by change (run_cell text run c)
 
 -- a run of unstyled spaces, from one cell of a row to before another
-pub record IsGap (text : List ℕ) (row from to : ℕ) (run : Run) : Type 0 where
+pub record IsBlankRun (text : List ℕ) (row from to : ℕ) (run : Run) : Type 0 where
   pub is_run : IsRun text run
   pub row_is : run.row ≡ row
   pub cell_is : run.cell ≡ from
@@ -45,7 +45,7 @@ is_within from to c = nat_le from c && nat_lt c to
 -- in this row the runs show g from `from` to before `to`, and elsewhere what others show
 abbrev pub ShowsSpan : List ℕ → List ℕ → List Run → List Run → ℕ → ℕ → ℕ → (ℕ → Cell) → Type 0
 ShowsSpan old new runs_old runs_new row from to g =
-    (c : ℕ) → shown new runs_new row c ≡ (if is_within from to c then g c else shown old runs_old row c)
+    (c : ℕ) → shown_cell new runs_new row c ≡ (if is_within from to c then g c else shown_cell old runs_old row c)
 
 -- how many of the runs have a cell from `from` to before `to`
 abbrev pub num_touched : ℕ → ℕ → List Run → ℕ
@@ -62,6 +62,6 @@ pub record RowAt (runs : List Run) (row start end : ℕ) : Type 0 where
 
 -- in this row the runs show what others show, with these cells in place of those from `start` to before `end`
 pub record ShowsReplaced (old new : List ℕ) (runs_old runs_new : List Run) (row start end : ℕ) (cells : List Cell) : Type 0 where
-  pub before : (c : ℕ) → c < start → shown new runs_new row c ≡ shown old runs_old row c
-  pub inside : (k : ℕ) → k < length cells → shown new runs_new row (start + k) ≡ slice_index_or cells k SPACE
-  pub after : (k : ℕ) → shown new runs_new row (start + length cells + k) ≡ shown old runs_old row (end + k)
+  pub before : (c : ℕ) → c < start → shown_cell new runs_new row c ≡ shown_cell old runs_old row c
+  pub inside : (k : ℕ) → k < length cells → shown_cell new runs_new row (start + k) ≡ slice_index_or cells k SPACE
+  pub after : (k : ℕ) → shown_cell new runs_new row (start + length cells + k) ≡ shown_cell old runs_old row (end + k)

@@ -26,13 +26,13 @@ abbrev pub holds : Run → ℕ → ℕ → Bool
 holds run r c = nat_eq run.row r && (nat_le run.cell c && nat_lt c (run.cell + run.count))
 
 -- a cell after some runs are painted over it, in order
-abbrev pub painted : List ℕ → ℕ → ℕ → Cell → List Run → Cell
-painted text r c cell [] = cell
-painted text r c cell (run ∷ runs) = painted text r c (if holds run r c then run_cell text run c else cell) runs
+abbrev pub painted_over : List ℕ → ℕ → ℕ → Cell → List Run → Cell
+painted_over text r c cell [] = cell
+painted_over text r c cell (run ∷ runs) = painted_over text r c (if holds run r c then run_cell text run c else cell) runs
 
 -- the cell of this row and number that some runs show: an unstyled space where none holds it
-abbrev pub shown : List ℕ → List Run → ℕ → ℕ → Cell
-shown text runs r c = painted text r c SPACE runs
+abbrev pub shown_cell : List ℕ → List Run → ℕ → ℕ → Cell
+shown_cell text runs r c = painted_over text r c SPACE runs
 
 -- the run has a character for each of its cells, in a stretch of the text that may be cut out
 pub record IsRun (text : List ℕ) (run : Run) : Type 0 where
@@ -89,16 +89,16 @@ pub record IsPart (text : List ℕ) (run : Run) (from to : ℕ) (part : Run) : T
 -- the runs show what others show, and this run over it
 abbrev pub ShowsMore : List ℕ → List ℕ → List Run → List Run → Run → Type 0
 ShowsMore old new runs_old runs_new run =
-    (r c : ℕ) → shown new runs_new r c ≡ (if holds run r c then run_cell old run c else shown old runs_old r c)
+    (r c : ℕ) → shown_cell new runs_new r c ≡ (if holds run r c then run_cell old run c else shown_cell old runs_old r c)
 
 -- the runs show from `at` on what others show from `from` to before `to`, and elsewhere what a third list shows
 abbrev pub ShowsCopy : List ℕ → List ℕ → List Run → List Run → List Run → ℕ → ℕ → ℕ → Type 0
 ShowsCopy old new out_old out_new runs from to at =
-    (r c : ℕ) → shown new out_new r c ≡ (if nat_le at c && nat_lt c (at + (to - from)) then shown old runs r (from + (c - at)) else shown old out_old r c)
+    (r c : ℕ) → shown_cell new out_new r c ≡ (if nat_le at c && nat_lt c (at + (to - from)) then shown_cell old runs r (from + (c - at)) else shown_cell old out_old r c)
 
 -- nothing is shown from this cell on
 abbrev pub IsClearFrom : List ℕ → List Run → ℕ → Type 0
-IsClearFrom text runs at = (r c : ℕ) → at ≤ c → shown text runs r c ≡ SPACE
+IsClearFrom text runs at = (r c : ℕ) → at ≤ c → shown_cell text runs r c ≡ SPACE
 
 -- a run can be moved from one cell to another
 abbrev pub FitsMoved : ℕ → ℕ → Run → Type 0
@@ -153,14 +153,14 @@ pub record IsRow (text : List ℕ) (row : ℕ) (runs : List Run) : Type 0 where
   pub apart : AllPairs (λ a b. Differ a b) runs
 
 -- the runs of a row that a run touches
-pub record IsTouched (text : List ℕ) (run : Run) (runs : List Run) : Type 0 where
+pub record AreTouchedRuns (text : List ℕ) (run : Run) (runs : List Run) : Type 0 where
   pub is_row : IsRow text run.row runs
   pub touch : All (λ x. Touches x run) runs
 
 -- what some runs of a row hold before a run
 pub record IsFront (text : List ℕ) (runs : List Run) (run : Run) (front : List Run) : Type 0 where
   pub is_row : IsRow text run.row front
-  pub shows : (r c : ℕ) → c < run.cell → shown text front r c ≡ shown text runs r c
+  pub shows : (r c : ℕ) → c < run.cell → shown_cell text front r c ≡ shown_cell text runs r c
   pub ends : EndsBy run.cell front
   pub follows : (x : Run) → All (λ y. Precedes x y) runs → All (λ y. Precedes x y) front
   pub apart_follows : (x : Run) → All (λ y. Differ x y) runs → All (λ y. Differ x y) front
@@ -170,7 +170,7 @@ pub record IsFront (text : List ℕ) (runs : List Run) (run : Run) (front : List
 -- what some runs of a row hold after a run
 pub record IsBack (text : List ℕ) (runs : List Run) (run : Run) (back : List Run) : Type 0 where
   pub is_row : IsRow text run.row back
-  pub shows : (r c : ℕ) → run.cell + run.count ≤ c → shown text back r c ≡ shown text runs r c
+  pub shows : (r c : ℕ) → run.cell + run.count ≤ c → shown_cell text back r c ≡ shown_cell text runs r c
   pub starts : All (λ x. run.cell + run.count ≤ x.cell) back
   pub ends : (n : ℕ) → EndsBy n runs → EndsBy n back
   pub after : (y : Run) → All (λ x. Precedes x y) runs → All (λ x. Precedes x y) back
@@ -215,11 +215,11 @@ pub record IsPut (old new : List ℕ) (runs now : List Run) (run : Run) : Type 0
 
 -- the first cells of a row that runs show
 abbrev pub cells_to : List ℕ → List Run → ℕ → ℕ → List Cell
-cells_to text runs r n = map (λ c. shown text runs r c) (range_with_len 0 n)
+cells_to text runs r n = map (λ c. shown_cell text runs r c) (range_with_len 0 n)
 
 -- the rows of cells that runs show, in rows of these lengths
 unfoldable pub grid_shown : List ℕ → List Run → List ℕ → List (List Cell)
-grid_shown text runs widths = map (λ r. map (λ c. shown text runs r c) (range_with_len 0 (slice_index_or widths r 0))) (range_with_len 0 (length widths))
+grid_shown text runs widths = map (λ r. map (λ c. shown_cell text runs r c) (range_with_len 0 (slice_index_or widths r 0))) (range_with_len 0 (length widths))
 
 -- runs in order, within their rows; those that touch differ
 pub record IsGrid (text : List ℕ) (runs : List Run) (widths : List ℕ) : Type 0 where

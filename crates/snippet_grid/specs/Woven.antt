@@ -151,8 +151,8 @@ pub record AddsPieces (P : List Piece → Type 0) (old new : List ℕ) : Type 0 
   pub are : P pieces
 
 -- a text grew by a row, and by some rows, printed under a sheet in a group of this level
-abbrev pub AddsRow : Stylesheet → LevelInner → List Cell → List ℕ → List ℕ → Type 0
-AddsRow sheet level row old new = AddsPieces (λ ps. PrintsRow sheet level ps row) old new
+abbrev pub WeavesRow : Stylesheet → LevelInner → List Cell → List ℕ → List ℕ → Type 0
+WeavesRow sheet level row old new = AddsPieces (λ ps. PrintsRow sheet level ps row) old new
 
-abbrev pub AddsRows : Stylesheet → LevelInner → List (List Cell) → List ℕ → List ℕ → Type 0
-AddsRows sheet level rows old new = AddsPieces (λ ps. PrintsRows sheet level ps rows) old new
+abbrev pub WeavesRows : Stylesheet → LevelInner → List (List Cell) → List ℕ → List ℕ → Type 0
+WeavesRows sheet level rows old new = AddsPieces (λ ps. PrintsRows sheet level ps rows) old new

@@ -2,9 +2,9 @@
 ghost use Rattle.std.specs.Prelude.{◌≡◌, ◌+◌, ◌-◌, ◌*◌, ◌<◌, ◌≤◌, ℕ, min, length, IfOk, OnOk, OnErr, string_bytes};
 ghost use Rattle.std.specs.List.{slice_index_or};
 ghost use Rattle.snippet_grid.specs.Grid.{cells_changed};
-ghost use Rattle.snippet_grid.specs.Runs.{IsRow, IsGrid, EndsBy, BeginsWith, shown, grid_shown};
+ghost use Rattle.snippet_grid.specs.Runs.{IsRow, IsGrid, EndsBy, BeginsWith, shown_cell, grid_shown};
 ghost use Rattle.snippet_grid.specs.declared.runs.Run.{Run};
-ghost use Rattle.snippet_grid.specs.Changes.{changed_by, IsChanged, IsGap, IsPartOfRow, ShowsSpan};
+ghost use Rattle.snippet_grid.specs.Changes.{changed_by, IsChanged, IsBlankRun, IsPartOfRow, ShowsSpan};
 
 use crate::put::{Spare, exchange, put_run};
 use crate::runs::{Run, begun_by, clipped, row_bounds};
@@ -49,7 +49,7 @@ fn push_gap<'a>(
     to: usize,
 ) -> Result<Run<'a>, AllocError>
     requires some { from < to }
-    ensures ok { IfOk result (λ run. IsGap (string_bytes text.new) row from to run) }
+    ensures ok { IfOk result (λ run. IsBlankRun (string_bytes text.new) row from to run) }
     ensures text { BeginsWith (string_bytes text.old) (string_bytes text.new) }
 {
     let start = text.len();
@@ -89,7 +89,7 @@ fn part_at<'a>(
     requires runs { IsRow (string_bytes text.old) row runs.now }
     requires some { from < to }
     ensures text { BeginsWith (string_bytes text.old) (string_bytes text.new) }
-    ensures ok { IfOk result (λ part. IsPartOfRow (string_bytes text.new) row from to (λ c. shown (string_bytes text.old) runs.now row c) part) }
+    ensures ok { IfOk result (λ part. IsPartOfRow (string_bytes text.new) row from to (λ c. shown_cell (string_bytes text.old) runs.now row c) part) }
 {
     let next = begun_by(runs, row, from);
     if next > 0 {
@@ -115,7 +115,7 @@ fn change_row<'a>(
     requires runs { IsRow (string_bytes text.old) row runs.old.items }
     requires some { start ≤ end }
     ensures text { BeginsWith (string_bytes text.old) (string_bytes text.new) }
-    ensures ok { OnOk result (ShowsSpan (string_bytes text.old) (string_bytes text.new) runs.old.items runs.new.items row start end (λ c. changed_by change.entry (shown (string_bytes text.old) runs.old.items row c))) }
+    ensures ok { OnOk result (ShowsSpan (string_bytes text.old) (string_bytes text.new) runs.old.items runs.new.items row start end (λ c. changed_by change.entry (shown_cell (string_bytes text.old) runs.old.items row c))) }
     ensures row { OnOk result (IsRow (string_bytes text.new) row runs.new.items) }
     ensures ends { (n : ℕ) → EndsBy n runs.old.items → end ≤ n → OnOk result (EndsBy n runs.new.items) }
     ensures count { OnOk result (length runs.new.items ≤ length runs.old.items + 2 * (end - start)) }

@@ -13,7 +13,7 @@ ghost use Rattle.snippet_style.specs.declared.role.ElementStyle.TheVariants.{Lin
 ghost use Rattle.std.specs.Str.{chars};
 ghost use Rattle.snippet_grid.specs.Print as spec;
 ghost use Rattle.snippet_style.specs.Stylesheet.{is_plain_sheet};
-ghost use Rattle.snippet_grid.specs.Woven.{AddsRows, Prints, IsWoven, links_of};
+ghost use Rattle.snippet_grid.specs.Woven.{WeavesRows, Prints, IsWoven, links_of};
 ghost use Rattle.snippet_style.specs.Bounds.{HasNext, IsRowNumber, IsUsize};
 
 use crate::change::{Change, change_cells};
@@ -338,7 +338,7 @@ impl<'a> StyledBuffer<'a> {
         codes: &mut SheetCodes,
     ) -> Result<String, AllocError>
         ensures sheet { codes.new ≡ codes.old }
-        ensures added { IfOk result (λ text. AddsRows codes.old level self.now (string_bytes before) (string_bytes text)) }
+        ensures added { IfOk result (λ text. WeavesRows codes.old level self.now (string_bytes before) (string_bytes text)) }
     {
         let mut text = before;
         // Codes take about as much as the text itself.

@@ -4,7 +4,7 @@
 //! stays. All other runs keep their places.
 ghost use Rattle.std.specs.Prelude.{◌≡◌, ◌+◌, ◌-◌, ◌<◌, ◌≤◌, ◌++◌, ℕ, List, [], true, false, length, take, drop};
 ghost use Rattle.std.specs.Prelude.{All, OnOk, OnErr, string_bytes, option_to_list};
-ghost use Rattle.snippet_grid.specs.Runs.{IsRun, BeginsWith, Precedes, Differ, IsClear, ReachesTo, Touches, IsTouched};
+ghost use Rattle.snippet_grid.specs.Runs.{IsRun, BeginsWith, Precedes, Differ, IsClear, ReachesTo, Touches, AreTouchedRuns};
 ghost use Rattle.snippet_grid.specs.Runs.{IsFront, IsBack, ArePieces, IsPut};
 ghost use Rattle.snippet_grid.specs.declared.runs.Run.{Run};
 ghost use Rattle.std.specs.List.{AllPairs, slice_index_or};
@@ -55,7 +55,7 @@ fn first_touched(runs: &[Run<'_>], end: usize, run: &Run<'_>) -> usize
 
 /// What the first of the runs that a run touches holds before it.
 fn front_of<'a>(text: &str, touched: &[Run<'a>], run: &Run<'a>) -> Option<Run<'a>>
-    requires touched { IsTouched text.now run.now touched.now }
+    requires touched { AreTouchedRuns text.now run.now touched.now }
     ensures front { IsFront text.now touched.now run.now (option_to_list result) }
 {
     let len = touched.len();
@@ -71,7 +71,7 @@ fn front_of<'a>(text: &str, touched: &[Run<'a>], run: &Run<'a>) -> Option<Run<'a
 
 /// What the last of the runs that a run touches holds after it.
 fn back_of<'a>(text: &str, touched: &[Run<'a>], run: &Run<'a>) -> Option<Run<'a>>
-    requires touched { IsTouched text.now run.now touched.now }
+    requires touched { AreTouchedRuns text.now run.now touched.now }
     requires run { IsRun text.now run.now }
     ensures back { IsBack text.now touched.now run.now (option_to_list result) }
 {
@@ -97,7 +97,7 @@ fn add_pieces<'a>(
     run: &Run<'a>,
 ) -> Result<(), AllocError>
     requires none { pieces.old.items ≡ [] }
-    requires touched { IsTouched (string_bytes text.old) run.now touched.now }
+    requires touched { AreTouchedRuns (string_bytes text.old) run.now touched.now }
     requires run { IsRun (string_bytes text.old) run.now }
     ensures text { BeginsWith (string_bytes text.old) (string_bytes text.new) }
     ensures pieces { OnOk result (ArePieces (string_bytes text.old) (string_bytes text.new) touched.now pieces.new.items run.now) }

@@ -15,7 +15,7 @@ ghost use Rattle.snippet_grid.specs.Codes.{style_at};
 ghost use Rattle.snippet_grid.specs.Runs.{IsGrid, IsRow, EndsBy, Precedes, cells_to, grid_shown};
 ghost use Rattle.snippet_grid.specs.declared.runs.Run.{Run};
 ghost use Rattle.snippet_grid.specs.Stretch.{PrintsStretch};
-ghost use Rattle.snippet_grid.specs.Woven.{Opening, Reset, LinkTo, LinkEnd, piece_text, AddsRow, AddsRows};
+ghost use Rattle.snippet_grid.specs.Woven.{Opening, Reset, LinkTo, LinkEnd, piece_text, WeavesRow, WeavesRows};
 
 use crate::codes::{NONE, SheetCodes, place_of};
 use crate::runs::Run;
@@ -47,7 +47,7 @@ pub(crate) fn weave_rows(
 ) -> Result<(), AllocError>
     requires grid { IsGrid text.now runs.now widths.now }
     ensures sheet { codes.new ≡ codes.old }
-    ensures text { OnOk result (AddsRows codes.old level (grid_shown text.now runs.now widths.now) (string_bytes out.old) (string_bytes out.new)) }
+    ensures text { OnOk result (WeavesRows codes.old level (grid_shown text.now runs.now widths.now) (string_bytes out.old) (string_bytes out.new)) }
 {
     let mut from = 0;
     for row in 0..widths.len() {
@@ -90,7 +90,7 @@ fn weave_row(
     requires runs { IsRow text.now row runs.now }
     requires ends { EndsBy width runs.now }
     ensures sheet { codes.new ≡ codes.old }
-    ensures text { OnOk result (AddsRow codes.old level (cells_to text.now runs.now row width) (string_bytes out.old) (string_bytes out.new)) }
+    ensures text { OnOk result (WeavesRow codes.old level (cells_to text.now runs.now row width) (string_bytes out.old) (string_bytes out.new)) }
 {
     let mut last = SPACE;
     let mut col = 0;

@@ -12,7 +12,7 @@ use Rattle.std.proofs.lemmas.Bool.{cases_lt, eqb-true}
 use Rattle.snippet_lines.specs.declared.lines.EndLine.{EndLine}
 use Rattle.snippet_lines.specs.declared.lines.EndLine.TheVariants.{Eof, Lf, Crlf}
 use Rattle.snippet_lines.specs.Lines.{Line, end_bytes, line_bytes, joined, last_byte, IsLine, AreLines, AreLinesOf, lines_of, source_lines, is_lf, start_of}
-use Rattle.snippet_lines.specs.Lines.{IsOneLine}
+use Rattle.snippet_lines.specs.Lines.{IsLineWithEnd}
 use Rattle.snippet_lines.specs.Place.{HoldsByte, line_of}
 use Rattle.snippet_lines.proofs.LinesLemmas.{split_last, joined-lines_of, lines_of-append, length-lines_of, source_lines-some, start_of-end, start_of-le}
 use Rattle.snippet_lines.proofs.LinesLemmas.{start_of-next, joined-source_lines, AreLinesOf-source_lines, IsUtf8-line}
@@ -30,7 +30,7 @@ pub record IsLineAround (source : List ℕ) (at start end : ℕ) : Type 0 where
   pub none_after : (j : ℕ) → at ≤ j → j + 1 < end → get_or source j 0 ≢ 10
 
 -- what is one line and isn't empty is cut into one line
-length-one : (line : List ℕ) → 0 < length line → IsOneLine line → length (lines_of line) ≡ 1
+length-one : (line : List ℕ) → 0 < length line → IsLineWithEnd line → length (lines_of line) ≡ 1
 length-one [] some one = absurd (omega arith)
 length-one (b ∷ bs) some one =
     let line : List ℕ = b ∷ bs in
@@ -76,7 +76,7 @@ module _ (source : List ℕ) (at start end : ℕ) (around : IsLineAround source 
   unfolding the_line
   read k within = get_or-take (end - start) (drop start source) k 0 within ∙ get_or-drop start source k 0
 
-  line_is_one : IsOneLine the_line
+  line_is_one : IsLineWithEnd the_line
   line_is_one = λ k d within is.
       let n : length the_line ≡ end - start = length-the_line in
       let m : length (take (length the_line - 1) the_line) ≡ length the_line - 1 = length-take-le (length the_line - 1) the_line (omega arith) in
@@ -259,8 +259,8 @@ IsLine-at source k within =
     ⊎_elim (λ one. All-same IsLine ls (([], Eof) ∷ []) one (All-cons IsLine ([], Eof) [] empty (All-nil IsLine)) k ([], Eof) within)
     (λ (some, lines). IsLine-each ls lines k ([], Eof) within) (AreLinesOf-source_lines source).lines
 
-IsOneLine-bytes : (text : List ℕ) (ending : EndLine) → All (λ b. b ≢ 10) text → IsOneLine (text ++ end_bytes ending)
-IsOneLine-bytes text Eof none = subst IsOneLine (sym (append-nil text)) (All-take (λ b. b ≢ 10) (length text - 1) text none)
+IsOneLine-bytes : (text : List ℕ) (ending : EndLine) → All (λ b. b ≢ 10) text → IsLineWithEnd (text ++ end_bytes ending)
+IsOneLine-bytes text Eof none = subst IsLineWithEnd (sym (append-nil text)) (All-take (λ b. b ≢ 10) (length text - 1) text none)
 IsOneLine-bytes text Lf none =
     let n : length text ≡ length (text ++ 10 ∷ []) - 1 = omega (arith, length-append text (10 ∷ [])) in
     subst (All (λ b. b ≢ 10)) (sym (take_at text (10 ∷ []) (length (text ++ 10 ∷ []) - 1) n)) none
@@ -271,5 +271,5 @@ IsOneLine-bytes text Crlf none =
     subst (All (λ b. b ≢ 10)) (sym front) (All-push (λ b. b ≢ 10) text 13 none (λ e. absurd (omega arith)))
 
 -- a line's bytes are one line
-pub IsOneLine-line : (l : Line) → IsLine l → IsOneLine (line_bytes l)
+pub IsOneLine-line : (l : Line) → IsLine l → IsLineWithEnd (line_bytes l)
 IsOneLine-line l line = IsOneLine-bytes l.0 l.1 line.no_lf

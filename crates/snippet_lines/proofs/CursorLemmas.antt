@@ -7,11 +7,11 @@ use Rattle.std.proofs.lemmas.List.Sums.{sum_by-cons}
 use Rattle.std.proofs.lemmas.Bool.{cond-true, cond-false, false_from_ne_true}
 use Rattle.snippet_lines.specs.declared.lines.EndLine.{EndLine}
 use Rattle.snippet_lines.specs.declared.lines.EndLine.TheVariants.{Eof}
-use Rattle.snippet_lines.specs.Lines.{end_bytes, line_bytes, last_byte, IsLine, lines_of, is_lf, newline_count, IsOneLine}
+use Rattle.snippet_lines.specs.Lines.{end_bytes, line_bytes, last_byte, IsLine, lines_of, is_lf, newline_count, IsLineWithEnd}
 use Rattle.snippet_lines.proofs.LinesLemmas.{split_last, lines_of-line, newline_count-open, newline_count-closed}
 
 -- a text cut after its first LF
-pub IsOneLine-cut : (text : List ℕ) (at : ℕ) → at < length text → ((k : ℕ) → k < at → get_or text k 0 ≢ 10) → IsOneLine (take (at + 1) text)
+pub IsOneLine-cut : (text : List ℕ) (at : ℕ) → at < length text → ((k : ℕ) → k < at → get_or text k 0 ≢ 10) → IsLineWithEnd (take (at + 1) text)
 IsOneLine-cut text at inside none = λ k d within is.
     let n : length (take (at + 1) text) ≡ at + 1 = length-take-le (at + 1) text (omega arith) in
     let m : length (take (length (take (at + 1) text) - 1) (take (at + 1) text)) ≡ length (take (at + 1) text) - 1 = length-take-le (length (take (at + 1) text) - 1) (take (at + 1) text) (omega arith) in
@@ -20,7 +20,7 @@ IsOneLine-cut text at inside none = λ k d within is.
     none k before (get_or_default text k 0 d (omega arith) ∙ sym read ∙ is)
 
 -- a text that has no LF
-pub IsOneLine-whole : (text : List ℕ) → ((k : ℕ) → k < length text → get_or text k 0 ≢ 10) → IsOneLine text
+pub IsOneLine-whole : (text : List ℕ) → ((k : ℕ) → k < length text → get_or text k 0 ≢ 10) → IsLineWithEnd text
 IsOneLine-whole text none = All-take (λ b. b ≢ 10) (length text - 1) text (λ k d within is. none k within (get_or_default text k 0 d within ∙ is))
 
 -- a text that doesn't end with a byte
@@ -30,13 +30,13 @@ last_byte-not (c ∷ text) b some open_end = λ is.
     open_end (take (length (c ∷ text) - 1) (c ∷ text)) (split_last (c ∷ text) (omega arith) ∙ ap (λ d. take (length (c ∷ text) - 1) (c ∷ text) ++ d ∷ []) is)
 
 -- one line that doesn't end with an LF has none
-pub no_lf-open : (line : List ℕ) → IsOneLine line → last_byte line ≢ 10 → All (λ b. b ≢ 10) line
+pub no_lf-open : (line : List ℕ) → IsLineWithEnd line → last_byte line ≢ 10 → All (λ b. b ≢ 10) line
 no_lf-open [] one last = All-nil (λ b. b ≢ 10)
 no_lf-open (c ∷ line) one last =
     subst (All (λ b. b ≢ 10)) (sym (split_last (c ∷ line) (omega arith))) (All-push (λ b. b ≢ 10) (take (length (c ∷ line) - 1) (c ∷ line)) (last_byte (c ∷ line)) one last)
 
 -- nor has what stands before an LF that ends it
-pub no_lf-closed : (line text : List ℕ) (b : ℕ) → line ≡ text ++ b ∷ [] → IsOneLine line → All (λ b. b ≢ 10) text
+pub no_lf-closed : (line text : List ℕ) (b : ℕ) → line ≡ text ++ b ∷ [] → IsLineWithEnd line → All (λ b. b ≢ 10) text
 no_lf-closed line text b is one =
     let n : length line - 1 ≡ length text = omega (arith, ap length is, length-append text (b ∷ [])) in
     let front : take (length line - 1) line ≡ text = ap (λ m. take m line) n ∙ ap (take (length text)) is ∙ take_at text (b ∷ []) (length text) refl in

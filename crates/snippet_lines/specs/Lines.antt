@@ -28,8 +28,8 @@ abbrev pub last_byte : List ℕ → ℕ
 last_byte text = slice_index text (length text - 1)
 
 -- some bytes are one line at most, its end counted: no byte but the last is an LF
-abbrev pub IsOneLine : List ℕ → Type 0
-IsOneLine bytes = All (λ b. b ≢ 10) (take (length bytes - 1) bytes)
+abbrev pub IsLineWithEnd : List ℕ → Type 0
+IsLineWithEnd bytes = All (λ b. b ≢ 10) (take (length bytes - 1) bytes)
 
 -- what one line may hold: no LF in its text, and no CR before an LF alone, since CR LF is one line end
 pub record IsLine (l : Line) : Type 0 where

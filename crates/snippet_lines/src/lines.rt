@@ -1,6 +1,6 @@
 //! The lines of a text, found one after another.
 ghost use Rattle.std.specs.Prelude.{◌≡◌, ◌≢◌, ◌+◌, ◌<◌, ◌≤◌, ◌⊎◌, List, [], ◌++◌, length};
-ghost use Rattle.snippet_lines.specs.Lines.{Line, end_bytes, line_bytes, last_byte, IsOneLine, IsLine, IsCutOf};
+ghost use Rattle.snippet_lines.specs.Lines.{Line, end_bytes, line_bytes, last_byte, IsLineWithEnd, IsLine, IsCutOf};
 ghost use Rattle.snippet_lines.specs.Lines.{lines_of, newline_count, source_lines};
 
 use crate::counts::newline_count_before;
@@ -83,7 +83,7 @@ fn split_first_line(text: &str) -> (&str, &str)
     requires some { 0 < length text.now }
     ensures whole { text.now ≡ result.0.now ++ result.1.now }
     ensures some { 0 < length result.0.now }
-    ensures one_line { IsOneLine result.0.now }
+    ensures one_line { IsLineWithEnd result.0.now }
     ensures ends { (last_byte result.0.now ≡ 10) ⊎ (result.1.now ≡ []) }
 {
     match memchr(b'\n', text.as_bytes()) {
@@ -94,7 +94,7 @@ fn split_first_line(text: &str) -> (&str, &str)
 
 /// A line's text, and how the line ends.
 pub fn without_line_end(line: &str) -> (&str, EndLine)
-    requires one_line { IsOneLine line.now }
+    requires one_line { IsLineWithEnd line.now }
     ensures whole { line.now ≡ line_bytes (result.0.now, result.1) }
     ensures line { IsLine (result.0.now, result.1) }
     ensures no_end { result.1 ≡ EndLine.Eof → last_byte line.now ≢ 10 }

@@ -20,7 +20,7 @@ use Rattle.snippet_lines.specs.declared.place.Loc.{Loc}
 use Rattle.snippet_parts.specs.Annotated.{PartEntry, seen_part, KeptLine, seen_kept, kept_line, is_short, is_long, long_entry, long_place, long_places}
 use Rattle.snippet_parts.specs.Annotated.{long_spans, long_parts, depth_of, deepest, single_part, bar_lines, made_parts, parts_on}
 use Rattle.snippet_parts.specs.Depths.{same_place, depth_among, greatest_depth}
-use Rattle.snippet_parts.specs.Entries.{AllEntries, HasCharacterRoom, HasRoom, HasShortLabel, HasDepthWithin, is_untouched}
+use Rattle.snippet_parts.specs.Entries.{AllEntries, HasCharacterRoom, HasColumnRoom, HasShortLabel, HasDepthWithin, is_untouched}
 use Rattle.snippet_lines.specs.Lines.{Source, source_lines}
 use Rattle.snippet_parts.specs.Mark.{is_marking, is_single_line, touches, is_marked_on, is_wide, start_column, span_width}
 use Rattle.snippet_parts.specs.Marked.{entry_of, first_line, last_line}
@@ -73,7 +73,7 @@ each-entry P s marks ks infos same all =
 
 -- the entries of kept lines have room for their places, where the source fits
 pub places-fit : (s : Source) (marks : List Annotation) (ks : List ℕ) (infos : List AnnotatedLineInfo) → map seen_kept infos ≡ map (kept_line s marks) ks
-    → length s.text < 2 ^ 56 → AllEntries HasRoom infos
+    → length s.text < 2 ^ 56 → AllEntries HasColumnRoom infos
 places-fit s marks ks infos same fits =
     each-entry Room s marks ks infos same (made-all Room s marks (λ a among is. short a) (λ a among is kind. long a kind))
   where

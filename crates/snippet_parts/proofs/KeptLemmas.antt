@@ -12,7 +12,7 @@ use Rattle.snippet_model.specs.declared.snippet.Annotation.{Annotation}
 use Rattle.snippet_parts.specs.declared.kept.Stretch.{Stretch}
 use Rattle.snippet_parts.specs.Mark.{is_marking, touches}
 use Rattle.snippet_parts.specs.Least.{greatest}
-use Rattle.snippet_parts.specs.Stretches.{holds, is_covered, is_seen}
+use Rattle.snippet_parts.specs.Stretches.{holds_line, is_covered, is_seen}
 use Rattle.snippet_parts.proofs.LeastLemmas.{greatest-push}
 use Rattle.snippet_parts.proofs.RawDepthLemmas.{greatest-cons}
 use Rattle.snippet_parts.proofs.ShownLemmas.{range-more}
@@ -29,7 +29,7 @@ reach-below (x ∷ xs) (suc f) (suc n) v within below more =
 
 -- a stretch that is noted covers its lines
 pub covered-set : (reach : List ℕ) (s : Stretch) (k v : ℕ) → s.first < length reach → v ≡ max (get_or reach s.first 0) (s.last + 1)
-    → is_covered (set reach s.first v) k ≡ (is_covered reach k || holds s k)
+    → is_covered (set reach s.first v) k ≡ (is_covered reach k || holds_line s k)
 covered-set reach s k v within is =
     elim (cases_lt k s.first) [
       | inl before ↦

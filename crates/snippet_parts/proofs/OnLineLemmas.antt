@@ -23,7 +23,7 @@ use Rattle.snippet_parts.specs.Kept.{kept_lines}
 use Rattle.snippet_lines.specs.Lines.{Source}
 use Rattle.snippet_parts.specs.Mark.{is_marking, touches}
 use Rattle.snippet_parts.specs.Marked.{Entry, first_line, last_line}
-use Rattle.snippet_parts.specs.OnLine.{numbers_of, AreEntriesOn}
+use Rattle.snippet_parts.specs.OnLine.{numbers_of_lines, AreEntriesOn}
 use Rattle.snippet_lines.specs.Place.{locations_of, start_location, end_location, location_of}
 use Rattle.snippet_lines.specs.Span.{IsSpan}
 use Rattle.snippet_parts.specs.Stretches.{is_seen}
@@ -264,16 +264,16 @@ ascends-from first ks ascends i j d less within =
 
 module _ (fold : Bool) (s : Source) (marks : List Annotation) (infos : List AnnotatedLineInfo) (lines : map seen_kept infos ≡ annotated_lines fold s marks) where
   -- the numbers are those of the lines that are kept
-  numbers : numbers_of infos ≡ map (λ k. s.first + k) (kept_lines fold s.text marks)
+  numbers : numbers_of_lines infos ≡ map (λ k. s.first + k) (kept_lines fold s.text marks)
   numbers =
       sym (map-map (λ (l : KeptLine). l.number) seen_kept infos) ∙ ap (map (λ (l : KeptLine). l.number)) lines ∙ map-map (λ (l : KeptLine). l.number) (kept_line s marks) (kept_lines fold s.text marks)
 
   -- the numbers of the lines ascend
-  pub lines-ascend : Ascends (numbers_of infos)
+  pub lines-ascend : Ascends (numbers_of_lines infos)
   lines-ascend = subst Ascends (sym numbers) (ascends-from s.first (kept_lines fold s.text marks) (kept-ascends fold s.text marks))
 
   -- a line that is kept has its number among them
-  number-among : (k : ℕ) → Contains (kept_lines fold s.text marks) k → Contains (numbers_of infos) (s.first + k)
+  number-among : (k : ℕ) → Contains (kept_lines fold s.text marks) k → Contains (numbers_of_lines infos) (s.first + k)
   number-among k among =
       subst (λ ns. Contains ns (s.first + k)) (sym numbers) (contains-map (λ n. s.first + n) k (kept_lines fold s.text marks) among)
 
@@ -288,17 +288,17 @@ module _ (fold : Bool) (s : Source) (marks : List Annotation) (infos : List Anno
 
   module _ (spans : All (λ a. IsSpan s.text a.span.start a.span.end) marks) where
     -- the line on which a span begins is kept,
-    pub first-line-among : (a : Annotation) → Contains marks a → Contains (numbers_of infos) (s.first + first_line s.text a)
+    pub first-line-among : (a : Annotation) → Contains marks a → Contains (numbers_of_lines infos) (s.first + first_line s.text a)
     first-line-among a among =
         number-among (first_line s.text a) (first-kept fold s.text marks a among (All-contains (λ a. IsSpan s.text a.span.start a.span.end) marks a spans among))
 
     -- the one on which it ends,
-    pub last-line-among : (a : Annotation) → Contains marks a → Contains (numbers_of infos) (s.first + last_line s.text a)
+    pub last-line-among : (a : Annotation) → Contains marks a → Contains (numbers_of_lines infos) (s.first + last_line s.text a)
     last-line-among a among =
         number-among (last_line s.text a) (last-kept fold s.text marks a among (All-contains (λ a. IsSpan s.text a.span.start a.span.end) marks a spans among))
 
     -- and each that a span touches which isn't marked
-    pub seen-line-among : (a : Annotation) → Contains marks a → (k : ℕ) → is_seen s.text k a ≡ true → Contains (numbers_of infos) (s.first + k)
+    pub seen-line-among : (a : Annotation) → Contains marks a → (k : ℕ) → is_seen s.text k a ≡ true → Contains (numbers_of_lines infos) (s.first + k)
     seen-line-among a among k seen =
         let parts = and_parts (not (is_marking a.kind)) (touches s.text a k) seen in
         let there = and_parts (leb (first_line s.text a) k) (leb k (last_line s.text a)) parts.1 in

@@ -13,7 +13,7 @@ use Rattle.snippet_lines.specs.declared.place.Loc.{Loc}
 use Rattle.snippet_lines.specs.Place.{HoldsByte, line_of, place_of, prefix_at, location_of, steps_after_text}
 use Rattle.snippet_lines.specs.Span.{IsSpanBorder}
 use Rattle.std.specs.Str.{IsCharBoundary, chars}
-use Rattle.snippet_parts.specs.LineTable.{LineEntry, entry_of, entry_at, starts_from}
+use Rattle.snippet_parts.specs.LineTable.{LineEntry, table_entry, entry_at, starts_from}
 use Rattle.snippet_lines.proofs.LinesLemmas.{start_of-zero, start_of-cons, start_of-end, start_of-le, joined-source_lines, length-source_lines, text_at-stands}
 use Rattle.snippet_lines.proofs.PlaceLemmas.{line_of-is, line_of-within, HoldsByte-source, text_at-end, IsCharBoundary-prefix}
 
@@ -50,17 +50,17 @@ module _ (source starts : List ℕ) (table : starts ≡ starts_from 0 (source_li
 
 -- the entry of a line by its parts
 pub entry_at-is : (info : LineInfo) (first : ℕ) (ls : List Line) (k : ℕ) → info.line.now ≡ text_at ls k → info.line_index ≡ first + k
-    → info.start_byte ≡ start_of ls k → info.end_byte ≡ start_of ls (k + 1) → entry_of info ≡ entry_at first ls k
+    → info.start_byte ≡ start_of ls k → info.end_byte ≡ start_of ls (k + 1) → table_entry info ≡ entry_at first ls k
 entry_at-is info first ls k text number start next =
     ap (λ t. record { text = t; number = info.line_index; start = info.start_byte; next = info.end_byte }) text ∙ same_entry (text_at ls k) info.line_index info.start_byte info.end_byte (first + k) (start_of ls k) (start_of ls (k + 1)) number start next
 
 -- one more entry of the lines from number i on: that of line k
 pub entries-more : (first : ℕ) (ls : List Line) (infos more : List LineInfo) (info : LineInfo) (i k : ℕ) → i ≤ k → more ≡ infos ++ info ∷ []
-    → entry_of info ≡ entry_at first ls k → map entry_of infos ≡ map (entry_at first ls) (range_with_len i (k - i))
-    → map entry_of more ≡ map (entry_at first ls) (range_with_len i (k + 1 - i))
+    → table_entry info ≡ entry_at first ls k → map table_entry infos ≡ map (entry_at first ls) (range_with_len i (k - i))
+    → map table_entry more ≡ map (entry_at first ls) (range_with_len i (k + 1 - i))
 entries-more first ls infos more info i k low more_is entry before =
     let size : (k - i) + 1 ≡ k + 1 - i = omega arith in
-    ap (map entry_of) more_is ∙ map_push entry_of infos info ∙ ap (λ es. es ++ entry_of info ∷ []) before
+    ap (map table_entry) more_is ∙ map_push table_entry infos info ∙ ap (λ es. es ++ table_entry info ∷ []) before
     ∙ ap (λ e. map (entry_at first ls) (range_with_len i (k - i)) ++ e ∷ []) entry
     ∙ sym (map-range_with_len_more (entry_at first ls) i (k - i) k (omega arith)) ∙ ap (λ n. map (entry_at first ls) (range_with_len i n)) size
 
@@ -142,7 +142,7 @@ same_location : (location : Loc) (line char display byte : ℕ) → location.lin
 same_location location line char display byte a b c d =
     same_parts location.line location.char location.display location.byte line char display byte a b c d
 
-module _ (s : Source) (byte : ℕ) (info : LineInfo) (entry : entry_of info ≡ entry_at s.first (source_lines s.text) (line_of (source_lines s.text) byte)) where
+module _ (s : Source) (byte : ℕ) (info : LineInfo) (entry : table_entry info ≡ entry_at s.first (source_lines s.text) (line_of (source_lines s.text) byte)) where
   located-text : info.line.now ≡ text_at (source_lines s.text) (line_of (source_lines s.text) byte)
   located-text = ap (λ (e : LineEntry). e.text) entry
 

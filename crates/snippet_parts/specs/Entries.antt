@@ -16,8 +16,8 @@ abbrev pub AllEntries : (LineAnnotation → Type 0) → List AnnotatedLineInfo �
 AllEntries P infos = All (λ info. All P info.annotations.items) infos
 
 -- an entry ends no earlier than it starts, and sums of columns have room
-abbrev pub HasRoom : LineAnnotation → Type 0
-HasRoom e = (e.start.display ≤ e.end.display) × IsColumn e.end.display
+abbrev pub HasColumnRoom : LineAnnotation → Type 0
+HasColumnRoom e = (e.start.display ≤ e.end.display) × IsColumn e.end.display
 
 -- there is room for one character more than an entry starts at
 abbrev pub HasCharacterRoom : LineAnnotation → Type 0

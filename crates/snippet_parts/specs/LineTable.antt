@@ -16,8 +16,8 @@ pub record LineEntry : Type 0 where
   pub next : ℕ
 
 -- the entry that a line's information is
-abbrev pub entry_of : LineInfo → LineEntry
-entry_of info = record { text = info.line.now; number = info.line_index; start = info.start_byte; next = info.end_byte }
+abbrev pub table_entry : LineInfo → LineEntry
+table_entry info = record { text = info.line.now; number = info.line_index; start = info.start_byte; next = info.end_byte }
 
 -- the entry of line k of some lines, of which the first has a number
 abbrev pub entry_at : ℕ → List Line → ℕ → LineEntry

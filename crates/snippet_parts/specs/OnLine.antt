@@ -13,8 +13,8 @@ use Rattle.snippet_parts.specs.Marked.{first_line, last_line}
 use Rattle.snippet_lines.specs.Place.{locations_of}
 
 -- the numbers of some lines
-abbrev pub numbers_of : List AnnotatedLineInfo → List ℕ
-numbers_of infos = map (λ info. info.line_index) infos
+abbrev pub numbers_of_lines : List AnnotatedLineInfo → List ℕ
+numbers_of_lines infos = map (λ info. info.line_index) infos
 
 -- an entry begins a span of several lines: it starts where the span starts, at the span's depth
 pub record Begins (s : Source) (marks : List Annotation) (a : Annotation) (p : PartEntry) : Type 0 where

@@ -6,8 +6,8 @@ use Rattle.snippet_parts.specs.Least.{greatest}
 use Rattle.snippet_parts.specs.Mark.{is_marking, touches}
 
 -- whether a stretch holds line k
-abbrev pub holds : Stretch → ℕ → Bool
-holds s k = nat_le s.first k && nat_le k s.last
+abbrev pub holds_line : Stretch → ℕ → Bool
+holds_line s k = nat_le s.first k && nat_le k s.last
 
 -- whether line k is covered, where it is known of each line how far stretches from it reach, the line after the last:
 -- one from it or from a line above reaches past it

@@ -8,7 +8,7 @@ ghost use Rattle.snippet_parts.specs.Mark as spec;
 ghost use Rattle.snippet_lines.specs.Lines.{source_lines};
 ghost use Rattle.snippet_parts.specs.Marked.{first_line, last_line};
 ghost use Rattle.snippet_parts.specs.Located.{IsLocated, annotations_of};
-ghost use Rattle.snippet_parts.specs.Stretches.{holds, is_covered, is_seen};
+ghost use Rattle.snippet_parts.specs.Stretches.{holds_line, is_covered, is_seen};
 
 use crate::bars::{bars_end, has_closing_bar};
 use crate::located::LocatedSpan;
@@ -113,7 +113,7 @@ fn reach_over_seen(reach: &mut [usize], source: &SourceMap<'_>, span: &LocatedSp
 /// The lines that a span keeps: those of its beginning, and those of its end.
 fn kept_stretches(source: &SourceMap<'_>, span: &LocatedSpan<'_>) -> (Stretch, Stretch)
     requires located { IsLocated source.now span.now }
-    ensures value { (k : ℕ) → (holds result.0 k || holds result.1 k) ≡ keeps source.now.text k span.now.annotation.now }
+    ensures value { (k : ℕ) → (holds_line result.0 k || holds_line result.1 k) ≡ keeps source.now.text k span.now.annotation.now }
     ensures head { result.0.first < length (source_lines source.now.text) }
     ensures tail { result.1.first < length (source_lines source.now.text) }
     ensures head_last { result.0.last < length (source_lines source.now.text) }
@@ -150,7 +150,7 @@ fn touched(span: &LocatedSpan<'_>) -> Stretch
 fn reach_over(reach: &mut [usize], stretch: Stretch)
     requires first { stretch.first < length reach.old }
     requires last { stretch.last < length reach.old }
-    ensures covered { (k : ℕ) → is_covered reach.new k ≡ (is_covered reach.old k || holds stretch k) }
+    ensures covered { (k : ℕ) → is_covered reach.new k ≡ (is_covered reach.old k || holds_line stretch k) }
 {
     reach[stretch.first] = reach[stretch.first].max(stretch.last + 1);
 }

@@ -6,7 +6,7 @@ ghost use Rattle.std.specs.List.{HoldsAt, list_any};
 ghost use Rattle.std.specs.List.Sorted.{IsNonDecreasingBy};
 ghost use Rattle.snippet_lines.specs.Lines.{Line, AreLinesOf, line_at, source_lines, text_at, start_of, newline_count};
 ghost use Rattle.snippet_lines.specs.Lines.{StandsAt};
-ghost use Rattle.snippet_parts.specs.LineTable.{entry_of, entry_at, starts_from, touched_entries};
+ghost use Rattle.snippet_parts.specs.LineTable.{table_entry, entry_at, starts_from, touched_entries};
 ghost use Rattle.snippet_lines.specs.Place.{line_of, location_of, steps_after_text, locations_of};
 ghost use Rattle.snippet_lines.specs.Span.{IsSpan, IsSpanBorder};
 ghost use Rattle.snippet_parts.specs.Annotated as spec;
@@ -14,7 +14,7 @@ ghost use Rattle.snippet_parts.specs.Annotated.{seen_kept, seen_part};
 ghost use Rattle.snippet_parts.specs.Depths.{places_of, share_line, IsLongestChain};
 ghost use Rattle.snippet_parts.specs.Entries.{Ascends};
 ghost use Rattle.snippet_parts.specs.Marked.{first_line, last_line};
-ghost use Rattle.snippet_parts.specs.OnLine.{numbers_of, AreEntriesOn};
+ghost use Rattle.snippet_parts.specs.OnLine.{numbers_of_lines, AreEntriesOn};
 ghost use Rattle.snippet_parts.specs.Stretches.{is_seen};
 ghost use Rattle.snippet_model.specs.declared.snippet.Annotation.{Annotation};
 ghost use Rattle.snippet_splice.specs.Edits.{edit_of};
@@ -142,14 +142,14 @@ impl<'a> SourceMap<'a> {
         // a span keeps it without marking it.
         ensures lines { IfOk result (λ drawn. map seen_kept drawn.1.items ≡ spec.annotated_lines fold self.now annotations.now) }
         // Their numbers ascend, and the first and the last line of each span are among them.
-        ensures ascending { IfOk result (λ drawn. Ascends (numbers_of drawn.1.items)) }
+        ensures ascending { IfOk result (λ drawn. Ascends (numbers_of_lines drawn.1.items)) }
         ensures first_lines { IfOk result (λ drawn. (a : Annotation) → Contains annotations.now a
-            → Contains (numbers_of drawn.1.items) (self.now.first + first_line self.now.text a)) }
+            → Contains (numbers_of_lines drawn.1.items) (self.now.first + first_line self.now.text a)) }
         ensures last_lines { IfOk result (λ drawn. (a : Annotation) → Contains annotations.now a
-            → Contains (numbers_of drawn.1.items) (self.now.first + last_line self.now.text a)) }
+            → Contains (numbers_of_lines drawn.1.items) (self.now.first + last_line self.now.text a)) }
         // So is each line of a span that isn't marked. `keep` is set on these lines and no others.
         ensures seen_lines { IfOk result (λ drawn. (a : Annotation) → Contains annotations.now a
-            → (k : ℕ) → is_seen self.now.text k a ≡ true → Contains (numbers_of drawn.1.items) (self.now.first + k)) }
+            → (k : ℕ) → is_seen self.now.text k a ≡ true → Contains (numbers_of_lines drawn.1.items) (self.now.first + k)) }
         ensures keep { IfOk result (λ drawn. All (λ info. info.keep
             ≡ list_any (is_seen self.now.text (info.line_index - self.now.first)) annotations.now) drawn.1.items) }
         // The entries of each line.
@@ -210,7 +210,7 @@ impl<'a> SourceMap<'a> {
     pub fn span_to_lines(&self, span: Range<usize>) -> Result<Vec<LineInfo<'a>>, AllocError>
         requires span { IsSpan self.now.text span.start span.end }
         ensures lines { IfOk result
-            (λ infos. map entry_of infos.items ≡ touched_entries self.now span.start span.end) }
+            (λ infos. map table_entry infos.items ≡ touched_entries self.now span.start span.end) }
     {
         let first = self.line_index_of(span.start);
         let last = self.line_index_of(span.end);
@@ -243,7 +243,7 @@ impl<'a> SourceMap<'a> {
     fn locate(&self, line: &LineInfo<'_>, byte: usize) -> Loc
         requires border { IsSpanBorder self.now.text byte }
         requires line { let ls = source_lines self.now.text in
-            entry_of line.now ≡ entry_at self.now.first ls (line_of ls byte) }
+            table_entry line.now ≡ entry_at self.now.first ls (line_of ls byte) }
         requires short { TextFits self.now.text }
         ensures location { result ≡ location_of self.now byte }
         ensures byte { result.byte ≡ byte }
@@ -259,9 +259,9 @@ impl<'a> SourceMap<'a> {
         requires border { IsSpanBorder self.now.text byte }
         requires known { known ≡ location_of self.now known.byte }
         requires known_line { let ls = source_lines self.now.text in
-            entry_of line.now ≡ entry_at self.now.first ls (line_of ls known.byte) }
+            table_entry line.now ≡ entry_at self.now.first ls (line_of ls known.byte) }
         requires line { let ls = source_lines self.now.text in
-            entry_of line.now ≡ entry_at self.now.first ls (line_of ls byte) }
+            table_entry line.now ≡ entry_at self.now.first ls (line_of ls byte) }
         requires later { known.byte ≤ byte }
         requires short { TextFits self.now.text }
         ensures location { result ≡ location_of self.now byte }
@@ -274,7 +274,7 @@ impl<'a> SourceMap<'a> {
     /// 1 if a byte of this line lies after the end of the line's text, else 0.
     fn steps_after_text(&self, line: &LineInfo<'_>, byte: usize) -> usize
         requires line { let ls = source_lines self.now.text in
-            entry_of line.now ≡ entry_at self.now.first ls (line_of ls byte) }
+            table_entry line.now ≡ entry_at self.now.first ls (line_of ls byte) }
         requires short { TextFits self.now.text }
         ensures value { result ≡ steps_after_text self.now.text byte }
         ensures bound { result ≤ 1 }
@@ -303,7 +303,7 @@ impl<'a> SourceMap<'a> {
     /// Line `index`, from 0.
     fn line_info(&self, index: usize) -> LineInfo<'a>
         requires within { index < length (source_lines self.now.text) }
-        ensures entry { entry_of result ≡ entry_at self.now.first (source_lines self.now.text) index }
+        ensures entry { table_entry result ≡ entry_at self.now.first (source_lines self.now.text) index }
     {
         let start = self.starts[index];
         let end = self.line_end(index);
@@ -338,7 +338,7 @@ impl<'a> SourceMap<'a> {
     /// The line that holds a byte.
     fn line_holding(&self, byte: usize) -> LineInfo<'a>
         ensures entry { let ls = source_lines self.now.text in
-            entry_of result ≡ entry_at self.now.first ls (line_of ls byte) }
+            table_entry result ≡ entry_at self.now.first ls (line_of ls byte) }
         ensures short { TextFits self.now.text }
     {
         self.line_info(self.line_index_of(byte))

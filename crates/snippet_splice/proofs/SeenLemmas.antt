@@ -6,7 +6,7 @@ use Rattle.std.specs.List.Sorted.{IsSortedBy, IsStableBy}
 use Rattle.snippet_model.specs.declared.snippet.Patch.{Patch}
 use Rattle.snippet_lines.specs.Span.{IsSpan}
 use Rattle.snippet_splice.specs.declared.patches.TrimmedPatch.{TrimmedPatch}
-use Rattle.snippet_splice.specs.Edits.{Edit, edit_of, trimmed_edit_of, trimmed_edit, trimmed_edits, in_order, bounds_of, original_bounds_of}
+use Rattle.snippet_splice.specs.Edits.{Edit, edit_of, trimmed_edit_of, trimmed_edit, trimmed_edits, in_order, edit_bounds, original_bounds_of}
 use Rattle.snippet_lines.specs.Order.{ordered_by}
 use Rattle.snippet_splice.proofs.OrderLemmas.{pair_lt, pair-order}
 use Rattle.snippet_lines.proofs.OrderLemmas.{sorted-only, map-ordered_by}
@@ -74,7 +74,7 @@ sorted-edits source patches sorted h =
 
 -- trimmed patches that are seen as the edits in order have these edits' bounds
 pub sorted-bounds : (source : List ℕ) (patches : List Patch) (sorted : List TrimmedPatch)
-    → map seen sorted ≡ map (seen_edit source) (in_order (map edit_of patches)) → map original_bounds_of sorted ≡ map bounds_of (in_order (map edit_of patches))
+    → map seen sorted ≡ map (seen_edit source) (in_order (map edit_of patches)) → map original_bounds_of sorted ≡ map edit_bounds (in_order (map edit_of patches))
 sorted-bounds source patches sorted h =
     let rest : Seen → ℕ × ℕ = λ s. (s.1, s.2) in
     sym (map-map seen rest sorted) ∙ ap (map rest) h ∙ map-map (seen_edit source) rest (in_order (map edit_of patches))

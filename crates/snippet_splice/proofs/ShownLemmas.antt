@@ -11,7 +11,7 @@ use Rattle.snippet_lines.specs.Place.{line_of}
 use Rattle.snippet_lines.proofs.PlaceLemmas.{HoldsByte-source}
 use Rattle.snippet_lines.proofs.BoundsLemmas.{IsCharBoundary-start_of}
 use Rattle.snippet_splice.specs.declared.patches.TrimmedPatch.{TrimmedPatch}
-use Rattle.snippet_splice.specs.Edits.{Edit, edit_of, trimmed_edit_of, trimmed_edit, trimmed_edits, in_order, precedes, bounds_of, original_bounds_of, AreApart}
+use Rattle.snippet_splice.specs.Edits.{Edit, edit_of, trimmed_edit_of, trimmed_edit, trimmed_edits, in_order, precedes, edit_bounds, original_bounds_of, AreApart}
 use Rattle.snippet_lines.specs.Order.{put_in}
 use Rattle.snippet_splice.specs.Shown.{first_start, closes_line, shown_start, shown_rest, without_final_line_feeds, shown_text}
 use Rattle.snippet_splice.specs.Copied.{written, end_from}
@@ -47,12 +47,12 @@ some-given source [] (s ∷ ts) t same some = λ _. cc
 some-given source (p ∷ ps) ts t same some = λ e. cc
 
 -- the first trimmed patch was the first in order
-pub first-given : (ts : List TrimmedPatch) (os : List Edit) (t : TrimmedPatch) → map original_bounds_of ts ≡ map bounds_of os → slice_get ts 0 ≡ Some t
+pub first-given : (ts : List TrimmedPatch) (os : List Edit) (t : TrimmedPatch) → map original_bounds_of ts ≡ map edit_bounds os → slice_get ts 0 ≡ Some t
     → t.original_span.start ≡ first_start os
 first-given [] os t same some = absurd (cc)
 first-given (s ∷ ts) [] t same some = absurd (cc)
 first-given (s ∷ ts) (o ∷ os) t same some =
-    let pair : ◌≡◌ {A = ℕ × ℕ} (original_bounds_of s) (bounds_of o) = cc in
+    let pair : ◌≡◌ {A = ℕ × ℕ} (original_bounds_of s) (edit_bounds o) = cc in
     let one : s ≡ t = cc in
     ap (λ u. u.original_span.start) (sym one) ∙ ap (λ p. p.0) pair
 

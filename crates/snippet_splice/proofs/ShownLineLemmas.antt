@@ -3,7 +3,7 @@ use Rattle.std.proofs.Common.{◌≡◌, ℕ, ◌+◌, Bool, List, [], ◌∷◌
 use Rattle.std.proofs.lemmas.List.{drop_min}
 use Rattle.std.specs.List.{slice_range}
 use Rattle.snippet_splice.specs.Copied.{copied, end_from, in_text, written}
-use Rattle.snippet_splice.specs.Edits.{Edit, bounds_of, in_order, trimmed_edits}
+use Rattle.snippet_splice.specs.Edits.{Edit, edit_bounds, in_order, trimmed_edits}
 use Rattle.snippet_splice.specs.Shown.{closes_line, first_start, shown_rest, shown_start}
 use Rattle.snippet_splice.specs.Stretches.{Extent, capped, extents_from, feeds_made, lines_over, num_replaced_lines, num_shown_lines, source_lines_shown}
 use Rattle.snippet_splice.proofs.RangeLemmas.{feeds, feeds-append}
@@ -45,13 +45,13 @@ num_shown fold source es ts start end closed rest xs of_ts of_start of_xs of_end
 -- and the source as many as are counted for it
 pub num_replaced : (fold : Bool) (source : List ℕ) (es ts : List Edit) (start : ℕ) (bounds : List (ℕ × ℕ)) (lines : ℕ) (xs : List Extent)
     → ts ≡ trimmed_edits source es → start ≡ shown_start fold source (first_start (in_order es)) → xs ≡ extents_from source start start ts
-    → bounds ≡ map bounds_of (in_order es) → lines ≡ source_lines_shown fold source start bounds
+    → bounds ≡ map edit_bounds (in_order es) → lines ≡ source_lines_shown fold source start bounds
     → max (lines_over 0 xs) lines ≡ num_replaced_lines fold source es
 unfolding num_replaced_lines
 num_replaced fold source es ts start bounds lines xs of_ts of_start of_xs of_bounds of_lines =
     let s0 : ℕ = shown_start fold source (first_start (in_order es)) in
     let extents : xs ≡ extents_from source s0 s0 (trimmed_edits source es) =
     of_xs ∙ ap (λ n. extents_from source n n ts) of_start ∙ ap (extents_from source s0 s0) of_ts in
-    let all : lines ≡ source_lines_shown fold source s0 (map bounds_of (in_order es)) =
+    let all : lines ≡ source_lines_shown fold source s0 (map edit_bounds (in_order es)) =
     of_lines ∙ ap (λ n. source_lines_shown fold source n bounds) of_start ∙ ap (source_lines_shown fold source s0) of_bounds in
     ap (λ ys. max (lines_over 0 ys) lines) extents ∙ ap (max (lines_over 0 (extents_from source s0 s0 (trimmed_edits source es)))) all

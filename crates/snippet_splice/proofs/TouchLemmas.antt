@@ -9,7 +9,7 @@ use Rattle.std.proofs.lemmas.List.Elements.{All-nil, All-cons, All-take, All-pus
 use Rattle.std.proofs.lemmas.Bool.{cases_lt}
 use Rattle.std.specs.List.{slice_range}
 use Rattle.snippet_lines.specs.declared.lines.EndLine.TheVariants.{Eof}
-use Rattle.snippet_lines.specs.Lines.{Line, line_bytes, lines_of, source_lines, start_of, text_at, last_byte, is_lf, IsOneLine}
+use Rattle.snippet_lines.specs.Lines.{Line, line_bytes, lines_of, source_lines, start_of, text_at, last_byte, is_lf, IsLineWithEnd}
 use Rattle.snippet_lines.proofs.LinesLemmas.{text_at-stands, start_of-next, start_of-end, joined-source_lines, split_last, newline_count-open}
 use Rattle.snippet_lines.proofs.LinesLemmas.{length-source_lines, source_lines-some, last_byte-push}
 use Rattle.snippet_lines.proofs.PlaceLemmas.{text_at-end}
@@ -49,7 +49,7 @@ last_byte-drop b d inside =
     let e : b + (length (drop b d) - 1) ≡ length d - 1 = omega (arith, length-drop b d) in
     get_or-drop b d (length (drop b d) - 1) 0 ∙ ap (λ n. get_or d n 0) e
 
-no-feeds : (l : List ℕ) → IsOneLine l → (0 < length l → last_byte l ≢ 10) → All (λ c. c ≢ 10) l
+no-feeds : (l : List ℕ) → IsLineWithEnd l → (0 < length l → last_byte l ≢ 10) → All (λ c. c ≢ 10) l
 no-feeds [] one last = All-nil (λ c. c ≢ 10)
 no-feeds (c ∷ cs) one last =
     All-same (λ c. c ≢ 10) (c ∷ cs) (take (length (c ∷ cs) - 1) (c ∷ cs) ++ last_byte (c ∷ cs) ∷ []) (split_last (c ∷ cs) (omega arith)) (All-push (λ c. c ≢ 10) (take (length (c ∷ cs) - 1) (c ∷ cs)) (last_byte (c ∷ cs)) one (last (omega arith)))
@@ -62,7 +62,7 @@ in-line-feeds d j p h =
     let next : start_of ls (j + 1) ≡ b + length l = start_of-next ls j ([], Eof) h.within in
     let n : start_of ls (j + 1) - b ≡ length l = omega arith in
     let line : take (length l) (drop b d) ≡ l = ap (λ k. take k (drop b d)) (sym n) ∙ line_bytes-slice d j h.within in
-    let one : IsOneLine l = IsOneLine-line (get_or ls j ([], Eof)) (IsLine-at d j h.within) in
+    let one : IsLineWithEnd l = IsOneLine-line (get_or ls j ([], Eof)) (IsLine-at d j h.within) in
     let none : All (λ c. c ≢ 10) (slice_range d b p) = ⊎_elim
     (λ before. let short : p - b ≤ length l - 1 = omega (arith, h.from) in
     let part : slice_range d b p ≡ take (p - b) (take (length l - 1) l) = sym (take-take (p - b) (length l) (drop b d) (omega arith)) ∙ ap (take (p - b)) line ∙ sym (take-take (p - b) (length l - 1) l short) in

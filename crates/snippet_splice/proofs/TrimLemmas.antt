@@ -12,7 +12,7 @@ use Rattle.std.specs.List.{slice_range}
 use Rattle.std.specs.Option.{option_map}
 use Rattle.std.specs.Str.{IsUtf8, IsCharBoundary}
 use Rattle.snippet_lines.specs.Span.{is_character_border}
-use Rattle.snippet_splice.specs.Trim.{IsSandwiched, IsSandwich, is_sandwiched, greatest, kept_before, sandwich}
+use Rattle.snippet_splice.specs.Trim.{IsSandwiched, IsSandwich, is_sandwiched, greatest_passing, kept_before, sandwich}
 
 -- ---- what a sandwich says of the replacement
 
@@ -149,26 +149,26 @@ test-from o r a m b h =
 
 -- ---- the greatest number that passes
 
-greatest-is : (p : ℕ → Bool) (n a : ℕ) → a ≤ n → p a ≡ true → ((k : ℕ) → a < k → k ≤ n → p k ≡ false) → greatest p n ≡ Some a
+greatest-is : (p : ℕ → Bool) (n a : ℕ) → a ≤ n → p a ≡ true → ((k : ℕ) → a < k → k ≤ n → p k ≡ false) → greatest_passing p n ≡ Some a
 greatest-is p zero a within yes_it above =
     let e : a ≡ 0 = omega arith in
     cond-true (p 0) (Some 0) None (subst (λ k. p k ≡ true) e yes_it) ∙ ap Some (sym e)
 greatest-is p (suc n) a within yes_it above =
-    ⊎_elim (λ e. cond-true (p (suc n)) (Some (suc n)) (greatest p n) (subst (λ k. p k ≡ true) e yes_it) ∙ ap Some (sym e))
-    (λ other. cond-false (p (suc n)) (Some (suc n)) (greatest p n) (above (suc n) (omega arith) (omega arith)) ∙ greatest-is p n a (omega arith) yes_it (λ k low high. above k low (omega arith)))
+    ⊎_elim (λ e. cond-true (p (suc n)) (Some (suc n)) (greatest_passing p n) (subst (λ k. p k ≡ true) e yes_it) ∙ ap Some (sym e))
+    (λ other. cond-false (p (suc n)) (Some (suc n)) (greatest_passing p n) (above (suc n) (omega arith) (omega arith)) ∙ greatest-is p n a (omega arith) yes_it (λ k low high. above k low (omega arith)))
     (cases_eq a (suc n))
 
-greatest-none : (p : ℕ → Bool) (n : ℕ) → ((k : ℕ) → p k ≡ false) → greatest p n ≡ None
+greatest-none : (p : ℕ → Bool) (n : ℕ) → ((k : ℕ) → p k ≡ false) → greatest_passing p n ≡ None
 greatest-none p zero none = cond-false (p 0) (Some 0) None (none 0)
-greatest-none p (suc n) none = cond-false (p (suc n)) (Some (suc n)) (greatest p n) (none (suc n)) ∙ greatest-none p n none
+greatest-none p (suc n) none = cond-false (p (suc n)) (Some (suc n)) (greatest_passing p n) (none (suc n)) ∙ greatest-none p n none
 
-greatest-passes : (p : ℕ → Bool) (n a : ℕ) → greatest p n ≡ Some a → p a ≡ true
+greatest-passes : (p : ℕ → Bool) (n a : ℕ) → greatest_passing p n ≡ Some a → p a ≡ true
 greatest-passes p zero a e =
     ⊎_elim (λ t. let same : Some 0 ≡ Some a = sym (cond-true (p 0) (Some 0) None t) ∙ e in let at : 0 ≡ a = cc in subst (λ k. p k ≡ true) at t)
     (λ f. let same : None ≡ Some a = sym (cond-false (p 0) (Some 0) None f) ∙ e in absurd (cc)) (cases_Bool (p 0))
 greatest-passes p (suc n) a e =
-    ⊎_elim (λ t. let same : Some (suc n) ≡ Some a = sym (cond-true (p (suc n)) (Some (suc n)) (greatest p n) t) ∙ e in let at : suc n ≡ a = cc in subst (λ k. p k ≡ true) at t)
-    (λ f. greatest-passes p n a (sym (cond-false (p (suc n)) (Some (suc n)) (greatest p n) f) ∙ e)) (cases_Bool (p (suc n)))
+    ⊎_elim (λ t. let same : Some (suc n) ≡ Some a = sym (cond-true (p (suc n)) (Some (suc n)) (greatest_passing p n) t) ∙ e in let at : suc n ≡ a = cc in subst (λ k. p k ≡ true) at t)
+    (λ f. greatest-passes p n a (sym (cond-false (p (suc n)) (Some (suc n)) (greatest_passing p n) f) ∙ e)) (cases_Bool (p (suc n)))
 
 -- ---- the way that is taken, computed
 
@@ -177,7 +177,7 @@ unfolding kept_before
 kept_before-is o r a m b h =
     let p : ℕ → Bool = is_sandwiched o r in
     let here : p a ≡ true = test-from o r a m b h.is in
-    let rest : Option ℕ = cond (p 0) (Some 0) (greatest p (length o)) in
+    let rest : Option ℕ = cond (p 0) (Some 0) (greatest_passing p (length o)) in
     ⊎_elim
     (λ t. let parts : length o - length o ≡ 0 = omega arith in
     let at : a ≡ length o = h.all_before _ (subst (λ n. IsSandwiched o r (length o) (slice_range r (length o) (length r - (length o - length o))) n) parts (test-true o r (length o) t)) in
@@ -186,9 +186,9 @@ kept_before-is o r a m b h =
     cond-false (p (length o)) (Some (length o)) rest f ∙ ⊎_elim
     (λ t. let parts : length o - 0 ≡ length o = omega arith in
     let at : a ≡ 0 = h.all_after below _ (subst (λ n. IsSandwiched o r 0 (slice_range r 0 (length r - (length o - 0))) n) parts (test-true o r 0 t)) in
-    cond-true (p 0) (Some 0) (greatest p (length o)) t ∙ ap Some (sym at))
+    cond-true (p 0) (Some 0) (greatest_passing p (length o)) t ∙ ap Some (sym at))
     (λ g. let some : 0 < a = ⊎_elim (λ at. absurd (both_ways (p a) (ap p at ∙ g) here)) (λ other. omega arith) (cases_eq a 0) in
-    cond-false (p 0) (Some 0) (greatest p (length o)) g ∙ greatest-is p (length o) a h.is.border.0 here (λ k low high. false_from_ne_true (p k) (λ t. absurd (omega (arith, h.longest some k _ _ (test-true o r k t))))))
+    cond-false (p 0) (Some 0) (greatest_passing p (length o)) g ∙ greatest-is p (length o) a h.is.border.0 here (λ k low high. false_from_ne_true (p k) (λ t. absurd (omega (arith, h.longest some k _ _ (test-true o r k t))))))
     (cases_Bool (p 0)))
     (cases_Bool (p (length o)))
 
@@ -216,11 +216,11 @@ kept_before-passes : (o r : List ℕ) (a : ℕ) → kept_before o r ≡ Some a �
 unfolding kept_before
 kept_before-passes o r a e =
     let p : ℕ → Bool = is_sandwiched o r in
-    let rest : Option ℕ = cond (p 0) (Some 0) (greatest p (length o)) in
+    let rest : Option ℕ = cond (p 0) (Some 0) (greatest_passing p (length o)) in
     ⊎_elim (λ t. let same : Some (length o) ≡ Some a = sym (cond-true (p (length o)) (Some (length o)) rest t) ∙ e in let at : length o ≡ a = cc in subst (λ k. p k ≡ true) at t)
     (λ f. let e2 : rest ≡ Some a = sym (cond-false (p (length o)) (Some (length o)) rest f) ∙ e in
-    ⊎_elim (λ t. let same : Some 0 ≡ Some a = sym (cond-true (p 0) (Some 0) (greatest p (length o)) t) ∙ e2 in let at : 0 ≡ a = cc in subst (λ k. p k ≡ true) at t)
-    (λ g. greatest-passes p (length o) a (sym (cond-false (p 0) (Some 0) (greatest p (length o)) g) ∙ e2)) (cases_Bool (p 0)))
+    ⊎_elim (λ t. let same : Some 0 ≡ Some a = sym (cond-true (p 0) (Some 0) (greatest_passing p (length o)) t) ∙ e2 in let at : 0 ≡ a = cc in subst (λ k. p k ≡ true) at t)
+    (λ g. greatest-passes p (length o) a (sym (cond-false (p 0) (Some 0) (greatest_passing p (length o)) g) ∙ e2)) (cases_Bool (p 0)))
     (cases_Bool (p (length o)))
 
 -- what is computed is a sandwich

@@ -23,8 +23,8 @@ abbrev pub trimmed_edit_of : TrimmedPatch → Edit
 trimmed_edit_of p = record { start = p.span.start; end = p.span.end; text = p.replacement.now }
 
 -- where an edit starts and ends, and where the patch did that was trimmed
-abbrev pub bounds_of : Edit → ℕ × ℕ
-bounds_of e = (e.start, e.end)
+abbrev pub edit_bounds : Edit → ℕ × ℕ
+edit_bounds e = (e.start, e.end)
 
 abbrev pub original_bounds_of : TrimmedPatch → ℕ × ℕ
 original_bounds_of p = (p.original_span.start, p.original_span.end)

@@ -5,13 +5,13 @@ use Rattle.snippet_lines.specs.Lines.{lines_of, source_lines, text_at}
 use Rattle.snippet_lines.specs.Span.{IsSpan}
 use Rattle.snippet_splice.specs.declared.splice.SplicedLines.{SplicedLines}
 use Rattle.snippet_splice.specs.Copied.{written_ranges}
-use Rattle.snippet_splice.specs.Edits.{Edit, bounds_of, edited_from, in_order, original_bounds_of, patched, trimmed_edit_of, trimmed_edits}
+use Rattle.snippet_splice.specs.Edits.{Edit, edit_bounds, edited_from, in_order, original_bounds_of, patched, trimmed_edit_of, trimmed_edits}
 use Rattle.snippet_splice.specs.Shown.{first_start, shown_line, shown_start, shown_text, without_final_line_feeds}
 use Rattle.snippet_splice.specs.Stretches.{line_stretches, new_stretches, num_replaced_lines, num_shown_lines, replaced_stretches}
 use Rattle.snippet_splice.specs.Spliced.{AreFrom, HasNoCr, IsBeforeFinalLf, IsTouched, line_ranges, ranges_from, spliced_text, texts_of}
 
 -- the source holds no carriage return, and no edit, once it is trimmed, starts after a final line feed
-pub record IsPlain (source : List ℕ) (es : List Edit) : Type 0 where
+pub record IsPlainSplice (source : List ℕ) (es : List Edit) : Type 0 where
   pub no_cr : HasNoCr source
   pub before : All (λ e. IsBeforeFinalLf source e.start) (trimmed_edits source es)
 
@@ -19,7 +19,7 @@ pub record IsPlain (source : List ℕ) (es : List Edit) : Type 0 where
 pub record IsSplice (source : List ℕ) (es : List Edit) (fold : Bool) (s : SplicedLines) : Type 0 where
   -- its patches are the trimmed edits, each with the bounds that it had, in order, and all of them spans of the source
   pub edits : map trimmed_edit_of s.patches.items ≡ trimmed_edits source es
-  pub originals : map original_bounds_of s.patches.items ≡ map bounds_of (in_order es)
+  pub originals : map original_bounds_of s.patches.items ≡ map edit_bounds (in_order es)
   pub spans : All (λ p. IsSpan source p.span.start p.span.end) s.patches.items
   pub original_spans : All (λ p. IsSpan source p.original_span.start p.original_span.end) s.patches.items
   -- the trimmed patches, applied as they stand, give the patched source
@@ -37,11 +37,11 @@ pub record IsSplice (source : List ℕ) (es : List Edit) (fold : Bool) (s : Spli
   pub replaced : (k : ℕ) → line_stretches s.replaced_highlights.items k ≡ replaced_stretches fold source es k
   pub replaced_lines : length s.replaced_highlights.items ≡ num_replaced_lines fold source es
   -- the same in the words of the patched source
-  pub text : IsPlain source es → string_bytes s.complete ≡ spliced_text fold source es
-  pub ranges : IsPlain source es → ranges_from (shown_line fold source es) s.ranges.items ≡ line_ranges source es
+  pub text : IsPlainSplice source es → string_bytes s.complete ≡ spliced_text fold source es
+  pub ranges : IsPlainSplice source es → ranges_from (shown_line fold source es) s.ranges.items ≡ line_ranges source es
   -- its lines are lines of the patched source, one after the other from the first that is shown on
-  pub lines : IsPlain source es → All (λ e. HasNoCr e.text) es
+  pub lines : IsPlainSplice source es → All (λ e. HasNoCr e.text) es
       → AreFrom (shown_line fold source es) (texts_of (lines_of (string_bytes s.complete))) (texts_of (source_lines (patched source es)))
   -- each line of the patched source that an edit touches is among them, if it isn't empty
-  pub touched : IsPlain source es → (j : ℕ) → IsTouched source es j → text_at (source_lines (patched source es)) j ≢ []
+  pub touched : IsPlainSplice source es → (j : ℕ) → IsTouched source es j → text_at (source_lines (patched source es)) j ≢ []
       → (shown_line fold source es ≤ j) × (j < shown_line fold source es + length (lines_of (string_bytes s.complete)))

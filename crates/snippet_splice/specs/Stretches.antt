@@ -7,7 +7,7 @@ use Rattle.snippet_lines.specs.Lines.{is_lf, last_byte, source_lines}
 use Rattle.snippet_splice.specs.declared.stretches.PatchExtent.{PatchExtent}
 use Rattle.snippet_splice.specs.declared.stretches.SubstitutionHighlight.{SubstitutionHighlight}
 use Rattle.snippet_splice.specs.Copied.{in_text, written, end_from}
-use Rattle.snippet_splice.specs.Edits.{Edit, bounds_of, in_order, trimmed_edits}
+use Rattle.snippet_splice.specs.Edits.{Edit, edit_bounds, in_order, trimmed_edits}
 use Rattle.snippet_splice.specs.Shown.{first_start, shown_start, shown_rest, closes_line}
 
 -- a number, as far as there are numbers
@@ -127,15 +127,15 @@ lines_over line (x ∷ xs) =
     let last = capped (capped (line + x.feeds) + count_by is_lf x.under) in max (capped (last + 1)) (lines_over last xs)
 
 -- the greatest of a byte and the ends of some bounds
-abbrev pub greatest_end : ℕ → List (ℕ × ℕ) → ℕ
-greatest_end at [] = at
-greatest_end at (bounds ∷ others) = greatest_end (max at bounds.1) others
+abbrev pub last_end_of : ℕ → List (ℕ × ℕ) → ℕ
+last_end_of at [] = at
+last_end_of at (bounds ∷ others) = last_end_of (max at bounds.1) others
 
 -- how many lines of the source the text that is shown replaces, if edits had these bounds as they were given: folded, those
 -- from the byte on at which its first line starts to the greatest end; unfolded all
 abbrev pub source_lines_shown : Bool → List ℕ → ℕ → List (ℕ × ℕ) → ℕ
 source_lines_shown fold source start bounds =
-    let end = greatest_end start bounds in
+    let end = last_end_of start bounds in
     capped (if fold then count_by is_lf (slice_range source (in_text source start) (in_text source end)) + 1 else length (source_lines source))
 
 -- the text of a line that an LF ends: without the CR before that
@@ -169,4 +169,4 @@ replaced_stretches fold source es k =
 unfoldable pub num_replaced_lines : Bool → List ℕ → List Edit → ℕ
 num_replaced_lines fold source es =
     let from = shown_start fold source (first_start (in_order es)) in
-    max (lines_over 0 (extents_from source from from (trimmed_edits source es))) (source_lines_shown fold source from (map bounds_of (in_order es)))
+    max (lines_over 0 (extents_from source from from (trimmed_edits source es))) (source_lines_shown fold source from (map edit_bounds (in_order es)))

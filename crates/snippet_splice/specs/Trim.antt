@@ -26,16 +26,16 @@ is_sandwiched original replacement before =
     is_character_border original before && nat_le (length original) (length replacement) && bytes_eq (take before replacement) (take before original) && bytes_eq (drop (length replacement - (length original - before)) replacement) (drop before original)
 
 -- the greatest number up to n that passes a test, if there is one
-abbrev pub greatest : (ℕ → Bool) → ℕ → Option ℕ
-greatest passes zero = if passes zero then Some zero else None
-greatest passes (suc n) = if passes (suc n) then Some (suc n) else greatest passes n
+abbrev pub greatest_passing : (ℕ → Bool) → ℕ → Option ℕ
+greatest_passing passes zero = if passes zero then Some zero else None
+greatest_passing passes (suc n) = if passes (suc n) then Some (suc n) else greatest_passing passes n
 
 -- how many of the original's bytes stand before the middle
 unfoldable pub kept_before : List ℕ → List ℕ → Option ℕ
 kept_before original replacement =
     if is_sandwiched original replacement (length original) then Some (length original)
     else if is_sandwiched original replacement 0 then Some 0
-    else greatest (is_sandwiched original replacement) (length original)
+    else greatest_passing (is_sandwiched original replacement) (length original)
 
 -- the way that is taken, computed
 unfoldable pub sandwich : List ℕ → List ℕ → Option (ℕ × List ℕ × ℕ)

@@ -3,7 +3,7 @@ ghost use Rattle.std.specs.Prelude.{◌≡◌, map, All, IfOk};
 ghost use Rattle.std.specs.Ordering.{nat_cmp, ordering_then};
 ghost use Rattle.snippet_lines.specs.Span.{IsSpan};
 ghost use Rattle.snippet_splice.specs.Edits.{edit_of, trimmed_edit_of, trimmed_edit, trimmed_edits, in_order};
-ghost use Rattle.snippet_splice.specs.Edits.{bounds_of, original_bounds_of, edited_from, patched, AreApart};
+ghost use Rattle.snippet_splice.specs.Edits.{edit_bounds, original_bounds_of, edited_from, patched, AreApart};
 
 use crate::trim::as_substr;
 use snippet_model::Patch;
@@ -34,7 +34,7 @@ pub fn trimmed_patches<'a>(
     ensures edits { IfOk result
         (λ ts. map trimmed_edit_of ts.items ≡ trimmed_edits source.now (map edit_of patches.now)) }
     ensures originals { IfOk result (λ ts. map original_bounds_of ts.items
-        ≡ map bounds_of (in_order (map edit_of patches.now))) }
+        ≡ map edit_bounds (in_order (map edit_of patches.now))) }
     ensures spans { IfOk result (λ ts. All (λ t. IsSpan source.now t.span.start t.span.end) ts.items) }
     ensures original_spans { IfOk result
         (λ ts. All (λ t. IsSpan source.now t.original_span.start t.original_span.end) ts.items) }

@@ -11,7 +11,7 @@ use Rattle.snippet_strokes.specs.declared.bars.BarStroke.{BarStroke}
 use Rattle.snippet_strokes.specs.declared.bars.BarStroke.TheVariants.{Solid}
 use Rattle.snippet_strokes.specs.declared.bars.OpenBar.{OpenBar}
 use Rattle.snippet_grid.specs.Layout.{Layout}
-use Rattle.snippet_strokes.specs.Bars.{HasOwnDepth, bar_part, bars_apart, ends_of_bars, with_bar, with_bars}
+use Rattle.snippet_strokes.specs.Bars.{HasOwnDepth, bar_cell_part, bars_apart, ends_of_bars, with_bar, with_bars}
 use Rattle.snippet_strokes.specs.LineRows.{AreLineRows}
 
 module _ (layout : Layout) (stroke : BarStroke) (bar : OpenBar) where
@@ -20,7 +20,7 @@ module _ (layout : Layout) (stroke : BarStroke) (bar : OpenBar) where
   there row = get_or row (layout.gutter + 2 + bar.depth) SPACE
 
   abbrev part : OpenBar → Cell
-  part b = bar_part layout stroke b
+  part b = bar_cell_part layout stroke b
 
   drawn_there : (row : List Cell) → there (with_bar layout stroke row bar) ≡ part bar
   drawn_there row =
@@ -66,7 +66,7 @@ module _ (layout : Layout) (room : ℕ) (closes : Bool) (text : List ℕ) (dropp
 
   -- so each of these stands beside each of the line's rows, in the cell of its depth, where no other has that depth
   pub bar_past : AreLineRows layout room closes text dropped open_bars es source rows → (bar : OpenBar) → Contains past bar → HasOwnDepth bar past → (i : ℕ)
-      → i < length rows → cell_at rows i (layout.gutter + 2 + bar.depth) ≡ bar_part layout Solid bar
+      → i < length rows → cell_at rows i (layout.gutter + 2 + bar.depth) ≡ bar_cell_part layout Solid bar
   bar_past drawn bar among alone i within =
       let rule : List Cell → List Cell = with_bars layout Solid past in
       let inside : i < length drawn.own = omega (arith, within, ap length drawn.rows_are, length-map drawn.own rule) in

@@ -23,7 +23,7 @@ use Rattle.snippet_strokes.specs.EntryMarks.{IsBarCell, IsMarkCell, are_plain, h
 use Rattle.snippet_model.specs.Rows.{IsFreeCell}
 use Rattle.snippet_style.proofs.StrokeLemmas.{bars_among}
 use Rattle.snippet_strokes.proofs.StrokeGlyphs.{free_bars}
-use Rattle.snippet_strokes.specs.Bars.{BarsDrawn, DrawsBars, HasRoom, StandsBeside, bar_glyph, bar_part, barred, with_bar, with_bars}
+use Rattle.snippet_strokes.specs.Bars.{BarsDrawn, DrawsBars, HasBarRoom, StandsBeside, bar_glyph, bar_cell_part, barred, with_bar, with_bars}
 use Rattle.snippet_strokes.specs.declared.bars.OpenBar.{OpenBar}
 use Rattle.snippet_strokes.proofs.LabelPlaces.{LabelsStand-kept}
 use Rattle.snippet_strokes.specs.Rows.{AddsStrokes, AreStrokes, IsBeside, IsStrokeRow, ShowsMarks}
@@ -130,10 +130,10 @@ BarsDrawn-write layout old new row at cells writes right near bar_cell clean =
     }
 
 -- a row with parts of bars
-BarsDrawn-with_bar : (layout : Layout) (stroke : BarStroke) (bar : OpenBar) (row : List Cell) → HasRoom layout bar
+BarsDrawn-with_bar : (layout : Layout) (stroke : BarStroke) (bar : OpenBar) (row : List Cell) → HasBarRoom layout bar
     → BarsDrawn layout row (with_bar layout stroke row bar)
 BarsDrawn-with_bar layout stroke bar row room =
-    let part : Cell = bar_part layout stroke bar in
+    let part : Cell = bar_cell_part layout stroke bar in
     let at : ℕ = layout.gutter + 2 + bar.depth in
     let is : IsBarCell layout.decor part = record { glyph = bar_glyph_known stroke layout.decor bar.primary; link = refl } in
     let free : IsFreeCell part = (bar_glyph_free stroke layout.decor bar.primary, refl) in
@@ -143,17 +143,17 @@ BarsDrawn-with_bar layout stroke bar row room =
     (omega (arith, room.1)) (All-cons (IsBarCell layout.decor) part [] is (All-nil (IsBarCell layout.decor)))
     (All-cons IsFreeCell part [] free (All-nil IsFreeCell)))
 
-BarsDrawn-with_bars : (layout : Layout) (stroke : BarStroke) (bars : List OpenBar) (row : List Cell) → All (HasRoom layout) bars
+BarsDrawn-with_bars : (layout : Layout) (stroke : BarStroke) (bars : List OpenBar) (row : List Cell) → All (HasBarRoom layout) bars
     → BarsDrawn layout row (with_bars layout stroke bars row)
 BarsDrawn-with_bars layout stroke [] row room = BarsDrawn-none layout row
 BarsDrawn-with_bars layout stroke (bar ∷ bars) row room =
     let mid : List Cell = with_bar layout stroke row bar in
     BarsDrawn-more layout row mid (with_bars layout stroke bars mid)
-    (BarsDrawn-with_bar layout stroke bar row (All-head (HasRoom layout) bar bars room))
-    (BarsDrawn-with_bars layout stroke bars mid (All-tail (HasRoom layout) bar bars room))
+    (BarsDrawn-with_bar layout stroke bar row (All-head (HasBarRoom layout) bar bars room))
+    (BarsDrawn-with_bars layout stroke bars mid (All-tail (HasBarRoom layout) bar bars room))
 
 -- rows with parts of bars in each from one on: bars are drawn there, and nothing else
-pub DrawsBars-barred : (layout : Layout) (stroke : BarStroke) (bars : List OpenBar) (row : ℕ) (old new : List (List Cell)) → All (HasRoom layout) bars
+pub DrawsBars-barred : (layout : Layout) (stroke : BarStroke) (bars : List OpenBar) (row : ℕ) (old new : List (List Cell)) → All (HasBarRoom layout) bars
     → new ≡ barred layout stroke bars row old → DrawsBars layout row old new
 DrawsBars-barred layout stroke bars row old new room is =
     let rule : List Cell → List Cell = with_bars layout stroke bars in

@@ -13,7 +13,7 @@ use Rattle.snippet_style.proofs.CellLemmas.{length-written, slice_index_or-writt
 use Rattle.snippet_grid.specs.Layout.{Layout}
 use Rattle.snippet_strokes.specs.declared.bars.BarStroke.{BarStroke}
 use Rattle.snippet_strokes.specs.declared.bars.OpenBar.{OpenBar}
-use Rattle.snippet_strokes.specs.Bars.{StandsBeside, bar_glyph, bar_part, barred, changed_from, with_bar, with_bars}
+use Rattle.snippet_strokes.specs.Bars.{StandsBeside, bar_glyph, bar_cell_part, barred, changed_from, with_bar, with_bars}
 
 -- ---- rows that were changed by a rule
 
@@ -170,10 +170,10 @@ written-next row at n cell =
 module _ (layout : Layout) (stroke : BarStroke) where
   -- a bar that stands so many cells right of another, in its role, has its part
   beside_part : (first bar : OpenBar) (k : ℕ) (row : List Cell) → StandsBeside first k bar
-      → with_bar layout stroke row bar ≡ written SPACE row (layout.gutter + 2 + first.depth + k) (bar_part layout stroke first ∷ [])
+      → with_bar layout stroke row bar ≡ written SPACE row (layout.gutter + 2 + first.depth + k) (bar_cell_part layout stroke first ∷ [])
   beside_part first bar k row beside =
       let place : layout.gutter + 2 + bar.depth ≡ layout.gutter + 2 + first.depth + k = omega (arith, beside.depth) in
-      ap (λ n. written SPACE row n (bar_part layout stroke bar ∷ [])) place ∙ ap (λ p. written SPACE row (layout.gutter + 2 + first.depth + k) (unlinked_cell (underline_role p) (bar_glyph stroke layout.decor p) ∷ [])) beside.primary
+      ap (λ n. written SPACE row n (bar_cell_part layout stroke bar ∷ [])) place ∙ ap (λ p. written SPACE row (layout.gutter + 2 + first.depth + k) (unlinked_cell (underline_role p) (bar_glyph stroke layout.decor p) ∷ [])) beside.primary
 
   -- one bar more
   bars_more : (bars : List OpenBar) (i : ℕ) (d : OpenBar) (row : List Cell) → i < length bars
@@ -185,18 +185,18 @@ module _ (layout : Layout) (stroke : BarStroke) where
   side_more : (bars : List OpenBar) (from n : ℕ) (first : OpenBar) (row : List Cell) → from + (n + 1) ≤ length bars
       → ((k : ℕ) (d : OpenBar) → k < n + 1 → StandsBeside first k (get_or bars (from + k) d))
       → written SPACE (with_bars layout stroke (take from bars) row) (layout.gutter + 2 + first.depth)
-      (replicate (n + 1) (bar_part layout stroke first)) ≡ with_bars layout stroke (take (from + (n + 1)) bars) row
+      (replicate (n + 1) (bar_cell_part layout stroke first)) ≡ with_bars layout stroke (take (from + (n + 1)) bars) row
   side_more bars from zero first row within beside =
       let here : from + 0 ≡ from = omega arith in
       let at : ℕ = layout.gutter + 2 + first.depth in
       let none : at + 0 ≡ at = omega arith in
-      let cells : List Cell = bar_part layout stroke first ∷ [] in
+      let cells : List Cell = bar_cell_part layout stroke first ∷ [] in
       let before : List Cell = with_bars layout stroke (take from bars) row in
       let own : StandsBeside first 0 (get_or bars from first) = subst (λ i. StandsBeside first 0 (get_or bars i first)) here (beside 0 first (omega arith)) in
       sym (bars_more bars from first row (omega (arith, within)) ∙ beside_part first (get_or bars from first) 0 before own ∙ ap (λ n. written SPACE before n cells) none)
   side_more bars from (suc m) first row within beside =
       let at : ℕ = layout.gutter + 2 + first.depth in
-      let cell : Cell = bar_part layout stroke first in
+      let cell : Cell = bar_cell_part layout stroke first in
       let before : List Cell = with_bars layout stroke (take from bars) row in
       let j : ℕ = suc m in
       let one : m + 1 ≡ j = omega arith in
@@ -213,12 +213,12 @@ module _ (layout : Layout) (stroke : BarStroke) where
   pub side_drawn : (bars : List OpenBar) (from to : ℕ) (first : OpenBar) (row : List Cell) → from < to → to ≤ length bars
       → ((k : ℕ) (d : OpenBar) → k < to - from → StandsBeside first k (get_or bars (from + k) d))
       → written SPACE (with_bars layout stroke (take from bars) row) (layout.gutter + 2 + first.depth)
-      (replicate (to - from) (bar_part layout stroke first)) ≡ with_bars layout stroke (take to bars) row
+      (replicate (to - from) (bar_cell_part layout stroke first)) ≡ with_bars layout stroke (take to bars) row
   side_drawn bars from to first row some within beside =
       let n : ℕ = to - from - 1 in
       let many : n + 1 ≡ to - from = omega (arith, some) in
       let end : from + (n + 1) ≡ to = omega (arith, some) in
       ap (λ k. written SPACE (with_bars layout stroke (take from bars) row) (layout.gutter + 2 + first.depth)
-      (replicate k (bar_part layout stroke first))) (sym many)
+      (replicate k (bar_cell_part layout stroke first))) (sym many)
       ∙ side_more bars from n first row (omega (arith, within, end)) (λ k d low. beside k d (omega (arith, low, many)))
       ∙ ap (λ k. with_bars layout stroke (take k bars) row) end

@@ -19,7 +19,7 @@ use Rattle.snippet_grid.specs.Layout.{Layout}
 use Rattle.snippet_labels.specs.declared.positions.PlacedEntry.{PlacedEntry}
 use Rattle.snippet_strokes.specs.EntryMarks.{HasBarCell, HasBarCellAt, IsBarCell, is_single}
 use Rattle.snippet_strokes.specs.Drawing.{DrawsBarCells, DrawsFrom, HasRows, KeepsBarCells}
-use Rattle.snippet_strokes.specs.Strokes.{bar_of, bottom_of, connector_by, connector_of, connectors_of, corner_by, corner_of, corners_of, line_to, top_of}
+use Rattle.snippet_strokes.specs.Strokes.{bar_writes, bottom_of, connector_by, connector_of, connectors_of, corner_by, corner_of, corners_of, line_to, top_of}
 use Rattle.snippet_strokes.specs.Strokes.{column_of}
 use Rattle.snippet_strokes.specs.Painting.{stroke_role}
 use Rattle.snippet_strokes.specs.Reach.{IsWithin}
@@ -175,7 +175,7 @@ corners_bars layout row count es bar_cells rows =
     B = IsBarWrite layout row count
 
     bar : (e : PlacedEntry) (depth start end : ℕ) → 0 < depth → layout.gutter + 3 + depth < layout.code → row ≤ start → end ≤ count
-        → All B (bar_of layout e depth start end)
+        → All B (bar_writes layout e depth start end)
     bar e depth start end some room low high =
         let primary = is_primary e.entry.kind in
         let glyph : ℕ = (strokes_of layout.decor primary).bar in
@@ -195,7 +195,7 @@ corners_bars layout row count es bar_cells rows =
         let primary = is_primary e.entry.kind in
         let glyph : ℕ = (strokes_of layout.decor primary).bar_top in
         let corner = row + 1 + e.position in
-        All-cons B (glyph_at corner (layout.gutter + 2 + depth) glyph (stroke_role e)) (bar_of layout e depth (corner + 1) count) (record {
+        All-cons B (glyph_at corner (layout.gutter + 2 + depth) glyph (stroke_role e)) (bar_writes layout e depth (corner + 1) count) (record {
           below = omega arith;
           there = has.mark;
           right = omega (arith, bar_cell.0);
@@ -208,7 +208,7 @@ corners_bars layout row count es bar_cells rows =
         let primary = is_primary e.entry.kind in
         let glyph : ℕ = (strokes_of layout.decor primary).bar_bottom in
         let corner = row + 1 + e.position in
-        All-append B (bar_of layout e depth row corner) (glyph_at corner (layout.gutter + 2 + depth) glyph (stroke_role e) ∷ [])
+        All-append B (bar_writes layout e depth row corner) (glyph_at corner (layout.gutter + 2 + depth) glyph (stroke_role e) ∷ [])
         (bar e depth row corner bar_cell.0 bar_cell.1 (omega arith) (omega (arith, has.mark)))
         (All-cons B (glyph_at corner (layout.gutter + 2 + depth) glyph (stroke_role e)) [] (record {
           below = omega arith;
@@ -241,15 +241,15 @@ corners_none layout row count es single =
 -- a bar grows by a row, in the glyph and in the role of its entry
 pub bar_painted : (layout : Layout) (e : PlacedEntry) (depth start row glyph : ℕ) (role : ElementStyle) (old mid new : List (List Cell))
     → glyph ≡ (strokes_of layout.decor (is_primary e.entry.kind)).bar → role ≡ stroke_role e → start ≤ row
-    → mid ≡ painted (bar_of layout e depth start row) old → new ≡ cells_written mid row (layout.gutter + 2 + depth) (text_cells role (glyph ∷ []))
-    → new ≡ painted (bar_of layout e depth start (row + 1)) old
+    → mid ≡ painted (bar_writes layout e depth start row) old → new ≡ cells_written mid row (layout.gutter + 2 + depth) (text_cells role (glyph ∷ []))
+    → new ≡ painted (bar_writes layout e depth start (row + 1)) old
 bar_painted layout e depth start row glyph role old mid new is_glyph is_role below so_far writes =
     let line : ℕ = (strokes_of layout.decor (is_primary e.entry.kind)).bar in
     let cell = layout.gutter + 2 + depth in
     column_painted start row cell line (stroke_role e) old mid new below so_far (writes ∙ ap (λ g. cells_written mid row cell (text_cells role (g ∷ []))) is_glyph ∙ ap (λ r. cells_written mid row cell (text_cells r (line ∷ []))) is_role)
 
 -- a bar with no rows is no write
-pub bar_of-none : (layout : Layout) (e : PlacedEntry) (depth start : ℕ) → bar_of layout e depth start start ≡ []
+pub bar_of-none : (layout : Layout) (e : PlacedEntry) (depth start : ℕ) → bar_writes layout e depth start start ≡ []
 bar_of-none layout e depth start =
     column_of-none start (layout.gutter + 2 + depth) (strokes_of layout.decor (is_primary e.entry.kind)).bar (stroke_role e)
 
@@ -257,19 +257,19 @@ bar_of-none layout e depth start =
 pub top_painted : (layout : Layout) (row count : ℕ) (e : PlacedEntry) (depth end glyph : ℕ) (role : ElementStyle) (old mid new : List (List Cell))
     → glyph ≡ (strokes_of layout.decor (is_primary e.entry.kind)).bar_top → role ≡ stroke_role e → end ≡ count
     → mid ≡ cells_written old (row + 1 + e.position) (layout.gutter + 2 + depth) (text_cells role (glyph ∷ []))
-    → new ≡ painted (bar_of layout e depth (row + 1 + e.position + 1) end) mid → new ≡ painted (top_of layout row count e depth) old
+    → new ≡ painted (bar_writes layout e depth (row + 1 + e.position + 1) end) mid → new ≡ painted (top_of layout row count e depth) old
 top_painted layout row count e depth end glyph role old mid new is_glyph is_role is_end begins continues =
     let corner = row + 1 + e.position in
     let cell = layout.gutter + 2 + depth in
-    continues ∙ ap (λ n. painted (bar_of layout e depth (corner + 1) n) mid) is_end
-    ∙ ap (painted (bar_of layout e depth (corner + 1) count))
+    continues ∙ ap (λ n. painted (bar_writes layout e depth (corner + 1) n) mid) is_end
+    ∙ ap (painted (bar_writes layout e depth (corner + 1) count))
     (begins ∙ ap (λ g. cells_written old corner cell (text_cells role (g ∷ []))) is_glyph
     ∙ ap (λ r. cells_written old corner cell (text_cells r ((strokes_of layout.decor (is_primary e.entry.kind)).bar_top ∷ []))) is_role)
 
 -- the bar of an end, and the corner below it
 pub bottom_painted : (layout : Layout) (row : ℕ) (e : PlacedEntry) (depth glyph : ℕ) (role : ElementStyle) (old mid new : List (List Cell))
     → glyph ≡ (strokes_of layout.decor (is_primary e.entry.kind)).bar_bottom → role ≡ stroke_role e
-    → mid ≡ painted (bar_of layout e depth row (row + 1 + e.position)) old
+    → mid ≡ painted (bar_writes layout e depth row (row + 1 + e.position)) old
     → new ≡ cells_written mid (row + 1 + e.position) (layout.gutter + 2 + depth) (text_cells role (glyph ∷ []))
     → new ≡ painted (bottom_of layout row e depth) old
 bottom_painted layout row e depth glyph role old mid new is_glyph is_role begins ends =
@@ -277,4 +277,4 @@ bottom_painted layout row e depth glyph role old mid new is_glyph is_role begins
     let cell = layout.gutter + 2 + depth in
     let last : ℕ = (strokes_of layout.decor (is_primary e.entry.kind)).bar_bottom in
     let w : Write = glyph_at corner cell last (stroke_role e) in
-    ends ∙ ap (λ g. cells_written mid corner cell (text_cells role (g ∷ []))) is_glyph ∙ ap (λ r. cells_written mid corner cell (text_cells r (last ∷ []))) is_role ∙ ap (λ rows. written_by rows w) begins ∙ sym (painted-append (bar_of layout e depth row corner) (w ∷ []) old)
+    ends ∙ ap (λ g. cells_written mid corner cell (text_cells role (g ∷ []))) is_glyph ∙ ap (λ r. cells_written mid corner cell (text_cells r (last ∷ []))) is_role ∙ ap (λ rows. written_by rows w) begins ∙ sym (painted-append (bar_writes layout e depth row corner) (w ∷ []) old)

@@ -32,7 +32,7 @@ use Rattle.snippet_labels.proofs.PlacedLemmas.{entries_all}
 use Rattle.snippet_strokes.proofs.WriteLemmas.{painted-append}
 use Rattle.snippet_strokes.specs.declared.bars.BarStroke.{BarStroke}
 use Rattle.snippet_strokes.specs.declared.bars.BarStroke.TheVariants.{Dotted, Solid, Top}
-use Rattle.snippet_strokes.specs.Bars.{Bar, HasOwnDepth, bar_at, bar_of, bar_part, bars_apart, ends_of_bars, has_depth, is_beside, is_whole_line, with_bar}
+use Rattle.snippet_strokes.specs.Bars.{Bar, HasOwnDepth, bar_at, bar_of, bar_cell_part, bars_apart, ends_of_bars, has_depth, is_beside, is_whole_line, with_bar}
 use Rattle.snippet_strokes.specs.Bars.{with_bars}
 use Rattle.snippet_strokes.specs.Drawing.{HasRows, row_count}
 use Rattle.snippet_strokes.specs.EndBars.{BarBegins, BarEnds, BeginsBelow, dotted_bar, end_corner, start_corner}
@@ -171,7 +171,7 @@ module _ (layout : Layout) (bar : Bar) (room : layout.gutter + 2 + bar.depth < l
       let glyph : ℕ = (strokes_of layout.decor (is_primary e.entry.kind)).bar_top in
       let line : ℕ = (strokes_of layout.decor (is_primary e.entry.kind)).bar in
       let own : Write = glyph_at corner (layout.gutter + 2 + depth) glyph (stroke_role e) in
-      All-cons (Leaves r) own (strokes.bar_of layout e depth (corner + 1) count) (glyph_leaves r corner depth glyph (stroke_role e) apart) (column_leaves r (corner + 1) count depth line (stroke_role e) apart)
+      All-cons (Leaves r) own (strokes.bar_writes layout e depth (corner + 1) count) (glyph_leaves r corner depth glyph (stroke_role e) apart) (column_leaves r (corner + 1) count depth line (stroke_role e) apart)
   part_leaves r e (MultilineEnd depth) other =
       let apart : depth ≢ bar.depth = λ same. both_ways (depth == bar.depth) other (eq-eqb depth bar.depth same) in
       let corner : ℕ = 0 + 1 + e.position in
@@ -179,7 +179,7 @@ module _ (layout : Layout) (bar : Bar) (room : layout.gutter + 2 + bar.depth < l
       let own : Write = glyph_at corner (layout.gutter + 2 + depth) glyph (stroke_role e) in
       let line : ℕ = (strokes_of layout.decor (is_primary e.entry.kind)).bar in
       let last : All (Leaves r) (own ∷ []) = All-cons (Leaves r) own [] (glyph_leaves r corner depth glyph (stroke_role e) apart) (All-nil (Leaves r)) in
-      All-append (Leaves r) (strokes.bar_of layout e depth 0 corner) (own ∷ []) (column_leaves r 0 corner depth line (stroke_role e) apart) last
+      All-append (Leaves r) (strokes.bar_writes layout e depth 0 corner) (own ∷ []) (column_leaves r 0 corner depth line (stroke_role e) apart) last
   part_leaves r e (MultilineLine depth) other = All-nil (Leaves r)
 
   -- so in it stands what the last entry of its depth leaves there
@@ -216,13 +216,13 @@ module _ (layout : Layout) (bar : Bar) (room : layout.gutter + 2 + bar.depth < l
   abbrev HasKind : PlacedEntry → Type 0
   HasKind e = is_primary e.entry.kind ≡ bar.primary
 
-  solid_by : (e : PlacedEntry) → HasKind e → unlinked_cell (stroke_role e) (strokes_of layout.decor (is_primary e.entry.kind)).bar ≡ bar_part layout Solid bar
+  solid_by : (e : PlacedEntry) → HasKind e → unlinked_cell (stroke_role e) (strokes_of layout.decor (is_primary e.entry.kind)).bar ≡ bar_cell_part layout Solid bar
   solid_by e kind =
       ap (λ primary. unlinked_cell (underline_role primary) (strokes_of layout.decor primary).bar) kind
 
   start_drawn : (e : PlacedEntry) (old : List (List Cell)) → HasKind e
       → (cell_at (painted (corner_by layout 0 count e (MultilineStart bar.depth)) old) (1 + e.position) cell ≡ start_corner layout bar)
-      × ((r : ℕ) → 1 + e.position < r → r < count → cell_at (painted (corner_by layout 0 count e (MultilineStart bar.depth)) old) r cell ≡ bar_part layout Solid bar)
+      × ((r : ℕ) → 1 + e.position < r → r < count → cell_at (painted (corner_by layout 0 count e (MultilineStart bar.depth)) old) r cell ≡ bar_cell_part layout Solid bar)
   start_drawn e old kind =
       let corner : ℕ = 0 + 1 + e.position in
       let glyph : ℕ = (strokes_of layout.decor (is_primary e.entry.kind)).bar_top in
@@ -239,7 +239,7 @@ module _ (layout : Layout) (bar : Bar) (room : layout.gutter + 2 + bar.depth < l
 
   end_drawn : (e : PlacedEntry) (old : List (List Cell)) → HasKind e
       → (cell_at (painted (corner_by layout 0 count e (MultilineEnd bar.depth)) old) (1 + e.position) cell ≡ end_corner layout bar)
-      × ((r : ℕ) → r < 1 + e.position → cell_at (painted (corner_by layout 0 count e (MultilineEnd bar.depth)) old) r cell ≡ bar_part layout Solid bar)
+      × ((r : ℕ) → r < 1 + e.position → cell_at (painted (corner_by layout 0 count e (MultilineEnd bar.depth)) old) r cell ≡ bar_cell_part layout Solid bar)
   end_drawn e old kind =
       let corner : ℕ = 0 + 1 + e.position in
       let glyph : ℕ = (strokes_of layout.decor (is_primary e.entry.kind)).bar_bottom in

@@ -11,7 +11,7 @@ use Rattle.snippet_parts.specs.declared.entries.LineAnnotation.{LineAnnotation}
 use Rattle.snippet_strokes.specs.declared.bars.BarStroke.TheVariants.{Solid}
 use Rattle.snippet_grid.specs.Layout.{Layout}
 use Rattle.snippet_labels.specs.declared.positions.PlacedEntry.{PlacedEntry}
-use Rattle.snippet_strokes.specs.Bars.{Bar, bar_part, bars_apart, ends_of_bars, is_whole_line, with_bars}
+use Rattle.snippet_strokes.specs.Bars.{Bar, bar_cell_part, bars_apart, ends_of_bars, is_whole_line, with_bars}
 use Rattle.snippet_labels.specs.Entries.{shifted}
 use Rattle.snippet_strokes.specs.LineRows.{AreLineRows}
 use Rattle.snippet_labels.specs.Positions.{ArePlaced, line_positions, positions}
@@ -48,9 +48,9 @@ module _ (layout : Layout) (room : ℕ) (closes : Bool) (text : List ℕ) (dropp
 
   -- the bar that alone is open above a line on which none begins or ends stands beside each of its rows
   pub bar_beside : (bar : Bar) (es : List LineAnnotation) → AreLineRows layout room closes text dropped (bar ∷ []) es source rows → ends_of_bars es ≡ []
-      → (i : ℕ) → i < length rows → cell_at rows i (layout.gutter + 2 + bar.depth) ≡ bar_part layout Solid bar
+      → (i : ℕ) → i < length rows → cell_at rows i (layout.gutter + 2 + bar.depth) ≡ bar_cell_part layout Solid bar
   bar_beside bar es drawn none i within =
-      let part : Cell = bar_part layout Solid bar in
+      let part : Cell = bar_cell_part layout Solid bar in
       let own : List (List Cell) = drawn.own in
       let cell : ℕ = layout.gutter + 2 + bar.depth in
       let only : bars_apart (bar ∷ []) (ends_of_bars es) ≡ bar ∷ [] = ap (bars_apart (bar ∷ [])) none in

@@ -16,7 +16,7 @@ use Rattle.snippet_labels.specs.declared.positions.PlacedEntry.{PlacedEntry}
 use Rattle.snippet_strokes.specs.Painting.{first_glyph, mark_end, mark_of, marks_of, stroke_role}
 use Rattle.snippet_strokes.specs.Drawing.{foot_glyph}
 use Rattle.snippet_labels.specs.Positions.{has_label, has_stem, label_place}
-use Rattle.snippet_strokes.specs.Strokes.{bar_of, bottom_of, connector_by, connector_of, connectors_of, corner_by, corner_of, corners_of, is_stem_covered}
+use Rattle.snippet_strokes.specs.Strokes.{bar_writes, bottom_of, connector_by, connector_of, connectors_of, corner_by, corner_of, corners_of, is_stem_covered}
 use Rattle.snippet_strokes.specs.Strokes.{label_of, label_write, labels_of, line_to, stem_of, stem_write, stems_of, line_strokes, top_of, column_of}
 use Rattle.snippet_strokes.specs.Writes.{Write, glyph_at, painted, stretch_of, written_by}
 
@@ -113,9 +113,9 @@ module _ (layout : Layout) (n : ℕ) where
       flat_map-lowered n (corner_of layout (n + row) (n + count)) (corner_of layout row count) (λ e. by_part e e.entry.annotation_type) es
     where
       bar : (e : PlacedEntry) (depth start end low high : ℕ) → low ≡ n + start → high ≡ n + end
-          → bar_of layout e depth low high ≡ map (lowered n) (bar_of layout e depth start end)
+          → bar_writes layout e depth low high ≡ map (lowered n) (bar_writes layout e depth start end)
       bar e depth start end low high is_low is_high =
-          ap (λ s. bar_of layout e depth s high) is_low ∙ ap (λ t. bar_of layout e depth (n + start) t) is_high ∙ column-lowered n start end (layout.gutter + 2 + depth) (strokes_of layout.decor (is_primary e.entry.kind)).bar (stroke_role e)
+          ap (λ s. bar_writes layout e depth s high) is_low ∙ ap (λ t. bar_writes layout e depth (n + start) t) is_high ∙ column-lowered n start end (layout.gutter + 2 + depth) (strokes_of layout.decor (is_primary e.entry.kind)).bar (stroke_role e)
 
       corner : (e : PlacedEntry) → n + row + 1 + e.position ≡ n + (row + 1 + e.position)
       corner e = omega arith
@@ -123,7 +123,7 @@ module _ (layout : Layout) (n : ℕ) where
       top : (e : PlacedEntry) (depth : ℕ) → top_of layout (n + row) (n + count) e depth ≡ map (lowered n) (top_of layout row count e depth)
       top e depth =
           let glyph : ℕ = (strokes_of layout.decor (is_primary e.entry.kind)).bar_top in
-          ap (λ r. glyph_at r (layout.gutter + 2 + depth) glyph (stroke_role e) ∷ bar_of layout e depth (r + 1) (n + count)) (corner e)
+          ap (λ r. glyph_at r (layout.gutter + 2 + depth) glyph (stroke_role e) ∷ bar_writes layout e depth (r + 1) (n + count)) (corner e)
           ∙ ap (λ ws. lowered n (glyph_at (row + 1 + e.position) (layout.gutter + 2 + depth) glyph (stroke_role e)) ∷ ws)
           (bar e depth (row + 1 + e.position + 1) count (n + (row + 1 + e.position) + 1) (n + count) (omega arith) refl)
 
@@ -131,9 +131,9 @@ module _ (layout : Layout) (n : ℕ) where
       bottom e depth =
           let glyph : ℕ = (strokes_of layout.decor (is_primary e.entry.kind)).bar_bottom in
           let own : Write = glyph_at (row + 1 + e.position) (layout.gutter + 2 + depth) glyph (stroke_role e) in
-          ap (λ r. bar_of layout e depth (n + row) r ++ glyph_at r (layout.gutter + 2 + depth) glyph (stroke_role e) ∷ []) (corner e)
+          ap (λ r. bar_writes layout e depth (n + row) r ++ glyph_at r (layout.gutter + 2 + depth) glyph (stroke_role e) ∷ []) (corner e)
           ∙ ap (λ ws. ws ++ lowered n own ∷ []) (bar e depth row (row + 1 + e.position) (n + row) (n + (row + 1 + e.position)) refl refl)
-          ∙ sym (map-append (lowered n) (bar_of layout e depth row (row + 1 + e.position)) (own ∷ []))
+          ∙ sym (map-append (lowered n) (bar_writes layout e depth row (row + 1 + e.position)) (own ∷ []))
 
       by_part : (e : PlacedEntry) (part : LineAnnotationType)
           → corner_by layout (n + row) (n + count) e part ≡ map (lowered n) (corner_by layout row count e part)

@@ -12,7 +12,7 @@ use Rattle.snippet_grid.specs.Layout.{Layout}
 use Rattle.snippet_strokes.specs.declared.bars.OpenBar.{OpenBar}
 use Rattle.snippet_strokes.specs.EntryMarks.{HasBarCell, HasBarCellAt}
 use Rattle.snippet_model.specs.AnnotationKind.{is_primary}
-use Rattle.snippet_strokes.specs.Bars.{HasRoom, bar_at, bar_of, bars_apart, ends_of_bars, has_depth, open_below}
+use Rattle.snippet_strokes.specs.Bars.{HasBarRoom, bar_at, bar_of, bars_apart, ends_of_bars, has_depth, open_below}
 
 -- the bars of one entry
 one_end : (e : LineAnnotation) → ends_of_bars (e ∷ []) ≡ option_to_list (bar_of e)
@@ -30,31 +30,31 @@ ends_more es i d bars next found within before is pushed =
     pushed ∙ ap (λ bs. bs ++ option_to_list found) before ∙ sym (ap ends_of_bars (take_more es i d within) ∙ filter_map-append bar_of (take i es) (e ∷ []) ∙ ap (λ bs. ends_of_bars (take i es) ++ bs) (one_end e ∙ ap option_to_list (sym is)))
 
 -- the bar of an entry has its place where the entry has
-room_at : (layout : Layout) (t : LineAnnotationType) (primary : Bool) → HasBarCellAt layout t → All (HasRoom layout) (option_to_list (bar_at t primary))
-room_at layout Singleline primary has = All-nil (HasRoom layout)
+room_at : (layout : Layout) (t : LineAnnotationType) (primary : Bool) → HasBarCellAt layout t → All (HasBarRoom layout) (option_to_list (bar_at t primary))
+room_at layout Singleline primary has = All-nil (HasBarRoom layout)
 room_at layout (MultilineStart depth) primary has =
-    All-cons (HasRoom layout) (record { depth = depth; primary = primary }) [] has (All-nil (HasRoom layout))
+    All-cons (HasBarRoom layout) (record { depth = depth; primary = primary }) [] has (All-nil (HasBarRoom layout))
 room_at layout (MultilineEnd depth) primary has =
-    All-cons (HasRoom layout) (record { depth = depth; primary = primary }) [] has (All-nil (HasRoom layout))
-room_at layout (MultilineLine depth) primary has = All-nil (HasRoom layout)
+    All-cons (HasBarRoom layout) (record { depth = depth; primary = primary }) [] has (All-nil (HasBarRoom layout))
+room_at layout (MultilineLine depth) primary has = All-nil (HasBarRoom layout)
 
 -- where each entry's bar has its cell, the bars that end there have room
-pub room_ends : (layout : Layout) (es : List LineAnnotation) → All (HasBarCell layout) es → All (HasRoom layout) (ends_of_bars es)
-room_ends layout [] all = All-nil (HasRoom layout)
+pub room_ends : (layout : Layout) (es : List LineAnnotation) → All (HasBarCell layout) es → All (HasBarRoom layout) (ends_of_bars es)
+room_ends layout [] all = All-nil (HasBarRoom layout)
 room_ends layout (e ∷ es) all =
     let P : LineAnnotation → Type 0 = HasBarCell layout in
     let head : P e = all 0 e (omega arith) in
-    let first : All (HasRoom layout) (ends_of_bars (e ∷ [])) = All-same (HasRoom layout) (ends_of_bars (e ∷ [])) (option_to_list (bar_of e)) (one_end e) (room_at layout e.annotation_type (is_primary e.kind) head) in
-    All-same (HasRoom layout) (ends_of_bars (e ∷ es)) (ends_of_bars (e ∷ []) ++ ends_of_bars es) (filter_map-append bar_of (e ∷ []) es) (All-append (HasRoom layout) (ends_of_bars (e ∷ [])) (ends_of_bars es) first (room_ends layout es (All-tail P e es all)))
+    let first : All (HasBarRoom layout) (ends_of_bars (e ∷ [])) = All-same (HasBarRoom layout) (ends_of_bars (e ∷ [])) (option_to_list (bar_of e)) (one_end e) (room_at layout e.annotation_type (is_primary e.kind) head) in
+    All-same (HasBarRoom layout) (ends_of_bars (e ∷ es)) (ends_of_bars (e ∷ []) ++ ends_of_bars es) (filter_map-append bar_of (e ∷ []) es) (All-append (HasBarRoom layout) (ends_of_bars (e ∷ [])) (ends_of_bars es) first (room_ends layout es (All-tail P e es all)))
 
 -- bars that have room have it also without some of them
-pub room_apart : (layout : Layout) (bars others : List OpenBar) → All (HasRoom layout) bars → All (HasRoom layout) (bars_apart bars others)
+pub room_apart : (layout : Layout) (bars others : List OpenBar) → All (HasBarRoom layout) bars → All (HasBarRoom layout) (bars_apart bars others)
 room_apart layout bars others all =
-    All-filter (λ (b : OpenBar). not (has_depth others b.depth)) (HasRoom layout) bars all
+    All-filter (λ (b : OpenBar). not (has_depth others b.depth)) (HasBarRoom layout) bars all
 
 -- the bars that are open below a line have room, where those above it and its entries' bars do
-pub room_below : (layout : Layout) (bars : List OpenBar) (es : List LineAnnotation) → All (HasRoom layout) bars → All (HasBarCell layout) es
-    → All (HasRoom layout) (open_below bars es)
+pub room_below : (layout : Layout) (bars : List OpenBar) (es : List LineAnnotation) → All (HasBarRoom layout) bars → All (HasBarCell layout) es
+    → All (HasBarRoom layout) (open_below bars es)
 room_below layout bars es all bar_cells =
     let ends = ends_of_bars es in
-    All-append (HasRoom layout) (bars_apart bars ends) (bars_apart ends bars) (room_apart layout bars ends all) (room_apart layout ends bars (room_ends layout es bar_cells))
+    All-append (HasBarRoom layout) (bars_apart bars ends) (bars_apart ends bars) (room_apart layout bars ends all) (room_apart layout ends bars (room_ends layout es bar_cells))

@@ -20,7 +20,7 @@ use Rattle.snippet_strokes.specs.Drawing.{foot_glyph}
 use Rattle.snippet_labels.specs.Positions.{has_label}
 use Rattle.snippet_strokes.specs.Reach.{Reaches, cell_of_write}
 use Rattle.snippet_strokes.specs.Writes.{Write, glyph_at, painted, stretch_of}
-use Rattle.snippet_strokes.specs.Strokes.{bar_of, connector_of, connectors_of, corner_by, corner_of, corners_of, label_of, label_write, labels_of, stems_of}
+use Rattle.snippet_strokes.specs.Strokes.{bar_writes, connector_of, connectors_of, corner_by, corner_of, corners_of, label_of, label_write, labels_of, stems_of}
 use Rattle.snippet_strokes.specs.Strokes.{line_strokes, stem_of}
 use Rattle.snippet_strokes.proofs.BarWrites.{All-column_of, All-connector_of, All-stretch_of}
 use Rattle.snippet_strokes.proofs.LabelWrites.{All-label_of}
@@ -83,7 +83,7 @@ module _ (layout : Layout) (r c : ℕ) (right : layout.code ≤ c) where
           → Q (glyph_at row (layout.gutter + 2 + depth) glyph (stroke_role e))
       left e depth row glyph room there = absurd (omega (arith, there.to, room, right))
 
-      bar : (e : PlacedEntry) (depth start end : ℕ) → layout.gutter + 3 + depth < layout.code → All Q (bar_of layout e depth start end)
+      bar : (e : PlacedEntry) (depth start end : ℕ) → layout.gutter + 3 + depth < layout.code → All Q (bar_writes layout e depth start end)
       bar e depth start end room =
           let glyph : ℕ = (strokes_of layout.decor (is_primary e.entry.kind)).bar in
           All-column_of Q start end (layout.gutter + 2 + depth) glyph (stroke_role e) (λ n from to. left e depth n glyph room)
@@ -93,12 +93,12 @@ module _ (layout : Layout) (r c : ℕ) (right : layout.code ≤ c) where
       by_part e (MultilineStart depth) bar_cell =
           let glyph : ℕ = (strokes_of layout.decor (is_primary e.entry.kind)).bar_top in
           let corner : ℕ = row + 1 + e.position in
-          All-cons Q (glyph_at corner (layout.gutter + 2 + depth) glyph (stroke_role e)) (bar_of layout e depth (corner + 1) count) (left e depth corner glyph bar_cell.1) (bar e depth (corner + 1) count bar_cell.1)
+          All-cons Q (glyph_at corner (layout.gutter + 2 + depth) glyph (stroke_role e)) (bar_writes layout e depth (corner + 1) count) (left e depth corner glyph bar_cell.1) (bar e depth (corner + 1) count bar_cell.1)
       by_part e (MultilineEnd depth) bar_cell =
           let glyph : ℕ = (strokes_of layout.decor (is_primary e.entry.kind)).bar_bottom in
           let corner : ℕ = row + 1 + e.position in
           let own : Write = glyph_at corner (layout.gutter + 2 + depth) glyph (stroke_role e) in
-          All-append Q (bar_of layout e depth row corner) (own ∷ []) (bar e depth row corner bar_cell.1) (All-cons Q own [] (left e depth corner glyph bar_cell.1) (All-nil Q))
+          All-append Q (bar_writes layout e depth row corner) (own ∷ []) (bar e depth row corner bar_cell.1) (All-cons Q own [] (left e depth corner glyph bar_cell.1) (All-nil Q))
       by_part e (MultilineLine depth) bar_cell = All-nil Q
 
   stems : (row : ℕ) (es : List PlacedEntry) → All Q (stems_of layout row es)

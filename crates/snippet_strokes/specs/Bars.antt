@@ -61,8 +61,8 @@ abbrev pub open_below : List OpenBar → List LineAnnotation → List OpenBar
 open_below open_bars es = open_past open_bars (ends_of_bars es)
 
 -- there is a cell for a bar, and one after it, between the separator and the code
-abbrev pub HasRoom : Layout → OpenBar → Type 0
-HasRoom layout bar = (0 < bar.depth) × (inner_cell layout + bar.depth < layout.code)
+abbrev pub HasBarRoom : Layout → OpenBar → Type 0
+HasBarRoom layout bar = (0 < bar.depth) × (inner_cell layout + bar.depth < layout.code)
 
 -- a bar stands so many cells right of the first of some, and is drawn in its role
 pub record StandsBeside (first : OpenBar) (cells : ℕ) (bar : OpenBar) : Type 0 where
@@ -76,14 +76,14 @@ bar_glyph Solid decor primary = (strokes_of decor primary).bar
 bar_glyph Dotted decor primary = (strokes_of decor primary).elided_bar
 
 -- the cell of a part of a bar: its glyph, in the role of its strokes
-abbrev pub bar_part : Layout → BarStroke → OpenBar → Cell
-bar_part layout stroke bar =
+abbrev pub bar_cell_part : Layout → BarStroke → OpenBar → Cell
+bar_cell_part layout stroke bar =
     unlinked_cell (underline_role bar.primary) (bar_glyph stroke layout.decor bar.primary)
 
 -- a row with a part of a bar in the cell of its depth, and with parts of some bars: of two of one depth the later one stands
 abbrev pub with_bar : Layout → BarStroke → List Cell → OpenBar → List Cell
 with_bar layout stroke row bar =
-    written SPACE row (bar_cell layout bar.depth) (bar_part layout stroke bar ∷ [])
+    written SPACE row (bar_cell layout bar.depth) (bar_cell_part layout stroke bar ∷ [])
 
 abbrev pub with_bars : Layout → BarStroke → List OpenBar → List Cell → List Cell
 with_bars layout stroke bars row = fold (with_bar layout stroke) row bars

@@ -89,8 +89,8 @@ abbrev pub column_of : ℕ → ℕ → ℕ → ℕ → ElementStyle → List Wri
 column_of start end cell glyph role = map (λ row. glyph_at row cell glyph role) (range_with_len start (end - start))
 
 -- a bar in the rows from one to before another
-abbrev pub bar_of : Layout → PlacedEntry → ℕ → ℕ → ℕ → List Write
-bar_of layout e depth start end =
+abbrev pub bar_writes : Layout → PlacedEntry → ℕ → ℕ → ℕ → List Write
+bar_writes layout e depth start end =
     column_of start end (bar_cell layout depth) (strokes_of layout.decor (is_primary e.entry.kind)).bar (stroke_role e)
 
 -- the top of a start's bar: the corner in the row of its position, and the bar in all rows below it, of which there are `count`
@@ -98,13 +98,13 @@ bar_of layout e depth start end =
 abbrev pub top_of : Layout → ℕ → ℕ → PlacedEntry → ℕ → List Write
 top_of layout row count e depth =
     let corner = row + 1 + e.position in
-    glyph_at corner (bar_cell layout depth) (strokes_of layout.decor (is_primary e.entry.kind)).bar_top (stroke_role e) ∷ bar_of layout e depth (corner + 1) count
+    glyph_at corner (bar_cell layout depth) (strokes_of layout.decor (is_primary e.entry.kind)).bar_top (stroke_role e) ∷ bar_writes layout e depth (corner + 1) count
 
 -- the bottom of an end's bar: the bar in all rows from the source row down to that of its position, and the corner there
 abbrev pub bottom_of : Layout → ℕ → PlacedEntry → ℕ → List Write
 bottom_of layout row e depth =
     let corner = row + 1 + e.position in
-    bar_of layout e depth row corner ++ glyph_at corner (bar_cell layout depth) (strokes_of layout.decor (is_primary e.entry.kind)).bar_bottom (stroke_role e) ∷ []
+    bar_writes layout e depth row corner ++ glyph_at corner (bar_cell layout depth) (strokes_of layout.decor (is_primary e.entry.kind)).bar_bottom (stroke_role e) ∷ []
 
 -- the bar of an entry that stands for this part of a span: a start or an end has one
 abbrev pub corner_by : Layout → ℕ → ℕ → PlacedEntry → LineAnnotationType → List Write

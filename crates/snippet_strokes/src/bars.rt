@@ -3,7 +3,7 @@ ghost use Rattle.std.specs.Prelude.{◌≡◌, ◌+◌, ◌-◌, ◌^◌, ◌<�
 ghost use Rattle.std.specs.Prelude.{slice_index_or};
 ghost use Rattle.snippet_strokes.specs.declared.bars.OpenBar.{OpenBar};
 ghost use Rattle.snippet_strokes.specs.Bars as spec;
-ghost use Rattle.snippet_strokes.specs.Bars.{HasRoom, StandsBeside, bar_part, barred, changed_from, ends_of_bars};
+ghost use Rattle.snippet_strokes.specs.Bars.{HasBarRoom, StandsBeside, bar_cell_part, barred, changed_from, ends_of_bars};
 ghost use Rattle.snippet_style.specs.Cell.{SPACE, written};
 ghost use Rattle.snippet_grid.specs.Layout.{bar_cell};
 
@@ -125,7 +125,7 @@ pub(crate) fn draw_bars(
     bars: &[OpenBar],
     stroke: BarStroke,
 ) -> Result<(), AllocError>
-    requires room { All (HasRoom layout) bars.now }
+    requires room { All (HasBarRoom layout) bars.now }
     ensures value { OnOk result (buffer.new ≡ barred layout stroke bars.now row buffer.old) }
 {
     let mut from = 0;
@@ -175,7 +175,7 @@ fn draw_side(
     requires room { bar_cell layout first.depth + count < layout.code }
     requires some { 0 < count }
     ensures value { OnOk result (buffer.new ≡ changed_from
-        (λ cells. written SPACE cells (bar_cell layout first.depth) (replicate count (bar_part layout stroke first)))
+        (λ cells. written SPACE cells (bar_cell layout first.depth) (replicate count (bar_cell_part layout stroke first)))
         row buffer.old) }
 {
     let glyph = stroke.glyph(layout.decor, first.primary);

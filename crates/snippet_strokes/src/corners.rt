@@ -2,7 +2,7 @@
 ghost use Rattle.std.specs.Prelude.{◌≡◌, ◌+◌, ◌<◌, ◌≤◌, All, OnOk, length};
 ghost use Rattle.snippet_strokes.specs.EntryMarks.{HasBarCell};
 ghost use Rattle.snippet_strokes.specs.Drawing.{HasRows};
-ghost use Rattle.snippet_strokes.specs.Strokes.{bar_of, bottom_of, corner_of, corners_of, top_of};
+ghost use Rattle.snippet_strokes.specs.Strokes.{bar_writes, bottom_of, corner_of, corners_of, top_of};
 ghost use Rattle.snippet_strokes.specs.Writes.{painted};
 ghost use Rattle.snippet_grid.specs.Layout.{inner_cell};
 ghost use Rattle.snippet_style.specs.Bounds.{AreRows};
@@ -120,7 +120,7 @@ fn draw_bar(
     requires small { AreRows (length buffer.old) }
     requires rows { end ≤ length buffer.old }
     requires ordered { start ≤ end }
-    ensures painted { OnOk result (buffer.new ≡ painted (bar_of layout placed.now depth start end) buffer.old) }
+    ensures painted { OnOk result (buffer.new ≡ painted (bar_writes layout placed.now depth start end) buffer.old) }
 {
     let strokes = layout.decor.underline(is_primary(placed.entry.kind));
     let cell = layout.bar_cell(depth);

@@ -1,6 +1,6 @@
 //! The rows that stand for lines that aren't shown.
 ghost use Rattle.std.specs.Prelude.{◌≡◌, ◌+◌, ◌^◌, ◌<◌, ◌≤◌, ◌++◌, ◌∷◌, [], All, OnOk};
-ghost use Rattle.snippet_strokes.specs.Bars.{HasRoom};
+ghost use Rattle.snippet_strokes.specs.Bars.{HasBarRoom};
 ghost use Rattle.snippet_strokes.specs.Rows.{bare_elision_row};
 ghost use Rattle.snippet_strokes.specs.Snippet.{AddsElision, AddsGap};
 ghost use Rattle.snippet_parts.specs.ShownLines.{infos_of};
@@ -25,7 +25,7 @@ pub(crate) fn draw_gap(
     rest: &[ShownLine],
     open_bars: &[OpenBar],
 ) -> Result<(), AllocError>
-    requires room { All (HasRoom layout) open_bars.now }
+    requires room { All (HasBarRoom layout) open_bars.now }
     ensures added { OnOk result (AddsGap layout open_bars.now number (infos_of rest.now) buffer.old buffer.new) }
 {
     if rest.is_empty() || rest[0].info.line_index.saturating_sub(1) <= number {
@@ -46,7 +46,7 @@ fn draw_elision(
     layout: Layout,
     open_bars: &[OpenBar],
 ) -> Result<(), AllocError>
-    requires room { All (HasRoom layout) open_bars.now }
+    requires room { All (HasBarRoom layout) open_bars.now }
     ensures added { OnOk result (AddsElision layout open_bars.now buffer.old buffer.new) }
 {
     let row = buffer.num_lines();

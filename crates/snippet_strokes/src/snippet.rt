@@ -6,7 +6,7 @@ ghost use Rattle.snippet_parts.specs.Entries.{is_bar};
 ghost use Rattle.snippet_parts.specs.ShownLines.{infos_of};
 ghost use Rattle.snippet_labels.specs.Entries.{HasPlace, shifted};
 ghost use Rattle.snippet_strokes.specs.EntryMarks.{HasBarCell};
-ghost use Rattle.snippet_strokes.specs.Bars.{HasRoom, ends_of_bars, open_below};
+ghost use Rattle.snippet_strokes.specs.Bars.{HasBarRoom, ends_of_bars, open_below};
 ghost use Rattle.snippet_lines.specs.Number.{shown_number};
 ghost use Rattle.snippet_strokes.specs.LineRows.{AddsOwnRows};
 ghost use Rattle.snippet_strokes.specs.Rows.{AddsStrokes, HasNoBars};
@@ -112,7 +112,7 @@ fn draw_line(
     requires clear { All (StandsClear margin) line.now.info.annotations.items }
     requires bar_cells { All (HasBarCell layout) line.now.info.annotations.items }
     requires labels { All (λ e. IfSome e.label (λ t. TextFits t.now)) line.now.info.annotations.items }
-    requires room { All (HasRoom layout) open_bars.now }
+    requires room { All (HasBarRoom layout) open_bars.now }
     ensures added { OnOk result (AddsLine layout margin numbers closes open_bars.now line.now.info buffer.old buffer.new) }
     ensures bars { IfOk result (λ bars. bars.items ≡ open_below open_bars.now line.now.info.annotations.items) }
 {

@@ -22,7 +22,7 @@ use Rattle.snippet_model.specs.Rows.{IsFreeCell}
 use Rattle.snippet_style.specs.declared.glyphs.SuggestionGlyph.{SuggestionGlyph}
 use Rattle.snippet_style.specs.Glyphs.{suggestion_glyph_of}
 use Rattle.snippet_suggest.specs.Glyphs.{is_sign}
-use Rattle.snippet_suggest.specs.Rows.{AddsRow, HasLeft, IsBareRow, IsMarkOrSpace, IsStrokeRow, beside_gutter, gap_left, is_stroke}
+use Rattle.snippet_suggest.specs.Rows.{AddsRow, HasLeft, IsBareRow, IsMarkOrSpace, IsEdgeRow, beside_gutter, gap_left, is_stroke}
 use Rattle.snippet_suggest.proofs.GlyphLemmas.{glyph_short, glyph_strokes, glyph_unlisted}
 use Rattle.snippet_suggest.proofs.RowLemmas.{All-from_none, begun_by, ch_at, each_cell, each_written, free_drawn, free_led, free_written, row_text-text_cells}
 
@@ -68,7 +68,7 @@ led_text (suc n) role cs = ap (λ t. 32 ∷ t) (led_text n role cs)
 
 -- spaces and then the characters of strokes, no wider than a bare row, are a row of strokes
 pub stroke_led : (decor : DecorStyle) (gutter at : ℕ) (role : ElementStyle) (cs : List ℕ) → at + length cs ≤ gutter + 3 → list_all (is_stroke decor) cs ≡ true
-    → list_any is_listed cs ≡ false → IsStrokeRow decor gutter (replicate at 32 ++ cs) (replicate at SPACE ++ text_cells role cs)
+    → list_any is_listed cs ≡ false → IsEdgeRow decor gutter (replicate at 32 ++ cs) (replicate at SPACE ++ text_cells role cs)
 stroke_led decor gutter at role cs short strokes free =
     record {
       bare = bare_led decor gutter at role cs short strokes free;
@@ -105,8 +105,8 @@ put_left gutter role old cs row covers there c inside =
 
 -- a glyph that is written beside the gutter leaves a row of strokes
 pub stroke_put : (decor : DecorStyle) (gutter : ℕ) (role : ElementStyle) (glyph : SuggestionGlyph) (old : List ℕ) (row : List Cell)
-    → is_sign glyph ≡ false → length old ≤ length (suggestion_glyph_of decor glyph) → IsStrokeRow decor gutter (beside_gutter gutter old) row
-    → IsStrokeRow decor gutter (beside_gutter gutter (suggestion_glyph_of decor glyph))
+    → is_sign glyph ≡ false → length old ≤ length (suggestion_glyph_of decor glyph) → IsEdgeRow decor gutter (beside_gutter gutter old) row
+    → IsEdgeRow decor gutter (beside_gutter gutter (suggestion_glyph_of decor glyph))
     (written SPACE row (gutter + 1) (text_cells role (suggestion_glyph_of decor glyph)))
 stroke_put decor gutter role glyph old row other covers stroke =
     record {
@@ -121,12 +121,12 @@ spaces_left (suc n) zero = refl
 spaces_left (suc n) (suc c) = spaces_left n c
 
 -- an empty row is a row of strokes
-pub stroke_none : (decor : DecorStyle) (gutter : ℕ) → IsStrokeRow decor gutter [] []
+pub stroke_none : (decor : DecorStyle) (gutter : ℕ) → IsEdgeRow decor gutter [] []
 stroke_none decor gutter = record { bare = bare_none decor gutter; left_is = λ c inside. refl }
 
 -- a glyph that is put after the gutter of such a row
 pub stroke_signed : (decor : DecorStyle) (gutter : ℕ) (role : ElementStyle) (glyph : SuggestionGlyph) → is_sign glyph ≡ false
-    → IsStrokeRow decor gutter (beside_gutter gutter (suggestion_glyph_of decor glyph)) (written SPACE [] (gutter + 1) (text_cells role (suggestion_glyph_of decor glyph)))
+    → IsEdgeRow decor gutter (beside_gutter gutter (suggestion_glyph_of decor glyph)) (written SPACE [] (gutter + 1) (text_cells role (suggestion_glyph_of decor glyph)))
 stroke_signed decor gutter role glyph other =
     stroke_put decor gutter role glyph [] [] other (omega arith) (record { bare = bare_none decor gutter; left_is = λ c inside. sym (spaces_left (gutter + 1) c) })
 
@@ -134,7 +134,7 @@ stroke_signed decor gutter role glyph other =
 pub gap_added : (gutter : ℕ) (decor : DecorStyle) (old new : List (List Cell)) (row at : ℕ) (text : List ℕ) → row ≡ length old
     → at ≡ gutter - width_of (placeholder_of decor) → chars text ≡ placeholder_of decor
     → (0 < length text → new ≡ cells_written old row at (text_cells LineNumber (chars text)))
-    → AddsRow (IsStrokeRow decor gutter (gap_left decor gutter)) old new
+    → AddsRow (IsEdgeRow decor gutter (gap_left decor gutter)) old new
 gap_added gutter decor old new row at text below right is writes =
     let cs = chars text in
     let left : at ≤ gutter = omega (arith, right) in
@@ -143,7 +143,7 @@ gap_added gutter decor old new row at text below right is writes =
     record {
       row = replicate at SPACE ++ text_cells LineNumber cs;
       added = begun_by old new row at (text_cells LineNumber cs) below (writes some);
-      is = subst (λ (t : List ℕ). IsStrokeRow decor gutter t (replicate at SPACE ++ text_cells LineNumber cs))
+      is = subst (λ (t : List ℕ). IsEdgeRow decor gutter t (replicate at SPACE ++ text_cells LineNumber cs))
           gap_is (stroke_led decor gutter at LineNumber cs (omega (arith, left, ap length is, placeholder_short decor))
           (ap (list_all (is_stroke decor)) is ∙ placeholder_strokes decor) (ap (list_any is_listed) is ∙ placeholder_free decor));
     }

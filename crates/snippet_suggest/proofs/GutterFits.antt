@@ -25,7 +25,7 @@ use Rattle.snippet_suggest.specs.declared.kind.DisplaySuggestion.TheVariants.{Un
 use Rattle.snippet_suggest.specs.declared.layout.SuggestionLayout.{SuggestionLayout}
 use Rattle.snippet_suggest.specs.declared.shown.SuggestionLine.TheVariants.{Line}
 use Rattle.snippet_suggest.specs.Given.{counted_folded, counted_line, edits_of, first_end, first_given, given_lines, given_text, shown_kind, trimmed_of}
-use Rattle.snippet_suggest.specs.Kind.{adds_lines, is_replacement, kind_of, takes_away}
+use Rattle.snippet_suggest.specs.Kind.{adds_lines, is_only_replacement, kind_of, takes_away}
 use Rattle.snippet_suggest.specs.Prepared.{IsSuggestible}
 use Rattle.snippet_suggest.specs.Order.{number_after}
 use Rattle.snippet_suggest.specs.Rows.{HasGutter, NumberFits}
@@ -45,7 +45,7 @@ few_by false takes false adds kind is one = let same : counted_folded Plain 0 0 
 -- in a diff, and as one line with marks, at most one line is given
 pub one_given : (source : List ℕ) (ts : List Edit) (text : List ℕ) → counted_folded (kind_of source ts text) 0 0 1 ≡ 0 → length (lines_of text) ≤ 1
 one_given source ts text one =
-    let few : nat_le (length (lines_of text)) 1 ≡ true = few_by (nat_le (length (lines_of text)) 1) (list_any (takes_away source) ts) (is_replacement ts text) (adds_lines ts) (kind_of source ts text) refl one in
+    let few : nat_le (length (lines_of text)) 1 ≡ true = few_by (nat_le (length (lines_of text)) 1) (list_any (takes_away source) ts) (is_only_replacement ts text) (adds_lines ts) (kind_of source ts text) refl one in
     grind (arith, nat_tests)
 
 -- a text that has lines has one more than newlines are counted in it

@@ -8,7 +8,7 @@ use Rattle.std.proofs.lemmas.List.FromFn.{length-range_with_len}
 use Rattle.snippet_lines.specs.Lines.{Source, source_lines, text_at}
 use Rattle.snippet_lines.specs.Place.{line_of}
 use Rattle.snippet_parts.specs.declared.source_map.LineInfo.{LineInfo}
-use Rattle.snippet_parts.specs.LineTable.{entry_of, touched_entries}
+use Rattle.snippet_parts.specs.LineTable.{table_entry, touched_entries}
 use Rattle.snippet_splice.specs.Copied.{end_from}
 use Rattle.snippet_splice.specs.Edits.{Edit, trimmed_edit_of}
 use Rattle.snippet_splice.specs.Shown.{first_start}
@@ -35,7 +35,7 @@ pub record IsDiff (p : PreparedSuggestion) (line : List ℕ) (infos : List LineI
   pub starts : start ≡ first_start (map trimmed_edit_of p.splice.patches.items)
   pub ends : end ≡ end_from 0 (map trimmed_edit_of p.splice.patches.items)
   pub ordered : start ≤ end
-  pub are : map entry_of infos ≡ touched_entries p.map start end
+  pub are : map table_entry infos ≡ touched_entries p.map start end
   pub numbered : first ≡ p.snippet.now.line_start + first_given p.snippet.now
   pub small : first < 2 ^ 64
 

@@ -6,10 +6,10 @@ use Rattle.snippet_lines.specs.Lines.{source_lines, text_at}
 use Rattle.snippet_lines.specs.Place.{line_of}
 use Rattle.snippet_lines.specs.Span.{IsSpan}
 use Rattle.snippet_parts.specs.declared.source_map.LineInfo.{LineInfo}
-use Rattle.snippet_parts.specs.LineTable.{entry_of, touched_entries}
+use Rattle.snippet_parts.specs.LineTable.{table_entry, touched_entries}
 use Rattle.snippet_splice.specs.Copied.{end_from}
 use Rattle.snippet_splice.specs.declared.patches.TrimmedPatch.{TrimmedPatch}
-use Rattle.snippet_splice.specs.Edits.{AreApart, Edit, bounds_of, edit_of, in_order, original_bounds_of, trimmed_edit_of, trimmed_edits}
+use Rattle.snippet_splice.specs.Edits.{AreApart, Edit, edit_bounds, edit_of, in_order, original_bounds_of, trimmed_edit_of, trimmed_edits}
 use Rattle.snippet_splice.specs.Shown.{first_start}
 use Rattle.snippet_splice.proofs.EditLemmas.{trimmed-apart}
 use Rattle.snippet_splice.proofs.OverlapLemmas.{apart-in_order, ordered-spans}
@@ -54,7 +54,7 @@ known_apart p is =
 
 -- the last of the lines that are removed is the last that its patches reach
 pub known_reached : (p : PreparedSuggestion) → IsPrepared p → (infos : List LineInfo) (start end : ℕ) → start ≤ end
-    → end ≡ end_from 0 (map trimmed_edit_of p.splice.patches.items) → map entry_of infos ≡ touched_entries p.map start end
+    → end ≡ end_from 0 (map trimmed_edit_of p.splice.patches.items) → map table_entry infos ≡ touched_entries p.map start end
     → last_removed infos ≡ last_reached p.snippet.now
 known_reached p is infos start end ordered ends are =
     let source : List ℕ = cow_str_bytes p.snippet.now.source in
@@ -64,12 +64,12 @@ known_reached p is infos start end ordered ends are =
     ∙ ap (λ n. text_at (source_lines source) (line_of (source_lines source) n)) (ends ∙ ap (end_from 0) is.edits)
     ∙ ap (text_at (source_lines source)) (sym (reached source es (known_apart p is)))
 
-first_end_of : (ts : List TrimmedPatch) (es : List Edit) → map original_bounds_of ts ≡ map bounds_of es → first_original_end ts ≡ first_end es
+first_end_of : (ts : List TrimmedPatch) (es : List Edit) → map original_bounds_of ts ≡ map edit_bounds es → first_original_end ts ≡ first_end es
 first_end_of [] [] same = refl
 first_end_of [] (e ∷ es) same = absurd (cc)
 first_end_of (t ∷ ts) [] same = absurd (cc)
 first_end_of (t ∷ ts) (e ∷ es) same =
-    let pair : ◌≡◌ {A = ℕ × ℕ} (original_bounds_of t) (bounds_of e) = cc in
+    let pair : ◌≡◌ {A = ℕ × ℕ} (original_bounds_of t) (edit_bounds e) = cc in
     ap (λ b. b.1) pair
 
 -- the first patch of a prepared suggestion starts where its first edit does

@@ -8,7 +8,7 @@ use Rattle.std.proofs.lemmas.List.FromFn.{length-range_with_len}
 use Rattle.snippet_lines.specs.Lines.{source_lines, text_at}
 use Rattle.snippet_lines.specs.Place.{line_of}
 use Rattle.snippet_parts.specs.declared.source_map.LineInfo.{LineInfo}
-use Rattle.snippet_parts.specs.LineTable.{entry_of, touched_entries}
+use Rattle.snippet_parts.specs.LineTable.{table_entry, touched_entries}
 use Rattle.snippet_splice.specs.Copied.{end_from}
 use Rattle.snippet_splice.specs.Edits.{in_order, trimmed_edit_of}
 use Rattle.snippet_splice.specs.Shown.{first_start}
@@ -24,7 +24,7 @@ use Rattle.snippet_suggest.proofs.KnownLemmas.{known_first_end, known_first_star
 use Rattle.snippet_suggest.proofs.ReachLemmas.{touched_numbered, touched_texts}
 
 -- the texts of the lines that a span touches are those of the source
-touched_source : (p : PreparedSuggestion) → IsPrepared p → (infos : List LineInfo) (start end : ℕ) → map entry_of infos ≡ touched_entries p.map start end
+touched_source : (p : PreparedSuggestion) → IsPrepared p → (infos : List LineInfo) (start end : ℕ) → map table_entry infos ≡ touched_entries p.map start end
     → texts_at infos ≡ texts_of_source p.snippet.now (lines_touched (cow_str_bytes p.snippet.now.source) start end)
 touched_source p is infos start end are =
     let text : p.map.text ≡ cow_str_bytes p.snippet.now.source = ap (λ m. m.text) is.lines in
@@ -66,7 +66,7 @@ range_counted f first a b j (suc n) at =
 pub known_emptied_rows : (p : PreparedSuggestion) → IsPrepared p → (infos : List LineInfo) (start end : ℕ) → given_lines p.snippet.now ≡ []
     → start ≡ (if p.snippet.now.fold then first_original p.splice.patches.items else 0)
     → end ≡ (if p.snippet.now.fold then first_original_end p.splice.patches.items else length p.map.text)
-    → map entry_of infos ≡ touched_entries p.map start end
+    → map table_entry infos ≡ touched_entries p.map start end
     → removed_from (line_of (source_lines p.map.text) start) (numbered_at infos) ≡ map (removed_row p.snippet.now) (removed_lines p.snippet.now)
 known_emptied_rows p is infos start end none starts ends are =
     let s = p.snippet.now in
@@ -124,7 +124,7 @@ replaced_touched p is line one touches =
 pub known_replaced : (p : PreparedSuggestion) → IsPrepared p → (line : List ℕ) (infos : List LineInfo) (start end : ℕ)
     → given_lines p.snippet.now ≡ line ∷ [] → true ≡ is_touched p.snippet.now.fold p.splice.ranges.items 0
     → start ≡ first_start (map trimmed_edit_of p.splice.patches.items) → end ≡ end_from 0 (map trimmed_edit_of p.splice.patches.items)
-    → map entry_of infos ≡ touched_entries p.map start end → last_removed infos ≡ last_reached p.snippet.now
+    → map table_entry infos ≡ touched_entries p.map start end → last_removed infos ≡ last_reached p.snippet.now
     → unless_stays (bytes_eq line (last_removed infos)) (texts_at infos) ≡ texts_of_source p.snippet.now (replaced_lines p.snippet.now)
 known_replaced p is line infos start end one touches starts ends are reached =
     let s = p.snippet.now in
@@ -141,7 +141,7 @@ known_replaced p is line infos start end one touches starts ends are reached =
 pub known_replaced_rows : (p : PreparedSuggestion) → IsPrepared p → (line : List ℕ) (infos : List LineInfo) (start end first : ℕ) → p.kind ≡ Diff
     → given_lines p.snippet.now ≡ line ∷ [] → true ≡ is_touched p.snippet.now.fold p.splice.ranges.items 0
     → start ≡ first_start (map trimmed_edit_of p.splice.patches.items) → end ≡ end_from 0 (map trimmed_edit_of p.splice.patches.items)
-    → map entry_of infos ≡ touched_entries p.map start end → last_removed infos ≡ last_reached p.snippet.now
+    → map table_entry infos ≡ touched_entries p.map start end → last_removed infos ≡ last_reached p.snippet.now
     → first ≡ p.snippet.now.line_start + first_given p.snippet.now
     → removed_from (line_of (source_lines (cow_str_bytes p.snippet.now.source)) (first_start (trimmed_of p.snippet.now)))
     (counted_from first 0 (unless_stays (bytes_eq line (last_removed infos)) (texts_at infos))) ≡ map (removed_row p.snippet.now)

@@ -8,12 +8,12 @@ use Rattle.snippet_suggest.specs.declared.layout.SuggestionLayout.{SuggestionLay
 use Rattle.snippet_suggest.specs.declared.layout.SuggestionStart.{SuggestionStart}
 use Rattle.snippet_suggest.specs.Given.{first_given, given_lines}
 use Rattle.snippet_suggest.specs.Order.{Empty, Ends, SuggestionRow, rows_of_suggestion}
-use Rattle.snippet_suggest.specs.Rows.{AddsEnd, AddsRow, AddsRows, AddsSuggestion, IsStrokeRow, Shows, beside_gutter}
+use Rattle.snippet_suggest.specs.Rows.{AddsEnd, AddsRow, AddsRows, AddsSuggestion, IsEdgeRow, Shows, beside_gutter}
 use Rattle.snippet_suggest.proofs.BareLemmas.{stroke_none}
 
 -- what is added below so many empty rows
 pub end_row : (layout : SuggestionLayout) (glyph : List ℕ) (skipped : ℕ) (old new : List (List Cell)) → AddsEnd layout glyph skipped old new
-    → AddsRow (IsStrokeRow layout.base.decor layout.base.gutter (beside_gutter layout.base.gutter glyph)) (old ++ replicate skipped []) new
+    → AddsRow (IsEdgeRow layout.base.decor layout.base.gutter (beside_gutter layout.base.gutter glyph)) (old ++ replicate skipped []) new
 end_row layout glyph skipped old new adds =
     record {
       row = adds.last;

@@ -13,7 +13,7 @@ use Rattle.snippet_style.proofs.CellLemmas.{slice_index_or-written_before, slice
 use Rattle.snippet_text.specs.Normalized.{is_listed}
 use Rattle.snippet_model.specs.Rows.{IsFreeCell, IsFree}
 use Rattle.snippet_style.specs.Glyphs.{changed_mark_of}
-use Rattle.snippet_suggest.specs.Rows.{AddsRow, IsBareRow, IsMarkOrSpace, IsStrokeRow, is_stroke}
+use Rattle.snippet_suggest.specs.Rows.{AddsRow, IsBareRow, IsMarkOrSpace, IsEdgeRow, is_stroke}
 use Rattle.snippet_suggest.proofs.RowLemmas.{free_written}
 
 -- no mark is listed
@@ -63,7 +63,7 @@ bare_marked decor gutter at role ch row right is bare =
 
 -- what stands left of the lines stays
 stroke_marked : (decor : DecorStyle) (gutter at : ℕ) (role : ElementStyle) (ch : ℕ) (left : List ℕ) (row : List Cell) → gutter + 3 ≤ at → IsMarkOrSpace decor ch
-    → IsStrokeRow decor gutter left row → IsStrokeRow decor gutter left (written SPACE row at (text_cells role (ch ∷ [])))
+    → IsEdgeRow decor gutter left row → IsEdgeRow decor gutter left (written SPACE row at (text_cells role (ch ∷ [])))
 stroke_marked decor gutter at role ch left row right is stroke =
     record {
       bare = bare_marked decor gutter at role ch row right is stroke.bare;
@@ -72,8 +72,8 @@ stroke_marked decor gutter at role ch left row right is stroke =
 
 -- one mark more
 pub marks_more : (decor : DecorStyle) (gutter at : ℕ) (role : ElementStyle) (ch : ℕ) (left : List ℕ) (above mid new : List (List Cell)) (row : ℕ)
-    → row ≡ length above → gutter + 3 ≤ at → IsMarkOrSpace decor ch → AddsRow (IsStrokeRow decor gutter left) above mid
-    → new ≡ cells_written mid row at (text_cells role (ch ∷ [])) → AddsRow (IsStrokeRow decor gutter left) above new
+    → row ≡ length above → gutter + 3 ≤ at → IsMarkOrSpace decor ch → AddsRow (IsEdgeRow decor gutter left) above mid
+    → new ≡ cells_written mid row at (text_cells role (ch ∷ [])) → AddsRow (IsEdgeRow decor gutter left) above new
 marks_more decor gutter at role ch left above mid new row here right is adds writes =
     let cells = text_cells role (ch ∷ []) in
     record {

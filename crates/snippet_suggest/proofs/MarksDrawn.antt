@@ -20,7 +20,7 @@ use Rattle.snippet_suggest.specs.declared.marks.PatchColumns.{PatchColumns}
 use Rattle.snippet_suggest.specs.declared.marks.Shift.{Shift}
 use Rattle.snippet_suggest.specs.Cells.{put}
 use Rattle.std.proofs.lemmas.List.{length-replicate, map-append, places, same_lists, take_more}
-use Rattle.snippet_suggest.specs.Marks.{columns_of, left_of, mark_end, mark_glyph_of, mark_start, to_left, to_right, with_mark, with_marks}
+use Rattle.snippet_suggest.specs.Marks.{edit_columns, left_of, patch_mark_end, mark_glyph_of, mark_start, to_left, to_right, with_mark, with_marks}
 use Rattle.snippet_suggest.specs.Moves.{AreMoves, shift_of}
 use Rattle.snippet_suggest.proofs.PutLemmas.{put_none}
 
@@ -154,8 +154,8 @@ pub record Marked (layout : SuggestionLayout) (s : Source) (earlier : List Patch
   pub whole : with_marks layout s earlier left row ≡ all
 
 marks-cons : (layout : SuggestionLayout) (s : Source) (earlier : List PatchColumns) (e : Edit) (es : List Edit) (row : List Cell) → let c =
-    columns_of s e in with_marks layout s earlier (e ∷ es) row ≡ with_marks layout s (earlier ++ c ∷ [])
-    es (with_mark layout (mark_glyph_of layout.base.decor s.text e) (mark_start earlier c e.text) (mark_end earlier c e.text) row)
+    edit_columns s e in with_marks layout s earlier (e ∷ es) row ≡ with_marks layout s (earlier ++ c ∷ [])
+    es (with_mark layout (mark_glyph_of layout.base.decor s.text e) (mark_start earlier c e.text) (patch_mark_end earlier c e.text) row)
 unfolding with_marks
 marks-cons layout s earlier e es row = refl
 
@@ -166,14 +166,14 @@ marks-nil layout s earlier row = refl
 -- with one more edit marked the edits so far are marked
 pub marked_next : (layout : SuggestionLayout) (s : Source) (earlier later : List PatchColumns) (e : Edit) (left es : List Edit) (all : List Cell)
     (above now new : List (List Cell)) (mark start end : ℕ) (so_far : Marked layout s earlier left all above now) → left ≡ e ∷ es
-    → later ≡ earlier ++ columns_of s e ∷ [] → mark ≡ mark_glyph_of layout.base.decor s.text e → start ≡ mark_start earlier (columns_of s e) e.text
-    → end ≡ mark_end earlier (columns_of s e) e.text → new ≡ above ++ with_mark layout mark start end so_far.row ∷ []
+    → later ≡ earlier ++ edit_columns s e ∷ [] → mark ≡ mark_glyph_of layout.base.decor s.text e → start ≡ mark_start earlier (edit_columns s e) e.text
+    → end ≡ patch_mark_end earlier (edit_columns s e) e.text → new ≡ above ++ with_mark layout mark start end so_far.row ∷ []
     → Marked layout s later es all above new
 marked_next layout s earlier later e left es all above now new mark start end so_far first more mark_is start_is end_is adds =
     let row : List Cell = so_far.row in
-    let c : PatchColumns = columns_of s e in
+    let c : PatchColumns = edit_columns s e in
     let Drawn : ℕ → ℕ → ℕ → List Cell = λ m i j. with_mark layout m i j row in
-    let row_is : Drawn mark start end ≡ Drawn (mark_glyph_of layout.base.decor s.text e) (mark_start earlier c e.text) (mark_end earlier c e.text) =
+    let row_is : Drawn mark start end ≡ Drawn (mark_glyph_of layout.base.decor s.text e) (mark_start earlier c e.text) (patch_mark_end earlier c e.text) =
     ap (λ m. Drawn m start end) mark_is ∙ ap (λ i. Drawn (mark_glyph_of layout.base.decor s.text e) i end) start_is
     ∙ ap (Drawn (mark_glyph_of layout.base.decor s.text e) (mark_start earlier c e.text)) end_is in
     record {

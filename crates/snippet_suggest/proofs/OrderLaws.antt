@@ -16,7 +16,7 @@ use Rattle.snippet_suggest.specs.Given.{counted_folded, emptied_lines, given_lin
 use Rattle.snippet_suggest.specs.Given.{numbers_of, removed_lines, removed_of, replaced_lines, shown_kind, trimmed_of}
 use Rattle.snippet_suggest.specs.Order.{Begins, Empty, Ends, Offers, Removes, Skips, SuggestionRow, changed_rows, is_diff, line_taken, lines_taken}
 use Rattle.snippet_suggest.specs.Order.{number_offered, numbers_offered, removed_number, removed_row, row_of_shown, rows_of_suggestion, rows_where}
-use Rattle.snippet_suggest.specs.Shown.{is_touched, numbers_shown, shown_lines}
+use Rattle.snippet_suggest.specs.Shown.{is_touched, numbers_shown, lines_suggested}
 use Rattle.snippet_suggest.proofs.GutterFits.{one_given}
 use Rattle.snippet_suggest.proofs.KnownNumbers.{diff_numbers, none_numbers}
 
@@ -40,7 +40,7 @@ module _ (start : SuggestionStart) (s : Snippet Patch) where
   left_out = is_left_out (shown_kind s) (given_lines s) (last_reached s)
 
   abbrev offered : List SuggestionRow
-  offered = map row_of_shown (shown_lines (is_touched s.fold (given_ranges s)) (length (given_lines s)))
+  offered = map row_of_shown (lines_suggested (is_touched s.fold (given_ranges s)) (length (given_lines s)))
 
   by_case : (lines : List (List ℕ)) (diff : Bool) → given_lines s ≡ lines → is_diff (shown_kind s) ≡ diff
       → rows_of_suggestion start s ≡ rows_where lines diff (Begins start) taken (changed_rows touched_first left_out taken) offered
@@ -66,7 +66,7 @@ module _ (start : SuggestionStart) (s : Snippet Patch) where
 
   -- in another kind
   pub rows_others : (line : List ℕ) (lines : List (List ℕ)) → given_lines s ≡ line ∷ lines → shown_kind s ≢ Diff
-      → rows_of_suggestion start s ≡ Begins start ∷ map row_of_shown (shown_lines (is_touched s.fold (given_ranges s)) (length (given_lines s)))
+      → rows_of_suggestion start s ≡ Begins start ∷ map row_of_shown (lines_suggested (is_touched s.fold (given_ranges s)) (length (given_lines s)))
   rows_others line lines some other = by_case (line ∷ lines) false some (not_diff (shown_kind s) other)
 
 -- ---- laws
@@ -107,7 +107,7 @@ offered_where : (kind : DisplaySuggestion) (lines : List (List ℕ)) (folds : Bo
     (removed : List SuggestionRow) → numbers_offered removed ≡ [] → (kind ≡ Diff → length lines ≤ 1)
     → numbers_offered (rows_where lines (is_diff kind) (Begins start)
     removed (changed_rows (is_touched folds ranges 0) (is_left_out kind lines last) removed)
-    (map row_of_shown (shown_lines (is_touched folds ranges) (length lines)))) ≡ numbers_of kind folds ranges lines last
+    (map row_of_shown (lines_suggested (is_touched folds ranges) (length lines)))) ≡ numbers_of kind folds ranges lines last
 offered_where Diff [] folds ranges last start removed none few = none ∙ sym (none_numbers Diff folds ranges last)
 offered_where Underline [] folds ranges last start removed none few = none ∙ sym (none_numbers Underline folds ranges last)
 offered_where Plain [] folds ranges last start removed none few = none ∙ sym (none_numbers Plain folds ranges last)
@@ -116,11 +116,11 @@ offered_where Diff (line ∷ []) folds ranges last start removed none few =
     changed_offer (is_touched folds ranges 0) (is_left_out Diff (line ∷ []) last) removed none ∙ sym (diff_numbers folds ranges line last (is_touched folds ranges 0) refl)
 offered_where Diff (line ∷ other ∷ lines) folds ranges last start removed none few = absurd (omega (arith, few refl))
 offered_where Underline (line ∷ lines) folds ranges last start removed none few =
-    shown_offer (shown_lines (is_touched folds ranges) (length (line ∷ lines)))
+    shown_offer (lines_suggested (is_touched folds ranges) (length (line ∷ lines)))
 offered_where Plain (line ∷ lines) folds ranges last start removed none few =
-    shown_offer (shown_lines (is_touched folds ranges) (length (line ∷ lines)))
+    shown_offer (lines_suggested (is_touched folds ranges) (length (line ∷ lines)))
 offered_where Add (line ∷ lines) folds ranges last start removed none few =
-    shown_offer (shown_lines (is_touched folds ranges) (length (line ∷ lines)))
+    shown_offer (lines_suggested (is_touched folds ranges) (length (line ∷ lines)))
 
 few_in_diff : (s : Snippet Patch) → shown_kind s ≡ Diff → length (given_lines s) ≤ 1
 few_in_diff s diff =
@@ -156,7 +156,7 @@ pub rows-take : (start : SuggestionStart) (s : Snippet Patch) → lines_taken (r
 rows-take start s =
     let touched : Bool = is_touched s.fold (given_ranges s) 0 in
     taken_where (shown_kind s) (given_lines s) touched (is_left_out (shown_kind s) (given_lines s) (last_reached s))
-    start (map (removed_row s) (removed_lines s)) (shown_lines (is_touched s.fold (given_ranges s)) (length (given_lines s))) (emptied_lines s)
+    start (map (removed_row s) (removed_lines s)) (lines_suggested (is_touched s.fold (given_ranges s)) (length (given_lines s))) (emptied_lines s)
     (replaced_lines s) (removed_take s (removed_lines s)) (none_untouched touched _)
 
 -- the row of a line that is removed is that of the snippet
@@ -198,5 +198,5 @@ rows-own start s =
     let touched : ℕ → Bool = is_touched s.fold (given_ranges s) in
     let removed : List SuggestionRow = map (removed_row s) (removed_lines s) in
     let left : Bool = is_left_out (shown_kind s) (given_lines s) (last_reached s) in
-    let shown : List SuggestionLine = shown_lines touched (length (given_lines s)) in
+    let shown : List SuggestionLine = lines_suggested touched (length (given_lines s)) in
     own_where s (given_lines s) (is_diff (shown_kind s)) start removed (changed_rows (touched 0) left removed) (map row_of_shown shown) (own_rows s (removed_lines s)) (changed_own s (touched 0) left removed (own_rows s (removed_lines s))) (shown_rows s shown)

@@ -11,7 +11,7 @@ use Rattle.snippet_lines.proofs.PlaceLemmas.{line_of-within}
 use Rattle.snippet_model.specs.declared.snippet.Patch.{Patch}
 use Rattle.snippet_model.specs.declared.snippet.Snippet.{Snippet}
 use Rattle.snippet_splice.specs.declared.patches.TrimmedPatch.{TrimmedPatch}
-use Rattle.snippet_splice.specs.Edits.{Edit, bounds_of, edit_of, in_order, original_bounds_of, trimmed_edit_of, trimmed_edits}
+use Rattle.snippet_splice.specs.Edits.{Edit, edit_bounds, edit_of, in_order, original_bounds_of, trimmed_edit_of, trimmed_edits}
 use Rattle.snippet_splice.specs.Shown.{first_start}
 use Rattle.snippet_splice.specs.Spliced.{texts_of}
 use Rattle.snippet_splice.proofs.ShownLemmas.{none-given}
@@ -21,12 +21,12 @@ use Rattle.snippet_parts.specs.Numbered.{numbered_source}
 use Rattle.snippet_suggest.specs.Prepared.{IsSuggestible}
 
 -- the first of the trimmed patches started where the first edit does
-pub first-original : (ts : List TrimmedPatch) (os : List Edit) → map original_bounds_of ts ≡ map bounds_of os → first_original ts ≡ first_start os
+pub first-original : (ts : List TrimmedPatch) (os : List Edit) → map original_bounds_of ts ≡ map edit_bounds os → first_original ts ≡ first_start os
 first-original [] [] same = refl
 first-original [] (o ∷ os) same = absurd (cc)
 first-original (t ∷ ts) [] same = absurd (cc)
 first-original (t ∷ ts) (o ∷ os) same =
-    let pair : ◌≡◌ {A = ℕ × ℕ} (original_bounds_of t) (bounds_of o) = cc in
+    let pair : ◌≡◌ {A = ℕ × ℕ} (original_bounds_of t) (edit_bounds o) = cc in
     ap (λ p. p.0) pair
 
 -- where the first of them starts and ends
@@ -74,7 +74,7 @@ counted_from source fold text kind start end =
 -- it is that of the snippet
 pub counted-is : (s : Snippet Patch) (source : Source) (ps : List TrimmedPatch) (text : List ℕ) (kind : DisplaySuggestion) (count : ℕ)
     → IsSuggestible s → source ≡ numbered_source s → text ≡ given_text s → map trimmed_edit_of ps ≡ trimmed_of s
-    → map original_bounds_of ps ≡ map bounds_of (in_order (edits_of s)) → kind ≡ shown_kind s
+    → map original_bounds_of ps ≡ map edit_bounds (in_order (edits_of s)) → kind ≡ shown_kind s
     → (source.first + (if s.fold then line_of (source_lines source.text) (first_original ps) else 0) + newline_count text < 2 ^ 64
     → count ≡ counted_from source s.fold text kind (first_original ps) (first_end (map trimmed_edit_of ps))) → count ≡ counted_line s
 counted-is s source ps text kind count h of given edits originals shown counted =

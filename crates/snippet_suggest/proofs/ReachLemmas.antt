@@ -8,7 +8,7 @@ use Rattle.snippet_lines.specs.Place.{line_of}
 use Rattle.snippet_lines.proofs.LinesLemmas.{length-source_lines}
 use Rattle.snippet_lines.proofs.PlaceLemmas.{line_of-mono}
 use Rattle.snippet_parts.specs.declared.source_map.LineInfo.{LineInfo}
-use Rattle.snippet_parts.specs.LineTable.{LineEntry, entry_at, entry_of, touched_entries}
+use Rattle.snippet_parts.specs.LineTable.{LineEntry, entry_at, table_entry, touched_entries}
 use Rattle.snippet_splice.specs.declared.patches.TrimmedPatch.{TrimmedPatch}
 use Rattle.snippet_splice.specs.Copied.{end_from}
 use Rattle.snippet_splice.specs.Edits.{AreApart, Edit, trimmed_edit_of, trimmed_edits}
@@ -70,29 +70,29 @@ reached source es apart = ap (line_of (source_lines source)) (greatest_end 0 (tr
 
 -- ---- the lines that a span touches
 
-touched_count : (s : Source) (infos : List LineInfo) (start end : ℕ) → start ≤ end → map entry_of infos ≡ touched_entries s start end
+touched_count : (s : Source) (infos : List LineInfo) (start end : ℕ) → start ≤ end → map table_entry infos ≡ touched_entries s start end
     → length infos ≡ line_of (source_lines s.text) end + 1 - line_of (source_lines s.text) start
 touched_count s infos start end ordered are =
     let ls = source_lines s.text in
-    sym (length-map infos entry_of) ∙ ap length are ∙ length-map (range_with_len (line_of ls start) (line_of ls end + 1 - line_of ls start)) (entry_at s.first ls) ∙ length-range_with_len (line_of ls start) (line_of ls end + 1 - line_of ls start)
+    sym (length-map infos table_entry) ∙ ap length are ∙ length-map (range_with_len (line_of ls start) (line_of ls end + 1 - line_of ls start)) (entry_at s.first ls) ∙ length-range_with_len (line_of ls start) (line_of ls end + 1 - line_of ls start)
 
 lines_ordered : (s : Source) (start end : ℕ) → start ≤ end → line_of (source_lines s.text) start ≤ line_of (source_lines s.text) end
 lines_ordered s start end ordered = line_of-mono (source_lines s.text) start end (omega (arith, length-source_lines s.text)) ordered
 
 -- at least one line is touched
-pub touched_some : (s : Source) (infos : List LineInfo) (start end : ℕ) → start ≤ end → map entry_of infos ≡ touched_entries s start end → 0 < length infos
+pub touched_some : (s : Source) (infos : List LineInfo) (start end : ℕ) → start ≤ end → map table_entry infos ≡ touched_entries s start end → 0 < length infos
 touched_some s infos start end ordered are =
     omega (arith, touched_count s infos start end ordered are, lines_ordered s start end ordered)
 
 -- their texts
-pub touched_texts : (s : Source) (infos : List LineInfo) (start end : ℕ) → map entry_of infos ≡ touched_entries s start end
+pub touched_texts : (s : Source) (infos : List LineInfo) (start end : ℕ) → map table_entry infos ≡ touched_entries s start end
     → texts_at infos ≡ map (text_at (source_lines s.text)) (lines_touched s.text start end)
 touched_texts s infos start end are =
     let ls = source_lines s.text in
     let text : LineEntry → List ℕ = λ e. e.text in
     own infos ∙ ap (map text) are ∙ theirs (lines_touched s.text start end)
   where
-    own : (is : List LineInfo) → texts_at is ≡ map (λ (e : LineEntry). e.text) (map entry_of is)
+    own : (is : List LineInfo) → texts_at is ≡ map (λ (e : LineEntry). e.text) (map table_entry is)
     own [] = refl
     own (info ∷ is) = ap (λ ts. info.line.now ∷ ts) (own is)
 
@@ -101,13 +101,13 @@ touched_texts s infos start end are =
     theirs (k ∷ ks) = ap (λ ts. text_at (source_lines s.text) k ∷ ts) (theirs ks)
 
 -- their numbers and texts
-pub touched_numbered : (s : Source) (infos : List LineInfo) (start end : ℕ) → map entry_of infos ≡ touched_entries s start end
+pub touched_numbered : (s : Source) (infos : List LineInfo) (start end : ℕ) → map table_entry infos ≡ touched_entries s start end
     → numbered_at infos ≡ map {B = ℕ × List ℕ} (λ k. (s.first + k, text_at (source_lines s.text) k)) (lines_touched s.text start end)
 touched_numbered s infos start end are =
     let line : LineEntry → ℕ × List ℕ = λ e. (e.number, e.text) in
     own infos ∙ ap (map line) are ∙ theirs (lines_touched s.text start end)
   where
-    own : (is : List LineInfo) → numbered_at is ≡ map {B = ℕ × List ℕ} (λ (e : LineEntry). (e.number, e.text)) (map entry_of is)
+    own : (is : List LineInfo) → numbered_at is ≡ map {B = ℕ × List ℕ} (λ (e : LineEntry). (e.number, e.text)) (map table_entry is)
     own [] = refl
     own (info ∷ is) = ap (λ ls. (info.line_index, info.line.now) ∷ ls) (own is)
 
@@ -117,7 +117,7 @@ touched_numbered s infos start end are =
     theirs (k ∷ ks) = ap (λ ls. (s.first + k, text_at (source_lines s.text) k) ∷ ls) (theirs ks)
 
 -- the last of them is the one on which the span ends
-pub touched_last : (s : Source) (infos : List LineInfo) (start end : ℕ) → start ≤ end → map entry_of infos ≡ touched_entries s start end
+pub touched_last : (s : Source) (infos : List LineInfo) (start end : ℕ) → start ≤ end → map table_entry infos ≡ touched_entries s start end
     → last_removed infos ≡ text_at (source_lines s.text) (line_of (source_lines s.text) end)
 touched_last s infos start end ordered are =
     let ls = source_lines s.text in
@@ -134,7 +134,7 @@ touched_last s infos start end ordered are =
     ∙ ap text (get_or-map (entry_at s.first ls) (range_with_len a n) (length infos - 1) 0 none (omega arith))
     ∙ ap (text_at ls) (get_or-range_with_len a n (length infos - 1) 0 (omega arith) ∙ at)
   where
-    texts : (is : List LineInfo) (i : ℕ) (d : LineEntry) → i < length is → get_or (map (λ info. info.line.now) is) i [] ≡ (get_or (map entry_of is) i d).text
+    texts : (is : List LineInfo) (i : ℕ) (d : LineEntry) → i < length is → get_or (map (λ info. info.line.now) is) i [] ≡ (get_or (map table_entry is) i d).text
     texts [] i d within = absurd (omega (arith, within))
     texts (info ∷ is) zero d within = refl
     texts (info ∷ is) (suc i) d within = texts is i d (omega (arith, within))

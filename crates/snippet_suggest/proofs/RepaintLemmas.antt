@@ -14,7 +14,7 @@ use Rattle.snippet_lines.specs.declared.number.LineNumbers.{LineNumbers}
 use Rattle.snippet_suggest.specs.declared.layout.SuggestionLayout.{SuggestionLayout}
 use Rattle.snippet_suggest.specs.Order.{Begins, Empty, Ends, Offers, Removes, Skips, SuggestionRow, number_after}
 use Rattle.snippet_suggest.specs.Rows.{without_role, AddsRow, IsBareRow, IsBeforeSign, IsLeftOver, IsLineRow, IsRemovedRow, IsRepainted, IsRowOfRemoved}
-use Rattle.snippet_suggest.specs.Rows.{IsMarkOrSpace, IsSign, IsStrokeRow, Shows, begin_glyph, beside_gutter, end_glyph, gap_left, is_stroke}
+use Rattle.snippet_suggest.specs.Rows.{IsMarkOrSpace, IsSign, IsEdgeRow, Shows, begin_glyph, beside_gutter, end_glyph, gap_left, is_stroke}
 
 -- two rows hold the same characters and links
 abbrev pub AreSame : List Cell → List Cell → Type 0
@@ -66,8 +66,8 @@ same_bare decor gutter now last same is =
       free = same_free now last same is.free;
     }
 
-same_stroke : (decor : DecorStyle) (gutter : ℕ) (left : List ℕ) (now last : List Cell) → AreSame now last → IsStrokeRow decor gutter left last
-    → IsStrokeRow decor gutter left now
+same_stroke : (decor : DecorStyle) (gutter : ℕ) (left : List ℕ) (now last : List Cell) → AreSame now last → IsEdgeRow decor gutter left last
+    → IsEdgeRow decor gutter left now
 same_stroke decor gutter left now last same is =
     record {
       bare = same_bare decor gutter now last same is.bare;

@@ -9,7 +9,7 @@ use Rattle.snippet_suggest.specs.declared.layout.SuggestionLayout.{SuggestionLay
 use Rattle.snippet_suggest.specs.declared.shown.SuggestionLine.{SuggestionLine}
 use Rattle.snippet_suggest.specs.declared.shown.SuggestionLine.TheVariants.{Line, Gap}
 use Rattle.snippet_suggest.specs.Rows.{NumberFits}
-use Rattle.snippet_suggest.specs.Shown.{lines_from, shown_run, shown_from, shown_lines, number_of, numbers_shown, AreRising}
+use Rattle.snippet_suggest.specs.Shown.{lines_from, shown_run, shown_from, lines_suggested, number_of, numbers_shown, AreRising}
 
 -- the bounds of ascending numbers, and two such lists joined
 pub rising_bound : (from to : ℕ) (ks : List ℕ) → AreRising from to ks → from ≤ to
@@ -57,10 +57,10 @@ rising_from touched from k (suc left) ordered =
     subst (λ (to : ℕ). AreRising from to (numbers_shown (shown_from touched from k (suc left)))) same (rising_from_by touched from k left (touched k) ordered (rising_from touched (k + 1) (k + 1) left (omega arith)) (rising_from touched from (k + 1) left (omega (arith, ordered))))
 
 -- the numbers of shown lines rise
-pub rising_shown : (touched : ℕ → Bool) (count : ℕ) → AreRising 0 count (numbers_shown (shown_lines touched count))
+pub rising_shown : (touched : ℕ → Bool) (count : ℕ) → AreRising 0 count (numbers_shown (lines_suggested touched count))
 rising_shown touched count =
     let same : 0 + count ≡ count = omega arith in
-    subst (λ (to : ℕ). AreRising 0 to (numbers_shown (shown_lines touched count))) same (rising_from touched 0 0 count (omega arith))
+    subst (λ (to : ℕ). AreRising 0 to (numbers_shown (lines_suggested touched count))) same (rising_from touched 0 0 count (omega arith))
 
 -- where there is room for the number of each line, there is for those that are shown
 rooms_of : (layout : SuggestionLayout) (first low count : ℕ) (shown : List SuggestionLine) → AreRising low count (numbers_shown shown)
@@ -73,9 +73,9 @@ rooms_of layout first low count (Gap ∷ shown) rising rooms =
 
 -- the numbers of shown lines fit the gutter where those of all lines do
 pub rooms_shown : (layout : SuggestionLayout) (first count : ℕ) (touched : ℕ → Bool) → ((k : ℕ) → k < count → NumberFits layout first (Line k))
-    → All (NumberFits layout first) (shown_lines touched count)
+    → All (NumberFits layout first) (lines_suggested touched count)
 rooms_shown layout first count touched rooms =
-    rooms_of layout first 0 count (shown_lines touched count) (rising_shown touched count) rooms
+    rooms_of layout first 0 count (lines_suggested touched count) (rising_shown touched count) rooms
 
 -- at the end nothing is still to come
 pub shown_all : (touched : ℕ → Bool) (shown all : List SuggestionLine) (after line count : ℕ) → count ≤ line
@@ -110,5 +110,5 @@ touched_from touched from k (suc left) j low high holds =
     touched_from_by touched from k left j (touched k) refl low high holds (λ next more. touched_from touched next (k + 1) left j more (omega (arith, high)) holds)
 
 -- a line that is touched is shown
-pub touched_shown : (touched : ℕ → Bool) (count j : ℕ) → j < count → touched j ≡ true → Contains (numbers_shown (shown_lines touched count)) j
+pub touched_shown : (touched : ℕ → Bool) (count j : ℕ) → j < count → touched j ≡ true → Contains (numbers_shown (lines_suggested touched count)) j
 touched_shown touched count j below holds = touched_from touched 0 0 count j (omega arith) (omega (arith, below)) holds

@@ -26,7 +26,7 @@ use Rattle.snippet_style.specs.Glyphs.{suggestion_glyph_of, suggestion_role_of}
 use Rattle.snippet_suggest.specs.Order.{Begins, Empty, Ends, Offers, Removes, Skips, SuggestionRow, is_diff, rows_of_suggestion}
 use Rattle.snippet_suggest.specs.Rows.{without_role}
 use Rattle.snippet_suggest.specs.Shown.{is_touched}
-use Rattle.snippet_suggest.specs.Suggested.{HasSign, body_cells, cells_of, cells_over, new_on, replaced_on, with_left_out}
+use Rattle.snippet_suggest.specs.Suggested.{HasSign, body_cells, cells_of, cells_over, new_on, suggested_stretches, with_left_out}
 use Rattle.snippet_suggest.proofs.PaintLemmas.{changed_same, seen_ch}
 use Rattle.snippet_suggest.proofs.PutLemmas.{glyph_some}
 
@@ -130,7 +130,7 @@ signs_left_out : (layout : SuggestionLayout) (s : Snippet Patch) (lines : List (
 signs_left_out layout s [] shown rows have = have
 signs_left_out layout s (line ∷ lines) shown rows have =
     let test : Bool = is_diff (shown_kind s) && is_touched s.fold (given_ranges s) 0 && is_left_out (shown_kind s) (line ∷ lines) (last_reached s) in
-    let gone : List SubstitutionHighlight = if bytes_eq line (last_reached s) then replaced_on s (last_line_reached (cow_str_bytes s.source) (edits_of s) - first_given s) else [] in
+    let gone : List SubstitutionHighlight = if bytes_eq line (last_reached s) then suggested_stretches s (last_line_reached (cow_str_bytes s.source) (edits_of s) - first_given s) else [] in
     let f : List Cell → List Cell = left_out_cells layout.base.gutter line gone (new_on s 0) in
     let same : (row : List Cell) → map without_role (f row) ≡ map without_role row = λ row. with_same Addition layout.base.gutter (chars line) (new_on s 0) (with_stretches Removal layout.base.gutter (chars line) gone row) ∙ with_same Removal layout.base.gutter (chars line) gone row in
     let Have : List (List Cell) → Type 0 = λ rs. AllZip (HasSign layout s) shown rs in

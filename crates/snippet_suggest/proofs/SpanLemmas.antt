@@ -11,7 +11,7 @@ use Rattle.snippet_lines.specs.Span.{IsSpan, IsSpanBorder}
 use Rattle.snippet_lines.proofs.OrderLemmas.{All-put_in}
 use Rattle.snippet_parts.proofs.PartLemmas.{All-unmapped}
 use Rattle.snippet_splice.specs.declared.patches.TrimmedPatch.{TrimmedPatch}
-use Rattle.snippet_splice.specs.Edits.{Edit, bounds_of, in_order, original_bounds_of, precedes, shrunk, trimmed_edit, trimmed_edit_of, trimmed_edits}
+use Rattle.snippet_splice.specs.Edits.{Edit, edit_bounds, in_order, original_bounds_of, precedes, shrunk, trimmed_edit, trimmed_edit_of, trimmed_edits}
 use Rattle.snippet_splice.specs.Trim.{sandwich}
 use Rattle.snippet_splice.proofs.TrimLemmas.{sandwich-sandwiched}
 
@@ -93,7 +93,7 @@ trimmed_spans source es ps all same =
 
 -- the patches of edits on spans stand on spans
 pub original_spans : (source : List ℕ) (es : List Edit) (ps : List TrimmedPatch) → All (λ e. IsSpan source e.start e.end) es
-    → map original_bounds_of ps ≡ map bounds_of (in_order es) → All (λ p. IsSpan source p.original_span.start p.original_span.end) ps
+    → map original_bounds_of ps ≡ map edit_bounds (in_order es) → All (λ p. IsSpan source p.original_span.start p.original_span.end) ps
 original_spans source es ps all same =
     let P : ℕ × ℕ → Type 0 = λ b. IsSpan source b.0 b.1 in
-    All-unmapped P original_bounds_of ps (subst (All P) (sym same) (All-map P bounds_of (in_order es) (spans_in_order source es all)))
+    All-unmapped P original_bounds_of ps (subst (All P) (sym same) (All-map P edit_bounds (in_order es) (spans_in_order source es all)))

@@ -24,7 +24,7 @@ use Rattle.snippet_suggest.specs.declared.layout.SuggestionStart.TheVariants.{Ne
 use Rattle.snippet_suggest.specs.declared.shown.SuggestionLine.{SuggestionLine}
 use Rattle.snippet_suggest.specs.declared.shown.SuggestionLine.TheVariants.{Gap, Line}
 use Rattle.snippet_suggest.specs.Cells.{begin_cells, diff_cells, emptied_cells, end_cells, gone_of, left_out_cells, offered_cells, on_last, removed_cells}
-use Rattle.snippet_suggest.specs.Cells.{shown_cells, taken_cells, with_stretches}
+use Rattle.snippet_suggest.specs.Cells.{suggestion_row, taken_cells, with_stretches}
 use Rattle.snippet_suggest.specs.Given.{edits_of, first_given, given_lines, given_ranges, is_left_out, last_reached, last_removed, shown_kind, trimmed_of}
 use Rattle.snippet_suggest.specs.Given.{unless_stays}
 use Rattle.snippet_parts.specs.Numbered.{numbered_source}
@@ -32,7 +32,7 @@ use Rattle.snippet_suggest.specs.Order.{Begins, Empty, Ends, Offers, Removes, Su
 use Rattle.snippet_suggest.specs.Order.{removed_from, row_of_shown, rows_of_suggestion}
 use Rattle.snippet_suggest.specs.Rows.{rows_shared}
 use Rattle.snippet_suggest.specs.Shown.{is_touched}
-use Rattle.snippet_suggest.specs.Suggested.{body_cells, cells_of, cells_over, marked_edits, new_on, removed_in, replaced_on, suggestion_cells, with_left_out}
+use Rattle.snippet_suggest.specs.Suggested.{body_cells, cells_of, cells_over, marked_edits, new_on, removed_in, suggested_stretches, suggestion_cells, with_left_out}
 use Rattle.snippet_suggest.specs.Marks.{with_marks}
 use Rattle.snippet_suggest.proofs.KnownRemoved.{unless_range}
 use Rattle.snippet_suggest.proofs.RowsDrawn.{diff_left, diff_shown}
@@ -50,22 +50,22 @@ unfolding cells_of
 empty_is layout s under = refl
 
 -- lines that are shown, which have the same stretches
-pub shown_same : (layout : SuggestionLayout) (kind : DisplaySuggestion) (first : ℕ) (lines : List (List ℕ)) (f g : ℕ → List SubstitutionHighlight) (shown : List SuggestionLine) → ((k : ℕ) → f k ≡ g k) → map (shown_cells layout kind first lines f) shown ≡ map (shown_cells layout kind first lines g) shown
+pub shown_same : (layout : SuggestionLayout) (kind : DisplaySuggestion) (first : ℕ) (lines : List (List ℕ)) (f g : ℕ → List SubstitutionHighlight) (shown : List SuggestionLine) → ((k : ℕ) → f k ≡ g k) → map (suggestion_row layout kind first lines f) shown ≡ map (suggestion_row layout kind first lines g) shown
 shown_same layout kind first lines f g [] same = refl
 shown_same layout kind first lines f g (Line k ∷ shown) same =
-    let Row : List SubstitutionHighlight → List Cell = λ ss. shown_cells layout kind first lines (λ n. ss) (Line k) in
-    ap (λ ss. Row ss ∷ map (shown_cells layout kind first lines f) shown) (same k) ∙ ap (λ rows. Row (g k) ∷ rows) (shown_same layout kind first lines f g shown same)
+    let Row : List SubstitutionHighlight → List Cell = λ ss. suggestion_row layout kind first lines (λ n. ss) (Line k) in
+    ap (λ ss. Row ss ∷ map (suggestion_row layout kind first lines f) shown) (same k) ∙ ap (λ rows. Row (g k) ∷ rows) (shown_same layout kind first lines f g shown same)
 shown_same layout kind first lines f g (Gap ∷ shown) same =
-    ap (λ rows. shown_cells layout kind first lines g Gap ∷ rows) (shown_same layout kind first lines f g shown same)
+    ap (λ rows. suggestion_row layout kind first lines g Gap ∷ rows) (shown_same layout kind first lines f g shown same)
 
 pub shown_is : (layout : SuggestionLayout) (s : Snippet Patch) (shown : List SuggestionLine)
-    → map (cells_of layout s []) (map row_of_shown shown) ≡ map (shown_cells layout (shown_kind s) (s.line_start + first_given s) (given_lines s) (new_on s)) shown
+    → map (cells_of layout s []) (map row_of_shown shown) ≡ map (suggestion_row layout (shown_kind s) (s.line_start + first_given s) (given_lines s) (new_on s)) shown
 unfolding cells_of
 shown_is layout s [] = refl
 shown_is layout s (Line k ∷ shown) =
-    ap (λ rows. shown_cells layout (shown_kind s) (s.line_start + first_given s) (given_lines s) (new_on s) (Line k) ∷ rows) (shown_is layout s shown)
+    ap (λ rows. suggestion_row layout (shown_kind s) (s.line_start + first_given s) (given_lines s) (new_on s) (Line k) ∷ rows) (shown_is layout s shown)
 shown_is layout s (Gap ∷ shown) =
-    ap (λ rows. shown_cells layout (shown_kind s) (s.line_start + first_given s) (given_lines s) (new_on s) Gap ∷ rows) (shown_is layout s shown)
+    ap (λ rows. suggestion_row layout (shown_kind s) (s.line_start + first_given s) (given_lines s) (new_on s) Gap ∷ rows) (shown_is layout s shown)
 
 -- ---- where no line is given
 
@@ -73,7 +73,7 @@ removed_none : (layout : SuggestionLayout) (s : Snippet Patch) (under : List Cel
     → cells_of layout s under (Removes i number text) ≡ removed_cells layout Removal number text under
 unfolding cells_of
 removed_none layout s under i number text none =
-    ap (λ (ls : List (List ℕ)). removed_in layout ls (replaced_on s (i - first_given s)) number text under) none
+    ap (λ (ls : List (List ℕ)). removed_in layout ls (suggested_stretches s (i - first_given s)) number text under) none
 
 emptied_later : (layout : SuggestionLayout) (s : Snippet Patch) (i : ℕ) (lines : List (ℕ × List ℕ)) → given_lines s ≡ []
     → map (cells_of layout s []) (removed_from i lines) ≡ emptied_cells layout lines []
@@ -123,7 +123,7 @@ body_plain layout start s under line lines rows some stays is =
 -- where lines are given, and no diff is shown, the beginning and the rows of the shown lines are the suggestion's
 pub body_shown : (layout : SuggestionLayout) (start : SuggestionStart) (s : Snippet Patch) (under : List Cell) (line : List ℕ) (lines : List (List ℕ))
     (shown : List SuggestionLine) → given_lines s ≡ line ∷ lines → shown_kind s ≢ Diff → rows_of_suggestion start s ≡ Begins start ∷ map row_of_shown shown
-    → begin_cells layout start under ∷ map (shown_cells layout (shown_kind s) (s.line_start + first_given s) (given_lines s) (new_on s))
+    → begin_cells layout start under ∷ map (suggestion_row layout (shown_kind s) (s.line_start + first_given s) (given_lines s) (new_on s))
     shown ≡ body_cells layout start s under
 body_shown layout start s under line lines shown some other is =
     let t : Bool = is_touched s.fold (given_ranges s) 0 in
@@ -145,13 +145,13 @@ body_untouched layout start s under line one diff untouched is =
 -- the lines that are removed above one in their place
 removed_some : (layout : SuggestionLayout) (s : Snippet Patch) (under : List Cell) (line : List ℕ) (i number : ℕ) (text : List ℕ)
     → given_lines s ≡ line ∷ [] → cells_of layout s under (Removes i number text) ≡ with_stretches Removal layout.base.gutter (chars text)
-    (replaced_on s (i - first_given s)) (removed_cells layout NoStyle number text under)
+    (suggested_stretches s (i - first_given s)) (removed_cells layout NoStyle number text under)
 unfolding cells_of
 removed_some layout s under line i number text one =
-    ap (λ (ls : List (List ℕ)). removed_in layout ls (replaced_on s (i - first_given s)) number text under) one
+    ap (λ (ls : List (List ℕ)). removed_in layout ls (suggested_stretches s (i - first_given s)) number text under) one
 
 pub taken_rows : (layout : SuggestionLayout) (s : Snippet Patch) (line : List ℕ) (replaced : ℕ → List SubstitutionHighlight) (infos : List LineInfo)
-    (f : ℕ → List ℕ) (a m k : ℕ) → given_lines s ≡ line ∷ [] → ((j : ℕ) → replaced j ≡ replaced_on s j)
+    (f : ℕ → List ℕ) (a m k : ℕ) → given_lines s ≡ line ∷ [] → ((j : ℕ) → replaced j ≡ suggested_stretches s j)
     → numbered_at infos ≡ map {B = ℕ × List ℕ} (λ j. (s.line_start + j, f j)) (range_with_len a m)
     → taken_cells layout (s.line_start + first_given s) replaced k infos ≡ map (cells_of layout s [])
     (removed_from a (counted_from (s.line_start + first_given s) k (map f (range_with_len a m))))
@@ -167,7 +167,7 @@ taken_rows layout s line replaced (info ∷ infos) f a (suc m) k one same are =
     let text : info.line.now ≡ f a = ap (λ (p : ℕ × List ℕ). p.1) pair in
     let index : info.line_index - first ≡ a - first_given s = omega (arith, own) in
     let Row : List ℕ → List SubstitutionHighlight → List Cell = λ t ss. with_stretches Removal layout.base.gutter (chars t) ss (removed_cells layout NoStyle (number_after first k) t []) in
-    let row : Row info.line.now (replaced (info.line_index - first)) ≡ Row (f a) (replaced_on s (a - first_given s)) = ap (λ t. Row t (replaced (info.line_index - first))) text ∙ ap (Row (f a)) (ap replaced index ∙ same (a - first_given s)) in
+    let row : Row info.line.now (replaced (info.line_index - first)) ≡ Row (f a) (suggested_stretches s (a - first_given s)) = ap (λ t. Row t (replaced (info.line_index - first))) text ∙ ap (Row (f a)) (ap replaced index ∙ same (a - first_given s)) in
     let is = removed_some layout s [] line a (number_after first k) (f a) one in
     ap (λ r. r ∷ taken_cells layout first replaced (k + 1) infos) (row ∙ sym is) ∙ ap (λ rows. cells_of layout s [] (Removes a (number_after first k) (f a)) ∷ rows) (taken_rows layout s line replaced infos f (a + 1) m (k + 1) one same rest)
 
@@ -221,7 +221,7 @@ pub record AreReplaced (s : Snippet Patch) (line : List ℕ) (f : ℕ → List �
 abbrev pub shown_count : Snippet Patch → List ℕ → ℕ → ℕ
 shown_count s line n = if bytes_eq line (last_reached s) then n - 1 else n
 
-module _ (layout : SuggestionLayout) (s : Snippet Patch) (line : List ℕ) (f : ℕ → List ℕ) (a n : ℕ) (infos : List LineInfo) (replaced : ℕ → List SubstitutionHighlight) (known : AreReplaced s line f a n infos) (same : (j : ℕ) → replaced j ≡ replaced_on s j) where
+module _ (layout : SuggestionLayout) (s : Snippet Patch) (line : List ℕ) (f : ℕ → List ℕ) (a n : ℕ) (infos : List LineInfo) (replaced : ℕ → List SubstitutionHighlight) (known : AreReplaced s line f a n infos) (same : (j : ℕ) → replaced j ≡ suggested_stretches s j) where
   abbrev first : ℕ
   first = s.line_start + first_given s
 
@@ -232,7 +232,7 @@ module _ (layout : SuggestionLayout) (s : Snippet Patch) (line : List ℕ) (f : 
   left = is_left_out Diff (line ∷ []) (last_reached s)
 
   abbrev gone : List SubstitutionHighlight
-  gone = if stays then replaced_on s (last_line_reached (cow_str_bytes s.source) (edits_of s) - first_given s) else []
+  gone = if stays then suggested_stretches s (last_line_reached (cow_str_bytes s.source) (edits_of s) - first_given s) else []
 
   abbrev removed : List SuggestionRow
   removed = removed_from a (counted_from first 0 (map f (range_with_len a (shown_count s line n))))

@@ -21,7 +21,7 @@ use Rattle.snippet_style.specs.declared.glyphs.SuggestionGlyph.{SuggestionGlyph}
 use Rattle.snippet_suggest.specs.declared.layout.SuggestionLayout.{SuggestionLayout}
 use Rattle.snippet_style.specs.Glyphs.{suggestion_glyph_of}
 use Rattle.snippet_suggest.specs.Glyphs.{is_begin, is_sign}
-use Rattle.snippet_suggest.specs.Rows.{AddsEnd, AddsRow, IsBareRow, IsBeforeSign, IsLeftOver, IsRemovedRow, IsStart, IsStrokeRow, IsTail, begin_glyph}
+use Rattle.snippet_suggest.specs.Rows.{AddsEnd, AddsRow, IsBareRow, IsBeforeSign, IsLeftOver, IsRemovedRow, IsStart, IsEdgeRow, IsTail, begin_glyph}
 use Rattle.snippet_suggest.specs.Rows.{begins_in_last, beside_gutter, end_glyph}
 use Rattle.snippet_suggest.specs.declared.layout.SuggestionStart.{SuggestionStart}
 use Rattle.snippet_suggest.specs.declared.layout.SuggestionStart.TheVariants.{Opening, Next, Path}
@@ -60,7 +60,7 @@ pub start_tail : (layout : SuggestionLayout) (start : SuggestionStart) (tail : L
 start_tail layout Opening tail none = none
 start_tail layout Next tail shared = shared
 start_tail layout Path tail is =
-    (is.0, true, is.1, subst (λ (cs : List ℕ). IsStrokeRow layout.base.decor layout.base.gutter (beside_gutter layout.base.gutter cs) is.0) (lead_glyph layout.base.decor) is.2)
+    (is.0, true, is.1, subst (λ (cs : List ℕ). IsEdgeRow layout.base.decor layout.base.gutter (beside_gutter layout.base.gutter cs) is.0) (lead_glyph layout.base.decor) is.2)
 
 -- what is written below the rows above goes into it
 pub tail_written : (layout : SuggestionLayout) (shares : Bool) (above tail : List (List Cell)) (at : ℕ) (cells : List Cell)
@@ -108,13 +108,13 @@ begin_covers decor sign.Added follows is = absurd (cc)
 
 tail_stroke : (layout : SuggestionLayout) (shares : Bool) (glyph : SuggestionGlyph) (tail : List (List Cell)) → is_begin glyph ≡ true
     → IsTail layout.base.decor layout.base.gutter shares tail
-    → IsStrokeRow layout.base.decor layout.base.gutter (beside_gutter layout.base.gutter (suggestion_glyph_of layout.base.decor glyph))
+    → IsEdgeRow layout.base.decor layout.base.gutter (beside_gutter layout.base.gutter (suggestion_glyph_of layout.base.decor glyph))
     (written SPACE (tail_row tail) (layout.base.gutter + 1) (text_cells LineNumber (suggestion_glyph_of layout.base.decor glyph)))
 tail_stroke layout true glyph tail is shared =
-    let Is : List (List Cell) → Type 0 = λ rs. IsStrokeRow layout.base.decor layout.base.gutter (beside_gutter layout.base.gutter (suggestion_glyph_of layout.base.decor glyph)) (written SPACE (tail_row rs) (layout.base.gutter + 1) (text_cells LineNumber (suggestion_glyph_of layout.base.decor glyph))) in
+    let Is : List (List Cell) → Type 0 = λ rs. IsEdgeRow layout.base.decor layout.base.gutter (beside_gutter layout.base.gutter (suggestion_glyph_of layout.base.decor glyph)) (written SPACE (tail_row rs) (layout.base.gutter + 1) (text_cells LineNumber (suggestion_glyph_of layout.base.decor glyph))) in
     subst Is (sym shared.2) (stroke_put layout.base.decor layout.base.gutter LineNumber glyph (end_glyph layout.base.decor shared.1) shared.0 (begin_other glyph is) (begin_covers layout.base.decor glyph shared.1 is) shared.3)
 tail_stroke layout false glyph tail is none =
-    let Is : List (List Cell) → Type 0 = λ rs. IsStrokeRow layout.base.decor layout.base.gutter (beside_gutter layout.base.gutter (suggestion_glyph_of layout.base.decor glyph)) (written SPACE (tail_row rs) (layout.base.gutter + 1) (text_cells LineNumber (suggestion_glyph_of layout.base.decor glyph))) in
+    let Is : List (List Cell) → Type 0 = λ rs. IsEdgeRow layout.base.decor layout.base.gutter (beside_gutter layout.base.gutter (suggestion_glyph_of layout.base.decor glyph)) (written SPACE (tail_row rs) (layout.base.gutter + 1) (text_cells LineNumber (suggestion_glyph_of layout.base.decor glyph))) in
     subst Is (sym none) (stroke_signed layout.base.decor layout.base.gutter LineNumber glyph (begin_other glyph is))
 
 -- a glyph that is drawn over the tail is one row of strokes more
@@ -122,7 +122,7 @@ pub glyph_added : (layout : SuggestionLayout) (shares : Bool) (glyph : Suggestio
     (text : List ℕ) → is_begin glyph ≡ true → chars text ≡ suggestion_glyph_of layout.base.decor glyph
     → new ≡ cells_written old row (layout.base.gutter + 1) (text_cells LineNumber (chars text)) → row ≡ length above → old ≡ above ++ tail
     → IsTail layout.base.decor layout.base.gutter shares tail
-    → AddsRow (IsStrokeRow layout.base.decor layout.base.gutter (beside_gutter layout.base.gutter (suggestion_glyph_of layout.base.decor glyph))) above new
+    → AddsRow (IsEdgeRow layout.base.decor layout.base.gutter (beside_gutter layout.base.gutter (suggestion_glyph_of layout.base.decor glyph))) above new
 glyph_added layout shares glyph above tail old new row text begins is writes here old_is tail_is =
     let cells = text_cells LineNumber (suggestion_glyph_of layout.base.decor glyph) in
     record {

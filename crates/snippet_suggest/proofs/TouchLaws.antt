@@ -25,8 +25,8 @@ use Rattle.snippet_suggest.specs.declared.kind.DisplaySuggestion.{DisplaySuggest
 use Rattle.snippet_suggest.specs.declared.kind.DisplaySuggestion.TheVariants.{Underline, Diff, Plain, Add}
 use Rattle.snippet_suggest.specs.Given.{IsAsItWas, IsOfferable, edits_of, first_given, given_lines, given_ranges, given_text, is_left_out, last_reached}
 use Rattle.snippet_suggest.specs.Given.{numbers_given, numbers_of, offered_lines, shown_kind, trimmed_of}
-use Rattle.snippet_suggest.specs.Kind.{adds_lines, is_blank, is_replacement, kind_of, takes_away}
-use Rattle.snippet_suggest.specs.Shown.{is_held, is_touched, numbers_shown, shown_lines}
+use Rattle.snippet_suggest.specs.Kind.{adds_lines, is_blank, is_only_replacement, kind_of, takes_away}
+use Rattle.snippet_suggest.specs.Shown.{is_held, is_touched, numbers_shown, lines_suggested}
 use Rattle.snippet_suggest.proofs.RisingLemmas.{touched_shown}
 use Rattle.snippet_suggest.proofs.OfferLaws.{HaveSpans, edits-apart, given-is-patched, given-part}
 
@@ -61,7 +61,7 @@ diff-by false takes false closes is = absurd (cc)
 
 diff-one : (source : List ℕ) (ts : List Edit) (text : List ℕ) → kind_of source ts text ≡ Diff → length (lines_of text) ≤ 1
 diff-one source ts text is =
-    leb-true (length (lines_of text)) 1 (diff-by (nat_le (length (lines_of text)) 1) (list_any (takes_away source) ts) (is_replacement ts text) (adds_lines ts) is)
+    leb-true (length (lines_of text)) 1 (diff-by (nat_le (length (lines_of text)) 1) (list_any (takes_away source) ts) (is_only_replacement ts text) (adds_lines ts) is)
 
 -- a line that isn't blank isn't empty
 not-empty : (text : List ℕ) → is_blank text ≡ false → text ≢ []
@@ -83,9 +83,9 @@ contains-moved base k j ks is among =
 
 -- where none is left out they are those that are shown
 none-left-out : (kind : DisplaySuggestion) (folds : Bool) (ranges : List LineRange) (lines : List (List ℕ)) (last : List ℕ)
-    → is_left_out kind lines last ≡ false → numbers_of kind folds ranges lines last ≡ numbers_shown (shown_lines (is_touched folds ranges) (length lines))
+    → is_left_out kind lines last ≡ false → numbers_of kind folds ranges lines last ≡ numbers_shown (lines_suggested (is_touched folds ranges) (length lines))
 none-left-out kind folds ranges lines last none =
-    ap (λ b. if b then [] else numbers_shown (shown_lines (is_touched folds ranges) (length lines))) none
+    ap (λ b. if b then [] else numbers_shown (lines_suggested (is_touched folds ranges) (length lines))) none
 
 -- where the line of a text is left out, it is blank or the text is as it was
 one-left-out : (s : Snippet Patch) → HaveSpans s → AreDisjoint (edits_of s) → s.markers.items ≢ [] → IsOfferable s → 0 < length (given_lines s)
@@ -129,6 +129,6 @@ touched-offered s spans disjoint offerable j touched filled =
     (λ as_it_was. inl as_it_was) why.1)
     (λ shown. let ranges : ranges_from base (given_ranges s) ≡ line_ranges source es = written-ranges s.fold source es offerable.no_cr offerable.before (edits-apart s spans disjoint) in
     let held : is_held (given_ranges s) k ≡ true = held-later base j (given_ranges s) (subst (λ rs. IsHeld rs j) (sym ranges) (touched-held source es j touched)) in
-    let among : Contains (numbers_shown (shown_lines (is_touched s.fold (given_ranges s)) (length (given_lines s)))) k = touched_shown (is_touched s.fold (given_ranges s)) (length (given_lines s)) k low (or_right (not s.fold) (is_held (given_ranges s) k) held) in
+    let among : Contains (numbers_shown (lines_suggested (is_touched s.fold (given_ranges s)) (length (given_lines s)))) k = touched_shown (is_touched s.fold (given_ranges s)) (length (given_lines s)) k low (or_right (not s.fold) (is_held (given_ranges s) k) held) in
     inr (contains-moved base k j (numbers_given s) is_j (subst (λ ks. Contains ks k) (sym (none-left-out (shown_kind s) s.fold (given_ranges s) (given_lines s) (last_reached s) shown)) among)))
     (cases_Bool (is_left_out (shown_kind s) (given_lines s) (last_reached s)))

@@ -109,10 +109,10 @@ unfoldable pub end_cells : SuggestionLayout → Bool → List Cell
 end_cells layout follows = put LineNumber (end_glyph layout.base.decor follows) (separator_cell layout.base) []
 
 -- the row of a line of some that is shown, of which the first has this number, and one in place of lines that are left out
-abbrev pub shown_cells : SuggestionLayout → DisplaySuggestion → ℕ → List (List ℕ) → (ℕ → List SubstitutionHighlight) → SuggestionLine → List Cell
-shown_cells layout kind first lines stretches (Line k) =
+abbrev pub suggestion_row : SuggestionLayout → DisplaySuggestion → ℕ → List (List ℕ) → (ℕ → List SubstitutionHighlight) → SuggestionLine → List Cell
+suggestion_row layout kind first lines stretches (Line k) =
     offered_cells layout kind (length lines) (number_after first k) (slice_index_or lines k []) (stretches k)
-shown_cells layout kind first lines stretches Gap = gap_cells layout
+suggestion_row layout kind first lines stretches Gap = gap_cells layout
 
 -- ---- rows of several lines
 

@@ -18,7 +18,7 @@ use Rattle.snippet_splice.specs.Spliced.{HasNoCr, IsBeforeFinalLf, last_line_rea
 use Rattle.snippet_suggest.specs.declared.kind.DisplaySuggestion.{DisplaySuggestion}
 use Rattle.snippet_suggest.specs.declared.kind.DisplaySuggestion.TheVariants.{Underline, Diff, Plain, Add}
 use Rattle.snippet_suggest.specs.Kind.{is_blank, kind_of}
-use Rattle.snippet_suggest.specs.Shown.{is_touched, numbers_shown, shown_lines}
+use Rattle.snippet_suggest.specs.Shown.{is_touched, numbers_shown, lines_suggested}
 
 -- how many lines some patches may add: the line feeds of their replacements
 abbrev pub added_lines : List Patch → ℕ
@@ -74,7 +74,7 @@ last_removed infos = slice_index_or (texts_at infos) (length infos - 1) []
 -- which of some lines are shown, counted from the first of them
 abbrev pub numbers_of : DisplaySuggestion → Bool → List LineRange → List (List ℕ) → List ℕ → List ℕ
 numbers_of kind folds ranges lines last =
-    if is_left_out kind lines last then [] else numbers_shown (shown_lines (is_touched folds ranges) (length lines))
+    if is_left_out kind lines last then [] else numbers_shown (lines_suggested (is_touched folds ranges) (length lines))
 
 -- which of its lines a suggestion shows: unfolded all; folded those that patches touch, and of the lines between two of
 -- these all, or of more than three the first and the last; but not one that is left out

@@ -39,10 +39,10 @@ adds_text source e =
     nat_lt 0 (length e.text) && not (is_under_text e (text_under source e))
 
 -- whether a text is that of the one edit, whitespace around both apart
-abbrev pub is_replacement : List Edit → List ℕ → Bool
-is_replacement [] text = false
-is_replacement (e ∷ []) text = bytes_eq (trim e.text) (trim text)
-is_replacement (e ∷ d ∷ es) text = false
+abbrev pub is_only_replacement : List Edit → List ℕ → Bool
+is_only_replacement [] text = false
+is_only_replacement (e ∷ []) text = bytes_eq (trim e.text) (trim text)
+is_only_replacement (e ∷ d ∷ es) text = false
 
 -- whether the text of the one edit ends with LF
 abbrev pub adds_lines : List Edit → Bool
@@ -55,6 +55,6 @@ adds_lines (e ∷ es) = last_byte e.text == 10
 abbrev pub kind_of : List ℕ → List Edit → List ℕ → DisplaySuggestion
 kind_of source ts text =
     if nat_le (length (lines_of text)) 1 && list_any (takes_away source) ts then Diff
-    else if is_replacement ts text then (if adds_lines ts then Add else Plain)
+    else if is_only_replacement ts text then (if adds_lines ts then Add else Plain)
     else if nat_le (length (lines_of text)) 1 then Underline
     else Plain

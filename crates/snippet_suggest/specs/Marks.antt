@@ -23,8 +23,8 @@ use Rattle.snippet_style.specs.Bounds.{max_column}
 abbrev pub text_width : List ℕ → ℕ
 text_width text = capped (width_of (chars text))
 
-abbrev pub columns_of : Source → Edit → PatchColumns
-columns_of s e =
+abbrev pub edit_columns : Source → Edit → PatchColumns
+edit_columns s e =
     let at = locations_of s e.start e.end in
     record { start = at.0.display; end = at.1.display; width = text_width e.text }
 
@@ -57,8 +57,8 @@ inner_width c text = if is_blank text then c.width else text_width (trim text)
 abbrev pub mark_start : List PatchColumns → PatchColumns → List ℕ → ℕ
 mark_start earlier c text = moved c.start earlier (capped (c.start + lead_of text))
 
-abbrev pub mark_end : List PatchColumns → PatchColumns → List ℕ → ℕ
-mark_end earlier c text = moved c.start earlier (capped (capped (c.start + lead_of text) + inner_width c text))
+abbrev pub patch_mark_end : List PatchColumns → PatchColumns → List ℕ → ℕ
+patch_mark_end earlier c text = moved c.start earlier (capped (capped (c.start + lead_of text) + inner_width c text))
 
 -- the mark of an edit: `+` where it adds text, else that of what is changed
 abbrev pub mark_glyph_of : DecorStyle → List ℕ → Edit → ℕ
@@ -73,8 +73,8 @@ with_mark layout mark start end row =
 unfoldable pub with_marks : SuggestionLayout → Source → List PatchColumns → List Edit → List Cell → List Cell
 with_marks layout s earlier [] row = row
 with_marks layout s earlier (e ∷ es) row =
-    let c = columns_of s e in
-    with_marks layout s (earlier ++ c ∷ []) es (with_mark layout (mark_glyph_of layout.base.decor s.text e) (mark_start earlier c e.text) (mark_end earlier c e.text) row)
+    let c = edit_columns s e in
+    with_marks layout s (earlier ++ c ∷ []) es (with_mark layout (mark_glyph_of layout.base.decor s.text e) (mark_start earlier c e.text) (patch_mark_end earlier c e.text) row)
 
 -- the edits that some trimmed patches are
 abbrev pub edits_at : List TrimmedPatch → List Edit

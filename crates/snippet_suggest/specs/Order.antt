@@ -15,7 +15,7 @@ use Rattle.snippet_suggest.specs.declared.layout.SuggestionStart.{SuggestionStar
 use Rattle.snippet_suggest.specs.declared.shown.SuggestionLine.{SuggestionLine}
 use Rattle.snippet_suggest.specs.declared.shown.SuggestionLine.TheVariants.{Line, Gap}
 use Rattle.snippet_suggest.specs.Given.{first_given, given_lines, given_ranges, is_left_out, last_reached, removed_lines, shown_kind, trimmed_of}
-use Rattle.snippet_suggest.specs.Shown.{is_touched, shown_lines}
+use Rattle.snippet_suggest.specs.Shown.{is_touched, lines_suggested}
 
 -- what a row of a suggestion shows: what the suggestion begins with; a line that it offers, counted from the first that is given;
 -- that lines are left out; line i of the source as removed, with this number beside it and this text; nothing; or what it ends
@@ -107,7 +107,7 @@ rows_of_suggestion start s =
     let touched = is_touched s.fold (given_ranges s) in
     let removed = map (removed_row s) (removed_lines s) in
     let changed = changed_rows (touched 0) (is_left_out (shown_kind s) (given_lines s) (last_reached s)) removed in
-    rows_where (given_lines s) (is_diff (shown_kind s)) (Begins start) removed changed (map row_of_shown (shown_lines touched (length (given_lines s))))
+    rows_where (given_lines s) (is_diff (shown_kind s)) (Begins start) removed changed (map row_of_shown (lines_suggested touched (length (given_lines s))))
 
 -- some lines that are removed, with the numbers beside them: their own
 abbrev pub numbered_at : List LineInfo → List (ℕ × List ℕ)

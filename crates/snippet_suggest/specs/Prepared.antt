@@ -7,7 +7,7 @@ use Rattle.snippet_model.specs.declared.snippet.Snippet.{Snippet}
 use Rattle.snippet_model.specs.declared.snippet.Patch.{Patch}
 use Rattle.snippet_lines.specs.Lines.{source_lines}
 use Rattle.snippet_lines.specs.Span.{IsSpan}
-use Rattle.snippet_splice.specs.Edits.{bounds_of, in_order, original_bounds_of, trimmed_edit_of}
+use Rattle.snippet_splice.specs.Edits.{edit_bounds, in_order, original_bounds_of, trimmed_edit_of}
 use Rattle.snippet_splice.specs.Overlap.{AreDisjoint}
 use Rattle.snippet_splice.specs.Stretches.{line_stretches, new_stretches, replaced_stretches}
 use Rattle.snippet_suggest.specs.declared.prepared.PreparedSuggestion.{PreparedSuggestion}
@@ -33,7 +33,7 @@ pub record IsPrepared (p : PreparedSuggestion) : Type 0 where
   pub lines : p.map ≡ numbered_source p.snippet.now
   pub text : string_bytes p.splice.complete ≡ given_text p.snippet.now
   pub edits : map trimmed_edit_of p.splice.patches.items ≡ trimmed_of p.snippet.now
-  pub originals : map original_bounds_of p.splice.patches.items ≡ map bounds_of (in_order (edits_of p.snippet.now))
+  pub originals : map original_bounds_of p.splice.patches.items ≡ map edit_bounds (in_order (edits_of p.snippet.now))
   pub ranges : p.splice.ranges.items ≡ given_ranges p.snippet.now
   pub new : (k : ℕ)
       → line_stretches p.splice.highlights.items k ≡ new_stretches p.snippet.now.fold (cow_str_bytes p.snippet.now.source) (edits_of p.snippet.now) k

@@ -115,7 +115,7 @@ abbrev pub HasLeft : ℕ → List ℕ → List Cell → Type 0
 HasLeft gutter left row = (c : ℕ) → c < gutter + 3 → (slice_index_or row c SPACE).ch ≡ slice_index_or left c 32
 
 -- a row that shows no line, and just this left of the lines
-pub record IsStrokeRow (decor : DecorStyle) (gutter : ℕ) (left : List ℕ) (row : List Cell) : Type 0 where
+pub record IsEdgeRow (decor : DecorStyle) (gutter : ℕ) (left : List ℕ) (row : List Cell) : Type 0 where
   pub bare : IsBareRow decor gutter row
   pub left_is : HasLeft gutter left row
 
@@ -139,7 +139,7 @@ pub record IsRepainted (above : List (List Cell)) (last : List Cell) (new : List
 abbrev pub IsShownRow : SuggestionLayout → ℕ → List (List ℕ) → SuggestionLine → List Cell → Type 0
 IsShownRow layout first lines (Line k) row =
     IsLineRow layout.base.decor layout.base.gutter (shown_number layout.numbers layout.base.gutter (number_after first k)) (norm (chars (slice_index_or lines k []))) row
-IsShownRow layout first lines Gap row = IsStrokeRow layout.base.decor layout.base.gutter (gap_left layout.base.decor layout.base.gutter) row
+IsShownRow layout first lines Gap row = IsEdgeRow layout.base.decor layout.base.gutter (gap_left layout.base.decor layout.base.gutter) row
 
 -- rows for these, one each, stand below some rows, and nothing else
 pub record AddsShown (layout : SuggestionLayout) (first : ℕ) (lines : List (List ℕ)) (shown : List SuggestionLine) (above new : List (List Cell)) : Type 0 where
@@ -155,13 +155,13 @@ IsRowOfRemoved layout line row =
 -- the row shows this, of some lines of which the first has this number
 abbrev pub Shows : SuggestionLayout → ℕ → List (List ℕ) → SuggestionRow → List Cell → Type 0
 Shows layout first lines (Begins start) row =
-    IsStrokeRow layout.base.decor layout.base.gutter (beside_gutter layout.base.gutter (begin_glyph layout.base.decor start)) row
+    IsEdgeRow layout.base.decor layout.base.gutter (beside_gutter layout.base.gutter (begin_glyph layout.base.decor start)) row
 Shows layout first lines (Offers k) row = IsShownRow layout first lines (Line k) row
 Shows layout first lines Skips row = IsShownRow layout first lines Gap row
 Shows layout first lines (Removes i number text) row = IsRowOfRemoved layout (number, text) row
-Shows layout first lines Empty row = IsStrokeRow layout.base.decor layout.base.gutter [] row
+Shows layout first lines Empty row = IsEdgeRow layout.base.decor layout.base.gutter [] row
 Shows layout first lines (Ends follows) row =
-    IsStrokeRow layout.base.decor layout.base.gutter (beside_gutter layout.base.gutter (end_glyph layout.base.decor follows)) row
+    IsEdgeRow layout.base.decor layout.base.gutter (beside_gutter layout.base.gutter (end_glyph layout.base.decor follows)) row
 
 -- rows that show these, one each, stand below some rows, and nothing else
 pub record AddsRows (layout : SuggestionLayout) (first : ℕ) (lines : List (List ℕ)) (shown : List SuggestionRow) (above new : List (List Cell)) : Type 0 where
@@ -179,7 +179,7 @@ pub record AddsRemoved (layout : SuggestionLayout) (removed : List (ℕ × List 
 pub record AddsEnd (layout : SuggestionLayout) (glyph : List ℕ) (skipped : ℕ) (above new : List (List Cell)) : Type 0 where
   pub last : List Cell
   pub added : new ≡ above ++ (replicate skipped [] ++ last ∷ [])
-  pub is : IsStrokeRow layout.base.decor layout.base.gutter (beside_gutter layout.base.gutter glyph) last
+  pub is : IsEdgeRow layout.base.decor layout.base.gutter (beside_gutter layout.base.gutter glyph) last
 
 -- the number of a line that is shown stands left of the sign
 abbrev pub NumberFits : SuggestionLayout → ℕ → SuggestionLine → Type 0
@@ -191,7 +191,7 @@ NumberFits layout first Gap = Unit {0}
 -- ends with it, else nothing
 abbrev pub IsTail : DecorStyle → ℕ → Bool → List (List Cell) → Type 0
 IsTail decor gutter true tail =
-    (row : List Cell) × (follows : Bool) × (tail ≡ row ∷ []) × IsStrokeRow decor gutter (beside_gutter gutter (end_glyph decor follows)) row
+    (row : List Cell) × (follows : Bool) × (tail ≡ row ∷ []) × IsEdgeRow decor gutter (beside_gutter gutter (end_glyph decor follows)) row
 IsTail decor gutter false tail = tail ≡ []
 
 -- whether a suggestion begins in a row that is there
@@ -209,7 +209,7 @@ abbrev pub IsStart : SuggestionLayout → SuggestionStart → List (List Cell) �
 IsStart layout Opening tail = tail ≡ []
 IsStart layout Next tail = IsTail layout.base.decor layout.base.gutter true tail
 IsStart layout Path tail =
-    (row : List Cell) × (tail ≡ row ∷ []) × IsStrokeRow layout.base.decor layout.base.gutter (beside_gutter layout.base.gutter (begin_glyph layout.base.decor Path)) row
+    (row : List Cell) × (tail ≡ row ∷ []) × IsEdgeRow layout.base.decor layout.base.gutter (beside_gutter layout.base.gutter (begin_glyph layout.base.decor Path)) row
 
 -- the rows of a suggestion stand below some rows, and nothing else, each of which shows what the suggestion has there; the last is
 -- what it ends with, in which a further suggestion may begin

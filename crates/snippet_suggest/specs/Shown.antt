@@ -30,8 +30,8 @@ shown_from touched from k (suc left) =
     if touched k then shown_run from k ++ (Line k ∷ shown_from touched (k + 1) (k + 1) left) else shown_from touched from (k + 1) left
 
 -- the lines that are shown of so many
-abbrev pub shown_lines : (ℕ → Bool) → ℕ → List SuggestionLine
-shown_lines touched count = shown_from touched 0 0 count
+abbrev pub lines_suggested : (ℕ → Bool) → ℕ → List SuggestionLine
+lines_suggested touched count = shown_from touched 0 0 count
 
 -- the number of a line that is shown
 abbrev pub number_of : SuggestionLine → Option ℕ

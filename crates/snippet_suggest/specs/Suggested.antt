@@ -16,7 +16,7 @@ use Rattle.snippet_suggest.specs.declared.kind.DisplaySuggestion.TheVariants.{Un
 use Rattle.snippet_suggest.specs.declared.layout.SuggestionLayout.{SuggestionLayout}
 use Rattle.snippet_suggest.specs.declared.layout.SuggestionStart.{SuggestionStart}
 use Rattle.snippet_suggest.specs.declared.shown.SuggestionLine.TheVariants.{Line}
-use Rattle.snippet_suggest.specs.Cells.{begin_cells, end_cells, gap_cells, left_out_cells, on_last, removed_cells, shown_cells, sign_of, with_stretches}
+use Rattle.snippet_suggest.specs.Cells.{begin_cells, end_cells, gap_cells, left_out_cells, on_last, removed_cells, suggestion_row, sign_of, with_stretches}
 use Rattle.snippet_style.specs.Glyphs.{suggestion_glyph_of}
 use Rattle.snippet_suggest.specs.Rows.{NumberFits}
 use Rattle.snippet_suggest.specs.Given.{edits_of, first_given, given_lines, given_ranges, is_left_out, last_reached, shown_kind, trimmed_of}
@@ -30,8 +30,8 @@ use Rattle.snippet_grid.specs.Layout.{separator_cell}
 abbrev pub new_on : Snippet Patch → ℕ → List SubstitutionHighlight
 new_on s k = new_stretches s.fold (cow_str_bytes s.source) (edits_of s) k
 
-abbrev pub replaced_on : Snippet Patch → ℕ → List SubstitutionHighlight
-replaced_on s k = replaced_stretches s.fold (cow_str_bytes s.source) (edits_of s) k
+abbrev pub suggested_stretches : Snippet Patch → ℕ → List SubstitutionHighlight
+suggested_stretches s k = replaced_stretches s.fold (cow_str_bytes s.source) (edits_of s) k
 
 -- the row of a line that is removed, over one that is there or has no cells: where no line is given, all of its text has the role of
 -- removal, and else the stretches that are replaced
@@ -51,10 +51,10 @@ marked_edits Add es = []
 unfoldable pub cells_of : SuggestionLayout → Snippet Patch → List Cell → SuggestionRow → List Cell
 cells_of layout s under (Begins start) = begin_cells layout start under
 cells_of layout s under (Offers k) =
-    shown_cells layout (shown_kind s) (s.line_start + first_given s) (given_lines s) (new_on s) (Line k)
+    suggestion_row layout (shown_kind s) (s.line_start + first_given s) (given_lines s) (new_on s) (Line k)
 cells_of layout s under Skips = gap_cells layout
 cells_of layout s under (Removes i number text) =
-    removed_in layout (given_lines s) (replaced_on s (i - first_given s)) number text under
+    removed_in layout (given_lines s) (suggested_stretches s (i - first_given s)) number text under
 cells_of layout s under Empty = []
 cells_of layout s under (Ends follows) =
     with_marks layout (numbered_source s) [] (marked_edits (shown_kind s) (trimmed_of s)) (end_cells layout follows)
@@ -69,7 +69,7 @@ cells_over f under (row ∷ rows) = f under row ∷ map (f []) rows
 abbrev pub with_left_out : SuggestionLayout → Snippet Patch → List (List ℕ) → List (List Cell) → List (List Cell)
 with_left_out layout s [] rows = rows
 with_left_out layout s (line ∷ lines) rows =
-    let gone = if bytes_eq line (last_reached s) then replaced_on s (last_line_reached (cow_str_bytes s.source) (edits_of s) - first_given s) else [] in
+    let gone = if bytes_eq line (last_reached s) then suggested_stretches s (last_line_reached (cow_str_bytes s.source) (edits_of s) - first_given s) else [] in
     if is_diff (shown_kind s) && is_touched s.fold (given_ranges s) 0 && is_left_out (shown_kind s) (line ∷ lines) (last_reached s) then on_last (left_out_cells layout.base.gutter line gone (new_on s 0)) rows else rows
 
 -- the rows of a suggestion but the last, the first of them over one that is there or has no cells

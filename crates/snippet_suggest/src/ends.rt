@@ -3,7 +3,7 @@ ghost use Rattle.std.specs.Prelude.{◌≡◌, ℕ, ◌<◌, ◌≤◌, ◌+◌,
 ghost use Rattle.std.specs.Prelude.{length, replicate};
 ghost use Rattle.snippet_style.specs.Glyphs.{suggestion_glyph_of};
 ghost use Rattle.snippet_suggest.specs.Glyphs.{is_begin, is_sign};
-ghost use Rattle.snippet_suggest.specs.Rows.{AddsEnd, AddsRow, IsStart, IsStrokeRow, IsTail, begin_glyph};
+ghost use Rattle.snippet_suggest.specs.Rows.{AddsEnd, AddsRow, IsStart, IsEdgeRow, IsTail, begin_glyph};
 ghost use Rattle.snippet_suggest.specs.Rows.{beside_gutter, end_glyph, rows_shared};
 ghost use Rattle.snippet_suggest.specs.Cells.{begin_cells, end_cells, put};
 ghost use Rattle.snippet_style.specs.declared.role.ElementStyle.TheVariants.{LineNumber};
@@ -36,7 +36,7 @@ pub(crate) fn draw_head(
     start: SuggestionStart,
 ) -> Result<(), AllocError>
     ensures added { (above tail : List (List Cell)) → buffer.old ≡ above ++ tail → IsStart layout.now start tail
-        → OnOk result (AddsRow (IsStrokeRow layout.now.base.decor layout.now.base.gutter
+        → OnOk result (AddsRow (IsEdgeRow layout.now.base.decor layout.now.base.gutter
         (beside_gutter layout.now.base.gutter (begin_glyph layout.now.base.decor start))) above buffer.new) }
     ensures cells { (above tail : List (List Cell)) → buffer.old ≡ above ++ tail → length tail ≡ rows_shared start
         → OnOk result (buffer.new ≡ above ++ begin_cells layout.now start (row_at tail 0) ∷ []) }
@@ -62,7 +62,7 @@ fn draw_glyph(
     requires row { HasNext row }
     ensures added { is_begin glyph ≡ true → (above tail : List (List Cell)) (shares : Bool) → row ≡ length above → buffer.old ≡ above ++ tail
         → IsTail layout.now.base.decor layout.now.base.gutter shares tail
-        → OnOk result (AddsRow (IsStrokeRow layout.now.base.decor layout.now.base.gutter
+        → OnOk result (AddsRow (IsEdgeRow layout.now.base.decor layout.now.base.gutter
         (beside_gutter layout.now.base.gutter (suggestion_glyph_of layout.now.base.decor glyph))) above buffer.new) }
     ensures end { is_sign glyph ≡ false → (skipped : ℕ) → row ≡ length buffer.old + skipped
         → OnOk result (AddsEnd layout.now (suggestion_glyph_of layout.now.base.decor glyph) skipped

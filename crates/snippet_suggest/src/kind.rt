@@ -6,7 +6,7 @@ ghost use Rattle.std.specs.String.{string_bytes};
 ghost use Rattle.snippet_lines.specs.Lines.{last_byte, lines_of};
 ghost use Rattle.snippet_lines.specs.Span.{IsSpan};
 ghost use Rattle.snippet_splice.specs.Edits.{trimmed_edit_of};
-ghost use Rattle.snippet_suggest.specs.Kind.{adds_lines, adds_text, is_replacement, is_under_text, kind_of, loses_text};
+ghost use Rattle.snippet_suggest.specs.Kind.{adds_lines, adds_text, is_only_replacement, is_under_text, kind_of, loses_text};
 ghost use Rattle.snippet_suggest.specs.Kind.{text_under};
 ghost use Rattle.snippet_suggest.specs.Kind as spec;
 
@@ -57,8 +57,8 @@ fn has_one_line(text: &str) -> bool
 /// The replacement of the one patch, if there is just one and it gives the whole text, whitespace around them apart.
 fn only_replacement<'a>(patches: &[TrimmedPatch<'a>], text: &str) -> Option<&'a str>
     ensures some { let ts = map trimmed_edit_of patches.now in IfSome result (λ t.
-        (is_replacement ts text.now ≡ true) × ((last_byte t.now == 10) ≡ adds_lines ts)) }
-    ensures none { IfNone result (is_replacement (map trimmed_edit_of patches.now) text.now ≡ false) }
+        (is_only_replacement ts text.now ≡ true) × ((last_byte t.now == 10) ≡ adds_lines ts)) }
+    ensures none { IfNone result (is_only_replacement (map trimmed_edit_of patches.now) text.now ≡ false) }
 {
     match patches {
         [patch] if patch.replacement.trim() == text.trim() => Some(patch.replacement),

@@ -6,10 +6,10 @@ ghost use Rattle.snippet_text.specs.Normalized.{norm};
 ghost use Rattle.snippet_lines.specs.Lines.{lines_of};
 ghost use Rattle.snippet_splice.specs.Spliced.{texts_of};
 ghost use Rattle.snippet_splice.specs.Stretches.{line_stretches};
-ghost use Rattle.snippet_suggest.specs.Cells.{shown_cells, sign_alone, sign_of, sign_touched};
+ghost use Rattle.snippet_suggest.specs.Cells.{suggestion_row, sign_alone, sign_of, sign_touched};
 ghost use Rattle.snippet_suggest.specs.Glyphs.{is_sign};
 ghost use Rattle.snippet_suggest.specs.declared.shown.SuggestionLine.TheVariants.{Line};
-ghost use Rattle.snippet_suggest.specs.Shown.{is_touched, shown_lines};
+ghost use Rattle.snippet_suggest.specs.Shown.{is_touched, lines_suggested};
 ghost use Rattle.snippet_lines.specs.Number.{shown_number};
 ghost use Rattle.snippet_suggest.specs.Rows.{AddsRow, AddsShown, NumberFits, IsLineRow, IsShownRow};
 ghost use Rattle.snippet_suggest.specs.Order.{number_after};
@@ -62,12 +62,12 @@ pub(crate) fn draw_lines(
     stretches: &[Vec<SubstitutionHighlight>],
     fold: bool,
 ) -> Result<(), AllocError>
-    ensures added { let shown = shown_lines (is_touched fold ranges.now) (length lines.now) in
+    ensures added { let shown = lines_suggested (is_touched fold ranges.now) (length lines.now) in
         ((k : ℕ) → k < length lines.now → NumberFits layout.now first (Line k))
         → OnOk result (AddsShown layout.now first (map (λ l. l.now) lines.now) shown buffer.old buffer.new) }
     ensures cells { OnOk result (buffer.new ≡ buffer.old ++ map
-        (shown_cells layout.now kind first (map (λ l. l.now) lines.now) (line_stretches stretches.now))
-        (shown_lines (is_touched fold ranges.now) (length lines.now))) }
+        (suggestion_row layout.now kind first (map (λ l. l.now) lines.now) (line_stretches stretches.now))
+        (lines_suggested (is_touched fold ranges.now) (length lines.now))) }
 {
     let shown = shown_lines(alloc, lines.len(), ranges, fold)?;
     draw_shown(alloc, buffer, layout, kind, first, lines, stretches, &shown)?;
@@ -88,7 +88,7 @@ fn draw_shown(
     ensures added { All (NumberFits layout.now first) shown.now
         → OnOk result (AddsShown layout.now first (map (λ l. l.now) lines.now) shown.now buffer.old buffer.new) }
     ensures cells { OnOk result (buffer.new ≡ buffer.old ++ map
-        (shown_cells layout.now kind first (map (λ l. l.now) lines.now) (line_stretches stretches.now)) shown.now) }
+        (suggestion_row layout.now kind first (map (λ l. l.now) lines.now) (line_stretches stretches.now)) shown.now) }
 {
     for line in shown {
         draw_shown_line(alloc, buffer, layout, kind, first, lines, stretches, *line)?;
@@ -110,7 +110,7 @@ fn draw_shown_line(
     ensures added { NumberFits layout.now first line
         → OnOk result (AddsRow (IsShownRow layout.now first (map (λ l. l.now) lines.now) line) buffer.old buffer.new) }
     ensures cells { OnOk result (buffer.new ≡ buffer.old
-        ++ shown_cells layout.now kind first (map (λ l. l.now) lines.now) (line_stretches stretches.now) line ∷ []) }
+        ++ suggestion_row layout.now kind first (map (λ l. l.now) lines.now) (line_stretches stretches.now) line ∷ []) }
 {
     match line {
         SuggestionLine::Line(k) => {
@@ -135,7 +135,7 @@ fn draw_text_line(
         → OnOk result (AddsRow (IsLineRow layout.now.base.decor layout.now.base.gutter (shown_number layout.now.numbers layout.now.base.gutter (number_after first k))
         (norm (chars (slice_index_or (map (λ l. l.now) lines.now) k [])))) buffer.old buffer.new) }
     ensures cells { OnOk result (buffer.new ≡ buffer.old
-        ++ shown_cells layout.now kind first (map (λ l. l.now) lines.now) (line_stretches stretches.now) (Line k) ∷ []) }
+        ++ suggestion_row layout.now kind first (map (λ l. l.now) lines.now) (line_stretches stretches.now) (Line k) ∷ []) }
 {
     let line = line_at(lines, k);
     let stretches = stretches_of(stretches, k);

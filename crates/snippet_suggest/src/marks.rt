@@ -2,12 +2,12 @@
 ghost use Rattle.std.specs.Prelude.{◌≡◌, ℕ, ◌+◌, ◌-◌, ◌++◌, ◌∷◌, [], List, All, OnOk, length};
 ghost use Rattle.snippet_splice.specs.Edits.{trimmed_edit_of};
 ghost use Rattle.snippet_splice.specs.Stretches.{capped};
-ghost use Rattle.snippet_suggest.specs.Marks.{columns_of, edits_at, left_of, mark_end, mark_glyph_of, mark_start};
+ghost use Rattle.snippet_suggest.specs.Marks.{edit_columns, edits_at, left_of, patch_mark_end, mark_glyph_of, mark_start};
 ghost use Rattle.snippet_suggest.specs.Marks.{text_width, with_mark, with_marks};
 ghost use Rattle.snippet_suggest.specs.Moves.{AreMoves, shift_of};
 ghost use Rattle.snippet_suggest.specs.declared.marks.PatchColumns.{PatchColumns};
 ghost use Rattle.snippet_style.specs.Cell.{Cell};
-ghost use Rattle.snippet_suggest.specs.Rows.{AddsRow, IsMarkOrSpace, IsStrokeRow};
+ghost use Rattle.snippet_suggest.specs.Rows.{AddsRow, IsMarkOrSpace, IsEdgeRow};
 ghost use Rattle.snippet_lines.specs.Span.{IsSpan};
 ghost use Rattle.snippet_style.specs.Bounds.{HasNext};
 
@@ -144,8 +144,8 @@ pub(crate) fn draw_marks(
     requires spans { All (λ p. IsSpan map.now.text p.span.start p.span.end) patches.now }
     // Into the last row, which shows no line.
     ensures marked { (above : List (List Cell)) (last : List Cell) (left : List ℕ) → row ≡ length above → buffer.old ≡ above ++ last ∷ []
-        → IsStrokeRow layout.now.base.decor layout.now.base.gutter left last
-        → OnOk result (AddsRow (IsStrokeRow layout.now.base.decor layout.now.base.gutter left) above buffer.new) }
+        → IsEdgeRow layout.now.base.decor layout.now.base.gutter left last
+        → OnOk result (AddsRow (IsEdgeRow layout.now.base.decor layout.now.base.gutter left) above buffer.new) }
     ensures cells { (above : List (List Cell)) (last : List Cell) → row ≡ length above → buffer.old ≡ above ++ last ∷ []
         → OnOk result (buffer.new ≡ above ++ with_marks layout.now map.now [] (edits_at patches.now) last ∷ []) }
 {
@@ -185,9 +185,9 @@ fn draw_mark(
 ) -> Result<(), AllocError>
     requires row { HasNext row }
     ensures marked { (above : List (List Cell)) (last : List Cell) (left : List ℕ) → row ≡ length above → buffer.old ≡ above ++ last ∷ []
-        → IsStrokeRow layout.now.base.decor layout.now.base.gutter left last
+        → IsEdgeRow layout.now.base.decor layout.now.base.gutter left last
         → IsMarkOrSpace layout.now.base.decor mark
-        → OnOk result (AddsRow (IsStrokeRow layout.now.base.decor layout.now.base.gutter left) above buffer.new) }
+        → OnOk result (AddsRow (IsEdgeRow layout.now.base.decor layout.now.base.gutter left) above buffer.new) }
     ensures cells { (above : List (List Cell)) (last : List Cell) → row ≡ length above → buffer.old ≡ above ++ last ∷ []
         → OnOk result (buffer.new ≡ above ++ with_mark layout.now mark start end last ∷ []) }
 {
@@ -202,7 +202,7 @@ fn draw_mark(
 /// The columns of a patch of a source.
 fn patch_columns(map: &SourceMap<'_>, patch: &TrimmedPatch<'_>) -> PatchColumns
     requires span { IsSpan map.now.text patch.now.span.start patch.now.span.end }
-    ensures value { result ≡ columns_of map.now (trimmed_edit_of patch.now) }
+    ensures value { result ≡ edit_columns map.now (trimmed_edit_of patch.now) }
 {
     let (start, end) = map.span_to_locations(patch.span.start..patch.span.end);
     PatchColumns {
@@ -215,7 +215,7 @@ fn patch_columns(map: &SourceMap<'_>, patch: &TrimmedPatch<'_>) -> PatchColumns
 /// The columns below a replacement, so far moved, without its outer whitespace, or below all of it if it is blank.
 fn marked_columns(shift: Shift, columns: PatchColumns, replacement: &str) -> (usize, usize)
     ensures value { (earlier : List PatchColumns) → shift ≡ shift_of (left_of columns.start earlier)
-        → result ≡ (mark_start earlier columns replacement.now, mark_end earlier columns replacement.now) }
+        → result ≡ (mark_start earlier columns replacement.now, patch_mark_end earlier columns replacement.now) }
 {
     let (lead, width) = if is_blank(replacement) {
         (0, columns.width)

@@ -7,7 +7,7 @@ ghost use Rattle.snippet_style.specs.Cell.{Cell};
 ghost use Rattle.snippet_grid.specs.Grid.{row_at};
 ghost use Rattle.snippet_suggest.specs.Cells.{gap_cells, line_cells, removed_cells};
 ghost use Rattle.snippet_suggest.specs.Glyphs.{is_sign};
-ghost use Rattle.snippet_suggest.specs.Rows.{AddsRow, IsLineRow, IsRowOfRemoved, IsStrokeRow, IsTail, gap_left};
+ghost use Rattle.snippet_suggest.specs.Rows.{AddsRow, IsLineRow, IsRowOfRemoved, IsEdgeRow, IsTail, gap_left};
 ghost use Rattle.snippet_grid.specs.Layout.{separator_cell};
 ghost use Rattle.snippet_style.specs.Bounds.{HasNext};
 
@@ -100,7 +100,7 @@ pub(crate) fn draw_gap(
     buffer: &mut StyledBuffer,
     layout: &SuggestionLayout,
 ) -> Result<(), AllocError>
-    ensures added { OnOk result (AddsRow (IsStrokeRow layout.now.base.decor layout.now.base.gutter (gap_left layout.now.base.decor layout.now.base.gutter)) buffer.old buffer.new) }
+    ensures added { OnOk result (AddsRow (IsEdgeRow layout.now.base.decor layout.now.base.gutter (gap_left layout.now.base.decor layout.now.base.gutter)) buffer.old buffer.new) }
     ensures cells { OnOk result (buffer.new ≡ buffer.old ++ gap_cells layout.now ∷ []) }
 {
     let row = buffer.num_lines();

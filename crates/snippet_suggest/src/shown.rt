@@ -25,7 +25,7 @@ pub(crate) fn shown_lines(
     ranges: &[LineRange],
     fold: bool,
 ) -> Result<Vec<SuggestionLine>, AllocError>
-    ensures value { IfOk result (λ shown. shown.items ≡ spec.shown_lines (spec.is_touched fold ranges.now) count) }
+    ensures value { IfOk result (λ shown. shown.items ≡ spec.lines_suggested (spec.is_touched fold ranges.now) count) }
     // Each line at most once, and one below the other.
     ensures rising { IfOk result (λ shown. AreRising 0 count (numbers_shown shown.items)) }
     // Each touched line, all where lines aren't folded.

@@ -6,11 +6,11 @@ use Rattle.std.proofs.Math.Seq.{take-append_seam}
 use Rattle.snippet_grid.specs.Grid.{row_at}
 use Rattle.snippet_style.specs.Cell.{Cell, written}
 use Rattle.snippet_titles.specs.Appended.{IsAtEnd, appended}
-use Rattle.snippet_titles.specs.Heading.{on_top, trimmed}
+use Rattle.snippet_titles.specs.Heading.{on_top, without_empty_end}
 use Rattle.snippet_titles.proofs.AppendLemmas.{appended-appended, appended-is}
 
 -- an empty row at the end isn't there
-pub trimmed-empty : (rows : List (List Cell)) → trimmed (rows ++ [] ∷ []) ≡ trimmed rows
+pub trimmed-empty : (rows : List (List Cell)) → without_empty_end (rows ++ [] ∷ []) ≡ without_empty_end rows
 trimmed-empty [] = refl
 trimmed-empty (row ∷ rows) = ap (on_top row) (trimmed-empty rows)
 
@@ -20,7 +20,7 @@ on_top-more row [] some = absurd (omega (arith, some))
 on_top-more [] (r ∷ rows) some = refl
 on_top-more (cell ∷ cells) (r ∷ rows) some = refl
 
-pub trimmed-full : (rows : List (List Cell)) (cells : List Cell) → 0 < length cells → trimmed (rows ++ cells ∷ []) ≡ rows ++ cells ∷ []
+pub trimmed-full : (rows : List (List Cell)) (cells : List Cell) → 0 < length cells → without_empty_end (rows ++ cells ∷ []) ≡ rows ++ cells ∷ []
 trimmed-full [] [] some = absurd (omega (arith, some))
 trimmed-full [] (cell ∷ cells) some = refl
 trimmed-full (row ∷ rows) cells some =
@@ -43,10 +43,10 @@ on_top-refilled (cell ∷ cells) rows all is within =
     (ap (λ n. (cell ∷ cells) ∷ (rows ++ replicate n none)) more ∙ ap (λ (rs : List (List Cell)). (cell ∷ cells) ∷ rs) is, omega (arith, within))
 
 -- rows that are trimmed are the same once empty ones are added below
-pub refilled : (rows : List (List Cell)) → (trimmed rows ++ replicate (length rows - length (trimmed rows)) [] ≡ rows) × (length (trimmed rows) ≤ length rows)
+pub refilled : (rows : List (List Cell)) → (without_empty_end rows ++ replicate (length rows - length (without_empty_end rows)) [] ≡ rows) × (length (without_empty_end rows) ≤ length rows)
 refilled [] = (refl, omega arith)
 refilled (row ∷ rows) =
-    let rest = refilled rows in on_top-refilled row (trimmed rows) rows rest.0 rest.1
+    let rest = refilled rows in on_top-refilled row (without_empty_end rows) rows rest.0 rest.1
 
 -- a row reads the same
 pub get_or-append_seam : (xs ys : List (List Cell)) → row_at (xs ++ ys) (length xs) ≡ row_at ys 0
@@ -66,9 +66,9 @@ past_rows xs n k =
     ]
 
 -- trimming changes no row
-pub row_at-trimmed : (rows : List (List Cell)) (k : ℕ) → row_at (trimmed rows) k ≡ row_at rows k
+pub row_at-trimmed : (rows : List (List Cell)) (k : ℕ) → row_at (without_empty_end rows) k ≡ row_at rows k
 row_at-trimmed rows k =
-    sym (past_rows (trimmed rows) (length rows - length (trimmed rows)) k) ∙ ap (λ rs. row_at rs k) (refilled rows).0
+    sym (past_rows (without_empty_end rows) (length rows - length (without_empty_end rows)) k) ∙ ap (λ rs. row_at rs k) (refilled rows).0
 
 -- a row after those that were drawn below a grid, of which some at the end may not be there yet
 pub written_past : {X : Type 0} (blank : X) (xs new : List X) (at : ℕ) → length xs ≤ at
@@ -78,44 +78,44 @@ written_past blank xs new at past =
 
 -- cells that are appended in a row below those so far are one more row
 pub appended-further : (base done : List (List Cell)) (row : ℕ) (cells : List Cell) → row ≡ length base + length done
-    → appended (base ++ trimmed done) row cells ≡ base ++ trimmed (done ++ cells ∷ [])
+    → appended (base ++ without_empty_end done) row cells ≡ base ++ without_empty_end (done ++ cells ∷ [])
 appended-further base done row [] at = ap (λ rs. base ++ rs) (sym (trimmed-empty done))
 appended-further base done row (cell ∷ cells) at =
-    let there : List (List Cell) = base ++ trimmed done in
+    let there : List (List Cell) = base ++ without_empty_end done in
     let all = refilled done in
-    let size : length there ≡ length base + length (trimmed done) = length-append base (trimmed done) in
-    let missing : row - length there ≡ length done - length (trimmed done) = omega (arith, size, at) in
+    let size : length there ≡ length base + length (without_empty_end done) = length-append base (without_empty_end done) in
+    let missing : row - length there ≡ length done - length (without_empty_end done) = omega (arith, size, at) in
     let new : List (List Cell) = (cell ∷ cells) ∷ [] in
     appended-is there row (cell ∷ cells) (omega arith)
     ∙ ap (λ (r : List Cell). written [] there row ((r ++ cell ∷ cells) ∷ [])) (get_or_past there row [] (omega (arith, size, at, all.1)))
     ∙ written_past [] there new row (omega (arith, size, at, all.1)) ∙ ap (λ n. there ++ replicate n [] ++ new) missing
-    ∙ ap (λ rs. rs ++ new) (append_assoc base (trimmed done) (replicate (length done - length (trimmed done)) []))
+    ∙ ap (λ rs. rs ++ new) (append_assoc base (without_empty_end done) (replicate (length done - length (without_empty_end done)) []))
     ∙ ap (λ rs. base ++ rs ++ new) all.0 ∙ append_assoc base done new
     ∙ ap (λ rs. base ++ rs) (sym (trimmed-full done (cell ∷ cells) (omega arith)))
 
 -- cells below all rows
-pub appended_below : (rows : List (List Cell)) (row : ℕ) (cells : List Cell) → row ≡ length rows → appended rows row cells ≡ rows ++ trimmed (cells ∷ [])
+pub appended_below : (rows : List (List Cell)) (row : ℕ) (cells : List Cell) → row ≡ length rows → appended rows row cells ≡ rows ++ without_empty_end (cells ∷ [])
 appended_below rows row cells at =
     ap (λ rs. appended rs row cells) (sym (append-nil rows)) ∙ appended-further rows [] row cells (omega (arith, at))
 
 -- the row that stands there is the last one
-pub IsAtEnd-is : (base rows : List (List Cell)) (row : ℕ) (cells : List Cell) → row ≡ length base → rows ≡ base ++ trimmed (cells ∷ [])
+pub IsAtEnd-is : (base rows : List (List Cell)) (row : ℕ) (cells : List Cell) → row ≡ length base → rows ≡ base ++ without_empty_end (cells ∷ [])
     → (take row rows ≡ base) × (row_at rows row ≡ cells) × IsAtEnd row rows
 IsAtEnd-is base rows row cells at is =
-    let below : List (List Cell) = trimmed (cells ∷ []) in
+    let below : List (List Cell) = without_empty_end (cells ∷ []) in
     let front : take row rows ≡ base = ap (take row) is ∙ ap (λ n. take n (base ++ below)) at ∙ take-append_seam base below in
     let here : row_at rows row ≡ cells = ap (λ rs. row_at rs row) is ∙ ap (λ n. row_at (base ++ below) n) at ∙ get_or-append_seam base below ∙ row_at-trimmed (cells ∷ []) 0 in (
       front,
       here,
       record {
         within = omega (arith, at, ap length is, length-append base below);
-        last = is ∙ ap (λ rs. rs ++ below) (sym front) ∙ ap (λ (r : List Cell). take row rows ++ trimmed (r ∷ [])) (sym here);
+        last = is ∙ ap (λ rs. rs ++ below) (sym front) ∙ ap (λ (r : List Cell). take row rows ++ without_empty_end (r ∷ [])) (sym here);
       },
     )
 
 -- cells after those of the last row
 pub appended-last : (rows : List (List Cell)) (row : ℕ) (cells : List Cell) → IsAtEnd row rows
-    → appended rows row cells ≡ take row rows ++ trimmed ((row_at rows row ++ cells) ∷ [])
+    → appended rows row cells ≡ take row rows ++ without_empty_end ((row_at rows row ++ cells) ∷ [])
 appended-last rows row cells end =
     let base : List (List Cell) = take row rows in
     let r : List Cell = row_at rows row in

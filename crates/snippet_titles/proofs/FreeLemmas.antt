@@ -23,7 +23,7 @@ use Rattle.snippet_titles.specs.declared.style.TitleStyle.{TitleStyle}
 use Rattle.snippet_titles.specs.declared.style.TitleStyle.TheVariants.{Title, Short, Message}
 use Rattle.snippet_titles.specs.Heading.{bracketed_text, closing_bracket_of, colon_of, shown_text, heading_lines, heading_rows, id_text, indent_cells, is_set}
 use Rattle.snippet_titles.specs.Heading.{label_cells, heading_label_text, label_width, lines_below, note_bar_of, on_top, opening_bracket_of, roles_of}
-use Rattle.snippet_titles.specs.Heading.{sign_cells, trimmed}
+use Rattle.snippet_titles.specs.Heading.{sign_cells, without_empty_end}
 use Rattle.snippet_style.specs.Glyphs.{note_sign_of}
 use Rattle.snippet_titles.specs.Shown.{IsFreeButText}
 use Rattle.snippet_titles.proofs.TextLemmas.{row_text-append, row_text-after, row_text-label, row_text-spaces}
@@ -65,10 +65,10 @@ module _ (P : List Cell → Type 0) where
   All-on_top (cell ∷ cells) rows one all = All-cons P (cell ∷ cells) rows one all
 
   -- what holds of each row holds of each row once rows are trimmed
-  pub All-trimmed : (rows : List (List Cell)) → All P rows → All P (trimmed rows)
+  pub All-trimmed : (rows : List (List Cell)) → All P rows → All P (without_empty_end rows)
   All-trimmed [] all = All-nil P
   All-trimmed (row ∷ rows) all =
-      All-on_top row (trimmed rows) (All-head P row rows all) (All-trimmed rows (All-tail P row rows all))
+      All-on_top row (without_empty_end rows) (All-head P row rows all) (All-trimmed rows (All-tail P row rows all))
 
 -- what holds of each character that isn't listed
 module _ (P : ℕ → Type 0) (free : (c : ℕ) → IsUnlisted c → P c) where

@@ -10,7 +10,7 @@ use Rattle.snippet_model.specs.Heading.{Heading}
 use Rattle.snippet_titles.specs.declared.style.HeadingRoles.{HeadingRoles}
 use Rattle.snippet_titles.specs.declared.style.TitleStyle.{TitleStyle}
 use Rattle.snippet_titles.specs.Appended.{IsAtEnd, appended}
-use Rattle.snippet_titles.specs.Heading.{heading_lines, heading_rows, indent_cells, label_cells, label_width, lines_below, roles_of, sign_cells, trimmed}
+use Rattle.snippet_titles.specs.Heading.{heading_lines, heading_rows, indent_cells, label_cells, label_width, lines_below, roles_of, sign_cells, without_empty_end}
 use Rattle.snippet_titles.proofs.AppendLemmas.{row_at-appended}
 use Rattle.snippet_titles.proofs.EndLemmas.{IsAtEnd-begun}
 use Rattle.snippet_titles.proofs.RowLemmas.{appended-two}
@@ -40,24 +40,24 @@ roles_known style heading level trusted roles leveled trusts are =
 
 -- what is drawn of a text that spells these characters, below a label
 pub text_drawn : (old new : List (List Cell)) (row : ℕ) (further : List Cell) (role : ElementStyle) (text shown : List ℕ) → IsUtf8 text
-    → chars text ≡ shown → new ≡ take row old ++ trimmed (lines_below (row_at old row) further role (map chars (lines_at text)))
-    → new ≡ take row old ++ trimmed (lines_below (row_at old row) further role (lines_at shown))
+    → chars text ≡ shown → new ≡ take row old ++ without_empty_end (lines_below (row_at old row) further role (map chars (lines_at text)))
+    → new ≡ take row old ++ without_empty_end (lines_below (row_at old row) further role (lines_at shown))
 text_drawn old new row further role text shown utf8 spelled is =
     let cut : map chars (lines_at text) ≡ lines_at shown = lines_at-chars text utf8 ∙ ap lines_at spelled in
-    is ∙ ap (λ (ls : List (List ℕ)). take row old ++ trimmed (lines_below (row_at old row) further role ls)) cut
+    is ∙ ap (λ (ls : List (List ℕ)). take row old ++ without_empty_end (lines_below (row_at old row) further role ls)) cut
 
 -- the lines after a label make the rows
 pub heading_drawn : (old one two new : List (List Cell)) (row : ℕ) (hyperlink : Bool) (style : TitleStyle) (heading : Heading) (level : Level)
     (trusted : Bool) (roles : HeadingRoles) → row ≡ length old → level ≡ heading.level → trusted ≡ heading.allows_styling
     → roles ≡ roles_of style level.kind trusted → one ≡ appended old row (sign_cells style)
     → two ≡ appended one row (label_cells hyperlink roles heading)
-    → new ≡ take row two ++ trimmed (lines_below (row_at two row) (indent_cells style (label_width heading)) roles.text (heading_lines heading))
+    → new ≡ take row two ++ without_empty_end (lines_below (row_at two row) (indent_cells style (label_width heading)) roles.text (heading_lines heading))
     → new ≡ old ++ heading_rows hyperlink style heading
 unfolding heading_rows
 heading_drawn old one two new row hyperlink style heading level trusted roles at leveled trusts roles_are first second third =
     let begun = label_begun old one two row (sign_cells style) (label_cells hyperlink roles heading) at first second in
-    third ∙ ap (λ rs. rs ++ trimmed (lines_below (row_at two row) (indent_cells style (label_width heading)) roles.text (heading_lines heading)))
-    begun.0 ∙ ap (λ (r : List Cell). old ++ trimmed (lines_below r (indent_cells style (label_width heading)) roles.text (heading_lines heading)))
-    begun.1 ∙ ap (λ (rs : HeadingRoles). old ++ trimmed
+    third ∙ ap (λ rs. rs ++ without_empty_end (lines_below (row_at two row) (indent_cells style (label_width heading)) roles.text (heading_lines heading)))
+    begun.0 ∙ ap (λ (r : List Cell). old ++ without_empty_end (lines_below r (indent_cells style (label_width heading)) roles.text (heading_lines heading)))
+    begun.1 ∙ ap (λ (rs : HeadingRoles). old ++ without_empty_end
     (lines_below (sign_cells style ++ label_cells hyperlink rs heading) (indent_cells style (label_width heading))
     rs.text (heading_lines heading))) (roles_known style heading level trusted roles leveled trusts roles_are)

@@ -12,7 +12,7 @@ use Rattle.snippet_grid.specs.Grid.{row_at}
 use Rattle.snippet_style.specs.Cell.{Cell, text_cells}
 use Rattle.snippet_style.specs.declared.role.ElementStyle.{ElementStyle}
 use Rattle.snippet_titles.specs.Appended.{IsAtEnd, appended}
-use Rattle.snippet_titles.specs.Heading.{lines_below, trimmed}
+use Rattle.snippet_titles.specs.Heading.{lines_below, without_empty_end}
 use Rattle.snippet_titles.proofs.SplitLemmas.{lines_at}
 use Rattle.snippet_titles.proofs.EndLemmas.{IsAtEnd-more, appended-further, refilled}
 
@@ -29,10 +29,10 @@ lines_at-first text first rest whole none =
 -- a text of one line, after the cells of the last row
 pub one_line : (old new : List (List Cell)) (row : ℕ) (further : List Cell) (role : ElementStyle) (text : List ℕ) → IsAtEnd row old
     → lines_at text ≡ text ∷ [] → new ≡ appended old row (text_cells role (chars text))
-    → new ≡ take row old ++ trimmed (lines_below (row_at old row) further role (map chars (lines_at text)))
+    → new ≡ take row old ++ without_empty_end (lines_below (row_at old row) further role (map chars (lines_at text)))
 one_line old new row further role text end one is =
     let more = IsAtEnd-more old new row (text_cells role (chars text)) end is in
-    more.2.last ∙ ap (λ rs. rs ++ trimmed (row_at new row ∷ [])) more.0 ∙ ap (λ (r : List Cell). take row old ++ trimmed (r ∷ [])) more.1 ∙ ap (λ (ls : List (List ℕ)). take row old ++ trimmed (lines_below (row_at old row) further role (map chars ls))) (sym one)
+    more.2.last ∙ ap (λ rs. rs ++ without_empty_end (row_at new row ∷ [])) more.0 ∙ ap (λ (r : List Cell). take row old ++ without_empty_end (r ∷ [])) more.1 ∙ ap (λ (ls : List (List ℕ)). take row old ++ without_empty_end (lines_below (row_at old row) further role (map chars ls))) (sym one)
 
 -- the rows of numbered lines
 abbrev pub line_of : (ℕ × Bor (List ℕ)) → List ℕ
@@ -52,9 +52,9 @@ number_is lines k index line within is =
 -- a row more
 pub further_drawn : (old grid new : List (List Cell)) (row index : ℕ) (further : List Cell) (role : ElementStyle) (numbered : List (ℕ × Bor (List ℕ)))
     (line : Bor (List ℕ)) → IsAtEnd row old → index ≡ length numbered
-    → grid ≡ take row old ++ trimmed (row_at old row ∷ further_rows further role numbered)
+    → grid ≡ take row old ++ without_empty_end (row_at old row ∷ further_rows further role numbered)
     → new ≡ appended grid (row + 1 + index) (further ++ text_cells role (chars line.now))
-    → new ≡ take row old ++ trimmed (row_at old row ∷ further_rows further role (numbered ++ (index, line) ∷ []))
+    → new ≡ take row old ++ without_empty_end (row_at old row ∷ further_rows further role (numbered ++ (index, line) ∷ []))
 further_drawn old grid new row index further role numbered line end at is drawn_is =
     let base : List (List Cell) = take row old in
     let first : List Cell = row_at old row in
@@ -63,17 +63,17 @@ further_drawn old grid new row index further role numbered line end at is drawn_
     let both : further_rows further role (numbered ++ (index, line) ∷ []) ≡ further_rows further role numbered ++ more ∷ [] =
     ap (map (λ l. further ++ text_cells role l)) (map-append line_of numbered ((index, line) ∷ []))
     ∙ map-append (λ l. further ++ text_cells role l) (map line_of numbered) (chars line.now ∷ []) in
-    drawn_is ∙ ap (λ rs. appended rs (row + 1 + index) more) is ∙ appended-further base (first ∷ further_rows further role numbered) (row + 1 + index) more (omega (arith, length-take row old, end.within, count, at)) ∙ ap (λ rs. base ++ trimmed (first ∷ rs)) (sym both)
+    drawn_is ∙ ap (λ rs. appended rs (row + 1 + index) more) is ∙ appended-further base (first ∷ further_rows further role numbered) (row + 1 + index) more (omega (arith, length-take row old, end.within, count, at)) ∙ ap (λ rs. base ++ without_empty_end (first ∷ rs)) (sym both)
 
 -- the row below those that are drawn isn't there yet
 pub none_below : (old grid : List (List Cell)) (row index : ℕ) (further : List Cell) (role : ElementStyle) (numbered : List (ℕ × Bor (List ℕ)))
-    → IsAtEnd row old → index ≡ length numbered → grid ≡ take row old ++ trimmed (row_at old row ∷ further_rows further role numbered)
+    → IsAtEnd row old → index ≡ length numbered → grid ≡ take row old ++ without_empty_end (row_at old row ∷ further_rows further role numbered)
     → row_at grid (row + 1 + index) ≡ []
 none_below old grid row index further role numbered end at is =
     let base : List (List Cell) = take row old in
     let all : List (List Cell) = row_at old row ∷ further_rows further role numbered in
     let count : length (further_rows further role numbered) ≡ length numbered = length-map (map line_of numbered) (λ l. further ++ text_cells role l) ∙ length-map numbered line_of in
-    get_or_past grid (row + 1 + index) [] (omega (arith, ap length is, length-append base (trimmed all), (refilled all).1, length-take row old, end.within, count, at))
+    get_or_past grid (row + 1 + index) [] (omega (arith, ap length is, length-append base (without_empty_end all), (refilled all).1, length-take row old, end.within, count, at))
 
 -- the lines without their numbers
 chars-numbered : (n : ℕ) (lines : List (List ℕ)) → map (λ (p : ℕ × List ℕ). chars p.1) (enumerate_from n lines) ≡ map chars lines
@@ -89,14 +89,14 @@ chars-seen (line ∷ lines) = ap (λ ls. line_of line ∷ ls) (chars-seen lines)
 pub several_lines : (old begun new : List (List Cell)) (row : ℕ) (further : List Cell) (role : ElementStyle) (text first rest : List ℕ)
     (numbered : List (ℕ × Bor (List ℕ))) → IsAtEnd row old → lines_at text ≡ first ∷ lines_at rest
     → begun ≡ appended old row (text_cells role (chars first))
-    → new ≡ take row begun ++ trimmed (row_at begun row ∷ further_rows further role numbered)
+    → new ≡ take row begun ++ without_empty_end (row_at begun row ∷ further_rows further role numbered)
     → map (λ (p : ℕ × Bor (List ℕ)). (p.0, p.1.now)) numbered ≡ enumerate_from 0 (lines_at rest)
-    → new ≡ take row old ++ trimmed (lines_below (row_at old row) further role (map chars (lines_at text)))
+    → new ≡ take row old ++ without_empty_end (lines_below (row_at old row) further role (map chars (lines_at text)))
 several_lines old begun new row further role text first rest numbered end several is drawn_is all =
     let more = IsAtEnd-more old begun row (text_cells role (chars first)) end is in
     let lines : map line_of numbered ≡ map chars (lines_at rest) = chars-seen numbered ∙ ap (map (λ (p : ℕ × List ℕ). chars p.1)) all ∙ chars-numbered 0 (lines_at rest) in
-    drawn_is ∙ ap (λ rs. rs ++ trimmed (row_at begun row ∷ further_rows further role numbered)) more.0
-    ∙ ap (λ (r : List Cell). take row old ++ trimmed (r ∷ further_rows further role numbered)) more.1
-    ∙ ap (λ (ls : List (List ℕ)). take row old ++ trimmed
+    drawn_is ∙ ap (λ rs. rs ++ without_empty_end (row_at begun row ∷ further_rows further role numbered)) more.0
+    ∙ ap (λ (r : List Cell). take row old ++ without_empty_end (r ∷ further_rows further role numbered)) more.1
+    ∙ ap (λ (ls : List (List ℕ)). take row old ++ without_empty_end
     ((row_at old row ++ text_cells role (chars first)) ∷ map (λ l. further ++ text_cells role l) ls)) lines
-    ∙ ap (λ (ls : List (List ℕ)). take row old ++ trimmed (lines_below (row_at old row) further role (map chars ls))) (sym several)
+    ∙ ap (λ (ls : List (List ℕ)). take row old ++ without_empty_end (lines_below (row_at old row) further role (map chars ls))) (sym several)

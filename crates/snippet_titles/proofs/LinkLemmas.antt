@@ -25,7 +25,7 @@ use Rattle.snippet_titles.specs.declared.style.TitleStyle.{TitleStyle}
 use Rattle.snippet_titles.specs.declared.style.TitleStyle.TheVariants.{Title, Short, Message}
 use Rattle.snippet_titles.specs.Heading.{address_of, bracketed_cells, closing_bracket_of, colon_of, shown_text, heading_lines, heading_rows, id_cells}
 use Rattle.snippet_titles.specs.Heading.{indent_cells, label_cells, label_width, lines_below, linked_to, note_bar_of, on_top, opening_bracket_of, roles_of}
-use Rattle.snippet_titles.specs.Heading.{sign_cells, trimmed}
+use Rattle.snippet_titles.specs.Heading.{sign_cells, without_empty_end}
 use Rattle.snippet_style.specs.Glyphs.{note_sign_of}
 use Rattle.snippet_titles.specs.Title.{id_links, text_links, title_rows}
 
@@ -145,10 +145,10 @@ on_top-links [] (r ∷ rows) = refl
 on_top-links (cell ∷ cells) rows = refl
 
 -- trimming rows leaves their links
-pub trimmed-links : (rows : List (List Cell)) → links_of (trimmed rows) ≡ links_of rows
+pub trimmed-links : (rows : List (List Cell)) → links_of (without_empty_end rows) ≡ links_of rows
 trimmed-links [] = refl
 trimmed-links (row ∷ rows) =
-    on_top-links row (trimmed rows) ∙ ap (λ urls. links_after None row ++ urls) (trimmed-links rows)
+    on_top-links row (without_empty_end rows) ∙ ap (λ urls. links_after None row ++ urls) (trimmed-links rows)
 
 -- the addresses that a heading's rows link to
 pub heading_rows-links : (hyperlink : Bool) (style : TitleStyle) (heading : Heading)

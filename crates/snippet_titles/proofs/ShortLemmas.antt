@@ -9,7 +9,7 @@ use Rattle.snippet_model.specs.Heading.{Heading}
 use Rattle.snippet_titles.specs.declared.style.HeadingRoles.{HeadingRoles}
 use Rattle.snippet_titles.specs.declared.style.TitleStyle.TheVariants.{Short}
 use Rattle.snippet_titles.specs.Appended.{appended}
-use Rattle.snippet_titles.specs.Heading.{heading_lines, indent_cells, label_cells, label_width, lines_below, on_top, roles_of, trimmed}
+use Rattle.snippet_titles.specs.Heading.{heading_lines, indent_cells, label_cells, label_width, lines_below, on_top, roles_of, without_empty_end}
 use Rattle.snippet_titles.specs.Short.{short_rows, with_end}
 use Rattle.snippet_titles.proofs.AppendLemmas.{appended-is}
 use Rattle.snippet_titles.proofs.EndLemmas.{appended_below, get_or-append_seam, row_at-trimmed, written_past}
@@ -32,24 +32,24 @@ on_top-full [] cell cells rows = refl
 on_top-full (r ∷ row) cell cells rows = refl
 
 pub appended-first : (base rows : List (List Cell)) (row : ℕ) (cells : List Cell) → row ≡ length base
-    → appended (base ++ trimmed rows) row cells ≡ base ++ trimmed (with_end cells rows)
+    → appended (base ++ without_empty_end rows) row cells ≡ base ++ without_empty_end (with_end cells rows)
 appended-first base [] row cells at =
     ap (λ rs. appended rs row cells) (append-nil base) ∙ appended_below base row cells at
 appended-first base (r ∷ rows) row [] at =
-    ap (λ (first : List Cell). base ++ trimmed (first ∷ rows)) (sym (append-nil r))
+    ap (λ (first : List Cell). base ++ without_empty_end (first ∷ rows)) (sym (append-nil r))
 appended-first base (r ∷ rows) row (cell ∷ cells) at =
-    let there : List (List Cell) = base ++ trimmed (r ∷ rows) in
-    let here : row_at there row ≡ r = ap (λ n. row_at there n) at ∙ get_or-append_seam base (trimmed (r ∷ rows)) ∙ row_at-trimmed (r ∷ rows) 0 in
+    let there : List (List Cell) = base ++ without_empty_end (r ∷ rows) in
+    let here : row_at there row ≡ r = ap (λ n. row_at there n) at ∙ get_or-append_seam base (without_empty_end (r ∷ rows)) ∙ row_at-trimmed (r ∷ rows) 0 in
     appended-is there row (cell ∷ cells) (omega arith) ∙ ap (λ (first : List Cell). written [] there row ((first ++ cell ∷ cells) ∷ [])) here
-    ∙ ap (λ n. written [] there n ((r ++ cell ∷ cells) ∷ [])) at ∙ first_written base r (trimmed rows) (r ++ cell ∷ cells)
-    ∙ ap (λ (rs : List (List Cell)). base ++ rs) (sym (on_top-full r cell cells (trimmed rows)))
+    ∙ ap (λ n. written [] there n ((r ++ cell ∷ cells) ∷ [])) at ∙ first_written base r (without_empty_end rows) (r ++ cell ∷ cells)
+    ∙ ap (λ (rs : List (List Cell)). base ++ rs) (sym (on_top-full r cell cells (without_empty_end rows)))
 
 -- a text, a label and a heading's text after it, and a text after the first row
 pub short_drawn : (old one two three new : List (List Cell)) (row : ℕ) (hyperlink : Bool) (before after : List ℕ) (heading : Heading) (level : Level)
     (trusted : Bool) (roles : HeadingRoles) → row ≡ length old → level ≡ heading.level → trusted ≡ heading.allows_styling
     → roles ≡ roles_of Short level.kind trusted → one ≡ appended old row (text_cells LineAndColumn before)
     → two ≡ appended one row (label_cells hyperlink roles heading)
-    → three ≡ take row two ++ trimmed (lines_below (row_at two row) (indent_cells Short (label_width heading)) roles.text (heading_lines heading))
+    → three ≡ take row two ++ without_empty_end (lines_below (row_at two row) (indent_cells Short (label_width heading)) roles.text (heading_lines heading))
     → new ≡ appended three row (text_cells NoStyle after) → new ≡ old ++ short_rows hyperlink before after heading
 unfolding short_rows
 short_drawn old one two three new row hyperlink before after heading level trusted roles at leveled trusts roles_are first second third fourth =
@@ -58,9 +58,9 @@ short_drawn old one two three new row hyperlink before after heading level trust
     let further : List Cell = indent_cells Short (label_width heading) in
     let lines : List (List ℕ) = heading_lines heading in
     let front : List Cell = text_cells LineAndColumn before ++ label_cells hyperlink roles heading in
-    let drawn_are : three ≡ old ++ trimmed (lines_below front further roles.text lines) = third ∙ ap (λ rs. rs ++ trimmed (lines_below (row_at two row) further roles.text lines)) begun.0 ∙ ap (λ (r : List Cell). old ++ trimmed (lines_below r further roles.text lines)) begun.1 in
+    let drawn_are : three ≡ old ++ without_empty_end (lines_below front further roles.text lines) = third ∙ ap (λ rs. rs ++ without_empty_end (lines_below (row_at two row) further roles.text lines)) begun.0 ∙ ap (λ (r : List Cell). old ++ without_empty_end (lines_below r further roles.text lines)) begun.1 in
     fourth ∙ ap (λ rs. appended rs row (text_cells NoStyle after)) drawn_are
     ∙ appended-first old (lines_below front further roles.text lines) row (text_cells NoStyle after) at
-    ∙ ap (λ (rs : HeadingRoles). old ++ trimmed
+    ∙ ap (λ (rs : HeadingRoles). old ++ without_empty_end
     (with_end (text_cells NoStyle after)
     (lines_below (text_cells LineAndColumn before ++ label_cells hyperlink rs heading) further rs.text lines))) known

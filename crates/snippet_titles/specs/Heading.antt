@@ -141,9 +141,9 @@ on_top [] (row ∷ rows) = [] ∷ row ∷ rows
 on_top (cell ∷ cells) rows = (cell ∷ cells) ∷ rows
 
 -- rows without those at the end that have no cells
-abbrev pub trimmed : List (List Cell) → List (List Cell)
-trimmed [] = []
-trimmed (row ∷ rows) = on_top row (trimmed rows)
+abbrev pub without_empty_end : List (List Cell) → List (List Cell)
+without_empty_end [] = []
+without_empty_end (row ∷ rows) = on_top row (without_empty_end rows)
 
 -- the lines of a heading: the characters of its text as it is drawn, cut at each line feed
 abbrev pub heading_lines : Heading → List (List ℕ)
@@ -154,4 +154,4 @@ heading_lines heading = slice_split (λ c. c == 10) (shown_text heading)
 unfoldable pub heading_rows : Bool → TitleStyle → Heading → List (List Cell)
 heading_rows hyperlink style heading =
     let roles = roles_of style heading.level.kind heading.allows_styling in
-    trimmed (lines_below (sign_cells style ++ label_cells hyperlink roles heading) (indent_cells style (label_width heading)) roles.text (heading_lines heading))
+    without_empty_end (lines_below (sign_cells style ++ label_cells hyperlink roles heading) (indent_cells style (label_width heading)) roles.text (heading_lines heading))

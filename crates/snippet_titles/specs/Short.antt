@@ -5,7 +5,7 @@ use Rattle.snippet_style.specs.Cell.{Cell, text_cells}
 use Rattle.snippet_grid.specs.Print.{row_text}
 use Rattle.snippet_model.specs.Heading.{Heading}
 use Rattle.snippet_titles.specs.declared.style.TitleStyle.TheVariants.{Short}
-use Rattle.snippet_titles.specs.Heading.{heading_lines, indent_cells, label_cells, heading_label_text, label_width, lines_below, roles_of, trimmed}
+use Rattle.snippet_titles.specs.Heading.{heading_lines, indent_cells, label_cells, heading_label_text, label_width, lines_below, roles_of, without_empty_end}
 use Rattle.snippet_titles.specs.Shown.{texts_below}
 
 -- some rows, or some texts, of which the first goes on with these cells, or characters
@@ -18,7 +18,7 @@ with_end more (row ∷ rows) = (row ++ more) ∷ rows
 unfoldable pub short_rows : Bool → List ℕ → List ℕ → Heading → List (List Cell)
 short_rows hyperlink before after heading =
     let roles = roles_of Short heading.level.kind heading.allows_styling in
-    trimmed (with_end (text_cells NoStyle after) (lines_below (text_cells LineAndColumn before ++ label_cells hyperlink roles heading) (indent_cells Short (label_width heading)) roles.text (heading_lines heading)))
+    without_empty_end (with_end (text_cells NoStyle after) (lines_below (text_cells LineAndColumn before ++ label_cells hyperlink roles heading) (indent_cells Short (label_width heading)) roles.text (heading_lines heading)))
 
 -- the text of each row
 abbrev pub short_texts : List ℕ → List ℕ → Heading → List (List ℕ)

@@ -8,7 +8,7 @@ ghost use Rattle.snippet_model.specs.Fits.{IdFits};
 ghost use Rattle.snippet_model.specs.Heading.{HeadingFits};
 ghost use Rattle.snippet_model.specs.Heading as model;
 ghost use Rattle.snippet_titles.specs.Appended.{IsAtEnd, appended};
-ghost use Rattle.snippet_titles.specs.Heading.{shown_text, heading_rows, indent_cells, label_cells, trimmed};
+ghost use Rattle.snippet_titles.specs.Heading.{shown_text, heading_rows, indent_cells, label_cells, without_empty_end};
 ghost use Rattle.snippet_titles.specs.Heading as spec;
 ghost use Rattle.snippet_titles.specs.Shown.{IsFreeButText, LinksId, heading_texts};
 ghost use Rattle.snippet_grid.specs.Grid.{row_at};
@@ -168,7 +168,7 @@ pub(crate) fn draw_text(
     requires last { IsAtEnd row buffer.old }
     requires fits { HeadingFits (heading_of heading.now) }
     ensures rows { OnOk result (buffer.new ≡ take row buffer.old
-        ++ trimmed (spec.lines_below (row_at buffer.old row) (indent_cells style.now (spec.label_width (heading_of heading.now))) role (spec.heading_lines (heading_of heading.now)))) }
+        ++ without_empty_end (spec.lines_below (row_at buffer.old row) (indent_cells style.now (spec.label_width (heading_of heading.now))) role (spec.heading_lines (heading_of heading.now)))) }
 {
     let text = text_of(alloc, heading)?;
     draw_lines(buffer, row, style, role, heading, text.as_str())
@@ -188,7 +188,7 @@ fn draw_lines(
     requires last { IsAtEnd row buffer.old }
     requires fits { HeadingFits (heading_of heading.now) }
     ensures rows { OnOk result (buffer.new ≡ take row buffer.old
-        ++ trimmed (spec.lines_below (row_at buffer.old row) (indent_cells style.now (spec.label_width (heading_of heading.now))) role (map chars (slice_split (λ b. b == 10) text.now)))) }
+        ++ without_empty_end (spec.lines_below (row_at buffer.old row) (indent_cells style.now (spec.label_width (heading_of heading.now))) role (map chars (slice_split (λ b. b == 10) text.now)))) }
 {
     let Some((first, rest)) = text.split_once('\n') else {
         extend_row(buffer, row, text, role)?;

@@ -13,7 +13,7 @@ use Rattle.snippet_parts.specs.declared.entries.AnnotatedLineInfo.{AnnotatedLine
 use Rattle.snippet_window.specs.declared.extent.Extent.{Extent}
 use Rattle.snippet_parts.specs.Least.{least, greatest}
 use Rattle.snippet_parts.specs.Entries.{is_bar}
-use Rattle.snippet_window.specs.Measures.{with_columns, entries_of, columns_of, ends_of, end_with, whitespaces_of, widths_of, texts_of}
+use Rattle.snippet_window.specs.Measures.{with_columns, entries_of, columns_of, ends_of, end_with, whitespaces_of, widths_of, line_texts}
 use Rattle.snippet_window.specs.Window.{leading_whitespace}
 use Rattle.snippet_window.specs.Extent.{ReachesEntries, ReachesLines}
 use Rattle.snippet_parts.proofs.LeastLemmas.{least-push, greatest-push, least-push_two, greatest-push_two, least_below}
@@ -89,13 +89,13 @@ pub line_added : (infos : List AnnotatedLineInfo) (info : AnnotatedLineInfo) (x 
     → y.widest ≡ max x.widest (width_of (chars info.line.now)) → ReachesLines (infos ++ info ∷ []) y
 line_added infos info x y reaches entries whitespace widest =
     let text = chars info.line.now in
-    let texts : texts_of (infos ++ info ∷ []) ≡ texts_of infos ++ text ∷ [] = map_push (λ (i : AnnotatedLineInfo). chars i.line.now) infos info in
+    let texts : line_texts (infos ++ info ∷ []) ≡ line_texts infos ++ text ∷ [] = map_push (λ (i : AnnotatedLineInfo). chars i.line.now) infos info in
     record {
       entries = subst (λ es. ReachesEntries es y) (sym (entries_of-push infos info)) entries;
       whitespace = whitespace ∙ ap (λ (o : Option ℕ). option_map_or (λ n. Some (option_map_or (λ m. min m n) o n)) (leading_whitespace text) o)
-          reaches.whitespace ∙ sym (least-push_known (whitespaces_of (texts_of infos)) (leading_whitespace text))
-          ∙ ap least (sym (whitespaces_of-push (texts_of infos) text)) ∙ ap (λ ts. least (whitespaces_of ts)) (sym texts);
-      widest = widest ∙ ap (λ n. max n (width_of text)) reaches.widest ∙ sym (greatest-push (widths_of (texts_of infos)) (width_of text)) ∙ ap greatest (sym (map_push width_of (texts_of infos) text)) ∙ ap (λ ts. greatest (widths_of ts)) (sym texts);
+          reaches.whitespace ∙ sym (least-push_known (whitespaces_of (line_texts infos)) (leading_whitespace text))
+          ∙ ap least (sym (whitespaces_of-push (line_texts infos) text)) ∙ ap (λ ts. least (whitespaces_of ts)) (sym texts);
+      widest = widest ∙ ap (λ n. max n (width_of text)) reaches.widest ∙ sym (greatest-push (widths_of (line_texts infos)) (width_of text)) ∙ ap greatest (sym (map_push width_of (line_texts infos) text)) ∙ ap (λ ts. greatest (widths_of ts)) (sym texts);
     }
 
 fold_max_from : (ns : List ℕ) (m : ℕ) → m ≤ fold (λ a b. max a b) m ns

@@ -27,7 +27,7 @@ use Rattle.snippet_parts.specs.Marked.{Entry, first_line, last_line}
 use Rattle.snippet_window.specs.Measures.{bounds_for, bounds_of_lines, columns_of, end_with, ends_of, entries_of, margin_of}
 use Rattle.snippet_parts.specs.Least.{greatest, least}
 use Rattle.snippet_parts.specs.Entries.{is_bar}
-use Rattle.snippet_window.specs.Measures.{span_columns, span_ends, texts_of, whitespaces_of, widths_of, with_columns}
+use Rattle.snippet_window.specs.Measures.{span_columns, span_ends, line_texts, whitespaces_of, widths_of, with_columns}
 use Rattle.snippet_lines.specs.Place.{start_location}
 use Rattle.snippet_lines.specs.Span.{IsSpan}
 use Rattle.snippet_window.specs.Window.{chars_at}
@@ -90,7 +90,7 @@ seen_entries [] = refl
 seen_entries (info ∷ infos) =
     map-append seen_part info.annotations.items (entries_of infos) ∙ ap (λ ps. map seen_part info.annotations.items ++ ps) (seen_entries infos)
 
-seen_texts : (infos : List AnnotatedLineInfo) → texts_of infos ≡ map (λ (l : KeptLine). chars l.text) (map seen_kept infos)
+seen_texts : (infos : List AnnotatedLineInfo) → line_texts infos ≡ map (λ (l : KeptLine). chars l.text) (map seen_kept infos)
 seen_texts [] = refl
 seen_texts (info ∷ infos) = ap (λ ts. chars info.line.now ∷ ts) (seen_texts infos)
 
@@ -389,7 +389,7 @@ pub margin_of_kept : (room : ℕ) (fold : Bool) (s : Source) (marks : List Annot
 margin_of_kept room fold s marks infos kept spans =
     let es = entries_of infos in
     let texts = map (chars_at s.text) (kept_lines fold s.text marks) in
-    let same_texts : texts_of infos ≡ texts = seen_texts infos ∙ ap (map (λ (l : KeptLine). chars l.text)) kept ∙ kept_texts s marks (kept_lines fold s.text marks) in
+    let same_texts : line_texts infos ≡ texts = seen_texts infos ∙ ap (map (λ (l : KeptLine). chars l.text)) kept ∙ kept_texts s marks (kept_lines fold s.text marks) in
     let same_parts : map seen_part es ≡ kept_parts fold s marks = seen_entries infos ∙ ap (flat_map (λ (l : KeptLine). l.parts)) kept in
     let all_columns : columns_of es ≡ measured_parts columns (kept_parts fold s marks) = measured_entries columns es ∙ ap (measured_parts columns) same_parts in
     let all_ends : ends_of es ≡ measured_parts ends (kept_parts fold s marks) = single_list (λ (e : LineAnnotation). end_with e.end.display (option_copied e.label)) (with_columns es) ∙ measured_entries ends es ∙ ap (measured_parts ends) same_parts in

@@ -4,7 +4,7 @@ use Rattle.snippet_parts.specs.declared.entries.LineAnnotation.{LineAnnotation}
 use Rattle.snippet_parts.specs.declared.entries.AnnotatedLineInfo.{AnnotatedLineInfo}
 use Rattle.snippet_window.specs.declared.extent.Extent.{Extent}
 use Rattle.snippet_parts.specs.Least.{least, greatest}
-use Rattle.snippet_window.specs.Measures.{columns_of, ends_of, entries_of, whitespaces_of, widths_of, texts_of}
+use Rattle.snippet_window.specs.Measures.{columns_of, ends_of, entries_of, whitespaces_of, widths_of, line_texts}
 
 -- the extent is that of these entries
 pub record ReachesEntries (es : List LineAnnotation) (extent : Extent) : Type 0 where
@@ -15,5 +15,5 @@ pub record ReachesEntries (es : List LineAnnotation) (extent : Extent) : Type 0 
 -- the extent is that of these lines, with their entries
 pub record ReachesLines (infos : List AnnotatedLineInfo) (extent : Extent) : Type 0 where
   pub entries : ReachesEntries (entries_of infos) extent
-  pub whitespace : extent.whitespace ≡ least (whitespaces_of (texts_of infos))
-  pub widest : extent.widest ≡ greatest (widths_of (texts_of infos))
+  pub whitespace : extent.whitespace ≡ least (whitespaces_of (line_texts infos))
+  pub widest : extent.widest ≡ greatest (widths_of (line_texts infos))

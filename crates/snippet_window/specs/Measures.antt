@@ -53,14 +53,14 @@ abbrev pub widths_of : List (List ℕ) → List ℕ
 widths_of texts = map width_of texts
 
 -- the characters of each line
-abbrev pub texts_of : List AnnotatedLineInfo → List (List ℕ)
-texts_of infos = map (λ info. chars info.line.now) infos
+abbrev pub line_texts : List AnnotatedLineInfo → List (List ℕ)
+line_texts infos = map (λ info. chars info.line.now) infos
 
 -- the bounds of the window of these lines, with their entries
 abbrev pub bounds_of_lines : ℕ → List AnnotatedLineInfo → Bounds
 bounds_of_lines room infos =
     let es = entries_of infos in
-    bounds_for room (whitespaces_of (texts_of infos)) (columns_of es) (ends_of es) (widths_of (texts_of infos))
+    bounds_for room (whitespaces_of (line_texts infos)) (columns_of es) (ends_of es) (widths_of (line_texts infos))
 
 -- an entry that has columns stands after the padding of a margin, if lines are cut on the left
 abbrev pub StandsClear : Margin → LineAnnotation → Type 0

@@ -4,7 +4,7 @@ use redraw_command::choice::{Choice, Form, Least};
 use redraw_command::seen::{Names, Seen};
 use redraw_command::tally::Tally;
 use redraw_command::terminal::Surroundings;
-use redraw_read::sources::{Shelf, Sources};
+use redraw_read::sources::{SourceFiles, Sources};
 use redraw_run::draw::Drawing;
 use redraw_run::run::{draw_opened, run};
 use std::alloc::{AllocError, Global};
@@ -18,7 +18,7 @@ struct Room {
     text: &'static [u8],
 }
 
-impl Shelf for Room {
+impl SourceFiles for Room {
     fn bytes(&self, name: &str) -> Result<Option<Vec<u8>>, AllocError> {
         if name == self.name {
             Ok(Some(self.text.to_vec(self.alloc)?))

@@ -10,8 +10,8 @@ use replay_answer::outcome::{Outcome, name_of, outcome_of};
 use replay_answer::read::case_of;
 use replay_run::check::check_lines;
 use replay_run::lines::{Form, Way, answer_lines};
+use replay_run::problem::words_of;
 use replay_run::run::run;
-use replay_run::trouble::words_of;
 use serde_json::Value;
 use std::alloc::Global;
 use std::io;
@@ -174,7 +174,7 @@ fn answered(alloc: Global, lines: &str) -> Result<(Vec<u8>, String), Fail> {
     let way = stopping(Form::Json);
     let told = match answer_lines(alloc, lines.as_bytes(), way, &mut is_first, &mut out) {
         Ok(_) => String::new(alloc),
-        Err(trouble) => words_of(alloc, &trouble)?,
+        Err(problem) => words_of(alloc, &problem)?,
     };
     Ok((out, told))
 }

@@ -8,7 +8,7 @@ use Rattle.annotate_snippets.specs.Fits.{TextFits}
 use Rattle.annotate_snippets.specs.Normalized.{norm}
 use Rattle.program.specs.Stream.{Output, Silent, Whole, CutShort, Told as Tells}
 use Rattle.tidy_run.specs.Report.{Told}
-use Rattle.tidy_run.specs.Run.{AreGiven, AreKept, AreTextsOf, End, Ends, Failed, Fails, Found, IsReport, IsSource, MayEnd, Misused, Reads, ShowsTold, Unlogged}
+use Rattle.tidy_run.specs.Run.{AreGiven, AreKept, AreTextsOf, End, Ends, Failed, Fails, Found, IsReport, IsSource, MayEnd, BadUsage, Reads, ShowsTold, Unlogged}
 use Rattle.tidy_run.specs.Run.{Unprinted, all_logged, err_of, log_of, message, out_of, sheets_for, shown_name, status_of, usage}
 use Rattle.tidy_run.specs.Words.{Line, Word, line_of}
 use Rattle.tidy_run.specs.declared.run.Failure.{Failure}
@@ -90,12 +90,12 @@ kept_texts log name Out Log (shown ∷ plain ∷ []) kept = (shown, plain, refl,
 kept_texts log name Out Log (shown ∷ plain ∷ more ∷ texts) kept = absurd kept
 
 -- a run for words that aren't of the form
-pub ends_misused : (words : List Word) (file : Option (List ℕ)) (tells : List ℕ → List Told) (Out Err Log : Output → Type 0) → None ≡ line_of words
+pub ends_bad_usage : (words : List Word) (file : Option (List ℕ)) (tells : List ℕ → List Told) (Out Err Log : Output → Type 0) → None ≡ line_of words
     → Out Silent → Err (Tells usage) → Log Silent → Ends words file tells 2 Out Err Log
-ends_misused words file tells Out Err Log is out err log =
+ends_bad_usage words file tells Out Err Log is out err log =
     record {
-      end = Misused;
-      may = subst (λ o. MatchOption o (Misused ≡ Misused) (λ l. MayEnd l file tells Misused)) is refl;
+      end = BadUsage;
+      may = subst (λ o. MatchOption o (BadUsage ≡ BadUsage) (λ l. MayEnd l file tells BadUsage)) is refl;
       status_is = refl;
       out = out;
       err = err;
@@ -104,8 +104,8 @@ ends_misused words file tells Out Err Log is out err log =
 
 -- a run that ends in some way for a line, where the words are that line
 module _ (words : List Word) (file : Option (List ℕ)) (tells : List ℕ → List Told) (line : Line) (is : Some line ≡ line_of words) (Out Err Log : Output → Type 0) where
-  of_line : (end : End) → MayEnd line file tells end → MatchOption (line_of words) (end ≡ Misused) (λ l. MayEnd l file tells end)
-  of_line end may = subst (λ o. MatchOption o (end ≡ Misused) (λ l. MayEnd l file tells end)) is may
+  of_line : (end : End) → MayEnd line file tells end → MatchOption (line_of words) (end ≡ BadUsage) (λ l. MayEnd l file tells end)
+  of_line end may = subst (λ o. MatchOption o (end ≡ BadUsage) (λ l. MayEnd l file tells end)) is may
 
   pub ends_as : (end : End) → MayEnd line file tells end → Out (out_of end) → Err (err_of end) → Log (log_of end)
       → Ends words file tells (status_of end) Out Err Log

@@ -4,7 +4,7 @@ use Rattle.std.specs.Option.{option_to_list}
 use Rattle.std.proofs.lemmas.Slice.Zip.{AllZip-long}
 use Rattle.program.specs.Stream.{Output, Silent, Whole}
 use Rattle.tidy_run.specs.Report.{Told}
-use Rattle.tidy_run.specs.Run.{AreGiven, Clean, End, Ends, Failed, Found, IsReport, IsSource, MayEnd, Misused, ShowsTold, Unlogged, Unprinted, all_logged}
+use Rattle.tidy_run.specs.Run.{AreGiven, Clean, End, Ends, Failed, Found, IsReport, IsSource, MayEnd, BadUsage, ShowsTold, Unlogged, Unprinted, all_logged}
 use Rattle.tidy_run.specs.Run.{err_of, log_of, out_of, sheets_for, status_of}
 use Rattle.tidy_run.specs.Words.{Line, Word, line_of}
 
@@ -45,7 +45,7 @@ unlogged_for (Some name) Log shown logged many given none = cc
 module _ (file : Option (List ℕ)) (tells : List ℕ → List Told) (Out Err Log : Output → Type 0) where
   -- what an end has to meet where the words are a line, or none
   abbrev May : Option Line → End → Type 0
-  May line end = MatchOption line (end ≡ Misused) (λ l. MayEnd l file tells end)
+  May line end = MatchOption line (end ≡ BadUsage) (λ l. MayEnd l file tells end)
 
   read_at : (line : Option Line) (end : End) → May line end → status_of end ≤ 1 → IsSomeAnd file IsSource
   read_at None end may is =
@@ -56,7 +56,7 @@ module _ (file : Option (List ℕ)) (tells : List ℕ → List Told) (Out Err Lo
   read_at (Some line) (Unprinted shown logged) may is = absurd (omega (arith, is))
   read_at (Some line) (Unlogged shown plain failure) may is = absurd (omega (arith, is))
   read_at (Some line) (Failed failure) may is = absurd (omega (arith, is))
-  read_at (Some line) Misused may is = absurd may
+  read_at (Some line) BadUsage may is = absurd may
 
   -- with status 0 or 1 FILE holds a source that can be looked through
   pub read : (words : List Word) (status : ℕ) → Ends words file tells status Out Err Log → status ≤ 1 → IsSomeAnd file IsSource
@@ -75,7 +75,7 @@ module _ (file : Option (List ℕ)) (tells : List ℕ → List Told) (Out Err Lo
   clean_at (Some line) (Unprinted shown logged) may out err log is = cc
   clean_at (Some line) (Unlogged shown plain failure) may out err log is = cc
   clean_at (Some line) (Failed failure) may out err log is = cc
-  clean_at (Some line) Misused may out err log is = cc
+  clean_at (Some line) BadUsage may out err log is = cc
 
   -- with status 0 nothing is told of FILE, and nothing is written
   pub clean : (words : List Word) (status : ℕ) → Ends words file tells status Out Err Log → status ≡ 0 → IsClean
@@ -96,7 +96,7 @@ module _ (file : Option (List ℕ)) (tells : List ℕ → List Told) (Out Err Lo
   printed_at (Some line) (Unprinted shown logged) may out log is = cc
   printed_at (Some line) (Unlogged shown plain failure) may out log is = cc
   printed_at (Some line) (Failed failure) may out log is = cc
-  printed_at (Some line) Misused may out log is = absurd may
+  printed_at (Some line) BadUsage may out log is = absurd may
 
   -- with status 1 what is told of FILE is printed, and with LOG written to that
   pub printed : (words : List Word) (status : ℕ) → Ends words file tells status Out Err Log → status ≡ 1 → IfSome (line_of words) (λ l. IfSome file (Writes l))
@@ -108,7 +108,7 @@ module _ (file : Option (List ℕ)) (tells : List ℕ → List Told) (Out Err Lo
   no_fault_at (Unprinted shown logged) err is = err
   no_fault_at (Unlogged shown plain failure) err is = cc
   no_fault_at (Failed failure) err is = cc
-  no_fault_at Misused err is = cc
+  no_fault_at BadUsage err is = cc
 
   -- with status 1 standard error is given nothing
   pub no_fault : (words : List Word) (status : ℕ) → Ends words file tells status Out Err Log → status ≡ 1 → Err Silent
@@ -124,7 +124,7 @@ module _ (file : Option (List ℕ)) (tells : List ℕ → List Told) (Out Err Lo
       let one : length (sheets_for line.log) ≡ 1 = ap (λ (l : Option Word). length (sheets_for l)) none in
       absurd (omega (arith, many, one))
   unlogged_at (Some line) (Failed failure) may log = λ none. log
-  unlogged_at (Some line) Misused may log = absurd may
+  unlogged_at (Some line) BadUsage may log = absurd may
 
   -- without LOG nothing is written to it
   pub unlogged : (words : List Word) (status : ℕ) → Ends words file tells status Out Err Log → IfSome (line_of words) (λ l. l.log ≡ None → Log Silent)
@@ -138,7 +138,7 @@ module _ (file : Option (List ℕ)) (tells : List ℕ → List Told) (Out Err Lo
   failed_at (Some line) (Unprinted shown logged) may out err is = inr (err, in_file file may.source may.reads.file_is may.reads.source_is)
   failed_at (Some line) (Unlogged shown plain failure) may out err is = inl out
   failed_at (Some line) (Failed failure) may out err is = inl out
-  failed_at (Some line) Misused may out err is = absurd may
+  failed_at (Some line) BadUsage may out err is = absurd may
 
   -- with status 2 either standard output is given nothing; or there was a report, and standard error is given nothing
   pub failed : (words : List Word) (status : ℕ) → Ends words file tells status Out Err Log → status ≡ 2 → Out Silent ⊎ (Err Silent × IsSomeAnd file IsSource)

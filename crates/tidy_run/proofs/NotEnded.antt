@@ -3,12 +3,12 @@ use Rattle.std.proofs.Common.{◌≡◌, ℕ, List, [], ◌∷◌, Option, Some,
 use Rattle.std.proofs.lemmas.Slice.Zip.{AllZip-long}
 use Rattle.program.specs.Stream.{Output, Silent, Whole, Receives}
 use Rattle.tidy_run.specs.Report.{Told}
-use Rattle.tidy_run.specs.Run.{Clean, End, Ends, Failed, Found, MayEnd, Misused, Unlogged, Unprinted, err_of, log_of, out_of, sheets_for, status_of}
+use Rattle.tidy_run.specs.Run.{Clean, End, Ends, Failed, Found, MayEnd, BadUsage, Unlogged, Unprinted, err_of, log_of, out_of, sheets_for, status_of}
 use Rattle.tidy_run.specs.Words.{Line, Word, line_of}
 
 module _ (file : Option (List ℕ)) (tells : List ℕ → List Told) (Out Err Log : Output → Type 0) where
   abbrev May : Option Line → End → Type 0
-  May line end = MatchOption line (end ≡ Misused) (λ l. MayEnd l file tells end)
+  May line end = MatchOption line (end ≡ BadUsage) (λ l. MayEnd l file tells end)
 
   silent_at : (line : Option Line) (end : End) → (file ≡ None) → May line end → Out (out_of end) → Out Silent
   silent_at None end none may out = subst (λ e. Out (out_of e)) may out
@@ -21,7 +21,7 @@ module _ (file : Option (List ℕ)) (tells : List ℕ → List Told) (Out Err Lo
       cc
   silent_at (Some line) (Unlogged shown plain failure) none may out = out
   silent_at (Some line) (Failed failure) none may out = out
-  silent_at (Some line) Misused none may out = out
+  silent_at (Some line) BadUsage none may out = out
 
   -- where FILE can't be read, standard output is given nothing
   pub silent_without_file : (words : List Word) (status : ℕ) → file ≡ None → Ends words file tells status Out Err Log → Out Silent
@@ -33,7 +33,7 @@ module _ (file : Option (List ℕ)) (tells : List ℕ → List Told) (Out Err Lo
   quiet_at (Unprinted shown logged) is out err log = cc
   quiet_at (Unlogged shown plain failure) is out err log = cc
   quiet_at (Failed failure) is out err log = cc
-  quiet_at Misused is out err log = cc
+  quiet_at BadUsage is out err log = cc
 
   -- with status 0 no writer is given anything
   pub quiet : (words : List Word) → Ends words file tells 0 Out Err Log → Out Silent × Err Silent × Log Silent
@@ -64,10 +64,10 @@ module _ (file : Option (List ℕ)) (tells : List ℕ → List Told) (line : Lin
   unlogged_at (Unprinted shown (Some plain)) may is out log = absurd (line_added plain log)
   unlogged_at (Unlogged shown plain failure) may is out log = out
   unlogged_at (Failed failure) may is out log = out
-  unlogged_at Misused may is out log = out
+  unlogged_at BadUsage may is out log = out
 
   -- with status 2, and nothing in LOG, standard output is given nothing: that LOG can't be written isn't told there
   pub silent_unlogged : (words : List Word) → line_of words ≡ Some line → Ends words file tells 2 Out Err Untouched → Out Silent
   silent_unlogged words is ends =
-      let may = subst (λ l. MatchOption l (ends.end ≡ Misused) (λ x. MayEnd x file tells ends.end)) is ends.may in
+      let may = subst (λ l. MatchOption l (ends.end ≡ BadUsage) (λ x. MayEnd x file tells ends.end)) is ends.may in
       unlogged_at ends.end may (sym ends.status_is) ends.out ends.log

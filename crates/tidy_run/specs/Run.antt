@@ -86,7 +86,7 @@ pub data End : Type 0 where
   Unprinted : (shown : List ℕ) (logged : Option (List ℕ)) → End
   Unlogged : (shown plain : List ℕ) (failure : Failure) → End
   Failed : (failure : Failure) → End
-  Misused : End
+  BadUsage : End
 
 -- whether a run for a line may end so, over what FILE holds and by what rules tell of a source
 abbrev pub MayEnd : Line → Option (List ℕ) → (List ℕ → List Told) → End → Type 0
@@ -95,7 +95,7 @@ MayEnd line file tells (Found shown logged) = IsReport line file tells shown log
 MayEnd line file tells (Unprinted shown logged) = IsReport line file tells shown logged
 MayEnd line file tells (Unlogged shown plain failure) = IsReport line file tells shown (Some plain) × Unlogs line failure
 MayEnd line file tells (Failed failure) = Fails line file failure
-MayEnd line file tells Misused = ⊥
+MayEnd line file tells BadUsage = ⊥
 
 -- the status that it ends with
 abbrev pub status_of : End → ℕ
@@ -104,7 +104,7 @@ status_of (Found shown logged) = 1
 status_of (Unprinted shown logged) = 2
 status_of (Unlogged shown plain failure) = 2
 status_of (Failed failure) = 2
-status_of Misused = 2
+status_of BadUsage = 2
 
 -- what standard output is given
 abbrev pub out_of : End → Output
@@ -113,7 +113,7 @@ out_of (Found shown logged) = Whole shown
 out_of (Unprinted shown logged) = CutShort shown
 out_of (Unlogged shown plain failure) = Silent
 out_of (Failed failure) = Silent
-out_of Misused = Silent
+out_of BadUsage = Silent
 
 -- what LOG is given where its text is written, which there is none of without LOG
 abbrev pub all_logged : Option (List ℕ) → Output
@@ -127,7 +127,7 @@ log_of (Found shown logged) = all_logged logged
 log_of (Unprinted shown logged) = all_logged logged
 log_of (Unlogged shown plain failure) = CutShort plain
 log_of (Failed failure) = Silent
-log_of Misused = Silent
+log_of BadUsage = Silent
 
 -- what standard error is given
 abbrev pub err_of : End → Output
@@ -136,12 +136,12 @@ err_of (Found shown logged) = Silent
 err_of (Unprinted shown logged) = Silent
 err_of (Unlogged shown plain failure) = Tells (message failure)
 err_of (Failed failure) = Tells (message failure)
-err_of Misused = Tells usage
+err_of BadUsage = Tells usage
 
 -- a run of these words ends with this status, and gives the three writers what they are given
 pub record Ends (words : List Word) (file : Option (List ℕ)) (tells : List ℕ → List Told) (status : ℕ) (Out Err Log : Output → Type 0) : Type 0 where
   pub end : End
-  pub may : MatchOption (line_of words) (end ≡ Misused) (λ line. MayEnd line file tells end)
+  pub may : MatchOption (line_of words) (end ≡ BadUsage) (λ line. MayEnd line file tells end)
   pub status_is : status ≡ status_of end
   pub out : Out (out_of end)
   pub err : Err (err_of end)

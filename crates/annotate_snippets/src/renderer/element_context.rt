@@ -2,7 +2,7 @@
 ghost use Rattle.std.specs.Prelude.{◌≡◌, IfOk, map};
 ghost use Rattle.std.specs.Option.{option_copied};
 ghost use Rattle.annotate_snippets.specs.Around as spec;
-ghost use Rattle.annotate_snippets.specs.Around.{is_end, is_before_message, is_first_group, place_at};
+ghost use Rattle.annotate_snippets.specs.Around.{is_end, is_before_message, is_first_group, position_of_group};
 ghost use Rattle.annotate_snippets.specs.Prepared.{AreAround, element_of};
 
 use crate::renderer::paths::{is_same_file, path_of};
@@ -24,7 +24,7 @@ pub enum GroupPosition {
 impl GroupPosition {
     /// The place of the group of this number, from 0, among this many groups.
     pub fn at(count: usize, index: usize) -> GroupPosition
-        ensures value { result ≡ place_at count index }
+        ensures value { result ≡ position_of_group count index }
     {
         if count == 1 {
             GroupPosition::Only

@@ -2,7 +2,7 @@ use Rattle.std.proofs.Common.{inl, refl, subst}
 use Rattle.std.specs.Io.KnownBytes.{Appends}
 use Rattle.program.specs.Stream.{AppendsPart}
 use Rattle.replay_run.proofs.Growing.{first_part}
-use Rattle.replay_run.proofs.Judging.{ok_and}
+use Rattle.replay_run.proofs.Checking.{ok_and}
 use Rattle.replay_run.proofs.lines.answer_line.Goals as goal
 
 pub returns-in-Ok-write_whole-clause-answers : goal.returns-in-Ok-write_whole-clause-answers

@@ -14,4 +14,4 @@ returns-in-Ok-clause-answers g c =
 
 pub returns-in-Ok-clause-stops : goal.returns-in-Ok-clause-stops
 returns-in-Ok-clause-stops g c =
-    if_err c.answer_lines.result (λ trouble h. inr (reader_inner c.in-Ok.input, stopped_same _ _ _ _ _ _ trouble c.in-Ok.ensures.bytes h)) c.answer_lines.ensures.stops
+    if_err c.answer_lines.result (λ problem h. inr (reader_inner c.in-Ok.input, stopped_same _ _ _ _ _ _ problem c.in-Ok.ensures.bytes h)) c.answer_lines.ensures.stops

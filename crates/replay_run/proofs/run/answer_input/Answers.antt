@@ -7,7 +7,7 @@ use Rattle.replay_run.proofs.run.answer_input.Goals as goal
 
 pub returns-in-Err-clause-stops : goal.returns-in-Err-clause-stops
 returns-in-Err-clause-stops g c =
-    first_stops g.R.Reader.Read.remaining c.args.way (codes "standard input") _ _ c.in-Err.trouble (inl (Keeps-refl _, c.in-Err.ensures.unread))
+    first_stops g.R.Reader.Read.remaining c.args.way (codes "standard input") _ _ c.in-Err.problem (inl (Keeps-refl _, c.in-Err.ensures.unread))
 
 pub returns-in-Ok-clause-answers : goal.returns-in-Ok-clause-answers
 returns-in-Ok-clause-answers g c =
@@ -15,4 +15,4 @@ returns-in-Ok-clause-answers g c =
 
 pub returns-in-Ok-clause-stops : goal.returns-in-Ok-clause-stops
 returns-in-Ok-clause-stops g c =
-    if_err c.answer_lines.result (λ trouble h. first_stops g.R.Reader.Read.remaining c.args.way (codes "standard input") _ _ trouble (inr (reader_inner c.in-Ok.input, stopped_same _ _ _ _ _ _ trouble c.in-Ok.ensures.bytes h))) c.answer_lines.ensures.stops
+    if_err c.answer_lines.result (λ problem h. first_stops g.R.Reader.Read.remaining c.args.way (codes "standard input") _ _ problem (inr (reader_inner c.in-Ok.input, stopped_same _ _ _ _ _ _ problem c.in-Ok.ensures.bytes h))) c.answer_lines.ensures.stops

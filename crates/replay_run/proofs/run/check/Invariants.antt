@@ -1,6 +1,6 @@
 use Rattle.std.proofs.Common.{◌≡◌}
 use Rattle.replay_run.specs.Growth.{Grows}
-use Rattle.replay_run.specs.Judged.{CountsFiles}
+use Rattle.replay_run.specs.Checked.{CountsFiles}
 use Rattle.replay_run.proofs.run.check.Given as goal
 
 -- the pairs so far are counted, and what is written was added

@@ -2,7 +2,7 @@ use Rattle.std.proofs.Common.{◌≡◌, ◌<◌, [], ◌∷◌, codes, inl, len
 use Rattle.replay_run.specs.Answered.{AnswersReaders, StopsReaders}
 use Rattle.replay_run.specs.Compared.{EndsComparison}
 use Rattle.replay_run.proofs.AnsweredReaders.{all_stop, readers_kept, stops_kept}
-use Rattle.replay_run.specs.declared.trouble.Trouble.TheVariants.{Write}
+use Rattle.replay_run.specs.declared.problem.Problem.TheVariants.{Write}
 use Rattle.replay_run.proofs.Commands.{if_answers, if_comparison}
 use Rattle.replay_run.proofs.Growing.{appends_kept}
 use Rattle.replay_run.proofs.Ending.{ends_kept}
@@ -55,15 +55,15 @@ returns-in-Err-flush-clause-stops_input g c =
 pub returns-in-Err-clause-stops : goal.returns-in-Err-clause-stops
 returns-in-Err-clause-stops g c =
     if_answers c.args.command.now
-    (λ f n. 0 < length n → StopsReaders g.row.R-File.Denot g.R.File.Read.remaining f n (g.W.Write.contents c.args.out.now) (g.W.Write.contents c.do_command.new.out) c.in-Err.stop.file.now c.in-Err.stop.trouble)
-    (λ f n. 0 < length n → StopsReaders g.row.R-File.Denot g.R.File.Read.remaining f n (g.W.Write.contents c.args.out.now) (g.W.Write.contents c.flush-in-Err.new.self) c.in-Err.stop.file.now c.in-Err.stop.trouble)
-    (λ f n told some. stops_kept g.R.File.Read.remaining f n _ _ _ _ c.in-Err.stop.trouble (told some) c.flush-in-Err.ensures.bytes)
+    (λ f n. 0 < length n → StopsReaders g.row.R-File.Denot g.R.File.Read.remaining f n (g.W.Write.contents c.args.out.now) (g.W.Write.contents c.do_command.new.out) c.in-Err.stop.file.now c.in-Err.stop.problem)
+    (λ f n. 0 < length n → StopsReaders g.row.R-File.Denot g.R.File.Read.remaining f n (g.W.Write.contents c.args.out.now) (g.W.Write.contents c.flush-in-Err.new.self) c.in-Err.stop.file.now c.in-Err.stop.problem)
+    (λ f n told some. stops_kept g.R.File.Read.remaining f n _ _ _ _ c.in-Err.stop.problem (told some) c.flush-in-Err.ensures.bytes)
     c.in-Err.ensures.stops
 
 pub returns-in-Err-clause-stops_input : goal.returns-in-Err-clause-stops_input
 returns-in-Err-clause-stops_input g c =
     if_answers c.args.command.now
-    (λ f n. length n ≡ 0 → StopsReaders g.row.R-Reader.Denot g.R.Reader.Read.remaining f (codes "standard input" ∷ []) (g.W.Write.contents c.args.out.now) (g.W.Write.contents c.do_command.new.out) c.in-Err.stop.file.now c.in-Err.stop.trouble)
-    (λ f n. length n ≡ 0 → StopsReaders g.row.R-Reader.Denot g.R.Reader.Read.remaining f (codes "standard input" ∷ []) (g.W.Write.contents c.args.out.now) (g.W.Write.contents c.flush-in-Err.new.self) c.in-Err.stop.file.now c.in-Err.stop.trouble)
-    (λ f n told none. stops_kept g.R.Reader.Read.remaining f (codes "standard input" ∷ []) _ _ _ _ c.in-Err.stop.trouble (told none) c.flush-in-Err.ensures.bytes)
+    (λ f n. length n ≡ 0 → StopsReaders g.row.R-Reader.Denot g.R.Reader.Read.remaining f (codes "standard input" ∷ []) (g.W.Write.contents c.args.out.now) (g.W.Write.contents c.do_command.new.out) c.in-Err.stop.file.now c.in-Err.stop.problem)
+    (λ f n. length n ≡ 0 → StopsReaders g.row.R-Reader.Denot g.R.Reader.Read.remaining f (codes "standard input" ∷ []) (g.W.Write.contents c.args.out.now) (g.W.Write.contents c.flush-in-Err.new.self) c.in-Err.stop.file.now c.in-Err.stop.problem)
+    (λ f n told none. stops_kept g.R.Reader.Read.remaining f (codes "standard input" ∷ []) _ _ _ _ c.in-Err.stop.problem (told none) c.flush-in-Err.ensures.bytes)
     c.in-Err.ensures.stops_input

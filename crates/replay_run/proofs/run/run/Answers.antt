@@ -30,21 +30,21 @@ returns-in-Ok-clause-help g c = λ done is.
 pub returns-in-Err-clause-stops : goal.returns-in-Err-clause-stops
 returns-in-Err-clause-stops g c = λ stopped way files asks some. (
   c.in-Err.stop.file.now,
-  c.in-Err.stop.trouble,
+  c.in-Err.stop.problem,
   c.tell_stop.ensures.told,
   files_answered (words_at c.args.words.now)
       c.in-Some.command (λ f n. 0 < length n → StopsReaders g.row.R-File.Denot g.R.File.Read.remaining f n (g.W.Write.contents c.args.out.now)
-      (g.W.Write.contents c.finish.new.out) c.in-Err.stop.file.now c.in-Err.stop.trouble) way files c.in-Some.ensures.command asks c.in-Err.ensures.stops some,
+      (g.W.Write.contents c.finish.new.out) c.in-Err.stop.file.now c.in-Err.stop.problem) way files c.in-Some.ensures.command asks c.in-Err.ensures.stops some,
 )
 
 pub returns-in-Err-clause-stops_input : goal.returns-in-Err-clause-stops_input
 returns-in-Err-clause-stops_input g c = λ stopped way asks. (
   c.in-Err.stop.file.now,
-  c.in-Err.stop.trouble,
+  c.in-Err.stop.problem,
   c.tell_stop.ensures.told,
   files_answered (words_at c.args.words.now)
       c.in-Some.command (λ f n. length n ≡ 0 → StopsReaders g.row.R-Reader.Denot g.R.Reader.Read.remaining f (codes "standard input" ∷ []) (g.W.Write.contents c.args.out.now)
-      (g.W.Write.contents c.finish.new.out) c.in-Err.stop.file.now c.in-Err.stop.trouble) way [] c.in-Some.ensures.command asks c.in-Err.ensures.stops_input refl,
+      (g.W.Write.contents c.finish.new.out) c.in-Err.stop.file.now c.in-Err.stop.problem) way [] c.in-Some.ensures.command asks c.in-Err.ensures.stops_input refl,
 )
 
 pub returns-in_default-clause-stops : goal.returns-in_default-clause-stops
@@ -58,4 +58,4 @@ returns-in_default-clause-stops_input g c = λ stopped way asks.
     absurd (c.in_default.ensures.none (search rules) command are)
 
 pub returns-in-Err-clause-told : goal.returns-in-Err-clause-told
-returns-in-Err-clause-told g c = λ stopped. inr (c.in-Err.stop.file.now, c.in-Err.stop.trouble, c.tell_stop.ensures.told)
+returns-in-Err-clause-told g c = λ stopped. inr (c.in-Err.stop.file.now, c.in-Err.stop.problem, c.tell_stop.ensures.told)

@@ -2,12 +2,12 @@ use Rattle.std.proofs.Common.{refl, string_bytes, subst}
 use Rattle.std.specs.Option.{option_copied}
 use Rattle.program.specs.Stream.{CutShort, Receives, Whole}
 use Rattle.snip_run.specs.Words.{words_at}
-use Rattle.snip_run.proofs.Ending.{ends_failed, ends_misused, ends_printed, ends_unprinted, no_command}
+use Rattle.snip_run.proofs.Ending.{ends_failed, ends_bad_usage, ends_printed, ends_unprinted, no_command}
 use Rattle.snip_run.proofs.run.run.Goals as goal
 
 pub returns-in_default-clause-ends : goal.returns-in_default-clause-ends
 returns-in_default-clause-ends g c =
-    ends_misused (words_at c.args.words.now) (option_copied c.args.file) _ _ (no_command _ c.in_default.ensures.each_line) refl c.write_line.ensures.told
+    ends_bad_usage (words_at c.args.words.now) (option_copied c.args.file) _ _ (no_command _ c.in_default.ensures.each_line) refl c.write_line.ensures.told
 
 pub returns-then-write_line-clause-ends : goal.returns-then-write_line-clause-ends
 returns-then-write_line-clause-ends g c =

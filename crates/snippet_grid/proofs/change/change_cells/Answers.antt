@@ -12,7 +12,7 @@ use Rattle.snippet_grid.proofs.StretchLemmas.{stretch, BeginsWith-trans}
 use Rattle.snippet_grid.specs.Changes.{changed_by, ShowsSpan}
 use Rattle.snippet_grid.specs.Grid.{cells_changed}
 use Rattle.snippet_style.specs.Cell.{Cell}
-use Rattle.snippet_grid.specs.Runs.{IsRun, IsPut, FitIn, grid_shown, shown}
+use Rattle.snippet_grid.specs.Runs.{IsRun, IsPut, FitIn, grid_shown, shown_cell}
 use Rattle.snippet_grid.specs.declared.runs.Run.{Run}
 use Rattle.snippet_grid.proofs.change.change_cells.Goals as goal
 
@@ -60,8 +60,8 @@ returns-then-part-last c =
     let last = c.min-last.result in
     let is = c.as_slice-old.ensures.value in
     let at = RowAt-read runs c.as_slice-old.result.now row from to is record { ordered = c.row_bounds-from.ensures.bounds.0; within = c.row_bounds-from.ensures.bounds.1; above = c.row_bounds-from.ensures.above; inside = c.row_bounds-from.ensures.inside; below = c.row_bounds-from.ensures.below } in
-    let same : (k : ℕ) → shown old (stretch c.as_slice-old.result.now from to) row k ≡ shown old runs row k = λ k. ap (λ (l : List Run). shown old (stretch l from to) row k) is ∙ row_shows old runs row from to k at in
-    let part = part_same mid row c.args.start last (λ k. shown old (stretch c.as_slice-old.result.now from to) row k) (λ k. shown old runs row k) c.in_ok-part.part same c.in_ok-part.ensures.ok in
+    let same : (k : ℕ) → shown_cell old (stretch c.as_slice-old.result.now from to) row k ≡ shown_cell old runs row k = λ k. ap (λ (l : List Run). shown_cell old (stretch l from to) row k) is ∙ row_shows old runs row from to k at in
+    let part = part_same mid row c.args.start last (λ k. shown_cell old (stretch c.as_slice-old.result.now from to) row k) (λ k. shown_cell old runs row k) c.in_ok-part.part same c.in_ok-part.ensures.ok in
     let grows = c.in_ok-part.ensures.text in
     let all = BeginsWith-trans old mid new grows c.put_run.ensures.text in
     let same_row : c.changed.result.row ≡ row = c.changed.ensures.is.row ∙ c.in_ok-part.ensures.ok.row_is in
@@ -70,7 +70,7 @@ returns-then-part-last c =
     let reach : c.changed.result.cell + c.changed.result.count ≤ get_or w c.changed.result.row 0 = omega (arith, c.changed.ensures.is.cell, c.changed.ensures.is.count, part.cell_is, part.within, c.min-last.ensures, c.width_of.ensures.value, ap (λ r. get_or w r 0) same_row) in
     let fits : IsPut mid new runs now c.changed.result → FitIn w now = λ put. put.inside w c.requires.grid.inside reach in
     let span = λ (put : IsPut mid new runs now c.changed.result). subst
-    (λ n. ShowsSpan old new runs now row c.args.start n (λ k. f (shown old runs row k)))
+    (λ n. ShowsSpan old new runs now row c.args.start n (λ k. f (shown_cell old runs row k)))
     whole (put_span old mid new runs now c.in_ok-part.part c.changed.result row c.args.start last c.args.change grows c.requires.grid.are_runs
     part c.changed.ensures.is put) in
     record {

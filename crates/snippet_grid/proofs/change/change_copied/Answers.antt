@@ -9,7 +9,7 @@ use Rattle.snippet_grid.proofs.PutLemmas.{AreOrdered, AreApart, IsRow-stretch}
 use Rattle.snippet_grid.proofs.RowPut.{RowAt-read, begins_fit, put_length, length-stretch}
 use Rattle.snippet_grid.proofs.StretchLemmas.{stretch}
 use Rattle.snippet_grid.specs.Changes.{changed_by, ShowsSpan}
-use Rattle.snippet_grid.specs.Runs.{IsRun, IsRow, EndsBy, FitIn, grid_shown, shown}
+use Rattle.snippet_grid.specs.Runs.{IsRun, IsRow, EndsBy, FitIn, grid_shown, shown_cell}
 use Rattle.snippet_grid.specs.declared.runs.Run.{Run}
 use Rattle.snippet_grid.proofs.change.change_copied.Goals as goal
 
@@ -62,8 +62,8 @@ returns c =
     let at = RowAt-read runs c.as_slice-old.result.now row from to is record { ordered = c.row_bounds-from.ensures.bounds.0; within = c.row_bounds-from.ensures.bounds.1; above = c.row_bounds-from.ensures.above; inside = c.row_bounds-from.ensures.inside; below = c.row_bounds-from.ensures.below } in
     let width : ℕ = get_or w row 0 in
     let high : c.min-last.result ≤ width = omega (arith, c.min-last.ensures, c.width_of.ensures.value) in
-    let there = subst (λ (l : List Run). ShowsSpan old new l fresh row c.args.start c.min-last.result (λ k. f (shown old l row k))) copied c.in_ok-change_row.ensures.ok in
-    let shows = subst (λ (l : List Run). ShowsSpan old new (stretch l from to) fresh row c.args.start c.min-last.result (λ k. f (shown old (stretch l from to) row k))) is there in
+    let there = subst (λ (l : List Run). ShowsSpan old new l fresh row c.args.start c.min-last.result (λ k. f (shown_cell old l row k))) copied c.in_ok-change_row.ensures.ok in
+    let shows = subst (λ (l : List Run). ShowsSpan old new (stretch l from to) fresh row c.args.start c.min-last.result (λ k. f (shown_cell old (stretch l from to) row k))) is there in
     let ends = λ (all : EndsBy width (stretch runs from to)). c.in_ok-change_row.ensures.ends width (subst (λ (l : List Run). EndsBy width l) (sym copied) (subst (λ (l : List Run). EndsBy width (stretch l from to)) (sym is) all)) high in
     let put : now ≡ take from runs ++ fresh ++ drop to runs → IsExchanged old new runs now fresh row from to =
     λ done. record {

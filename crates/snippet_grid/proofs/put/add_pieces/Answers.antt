@@ -4,7 +4,7 @@ use Rattle.snippet_grid.proofs.OutcomeLemmas.{on_ok_three}
 use Rattle.snippet_grid.proofs.RunLemmas.{IsRun-grown}
 use Rattle.snippet_grid.proofs.StretchLemmas.{BeginsWith-trans}
 use Rattle.snippet_grid.proofs.PieceLemmas.{ArePieces-two, ArePieces-three}
-use Rattle.snippet_grid.specs.Runs.{IsRun, IsTouched, IsFront, IsBack}
+use Rattle.snippet_grid.specs.Runs.{IsRun, AreTouchedRuns, IsFront, IsBack}
 use Rattle.snippet_grid.specs.declared.runs.Run.{Run}
 use Rattle.snippet_grid.proofs.put.add_pieces.Goals as goal
 use Rattle.snippet_grid.proofs.put.add_pieces.Goals.{in-Some+in_ok-push, in_default}
@@ -46,11 +46,11 @@ returns-in-None-clause-pieces c =
 
 pub front_of-front-requires : goal.front_of-front-requires
 front_of-front-requires c =
-    record { touched = subst (λ (t : List ℕ). IsTouched t c.args.run.now c.args.touched.now) (sym c.as_str.ensures.value) c.requires.touched }
+    record { touched = subst (λ (t : List ℕ). AreTouchedRuns t c.args.run.now c.args.touched.now) (sym c.as_str.ensures.value) c.requires.touched }
 
 pub back_of-back-requires-clause-touched : goal.back_of-back-requires-clause-touched
 back_of-back-requires-clause-touched c =
-    subst (λ (t : List ℕ). IsTouched t c.args.run.now c.args.touched.now) (sym c.as_str-2.ensures.value) c.requires.touched
+    subst (λ (t : List ℕ). AreTouchedRuns t c.args.run.now c.args.touched.now) (sym c.as_str-2.ensures.value) c.requires.touched
 
 pub back_of-back-requires-clause-run : goal.back_of-back-requires-clause-run
 back_of-back-requires-clause-run c =

@@ -4,7 +4,7 @@ use Rattle.snippet_grid.proofs.RowPut.{row_ends}
 use Rattle.snippet_grid.proofs.RowsWoven.{rows_next, rows_all}
 use Rattle.snippet_grid.specs.Changes.{RowAt}
 use Rattle.snippet_grid.specs.Runs.{cells_to}
-use Rattle.snippet_grid.specs.Woven.{AddsRow}
+use Rattle.snippet_grid.specs.Woven.{WeavesRow}
 use Rattle.snippet_grid.proofs.StretchLemmas.{stretch}
 use Rattle.snippet_style.specs.declared.stylesheet.Stylesheet.{Stylesheet}
 use Rattle.snippet_grid.proofs.weave.weave_rows.Goals as goal
@@ -45,7 +45,7 @@ loop-row-preserved c =
       | then-row-gt0+in_ok-push w ↦ rw (w.out-is) w.in_ok-push.ensures.bytes
       | else-row-gt0 w ↦ absurd (omega (arith, some, w.if-row-gt0.false))
     ] in
-    let row = subst (λ (sheet : Stylesheet). AddsRow sheet c.args.level
+    let row = subst (λ (sheet : Stylesheet). WeavesRow sheet c.args.level
     (cells_to c.args.text.now (stretch c.args.runs.now c.loop-row.from c.row_end-to.result) c.loop-row.row (get_or c.args.widths.now c.loop-row.row 0)) (string_bytes c.if-row-gt0.out) (string_bytes c.weave_row.new.out)) c.loop-row.invariant.sheet c.in_ok-weave_row.ensures.text in
     record {
       sheet = c.in_ok-weave_row.ensures.sheet ∙ c.loop-row.invariant.sheet;

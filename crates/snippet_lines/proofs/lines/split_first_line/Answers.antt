@@ -1,7 +1,7 @@
 use Rattle.std.proofs.Common.{◌≡◌, ◌≢◌, ℕ, ◌<◌, List, length, get_or, sym, ap, subst, ◌∙◌, arith, eq-eqb}
 use Rattle.std.proofs.lemmas.Str.{IsCharBoundary-after_ascii}
 use Rattle.std.proofs.lemmas.Bool.{eqb-true}
-use Rattle.snippet_lines.specs.Lines.{IsOneLine}
+use Rattle.snippet_lines.specs.Lines.{IsLineWithEnd}
 use Rattle.snippet_lines.proofs.CursorLemmas.{IsOneLine-cut}
 use Rattle.snippet_lines.proofs.lines.split_first_line.Goals as goal
 
@@ -19,4 +19,4 @@ returns-in-Some-clause-one_line c =
     let same = c.as_bytes.ensures.value in
     let inside : c.in-Some.at < length text = omega (arith, c.in-Some.ensures.0.high, ap length same) in
     let none : (k : ℕ) → k < c.in-Some.at → get_or text k 0 ≢ 10 = λ k l is. c.in-Some.ensures.0.before k (omega arith) l (eq-eqb _ 10 (ap (λ bs. get_or bs k 0) same ∙ is)) in
-    subst IsOneLine (sym c.split_at.ensures.front) (IsOneLine-cut text c.in-Some.at inside none)
+    subst IsLineWithEnd (sym c.split_at.ensures.front) (IsOneLine-cut text c.in-Some.at inside none)

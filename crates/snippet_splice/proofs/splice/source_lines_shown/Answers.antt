@@ -8,7 +8,7 @@ use Rattle.snippet_lines.specs.Span.{IsSpanBorder}
 use Rattle.snippet_splice.specs.declared.patches.TrimmedPatch.{TrimmedPatch}
 use Rattle.snippet_splice.specs.Copied.{in_text}
 use Rattle.snippet_splice.specs.Edits.{original_bounds_of}
-use Rattle.snippet_splice.specs.Stretches.{capped, greatest_end}
+use Rattle.snippet_splice.specs.Stretches.{capped, last_end_of}
 use Rattle.snippet_splice.proofs.splice.source_lines_shown.Goals as goal
 
 border_max : (source : List ℕ) (a b m : ℕ) → m ≡ max a b → IsSpanBorder source a → IsSpanBorder source b → IsSpanBorder source m
@@ -34,8 +34,8 @@ loop-patch-preserved c =
       border = λ begin all. border_max c.args.source.now c.loop-patch.end p.original_span.end c.max-end.result c.max-end.ensures
           (c.loop-patch.invariant.border begin all)
           (all i none within);
-      greatest = ap (λ n. greatest_end n (map original_bounds_of (drop (i + 1) ps))) c.max-end.ensures
-          ∙ ap (greatest_end c.loop-patch.end) (sym left) ∙ c.loop-patch.invariant.greatest;
+      greatest = ap (λ n. last_end_of n (map original_bounds_of (drop (i + 1) ps))) c.max-end.ensures
+          ∙ ap (last_end_of c.loop-patch.end) (sym left) ∙ c.loop-patch.invariant.greatest;
     }
 
 pub returns : goal.returns
@@ -46,17 +46,17 @@ returns c =
     let begin : ℕ = in_text source c.args.start in
     let left : map original_bounds_of (drop c.loop-patch.patch-index ps) ≡ [] =
     ap (map original_bounds_of) (drop_all c.loop-patch.patch-index ps c.loop-patch-test.false) in
-    let greatest : last ≡ greatest_end c.args.start (map original_bounds_of ps) =
-    sym (ap (greatest_end last) left) ∙ c.loop-patch.invariant.greatest in
+    let greatest : last ≡ last_end_of c.args.start (map original_bounds_of ps) =
+    sym (ap (last_end_of last) left) ∙ c.loop-patch.invariant.greatest in
     record {
       value = λ start ends.
           let text : c.text_between.result.now ≡ slice_range source begin (in_text source last) =
           c.text_between.ensures.value start (c.loop-patch.invariant.border start ends) in
           let feeds : c.line_feed_count-feeds.result
-          ≡ count_by is_lf (slice_range source begin (in_text source (greatest_end c.args.start (map original_bounds_of ps)))) =
+          ≡ count_by is_lf (slice_range source begin (in_text source (last_end_of c.args.start (map original_bounds_of ps)))) =
           c.line_feed_count-feeds.ensures.value ∙ ap (count_by is_lf) text ∙ ap (λ n. count_by is_lf (slice_range source begin (in_text source n))) greatest in
           c.saturating_add-2.ensures ∙ ap (λ n. capped (n + 1)) feeds
           ∙ ap (λ b. capped (if b then count_by is_lf
-          (slice_range source begin (in_text source (greatest_end c.args.start (map original_bounds_of ps)))) + 1 else length (source_lines source)))
+          (slice_range source begin (in_text source (last_end_of c.args.start (map original_bounds_of ps)))) + 1 else length (source_lines source)))
           (sym c.if-not-fold.false);
     }

@@ -1,12 +1,12 @@
 use Rattle.std.proofs.Common.{◌≡◌, All, drop, map}
 use Rattle.snippet_lines.specs.Span.{IsSpanBorder}
 use Rattle.snippet_splice.specs.Edits.{original_bounds_of}
-use Rattle.snippet_splice.specs.Stretches.{greatest_end}
+use Rattle.snippet_splice.specs.Stretches.{last_end_of}
 use Rattle.snippet_splice.proofs.splice.source_lines_shown.Given as goal
 
 -- those that are left complete the greatest end, which is a border
 abbrev pub invariant-loop-patch : goal.invariant-loop-patch
 invariant-loop-patch l = record {
   border : IsSpanBorder l.source l.start → All (λ t. IsSpanBorder l.source t.original_span.end) l.patches → IsSpanBorder l.source l.end;
-  greatest : greatest_end l.end (map original_bounds_of (drop l.patch-index l.patches)) ≡ greatest_end l.start (map original_bounds_of l.patches);
+  greatest : last_end_of l.end (map original_bounds_of (drop l.patch-index l.patches)) ≡ last_end_of l.start (map original_bounds_of l.patches);
 }

@@ -7,7 +7,7 @@ use Rattle.snippet_splice.specs.Edits.{Edit, edit_of, original_bounds_of, trimme
 use Rattle.snippet_lines.specs.Span.{IsSpanBorder}
 use Rattle.snippet_splice.specs.declared.patches.TrimmedPatch.{TrimmedPatch}
 use Rattle.snippet_splice.specs.Copied.{end_from, written_ranges}
-use Rattle.snippet_splice.specs.Splice.{IsPlain}
+use Rattle.snippet_splice.specs.Splice.{IsPlainSplice}
 use Rattle.snippet_splice.specs.Spliced.{ranges_from, texts_of, AreFrom}
 use Rattle.snippet_splice.specs.Shown.{first_start, shown_line, shown_start, shown_rest, shown_text, closes_line, without_final_line_feeds}
 use Rattle.snippet_splice.proofs.OverlapLemmas.{apart-in_order, ordered-spans}
@@ -86,7 +86,7 @@ returns-clause-splice c =
     let places : map extent_of c.deref-6.result.now ≡ extents_from source c.shown_start-start.result c.shown_start-start.result ts = ap (map extent_of) c.deref-6.ensures.value ∙ c.in_ok-places.ensures.value in
     let apart : AreApart 0 (in_order es) = apart-in_order es (ordered-spans source c.args.patches.now c.requires.spans) c.requires.disjoint in
     let some : trimmed_edits source es ≢ [] = some-trimmed c.in_ok-patches.patches.items (trimmed_edits source es) c.in-Some.first.now c.in_ok-patches.ensures.edits (sym (c.in-Some.ensures.value ∙ ap (λ l. slice_get l 0) c.deref.ensures.value)) in
-    let part : IsPlain source es → IsShownPart c.args.fold source es = λ plain. shown-part c.args.fold source es plain.no_cr plain.before apart some in
+    let part : IsPlainSplice source es → IsShownPart c.args.fold source es = λ plain. shown-part c.args.fold source es plain.no_cr plain.before apart some in
     record {
       edits = c.in_ok-patches.ensures.edits;
       originals = c.in_ok-patches.ensures.originals;

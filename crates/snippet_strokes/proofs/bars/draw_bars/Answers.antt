@@ -2,7 +2,7 @@ use Rattle.std.proofs.Common.{◌≡◌, ◌∙◌, ◌-◌, ◌+◌, ◌<◌, �
 use Rattle.std.proofs.lemmas.List.{get_or_default, take_all}
 use Rattle.snippet_strokes.specs.declared.bars.OpenBar.{OpenBar}
 use Rattle.snippet_style.specs.Cell.{Cell, SPACE, written}
-use Rattle.snippet_strokes.specs.Bars.{StandsBeside, bar_part, barred, changed_from, with_bars}
+use Rattle.snippet_strokes.specs.Bars.{StandsBeside, bar_cell_part, barred, changed_from, with_bars}
 use Rattle.snippet_strokes.proofs.BarRows.{changed-more, changed-same, side_drawn}
 use Rattle.snippet_strokes.proofs.BarLemmas.{no_bar}
 use Rattle.snippet_strokes.proofs.bars.draw_bars.Goals as goal
@@ -36,7 +36,7 @@ loop-from-preserved c =
     let from = c.loop-from.from in
     let to = c.side_end-to in
     let first = get_or bars from no_bar in
-    let side : List Cell → List Cell = λ cells. written SPACE cells (layout.gutter + 2 + first.depth) (replicate (to.result - from) (bar_part layout c.args.stroke first)) in
+    let side : List Cell → List Cell = λ cells. written SPACE cells (layout.gutter + 2 + first.depth) (replicate (to.result - from) (bar_cell_part layout c.args.stroke first)) in
     let beside : (k : ℕ) (d : OpenBar) → k < to.result - from → StandsBeside first k (get_or bars (from + k) d) = λ k d low.
     let place : from + k - from ≡ k = omega arith in
     let one = to.ensures.beside (from + k) d (omega arith) (omega (arith, low)) in

@@ -1,6 +1,6 @@
 use Rattle.std.proofs.Common.{◌+◌, replicate}
 use Rattle.snippet_style.specs.Cell.{SPACE, written}
-use Rattle.snippet_strokes.specs.Bars.{bar_part}
+use Rattle.snippet_strokes.specs.Bars.{bar_cell_part}
 use Rattle.snippet_strokes.proofs.BarRows.{ChangesRows}
 use Rattle.snippet_strokes.proofs.bars.draw_side.Given as goal
 
@@ -9,4 +9,4 @@ abbrev pub invariant-loop-r : goal.invariant-loop-r
 invariant-loop-r l =
     let layout = l.fn.layout in
     let first = l.fn.first in
-    ChangesRows (λ cells. written SPACE cells (layout.gutter + 2 + first.depth) (replicate l.fn.count (bar_part layout l.fn.stroke first))) l.fn.row l.r l.initial.buffer l.buffer
+    ChangesRows (λ cells. written SPACE cells (layout.gutter + 2 + first.depth) (replicate l.fn.count (bar_cell_part layout l.fn.stroke first))) l.fn.row l.r l.initial.buffer l.buffer

@@ -4,7 +4,7 @@ use Rattle.snippet_grid.specs.Grid.{cells_written}
 use Rattle.snippet_model.specs.AnnotationKind.{is_primary}
 use Rattle.snippet_style.specs.Cell.{unlinked_cell}
 use Rattle.snippet_style.specs.Glyphs.{strokes_of, underline_role}
-use Rattle.snippet_strokes.specs.Strokes.{bar_of}
+use Rattle.snippet_strokes.specs.Strokes.{bar_writes}
 use Rattle.snippet_strokes.specs.Writes.{painted}
 use Rattle.snippet_style.specs.declared.glyphs.Strokes.{Strokes}
 use Rattle.snippet_strokes.proofs.BarWrites.{bar_of-none, bar_painted}
@@ -26,4 +26,4 @@ loop-row-preserved c =
 pub returns : goal.returns
 returns c =
     let ends : c.loop-row.row ≡ c.args.end = omega (arith, c.requires.ordered) in
-    record { painted = c.loop-row.invariant ∙ ap (λ n. painted (bar_of c.args.layout c.args.placed.now c.args.depth c.args.start n) c.args.buffer.now) ends }
+    record { painted = c.loop-row.invariant ∙ ap (λ n. painted (bar_writes c.args.layout c.args.placed.now c.args.depth c.args.start n) c.args.buffer.now) ends }

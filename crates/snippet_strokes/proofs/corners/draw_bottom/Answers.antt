@@ -4,7 +4,7 @@ use Rattle.snippet_grid.specs.Layout.{Layout, bar_cell}
 use Rattle.snippet_grid.specs.LayoutOf.{layout_of}
 use Rattle.snippet_style.specs.Glyphs.{strokes_of, underline_role}
 use Rattle.snippet_strokes.specs.Writes.{painted}
-use Rattle.snippet_strokes.specs.Strokes.{bar_of}
+use Rattle.snippet_strokes.specs.Strokes.{bar_writes}
 use Rattle.snippet_style.specs.declared.glyphs.Strokes.{Strokes}
 use Rattle.snippet_strokes.proofs.BarWrites.{bottom_painted}
 use Rattle.snippet_strokes.proofs.corners.draw_bottom.Goals as goal
@@ -12,7 +12,7 @@ use Rattle.snippet_strokes.proofs.corners.draw_bottom.Goals as goal
 pub returns : goal.returns
 returns c =
     let strokes = c.underline-strokes in
-    let drawn = subst (λ (l : Layout). c.draw_bar.new.buffer ≡ painted (bar_of l c.args.placed.now c.args.depth c.args.row (c.args.row + 1 + c.args.placed.now.position)) c.args.buffer.now) (sym c.layout.view_is) c.in_ok-draw_bar.ensures.painted in
+    let drawn = subst (λ (l : Layout). c.draw_bar.new.buffer ≡ painted (bar_writes l c.args.placed.now c.args.depth c.args.row (c.args.row + 1 + c.args.placed.now.position)) c.args.buffer.now) (sym c.layout.view_is) c.in_ok-draw_bar.ensures.painted in
     let is_cell = c.bar_cell-cell.ensures.value ∙ ap (λ (l : Layout). bar_cell l c.args.depth) (sym c.layout.view_is) in
     let wrote = rw is_cell at c.putc.ensures.ok in
     rw (← c.layout.view_is) (record {

@@ -5,7 +5,7 @@ use Rattle.snippet_grid.specs.Layout.{Layout, bar_cell}
 use Rattle.snippet_grid.specs.LayoutOf.{layout_of}
 use Rattle.snippet_style.specs.Glyphs.{strokes_of, underline_role}
 use Rattle.snippet_strokes.specs.Writes.{painted}
-use Rattle.snippet_strokes.specs.Strokes.{bar_of}
+use Rattle.snippet_strokes.specs.Strokes.{bar_writes}
 use Rattle.snippet_style.specs.declared.glyphs.Strokes.{Strokes}
 use Rattle.snippet_strokes.proofs.BarWrites.{top_painted}
 use Rattle.snippet_strokes.proofs.corners.draw_top.Goals as goal
@@ -16,7 +16,7 @@ returns c =
     let old = c.args.buffer.now in
     let mid = c.putc.new.self in
     let same : c.num_lines-end.result ≡ length old = omega (arith, c.num_lines-end.ensures.count, c.in_ok-putc.ensures.reads.count, c.requires.rows.mark) in
-    let drawn = subst (λ (l : Layout). OnOk c.draw_bar.result (c.draw_bar.new.buffer ≡ painted (bar_of l c.args.placed.now c.args.depth (c.args.row + 1 + c.args.placed.now.position + 1) c.num_lines-end.result) mid)) (sym c.layout.view_is) c.draw_bar.ensures.painted in
+    let drawn = subst (λ (l : Layout). OnOk c.draw_bar.result (c.draw_bar.new.buffer ≡ painted (bar_writes l c.args.placed.now c.args.depth (c.args.row + 1 + c.args.placed.now.position + 1) c.num_lines-end.result) mid)) (sym c.layout.view_is) c.draw_bar.ensures.painted in
     let is_cell = c.bar_cell-cell.ensures.value ∙ ap (λ (l : Layout). bar_cell l c.args.depth) (sym c.layout.view_is) in
     let wrote = rw is_cell at c.in_ok-putc.ensures.ok in
     rw (← c.layout.view_is) (record {

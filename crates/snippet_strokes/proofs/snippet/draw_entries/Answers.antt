@@ -8,7 +8,7 @@ use Rattle.snippet_labels.specs.Entries.{shifted}
 use Rattle.snippet_strokes.specs.Strokes.{AddsPainted}
 use Rattle.snippet_style.specs.Cell.{Cell}
 use Rattle.snippet_parts.specs.declared.entries.LineAnnotation.{LineAnnotation}
-use Rattle.snippet_strokes.specs.Bars.{HasRoom, barred, ends_of_bars, is_whole_line}
+use Rattle.snippet_strokes.specs.Bars.{HasBarRoom, barred, ends_of_bars, is_whole_line}
 use Rattle.snippet_strokes.proofs.BarLemmas.{DrawsBars-barred}
 use Rattle.snippet_strokes.proofs.LineRowLemmas.{own_strokes, own_whole}
 use Rattle.snippet_strokes.proofs.OpenLemmas.{room_ends}
@@ -19,7 +19,7 @@ use Rattle.snippet_strokes.proofs.snippet.draw_entries.Goals as goal
 pub draw_bars-requires : goal.draw_bars-requires
 draw_bars-requires c =
     let es = c.args.info.now.annotations.items in
-    record { room = All-same (HasRoom c.args.layout) c.args.ends.now (ends_of_bars es) c.requires.ends (room_ends c.args.layout es c.requires.bar_cells) }
+    record { room = All-same (HasBarRoom c.args.layout) c.args.ends.now (ends_of_bars es) c.requires.ends (room_ends c.args.layout es c.requires.bar_cells) }
 
 pub returns-then-is_whole_line : goal.returns-then-is_whole_line
 returns-then-is_whole_line c =
@@ -28,7 +28,7 @@ returns-then-is_whole_line c =
     let whole : is_whole_line text es ≡ true = ap (is_whole_line text) (sym c.deref.ensures.value) ∙ sym c.is_whole_line.ensures.value ∙ c.if-is_whole_line.true in
     record {
       added = on_ok_weaker c.draw_bars.result (λ value above plain is bare.
-          let room : All (HasRoom c.args.layout) c.args.ends.now = All-same (HasRoom c.args.layout) c.args.ends.now (ends_of_bars es) c.requires.ends (room_ends c.args.layout es c.requires.bar_cells) in
+          let room : All (HasBarRoom c.args.layout) c.args.ends.now = All-same (HasBarRoom c.args.layout) c.args.ends.now (ends_of_bars es) c.requires.ends (room_ends c.args.layout es c.requires.bar_cells) in
           let draws = DrawsBars-barred c.args.layout Top c.args.ends.now c.args.row c.args.buffer.now c.draw_bars.new.buffer room value in
           whole_added c.args.layout text c.args.room c.args.dropped c.args.closes es above plain c.args.buffer.now c.draw_bars.new.buffer c.args.row whole c.requires.last draws is bare) c.draw_bars.ensures.value;
       own = on_ok_weaker c.draw_bars.result (λ value above plain is.

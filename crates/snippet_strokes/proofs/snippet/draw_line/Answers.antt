@@ -5,7 +5,7 @@ use Rattle.std.proofs.lemmas.List.Elements.{All-same}
 use Rattle.snippet_parts.specs.declared.entries.LineAnnotation.{LineAnnotation}
 use Rattle.snippet_grid.specs.Grid.{changed_within}
 use Rattle.snippet_labels.specs.Entries.{is_end_part}
-use Rattle.snippet_strokes.specs.Bars.{HasRoom, bars_apart, ends_of_bars}
+use Rattle.snippet_strokes.specs.Bars.{HasBarRoom, bars_apart, ends_of_bars}
 use Rattle.snippet_strokes.specs.Rows.{highlighted_row}
 use Rattle.snippet_strokes.proofs.HighlightLaws.{IsHighlighted-rows, highlighted_count, unlit_rows}
 use Rattle.snippet_strokes.specs.declared.bars.BarStroke.TheVariants.{Solid}
@@ -24,7 +24,7 @@ draw_entries-requires-clause-last c =
 
 pub draw_bars-requires : goal.draw_bars-requires
 draw_bars-requires c =
-    record { room = All-same (HasRoom c.args.layout) c.deref-5.result.now _ (c.deref-5.ensures.value ∙ c.in_ok-below.ensures.value) (room_apart c.args.layout c.args.open_bars.now _ c.requires.room) }
+    record { room = All-same (HasBarRoom c.args.layout) c.deref-5.result.now _ (c.deref-5.ensures.value ∙ c.in_ok-below.ensures.value) (room_apart c.args.layout c.args.open_bars.now _ c.requires.room) }
 
 pub returns-clause-added : goal.returns-clause-added
 returns-clause-added c =
@@ -45,7 +45,7 @@ returns-clause-added c =
     let clear = clear_entries margin dropped info.annotations.items c.requires.clear drawn.near drawn.uncut in
     let ends_are : c.deref-4.result.now ≡ ends_of_bars info.annotations.items = c.deref-4.ensures.value ∙ c.in_ok-ends.ensures.value ∙ ap ends_of_bars c.deref-2.ensures.value in
     let bars_are : c.deref-5.result.now ≡ bars_apart c.args.open_bars.now (ends_of_bars info.annotations.items) = c.deref-5.ensures.value ∙ c.in_ok-below.ensures.value ∙ ap (bars_apart c.args.open_bars.now) ends_are in
-    let past : All (HasRoom layout) c.deref-5.result.now = All-same (HasRoom layout) c.deref-5.result.now _ (c.deref-5.ensures.value ∙ c.in_ok-below.ensures.value) (room_apart layout c.args.open_bars.now _ c.requires.room) in
+    let past : All (HasBarRoom layout) c.deref-5.result.now = All-same (HasBarRoom layout) c.deref-5.result.now _ (c.deref-5.ensures.value ∙ c.in_ok-below.ensures.value) (room_apart layout c.args.open_bars.now _ c.requires.room) in
     let draws = DrawsBars-barred layout Solid c.deref-5.result.now row c.draw_entries.new.buffer c.draw_bars.new.buffer past c.in_ok-draw_bars.ensures.value in
     line_added layout margin c.args.numbers c.args.closes c.args.open_bars.now c.deref-5.result.now info dropped c.args.buffer.now mid high
     c.draw_entries.new.buffer c.draw_bars.new.buffer row c.requires.number drawn.added drawn.row drawn.dropped clear highlights others

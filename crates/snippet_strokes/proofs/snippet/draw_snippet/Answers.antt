@@ -5,7 +5,7 @@ use Rattle.snippet_parts.specs.declared.shown_line.ShownLine.{ShownLine}
 use Rattle.snippet_parts.specs.ShownLines.{infos_of}
 use Rattle.snippet_parts.proofs.ShownLineLemmas.{infos_of-at, infos_of-drop, infos_of-length}
 use Rattle.snippet_strokes.specs.EntryMarks.{HasBarCell}
-use Rattle.snippet_strokes.specs.Bars.{HasRoom, open_below}
+use Rattle.snippet_strokes.specs.Bars.{HasBarRoom, open_below}
 use Rattle.snippet_strokes.specs.Snippet.{AddsGap, AddsLine}
 use Rattle.snippet_strokes.proofs.OpenLemmas.{room_below}
 use Rattle.snippet_strokes.proofs.SnippetLemmas.{AddsLines, AddsLines-none, AddsLines-next, AddsSnippet-from_lines}
@@ -15,22 +15,22 @@ use Rattle.snippet_strokes.proofs.snippet.draw_snippet.Goals.{then-closes, else-
 pub loop-i-init : goal.loop-i-init
 loop-i-init c =
     let infos = infos_of c.args.lines.now in (
-      All-same (HasRoom c.args.layout) c.new-open_bars.result.items [] c.new-open_bars.ensures.items (All-nil (HasRoom c.args.layout)),
+      All-same (HasBarRoom c.args.layout) c.new-open_bars.result.items [] c.new-open_bars.ensures.items (All-nil (HasBarRoom c.args.layout)),
       subst (λ bs. AddsLines c.args.layout c.args.margin c.args.numbers c.args.closes infos 0 bs c.args.buffer.now c.args.buffer.now) (sym c.new-open_bars.ensures.items) (AddsLines-none c.args.layout c.args.margin c.args.numbers c.args.closes infos c.args.buffer.now),
     )
 
 pub draw_line-requires-clause-room : goal.draw_line-requires-clause-room
 draw_line-requires-clause-room c =
-    All-same (HasRoom c.args.layout) c.deref.result.now c.loop-i.open_bars.items c.deref.ensures.value c.loop-i.invariant.0
+    All-same (HasBarRoom c.args.layout) c.deref.result.now c.loop-i.open_bars.items c.deref.ensures.value c.loop-i.invariant.0
 
 pub draw_gap-requires : goal.draw_gap-requires
 draw_gap-requires c =
     let layout = c.args.layout in
     let line : ShownLine = c.index-lines-i.result in
-    let before = All-same (HasRoom layout) c.deref.result.now c.loop-i.open_bars.items c.deref.ensures.value c.loop-i.invariant.0 in
+    let before = All-same (HasBarRoom layout) c.deref.result.now c.loop-i.open_bars.items c.deref.ensures.value c.loop-i.invariant.0 in
     let bar_cells : All (HasBarCell layout) line.info.annotations.items = subst (λ (l : ShownLine). All (HasBarCell layout) l.info.annotations.items) (sym c.index-lines-i.is) (c.requires.bar_cells c.loop-i.i line c.loop-i-test.true) in
     record {
-      room = All-same (HasRoom layout) c.deref-in-loop-i.result.now _ (c.deref-in-loop-i.ensures.value ∙ c.in_ok-open_bars.ensures.bars)
+      room = All-same (HasBarRoom layout) c.deref-in-loop-i.result.now _ (c.deref-in-loop-i.ensures.value ∙ c.in_ok-open_bars.ensures.bars)
           (room_below layout c.deref.result.now line.info.annotations.items before bar_cells);
     }
 
@@ -55,9 +55,9 @@ loop-i-preserved c =
     let rest : infos_of (take (length lines - (i + 1)) (drop (i + 1) lines)) ≡ drop (i + 1) infos = ap infos_of (take_rest lines (i + 1)) ∙ infos_of-drop lines (i + 1) in
     let gap = subst (λ xs. AddsGap layout c.in_ok-open_bars.open_bars.items info.line_index xs mid new) rest (subst (λ bs. AddsGap layout bs info.line_index (infos_of (take (length lines - (i + 1)) (drop (i + 1) lines))) mid new) c.deref-in-loop-i.ensures.value c.in_ok-draw_gap.ensures.added) in
     let below : c.in_ok-open_bars.open_bars.items ≡ open_below c.loop-i.open_bars.items info.annotations.items = c.in_ok-open_bars.ensures.bars ∙ ap (λ bs. open_below bs info.annotations.items) c.deref.ensures.value in
-    let before = All-same (HasRoom layout) c.deref.result.now c.loop-i.open_bars.items c.deref.ensures.value c.loop-i.invariant.0 in
+    let before = All-same (HasBarRoom layout) c.deref.result.now c.loop-i.open_bars.items c.deref.ensures.value c.loop-i.invariant.0 in
     let bar_cells : All (HasBarCell layout) info.annotations.items = subst (λ (l : ShownLine). All (HasBarCell layout) l.info.annotations.items) (sym c.index-lines-i.is) (c.requires.bar_cells i line c.loop-i-test.true) in (
-      All-same (HasRoom layout) c.in_ok-open_bars.open_bars.items _ c.in_ok-open_bars.ensures.bars (room_below layout c.deref.result.now info.annotations.items before bar_cells),
+      All-same (HasBarRoom layout) c.in_ok-open_bars.open_bars.items _ c.in_ok-open_bars.ensures.bars (room_below layout c.deref.result.now info.annotations.items before bar_cells),
       AddsLines-next layout c.args.margin c.args.numbers c.args.closes infos i info c.loop-i.open_bars.items c.in_ok-open_bars.open_bars.items c.args.buffer.now old mid new at.0 at.1 below c.loop-i.invariant.1 shown gap,
     )
 

@@ -1,7 +1,7 @@
 use Rattle.std.proofs.Common.{◌∙◌, ◌++◌, ap, sym, subst, map, length, All, List}
 use Rattle.snippet_suggest.specs.declared.shown.SuggestionLine.{SuggestionLine}
 use Rattle.snippet_splice.specs.Stretches.{line_stretches}
-use Rattle.snippet_suggest.specs.Cells.{shown_cells}
+use Rattle.snippet_suggest.specs.Cells.{suggestion_row}
 use Rattle.snippet_suggest.specs.Rows.{AddsShown, NumberFits}
 use Rattle.snippet_suggest.specs.Shown.{is_touched}
 use Rattle.snippet_suggest.proofs.RisingLemmas.{rooms_shown}
@@ -17,5 +17,5 @@ returns c =
           (c.in_ok-draw_shown.ensures.added
           (subst (All (NumberFits a.layout.now a.first)) (sym is)
           (rooms_shown a.layout.now a.first (length a.lines.now) (is_touched a.fold a.ranges.now) rooms)));
-      cells = c.in_ok-draw_shown.ensures.cells ∙ ap (λ (s : List SuggestionLine). a.buffer.now ++ map (shown_cells a.layout.now a.kind a.first (map (λ l. l.now) a.lines.now) (line_stretches a.stretches.now)) s) is;
+      cells = c.in_ok-draw_shown.ensures.cells ∙ ap (λ (s : List SuggestionLine). a.buffer.now ++ map (suggestion_row a.layout.now a.kind a.first (map (λ l. l.now) a.lines.now) (line_stretches a.stretches.now)) s) is;
     }

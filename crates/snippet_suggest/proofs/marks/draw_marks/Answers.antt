@@ -2,7 +2,7 @@ use Rattle.std.proofs.Common.{◌≡◌, ◌∙◌, ◌+◌, ◌<◌, ℕ, [], �
 use Rattle.snippet_splice.specs.declared.patches.TrimmedPatch.{TrimmedPatch}
 use Rattle.snippet_splice.specs.Edits.{Edit, trimmed_edit_of}
 use Rattle.snippet_suggest.specs.declared.marks.PatchColumns.{PatchColumns}
-use Rattle.snippet_suggest.specs.Marks.{columns_of, mark_end, mark_start, with_marks}
+use Rattle.snippet_suggest.specs.Marks.{edit_columns, patch_mark_end, mark_start, with_marks}
 use Rattle.snippet_suggest.specs.Moves.{AreMoves}
 use Rattle.std.proofs.lemmas.List.{drop_all, drop_more, map-append, take_more}
 use Rattle.snippet_suggest.proofs.MarksDrawn.{marked_done, marked_next}
@@ -25,11 +25,11 @@ loop-patch-preserved c =
     let ps : List TrimmedPatch = a.patches.now in
     let within : i < length ps = c.loop-patch-test.true in
     let d : TrimmedPatch = record { original_span = record { start = 0; end = 0 }; span = record { start = 0; end = 0 }; replacement = record { ref_ptr = (0, 0); now = [] } } in
-    let f : TrimmedPatch → PatchColumns = λ p. columns_of m (trimmed_edit_of p) in
+    let f : TrimmedPatch → PatchColumns = λ p. edit_columns m (trimmed_edit_of p) in
     let e : Edit = trimmed_edit_of (get_or ps i d) in
     let earlier : List PatchColumns = map f (take i ps) in
     let columns = c.patch_columns-columns.ensures.value in
-    let more : map f (take (i + 1) ps) ≡ earlier ++ columns_of m e ∷ [] = ap (map f) (take_more ps i d within) ∙ map-append f (take i ps) (get_or ps i d ∷ []) in
+    let more : map f (take (i + 1) ps) ≡ earlier ++ edit_columns m e ∷ [] = ap (map f) (take_more ps i d within) ∙ map-append f (take i ps) (get_or ps i d ∷ []) in
     let shift = c.before-in-loop-patch.ensures.value earlier inv.of in
     let bounds = c.marked_columns-start.ensures.value earlier shift in
     record {
@@ -45,7 +45,7 @@ loop-patch-preserved c =
           c.marked_columns-start.result.1 so_far (ap (map trimmed_edit_of) (drop_more ps i d within))
           more (c.patch_mark-mark.ensures.value (c.requires.spans i d within))
           (ap (λ (b : ℕ × ℕ). b.0) bounds ∙ ap (λ (x : PatchColumns). mark_start earlier x e.text) columns)
-          (ap (λ (b : ℕ × ℕ). b.1) bounds ∙ ap (λ (x : PatchColumns). mark_end earlier x e.text) columns)
+          (ap (λ (b : ℕ × ℕ). b.1) bounds ∙ ap (λ (x : PatchColumns). patch_mark_end earlier x e.text) columns)
           (c.in_ok-draw_mark.ensures.cells above so_far.row here so_far.is);
     }
 

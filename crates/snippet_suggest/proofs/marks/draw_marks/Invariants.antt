@@ -1,9 +1,9 @@
 use Rattle.std.proofs.Common.{◌≡◌, ℕ, ◌++◌, ◌∷◌, [], List, drop, length, map, take}
 use Rattle.snippet_style.specs.Cell.{Cell}
 use Rattle.snippet_splice.specs.Edits.{trimmed_edit_of}
-use Rattle.snippet_suggest.specs.Marks.{columns_of, with_marks}
+use Rattle.snippet_suggest.specs.Marks.{edit_columns, with_marks}
 use Rattle.snippet_suggest.specs.Moves.{AreMoves}
-use Rattle.snippet_suggest.specs.Rows.{AddsRow, IsStrokeRow}
+use Rattle.snippet_suggest.specs.Rows.{AddsRow, IsEdgeRow}
 use Rattle.snippet_suggest.proofs.MarksDrawn.{Marked}
 use Rattle.snippet_suggest.proofs.marks.draw_marks.Given as goal
 
@@ -11,9 +11,9 @@ use Rattle.snippet_suggest.proofs.marks.draw_marks.Given as goal
 abbrev pub invariant-loop-patch : goal.invariant-loop-patch
 invariant-loop-patch l = record {
   marked : (above : List (List Cell)) (last : List Cell) (left : List ℕ) → l.row ≡ length above → l.initial.buffer ≡ above ++ last ∷ []
-      → IsStrokeRow l.layout.base.decor l.layout.base.gutter left last → AddsRow (IsStrokeRow l.layout.base.decor l.layout.base.gutter left) above l.buffer;
-  of : AreMoves (map (λ p. columns_of l.map (trimmed_edit_of p)) (take l.patch-index l.patches)) l.moves;
+      → IsEdgeRow l.layout.base.decor l.layout.base.gutter left last → AddsRow (IsEdgeRow l.layout.base.decor l.layout.base.gutter left) above l.buffer;
+  of : AreMoves (map (λ p. edit_columns l.map (trimmed_edit_of p)) (take l.patch-index l.patches)) l.moves;
   cells : (above : List (List Cell)) (last : List Cell) → l.row ≡ length above → l.initial.buffer ≡ above ++ last ∷ []
-      → Marked l.layout l.map (map (λ p. columns_of l.map (trimmed_edit_of p)) (take l.patch-index l.patches))
+      → Marked l.layout l.map (map (λ p. edit_columns l.map (trimmed_edit_of p)) (take l.patch-index l.patches))
       (map trimmed_edit_of (drop l.patch-index l.patches)) (with_marks l.layout l.map [] (map trimmed_edit_of l.patches) last) above l.buffer;
 }

@@ -3,7 +3,7 @@ use Rattle.std.proofs.lemmas.Bool.{cond-false, cond-true}
 use Rattle.std.specs.Str.{trim, trim_start}
 use Rattle.snippet_splice.specs.Stretches.{capped}
 use Rattle.snippet_suggest.specs.Kind.{is_blank}
-use Rattle.snippet_suggest.specs.Marks.{inner_width, lead_of, left_of, mark_end, mark_start, text_width}
+use Rattle.snippet_suggest.specs.Marks.{inner_width, lead_of, left_of, patch_mark_end, mark_start, text_width}
 use Rattle.snippet_suggest.specs.Moves.{shift_of}
 use Rattle.snippet_suggest.specs.declared.marks.Shift.{Shift}
 use Rattle.snippet_suggest.proofs.marks.marked_columns.Goals as goal
@@ -31,6 +31,6 @@ returns c =
       value = λ earlier is.
           let shift = shift_of (left_of cols.start earlier) in
           let start : c.moved.result ≡ mark_start earlier cols text = c.moved.ensures.value ∙ ap (At c.args.shift) from ∙ ap (λ s. At s (capped (cols.start + lead_of text))) is in
-          let end : c.moved-2.result ≡ mark_end earlier cols text = c.moved-2.ensures.value ∙ ap (At c.args.shift) to ∙ ap (λ s. At s (capped (capped (cols.start + lead_of text) + inner_width cols text))) is in
+          let end : c.moved-2.result ≡ patch_mark_end earlier cols text = c.moved-2.ensures.value ∙ ap (At c.args.shift) to ∙ ap (λ s. At s (capped (capped (cols.start + lead_of text) + inner_width cols text))) is in
           ap (λ m. Pair m c.moved-2.result) start ∙ ap (Pair (mark_start earlier cols text)) end;
     }

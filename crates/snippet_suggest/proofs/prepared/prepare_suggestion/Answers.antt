@@ -8,7 +8,7 @@ use Rattle.snippet_lines.specs.Lines.{Source, newline_count}
 use Rattle.snippet_lines.proofs.LinesLemmas.{length-source_lines}
 use Rattle.snippet_splice.specs.declared.patches.TrimmedPatch.{TrimmedPatch}
 use Rattle.snippet_splice.specs.Copied.{written_ranges}
-use Rattle.snippet_splice.specs.Edits.{Edit, bounds_of, edit_of, in_order, original_bounds_of, trimmed_edit_of, trimmed_edits}
+use Rattle.snippet_splice.specs.Edits.{Edit, edit_bounds, edit_of, in_order, original_bounds_of, trimmed_edit_of, trimmed_edits}
 use Rattle.snippet_splice.specs.Splice.{IsSplice}
 use Rattle.snippet_splice.specs.Shown.{first_start, shown_start, shown_text}
 use Rattle.snippet_splice.specs.Stretches.{new_stretches, replaced_stretches}
@@ -41,7 +41,7 @@ returns-clause-prepared c =
     let splice : IsSplice c.in_ok-map.map.text (map edit_of c.deref.result.now) s.fold c.in-Some.splice = rw c.in-Some.is at c.in_ok-splice.ensures.splice in
     let text : string_bytes c.in-Some.splice.complete ≡ given_text s = splice.value ∙ ap (λ (t : List ℕ). shown_text s.fold t (map edit_of c.deref.result.now)) of ∙ ap (λ (ms : List Patch). shown_text s.fold source (map edit_of ms)) given in
     let edits : map trimmed_edit_of ps ≡ trimmed_of s = splice.edits ∙ ap (λ (t : List ℕ). trimmed_edits t (map edit_of c.deref.result.now)) of ∙ ap (λ (ms : List Patch). trimmed_edits source (map edit_of ms)) given in
-    let originals : map original_bounds_of ps ≡ map bounds_of (in_order (edits_of s)) = splice.originals ∙ ap (λ (ms : List Patch). map bounds_of (in_order (map edit_of ms))) given in
+    let originals : map original_bounds_of ps ≡ map edit_bounds (in_order (edits_of s)) = splice.originals ∙ ap (λ (ms : List Patch). map edit_bounds (in_order (map edit_of ms))) given in
     let ranges : c.in-Some.splice.ranges.items ≡ given_ranges s =
     splice.written ∙ ap (λ (t : List ℕ). written_ranges t 0 (shown_start s.fold t (first_start (in_order (map edit_of c.deref.result.now))))
     (trimmed_edits t (map edit_of c.deref.result.now))) of

@@ -7,7 +7,7 @@ use Rattle.snippet_style.specs.Cell.{Cell}
 use Rattle.snippet_splice.specs.declared.stretches.SubstitutionHighlight.{SubstitutionHighlight}
 use Rattle.snippet_splice.specs.Stretches.{line_stretches}
 use Rattle.snippet_suggest.specs.declared.kind.DisplaySuggestion.{DisplaySuggestion}
-use Rattle.snippet_suggest.specs.Cells.{begin_cells, shown_cells}
+use Rattle.snippet_suggest.specs.Cells.{begin_cells, suggestion_row}
 use Rattle.snippet_suggest.specs.Suggested.{new_on}
 use Rattle.snippet_suggest.proofs.SuggestedRows.{body_shown, shown_same}
 use Rattle.std.proofs.lemmas.Result.{IfOk-weaker}
@@ -22,7 +22,7 @@ use Rattle.snippet_splice.specs.declared.splice.LineRange.{LineRange}
 use Rattle.snippet_suggest.specs.Given.{first_given, first_original, given_lines, given_ranges, shown_kind}
 use Rattle.snippet_suggest.specs.Order.{Begins, SuggestionRow, row_of_shown, rows_of_suggestion}
 use Rattle.snippet_suggest.specs.Rows.{AddsRows, NumberFits}
-use Rattle.snippet_suggest.specs.Shown.{is_touched, shown_lines}
+use Rattle.snippet_suggest.specs.Shown.{is_touched, lines_suggested}
 use Rattle.snippet_suggest.proofs.ComposeLemmas.{none_empty, row_alone, rows_append, rows_shown}
 use Rattle.snippet_suggest.proofs.GutterFits.{numbers_fit}
 use Rattle.snippet_suggest.proofs.KnownLemmas.{known_first, known_originals, known_some}
@@ -89,11 +89,11 @@ returns-clause-added c = λ room above tail is shared.
     let count : length a.lines.now ≡ length lines = sym (length-map a.lines.now (λ l. l.now)) ∙ ap length c.requires.lines in
     let fits : (k : ℕ) → k < length a.lines.now → NumberFits l n (Line k) = λ k within. subst (λ (m : ℕ). NumberFits l m (Line k)) (sym first) (numbers_fit l s c.requires.prepared.suggestible room k (omega (arith, within, count))) in
     let other : p.kind ≢ Diff = λ same. cc (c.if-eq.false, c.eq.ensures, true_same the_type p.kind Diff same) in
-    let Shown : List LineRange → ℕ → List SuggestionRow = λ ranges m. map row_of_shown (shown_lines (is_touched s.fold ranges) m) in
+    let Shown : List LineRange → ℕ → List SuggestionRow = λ ranges m. map row_of_shown (lines_suggested (is_touched s.fold ranges) m) in
     let ranges : c.deref-2.result.now ≡ given_ranges s = c.deref-2.ensures.value ∙ c.requires.prepared.ranges in
     let shown : Shown c.deref-2.result.now (length a.lines.now) ≡ Shown (given_ranges s) (length lines) = ap (λ rs. Shown rs (length a.lines.now)) ranges ∙ ap (Shown (given_ranges s)) count in
     let Adds : ℕ → List (List ℕ) → List SuggestionRow → Type 0 = λ m ls rs. AddsRows l m ls rs mid new in
-    let drawn : Adds n (map (λ l. l.now) a.lines.now) (Shown c.deref-2.result.now (length a.lines.now)) = rows_shown l n (map (λ l. l.now) a.lines.now) (shown_lines (is_touched s.fold c.deref-2.result.now) (length a.lines.now)) mid new (c.in_ok-draw_lines.ensures.added fits) in
+    let drawn : Adds n (map (λ l. l.now) a.lines.now) (Shown c.deref-2.result.now (length a.lines.now)) = rows_shown l n (map (λ l. l.now) a.lines.now) (lines_suggested (is_touched s.fold c.deref-2.result.now) (length a.lines.now)) mid new (c.in_ok-draw_lines.ensures.added fits) in
     let below : Adds at lines (Shown (given_ranges s) (length lines)) =
     subst (Adds at lines) shown
     (subst (λ (m : ℕ). Adds m lines
@@ -126,17 +126,17 @@ returns-clause-cells c = λ above tail is count.
     let size : length a.lines.now ≡ length lines = sym (length-map a.lines.now (λ l. l.now)) ∙ ap length c.requires.lines in
     let other : p.kind ≢ Diff = λ same. cc (c.if-eq.false, c.eq.ensures, true_same the_type p.kind Diff same) in
     let ranges : c.deref-2.result.now ≡ given_ranges s = c.deref-2.ensures.value ∙ c.requires.prepared.ranges in
-    let shown = shown_lines (is_touched s.fold (given_ranges s)) (length lines) in
+    let shown = lines_suggested (is_touched s.fold (given_ranges s)) (length lines) in
     let begin : List Cell = begin_cells l a.start (row_at tail 0) in
     let stretches : ℕ → List SubstitutionHighlight = line_stretches c.deref-3.result.now in
     let same : (k : ℕ) → stretches k ≡ new_on s k = λ k. ap (λ vs. line_stretches vs k) c.deref-3.ensures.value ∙ c.requires.prepared.new k in
-    let Rows : DisplaySuggestion → ℕ → List (List ℕ) → List LineRange → ℕ → List (List Cell) = λ kind m ls rs k. map (shown_cells l kind m ls stretches) (shown_lines (is_touched s.fold rs) k) in
+    let Rows : DisplaySuggestion → ℕ → List (List ℕ) → List LineRange → ℕ → List (List Cell) = λ kind m ls rs k. map (suggestion_row l kind m ls stretches) (lines_suggested (is_touched s.fold rs) k) in
     let drawn : Rows p.kind n (map (λ l. l.now) a.lines.now) c.deref-2.result.now (length a.lines.now) ≡ Rows (shown_kind s) at lines (given_ranges s)
     (length lines) = ap (λ kind. Rows kind n (map (λ l. l.now) a.lines.now) c.deref-2.result.now (length a.lines.now)) c.requires.prepared.kind
     ∙ ap (λ m. Rows (shown_kind s) m (map (λ l. l.now) a.lines.now) c.deref-2.result.now (length a.lines.now)) first
     ∙ ap (λ ls. Rows (shown_kind s) at ls c.deref-2.result.now (length a.lines.now)) c.requires.lines
     ∙ ap (λ rs. Rows (shown_kind s) at lines rs (length a.lines.now)) ranges ∙ ap (Rows (shown_kind s) at lines (given_ranges s)) size in
-    let below : Rows (shown_kind s) at lines (given_ranges s) (length lines) ≡ map (shown_cells l (shown_kind s) at lines (new_on s)) shown = shown_same l (shown_kind s) at lines stretches (new_on s) shown same in
+    let below : Rows (shown_kind s) at lines (given_ranges s) (length lines) ≡ map (suggestion_row l (shown_kind s) at lines (new_on s)) shown = shown_same l (shown_kind s) at lines stretches (new_on s) shown same in
     let line = lines_some (λ l. l.now) a.lines.now lines c.in-Some.line.now (sym c.in-Some.ensures.value) c.requires.lines in
     let kind : shown_kind s ≢ Diff = λ diff. other (c.requires.prepared.kind ∙ diff) in
     let rows = rows_others a.start s _ line.0 line.1 kind in

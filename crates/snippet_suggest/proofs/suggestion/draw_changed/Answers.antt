@@ -14,7 +14,7 @@ use Rattle.snippet_style.specs.Cell.{Cell}
 use Rattle.std.proofs.lemmas.List.{append-nil}
 use Rattle.snippet_splice.specs.Stretches.{line_stretches}
 use Rattle.snippet_suggest.specs.Cells.{begin_cells, diff_cells}
-use Rattle.snippet_suggest.specs.Suggested.{new_on, replaced_on}
+use Rattle.snippet_suggest.specs.Suggested.{new_on, suggested_stretches}
 use Rattle.snippet_suggest.proofs.KnownDiff.{IsDiff, known_diff, known_diff_rows}
 use Rattle.snippet_suggest.proofs.SuggestedRows.{body_diff, body_untouched}
 use Rattle.snippet_suggest.specs.Given.{shown_kind, given_lines, given_ranges, is_left_out, last_reached, last_removed, removed_lines, texts_at, trimmed_of}
@@ -115,7 +115,7 @@ returns-clause-cells c = λ above under start is.
     let begin : List Cell = begin_cells a.layout.now start under in
     let replaced = line_stretches c.deref-5.result.now in
     let added = c.stretches_of-added.result.now in
-    let same : (j : ℕ) → replaced j ≡ replaced_on s j = λ j. ap (λ vs. line_stretches vs j) c.deref-5.ensures.value ∙ c.requires.prepared.replaced j in
+    let same : (j : ℕ) → replaced j ≡ suggested_stretches s j = λ j. ap (λ vs. line_stretches vs j) c.deref-5.ensures.value ∙ c.requires.prepared.replaced j in
     let new : added ≡ new_on s 0 = c.stretches_of-added.ensures.value ∙ ap (λ vs. line_stretches vs 0) c.deref-3.ensures.value ∙ c.requires.prepared.new 0 in
     let Drawn : ℕ → List LineInfo → List (List Cell) = λ n is. above ++ diff_cells a.layout.now n is replaced a.line.now added begin in
     append-nil c.draw_diff.new.buffer ∙ c.in_ok-draw_diff.ensures.cells above begin is ∙ ap (Drawn a.first) c.deref-4.ensures.value

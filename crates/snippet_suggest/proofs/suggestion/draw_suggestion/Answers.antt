@@ -13,7 +13,7 @@ use Rattle.snippet_suggest.proofs.SuggestedRows.{ends_marked, ends_plain, sugges
 use Rattle.snippet_lines.specs.Span.{IsSpan}
 use Rattle.snippet_style.specs.Cell.{Cell}
 use Rattle.snippet_splice.specs.declared.patches.TrimmedPatch.{TrimmedPatch}
-use Rattle.snippet_suggest.specs.Rows.{AddsRow, IsStrokeRow, beside_gutter, end_glyph}
+use Rattle.snippet_suggest.specs.Rows.{AddsRow, IsEdgeRow, beside_gutter, end_glyph}
 use Rattle.snippet_suggest.proofs.LastRow.{end_number, end_row, suggestion_added}
 use Rattle.snippet_suggest.proofs.KnownLemmas.{known_spans}
 use Rattle.snippet_suggest.proofs.suggestion.draw_suggestion.Goals as goal
@@ -35,7 +35,7 @@ returns c =
           let before : List (List Cell) = mid ++ replicate skipped [] in
           let glyph : List ℕ = end_glyph l.base.decor a.follows in
           let left : List ℕ = beside_gutter l.base.gutter glyph in
-          let Ended : List (List Cell) → Type 0 = λ rows. AddsRow (IsStrokeRow l.base.decor l.base.gutter left) before rows in
+          let Ended : List (List Cell) → Type 0 = λ rows. AddsRow (IsEdgeRow l.base.decor l.base.gutter left) before rows in
           let ended : Ended c.draw_end.new.buffer = end_row l glyph skipped mid c.draw_end.new.buffer c.in_ok-row.ensures.added in
           let last : Ended c.if-eq.buffer = elim c.if-eq.branch [
             | then-eq+in_ok-draw_marks w ↦

@@ -3,7 +3,7 @@ use Rattle.std.proofs.lemmas.Str.Pattern.{split_parts}
 use Rattle.std.proofs.lemmas.Iterator.Splits.{YieldsList-from_str_split}
 use Rattle.std.proofs.lemmas.Iterator.Consumers.{YieldsList-end, YieldsList-from_enumerate, YieldsList-turn}
 use Rattle.snippet_grid.specs.Grid.{row_at}
-use Rattle.snippet_titles.specs.Heading.{indent_cells, lines_below, trimmed}
+use Rattle.snippet_titles.specs.Heading.{indent_cells, lines_below, without_empty_end}
 use Rattle.snippet_titles.proofs.EndLemmas.{IsAtEnd-more}
 use Rattle.snippet_titles.proofs.LineLemmas.{further_drawn, lines_at-first, lines_at-one, none_below, number_is, one_line, several_lines}
 use Rattle.snippet_titles.proofs.SplitLemmas.{lines_at}
@@ -41,5 +41,5 @@ returns g c =
     let all = YieldsList-end (YieldsList-from_enumerate (YieldsList-from_str_split 10 c.in-Some.rest.now (lit< tt) (cc) (cc) (cc)) (cc)) c.loop-index.yielded _ c.loop-index.yielded_by _ _ c.in-None.is c.next.ensures.steps in
     let drawn = several_lines _ _ _ a.row _ a.role a.text.now _ c.in-Some.rest.now c.loop-index.yielded c.requires.last (lines_at-first a.text.now _ c.in-Some.rest.now parts.0 parts.1) c.in_ok-extend_row-2.ensures.extended c.loop-index.invariant all.0 in
     record {
-      rows = drawn ∙ ap (λ n. take a.row a.buffer.now ++ trimmed (lines_below (row_at a.buffer.now a.row) (indent_cells a.style.now n) a.role (map chars (lines_at a.text.now)))) c.label_width-width.ensures.value;
+      rows = drawn ∙ ap (λ n. take a.row a.buffer.now ++ without_empty_end (lines_below (row_at a.buffer.now a.row) (indent_cells a.style.now n) a.role (map chars (lines_at a.text.now)))) c.label_width-width.ensures.value;
     }

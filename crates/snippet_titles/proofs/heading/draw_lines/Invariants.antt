@@ -1,10 +1,10 @@
 -- Below the first row there is a row for each line so far.
 use Rattle.std.proofs.Common.{◌≡◌, ◌++◌, ◌∷◌, take}
 use Rattle.snippet_grid.specs.Grid.{row_at}
-use Rattle.snippet_titles.specs.Heading.{indent_cells, trimmed}
+use Rattle.snippet_titles.specs.Heading.{indent_cells, without_empty_end}
 use Rattle.snippet_titles.proofs.LineLemmas.{further_rows}
 use Rattle.snippet_titles.proofs.heading.draw_lines.Given as goal
 
 abbrev pub invariant-loop-index : goal.invariant-loop-index
 invariant-loop-index g l =
-    l.buffer ≡ take l.row l.initial.buffer ++ trimmed (row_at l.initial.buffer l.row ∷ further_rows (indent_cells l.style l.width) l.role l.yielded)
+    l.buffer ≡ take l.row l.initial.buffer ++ without_empty_end (row_at l.initial.buffer l.row ∷ further_rows (indent_cells l.style l.width) l.role l.yielded)

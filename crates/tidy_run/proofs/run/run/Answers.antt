@@ -2,7 +2,7 @@ use Rattle.std.proofs.Common.{◌≡◌, ◌⊎◌, List, String, Global, [], ap
 use Rattle.std.specs.Option.{option_copied}
 use Rattle.tidy_run.specs.Run.{Clean, Reads, sheets_for}
 use Rattle.tidy_run.specs.Words.{said, words_at}
-use Rattle.tidy_run.proofs.Ending.{clean_of_texts, ends_as, ends_failed, ends_found, ends_misused, ends_unlogged, ends_unprinted}
+use Rattle.tidy_run.proofs.Ending.{clean_of_texts, ends_as, ends_failed, ends_found, ends_bad_usage, ends_unlogged, ends_unprinted}
 use Rattle.tidy_run.proofs.WrittenLemmas.{counted_texts}
 use Rattle.tidy_run.proofs.run.run.Goals as goal
 
@@ -14,7 +14,7 @@ write_texts-requires g c =
 
 pub returns-in_default-clause-ends : goal.returns-in_default-clause-ends
 returns-in_default-clause-ends g c =
-    ends_misused (words_at c.args.words.now) (option_copied c.args.file) _ _ _ _ c.in_default.ensures.command refl c.write_line.ensures.told refl
+    ends_bad_usage (words_at c.args.words.now) (option_copied c.args.file) _ _ _ _ c.in_default.ensures.command refl c.write_line.ensures.told refl
 
 pub returns-in-Err-clause-ends : goal.returns-in-Err-clause-ends
 returns-in-Err-clause-ends g c =

@@ -2,7 +2,7 @@ use Rattle.std.proofs.Common.{◌≡◌, ◌∙◌, [], ◌∷◌, ◌++◌, ◌
 use Rattle.std.specs.List.{flat_map}
 use Rattle.std.proofs.lemmas.List.{append_assoc}
 use Rattle.std.proofs.lemmas.Str.{encode_ascii}
-use Rattle.snippet_grid.specs.Woven.{AddsRows, piece_text}
+use Rattle.snippet_grid.specs.Woven.{WeavesRows, piece_text}
 use Rattle.annotate_snippets.specs.Page.{PrintsGrids}
 use Rattle.annotate_snippets.proofs.PrintLemmas.{IsPart, IsPart-added, PrintsGrids-first, PrintsGrids-next}
 use Rattle.annotate_snippets.proofs.renderer.graphic.printed.Goals as goal
@@ -14,7 +14,7 @@ loop-i-preserved c =
     let old = string_bytes c.loop-i.text in
     let new = string_bytes c.in_ok-text.text in
     let grid = c.index-grids-i.result in
-    let adds = subst (λ codes. AddsRows codes grid.level grid.buffer (string_bytes c.if-i-gt0.text) new) c.loop-i.invariant.sheet c.in_ok-text.ensures.added in
+    let adds = subst (λ codes. WeavesRows codes grid.level grid.buffer (string_bytes c.if-i-gt0.text) new) c.loop-i.invariant.sheet c.in_ok-text.ensures.added in
     let part = flat_map piece_text adds.pieces in
     let pushed : new ≡ string_bytes c.if-i-gt0.text ++ part = adds.text_is in
     let prints = subst (λ grid. IsPart sheet grid part) c.index-grids-i.is (IsPart-added sheet c.index-grids-i.result _ _ adds) in

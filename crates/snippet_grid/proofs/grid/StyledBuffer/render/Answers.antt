@@ -1,16 +1,16 @@
 use Rattle.std.proofs.Common.{ℕ, List, refl, subst, string_bytes}
 use Rattle.snippet_grid.specs.Print.{plain_text}
-use Rattle.snippet_grid.specs.Woven.{AddsRows, Prints, links_of}
+use Rattle.snippet_grid.specs.Woven.{WeavesRows, Prints, links_of}
 use Rattle.snippet_grid.proofs.OutcomeLemmas.{if_ok_weaker}
 use Rattle.snippet_grid.proofs.PrintsOnce.{Prints-unique}
 use Rattle.snippet_grid.proofs.WovenLemmas.{Prints-from_adds, IsWoven-from_prints, plain_woven}
 use Rattle.snippet_grid.proofs.grid.StyledBuffer.render.Goals as goal
 
 -- what is added to no text prints the rows
-printed : (c : goal.After-array_drop-codes-inside) (new : List ℕ) → AddsRows c.new-codes.result c.args.level c.args.self.now (string_bytes c.new.result) new
+printed : (c : goal.After-array_drop-codes-inside) (new : List ℕ) → WeavesRows c.new-codes.result c.args.level c.args.self.now (string_bytes c.new.result) new
     → Prints c.args.sheet.now c.args.level c.args.self.now new
 printed c new adds =
-    let under : AddsRows c.args.sheet.now c.args.level c.args.self.now (string_bytes c.new.result) new = subst (λ sheet. AddsRows sheet c.args.level c.args.self.now (string_bytes c.new.result) new) c.new-codes.ensures.sheet adds in
+    let under : WeavesRows c.args.sheet.now c.args.level c.args.self.now (string_bytes c.new.result) new = subst (λ sheet. WeavesRows sheet c.args.level c.args.self.now (string_bytes c.new.result) new) c.new-codes.ensures.sheet adds in
     Prints-from_adds c.args.sheet.now c.args.level c.args.self.now _ _ _ refl c.new.ensures.bytes under
 
 pub returns-clause-prints : goal.returns-clause-prints

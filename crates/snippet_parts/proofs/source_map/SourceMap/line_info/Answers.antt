@@ -1,11 +1,11 @@
 use Rattle.std.proofs.Common.{◌≡◌, ◌<◌, ◌+◌, ◌-◌, ap, sym, subst, ◌∙◌, [], List, ℕ, length, take, drop, get_or, arith}
 use Rattle.std.specs.Str.{IsCharBoundary}
 use Rattle.snippet_lines.specs.declared.lines.EndLine.TheVariants.{Eof}
-use Rattle.snippet_lines.specs.Lines.{Line, Source, IsOneLine, line_bytes, source_lines, start_of}
+use Rattle.snippet_lines.specs.Lines.{Line, Source, IsLineWithEnd, line_bytes, source_lines, start_of}
 use Rattle.snippet_lines.proofs.LinesLemmas.{start_of-le}
 use Rattle.snippet_lines.proofs.BoundsLemmas.{IsCharBoundary-start_of, IsLine-at, IsOneLine-line, line_bytes-slice}
 use Rattle.snippet_parts.specs.declared.source_map.LineInfo.{LineInfo}
-use Rattle.snippet_parts.specs.LineTable.{entry_of, entry_at}
+use Rattle.snippet_parts.specs.LineTable.{table_entry, entry_at}
 use Rattle.snippet_parts.proofs.StartLemmas.{text-only}
 use Rattle.snippet_parts.proofs.TableLemmas.{entry_at-is, length-table, table-start}
 use Rattle.snippet_parts.proofs.source_map.SourceMap.line_info.Goals as goal
@@ -58,7 +58,7 @@ without_line_end-requires c =
     let start = c.index-start.ensures ∙ table-start m.source.now m.starts.items c.self.invariant.starts_are k c.index-start.result.now (omega (arith, within, length-table m.source.now m.starts.items c.self.invariant.starts_are)) in
     let end = c.line_end-end.ensures.value ∙ sym (ap (λ (s : Source). start_of (source_lines s.text) (k + 1)) c.self.view_is) in
     let line : Line = get_or (source_lines m.source.now) k ([], Eof) in
-    record { one_line = subst IsOneLine (sym (bytes m.source.now k c.index-start.result.now c.line_end-end.result c.range.result.now within start end c.range.ensures.value)) (IsOneLine-line line (IsLine-at m.source.now k within)) }
+    record { one_line = subst IsLineWithEnd (sym (bytes m.source.now k c.index-start.result.now c.line_end-end.result c.range.result.now within start end c.range.ensures.value)) (IsOneLine-line line (IsLine-at m.source.now k within)) }
 
 pub returns : goal.returns
 returns c =
@@ -76,6 +76,6 @@ returns c =
     let first : m.line_start ≡ c.args.self.now.first = ap (λ (s : Source). s.first) c.self.view_is in
     let info : LineInfo = record { line = c.without_line_end.result.0; line_index = c.line_number_of.result; start_byte = c.index-start.result.now; end_byte = c.line_end-end.result } in
     record {
-      entry = subst (λ (s : Source). entry_of info ≡ entry_at s.first (source_lines s.text) k) c.self.view_is
+      entry = subst (λ (s : Source). table_entry info ≡ entry_at s.first (source_lines s.text) k) c.self.view_is
           (entry_at-is info m.line_start ls k text (omega (arith, first, c.line_number_of.ensures.value)) start end);
     }

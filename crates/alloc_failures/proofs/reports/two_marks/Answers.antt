@@ -1,0 +1,18 @@
+use Rattle.std.proofs.Common.{rules, arith, ap, sym, subst, ◌∙◌, ◌++◌, All, IfSome}
+use Rattle.std.specs.Cow.{cow_str_bytes}
+use Rattle.annotate_snippets.specs.Fits.{AnnotationFits, TextFits}
+use Rattle.std.proofs.lemmas.Result.{IfOk-weaker}
+use Rattle.alloc_failures.proofs.Lists.{array-drained, IfOk-both}
+use Rattle.alloc_failures.proofs.reports.two_marks.Goals as goal
+
+pub returns : goal.returns
+returns c =
+    record {
+      fits = IfOk-weaker c.annotations.result _ _
+          (λ s ((source, path), (it, xs, gives, drains, items)). (
+            subst (λ t. TextFits (cow_str_bytes t)) (sym (source ∙ c.source.ensures.source)) (omega arith),
+            subst (λ p. IfSome p (λ t. TextFits (cow_str_bytes t))) (sym (path ∙ c.source.ensures.path)) tt,
+            subst (All AnnotationFits) (sym (items ∙ ap (λ l. l ++ xs) c.source.ensures.markers ∙ array-drained xs it drains ∙ gives.0)) (search rules),
+          ))
+          (IfOk-both _ _ c.annotations.result (IfOk-both _ _ c.annotations.result c.annotations.ensures.source c.annotations.ensures.path) c.annotations.ensures.annotations);
+    }

@@ -1,8 +1,0 @@
--- No group so far has a fault.
-use Rattle.std.proofs.Common.{◌≡◌, drop}
-use Rattle.annotate_snippets.specs.Fault.{faults_from, group_faults}
-use Rattle.annotate_snippets.proofs.renderer.judge.first_fault.Given as goal
-
-abbrev pub invariant-loop-number : goal.invariant-loop-number
-invariant-loop-number l =
-    faults_from group_faults 0 l.groups ≡ faults_from group_faults l.number (drop l.number l.groups)

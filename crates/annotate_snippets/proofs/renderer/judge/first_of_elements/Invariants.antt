@@ -1,8 +1,0 @@
--- No element so far has a fault.
-use Rattle.std.proofs.Common.{◌≡◌, drop}
-use Rattle.annotate_snippets.specs.Fault.{faults_from, element_faults}
-use Rattle.annotate_snippets.proofs.renderer.judge.first_of_elements.Given as goal
-
-abbrev pub invariant-loop-number : goal.invariant-loop-number
-invariant-loop-number l =
-    faults_from (element_faults l.group) 0 l.elements ≡ faults_from (element_faults l.group) l.number (drop l.number l.elements)

@@ -1,8 +1,0 @@
--- The number is no less than that after the lines so far, and fits.
-use Rattle.std.proofs.Common.{◌+◌, ◌<◌, ◌≤◌, ◌^◌, take}
-use Rattle.annotate_snippets.specs.Fault.{added_lines, number_after_lines}
-use Rattle.annotate_snippets.proofs.renderer.judge.greatest_end.Given as goal
-
-abbrev pub invariant-loop-patch : goal.invariant-loop-patch
-invariant-loop-patch l =
-    (number_after_lines l.line_start l.source + added_lines (take l.patch-index l.patches) ≤ l.most) × (l.most < 2 ^ 64)

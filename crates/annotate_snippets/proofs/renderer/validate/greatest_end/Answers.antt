@@ -1,0 +1,23 @@
+use Rattle.std.proofs.Common.{◌≡◌, ap, arith, length, refl, take}
+use Rattle.std.proofs.lemmas.List.{take_all}
+use Rattle.snippet_lines.proofs.LinesLemmas.{length-source_lines, newline_count-le}
+use Rattle.annotate_snippets.specs.Fault.{added_lines}
+use Rattle.annotate_snippets.proofs.FaultLemmas.{added_more}
+use Rattle.annotate_snippets.proofs.renderer.validate.greatest_end.Goals as goal
+
+pub loop-patch-init : goal.loop-patch-init
+loop-patch-init c =
+    let source = c.args.source.now in
+    let none : added_lines (take 0 c.args.patches.now) ≡ 0 = refl in
+    (omega (arith, none, length-source_lines source, newline_count-le source, c.in_ok-checked_add.ensures.1, c.in_ok-most.ensures.1), omega (arith, c.in_ok-most.ensures.0, c.in_ok-most.ensures.1))
+
+pub loop-patch-preserved : goal.loop-patch-preserved
+loop-patch-preserved c =
+    let more = added_more c.args.patches.now c.loop-patch.patch-index c.patch-item.result c.loop-patch-test.true c.patch-item.is in
+    let most = c.in_ok-most-2.ensures in
+    (omega (arith, more, c.loop-patch.invariant.0, most.1, ap length c.as_str.ensures.value), omega (arith, most.0, most.1))
+
+pub returns : goal.returns
+returns c =
+    let all = ap added_lines (take_all c.loop-patch.patch-index c.args.patches.now (omega arith)) in
+    record { most = (omega (arith, all, c.loop-patch.invariant.0), c.loop-patch.invariant.1) }
