@@ -90,13 +90,13 @@ unfolding first_overlap
 apart-clear at es apart = first-clear at 0 es apart
 
 -- a text has no more lines than bytes
-one-more : (b : ℕ) (ls : List Line) → length (with_first_byte b ls) ≤ length ls + 1
-one-more b [] = omega arith
-one-more b (l ∷ ls) = omega arith
+one_more : (b : ℕ) (ls : List Line) → length (with_first_byte b ls) ≤ length ls + 1
+one_more b [] = omega arith
+one_more b (l ∷ ls) = omega arith
 
 with-first : (t : Bool) (b : ℕ) (ls : List Line) (n : ℕ) → length ls ≤ n → length (if t then ([], Lf) ∷ ls else with_first_byte b ls) ≤ suc n
 with-first true b ls n few = omega (arith, few)
-with-first false b ls n few = omega (arith, few, one-more b ls)
+with-first false b ls n few = omega (arith, few, one_more b ls)
 
 lines-few : (text : List ℕ) → length (lines_of text) ≤ length text
 lines-few [] = omega arith

@@ -77,8 +77,8 @@ free_named (row ∷ part) free =
 
 module _ (r : Renderer) (layout : Layout) (around : ElementContext) (s : Snippet Annotation) where
   -- no row that stands below the lines holds a listed character, or a link
-  after_free : All IsFree (rows_after_cause r layout around)
-  after_free = either (is_first_group around.place && is_before_message around.next) (closes_after around)
+  after-free : All IsFree (rows_after_cause r layout around)
+  after-free = either (is_first_group around.place && is_before_message around.next) (closes_after around)
     where
       one : (row : List Cell) → IsFree row → All IsFree (row ∷ [])
       one row free = All-cons IsFree row [] free (All-nil IsFree)
@@ -135,7 +135,7 @@ cause_shown r layout around found s rows drawable room drawn =
     ∙ ap (λ rs. head ++ rs) (cells_of-append named.part (others tail) ∙ ap (λ rs. rs ++ cells_of (others tail)) named.cells
     ∙ ap (λ rs. drawn.lines ++ rs) (cells_of-others tail)) ∙ sym drawn.rows_are in
     let lines_free : All IsFree drawn.lines = free_from_AreLinesShown layout are.margin (line_numbers r s.line_numbering) (closes_with around) [] are.infos drawn.lines are.shown in
-    let all_free : All IsFree (head ++ (drawn.lines ++ tail)) = All-append IsFree head (drawn.lines ++ tail) (head_free r layout around s) (All-append IsFree drawn.lines tail lines_free (after_free r layout around s)) in
+    let all_free : All IsFree (head ++ (drawn.lines ++ tail)) = All-append IsFree head (drawn.lines ++ tail) (head_free r layout around s) (All-append IsFree drawn.lines tail lines_free (after-free r layout around s)) in
     let text : List ℕ = cow_str_bytes s.source in
     let Ends : List ℕ → Type 0 = λ js. All (λ a. Contains js (first_line text a) × Contains js (last_line text a)) s.markers.items in
     let ends : Ends (lines_named named.part) = subst Ends (sym named.lines) (ends_shown src s.markers.items drawable.spans s.fold) in

@@ -64,10 +64,10 @@ one : (cell : Cell) → HoldsNoFeed cell → HasNoFeed (cell ∷ [])
 one cell holds = All-cons HoldsNoFeed cell [] holds (All-nil HoldsNoFeed)
 
 -- a row of strokes before any stroke is drawn holds no line feed
-pub bare_plain : (decor : DecorStyle) (gutter : ℕ) (closes : Bool) → HasNoFeed (bare_row decor gutter closes)
-bare_plain Ascii gutter false = after_spaces (gutter + 1) (text_cells LineNumber (separator_of Ascii ∷ [])) (one (unlinked_cell LineNumber (separator_of Ascii)) refl)
-bare_plain Unicode gutter false = after_spaces (gutter + 1) (text_cells LineNumber (separator_of Unicode ∷ [])) (one (unlinked_cell LineNumber (separator_of Unicode)) refl)
-bare_plain decor gutter true = after_spaces (gutter + 1) (text_cells LineNumber (closing_of decor)) (cells_plain LineNumber (closing_of decor) (closing decor))
+pub bare-plain : (decor : DecorStyle) (gutter : ℕ) (closes : Bool) → HasNoFeed (bare_row decor gutter closes)
+bare-plain Ascii gutter false = after_spaces (gutter + 1) (text_cells LineNumber (separator_of Ascii ∷ [])) (one (unlinked_cell LineNumber (separator_of Ascii)) refl)
+bare-plain Unicode gutter false = after_spaces (gutter + 1) (text_cells LineNumber (separator_of Unicode ∷ [])) (one (unlinked_cell LineNumber (separator_of Unicode)) refl)
+bare-plain decor gutter true = after_spaces (gutter + 1) (text_cells LineNumber (closing_of decor)) (cells_plain LineNumber (closing_of decor) (closing decor))
   where
     closing : (decor : DecorStyle) → All IsNoFeed (closing_of decor)
     closing Ascii = each-fails (λ c. c == 10) (closing_of Ascii) refl

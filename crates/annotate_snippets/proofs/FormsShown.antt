@@ -32,7 +32,7 @@ use Rattle.annotate_snippets.specs.Shown.{IsFreeBut, SheetsShown, levels_of, rep
 use Rattle.annotate_snippets.proofs.FaultLemmas.{first-there, title-there}
 use Rattle.annotate_snippets.proofs.PrintLemmas.{AllZip-weaker}
 use Rattle.annotate_snippets.proofs.ReportLemmas.{page_laws, page_woven, sheets_shown, titled-from_ok}
-use Rattle.annotate_snippets.proofs.ShortShown.{page-is, short-law, short-laws, short-shown}
+use Rattle.annotate_snippets.proofs.ShortShown.{page_is, short-law, short-laws, short-shown}
 use Rattle.annotate_snippets.proofs.TextShown.{IsFormText, text-law, text-laws, text-shown}
 
 -- a text is that of this text form
@@ -125,7 +125,7 @@ module _ (r : Renderer) (groups : List Group) (sheets : List Stylesheet) (texts 
 free-in : (r : Renderer) (groups : List Group) (form : Form) → FormLaws form r groups → IsFreeBut (trusted_texts groups) (plain_in form r groups)
 free-in r groups Graphic laws = laws.free
 free-in r groups Short laws =
-    subst (λ rows. IsFreeBut (trusted_texts groups) (plain_text rows)) (sym (page-is r groups laws.group laws.title laws.first laws.titled))
+    subst (λ rows. IsFreeBut (trusted_texts groups) (plain_text rows)) (sym (page_is r groups laws.group laws.title laws.first laws.titled))
     laws.free
 free-in r groups Text laws = laws.free
 

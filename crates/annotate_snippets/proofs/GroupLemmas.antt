@@ -45,7 +45,7 @@ use Rattle.annotate_snippets.proofs.GroupShown.{GroupShown}
 use Rattle.annotate_snippets.proofs.HeadingFeedLaws.{title_part-one_line}
 use Rattle.annotate_snippets.proofs.HeadingShown.{message_shown, origin_shown, padding_shown, title_shown}
 use Rattle.annotate_snippets.proofs.SuggestionShown.{suggestion_shown}
-use Rattle.annotate_snippets.proofs.TrustedLemmas.{AreTextsAmong, IsFreeRow, after_title-free, element-free, free_text, texts_among, title_part-free}
+use Rattle.annotate_snippets.proofs.TrustedLemmas.{AreTextsAmong, IsFreeRow, after_title-free, element_free, free_text, texts_among, title_part-free}
 
 -- the rows of an element that is drawn show it
 pub element_shown : (r : Renderer) (layout : Layout) (around : ElementContext) (found : List Cell) (e : Element) (rows : List (List Cell)) → IsElementDrawable e
@@ -220,11 +220,11 @@ module _ (r : Renderer) (layout : Layout) (place : GroupPosition) (file : Option
           let e = element_at names i within in
           let own : get_or es i e.0 ≡ e.0 = get_or_from_slice_get es i e.0 e.0 e.1 in
           let texts : AreTextsAmong trusted (trusted_of_element e.0) = subst (λ x. AreTextsAmong trusted (trusted_of_element x)) own (All-get_or (λ x. AreTextsAmong trusted (trusted_of_element x)) es i e.0 (slice_get_within es i e.0 e.1) among) in
-          element-free trusted e.0 (get_or names.named i []) texts (names.each i e.0 e.1).free
+          element_free trusted e.0 (get_or names.named i []) texts (names.each i e.0 e.1).free
 
   -- and no line feed, where no text of the elements brings one
-  parts-one_line : (names : AreNamed) → All IsOneLineElement es → All HasNoFeed (flat_map cells_of names.named)
-  parts-one_line names plain = All-flat_map HasNoFeed cells_of names.named [] each
+  parts_one_line : (names : AreNamed) → All IsOneLineElement es → All HasNoFeed (flat_map cells_of names.named)
+  parts_one_line names plain = All-flat_map HasNoFeed cells_of names.named [] each
     where
       each : (i : ℕ) → i < length names.named → All HasNoFeed (cells_of (get_or names.named i []))
       each i within =
@@ -257,5 +257,5 @@ group_shown r layout place file g rows drawable room grid =
       links = ap links_of rows_are ∙ links-append title below (parts-unlinked r layout place file es parts names) ∙ title_part-links r layout place (next_of es) g.title;
       free = subst (λ ts. IsFreeBut ts (plain_text rows)) (sym (append-nil (titles ++ texts))) (free_text (titles ++ texts) rows (subst (All (IsFreeRow (titles ++ texts))) (sym rows_are) free));
       one_line = λ plain. All-append HasNoFeed title below (title_part-one_line r layout place (next_of es) g.title plain.0)
-          (parts-one_line r layout place file es parts names (All-filter is_drawn IsOneLineElement g.elements.items plain.1));
+          (parts_one_line r layout place file es parts names (All-filter is_drawn IsOneLineElement g.elements.items plain.1));
     }

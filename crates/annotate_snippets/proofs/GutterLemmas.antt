@@ -96,8 +96,8 @@ fold-ends (a ∷ marks) m =
     All-cons (λ (b : Annotation). b.span.end ≤ fold (λ end (c : Annotation). max c.span.end end) (max a.span.end m) marks) a marks (omega (arith, fold-end-ge marks (max a.span.end m))) (fold-ends marks (max a.span.end m))
 
 -- each line that a span ends on has a number at most one more than the number counted for the gutter
-lines-counted : (s : Snippet Annotation) → All (λ a. last_line (cow_str_bytes s.source) a ≤ newline_count (reached_source s) + 1) s.markers.items
-lines-counted s = λ k d within.
+lines_counted : (s : Snippet Annotation) → All (λ a. last_line (cow_str_bytes s.source) a ≤ newline_count (reached_source s) + 1) s.markers.items
+lines_counted s = λ k d within.
     let source : List ℕ = cow_str_bytes s.source in
     let marks : List Annotation = s.markers.items in
     let ends : (get_or marks k d).span.end ≤ greatest_end marks = fold-ends marks 0 k d within in
@@ -130,7 +130,7 @@ kept-counted s = by_cases s.fold refl
         let p : ℕ → Bool = λ k. list_any (keeps source k) s.markers.items in
         All-weaker (λ k. p k ≡ true) (λ k. k ≤ newline_count (reached_source s) + 1) (λ k kept.
         let found = from_any (keeps source k) s.markers.items kept in
-        let low : last_line source found.0 ≤ newline_count (reached_source s) + 1 = All-contains (λ a. last_line source a ≤ newline_count (reached_source s) + 1) s.markers.items found.0 (lines-counted s) found.1 in
+        let low : last_line source found.0 ≤ newline_count (reached_source s) + 1 = All-contains (λ a. last_line source a ≤ newline_count (reached_source s) + 1) s.markers.items found.0 (lines_counted s) found.1 in
         omega (arith, low, kept_before source found.0 k found.2)) (filter p all) (filter_passes p all)
     by_cases false is =
         let same : newline_count (reached_source s) ≡ newline_count source = rw is refl in

@@ -33,8 +33,8 @@ use Rattle.annotate_snippets.specs.Around.{is_before_message}
 use Rattle.annotate_snippets.specs.Feeds.{HasNoFeed, HoldsNoFeed, IsNoFeed, IsOneLineId, IsOneLineName, IsOneLineText, IsOneLineTitle}
 use Rattle.annotate_snippets.specs.Rows.{closing_rows, rows_after_title, separator_rows, title_part}
 use Rattle.snippet_titles.proofs.OriginFree.{each-fails}
-use Rattle.annotate_snippets.proofs.FeedLaws.{after_spaces, bare_plain}
-use Rattle.annotate_snippets.proofs.PathFeedLaws.{alone, cells_plain, choice, closing_plain as closing_rows-plain, norm_plain}
+use Rattle.annotate_snippets.proofs.FeedLaws.{after_spaces, bare-plain}
+use Rattle.annotate_snippets.proofs.PathFeedLaws.{alone, cells_plain, choice, closing_plain as closing_rows-plain, norm-plain}
 
 -- ---- the label
 
@@ -61,7 +61,7 @@ brackets_plain hidden role address (Some text) plain =
     let own : List Cell = linked_to address (text_cells role (norm (chars text))) in
     let opened : HasNoFeed (text_cells role (opening_bracket_of hidden) ++ own) =
     All-append HoldsNoFeed (text_cells role (opening_bracket_of hidden)) own (cells_plain role (opening_bracket_of hidden) (opening_plain hidden))
-    (linked_plain address (text_cells role (norm (chars text))) (cells_plain role (norm (chars text)) (norm_plain (chars text) plain))) in
+    (linked_plain address (text_cells role (norm (chars text))) (cells_plain role (norm (chars text)) (norm-plain (chars text) plain))) in
     All-append HoldsNoFeed (text_cells role (opening_bracket_of hidden) ++ own) (text_cells role (closing_bracket_of hidden)) opened (cells_plain role (closing_bracket_of hidden) (closing_plain hidden))
 
 id_plain : (hyperlink hidden : Bool) (role : ElementStyle) (id : Option Id) → IsOneLineId id → HasNoFeed (id_cells hyperlink hidden role id)
@@ -79,7 +79,7 @@ label_plain hyperlink roles heading plain =
     let hidden : Bool = is_hidden heading.level.name in
     let name : List ℕ = norm (chars (name_of heading.level)) in
     let id : List Cell = id_cells hyperlink hidden roles.label heading.id in
-    let named : HasNoFeed (text_cells roles.label name ++ id) = All-append HoldsNoFeed (text_cells roles.label name) id (cells_plain roles.label name (norm_plain (chars (name_of heading.level)) plain.0)) (id_plain hyperlink hidden roles.label heading.id plain.1) in
+    let named : HasNoFeed (text_cells roles.label name ++ id) = All-append HoldsNoFeed (text_cells roles.label name) id (cells_plain roles.label name (norm-plain (chars (name_of heading.level)) plain.0)) (id_plain hyperlink hidden roles.label heading.id plain.1) in
     All-append HoldsNoFeed (text_cells roles.label name ++ id) (text_cells roles.colon (colon_of hidden heading.id)) named (cells_plain roles.colon (colon_of hidden heading.id) (colon_plain hidden heading.id))
 
 -- ---- what stands before it, and below
@@ -165,5 +165,5 @@ title_part-one_line r layout place follows (Some title) plain =
     All-append HasNoFeed own after (heading_one_line r.hyperlink Title (heading_of_title title) plain) (below (is_before_message follows) _)
   where
     below : (before closes : Bool) → All HasNoFeed (cond before (separator_rows r layout) (cond closes (closing_rows r layout) []))
-    below true closes = All-cons HasNoFeed _ [] (bare_plain layout.decor layout.gutter false) (All-nil HasNoFeed)
+    below true closes = All-cons HasNoFeed _ [] (bare-plain layout.decor layout.gutter false) (All-nil HasNoFeed)
     below false closes = closing_rows-plain r layout closes

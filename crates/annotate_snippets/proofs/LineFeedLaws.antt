@@ -60,18 +60,18 @@ use Rattle.annotate_snippets.specs.Gutter.{numbered_source}
 use Rattle.annotate_snippets.specs.LineRows.{AreRowsDrawn, IsLineDrawn, IsRowDrawn, entries_on, open_after}
 use Rattle.annotate_snippets.specs.Page.{Elision, NamedRow, OfferedLine, Other, RemovedLine, RowName, SourceRow, cells_of, rows_below}
 use Rattle.annotate_snippets.specs.Shown.{AreRowsOf, IsRowOf, normalized_chars}
-use Rattle.annotate_snippets.proofs.FeedLaws.{at_any, bare_plain, elided}
+use Rattle.annotate_snippets.proofs.FeedLaws.{at_any, bare-plain, elided}
 use Rattle.annotate_snippets.proofs.HeadingFeedLaws.{parts_plain}
 use Rattle.annotate_snippets.proofs.LabelLemmas.{tail_same}
 use Rattle.annotate_snippets.proofs.MarkLemmas.{label_is}
-use Rattle.annotate_snippets.proofs.PathFeedLaws.{alone, cells_plain, norm_plain}
+use Rattle.annotate_snippets.proofs.PathFeedLaws.{alone, cells_plain, norm-plain}
 use Rattle.annotate_snippets.proofs.SourceFeedLaws.{placeholder_plain, source_one_line}
 
 -- ---- lines of a source
 
 -- the characters of a text hold no line feed where no byte of it is one, as `is_one_line` tells
-pub chars_plain : (bytes : List ℕ) → IsUtf8 bytes → IsOneLine bytes → All IsNoFeed (chars bytes)
-chars_plain bytes utf8 none =
+pub chars-plain : (bytes : List ℕ) → IsUtf8 bytes → IsOneLine bytes → All IsNoFeed (chars bytes)
+chars-plain bytes utf8 none =
     let whole : lines_at bytes ≡ bytes ∷ [] = slice_split_none (λ c. c == 10) bytes (All-weaker (λ b. b ≢ 10) IsNoFeed other bytes none) in
     let same : chars bytes ∷ [] ≡ lines_at (chars bytes) = ap (map chars) (sym whole) ∙ lines_at-chars bytes utf8 in
     All-head (All IsNoFeed) (chars bytes) [] (subst (All (All IsNoFeed)) (sym same) (parts_plain (chars bytes)))
@@ -83,8 +83,8 @@ chars_plain bytes utf8 none =
 pub line_plain : (source : List ℕ) (k : ℕ) → IsUtf8 source → All IsNoFeed (chars (text_at (source_lines source) k))
 line_plain source k utf8 =
     elim (cases_lt k (length (source_lines source))) [
-      | inl within ↦ chars_plain (text_at (source_lines source) k) (IsUtf8-text_at source k utf8) (IsLine-at source k within).no_lf
-      | inr past ↦ subst (λ (l : Line). All IsNoFeed (chars l.0)) (sym (get_or_past (source_lines source) k ([], Eof) past)) (chars_plain [] IsUtf8-nil (All-nil (λ b. b ≢ 10)))
+      | inl within ↦ chars-plain (text_at (source_lines source) k) (IsUtf8-text_at source k utf8) (IsLine-at source k within).no_lf
+      | inr past ↦ subst (λ (l : Line). All IsNoFeed (chars l.0)) (sym (get_or_past (source_lines source) k ([], Eof) past)) (chars-plain [] IsUtf8-nil (All-nil (λ b. b ≢ 10)))
     ]
 
 -- ---- glyphs. The type of an entry with its place has no name outside its crate, so `_` stands for it
@@ -267,8 +267,8 @@ module _ (layout : Layout) (room : ℕ) (closes : Bool) where
   begun_plain count =
       let empty : List Cell = separator_row layout.decor layout.gutter in
       let last : List Cell = bare_row layout.decor layout.gutter closes in
-      let above : All HasNoFeed (replicate count empty) = All-replicate HasNoFeed count empty (bare_plain layout.decor layout.gutter false) in
-      All-append HasNoFeed (replicate count empty) (last ∷ []) above (All-cons HasNoFeed last [] (bare_plain layout.decor layout.gutter closes) (All-nil HasNoFeed))
+      let above : All HasNoFeed (replicate count empty) = All-replicate HasNoFeed count empty (bare-plain layout.decor layout.gutter false) in
+      All-append HasNoFeed (replicate count empty) (last ∷ []) above (All-cons HasNoFeed last [] (bare-plain layout.decor layout.gutter closes) (All-nil HasNoFeed))
 
   -- nor after that
   drawn_plain : (es : List LineAnnotation) (source : List Cell) (rows : List (List Cell)) (strokes : StrokesPainted layout room closes es source rows)
@@ -286,7 +286,7 @@ module _ (layout : Layout) (room : ℕ) (closes : Bool) where
   end_plain : All HasNoFeed (cond closes (closing_row layout.decor layout.gutter ∷ []) [])
   end_plain =
       elim closes as (λ b. All HasNoFeed (cond b (closing_row layout.decor layout.gutter ∷ []) [])) [
-        | true ↦ All-cons HasNoFeed (closing_row layout.decor layout.gutter) [] (bare_plain layout.decor layout.gutter true) (All-nil HasNoFeed)
+        | true ↦ All-cons HasNoFeed (closing_row layout.decor layout.gutter) [] (bare-plain layout.decor layout.gutter true) (All-nil HasNoFeed)
         | false ↦ All-nil HasNoFeed
       ]
 
@@ -327,7 +327,7 @@ module _ (layout : Layout) (room : ℕ) (closes : Bool) where
 -- what a text shows holds none where the text holds none
 shown_text_plain : (text : Option (List ℕ)) → IsOneLineText text → All IsNoFeed (normalized_chars text)
 shown_text_plain None plain = All-nil IsNoFeed
-shown_text_plain (Some text) plain = norm_plain (chars text) plain
+shown_text_plain (Some text) plain = norm-plain (chars text) plain
 
 abbrev IsPlainPart : PartEntry → Type 0
 IsPlainPart p = All IsNoFeed (normalized_chars p.entry.label)

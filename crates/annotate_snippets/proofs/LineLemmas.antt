@@ -74,12 +74,12 @@ wide_shifted dropped room width e clear =
     by_part (MultilineEnd depth) is = rw is refl
     by_part (MultilineLine depth) is = rw is refl
 
-wide-shifted : (dropped room width : ℕ) (es : List LineAnnotation) → All (λ e. is_bar e.annotation_type ≡ false → dropped ≤ e.start.display) es
+wide_entries-shifted : (dropped room width : ℕ) (es : List LineAnnotation) → All (λ e. is_bar e.annotation_type ≡ false → dropped ≤ e.start.display) es
     → count_by (is_wide_entry room width) (map (shifted dropped) es) ≡ count_by (is_wide_entry room width) es
-wide-shifted dropped room width [] clear = refl
-wide-shifted dropped room width (e ∷ es) clear =
+wide_entries-shifted dropped room width [] clear = refl
+wide_entries-shifted dropped room width (e ∷ es) clear =
     let here = wide_shifted dropped room width e (All-head (λ (x : LineAnnotation). is_bar x.annotation_type ≡ false → dropped ≤ x.start.display) e es clear) in
-    let rest = wide-shifted dropped room width es (All-tail (λ (x : LineAnnotation). is_bar x.annotation_type ≡ false → dropped ≤ x.start.display) e es clear) in
+    let rest = wide_entries-shifted dropped room width es (All-tail (λ (x : LineAnnotation). is_bar x.annotation_type ≡ false → dropped ≤ x.start.display) e es clear) in
     sum_by-cons (λ x. cond (is_wide_entry room width x) 1 0) (shifted dropped e) (map (shifted dropped) es)
     ∙ ap (λ b. cond b 1 0 + count_by (is_wide_entry room width) (map (shifted dropped) es)) here
     ∙ ap (λ n. cond (is_wide_entry room width e) 1 0 + n) rest ∙ sym (sum_by-cons (λ x. cond (is_wide_entry room width x) 1 0) e es)
@@ -180,7 +180,7 @@ module _ (r : Renderer) (layout : Layout) (s : Snippet Annotation)
 
     -- as many entries are wide as spans
     wide_is : wide_entries margin.term_width layout.decor (map (shifted shows.dropped) es) ≡ wide_spans (room_of r layout) placeholder_width s k
-    wide_is = wide-shifted shows.dropped margin.term_width placeholder_width es shows.clear ∙ ap (λ n. count_by (is_wide_entry n placeholder_width) es) room ∙ wide_on_line (numbered_source s) s.markers.items spans k info (room_of r layout) placeholder_width seen
+    wide_is = wide_entries-shifted shows.dropped margin.term_width placeholder_width es shows.clear ∙ ap (λ n. count_by (is_wide_entry n placeholder_width) es) room ∙ wide_on_line (numbered_source s) s.markers.items spans k info (room_of r layout) placeholder_width seen
 
     -- left of the bars the row is as drawn, whatever is highlighted
     left_cell : (c : ℕ) → c < layout.gutter + 3 → c < layout.code → get_or shows.source c SPACE ≡ get_or shows.plain c SPACE

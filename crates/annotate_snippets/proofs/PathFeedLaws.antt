@@ -31,7 +31,7 @@ use Rattle.annotate_snippets.specs.Gutter.{numbered_source}
 use Rattle.annotate_snippets.specs.Rows.{cause_head, closing_rows, origin_layout, origin_rows, origin_start, place_given, place_named, rows_after_cause}
 use Rattle.annotate_snippets.specs.Rows.{separator_rows}
 use Rattle.annotate_snippets.specs.Feeds.{HasNoFeed, HoldsNoFeed, IsNoFeed, IsOneLineText}
-use Rattle.annotate_snippets.proofs.FeedLaws.{after_spaces, bare_plain}
+use Rattle.annotate_snippets.proofs.FeedLaws.{after_spaces, bare-plain}
 pub use Rattle.annotate_snippets.proofs.FeedLaws.{cells_plain}
 use Rattle.snippet_parts.specs.Annotated.{annotated_lines}
 
@@ -58,11 +58,11 @@ shown_plain c plain =
     (choice (is_bidirectional_control c) _ _ (alone 0xFFFD refl) (alone c plain)))))
 
 -- normalising adds no line feed
-pub norm_plain : (cs : List ℕ) → All IsNoFeed cs → All IsNoFeed (norm cs)
+pub norm-plain : (cs : List ℕ) → All IsNoFeed cs → All IsNoFeed (norm cs)
 unfolding norm
-norm_plain [] plain = All-nil IsNoFeed
-norm_plain (c ∷ cs) plain =
-    subst (All IsNoFeed) (sym (flat_map-cons shown c cs)) (All-append IsNoFeed (shown c) (flat_map shown cs) (shown_plain c (All-head IsNoFeed c cs plain)) (norm_plain cs (All-tail IsNoFeed c cs plain)))
+norm-plain [] plain = All-nil IsNoFeed
+norm-plain (c ∷ cs) plain =
+    subst (All IsNoFeed) (sym (flat_map-cons shown c cs)) (All-append IsNoFeed (shown c) (flat_map shown cs) (shown_plain c (All-head IsNoFeed c cs plain)) (norm-plain cs (All-tail IsNoFeed c cs plain)))
 
 -- a digit is no line feed
 pub digit_plain : (c : ℕ) → IsDigit c → IsNoFeed c
@@ -89,7 +89,7 @@ file_plain layout start =
 text_plain : (anonymized : Bool) (path : List ℕ) (place : OriginLocation) → All IsNoFeed (chars path) → All IsNoFeed (origin_text anonymized path place)
 unfolding origin_text
 text_plain anonymized path place plain =
-    All-append IsNoFeed (norm (chars path)) (place_text anonymized place) (norm_plain (chars path) plain) (place_text-each IsNoFeed digit_plain refl refl anonymized place)
+    All-append IsNoFeed (norm (chars path)) (place_text anonymized place) (norm-plain (chars path) plain) (place_text-each IsNoFeed digit_plain refl refl anonymized place)
 
 -- the row of a path that holds none holds none
 pub row_plain : (layout : OriginLayout) (start : FileStart) (path : List ℕ) (place : OriginLocation) → All IsNoFeed (chars path)
@@ -102,20 +102,20 @@ row_plain layout start path place plain =
 head_plain : (layout : OriginLayout) (primary first : Bool) (named : Option (List ℕ)) (place : OriginLocation) → IsOneLineText named
     → All HasNoFeed (snippet_head layout primary first named place)
 head_plain layout true first None place plain =
-    opening_head-each HasNoFeed layout (bare_plain layout.base.decor layout.base.gutter false) (file_plain layout) first
+    opening_head-each HasNoFeed layout (bare-plain layout.base.decor layout.base.gutter false) (file_plain layout) first
 head_plain layout true first (Some path) place plain =
-    primary_head-each HasNoFeed layout (bare_plain layout.base.decor layout.base.gutter false) path place (λ start. row_plain layout start path place plain) first
+    primary_head-each HasNoFeed layout (bare-plain layout.base.decor layout.base.gutter false) path place (λ start. row_plain layout start path place plain) first
 head_plain layout false first None place plain =
-    nameless_head-each HasNoFeed layout (bare_plain layout.base.decor layout.base.gutter false) (file_plain layout Secondary)
+    nameless_head-each HasNoFeed layout (bare-plain layout.base.decor layout.base.gutter false) (file_plain layout Secondary)
 head_plain layout false first (Some path) place plain =
-    secondary_head-each HasNoFeed layout (bare_plain layout.base.decor layout.base.gutter false) path place (λ start. row_plain layout start path place plain)
+    secondary_head-each HasNoFeed layout (bare-plain layout.base.decor layout.base.gutter false) path place (λ start. row_plain layout start path place plain)
 
 one : (row : List Cell) → HasNoFeed row → All HasNoFeed (row ∷ [])
 one row plain = All-cons HasNoFeed row [] plain (All-nil HasNoFeed)
 
 -- nor does a row that closes a group's window hold one
 pub closing_plain : (r : Renderer) (layout : Layout) (closes : Bool) → All HasNoFeed (cond closes (closing_rows r layout) [])
-closing_plain r layout true = one _ (bare_plain layout.decor layout.gutter true)
+closing_plain r layout true = one _ (bare-plain layout.decor layout.gutter true)
 closing_plain r layout false = All-nil HasNoFeed
 
 -- so the rows that a snippet begins with hold none where its path holds none, and those below its lines never do
@@ -130,13 +130,13 @@ after_one_line r layout around =
     either (is_first_group around.place && is_before_message around.next)
   where
     either : (sets_off : Bool) → All HasNoFeed (cond sets_off (separator_rows r layout) (cond (closes_after around) (closing_rows r layout) []))
-    either true = one _ (bare_plain layout.decor layout.gutter false)
+    either true = one _ (bare-plain layout.decor layout.gutter false)
     either false = closing_plain r layout (closes_after around)
 
 -- nor does that of a padding
 pub padding_one_line : (r : Renderer) (layout : Layout) (last : Bool) → All HasNoFeed (padding_row layout.decor layout.gutter last ∷ [])
-padding_one_line r layout true = one _ (bare_plain layout.decor layout.gutter true)
-padding_one_line r layout false = one _ (bare_plain layout.decor layout.gutter false)
+padding_one_line r layout true = one _ (bare-plain layout.decor layout.gutter true)
+padding_one_line r layout false = one _ (bare-plain layout.decor layout.gutter false)
 
 -- nor do the rows of an origin whose path holds none
 pub origin_one_line : (r : Renderer) (layout : Layout) (around : ElementContext) (o : origin.Origin) → All IsNoFeed (chars (cow_str_bytes o.path))

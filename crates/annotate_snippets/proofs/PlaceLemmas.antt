@@ -14,7 +14,7 @@ use Rattle.snippet_suggest.specs.declared.PreparedSuggestion.{PreparedSuggestion
 use Rattle.snippet_suggest.specs.Given.{edits_of, trimmed_of}
 use Rattle.snippet_parts.specs.Numbered.{numbered_source}
 use Rattle.snippet_suggest.specs.Prepared.{IsPrepared}
-use Rattle.snippet_suggest.proofs.PreparedLemmas.{some-left}
+use Rattle.snippet_suggest.proofs.PreparedLemmas.{some_left}
 use Rattle.snippet_suggest.proofs.SpanLemmas.{trimmed_spans}
 use Rattle.snippet_titles.specs.declared.origin.OriginLocation.{OriginLocation}
 use Rattle.annotate_snippets.specs.Rows.{patch_place}
@@ -28,9 +28,9 @@ first_start-of (s ∷ ts) t is =
     ap (λ (u : TrimmedPatch). u.span.start) (sym same)
 
 -- what holds of each patch holds of the first
-first-all : (P : TrimmedPatch → Type 0) (ts : List TrimmedPatch) (t : TrimmedPatch) → All P ts → slice_get ts 0 ≡ Some t → P t
-first-all P [] t all is = absurd (cc)
-first-all P (s ∷ ts) t all is =
+first_all : (P : TrimmedPatch → Type 0) (ts : List TrimmedPatch) (t : TrimmedPatch) → All P ts → slice_get ts 0 ≡ Some t → P t
+first_all P [] t all is = absurd (cc)
+first_all P (s ∷ ts) t all is =
     let same : s ≡ t = cc in
     subst P same (all 0 s (omega arith))
 
@@ -41,7 +41,7 @@ some-first (t ∷ ts) some none = absurd (cc)
 -- a snippet that is prepared has a first patch
 pub first-is_some : (p : PreparedSuggestion) → IsPrepared p → slice_get p.splice.patches.items 0 ≡ None → ⊥
 first-is_some p h none =
-    some-first p.splice.patches.items (some-left (cow_str_bytes p.snippet.now.source) p.snippet.now.markers.items p.splice.patches.items h.some h.edits) none
+    some-first p.splice.patches.items (some_left (cow_str_bytes p.snippet.now.source) p.snippet.now.markers.items p.splice.patches.items h.some h.edits) none
 
 -- its span is one of the source
 pub first-span : (p : PreparedSuggestion) (t : TrimmedPatch) → IsPrepared p → slice_get p.splice.patches.items 0 ≡ Some t
@@ -49,7 +49,7 @@ pub first-span : (p : PreparedSuggestion) (t : TrimmedPatch) → IsPrepared p �
 first-span p t h is =
     let source : List ℕ = cow_str_bytes p.snippet.now.source in
     let spans : All (λ e. IsSpan source e.start e.end) (edits_of p.snippet.now) = All-map (λ e. IsSpan source e.start e.end) edit_of p.snippet.now.markers.items h.suggestible.spans in
-    subst (λ (m : Source). IsSpan m.text t.span.start t.span.end) (sym h.lines) (first-all (λ u. IsSpan source u.span.start u.span.end) p.splice.patches.items t (trimmed_spans source (edits_of p.snippet.now) p.splice.patches.items spans h.edits) is)
+    subst (λ (m : Source). IsSpan m.text t.span.start t.span.end) (sym h.lines) (first_all (λ u. IsSpan source u.span.start u.span.end) p.splice.patches.items t (trimmed_spans source (edits_of p.snippet.now) p.splice.patches.items spans h.edits) is)
 
 -- where it starts is the place that the path names
 abbrev place_from : Loc → OriginLocation

@@ -39,7 +39,7 @@ use Rattle.snippet_titles.specs.Title.{id_links}
 use Rattle.snippet_titles.specs.declared.style.TitleStyle.TheVariants as style
 use Rattle.snippet_titles.specs.declared.origin.OriginLocation.{OriginLocation}
 use Rattle.snippet_titles.proofs.OriginText.{place_text-each}
-use Rattle.snippet_titles.proofs.OriginFree.{digit-unlisted}
+use Rattle.snippet_titles.proofs.OriginFree.{digit_unlisted}
 use Rattle.annotate_snippets.specs.Around.{path_bytes}
 use Rattle.annotate_snippets.specs.Drawn.{IsShortPage}
 use Rattle.annotate_snippets.specs.FormLaws.{BeginsWithPlace, LawsIn, ShortLaws, ShowsShort}
@@ -82,15 +82,15 @@ primary-free : (marks : List Annotation) → All (All IsUnlisted) (primary_label
 primary-free marks =
     All-filter (λ label. not (list_all is_whitespace label)) (All IsUnlisted) (filter_map short_label (filter (λ (a : Annotation). is_primary a.kind) marks)) (labels-free (filter (λ (a : Annotation). is_primary a.kind) marks))
 
-further-free : (labels : List (List ℕ)) → All (All IsUnlisted) labels → All IsUnlisted (flat_map (λ l. codes ", " ++ l) labels)
-further-free [] free = All-nil IsUnlisted
-further-free (label ∷ labels) free =
-    All-append IsUnlisted (codes ", " ++ label) (flat_map (λ l. codes ", " ++ l) labels) (All-append IsUnlisted (codes ", ") label (sep-free 44 refl) (All-head (All IsUnlisted) label labels free)) (further-free labels (All-tail (All IsUnlisted) label labels free))
+further_free : (labels : List (List ℕ)) → All (All IsUnlisted) labels → All IsUnlisted (flat_map (λ l. codes ", " ++ l) labels)
+further_free [] free = All-nil IsUnlisted
+further_free (label ∷ labels) free =
+    All-append IsUnlisted (codes ", " ++ label) (flat_map (λ l. codes ", " ++ l) labels) (All-append IsUnlisted (codes ", ") label (sep-free 44 refl) (All-head (All IsUnlisted) label labels free)) (further_free labels (All-tail (All IsUnlisted) label labels free))
 
 joined-free : (labels : List (List ℕ)) → All (All IsUnlisted) labels → All IsUnlisted (joined_labels labels)
 joined-free [] free = All-nil IsUnlisted
 joined-free (label ∷ labels) free =
-    All-append IsUnlisted (codes ": ") (label ++ flat_map (λ l. codes ", " ++ l) labels) (sep-free 58 refl) (All-append IsUnlisted label (flat_map (λ l. codes ", " ++ l) labels) (All-head (All IsUnlisted) label labels free) (further-free labels (All-tail (All IsUnlisted) label labels free)))
+    All-append IsUnlisted (codes ": ") (label ++ flat_map (λ l. codes ", " ++ l) labels) (sep-free 58 refl) (All-append IsUnlisted label (flat_map (λ l. codes ", " ++ l) labels) (All-head (All IsUnlisted) label labels free) (further_free labels (All-tail (All IsUnlisted) label labels free)))
 
 after-free : (cause : Option (Snippet Annotation)) → All IsUnlisted (labels_of_cause cause)
 after-free None = All-nil IsUnlisted
@@ -99,7 +99,7 @@ after-free (Some s) = joined-free (primary_labels s.markers.items) (primary-free
 origin-free : (anonymized : Bool) (path : List ℕ) (place : OriginLocation) → All IsUnlisted (origin_text anonymized path place)
 unfolding origin_text
 origin-free anonymized path place =
-    All-append IsUnlisted (norm (chars path)) (place_text anonymized place) (norm-free (chars path)) (place_text-each IsUnlisted digit-unlisted refl refl anonymized place)
+    All-append IsUnlisted (norm (chars path)) (place_text anonymized place) (norm-free (chars path)) (place_text-each IsUnlisted digit_unlisted refl refl anonymized place)
 
 path-free : (r : Renderer) (s : Snippet Annotation) (path : Option (List ℕ)) → All IsUnlisted (place_of_path r s path)
 path-free r s None = All-nil IsUnlisted
@@ -113,10 +113,10 @@ before-free r (Some s) = path-free r s (path_bytes s.path)
 
 -- ---- the first text begins with the text before the title
 
-first-text : (before label further after : List ℕ) (lines : List (List ℕ)) → 0 < length lines
+first_text : (before label further after : List ℕ) (lines : List (List ℕ)) → 0 < length lines
     → (rest : List ℕ) × (slice_index_or (with_end after (texts_below (before ++ label) further lines)) 0 [] ≡ before ++ rest)
-first-text before label further after [] some = absurd (omega (arith, some))
-first-text before label further after (line ∷ lines) some =
+first_text before label further after [] some = absurd (omega (arith, some))
+first_text before label further after (line ∷ lines) some =
     (label ++ (line ++ after), ap (λ t. t ++ after) (append_assoc before label line) ∙ append_assoc before (label ++ line) after ∙ ap (λ t. before ++ t) (append_assoc label line after))
 
 -- ---- what a title links to
@@ -169,7 +169,7 @@ begins r g title rows are drawable s first path has some none =
     let found = place_known (primary_place lines) (IsLocation (numbered_source s) s.markers.items) (place-named s.fold (numbered_source s) s.markers.items lines can.spans refl some none) in
     let heading : Heading = heading_of_title title in
     let before : List ℕ = before_title r g in
-    let text = first-text before (heading_label_text heading) (row_text (indent_cells style.Short (label_width heading))) (after_title g) (heading_lines heading) (omega (arith, length-slice_split (λ c. c == 10) (shown_text heading))) in
+    let text = first_text before (heading_label_text heading) (row_text (indent_cells style.Short (label_width heading))) (after_title g) (heading_lines heading) (omega (arith, length-slice_split (λ c. c == 10) (shown_text heading))) in
     let named : before ≡ origin_text r.anonymized_origin_line_numbers path (place_found (Some found.0)) ++ codes ": " = ap (place_of_cause r) first ∙ ap (place_of_path r s) has ∙ ap (λ o. origin_text r.anonymized_origin_line_numbers path (place_found o) ++ codes ": ") found.1 in
     record {
       place = found.0;
@@ -179,8 +179,8 @@ begins r g title rows are drawable s first path has some none =
     }
 
 -- the rows show the first group
-rows-shown : (r : Renderer) (g : Group) (title : Title) (rows : List (List Cell)) → rows ≡ short_form r g title → IsGroupDrawable g → ShowsShort r g title rows
-rows-shown r g title rows are drawable =
+rows_shown : (r : Renderer) (g : Group) (title : Title) (rows : List (List Cell)) → rows ≡ short_form r g title → IsGroupDrawable g → ShowsShort r g title rows
+rows_shown r g title rows are drawable =
     let heading : Heading = heading_of_title title in
     record {
       texts = λ i. ap (λ (rs : List (List Cell)). row_text (row_at rs i)) are ∙ short-texts r.hyperlink (before_title r g) (after_title g) heading i;
@@ -229,7 +229,7 @@ short-laws r groups grids drawable page =
     let heading : Heading = heading_of_title title in
     let rows : List (List Cell) = short_form r g title in
     let can : IsGroupDrawable g = subst IsGroupDrawable (get_or_from_slice_get groups 0 g g page.first) (All-get_or IsGroupDrawable groups 0 g (slice_get_within groups 0 g page.first) drawable) in
-    let shows : ShowsShort r g title rows = rows-shown r g title rows refl can in
+    let shows : ShowsShort r g title rows = rows_shown r g title rows refl can in
     record {
       group = g;
       title = title;
@@ -241,10 +241,10 @@ short-laws r groups grids drawable page =
     }
 
 -- the rows of the first group that has a title are all of the short form
-pub page-is : (r : Renderer) (groups : List Group) (g : Group) (title : Title) → slice_get groups 0 ≡ Some g → g.title ≡ Some title
+pub page_is : (r : Renderer) (groups : List Group) (g : Group) (title : Title) → slice_get groups 0 ≡ Some g → g.title ≡ Some title
     → short_page r groups ≡ short_form r g title
-page-is r [] g title first titled = cc
-page-is r (h ∷ groups) g title first titled =
+page_is r [] g title first titled = cc
+page_is r (h ∷ groups) g title first titled =
     let same : h ≡ g = some_same first in
     ap (titled_rows r h) (ap (λ (k : Group). k.title) same ∙ titled) ∙ ap (λ k. short_form r k title) same
 
@@ -252,8 +252,8 @@ page-is r (h ∷ groups) g title first titled =
 pub short-law : (r : Renderer) (groups : List Group) (laws : ShortLaws r groups) (sheet : Stylesheet) (level : LevelInner) (g : Group) (title : Title)
     (text : List ℕ) → slice_get groups 0 ≡ Some g → g.title ≡ Some title → Prints sheet level (short_form r g title) text → LawsIn Short r groups sheet text
 short-law r groups laws sheet level g title text first titled prints =
-    let page : short_page r groups ≡ short_form r g title = page-is r groups g title first titled in
-    let own : short_page r groups ≡ short_form r laws.group laws.title = page-is r groups laws.group laws.title laws.first laws.titled in
+    let page : short_page r groups ≡ short_form r g title = page_is r groups g title first titled in
+    let own : short_page r groups ≡ short_form r laws.group laws.title = page_is r groups laws.group laws.title laws.first laws.titled in
     let links : links_of (short_page r groups) ≡ short_links r groups = ap links_of own ∙ laws.links in
     let printed : Prints sheet level (short_page r groups) text = subst (λ rows. Prints sheet level rows text) (sym page) prints in
     let woven : IsWoven sheet text (plain_text (short_page r groups)) (short_links r groups) = subst (IsWoven sheet text (plain_text (short_page r groups))) links

@@ -29,7 +29,7 @@ use Rattle.annotate_snippets.specs.Shown.{ShowsSourceLine, bounds_in, cells_left
 use Rattle.annotate_snippets.specs.Feeds.{HasNoFeed, HoldsNoFeed, IsNoFeed}
 use Rattle.snippet_titles.proofs.OriginFree.{each-fails}
 use Rattle.annotate_snippets.proofs.FeedLaws.{at_any, bar_cell}
-use Rattle.annotate_snippets.proofs.PathFeedLaws.{alone, cells_plain, digit_plain, norm_plain}
+use Rattle.annotate_snippets.proofs.PathFeedLaws.{alone, cells_plain, digit_plain, norm-plain}
 
 -- ---- windows
 
@@ -140,7 +140,7 @@ source_one_line r layout s k dropped row shows plain =
     let line : List ℕ = norm (chars_at (cow_str_bytes s.source) k) in
     let shown : List ℕ = row_text (drop layout.code row) in
     let own : All IsNoFeed placeholder = placeholder_plain layout.decor in
-    let windowed : All IsNoFeed (window placeholder room bounds.left bounds.right line) = window_plain placeholder room bounds.left bounds.right line own (norm_plain (chars_at (cow_str_bytes s.source) k) plain) in
+    let windowed : All IsNoFeed (window placeholder room bounds.left bounds.right line) = window_plain placeholder room bounds.left bounds.right line own (norm-plain (chars_at (cow_str_bytes s.source) k) plain) in
     let text : All IsNoFeed shown = replaced_plain placeholder (wide_spans room (length placeholder) s k) (window placeholder room bounds.left bounds.right line) shown own shows.window.shown_is windowed in
     let number : List ℕ = number_text r s.line_numbering layout.gutter (s.line_start + k) in
     let left : HasNoFeed (cells_left layout.decor layout.gutter number) = left_plain layout.decor layout.gutter number (number_plain (line_numbers r s.line_numbering) layout.gutter (s.line_start + k)) in

@@ -17,7 +17,7 @@ use Rattle.snippet_parts.specs.Mark.{is_marking, is_single_line}
 use Rattle.snippet_parts.specs.Marked.{Entry, first_line, last_line}
 use Rattle.snippet_parts.proofs.AmongLemmas.{Among, among_filter, among_filter_map, among_in_order, among_left, among_map, among_right, any_among, any_cases}
 use Rattle.snippet_parts.proofs.AmongLemmas.{append_cases, filter_cases, in_order_cases, map_cases}
-use Rattle.snippet_parts.proofs.KeptPartLemmas.{lines-ordered}
+use Rattle.snippet_parts.proofs.KeptPartLemmas.{lines_ordered}
 use Rattle.snippet_parts.proofs.MarkLemmas.{end-line, start-line}
 use Rattle.snippet_parts.proofs.ShownLemmas.{annotations-distinct}
 use Rattle.snippet_strokes.specs.Bars.{Bar, HasOwnDepth, bar_at, bars_apart, has_depth, open_past}
@@ -189,7 +189,7 @@ module _ (s : Source) (marks : List Annotation) (spans : All (λ a. IsSpan s.tex
   -- a span of several lines ends below its first line
   pub longer : (a : Annotation) → Contains marks a → is_long s.text a ≡ true → first_line s.text a < last_line s.text a
   longer a among long =
-      let up : first_line s.text a ≤ last_line s.text a = lines-ordered s.text a (All-contains (λ a. IsSpan s.text a.span.start a.span.end) marks a spans among) in
+      let up : first_line s.text a ≤ last_line s.text a = lines_ordered s.text a (All-contains (λ a. IsSpan s.text a.span.start a.span.end) marks a spans among) in
       let other : is_single_line s.text a ≡ false = not-true (is_single_line s.text a) (and_parts (is_marking a.kind) (not (is_single_line s.text a)) long).1 in
       elim (cases_eq (last_line s.text a) (first_line s.text a)) [
         | inl same ↦ absurd (both_ways (is_single_line s.text a) other (eq-eqb (last_line s.text a) (first_line s.text a) same))

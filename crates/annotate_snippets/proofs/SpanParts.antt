@@ -25,8 +25,8 @@ is_primary_at es place = list_any (λ (d : Entry). is_primary d.kind && same_pla
 -- ---- the kind of the last span of a place
 
 -- a span that is promoted is primary
-promoted_kind : (before : List Entry) (e : Entry) → is_primary (promoted before e).kind ≡ is_promoted before e
-promoted_kind before e =
+promoted-kind : (before : List Entry) (e : Entry) → is_primary (promoted before e).kind ≡ is_promoted before e
+promoted-kind before e =
     let drawn : Entry = record e { kind = Primary } in
     elim (cases_Bool (is_promoted before e)) [
       | inl so ↦ ap (λ (d : Entry). is_primary d.kind) (cond-true (is_promoted before e) drawn e so) ∙ sym so
@@ -58,7 +58,7 @@ kind_drawn before e later last =
     let earlier : Bool = is_primary_at before place in
     let after : earlier || ((is_primary e.kind && true) || false) ≡ earlier || ((is_primary e.kind && true) || is_primary_at later place) = ap (λ b. earlier || ((is_primary e.kind && true) || b)) (sym (none_later e later last)) in
     let itself = ap (λ b. earlier || ((is_primary e.kind && b) || is_primary_at later place)) (sym (same-refl place)) in
-    promoted_kind before e ∙ either (is_primary e.kind) earlier ∙ after ∙ itself ∙ sym (list_any-append test before (e ∷ later))
+    promoted-kind before e ∙ either (is_primary e.kind) earlier ∙ after ∙ itself ∙ sym (list_any-append test before (e ∷ later))
   where
     either : (a b : Bool) → (a || b) ≡ (b || ((a && true) || false))
     either true true = refl
@@ -71,7 +71,7 @@ kind_drawn before e later last =
 -- the entries of some spans have a start and an end of this place, with its bar
 pub record HasEnds (places : List LongExtent) (all : List Entry) (parts : List PartEntry) (place : LongExtent) : Type 0 where
   pub span : Entry
-  pub place_is : long_place span ≡ place
+  pub place-is : long_place span ≡ place
   pub primary : is_primary span.kind ≡ is_primary_at all place
   pub start : Among parts (start_part span (depth_among places place))
   pub end : Among parts (end_part span (MultilineEnd (depth_among places place)))
@@ -81,7 +81,7 @@ further : (places : List LongExtent) (all : List Entry) (own parts : List PartEn
 further places all own parts place ends =
     record {
       span = ends.span;
-      place_is = ends.place_is;
+      place-is = ends.place_is;
       primary = ends.primary;
       start = among_right own parts (start_part ends.span (depth_among places place)) ends.start;
       end = among_right own parts (end_part ends.span (MultilineEnd (depth_among places place))) ends.end;
@@ -98,7 +98,7 @@ last_ends s places before e later others last =
     let end : PartEntry = end_part drawn (MultilineEnd depth) in
     record {
       span = drawn;
-      place_is = promoted_place before e;
+      place-is = promoted_place before e;
       primary = kind_drawn before e later last;
       start = among_left (span_parts s depth (stands_among e later) drawn) others start (subst (λ b. Among (span_parts s depth b drawn) start) (sym last) (inl refl));
       end = among_left (span_parts s depth (stands_among e later) drawn) others end (subst (λ b. Among (span_parts s depth b drawn) end) (sym last) (inr (among_right bars (end ∷ []) end (inl refl))));

@@ -49,7 +49,7 @@ use Rattle.annotate_snippets.specs.Feeds.{HasNoFeed, HoldsNoFeed, IsNoFeed, IsOn
 use Rattle.annotate_snippets.specs.Rows.{origin_layout, patch_place, path_row, suggestion_head, suggestion_head_at}
 use Rattle.annotate_snippets.proofs.FeedLaws.{at_any}
 use Rattle.annotate_snippets.proofs.LineFeedLaws.{line_plain, row_written}
-use Rattle.annotate_snippets.proofs.PathFeedLaws.{cells_plain, norm_plain, row_plain}
+use Rattle.annotate_snippets.proofs.PathFeedLaws.{cells_plain, norm-plain, row_plain}
 use Rattle.annotate_snippets.proofs.SourceFeedLaws.{number_plain}
 
 -- ---- characters
@@ -183,7 +183,7 @@ line_row_plain suggested glyph number line plain =
     let digits : List ℕ = shown_number suggested.numbers g number in
     let signed_plain : HasNoFeed signed = put_plain (suggestion_role_of glyph) (suggestion_glyph_of suggested.base.decor glyph) (g + 1) [] (All-nil HoldsNoFeed) (glyph_plain suggested.base.decor glyph) in
     let numbered_plain = put_plain LineNumber digits 0 signed signed_plain (number_plain suggested.numbers g number) in
-    put_plain NoStyle (norm (chars line)) (g + 3) (put LineNumber digits 0 signed) numbered_plain (norm_plain (chars line) plain)
+    put_plain NoStyle (norm (chars line)) (g + 3) (put LineNumber digits 0 signed) numbered_plain (norm-plain (chars line) plain)
 
 -- a row that offers a line holds none
 abbrev IsPlainOffer : SuggestionRow → List Cell → Type 0
@@ -297,7 +297,7 @@ module _ (r : Renderer) (layout : Layout) (around : ElementContext) (found : Lis
   one_row Skips row utf8 is offer own = bare_one_line own_layout.base.decor own_layout.base.gutter row is.bare
   one_row (Removes i number text) row utf8 is offer own =
       let plain : All IsNoFeed (chars text) = subst (λ t. All IsNoFeed (chars t)) (sym own.1) (line_plain (cow_str_bytes s.source) i utf8) in
-      removed_one_line own_layout.numbers own_layout.base.decor own_layout.base.gutter (shown_number own_layout.numbers own_layout.base.gutter number) (norm (chars text)) row is (norm_plain (chars text) plain)
+      removed_one_line own_layout.numbers own_layout.base.decor own_layout.base.gutter (shown_number own_layout.numbers own_layout.base.gutter number) (norm (chars text)) row is (norm-plain (chars text) plain)
   one_row Empty row utf8 is offer own = bare_one_line own_layout.base.decor own_layout.base.gutter row is.bare
   one_row (Ends follows) row utf8 is offer own = bare_one_line own_layout.base.decor own_layout.base.gutter row is.bare
 

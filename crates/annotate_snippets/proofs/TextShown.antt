@@ -26,7 +26,7 @@ use Rattle.snippet_text_form.specs.declared.heading.HeadingKind.{HeadingKind}
 use Rattle.snippet_text_form.specs.declared.heading.HeadingKind.TheVariants as kind
 use Rattle.snippet_text_form.proofs.FreeLaws.{cause-free, heading-free, origin-free, suggestion-free}
 use Rattle.snippet_text_form.proofs.LinkLaws.{cause-links, heading-links, origin-links, suggestion-links}
-use Rattle.snippet_text_form.proofs.OrderLaws.{cause-holds, heading-holds, plain-append, stand-append}
+use Rattle.snippet_text_form.proofs.OrderLaws.{cause-holds, heading_holds as heading-holds, plain-append, stand-append}
 use Rattle.annotate_snippets.specs.Around.{drawn_elements, file_of_group, first_two_share, is_drawn}
 use Rattle.annotate_snippets.specs.FormLaws.{LawsIn, TextLaws}
 use Rattle.annotate_snippets.specs.Forms.{TextShown}

@@ -123,20 +123,20 @@ title_part-free r layout place follows (Some title) more =
     (free_rows trusted after (after_title-free r layout place follows title.allows_styling))
 
 -- so are those of the rows of an element whose trusted texts are among these
-pub element-free : (trusted : List (List ℕ)) (e : Element) (part : List NamedRow) → AreTextsAmong trusted (trusted_of_element e) → IsFreeElement e part
+pub element_free : (trusted : List (List ℕ)) (e : Element) (part : List NamedRow) → AreTextsAmong trusted (trusted_of_element e) → IsFreeElement e part
     → All (IsFreeRow trusted) (cells_of part)
-element-free trusted (Message message) part among free =
+element_free trusted (Message message) part among free =
     All-map (IsFreeRow trusted) (λ (row : NamedRow). row.cells)
     part (All-weaker (λ (row : NamedRow). IsFreeButText (heading_of_message message)
     row.cells) (λ (row : NamedRow). IsFreeRow trusted row.cells)
     (λ row own. own_row trusted (heading_of_message message) (λ styled. message_among trusted message among) row.cells own) part free)
-element-free trusted (Cause snippet) part among free =
+element_free trusted (Cause snippet) part among free =
     free_rows trusted (cells_of part) (All-map IsFree (λ (row : NamedRow). row.cells) part free)
-element-free trusted (Suggestion snippet) part among free =
+element_free trusted (Suggestion snippet) part among free =
     free_rows trusted (cells_of part) (All-map IsFree (λ (row : NamedRow). row.cells) part free)
-element-free trusted (Origin origin) part among free =
+element_free trusted (Origin origin) part among free =
     free_rows trusted (cells_of part) (All-map IsFree (λ (row : NamedRow). row.cells) part free)
-element-free trusted (Padding padding) part among free =
+element_free trusted (Padding padding) part among free =
     free_rows trusted (cells_of part) (All-map IsFree (λ (row : NamedRow). row.cells) part free)
 
 -- the trusted texts of each of some elements are among those of all

@@ -3,12 +3,12 @@ use Rattle.std.proofs.Common.{◌≡◌, ℕ, suc, ◌+◌, ◌<◌, List, [], �
 use Rattle.std.specs.List.{AllZip, slice_index_or}
 
 -- of one element more of each
-all-push : {A B : Type 0} (R : A → B → Type 0) (xs : List A) (ys : List B) (x : A) (y : B)
+all_push : {A B : Type 0} (R : A → B → Type 0) (xs : List A) (ys : List B) (x : A) (y : B)
     → AllZip R xs ys → R x y → AllZip R (xs ++ x ∷ []) (ys ++ y ∷ [])
-all-push R [] [] x y h r = (r, tt)
-all-push R [] (b ∷ ys) x y h r = absurd h
-all-push R (a ∷ xs) [] x y h r = absurd h
-all-push R (a ∷ xs) (b ∷ ys) x y h r = (h.0, all-push R xs ys x y h.1 r)
+all_push R [] [] x y h r = (r, tt)
+all_push R [] (b ∷ ys) x y h r = absurd h
+all_push R (a ∷ xs) [] x y h r = absurd h
+all_push R (a ∷ xs) (b ∷ ys) x y h r = (h.0, all_push R xs ys x y h.1 r)
 
 -- of a list as far as it has been walked along, and its next element
 pub all-next : {A B : Type 0} (R : A → B → Type 0) (xs : List A) (ys zs : List B) (i : ℕ) (x : A) (y : B)
@@ -18,4 +18,4 @@ all-next {A} {B} R xs ys zs i x y within is grown h r =
     let taken : take (i + 1) xs ≡ take i xs ++ x ∷ [] =
     ap (λ n. take n xs) count ∙ take-suc xs i x within ∙ ap (λ (e : A). take i xs ++ e ∷ []) (sym is) in
     subst (λ (l : List A). AllZip R l zs) (sym taken)
-    (subst (λ (l : List B). AllZip R (take i xs ++ x ∷ []) l) (sym grown) (all-push R (take i xs) ys x y h r))
+    (subst (λ (l : List B). AllZip R (take i xs ++ x ∷ []) l) (sym grown) (all_push R (take i xs) ys x y h r))

@@ -14,14 +14,14 @@ twelve : shown_steps 12 ≡ range_with_len 0 12
 twelve = refl
 
 -- a body that shows the first twelve is refused
-not-first : shown_steps 14 ≡ range_with_len 0 12 → ⊥
-not-first same =
+not_first : shown_steps 14 ≡ range_with_len 0 12 → ⊥
+not_first same =
     let fifth : 6 ≡ 4 = ap (λ steps. get_or steps 4 0) same in
     omega (arith, fifth)
 
 -- and so is one that shows the last twelve
-not-last : shown_steps 14 ≡ range_with_len 2 12 → ⊥
-not-last same =
+not_last : shown_steps 14 ≡ range_with_len 2 12 → ⊥
+not_last same =
     let first : 0 ≡ 2 = ap (λ steps. get_or steps 0 0) same in
     omega (arith, first)
 

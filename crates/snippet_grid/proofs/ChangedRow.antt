@@ -2,8 +2,8 @@
 use Rattle.std.proofs.Common.{◌≡◌, ◌≢◌, ℕ, ◌*◌, ◌+◌, ◌-◌, ◌<◌, ◌≤◌, List, length, get_or, refl, sym, ap, ◌∙◌, arith, inl, inr, All}
 use Rattle.std.proofs.lemmas.Bool.{cases_lt, cases_eq}
 use Rattle.snippet_grid.proofs.CopyLemmas.{piece_cell}
-use Rattle.snippet_grid.proofs.RowWoven.{painted_unheld, shown_in}
-use Rattle.snippet_grid.proofs.ShownLemmas.{pick, painted-grown, holds_inside, holds_elsewhere, holds_before, holds_after}
+use Rattle.snippet_grid.proofs.RowWoven.{painted_unheld, shown-in}
+use Rattle.snippet_grid.proofs.ShownLemmas.{pick, painted-grown, holds_inside, holds_elsewhere, holds_before, holds-after}
 use Rattle.snippet_grid.proofs.SpanLemmas.{within_yes, within_before, within_after, span_joined}
 use Rattle.snippet_grid.proofs.StretchLemmas.{BeginsWith-same, BeginsWith-trans}
 use Rattle.snippet_grid.specs.Changes.{changed_by, IsChanged, IsBlankRun, IsPartOfRow, ShowsSpan}
@@ -27,7 +27,7 @@ part_held text runs part d row from to end n are within low some below high cut 
           let place : from + (c - from) ≡ c = omega arith in
           piece_cell text text run part part from from from end c (BeginsWith-same text) (are.are_runs n d within) cut low (omega arith)
           (omega (arith, cut.cell)) refl refl refl refl (omega (arith, cut.cell)) (omega (arith, cut.cell, cut.count))
-          ∙ ap (λ i. run_cell text run i) place ∙ sym (shown_in text row c n runs d are within (omega arith) (omega (arith, cut.count)));
+          ∙ ap (λ i. run_cell text run i) place ∙ sym (shown-in text row c n runs d are within (omega arith) (omega (arith, cut.count)));
     }
 
 -- no run holds a cell between those that end before it and those that begin after it
@@ -38,7 +38,7 @@ free_between text runs row from c n are within before low follows =
     painted_unheld text row c SPACE runs (λ k d inside.
     let x = get_or runs k d in
     elim (cases_lt k n) [
-      | inl left ↦ holds_after x row c (elim (cases_eq k (n - 1)) [
+      | inl left ↦ holds-after x row c (elim (cases_eq k (n - 1)) [
         | inl last ↦ omega (arith, ap (λ i. (get_or runs i d).cell + (get_or runs i d).count) last, before d (omega arith))
         | inr other ↦
             let gap : Precedes x (get_or runs (n - 1) d) = are.ordered k (n - 1) d (omega arith) (omega arith) in
@@ -111,7 +111,7 @@ put_span now mid new runs_now runs_new part changed row col to change grows are 
       | inl before ↦ pick x y (holds_before changed row c (omega (arith, cell))) ∙ kept ∙ sym (pick (g c) was (within_before col end c before))
       | inr low ↦ elim (cases_lt c end) [
         | inl high ↦ pick x y (holds_inside changed row c row_is (omega (arith, cell)) (omega (arith, cell, same.count))) ∙ same.cells mid c ∙ ap (λ (d : Cell). changed_by change d) (is.cells c low high) ∙ sym (pick (g c) was (within_yes col end c low high))
-        | inr follows ↦ pick x y (holds_after changed row c (omega (arith, cell, same.count))) ∙ kept ∙ sym (pick (g c) was (within_after col end c follows))
+        | inr follows ↦ pick x y (holds-after changed row c (omega (arith, cell, same.count))) ∙ kept ∙ sym (pick (g c) was (within_after col end c follows))
       ]
     ]
 

@@ -9,7 +9,7 @@ use Rattle.std.specs.Option.{option_copied}
 use Rattle.std.specs.Str.{chars}
 use Rattle.snippet_grid.proofs.RunLemmas.{run_bytes-grown}
 use Rattle.snippet_grid.proofs.StretchLemmas.{BeginsWith-same, BeginsWith-trans}
-use Rattle.snippet_grid.proofs.ShownLemmas.{painted-append, All-tail, pick, cell_same, holds_inside, holds_elsewhere, holds_before, holds_after}
+use Rattle.snippet_grid.proofs.ShownLemmas.{painted-append, All-tail, pick, cell_same, holds_inside, holds_elsewhere, holds_before, holds-after}
 use Rattle.snippet_grid.specs.Changes.{num_touched}
 use Rattle.snippet_style.specs.Cell.{Cell, SPACE}
 use Rattle.snippet_grid.specs.Runs.{IsRun, IsPart, BeginsWith, ShowsMore, ShowsCopy, AddsRun, IsRow, EndsBy, Precedes, run_bytes, run_chars, run_cell, holds}
@@ -36,7 +36,7 @@ copied_after from to at c after = and_right _ _ (le-ltb c (at + (to - from)) aft
 pub shown_past : (text : List ℕ) (r c n : ℕ) (d : Cell) (runs : List Run) → EndsBy n runs → n ≤ c → painted_over text r c d runs ≡ d
 shown_past text r c n d [] ends past = refl
 shown_past text r c n d (run ∷ runs) ends past =
-    ap (λ (cell : Cell). painted_over text r c cell runs) (pick (run_cell text run c) d (holds_after run r c (omega (arith, ends 0 run (omega arith))))) ∙ shown_past text r c n d runs (All-tail (λ x. x.cell + x.count ≤ n) run runs ends) past
+    ap (λ (cell : Cell). painted_over text r c cell runs) (pick (run_cell text run c) d (holds-after run r c (omega (arith, ends 0 run (omega arith))))) ∙ shown_past text r c n d runs (All-tail (λ x. x.cell + x.count ≤ n) run runs ends) past
 
 num_touched-append : (from to : ℕ) (xs ys : List Run) → num_touched from to (xs ++ ys) ≡ num_touched from to xs + num_touched from to ys
 num_touched-append from to [] ys = omega arith
@@ -115,7 +115,7 @@ copied_cell old now run part piece from to at start end r c before outside grows
     elim (cases_lt c at) [
       | inl left ↦ pick x kept (holds_before piece r c (omega arith)) ∙ pick before outside (copied_before from to at c left) ∙ sym (pick more outside (copied_before from to at c left))
       | inr above ↦ elim (cases_lt c (at + (to - from))) [
-        | inr after ↦ pick x kept (holds_after piece r c (omega arith)) ∙ pick before outside (copied_after from to at c after) ∙ sym (pick more outside (copied_after from to at c after))
+        | inr after ↦ pick x kept (holds-after piece r c (omega arith)) ∙ pick before outside (copied_after from to at c after) ∙ sym (pick more outside (copied_after from to at c after))
         | inl below ↦
             let yes = copied_yes from to at c above below in
             elim (cases_eq run.row r) [
@@ -123,7 +123,7 @@ copied_cell old now run part piece from to at start end r c before outside grows
               | inl here ↦ elim (cases_lt there run.cell) [
                 | inl short ↦ pick x kept (holds_before piece r c (omega arith)) ∙ pick before outside yes ∙ sym (pick more outside yes ∙ pick y before (holds_before run r there short))
                 | inr reaches ↦ elim (cases_lt there (run.cell + run.count)) [
-                  | inr past ↦ pick x kept (holds_after piece r c (omega arith)) ∙ pick before outside yes ∙ sym (pick more outside yes ∙ pick y before (holds_after run r there past))
+                  | inr past ↦ pick x kept (holds-after piece r c (omega arith)) ∙ pick before outside yes ∙ sym (pick more outside yes ∙ pick y before (holds-after run r there past))
                   | inl within ↦
                       let first : piece.cell ≤ c = omega arith in
                       let last : c < piece.cell + (end - start) = omega arith in
@@ -212,7 +212,7 @@ copy_past old now out_old out_now runs run row from to at n start end within rea
               | inl below ↦
                   let gone : shown_cell old (take (n + 1) runs) r there ≡ before = elim (cases_lt there run.cell) [
                     | inl short ↦ one_more ∙ pick (run_cell old run there) before (holds_before run r there short)
-                    | inr reaches ↦ one_more ∙ pick (run_cell old run there) before (holds_after run r there (omega arith))
+                    | inr reaches ↦ one_more ∙ pick (run_cell old run there) before (holds-after run r there (omega arith))
                   ] in
                   ap (λ (d : Cell). if is_copied from to at c then d else outside) (sym gone)
             ]

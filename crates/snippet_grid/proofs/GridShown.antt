@@ -11,7 +11,7 @@ use Rattle.std.specs.Str.{chars, is_utf8, IsUtf8}
 use Rattle.snippet_grid.proofs.GridLemmas.{WritesCells-cells_written}
 use Rattle.snippet_style.proofs.CellLemmas.{length-text_cells, slice_index_or-text_cells}
 use Rattle.snippet_grid.proofs.StretchLemmas.{stretch, stretch_added, BeginsWith-append, BeginsWith-le, front_grown, is_utf8-end}
-use Rattle.snippet_grid.proofs.ShownLemmas.{All-tail, pick, cell_same, painted-grown, All-IsRun-grown, holds_inside, holds_elsewhere, holds_before, holds_after}
+use Rattle.snippet_grid.proofs.ShownLemmas.{All-tail, pick, cell_same, painted-grown, All-IsRun-grown, holds_inside, holds_elsewhere, holds_before, holds-after}
 use Rattle.snippet_grid.specs.Grid.{row_at, cell_at, cells_written, WritesCells}
 use Rattle.snippet_style.specs.Cell.{Cell, SPACE, text_cells}
 use Rattle.snippet_grid.specs.Runs.{IsRun, BeginsWith, ShowsMore, FitIn, IsGrid, IsWord, IsWidened, run_bytes, run_chars, run_cell, holds, painted_over, shown_cell}
@@ -47,7 +47,7 @@ unheld text widths r c d (run ∷ runs) fit past =
     let rest = unheld text widths r c d runs (All-tail (λ x. x.cell + x.count ≤ get_or widths x.row 0) run runs fit) past in
     let first : run.cell + run.count ≤ get_or widths run.row 0 = fit 0 run (omega arith) in
     let no : holds run r c ≡ false = elim (cases_eq run.row r) [
-      | inl here ↦ holds_after run r c (omega (arith, subst (λ k. run.cell + run.count ≤ get_or widths k 0) here first))
+      | inl here ↦ holds-after run r c (omega (arith, subst (λ k. run.cell + run.count ≤ get_or widths k 0) here first))
       | inr other ↦ holds_elsewhere run r c other
     ] in
     ap (λ (cell : Cell). painted_over text r c cell runs) (pick (run_cell text run c) d no) ∙ rest
@@ -130,7 +130,7 @@ WritesCells-shown old mid new runs now w v run row at role word grows are fit_ol
           ∙ cell_same (run_cell mid run (at + k)) record { ch = get_or (chars word) k 0; role = role; link = None } ch is.role_is is.unlinked
           ∙ sym (slice_index_or-text_cells role (chars word) k SPACE (omega arith));
       before = λ c low. same_cell row c (holds_before run row c (omega (arith, is.cell_is)));
-      after = λ c high. same_cell row c (holds_after run row c (omega (arith, is.cell_is, count, long)));
+      after = λ c high. same_cell row c (holds-after run row c (omega (arith, is.cell_is, count, long)));
       others = λ r other. same_row old new runs now w v r (wide.others r other) (λ c. unchanged r c (holds_elsewhere run r c (λ h. other (sym h ∙ is.row_is))));
       width = width_shown new now v row ∙ wide.here ∙ ap (λ n. max n (at + length (chars word))) (sym (width_shown old runs w row)) ∙ ap (λ n. max (length (row_at before row)) (at + n)) (sym long);
       count = count_shown new now v ∙ wide.count ∙ ap (λ n. max n (row + 1)) (sym (count_shown old runs w));

@@ -6,7 +6,7 @@ use Rattle.std.proofs.lemmas.List.{length-set, length-drop}
 use Rattle.std.proofs.lemmas.List.Elements.{All-cons, All-nil}
 use Rattle.std.proofs.lemmas.Bool.{cases_lt, cases_eq, true≢false}
 use Rattle.snippet_grid.proofs.ShownLemmas.{painted-append, run_cell-grown, ShowsMore-joined, AddsRun-joined, pick, cell_same, holds_inside, holds_elsewhere}
-use Rattle.snippet_grid.proofs.ShownLemmas.{holds_before, holds_after}
+use Rattle.snippet_grid.proofs.ShownLemmas.{holds_before, holds-after}
 use Rattle.snippet_grid.proofs.CopyLemmas.{shown_past}
 use Rattle.snippet_grid.proofs.PutLemmas.{AreOrdered, AreApart, IsRow-added, painted_elsewhere}
 use Rattle.snippet_grid.proofs.RowWoven.{painted_unheld}
@@ -50,7 +50,7 @@ unheld_before r c runs all =
 unheld_after : (r c : ℕ) (runs : List Run) → All (λ x. x.row ≡ r → x.cell + x.count ≤ c) runs → All (λ x. holds x r c ≡ false) runs
 unheld_after r c runs all =
     λ k d within. elim (cases_eq (get_or runs k d).row r) [
-      | inl here ↦ holds_after (get_or runs k d) r c (all k d within here)
+      | inl here ↦ holds-after (get_or runs k d) r c (all k d within here)
       | inr other ↦ holds_elsewhere (get_or runs k d) r c other
     ]
 
@@ -252,7 +252,7 @@ pieces_show t0 t1 t2 runs front begun pieces back run touched is_front is_back s
                       same ∙ pick x left no ∙ blank ∙ sym none ∙ sym (pick x was no)
                 ]
             | inr past ↦
-                let no = holds_after run r c past in
+                let no = holds-after run r c past in
                 let begun_is : shown_cell t1 begun r c ≡ SPACE = shows r c ∙ pick x left no ∙ blank in
                 over r c ∙ ap (λ (d : Cell). painted_over t0 r c d back) begun_is ∙ is_back.shows r c past ∙ sym (pick x was no)
           ]

@@ -11,7 +11,7 @@ use Rattle.snippet_style.proofs.CellLemmas.{slice_index_or-text_cells}
 use Rattle.snippet_grid.proofs.GridShown.{count_shown, width_shown, cell_shown, same_row}
 use Rattle.snippet_grid.proofs.ReplaceLemmas.{ReplacesCells-cells_replaced}
 use Rattle.snippet_grid.proofs.RowPut.{row_shows, put_shows}
-use Rattle.snippet_grid.proofs.ShownLemmas.{pick, cell_same, painted-grown, holds_inside, holds_before, holds_after}
+use Rattle.snippet_grid.proofs.ShownLemmas.{pick, cell_same, painted-grown, holds_inside, holds_before, holds-after}
 use Rattle.snippet_grid.proofs.SpanLemmas.{within_yes, within_before, within_after}
 use Rattle.snippet_grid.proofs.StretchLemmas.{stretch, below_take, BeginsWith-trans}
 use Rattle.snippet_grid.specs.Changes.{ShowsSpan, ShowsReplaced}
@@ -47,7 +47,7 @@ word_span t0 t1 t2 out now run row at role word grows are is shows =
     shows row c ∙ elim (cases_lt c at) [
       | inl before ↦ pick x y (holds_before run row c (omega (arith, is.cell_is))) ∙ stays ∙ sym (pick g (shown_cell t0 out row c) (within_before at end c before))
       | inr low ↦ elim (cases_lt c end) [
-        | inr after ↦ pick x y (holds_after run row c (omega (arith, is.cell_is))) ∙ stays ∙ sym (pick g (shown_cell t0 out row c) (within_after at end c after))
+        | inr after ↦ pick x y (holds-after run row c (omega (arith, is.cell_is))) ∙ stays ∙ sym (pick g (shown_cell t0 out row c) (within_after at end c after))
         | inl high ↦
             let inside : c - at < length (chars word) = omega arith in
             let ch : get_or (run_chars t1 run) (c - run.cell) 32 ≡ get_or (chars word) (c - at) 0 = ap (λ (cs : List ℕ). get_or cs (c - run.cell) 32) is.chars_are ∙ ap (λ i. get_or (chars word) (c - i) 32) is.cell_is ∙ get_or_default (chars word) (c - at) 32 0 inside in

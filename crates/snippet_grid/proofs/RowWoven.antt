@@ -6,7 +6,7 @@ use Rattle.std.proofs.lemmas.List.{get_or_default, get_or_append_left, get_or-ap
 use Rattle.std.proofs.lemmas.List.FromFn.{length-map-range_with_len, get_or-map-range_with_len}
 use Rattle.std.proofs.lemmas.Bool.{cases_lt, cases_eq}
 use Rattle.std.specs.Option.{option_copied}
-use Rattle.snippet_grid.proofs.ShownLemmas.{painted-append, All-tail, pick, holds_inside, holds_before, holds_after}
+use Rattle.snippet_grid.proofs.ShownLemmas.{painted-append, All-tail, pick, holds_inside, holds_before, holds-after}
 use Rattle.snippet_grid.proofs.StretchPrinted.{alike, stretch_printed}
 use Rattle.snippet_grid.proofs.WeaveLemmas.{Url, Goes}
 use Rattle.snippet_style.specs.Cell.{Cell, SPACE}
@@ -26,9 +26,9 @@ painted_unheld text r c d (run ∷ runs) none =
     ap (λ (cell : Cell). painted_over text r c cell runs) (pick (run_cell text run c) d (none 0 run (omega arith))) ∙ painted_unheld text r c d runs (All-tail (λ x. holds x r c ≡ false) run runs none)
 
 -- a run shows its own cells, whatever stands after it
-pub shown_in : (text : List ℕ) (row c n : ℕ) (runs : List Run) (d : Run) → IsRow text row runs → n < length runs
+pub shown-in : (text : List ℕ) (row c n : ℕ) (runs : List Run) (d : Run) → IsRow text row runs → n < length runs
     → (let run = get_or runs n d in run.cell ≤ c → c < run.cell + run.count → shown_cell text runs row c ≡ run_cell text run c)
-shown_in text row c n runs d is within =
+shown-in text row c n runs d is within =
     λ low high.
     let run : Run = get_or runs n d in
     let front = take n runs in
@@ -50,7 +50,7 @@ pub shown_gap : (text : List ℕ) (row c n : ℕ) (runs : List Run)
     → ((k : ℕ) (d : Run) → n ≤ k → k < length runs → c < (get_or runs k d).cell) → shown_cell text runs row c ≡ SPACE
 shown_gap text row c n runs after ahead =
     painted_unheld text row c SPACE runs (λ k d within. elim (cases_lt k n) [
-      | inl before ↦ holds_after (get_or runs k d) row c (after k d before within)
+      | inl before ↦ holds-after (get_or runs k d) row c (after k d before within)
       | inr follows ↦ holds_before (get_or runs k d) row c (ahead k d follows within)
     ])
 
@@ -120,7 +120,7 @@ woven_run sheet level text runs row n col d style next link old now new is_row w
     let long_more : length more ≡ length word = length-map word as_cell in
     let cells : cells_to text runs row (run.cell + run.count) ≡ cells_to text runs row col ++ more = cells_more text runs row col (run.cell + run.count) more (omega (arith, is_run.counted)) (λ k inside.
     let index : (col + k) - run.cell ≡ k = omega arith in
-    get_or-map as_cell word k 32 SPACE (omega arith) ∙ ap (λ i. as_cell (get_or word i 32)) (sym index) ∙ sym (shown_in text row (col + k) n runs d is_row within (omega arith) (omega (arith, is_run.counted)))) in
+    get_or-map as_cell word k 32 SPACE (omega arith) ∙ ap (λ i. as_cell (get_or word i 32)) (sym index) ∙ sym (shown-in text row (col + k) n runs d is_row within (omega arith) (omega (arith, is_run.counted)))) in
     record {
       goes = subst (λ (cs : List Cell). Goes sheet level (Some next) (option_copied run.link) cs old new) (sym cells)
           (stretch_printed sheet level style next run.role link (option_copied run.link) word (cells_to text runs row col)

@@ -8,7 +8,7 @@ use Rattle.std.specs.Option.{option_copied}
 use Rattle.snippet_grid.proofs.RowWoven.{painted_unheld}
 use Rattle.snippet_grid.proofs.RunBoundLemmas.{cells_at, look_is, fewest_gap, fewest_run, most_gap, most_left, most_run}
 use Rattle.snippet_grid.proofs.RunLemmas.{none}
-use Rattle.snippet_grid.proofs.ShownLemmas.{painted-append, pick, holds_inside, holds_elsewhere, holds_before, holds_after}
+use Rattle.snippet_grid.proofs.ShownLemmas.{painted-append, pick, holds_inside, holds_elsewhere, holds_before, holds-after}
 use Rattle.snippet_style.specs.Cell.{Cell, SPACE}
 use Rattle.snippet_grid.specs.RunBounds.{Look, look_of, goes_on, fewest_after, most_after, fewest_runs, most_runs}
 use Rattle.snippet_grid.specs.Runs.{IsGrid, Precedes, run_cell, holds, shown_cell, grid_shown}
@@ -40,7 +40,7 @@ space_between text runs row low high c k start end after ahead =
     elim (cases_eq (get_or runs j d).row row) [
       | inr other ↦ holds_elsewhere (get_or runs j d) row c other
       | inl here ↦ elim (cases_lt j k) [
-        | inl before ↦ holds_after (get_or runs j d) row c (omega (arith, (start.before j d before within).cells here))
+        | inl before ↦ holds-after (get_or runs j d) row c (omega (arith, (start.before j d before within).cells here))
         | inr later ↦ holds_before (get_or runs j d) row c (omega (arith, (end.from j d later within).cells here))
       ]
     ])

@@ -54,8 +54,8 @@ pub holds_before : (run : Run) (r c : ℕ) → c < run.cell → holds run r c �
 holds_before run r c before = and_right _ _ (and_left _ _ (lt-leb run.cell c before))
 
 -- a run holds no cell right of its last
-pub holds_after : (run : Run) (r c : ℕ) → run.cell + run.count ≤ c → holds run r c ≡ false
-holds_after run r c after = and_right _ _ (and_right _ _ (le-ltb c (run.cell + run.count) after))
+pub holds-after : (run : Run) (r c : ℕ) → run.cell + run.count ≤ c → holds run r c ≡ false
+holds-after run r c after = and_right _ _ (and_right _ _ (le-ltb c (run.cell + run.count) after))
 
 -- a choice by one test is the same by a test that answers the same
 pub pick : {X : Type 0} {b v : Bool} (x y : X) → b ≡ v → (if b then x else y) ≡ (if v then x else y)
@@ -108,9 +108,9 @@ joined_cell old new first second whole r c d one two goes joined =
                             ∙ ap (λ k. get_or (run_chars old second) k 32) index in
                             pick x d whole_yes ∙ cell_same x y ch (joined.role ∙ goes.role) (joined.link ∙ goes.link) ∙ sym (pick y rest second_yes)
                         | inr after ↦
-                            let whole_no = holds_after whole r c (omega (arith, joined.cell, joined.count, goes.touches)) in
-                            let second_no = holds_after second r c after in
-                            pick x d whole_no ∙ sym (pick y rest second_no ∙ pick z d (holds_after first r c after_first))
+                            let whole_no = holds-after whole r c (omega (arith, joined.cell, joined.count, goes.touches)) in
+                            let second_no = holds-after second r c after in
+                            pick x d whole_no ∙ sym (pick y rest second_no ∙ pick z d (holds-after first r c after_first))
                       ]
                 ]
           ]

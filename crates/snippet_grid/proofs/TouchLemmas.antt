@@ -6,7 +6,7 @@ use Rattle.std.proofs.lemmas.List.Elements.{All-take, All-drop, All-append, All-
 use Rattle.std.proofs.lemmas.Bool.{cases_lt, cases_eq}
 use Rattle.std.specs.List.{AllPairs}
 use Rattle.snippet_grid.proofs.StretchLemmas.{stretch, below_take, get_or-stretch}
-use Rattle.snippet_grid.proofs.ShownLemmas.{All-IsRun-grown, painted-append, painted-grown, pick, holds_inside, holds_elsewhere, holds_before, holds_after}
+use Rattle.snippet_grid.proofs.ShownLemmas.{All-IsRun-grown, painted-append, painted-grown, pick, holds_inside, holds_elsewhere, holds_before, holds-after}
 use Rattle.snippet_grid.proofs.PutLemmas.{AreOrdered, AreApart, AllPairs-append, AllPairs-take, AllPairs-drop, split_three, IsRow-stretch, inside-put}
 use Rattle.snippet_grid.proofs.RowWoven.{painted_unheld}
 use Rattle.snippet_style.specs.Cell.{Cell, SPACE}
@@ -29,7 +29,7 @@ cases_held run r c =
         | inl before ↦ inr (holds_before run r c before)
         | inr low ↦ elim (cases_lt c (run.cell + run.count)) [
           | inl high ↦ inl record { row_is = here; low = low; high = high }
-          | inr after ↦ inr (holds_after run r c after)
+          | inr after ↦ inr (holds-after run r c after)
         ]
       ]
     ]

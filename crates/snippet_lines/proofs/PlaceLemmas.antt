@@ -175,10 +175,10 @@ unfolding end_location location_of place_of
 end_location-line s start end = refl
 
 -- a span on one line ends at the column of its end's place
-pub end_location-column : (s : Source) (start end : ℕ) → line_of (source_lines s.text) start ≡ line_of (source_lines s.text) end
+pub end_location_column : (s : Source) (start end : ℕ) → line_of (source_lines s.text) start ≡ line_of (source_lines s.text) end
     → (end_location s start end).display ≡ (place_of s.text end).column
 unfolding end_location location_of place_of
-end_location-column s start end same =
+end_location_column s start end same =
     let one : eqb (s.first + line_of (source_lines s.text) start) (s.first + line_of (source_lines s.text) end) ≡ true = eq-eqb (s.first + line_of (source_lines s.text) start) (s.first + line_of (source_lines s.text) end) (ap (λ k. s.first + k) same) in
     let column : ℕ = width_of (chars (prefix_at (source_lines s.text) (line_of (source_lines s.text) end) end)) in
     ap (λ n. column + n) (cond-true (eqb (s.first + line_of (source_lines s.text) start) (s.first + line_of (source_lines s.text) end)) 0 (steps_after_text s.text end) one) ∙ add-zero column

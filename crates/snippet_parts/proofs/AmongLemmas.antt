@@ -178,14 +178,14 @@ among_filter_map h (z ∷ zs) x y (inr later) is =
 -- ---- the least and the greatest number of a list
 
 -- the least of some numbers is one of them
-pub least_among : (n : ℕ) (ns : List ℕ) → Among (n ∷ ns) (unwrap_or (least (n ∷ ns)) 0)
-least_among n [] = inl refl
-least_among n (m ∷ ns) =
+pub least-among : (n : ℕ) (ns : List ℕ) → Among (n ∷ ns) (unwrap_or (least (n ∷ ns)) 0)
+least-among n [] = inl refl
+least-among n (m ∷ ns) =
     let rest : ℕ = unwrap_or (least (m ∷ ns)) 0 in
     let is : unwrap_or (least (n ∷ m ∷ ns)) 0 ≡ min n rest = refl in
     elim (cases_lt n rest) [
       | inl less ↦ inl (omega (arith, is))
-      | inr more ↦ inr (subst (Among (m ∷ ns)) (omega (arith, is)) (least_among m ns))
+      | inr more ↦ inr (subst (Among (m ∷ ns)) (omega (arith, is)) (least-among m ns))
     ]
 
 -- the least number is no greater than any
@@ -200,8 +200,8 @@ least_same (n ∷ ns) [] there back = absurd (there n (inl refl))
 least_same (n ∷ ns) (m ∷ ms) there back =
     let first : ℕ = unwrap_or (least (n ∷ ns)) 0 in
     let second : ℕ = unwrap_or (least (m ∷ ms)) 0 in
-    let low : first ≤ second = all_among (λ k. first ≤ k) (n ∷ ns) second (least_below (n ∷ ns)) (back second (least_among m ms)) in
-    let high : second ≤ first = all_among (λ k. second ≤ k) (m ∷ ms) first (least_below (m ∷ ms)) (there first (least_among n ns)) in
+    let low : first ≤ second = all_among (λ k. first ≤ k) (n ∷ ns) second (least_below (n ∷ ns)) (back second (least-among m ms)) in
+    let high : second ≤ first = all_among (λ k. second ≤ k) (m ∷ ms) first (least_below (m ∷ ms)) (there first (least-among n ns)) in
     omega (arith, low, high)
 
 -- the greatest of a number and those of a list

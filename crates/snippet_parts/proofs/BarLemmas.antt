@@ -45,13 +45,13 @@ bars-found p i at m k is within none hit =
     ]
 
 -- where no line after the first passes the test, no line has a bar
-pub bars-none : (p : ℕ → Bool) (i first m k : ℕ) → i ≤ first → first < k → list_any p (range_with_len i (m - i)) ≡ false
+pub bars_none : (p : ℕ → Bool) (i first m k : ℕ) → i ≤ first → first < k → list_any p (range_with_len i (m - i)) ≡ false
     → leb k first ≡ list_any p (range_with_len k (m - k))
-bars-none p i first m k is past none = lt-leb k first past ∙ sym (any-fewer p i k m (omega arith) none)
+bars_none p i first m k is past none = lt-leb k first past ∙ sym (any-fewer p i k m (omega arith) none)
 
-pub bars-more : (p : ℕ → Bool) (i at m : ℕ) → i ≡ at + 1 → at < m → list_any p (range_with_len i (m - i)) ≡ false → p at ≡ false
+pub bars_more : (p : ℕ → Bool) (i at m : ℕ) → i ≡ at + 1 → at < m → list_any p (range_with_len i (m - i)) ≡ false → p at ≡ false
     → list_any p (range_with_len at (m - at)) ≡ false
-bars-more p i at m is within none trivial =
+bars_more p i at m is within none trivial =
     ap (λ n. list_any p (range_with_len at n)) len ∙ ap (λ b. b || list_any p (range_with_len (at + 1) (m - i))) trivial ∙ ap (λ n. list_any p (range_with_len n (m - i))) (sym is) ∙ none
   where
     len : m - at ≡ suc (m - i)

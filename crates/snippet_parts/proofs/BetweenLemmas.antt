@@ -54,37 +54,37 @@ single-line s marks j k next within plain =
     ap option_to_list (cond-true (eqb (s.first + k) (s.first + j + 2)) (option_map line (line_at s (s.first + j + 1))) None (eq-eqb (s.first + k) (s.first + j + 2) (omega arith)) ∙ ap (option_map line) (text-there s (s.first + j + 1) (j + 1) at (omega arith)))
     ∙ ap (λ l. l ∷ []) (same-kept (s.first + j + 1) (s.first + (j + 1)) (text_at (source_lines s.text) (j + 1)) (text_at (source_lines s.text) (j + 1)) [] (parts_on s marks (j + 1)) false (list_any (λ a. not (is_marking a.kind) && touches s.text a (j + 1)) marks) at refl (sym plain.0) (sym plain.1))
 
-no-line : (s : Source) (j k : ℕ) → (k ≡ j + 2 → ⊥) → lines_between s (Some (s.first + j)) (s.first + k) ≡ []
-no-line s j k apart =
+no_line : (s : Source) (j k : ℕ) → (k ≡ j + 2 → ⊥) → lines_between s (Some (s.first + j)) (s.first + k) ≡ []
+no_line s j k apart =
     ap option_to_list (cond-false (eqb (s.first + k)
     (s.first + j + 2)) (option_map (λ text. (let l : KeptLine = record { number = s.first + j + 1; text = text; parts = []; keep = false } in l))
     (line_at s (s.first + j + 1))) None (ne_eqb (s.first + k) (s.first + j + 2) (λ same. apart (omega arith))))
 
-rest-is : (s : Source) (marks : List Annotation) (p : ℕ → Bool) (plain : (k : ℕ) → p k ≡ false → IsPlain s marks k) (j a n : ℕ) → j < a
+rest_is : (s : Source) (marks : List Annotation) (p : ℕ → Bool) (plain : (k : ℕ) → p k ≡ false → IsPlain s marks k) (j a n : ℕ) → j < a
     → ((i : ℕ) → j < i → i < a → p i ≡ false) → a + n ≤ length (source_lines s.text)
     → filled s (Some (s.first + j)) (map (kept_line s marks) (filter p (range_with_len a n))) ≡ map (kept_line s marks)
     (rest_between j (filter p (range_with_len a n)))
-rest-is s marks p plain j a zero before none within = refl
-rest-is s marks p plain j a (suc n) before none within =
+rest_is s marks p plain j a zero before none within = refl
+rest_is s marks p plain j a (suc n) before none within =
     let f = λ (k : ℕ). kept_line s marks k in
     let ks : List ℕ = filter p (range_with_len (a + 1) n) in
     let Goal = λ (xs : List ℕ). filled s (Some (s.first + j)) (map f xs) ≡ map f (rest_between j xs) in
     elim (cases_Bool (p a)) [
       | inl here ↦
-          let rest : filled s (Some (s.first + a)) (map f ks) ≡ map f (rest_between a ks) = rest-is s marks p plain a (a + 1) n (omega arith) (λ i from to. absurd (omega arith)) (omega arith) in
+          let rest : filled s (Some (s.first + a)) (map f ks) ≡ map f (rest_between a ks) = rest_is s marks p plain a (a + 1) n (omega arith) (λ i from to. absurd (omega arith)) (omega arith) in
           let goal : Goal (a ∷ ks) = elim (cases_eq a (j + 2)) [
             | inl next ↦ ap (λ ls. ls ++ f a ∷ filled s (Some (s.first + a)) (map f ks))
                 (single-line s marks j a next (omega arith) (plain (j + 1) (none (j + 1) (omega arith) (omega arith))))
                 ∙ ap (λ ls. f (j + 1) ∷ f a ∷ ls) rest ∙ ap (map f)
                 (sym (cond-true (eqb a (j + 2)) ((j + 1) ∷ a ∷ rest_between a ks) (a ∷ rest_between a ks) (eq-eqb a (j + 2) next)))
-            | inr apart ↦ ap (λ ls. ls ++ f a ∷ filled s (Some (s.first + a)) (map f ks)) (no-line s j a apart) ∙ ap (λ ls. f a ∷ ls) rest ∙ ap (map f) (sym (cond-false (eqb a (j + 2)) ((j + 1) ∷ a ∷ rest_between a ks) (a ∷ rest_between a ks) (ne_eqb a (j + 2) apart)))
+            | inr apart ↦ ap (λ ls. ls ++ f a ∷ filled s (Some (s.first + a)) (map f ks)) (no_line s j a apart) ∙ ap (λ ls. f a ∷ ls) rest ∙ ap (map f) (sym (cond-false (eqb a (j + 2)) ((j + 1) ∷ a ∷ rest_between a ks) (a ∷ rest_between a ks) (ne_eqb a (j + 2) apart)))
           ] in
           subst Goal (sym (cond-true (p a) (a ∷ ks) ks here)) goal
-      | inr gone ↦ subst Goal (sym (cond-false (p a) (a ∷ ks) ks gone)) (rest-is s marks p plain j (a + 1) n (omega arith) (λ i from to. one-more i from to gone) (omega arith))
+      | inr gone ↦ subst Goal (sym (cond-false (p a) (a ∷ ks) ks gone)) (rest_is s marks p plain j (a + 1) n (omega arith) (λ i from to. one_more i from to gone) (omega arith))
     ]
   where
-    one-more : (i : ℕ) → j < i → i < a + 1 → p a ≡ false → p i ≡ false
-    one-more i from to gone = elim (cases_eq i a) [
+    one_more : (i : ℕ) → j < i → i < a + 1 → p a ≡ false → p i ≡ false
+    one_more i from to gone = elim (cases_eq i a) [
       | inl same ↦ ap p same ∙ gone
       | inr apart ↦ none i from (below i a to apart)
     ]
@@ -102,7 +102,7 @@ all-is s marks p plain a (suc n) within =
     let Goal = λ (xs : List ℕ). filled s None (map f xs) ≡ map f (with_between xs) in
     elim (cases_Bool (p a)) [
       | inl here ↦
-          let rest : filled s (Some (s.first + a)) (map f ks) ≡ map f (rest_between a ks) = rest-is s marks p plain a (a + 1) n (omega arith) (λ i from to. absurd (omega arith)) (omega arith) in
+          let rest : filled s (Some (s.first + a)) (map f ks) ≡ map f (rest_between a ks) = rest_is s marks p plain a (a + 1) n (omega arith) (λ i from to. absurd (omega arith)) (omega arith) in
           subst Goal (sym (cond-true (p a) (a ∷ ks) ks here)) (ap (λ ls. f a ∷ ls) rest ∙ ap (map f) (sym (between-rest a ks)))
       | inr gone ↦ subst Goal (sym (cond-false (p a) (a ∷ ks) ks gone)) (all-is s marks p plain (a + 1) n (omega arith))
     ]

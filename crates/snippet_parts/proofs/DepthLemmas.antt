@@ -8,7 +8,7 @@ use Rattle.snippet_parts.specs.Least.{greatest}
 use Rattle.snippet_parts.specs.declared.depths.LongExtent.{LongExtent}
 use Rattle.snippet_parts.specs.Depths.{same_place, share_line, places_of, raw_depth, raw_depth_among, greatest_raw_depth, greatest_depth, depth_among}
 use Rattle.snippet_parts.specs.Depths.{SharesWithFirst, IsChainOf, IsLongestChain, raw_depths}
-use Rattle.snippet_parts.proofs.RawDepthLemmas.{among-after, among-most, among-new, any-at, fold-max, greatest-bound, greatest-is, length-raw_depths}
+use Rattle.snippet_parts.proofs.RawDepthLemmas.{among_after, among-most, among-new, any-at, fold-max, greatest-bound, greatest-is, length-raw_depths}
 use Rattle.snippet_parts.proofs.RawDepthLemmas.{places-bound, raw_depths-are, same-true}
 use Rattle.snippet_parts.proofs.DepthSearchLemmas.{near_max-after, no_place, raw_depth-near, raw_depth-some}
 use Rattle.std.proofs.lemmas.Simd.{map-map}
@@ -31,7 +31,7 @@ among-some : (ps : List LongExtent) (p : LongExtent) → list_any (same_place p)
 among-some [] p stands = cc
 among-some (q ∷ ps) p stands =
     elim (cases_Bool (list_any (same_place p) ps)) [
-      | inl again ↦ omega (arith, among-after q p ps again, among-some ps p again)
+      | inl again ↦ omega (arith, among_after q p ps again, among-some ps p again)
       | inr fails ↦
           let same : p ≡ q = same-true p q (here (same_place p q) (list_any (same_place p) ps) stands fails) in
           let e : raw_depth_among (places_of (q ∷ ps)) p ≡ raw_depth p (places_of ps) = ap (λ x. raw_depth_among (places_of (x ∷ ps)) p) (sym same) ∙ among-new p ps fails in
@@ -62,17 +62,17 @@ raw-apart [] p q in-p in-q share same = cc
 raw-apart (r ∷ ps) p q in-p in-q share same =
     elim (cases_Bool (list_any (same_place p) ps)) [
       | inl p-again ↦ elim (cases_Bool (list_any (same_place q) ps)) [
-        | inl q-again ↦ raw-apart ps p q p-again q-again share (sym (among-after r p ps p-again) ∙ same ∙ among-after r q ps q-again)
+        | inl q-again ↦ raw-apart ps p q p-again q-again share (sym (among_after r p ps p-again) ∙ same ∙ among_after r q ps q-again)
         | inr q-new ↦
             let is : q ≡ r = same-true q r (here (same_place q r) (list_any (same_place q) ps) in-q q-new) in
             let e : raw_depth_among (places_of (r ∷ ps)) q ≡ raw_depth q (places_of ps) = ap (λ x. raw_depth_among (places_of (x ∷ ps)) q) (sym is) ∙ among-new q ps q-new in
-            absurd (omega (arith, e, same, among-after r p ps p-again, raw_depth-near q ps, near_max-after q p ps (share-swap p q share) p-again))
+            absurd (omega (arith, e, same, among_after r p ps p-again, raw_depth-near q ps, near_max-after q p ps (share-swap p q share) p-again))
       ]
       | inr p-new ↦
           let is : p ≡ r = same-true p r (here (same_place p r) (list_any (same_place p) ps) in-p p-new) in
           let e : raw_depth_among (places_of (r ∷ ps)) p ≡ raw_depth p (places_of ps) = ap (λ x. raw_depth_among (places_of (x ∷ ps)) p) (sym is) ∙ among-new p ps p-new in
           elim (cases_Bool (list_any (same_place q) ps)) [
-            | inl q-again ↦ absurd (omega (arith, e, same, among-after r q ps q-again, raw_depth-near p ps, near_max-after p q ps share q-again))
+            | inl q-again ↦ absurd (omega (arith, e, same, among_after r q ps q-again, raw_depth-near p ps, near_max-after p q ps share q-again))
             | inr q-new ↦ is ∙ sym (same-true q r (here (same_place q r) (list_any (same_place q) ps) in-q q-new))
           ]
     ]
@@ -118,11 +118,11 @@ record IsRest (p : LongExtent) (ps : List LongExtent) : Type 0 where
   linked : SharesWithFirst p chain
   long : length chain + 1 ≡ raw_depth p ps
 
-rest-of : (p : LongExtent) (ps : List LongExtent) → IsRest p ps
-rest-of p [] = record { chain = []; is = refl; linked = tt; long = omega arith }
-rest-of p (q ∷ ps) =
-    let here : IsRest p ps = rest-of p ps in
-    let there : IsRest q ps = rest-of q ps in
+rest_of : (p : LongExtent) (ps : List LongExtent) → IsRest p ps
+rest_of p [] = record { chain = []; is = refl; linked = tt; long = omega arith }
+rest_of p (q ∷ ps) =
+    let here : IsRest p ps = rest_of p ps in
+    let there : IsRest q ps = rest_of q ps in
     elim (cases_Bool (share_line p q)) [
       | inl share ↦
           let e : cond (share_line p q) (raw_depth q ps + 1) 1 ≡ raw_depth q ps + 1 = cond-true (share_line p q) (raw_depth q ps + 1) 1 share in
@@ -139,7 +139,7 @@ rest-of p (q ∷ ps) =
 pub longest-chain : (ps : List LongExtent) → IsLongestChain ps (greatest_raw_depth ps)
 longest-chain [] = record { chain = []; is_chain = refl; long = refl; longest = any-chain-short [] }
 longest-chain (p ∷ ps) =
-    let here : IsRest p ps = rest-of p ps in
+    let here : IsRest p ps = rest_of p ps in
     let there : IsLongestChain ps (greatest_raw_depth ps) = longest-chain ps in
     elim (cases_lt (raw_depth p ps) (greatest_raw_depth ps)) [
       | inl less ↦ record { chain = there.chain; is_chain = inl there.is_chain; long = omega (arith, there.long); longest = any-chain-short (p ∷ ps) }

@@ -8,7 +8,7 @@ use Rattle.std.proofs.lemmas.Bool.{false_from_ne_true}
 use Rattle.std.proofs.lemmas.List.{drop_more, drop_all, get_or-take, get_or-drop, take_rest, drop-set, length-take-le, length-drop, get_or_default}
 use Rattle.snippet_parts.specs.declared.depths.LongExtent.{LongExtent}
 use Rattle.snippet_parts.specs.Depths.{same_place, share_line, places_of, raw_depth, raw_depth_among, raw_depths}
-use Rattle.snippet_parts.proofs.RawDepthLemmas.{among-after, among-new, length-raw_depths, places-again, places-new, same-true}
+use Rattle.snippet_parts.proofs.RawDepthLemmas.{among_after, among-new, length-raw_depths, places-again, places-new, same-true}
 
 -- ---- the search for a raw depth
 
@@ -32,7 +32,7 @@ near_max-after p q (r ∷ ps) share again =
     elim (cases_Bool (list_any (same_place q) ps)) [
       | inl holds ↦
           let h : raw_depth_among (places_of ps) q ≤ near_max p ps = near_max-after p q ps share holds in
-          let e : raw_depth_among (places_of (r ∷ ps)) q ≡ raw_depth_among (places_of ps) q = among-after r q ps holds in
+          let e : raw_depth_among (places_of (r ∷ ps)) q ≡ raw_depth_among (places_of ps) q = among_after r q ps holds in
           omega arith
       | inr fails ↦
           let same : q ≡ r = same-true q r (here (same_place q r) (list_any (same_place q) ps) again fails) in
@@ -61,7 +61,7 @@ raw_depth-near p (q ∷ ps) =
           ap (raw_depth p) (places-again q ps holds) ∙ h ∙ elim (cases_Bool (share_line p q)) [
             | inl share ↦
                 let le : raw_depth_among (places_of ps) q ≤ near_max p ps = near_max-after p q ps share holds in
-                let e : cond (share_line p q) (raw_depth_among (places_of (q ∷ ps)) q) 0 ≡ raw_depth_among (places_of ps) q = cond-true (share_line p q) (raw_depth_among (places_of (q ∷ ps)) q) 0 share ∙ among-after q q ps holds in
+                let e : cond (share_line p q) (raw_depth_among (places_of (q ∷ ps)) q) 0 ≡ raw_depth_among (places_of ps) q = cond-true (share_line p q) (raw_depth_among (places_of (q ∷ ps)) q) 0 share ∙ among_after q q ps holds in
                 omega arith
             | inr apart ↦
                 let e : cond (share_line p q) (raw_depth_among (places_of (q ∷ ps)) q) 0 ≡ 0 = cond-false (share_line p q) (raw_depth_among (places_of (q ∷ ps)) q) 0 apart in
@@ -120,7 +120,7 @@ search-same p (suc k) deepest (q ∷ ps) own near again =
           let after : list_any (same_place p) ps ≡ true = there (same_place p q) (list_any (same_place p) ps) again other in
           cond-false (same_place p q) (raw_depth_among (places_of (q ∷ ps)) q)
           (search_from (max (raw_depth_among (places_of (q ∷ ps)) q) deepest) p (take k ps) (raw_depths ps)) other
-          ∙ search-same p k (max (raw_depth_among (places_of (q ∷ ps)) q) deepest) ps own near.1 after ∙ sym (among-after q p ps after)
+          ∙ search-same p k (max (raw_depth_among (places_of (q ∷ ps)) q) deepest) ps own near.1 after ∙ sym (among_after q p ps after)
     ]
   where
     there : (a b : Bool) → (a || b) ≡ true → a ≡ false → b ≡ true
@@ -151,7 +151,7 @@ pub search-is : (p : LongExtent) (k : ℕ) (ps : List LongExtent) → p.first �
     → search_from 0 p (take k ps) (raw_depths ps) ≡ raw_depth_among (places_of (p ∷ ps)) p
 search-is p k ps own near =
     elim (cases_Bool (list_any (same_place p) ps)) [
-      | inl again ↦ search-same p k 0 ps (and_from (leb p.first p.last) (leb p.first p.last) (le-leb p.first p.last own) (le-leb p.first p.last own)) near again ∙ sym (among-after p p ps again)
+      | inl again ↦ search-same p k 0 ps (and_from (leb p.first p.last) (leb p.first p.last) (le-leb p.first p.last own) (le-leb p.first p.last own)) near again ∙ sym (among_after p p ps again)
       | inr new ↦ search-new p k 0 ps near new ∙ omega (arith, raw_depth-near p ps) ∙ sym (among-new p ps new)
     ]
 

@@ -29,7 +29,7 @@ use Rattle.snippet_lines.specs.Place.{locations_of, place_of}
 use Rattle.snippet_lines.specs.Span.{IsSpan}
 use Rattle.snippet_parts.proofs.DepthLemmas.{depths-within}
 use Rattle.snippet_parts.proofs.RawDepthLemmas.{same-true}
-use Rattle.snippet_parts.proofs.KeptPartLemmas.{lines-ordered}
+use Rattle.snippet_parts.proofs.KeptPartLemmas.{lines_ordered}
 use Rattle.snippet_lines.proofs.LinesLemmas.{length-text_at-source}
 use Rattle.snippet_parts.proofs.MarkLemmas.{start-line, end-line, start_column-from, end_column-from, entry_of-line, eqb-shift}
 use Rattle.snippet_parts.proofs.PartLemmas.{HoldsOfSpan, IsBarLine, All-unmapped, bar-lines, filter-none, longs-all, made-all}
@@ -46,15 +46,15 @@ each-line Q s marks [] (info ∷ infos) same all = cc
 each-line Q s marks (k ∷ ks) (info ∷ infos) same all =
     let P = λ (k : ℕ). (info : AnnotatedLineInfo) → seen_kept info ≡ kept_line s marks k → Q info in
     All-cons Q info infos (All-head P k ks all info
-    (head-same (seen_kept info) (kept_line s marks k) (map seen_kept infos) (map (kept_line s marks) ks) same))
-    (each-line Q s marks ks infos (tail-same (seen_kept info) (kept_line s marks k) (map seen_kept infos) (map (kept_line s marks) ks) same)
+    (head_same (seen_kept info) (kept_line s marks k) (map seen_kept infos) (map (kept_line s marks) ks) same))
+    (each-line Q s marks ks infos (tail_same (seen_kept info) (kept_line s marks k) (map seen_kept infos) (map (kept_line s marks) ks) same)
     (All-tail P k ks all))
   where
-    head-same : (x y : KeptLine) (xs ys : List KeptLine) → x ∷ xs ≡ y ∷ ys → x ≡ y
-    head-same x y xs ys same = cc
+    head_same : (x y : KeptLine) (xs ys : List KeptLine) → x ∷ xs ≡ y ∷ ys → x ≡ y
+    head_same x y xs ys same = cc
 
-    tail-same : (x y : KeptLine) (xs ys : List KeptLine) → x ∷ xs ≡ y ∷ ys → xs ≡ ys
-    tail-same x y xs ys same = cc
+    tail_same : (x y : KeptLine) (xs ys : List KeptLine) → x ∷ xs ≡ y ∷ ys → xs ≡ ys
+    tail_same x y xs ys same = cc
 
 -- the entries of a line that is seen as line k
 pub entries-on : (s : Source) (marks : List Annotation) (k : ℕ) (info : AnnotatedLineInfo) → seen_kept info ≡ kept_line s marks k
@@ -234,7 +234,7 @@ longs-off s marks k spans untouched =
     long a among is kind =
         let first : (long_entry s a).start.line ≡ s.first + first_line s.text a = start-line s a.span.start a.span.end in
         let last : (long_entry s a).end.line ≡ s.first + last_line s.text a = end-line s a.span.start a.span.end in
-        let up : first_line s.text a ≤ last_line s.text a = lines-ordered s.text a (All-contains (λ a. IsSpan s.text a.span.start a.span.end) marks a spans among) in
+        let up : first_line s.text a ≤ last_line s.text a = lines_ordered s.text a (All-contains (λ a. IsSpan s.text a.span.start a.span.end) marks a spans among) in
         let from : ℕ = (long_entry s a).start.line - s.first in
         let to : ℕ = (long_entry s a).end.line - s.first in
         let end : eqb (long_entry s a).end.line (s.first + k) ≡ false = off a among is (long_entry s a).end.line (last_line s.text a) last up (omega arith) in

@@ -62,10 +62,10 @@ bars-are source first last u m closing from to bars is count =
 -- ---- bars that are pushed
 
 -- with one more bar the bars so far are those of the lines up to that one
-pub bars-more : (f : ℕ → PartEntry) (old now new : List LineAnnotation) (e : LineAnnotation) (a line : ℕ) → a ≤ line → new ≡ now ++ e ∷ []
+pub bars_more : (f : ℕ → PartEntry) (old now new : List LineAnnotation) (e : LineAnnotation) (a line : ℕ) → a ≤ line → new ≡ now ++ e ∷ []
     → seen_part e ≡ f line → map seen_part now ≡ map seen_part old ++ map f (range_with_len a (line - a))
     → map seen_part new ≡ map seen_part old ++ map f (range_with_len a ((line + 1) - a))
-bars-more f old now new e a line le pushed is before =
+bars_more f old now new e a line le pushed is before =
     let count : (line + 1) - a ≡ (line - a) + 1 = omega arith in
     ap (map seen_part) pushed ∙ map_push seen_part now e ∙ ap (λ ps. ps ++ seen_part e ∷ []) before ∙ ap (λ p. (map seen_part old ++ map f (range_with_len a (line - a))) ++ p ∷ []) is
     ∙ append_assoc (map seen_part old) (map f (range_with_len a (line - a))) (f line ∷ [])
@@ -211,15 +211,15 @@ any-filtered q p implied (x ∷ xs) =
       | inr f ↦ ap (list_any q) (cond-false (p x) (x ∷ filter p xs) (filter p xs) f) ∙ any-filtered q p implied xs ∙ ap (λ b. b || list_any q xs) (sym (false_from_ne_true (q x) (λ t. both_ways (p x) f (implied x t))))
     ]
 
-same-line : (x o : LongSpan) → same_place (long_place (seen_long x)) (long_place (seen_long o)) ≡ true → eqb o.start.line x.start.line ≡ true
-same-line x o same = eq-eqb o.start.line x.start.line (sym (ap (λ (p : LongExtent). p.first) (same-true (long_place (seen_long x)) (long_place (seen_long o)) same)))
+same_line : (x o : LongSpan) → same_place (long_place (seen_long x)) (long_place (seen_long o)) ≡ true → eqb o.start.line x.start.line ≡ true
+same_line x o same = eq-eqb o.start.line x.start.line (sym (ap (λ (p : LongExtent). p.first) (same-true (long_place (seen_long x)) (long_place (seen_long o)) same)))
 
 -- whether a place stands again is told by the spans that are near
 pub place-near : (x : LongSpan) (others near : List LongSpan) (b : Bool) → near ≡ filter (λ (o : LongSpan). eqb o.start.line x.start.line) others
     → b ≡ list_any (λ (o : LongSpan). same_place (long_place (seen_long x)) (long_place (seen_long o))) near
     → b ≡ list_any (λ (o : LongSpan). same_place (long_place (seen_long x)) (long_place (seen_long o))) others
 place-near x others near b is found =
-    found ∙ ap (list_any (λ (o : LongSpan). same_place (long_place (seen_long x)) (long_place (seen_long o)))) is ∙ any-filtered (λ (o : LongSpan). same_place (long_place (seen_long x)) (long_place (seen_long o))) (λ (o : LongSpan). eqb o.start.line x.start.line) (same-line x) others
+    found ∙ ap (list_any (λ (o : LongSpan). same_place (long_place (seen_long x)) (long_place (seen_long o)))) is ∙ any-filtered (λ (o : LongSpan). same_place (long_place (seen_long x)) (long_place (seen_long o))) (λ (o : LongSpan). eqb o.start.line x.start.line) (same_line x) others
 
 kind-other : (kind : AnnotationKind) → (kind ≡ Primary → ⊥) → is_primary kind ≡ false
 kind-other Primary other = absurd (other refl)
@@ -236,5 +236,5 @@ primary-near x others near b is found other =
     found ∙ ap (list_any (λ (o : LongSpan). is_primary o.kind && same_place (long_place (seen_long x)) (long_place (seen_long o)))) is
     ∙ any-filtered (λ (o : LongSpan). is_primary o.kind && same_place (long_place (seen_long x)) (long_place (seen_long o)))
     (λ (o : LongSpan). eqb o.start.line x.start.line)
-    (λ o both. same-line x o (and_parts (is_primary o.kind) (same_place (long_place (seen_long x)) (long_place (seen_long o))) both).1) others
+    (λ o both. same_line x o (and_parts (is_primary o.kind) (same_place (long_place (seen_long x)) (long_place (seen_long o))) both).1) others
     ∙ ap (λ p. p || list_any (λ (o : LongSpan). is_primary o.kind && same_place (long_place (seen_long x)) (long_place (seen_long o))) others) (sym (kind-other x.kind other))

@@ -42,14 +42,14 @@ covered-set reach s k v within is =
     plain true = refl
     plain false = refl
 
-    at-most : (xs : List ℕ) (f n : ℕ) → f < length xs → f < n → get_or xs f 0 ≤ greatest (take n xs)
-    at-most [] f n a b = absurd (omega arith)
-    at-most (x ∷ xs) f zero a b = absurd (omega arith)
-    at-most (x ∷ xs) zero (suc n) a b = omega (arith, greatest-cons x (take n xs))
-    at-most (x ∷ xs) (suc f) (suc n) a b = omega (arith, at-most xs f n (omega arith) (omega arith), greatest-cons x (take n xs))
+    at_most : (xs : List ℕ) (f n : ℕ) → f < length xs → f < n → get_or xs f 0 ≤ greatest (take n xs)
+    at_most [] f n a b = absurd (omega arith)
+    at_most (x ∷ xs) f zero a b = absurd (omega arith)
+    at_most (x ∷ xs) zero (suc n) a b = omega (arith, greatest-cons x (take n xs))
+    at_most (x ∷ xs) (suc f) (suc n) a b = omega (arith, at_most xs f n (omega arith) (omega arith), greatest-cons x (take n xs))
 
     old : s.first ≤ k → max (greatest (take (k + 1) reach)) v ≡ max (greatest (take (k + 1) reach)) (s.last + 1)
-    old after = omega (arith, at-most reach s.first (k + 1) within (omega arith))
+    old after = omega (arith, at_most reach s.first (k + 1) within (omega arith))
 
     both : (a k l : ℕ) → ltb k (max a (l + 1)) ≡ (ltb k a || leb k l)
     both a k l =
@@ -224,9 +224,9 @@ filter-more : (p : ℕ → Bool) (i : ℕ) → filter p (range_with_len 0 (i + 1
 filter-more p i = ap (filter p) (range-more i) ∙ filter-append p (range_with_len 0 i) (i ∷ [])
 
 -- one more line that passes a test, and one that doesn't
-pub line-kept : (p : ℕ → Bool) (i : ℕ) (now new : List ℕ) → p i ≡ true → new ≡ now ++ i ∷ [] → now ≡ filter p (range_with_len 0 i)
+pub line_kept : (p : ℕ → Bool) (i : ℕ) (now new : List ℕ) → p i ≡ true → new ≡ now ++ i ∷ [] → now ≡ filter p (range_with_len 0 i)
     → new ≡ filter p (range_with_len 0 (i + 1))
-line-kept p i now new passes pushed before =
+line_kept p i now new passes pushed before =
     pushed ∙ ap (λ ks. ks ++ i ∷ []) before ∙ sym (filter-more p i ∙ ap (λ b. filter p (range_with_len 0 i) ++ cond b (i ∷ []) []) passes)
 
 -- a line that doesn't pass leaves the list as it is

@@ -21,8 +21,8 @@ pub any-member : {X : Type 0} (p : X → Bool) (xs : List X) (x : X) → Contain
 any-member p xs x among passes = list_any_at p xs among.0 x among.1 (ap p among.2 ∙ passes)
 
 -- a span ends on its first line or below
-pub lines-ordered : (source : List ℕ) (a : Annotation) → IsSpan source a.span.start a.span.end → first_line source a ≤ last_line source a
-lines-ordered source a span = line_of-mono (source_lines source) a.span.start a.span.end (omega (arith, line_of-within source 0)) span.ordered
+pub lines_ordered : (source : List ℕ) (a : Annotation) → IsSpan source a.span.start a.span.end → first_line source a ≤ last_line source a
+lines_ordered source a span = line_of-mono (source_lines source) a.span.start a.span.end (omega (arith, line_of-within source 0)) span.ordered
 
 -- ---- lines that a span keeps
 
@@ -58,12 +58,12 @@ touched source a k from to = and_from (leb (first_line source a) k) (leb k (last
 -- the line on which a span starts is kept
 pub keeps-first : (source : List ℕ) (a : Annotation) (k : ℕ) → IsSpan source a.span.start a.span.end → k ≡ first_line source a → keeps source k a ≡ true
 keeps-first source a k span is =
-    first-of-four (eqb k (first_line source a)) (eqb k (last_line source a)) (not (is_marking a.kind)) (has_bar source a k) (touches source a k) (touched source a k (omega arith) (omega (arith, lines-ordered source a span))) (eq-eqb k (first_line source a) is)
+    first-of-four (eqb k (first_line source a)) (eqb k (last_line source a)) (not (is_marking a.kind)) (has_bar source a k) (touches source a k) (touched source a k (omega arith) (omega (arith, lines_ordered source a span))) (eq-eqb k (first_line source a) is)
 
 -- the line on which a span ends is kept
 pub keeps-last : (source : List ℕ) (a : Annotation) (k : ℕ) → IsSpan source a.span.start a.span.end → k ≡ last_line source a → keeps source k a ≡ true
 keeps-last source a k span is =
-    second-of-four (eqb k (first_line source a)) (eqb k (last_line source a)) (not (is_marking a.kind)) (has_bar source a k) (touches source a k) (touched source a k (omega (arith, lines-ordered source a span)) (omega arith)) (eq-eqb k (last_line source a) is)
+    second-of-four (eqb k (first_line source a)) (eqb k (last_line source a)) (not (is_marking a.kind)) (has_bar source a k) (touches source a k) (touched source a k (omega (arith, lines_ordered source a span)) (omega arith)) (eq-eqb k (last_line source a) is)
 
 -- an annotation that isn't marked keeps each line that it touches
 pub keeps-unmarked : (source : List ℕ) (a : Annotation) (k : ℕ) → not (is_marking a.kind) ≡ true → touches source a k ≡ true → keeps source k a ≡ true

@@ -50,8 +50,8 @@ seen_at a at = record { start = at.0; end = at.1; kind = a.kind; label = option_
 abbrev part_at : Annotation → Loc × Loc → PartEntry
 part_at a at = record { entry = record (seen_at a at) { end = widened at.0 at.1 }; part = Singleline }
 
-entry-is : (s : Source) (l : LocatedSpan) → IsLocated s l → span_entry l ≡ long_entry s l.annotation.now
-entry-is s l at = ap (seen_at l.annotation.now) at.locations
+entry_is : (s : Source) (l : LocatedSpan) → IsLocated s l → span_entry l ≡ long_entry s l.annotation.now
+entry_is s l at = ap (seen_at l.annotation.now) at.locations
 
 part-is : (s : Source) (l : LocatedSpan) → IsLocated s l → short_part l ≡ single_part s l.annotation.now
 part-is s l at = ap (part_at l.annotation.now) at.locations
@@ -78,7 +78,7 @@ short-parts s ls all = chosen (IsLocated s) (λ (l : LocatedSpan). l.annotation.
 -- spans of several lines, in their order
 pub long-are : (s : Source) (ls : List LocatedSpan) → All (IsLocated s) ls
     → ordered_by stands_before (map span_entry (filter is_long_span ls)) ≡ long_spans s (annotations_of ls)
-long-are s ls all = ap (ordered_by stands_before) (chosen (IsLocated s) (λ (l : LocatedSpan). l.annotation.now) is_long_span (is_long s.text) span_entry (long_entry s) (long-is s) (entry-is s) ls all)
+long-are s ls all = ap (ordered_by stands_before) (chosen (IsLocated s) (λ (l : LocatedSpan). l.annotation.now) is_long_span (is_long s.text) span_entry (long_entry s) (long-is s) (entry_is s) ls all)
 
 -- a span of several lines has room where what is seen of it has
 abbrev Fits : Source → Entry → Type 0
@@ -86,7 +86,7 @@ Fits s e = (l : LongSpan) → seen_long l ≡ e → HasFit s l
 
 fits : (s : Source) (x : LocatedSpan) → IsLocated s x → is_long_span x ≡ true → Fits s (span_entry x)
 fits s x at long l seen =
-    fit-long s x.annotation.now l at.span.ordered (seen ∙ entry-is s x at)
+    fit-long s x.annotation.now l at.span.ordered (seen ∙ entry_is s x at)
     (subst (λ (n : ℕ). n < 2 ^ 58) (sym (ap (λ (e : Entry). e.start.display) seen)) at.start_display)
     (omega (arith, ap (λ (e : Entry). e.end.display) seen, at.end_display))
     (omega (arith, ap (λ (e : Entry). e.start.char) seen, at.start_char)) (sym (long-is s x at) ∙ long)

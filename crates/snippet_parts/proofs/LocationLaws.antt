@@ -24,7 +24,7 @@ use Rattle.snippet_parts.specs.Location.{start_columns, primary_parts, all_parts
 use Rattle.snippet_parts.proofs.EntryFacts.{filter-filter, untouched-parts}
 use Rattle.snippet_parts.proofs.KeptPartLemmas.{any-member}
 use Rattle.snippet_parts.proofs.PartLemmas.{filter-none}
-use Rattle.snippet_parts.proofs.ShownFacts.{contains-cases, contains-filter, contains-here, contains-there, first-kept, kept-ascends}
+use Rattle.snippet_parts.proofs.ShownFacts.{contains-cases, contains-filter, contains-here, contains-there, first_kept, kept-ascends}
 use Rattle.snippet_parts.proofs.ShownLemmas.{filter-map}
 
 -- ---- lists
@@ -119,11 +119,11 @@ first-there place_on line_at k ks n place missing first = record {
   none = λ j found less. elim (contains-cases j k ks found) [ inl same ↦ ap (λ n. place_on (line_at n)) (sym same) ∙ missing | inr later ↦ first.none j later less ];
 }
 
-first-of : (place_on : KeptLine → Option Location) (line_at : ℕ → KeptLine) (ks : List ℕ) (some : ℕ) → Ascends ks → Contains ks some
+first_of : (place_on : KeptLine → Option Location) (line_at : ℕ → KeptLine) (ks : List ℕ) (some : ℕ) → Ascends ks → Contains ks some
     → is_some (place_on (line_at some)) ≡ true → (k : ℕ) × (place : Location) × IsFirst place_on line_at ks k place
-first-of place_on line_at [] some rises among has = absurd (omega (arith, among.1))
-first-of place_on line_at (k ∷ ks) some rises among has =
-    by (place_on (line_at k)) refl (λ later. first-of place_on line_at ks some (ascends-tail k ks rises) later has)
+first_of place_on line_at [] some rises among has = absurd (omega (arith, among.1))
+first_of place_on line_at (k ∷ ks) some rises among has =
+    by (place_on (line_at k)) refl (λ later. first_of place_on line_at ks some (ascends-tail k ks rises) later has)
   where
     later-ones : place_on (line_at k) ≡ None → Contains ks some
     later-ones missing =
@@ -221,9 +221,9 @@ named-by : (choice : List PartEntry → List PartEntry) (test : Annotation → B
 unfolding at-column starting
 named-by choice test fold s marks a spans chooses among passes =
     let ks : List ℕ = kept_lines fold s.text marks in
-    let kept-first : (b : Annotation) → Contains marks b → Contains ks (first_line s.text b) = λ b found. first-kept fold s.text marks b found (All-contains (λ a. IsSpan s.text a.span.start a.span.end) marks b spans found) in
+    let kept-first : (b : Annotation) → Contains marks b → Contains ks (first_line s.text b) = λ b found. first_kept fold s.text marks b found (All-contains (λ a. IsSpan s.text a.span.start a.span.end) marks b spans found) in
     let has : (b : Annotation) → Contains marks b → test b ≡ true → is_some (least_place choice (kept_line s marks (first_line s.text b))) ≡ true = λ b found passed. has-place choice test s marks (first_line s.text b) b chooses (starts-there test s marks (first_line s.text b) b found passed refl) in
-    let first = first-of (least_place choice) (kept_line s marks) ks (first_line s.text a) (kept-ascends fold s.text marks) (kept-first a among) (has a among passes) in
+    let first = first_of (least_place choice) (kept_line s marks) ks (first_line s.text a) (kept-ascends fold s.text marks) (kept-first a among) (has a among passes) in
     let k : ℕ = first.0 in
     let lowest = place-is choice test s marks k first.1 chooses first.2.has in
     let span : Annotation = lowest.0 in

@@ -29,14 +29,14 @@ turn place_on infos i x within is =
     at_drop_more (λ is. first_place place_on (map seen_kept is)) infos i x within ∙ ap (λ y. option_or (place_on (seen_kept y)) (place_from place_on infos (i + 1))) (sym is)
 
 -- after the last line there is none
-pub none-left : (place_on : KeptLine → Option Location) (infos : List AnnotatedLineInfo) (i : ℕ) → length infos ≤ i → place_from place_on infos i ≡ None
-none-left place_on infos i past = at_drop_all (λ is. first_place place_on (map seen_kept is)) infos i past
+pub none_left : (place_on : KeptLine → Option Location) (infos : List AnnotatedLineInfo) (i : ℕ) → length infos ≤ i → place_from place_on infos i ≡ None
+none_left place_on infos i past = at_drop_all (λ is. first_place place_on (map seen_kept is)) infos i past
 
 -- so the first place so far is the one asked for
-pub first-left : (place_on other_on : KeptLine → Option Location) (infos : List AnnotatedLineInfo) (i : ℕ) (first all : Option Location) → length infos ≤ i
+pub first_left : (place_on other_on : KeptLine → Option Location) (infos : List AnnotatedLineInfo) (i : ℕ) (first all : Option Location) → length infos ≤ i
     → option_or (place_from place_on infos i) (option_or first (place_from other_on infos i)) ≡ all → first ≡ all
-first-left place_on other_on infos i first all past before =
-    sym (ap (λ o. option_or o (option_or first (place_from other_on infos i))) (none-left place_on infos i past) ∙ ap (option_or first) (none-left other_on infos i past) ∙ alone first) ∙ before
+first_left place_on other_on infos i first all past before =
+    sym (ap (λ o. option_or o (option_or first (place_from other_on infos i))) (none_left place_on infos i past) ∙ ap (option_or first) (none_left other_on infos i past) ∙ alone first) ∙ before
   where
     alone : (o : Option Location) → option_or o None ≡ o
     alone None = refl

@@ -74,7 +74,7 @@ long_spans-is given sorted es is seen = ap (map seen_long) is ∙ map-ordered_by
 -- spans in their order are ordered by the lines on which they start
 pub long-ordered : (xs : List LongSpan) → IsSortedBy long_before xs → IsNonDecreasingBy (λ (l : LongSpan). l.start.line) xs
 long-ordered xs sorted i j d le within =
-    no-less (get_or xs j d).start.line (get_or xs i d).start.line (eqb (get_or xs j d).start.line (get_or xs i d).start.line && ltb (get_or xs i d).end.line (get_or xs j d).end.line) (sorted_far long_before long_before-order xs sorted i j d le within)
+    no_less (get_or xs j d).start.line (get_or xs i d).start.line (eqb (get_or xs j d).start.line (get_or xs i d).start.line && ltb (get_or xs i d).end.line (get_or xs j d).end.line) (sorted_far long_before long_before-order xs sorted i j d le within)
   where
-    no-less : (m n : ℕ) (b : Bool) → (ltb m n || b) ≡ false → n ≤ m
-    no-less m n b none = ltb-false m n (or_parts (ltb m n) b none).0
+    no_less : (m n : ℕ) (b : Bool) → (ltb m n || b) ≡ false → n ≤ m
+    no_less m n b none = ltb-false m n (or_parts (ltb m n) b none).0

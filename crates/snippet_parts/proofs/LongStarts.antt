@@ -48,8 +48,8 @@ pub record IsSeen (s : Source) (e : Entry) : Type 0 where
   pub later : e.start.line < e.end.line
 
 -- spans at the same place start at the same location
-pub same-start : (s : Source) (d e : Entry) → IsSeen s d → IsSeen s e → long_place d ≡ long_place e → d.start ≡ e.start
-same-start s d e seen other same = seen.start ∙ ap (λ (p : LongExtent). start_location s p.from) same ∙ sym other.start
+pub same_start : (s : Source) (d e : Entry) → IsSeen s d → IsSeen s e → long_place d ≡ long_place e → d.start ≡ e.start
+same_start s d e seen other same = seen.start ∙ ap (λ (p : LongExtent). start_location s p.from) same ∙ sym other.start
 
 -- ---- a span as it is drawn
 
@@ -194,7 +194,7 @@ drawn-as t choice s before e later seen here passes =
         | inl so ↦
             let d = any_cases (λ (d : Entry). is_primary d.kind && same_place (long_place e) (long_place d)) before (ap (λ b. b || list_any (λ (d : Entry). is_primary d.kind && same_place (long_place e) (long_place d)) before) (sym other) ∙ so) in
             let parts = and_parts (is_primary d.0.kind) (same_place (long_place e) (long_place d.0)) d.2 in
-            record { span = d.0; among = inl d.1; passes = primary-passes t choice d.0.kind parts.0; start = sym (same-start s e d.0 here (seen d.0 d.1) (same-true (long_place e) (long_place d.0) parts.1)) }
+            record { span = d.0; among = inl d.1; passes = primary-passes t choice d.0.kind parts.0; start = sym (same_start s e d.0 here (seen d.0 d.1) (same-true (long_place e) (long_place d.0) parts.1)) }
         | inr own ↦ record { span = e; among = inr (inl refl); passes = ap (λ (d : Entry). t d.kind) (sym (cond-false (is_promoted before e) (record e { kind = Primary }) e own)) ∙ passes; start = refl }
       ]
     ]

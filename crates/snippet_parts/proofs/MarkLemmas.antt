@@ -7,7 +7,7 @@ use Rattle.snippet_lines.specs.Lines.{Source, source_lines}
 use Rattle.snippet_lines.specs.Place.{line_of, location_of, place_of, start_location, end_location, locations_of}
 use Rattle.snippet_parts.specs.Marked.{first_line, last_line, entry_of}
 use Rattle.snippet_parts.specs.Mark.{is_marking, is_marked_on}
-use Rattle.snippet_lines.proofs.PlaceLemmas.{start_location-line, start_location-column, end_location-line, end_location-column}
+use Rattle.snippet_lines.proofs.PlaceLemmas.{start_location-line, start_location-column, end_location-line, end_location_column}
 
 -- ---- the locations of a span
 
@@ -26,7 +26,7 @@ unfolding locations_of
 end-column s start end one =
     cond_both (eqb start end) (start_location s start) (end_location s start end) (λ (l : Loc). l.display ≡ (place_of s.text end).column)
     (λ same. start_location-column s start ∙ ap (λ b. (place_of s.text b).column) (eqb-true start end same))
-    (λ _. end_location-column s start end one)
+    (λ _. end_location_column s start end one)
 
 -- the line on which a span starts is counted from the source's first number
 pub start-line : (s : Source) (start end : ℕ) → (locations_of s start end).0.line ≡ s.first + line_of (source_lines s.text) start

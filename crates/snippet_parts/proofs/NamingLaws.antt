@@ -29,23 +29,23 @@ use Rattle.snippet_parts.specs.Mark.{is_marking, is_single_line}
 use Rattle.snippet_parts.specs.Marked.{Entry, first_line, last_line}
 use Rattle.snippet_parts.specs.Least.{least}
 use Rattle.snippet_parts.proofs.AmongLemmas.{Among, all_among, among_filter, among_in_order, among_left, among_map, among_right, append_cases, filter_cases}
-use Rattle.snippet_parts.proofs.AmongLemmas.{in_order_cases, least_among, least_le, map_cases}
-use Rattle.snippet_parts.proofs.KeptPartLemmas.{lines-ordered}
+use Rattle.snippet_parts.proofs.AmongLemmas.{in_order_cases, least-among, least_le, map_cases}
+use Rattle.snippet_parts.proofs.KeptPartLemmas.{lines_ordered}
 use Rattle.snippet_parts.proofs.LocationLaws.{ascends-head, ascends-tail, first-none, least-first}
-use Rattle.snippet_parts.proofs.LongStarts.{IsBy, IsChoice, IsReached, IsSeen, StandsAt, by-same, reached, same-start, started}
+use Rattle.snippet_parts.proofs.LongStarts.{IsBy, IsChoice, IsReached, IsSeen, StandsAt, by-same, reached, same_start, started}
 use Rattle.snippet_parts.proofs.MarkLemmas.{end-line, start-line}
-use Rattle.snippet_parts.proofs.ShownFacts.{contains-cases, contains-here, contains-there, first-kept, kept-ascends}
+use Rattle.snippet_parts.proofs.ShownFacts.{contains-cases, contains-here, contains-there, first_kept, kept-ascends}
 
 -- ---- lists
 
-contains-among : {X : Type 0} (xs : List X) (x : X) → Contains xs x → Among xs x
-contains-among [] x among = absurd (omega (arith, among.1))
-contains-among (y ∷ xs) x among = elim (contains-cases x y xs among) [ inl same ↦ inl same | inr later ↦ inr (contains-among xs x later) ]
+contains_among : {X : Type 0} (xs : List X) (x : X) → Contains xs x → Among xs x
+contains_among [] x among = absurd (omega (arith, among.1))
+contains_among (y ∷ xs) x among = elim (contains-cases x y xs among) [ inl same ↦ inl same | inr later ↦ inr (contains_among xs x later) ]
 
-among-contains : {X : Type 0} (xs : List X) (x : X) → Among xs x → Contains xs x
-among-contains [] x among = absurd among
-among-contains (y ∷ xs) x (inl same) = contains-here x y xs same
-among-contains (y ∷ xs) x (inr later) = contains-there x y xs (among-contains xs x later)
+among_contains : {X : Type 0} (xs : List X) (x : X) → Among xs x → Contains xs x
+among_contains [] x among = absurd among
+among_contains (y ∷ xs) x (inl same) = contains-here x y xs same
+among_contains (y ∷ xs) x (inr later) = contains-there x y xs (among_contains xs x later)
 
 none-among : {X : Type 0} (xs : List X) → ((x : X) → Among xs x → ⊥) → xs ≡ []
 none-among [] none = refl
@@ -57,18 +57,18 @@ least-is [] n here low = absurd here
 least-is (m ∷ ns) n here low =
     let first : ℕ = option_map_or (λ k. min m k) (least ns) m in
     let down : first ≤ n = least_le (m ∷ ns) n here in
-    let up : n ≤ first = low first (least_among m ns) in
+    let up : n ≤ first = low first (least-among m ns) in
     let same : first ≡ n = omega (arith, down, up) in
     ap Some same
 
 -- the first line that has a place, where no line above has one
-first-is : (place_on : KeptLine → Option Location) (line_at : ℕ → KeptLine) (ks : List ℕ) (k : ℕ) (place : Location) → Ascends ks → Contains ks k
+first_is : (place_on : KeptLine → Option Location) (line_at : ℕ → KeptLine) (ks : List ℕ) (k : ℕ) (place : Location) → Ascends ks → Contains ks k
     → place_on (line_at k) ≡ Some place → ((j : ℕ) → j < k → place_on (line_at j) ≡ None) → first_place place_on (map line_at ks) ≡ Some place
-first-is place_on line_at [] k place rises among has none = absurd (omega (arith, among.1))
-first-is place_on line_at (j ∷ ks) k place rises among has none =
+first_is place_on line_at [] k place rises among has none = absurd (omega (arith, among.1))
+first_is place_on line_at (j ∷ ks) k place rises among has none =
     elim (contains-cases k j ks among) [
       | inl same ↦ ap (λ o. option_or o (first_place place_on (map line_at ks))) (ap (λ n. place_on (line_at n)) same ∙ has)
-      | inr later ↦ ap (λ o. option_or o (first_place place_on (map line_at ks))) (none j (ascends-head j ks k rises later)) ∙ first-is place_on line_at ks k place (ascends-tail j ks rises) later has none
+      | inr later ↦ ap (λ o. option_or o (first_place place_on (map line_at ks))) (none j (ascends-head j ks k rises later)) ∙ first_is place_on line_at ks k place (ascends-tail j ks rises) later has none
     ]
 
 -- ---- the places of bytes
@@ -109,13 +109,13 @@ steps-are source b k on = ap (λ n. step (ltb (start_of (source_lines source) n 
 -- a span that starts at an earlier byte starts at an earlier place, or at the same
 pub place-by : (s : Source) (a b : ℕ) → IsUtf8 s.text → IsSpanBorder s.text a → a ≤ b → IsBy (start_location s a) (start_location s b)
 place-by s a b utf8 border upto =
-    (omega (arith, start_location-line s a, start_location-line s b, line_of-mono ls a b (omega (arith, line_of-within s.text 0)) upto), λ same. on-line (omega (arith, same, start_location-line s a, start_location-line s b)))
+    (omega (arith, start_location-line s a, start_location-line s b, line_of-mono ls a b (omega (arith, line_of-within s.text 0)) upto), λ same. on_line (omega (arith, same, start_location-line s a, start_location-line s b)))
   where
     ls : List Line
     ls = source_lines s.text
 
-    on-line : line_of (source_lines s.text) a ≡ line_of (source_lines s.text) b → (start_location s a).char ≤ (start_location s b).char
-    on-line one =
+    on_line : line_of (source_lines s.text) a ≡ line_of (source_lines s.text) b → (start_location s a).char ≤ (start_location s b).char
+    on_line one =
         let ls : List Line = source_lines s.text in
         let k : ℕ = line_of ls a in
         let text : List ℕ = text_at ls k in
@@ -130,15 +130,15 @@ place-by s a b utf8 border upto =
 start-of-span : (s : Source) (a : Annotation) → (long_entry s a).start ≡ start_location s a.span.start
 start-of-span s a = locations_of-start s a.span.start a.span.end
 
-start-byte : (s : Source) (b : ℕ) → (start_location s b).byte ≡ b
+start_byte : (s : Source) (b : ℕ) → (start_location s b).byte ≡ b
 unfolding start_location location_of
-start-byte s b = refl
+start_byte s b = refl
 
 -- a span of several lines ends on a later line
 long-seen : (s : Source) (a : Annotation) → IsSpan s.text a.span.start a.span.end → is_long s.text a ≡ true → IsSeen s (long_entry s a)
 long-seen s a span long =
     record {
-      start = start-of-span s a ∙ ap (start_location s) (sym (ap (λ (l : Loc). l.byte) (start-of-span s a) ∙ start-byte s a.span.start));
+      start = start-of-span s a ∙ ap (start_location s) (sym (ap (λ (l : Loc). l.byte) (start-of-span s a) ∙ start_byte s a.span.start));
       later = omega (arith, start-line s a.span.start a.span.end, end-line s a.span.start a.span.end, apart (cases_eq (last_line s.text a) (first_line s.text a)));
     }
   where
@@ -150,7 +150,7 @@ long-seen s a span long =
     apart (inl same) = absurd (other (is_single_line s.text a) (and_parts (is_marking a.kind) (not (is_single_line s.text a)) long).1 (eq-eqb (last_line s.text a) (first_line s.text a) same))
     apart (inr differ) = elim (cases_lt (first_line s.text a) (last_line s.text a)) [
       | inl less ↦ less
-      | inr upto ↦ absurd (differ (omega (arith, lines-ordered s.text a span, upto)))
+      | inr upto ↦ absurd (differ (omega (arith, lines_ordered s.text a span, upto)))
     ]
 
 -- the span of which an entry of several lines is
@@ -166,9 +166,9 @@ of-span s marks e among =
     let span = filter_cases (is_long s.text) marks given.0 given.1 in
     record { span = given.0; among = span.0; long = span.1; is = given.2 }
 
-all-seen : (s : Source) (marks : List Annotation) → ((a : Annotation) → Among marks a → IsSpan s.text a.span.start a.span.end) → (e : Entry)
+all_seen : (s : Source) (marks : List Annotation) → ((a : Annotation) → Among marks a → IsSpan s.text a.span.start a.span.end) → (e : Entry)
     → Among (long_spans s marks) e → IsSeen s e
-all-seen s marks spans e among =
+all_seen s marks spans e among =
     let of = of-span s marks e among in
     subst (IsSeen s) of.is (long-seen s of.span (spans of.span of.among) of.long)
 
@@ -193,7 +193,7 @@ marked-started t choice s marks spans a among marked passes =
             part = one.stands.part;
             among = among_right singles longs one.stands.part one.stands.among;
             passes = one.stands.passes;
-            at_is = one.stands.at_is ∙ same-start s one.span e (all-seen s marks spans one.span one.among) (all-seen s marks spans e there) one.same ∙ start-of-span s a;
+            at_is = one.stands.at_is ∙ same_start s one.span e (all_seen s marks spans one.span one.among) (all_seen s marks spans e there) one.same ∙ start-of-span s a;
           }
     ]
   where
@@ -228,7 +228,7 @@ part-after t choice s marks spans p among passes =
           }
       | inr several ↦ long (all_among (λ p. t p.entry.kind ≡ true → IsReached t [] (long_spans s marks) p)
           (long_parts s (long_places s marks) [] (long_spans s marks))
-          p (reached t choice s (long_places s marks) [] (long_spans s marks) (λ d none. absurd none) (all-seen s marks spans)) several passes)
+          p (reached t choice s (long_places s marks) [] (long_spans s marks) (λ d none. absurd none) (all_seen s marks spans)) several passes)
     ]
   where
     from : (e : Entry) → Among (long_spans s marks) e → t e.kind ≡ true → IsBy e.start p.entry.start → IsAfterStart t s marks p
@@ -260,9 +260,9 @@ record IsFirstStart (t : AnnotationKind → Bool) (s : Source) (marks : List Ann
       → IsBy (start_location s a.span.start) (start_location s b.span.start)
 
 -- the entries of a choice on a line, one by one
-on-line : (t : AnnotationKind → Bool) (s : Source) (marks : List Annotation) (k : ℕ) (p : PartEntry) → Among (chosen t (parts_on s marks k)) p
+on_line : (t : AnnotationKind → Bool) (s : Source) (marks : List Annotation) (k : ℕ) (p : PartEntry) → Among (chosen t (parts_on s marks k)) p
     → Among (made_parts s marks) p × (p.entry.start.line ≡ s.first + k) × (t p.entry.kind ≡ true)
-on-line t s marks k p among =
+on_line t s marks k p among =
     let outer = filter_cases (λ (q : PartEntry). t q.entry.kind) (parts_on s marks k) p among in
     let inner = filter_cases (λ (q : PartEntry). eqb q.entry.start.line (s.first + k)) (made_parts s marks) p outer.0 in
     (inner.0, eqb-true p.entry.start.line (s.first + k) inner.1, outer.1)
@@ -273,7 +273,7 @@ none-above : (t : AnnotationKind → Bool) → IsChoice t → (s : Source) (mark
     → j < first_line s.text a → chosen t (parts_on s marks j) ≡ []
 none-above t choice s marks spans a least j above =
     none-among (chosen t (parts_on s marks j)) (λ p among.
-    let on = on-line t s marks j p among in
+    let on = on_line t s marks j p among in
     let after = part-after t choice s marks spans p on.0 on.2 in
     omega (arith, above, on.1, after.by.0, (least.first after.span after.among after.marked after.passes).0, start_location-line s a.span.start))
 
@@ -303,7 +303,7 @@ least-there t choice s marks spans a least-start =
     low : (m : ℕ) → Among (start_columns (chosen t (parts_on s marks (first_line s.text a)))) m → (start_location s a.span.start).char + 1 ≤ m
     low m among =
         let p = map_cases (λ (q : PartEntry). q.entry.start.char + 1) (chosen t (parts_on s marks (first_line s.text a))) m among in
-        let on = on-line t s marks (first_line s.text a) p.0 p.1 in
+        let on = on_line t s marks (first_line s.text a) p.0 p.1 in
         let after = part-after t choice s marks spans p.0 on.0 on.2 in
         let before = least-start.first after.span after.among after.marked after.passes in
         let line : (start_location s a.span.start).line ≡ s.first + first_line s.text a = start_location-line s a.span.start in
@@ -316,18 +316,18 @@ first-start : (t : AnnotationKind → Bool) → IsChoice t → (fold : Bool) (s 
     → ((a : Annotation) → Among marks a → IsSpan s.text a.span.start a.span.end) → (a : Annotation) → IsFirstStart t s marks a
     → first_place (least_place (chosen t)) (annotated_lines fold s marks) ≡ Some (place_at s a.span.start)
 first-start t choice fold s marks spans a first =
-    first-is (least_place (chosen t)) (kept_line s marks) (kept_lines fold s.text marks) (first_line s.text a) (place_at s a.span.start) (kept-ascends fold s.text marks) (first-kept fold s.text marks a (among-contains marks a first.among) (spans a first.among))
+    first_is (least_place (chosen t)) (kept_line s marks) (kept_lines fold s.text marks) (first_line s.text a) (place_at s a.span.start) (kept-ascends fold s.text marks) (first_kept fold s.text marks a (among_contains marks a first.among) (spans a first.among))
     (ap (option_map (λ column. record { line = s.first + first_line s.text a; column = Some column })) (least-there t choice s marks spans a first) ∙ ap (λ n. Some (record { line = n; column = Some ((start_location s a.span.start).char + 1) })) (sym (start_location-line s a.span.start)))
     (λ j above. ap (λ ps. option_map (λ column. record { line = s.first + j; column = Some column }) (least (start_columns ps))) (none-above t choice s marks spans a first j above))
 
 -- where no span of the choice is marked, no line has a place
-no-start : (t : AnnotationKind → Bool) → IsChoice t → (fold : Bool) (s : Source) (marks : List Annotation)
+no_start : (t : AnnotationKind → Bool) → IsChoice t → (fold : Bool) (s : Source) (marks : List Annotation)
     → ((a : Annotation) → Among marks a → IsSpan s.text a.span.start a.span.end)
     → ((a : Annotation) → Among marks a → is_marking a.kind ≡ true → t a.kind ≡ true → ⊥)
     → first_place (least_place (chosen t)) (annotated_lines fold s marks) ≡ None
-no-start t choice fold s marks spans none =
+no_start t choice fold s marks spans none =
     first-none (least_place (chosen t)) (kept_line s marks) (kept_lines fold s.text marks) (λ k. ap (λ ps. option_map (λ column. record { line = s.first + k; column = Some column }) (least (start_columns ps))) (none-among (chosen t (parts_on s marks k)) (λ p among.
-    let on = on-line t s marks k p among in
+    let on = on_line t s marks k p among in
     let after = part-after t choice s marks spans p on.0 on.2 in
     none after.span after.among after.marked after.passes)))
 
@@ -354,12 +354,12 @@ start-named test t is choice fold s marks utf8 spans = by (filter test marks) re
         → first_place (least_place (chosen t)) (annotated_lines fold s marks) ≡ option_map (place_at s) (least (map (λ (a : Annotation). a.span.start) (filter test marks)))
     found a others are =
         let low = least-first (λ (a : Annotation). a.span.start) a others in
-        let given = filter_cases test marks low.0 (subst (λ xs. Among xs low.0) (sym are) (contains-among (a ∷ others) low.0 low.1.among)) in
+        let given = filter_cases test marks low.0 (subst (λ xs. Among xs low.0) (sym are) (contains_among (a ∷ others) low.0 low.1.among)) in
         let first : IsFirstStart t s marks low.0 = record {
           among = given.0;
           marked = is.marked low.0 given.1;
           passes = is.passes low.0 given.1;
-          first = λ b among marked passes. place-by s low.0.span.start b.span.start utf8 (spans low.0 given.0).from (low.1.lowest b (among-contains (a ∷ others) b (subst (λ xs. Among xs b) are (among_filter test marks b among (is.all b marked passes)))));
+          first = λ b among marked passes. place-by s low.0.span.start b.span.start utf8 (spans low.0 given.0).from (low.1.lowest b (among_contains (a ∷ others) b (subst (λ xs. Among xs b) are (among_filter test marks b among (is.all b marked passes)))));
         } in
         first-start t choice fold s marks spans low.0 first
         ∙ sym (ap (λ xs. option_map (place_at s) (least (map (λ (a : Annotation). a.span.start) xs))) are ∙ ap (option_map (place_at s)) low.1.is)
@@ -367,7 +367,7 @@ start-named test t is choice fold s marks utf8 spans = by (filter test marks) re
     by : (xs : List Annotation) → filter test marks ≡ xs
         → first_place (least_place (chosen t)) (annotated_lines fold s marks) ≡ option_map (place_at s) (least (map (λ (a : Annotation). a.span.start) (filter test marks)))
     by [] are =
-        no-start t choice fold s marks spans (λ a among marked passes. subst (λ xs. Among xs a) are (among_filter test marks a among (is.all a marked passes)))
+        no_start t choice fold s marks spans (λ a among marked passes. subst (λ xs. Among xs a) are (among_filter test marks a among (is.all a marked passes)))
         ∙ sym (ap (λ xs. option_map (place_at s) (least (map (λ (a : Annotation). a.span.start) xs))) are)
     by (a ∷ others) are = found a others are
 
@@ -427,7 +427,7 @@ start-border test source marks spans = by (filter test marks) refl
     by [] are = subst (λ xs. IfSome (least (map (λ (a : Annotation). a.span.start) xs)) (λ b. IsSpan source b b)) (sym are) tt
     by (a ∷ others) are =
         let low = least-first (λ (b : Annotation). b.span.start) a others in
-        let given = filter_cases test marks low.0 (subst (λ xs. Among xs low.0) (sym are) (contains-among (a ∷ others) low.0 low.1.among)) in
+        let given = filter_cases test marks low.0 (subst (λ xs. Among xs low.0) (sym are) (contains_among (a ∷ others) low.0 low.1.among)) in
         subst (λ xs. IfSome (least (map (λ (b : Annotation). b.span.start) xs)) (λ b. IsSpan source b b)) (sym are) (subst (λ o. IfSome o (λ b. IsSpan source b b)) (sym low.1.is) (empty low.0 (spans low.0 given.0)))
 
 -- the start that names a snippet is a border of characters

@@ -32,7 +32,7 @@ use Rattle.snippet_parts.proofs.EntryFacts.{each-line, entries-on, longs-off, si
 use Rattle.snippet_parts.proofs.KeptPartLemmas.{any-member, keeps-unmarked}
 use Rattle.snippet_parts.proofs.MarkLemmas.{start-line, end-line}
 use Rattle.snippet_parts.proofs.PartLemmas.{All-order}
-use Rattle.snippet_parts.proofs.ShownFacts.{contains-cases, contains-filter, contains-here, contains-there, first-kept, last-kept, span-kept, kept-ascends}
+use Rattle.snippet_parts.proofs.ShownFacts.{contains-cases, contains-filter, contains-here, contains-there, first_kept, last_kept, span-kept, kept-ascends}
 use Rattle.snippet_lines.proofs.PlaceLemmas.{line_of-within}
 use Rattle.snippet_parts.proofs.StartByte.{start_byte as start-byte}
 use Rattle.snippet_parts.proofs.LongStarts.{promoted-start, promoted-end}
@@ -71,9 +71,9 @@ contains-order before z (x ∷ xs) among =
     ]
 
 -- each span of several lines stands in their order
-long-among : (s : Source) (marks : List Annotation) (a : Annotation) → Contains marks a → is_long s.text a ≡ true
+long_among : (s : Source) (marks : List Annotation) (a : Annotation) → Contains marks a → is_long s.text a ≡ true
     → Contains (long_spans s marks) (long_entry s a)
-long-among s marks a among long =
+long_among s marks a among long =
     contains-order stands_before (long_entry s a) (map (long_entry s) (filter (is_long s.text) marks)) (contains-map (long_entry s) a (filter (is_long s.text) marks) (contains-filter (is_long s.text) a marks long among))
 
 -- ---- places
@@ -95,11 +95,11 @@ long-placed s a = record {
 }
 
 -- spans of one place start and end at the same locations
-same-start : (s : Source) (d e : Entry) → IsPlaced s d → IsPlaced s e → long_place d ≡ long_place e → d.start ≡ e.start
-same-start s d e dp ep same = dp.start ∙ ap (λ (p : LongExtent). (locations_of s p.from p.to).0) same ∙ sym ep.start
+same_start : (s : Source) (d e : Entry) → IsPlaced s d → IsPlaced s e → long_place d ≡ long_place e → d.start ≡ e.start
+same_start s d e dp ep same = dp.start ∙ ap (λ (p : LongExtent). (locations_of s p.from p.to).0) same ∙ sym ep.start
 
-same-end : (s : Source) (d e : Entry) → IsPlaced s d → IsPlaced s e → long_place d ≡ long_place e → d.end ≡ e.end
-same-end s d e dp ep same = dp.end ∙ ap (λ (p : LongExtent). (locations_of s p.from p.to).1) same ∙ sym ep.end
+same_end : (s : Source) (d e : Entry) → IsPlaced s d → IsPlaced s e → long_place d ≡ long_place e → d.end ≡ e.end
+same_end s d e dp ep same = dp.end ∙ ap (λ (p : LongExtent). (locations_of s p.from p.to).1) same ∙ sym ep.end
 
 -- ---- the entries of one span
 
@@ -181,8 +181,8 @@ bounds-among s places before (d ∷ later) e all placed among =
           let last : again ≡ false = ap (λ p. list_any (λ c. same_place p (long_place c)) later) (sym same) ∙ f in
           let here : HasBounds (promoted before d).start (promoted before d).end depth own = span-bounds s depth again (promoted before d) last in
           let d-placed : IsPlaced s d = All-head (IsPlaced s) d later all in
-          let start : (promoted before d).start ≡ e.start = promoted-start before d ∙ same-start s d e d-placed placed (sym same) in
-          let end : (promoted before d).end ≡ e.end = promoted-end before d ∙ same-end s d e d-placed placed (sym same) in
+          let start : (promoted before d).start ≡ e.start = promoted-start before d ∙ same_start s d e d-placed placed (sym same) in
+          let end : (promoted before d).end ≡ e.end = promoted-end before d ∙ same_end s d e d-placed placed (sym same) in
           let deep : depth ≡ depth_among places (long_place e) = ap (depth_among places) (sym same) in
           record {
             begun = (here.begun.0, Contains-append_left own rest here.begun.0 here.begun.1, record { start_is = here.begun.2.start_is ∙ start; part = here.begun.2.part ∙ ap MultilineStart deep });
@@ -241,7 +241,7 @@ parts-on-line s marks k spans = record {
       let found : HasBounds (long_entry s a).start (long_entry s a).end (depth_of s marks a) (all-longs s marks) = bounds a among long in
       (found.closed.0, others-among s marks k (last_line s.text a) found.closed.0 found.closed.1 (found.closed.2.line ∙ end-line s a.span.start a.span.end) here, record { end = found.closed.2.end_is; part = found.closed.2.part });
   labelled = λ a among long here.
-      let found : (p : PartEntry) × Contains (all-longs s marks) p × SaysOf (long_entry s a) (depth_of s marks a) p = says-among s (long_places s marks) [] (long_spans s marks) (long_entry s a) (long-among s marks a among long) in
+      let found : (p : PartEntry) × Contains (all-longs s marks) p × SaysOf (long_entry s a) (depth_of s marks a) p = says-among s (long_places s marks) [] (long_spans s marks) (long_entry s a) (long_among s marks a among long) in
       (found.0, others-among s marks k (last_line s.text a) found.0 found.1 (found.2.line ∙ end-line s a.span.start a.span.end) here, record { end = found.2.end_is; label = found.2.label; part = found.2.part });
 }
   where
@@ -253,7 +253,7 @@ parts-on-line s marks k spans = record {
         → HasBounds (long_entry s a).start (long_entry s a).end (depth_of s marks a) (all-longs s marks)
     bounds a among long =
         let e : Entry = long_entry s a in
-        bounds-among s (long_places s marks) [] (long_spans s marks) e all-placed (long-placed s a) (any-member (λ d. same_place (long_place e) (long_place d)) (long_spans s marks) e (long-among s marks a among long) (same-refl (long_place e)))
+        bounds-among s (long_places s marks) [] (long_spans s marks) e all-placed (long-placed s a) (any-member (λ d. same_place (long_place e) (long_place d)) (long_spans s marks) e (long_among s marks a among long) (same-refl (long_place e)))
 
 -- ---- the lines by what is seen of them
 
@@ -290,12 +290,12 @@ module _ (fold : Bool) (s : Source) (marks : List Annotation) (infos : List Anno
     -- the line on which a span begins is kept,
     pub first-line-among : (a : Annotation) → Contains marks a → Contains (numbers_of_lines infos) (s.first + first_line s.text a)
     first-line-among a among =
-        number-among (first_line s.text a) (first-kept fold s.text marks a among (All-contains (λ a. IsSpan s.text a.span.start a.span.end) marks a spans among))
+        number-among (first_line s.text a) (first_kept fold s.text marks a among (All-contains (λ a. IsSpan s.text a.span.start a.span.end) marks a spans among))
 
     -- the one on which it ends,
     pub last-line-among : (a : Annotation) → Contains marks a → Contains (numbers_of_lines infos) (s.first + last_line s.text a)
     last-line-among a among =
-        number-among (last_line s.text a) (last-kept fold s.text marks a among (All-contains (λ a. IsSpan s.text a.span.start a.span.end) marks a spans among))
+        number-among (last_line s.text a) (last_kept fold s.text marks a among (All-contains (λ a. IsSpan s.text a.span.start a.span.end) marks a spans among))
 
     -- and each that a span touches which isn't marked
     pub seen-line-among : (a : Annotation) → Contains marks a → (k : ℕ) → is_seen s.text k a ≡ true → Contains (numbers_of_lines infos) (s.first + k)

@@ -92,9 +92,9 @@ span-all P s depth false e holds =
     (All-cons P (end_part e (MultilineEnd depth)) [] holds.end (All-nil P)))
 
 -- a span as it is drawn has another kind at most
-drawn-all : (P : PartEntry → Type 0) (s : Source) (depth : ℕ) (before : List Entry) (e : Entry)
+drawn_all : (P : PartEntry → Type 0) (s : Source) (depth : ℕ) (before : List Entry) (e : Entry)
     → ((kind : AnnotationKind) → HoldsOfSpan P s depth (record e { kind = kind })) → HoldsOfSpan P s depth (promoted before e)
-drawn-all P s depth before e holds =
+drawn_all P s depth before e holds =
     cond_both (is_promoted before e) (record e { kind = Primary }) e (HoldsOfSpan P s depth) (λ _. holds Primary) (λ _. holds e.kind)
 
 long-all : (P : PartEntry → Type 0) (s : Source) (places : List LongExtent) (before es : List Entry)
@@ -106,7 +106,7 @@ long-all P s places before (e ∷ later) all =
     All-append P (span_parts s (depth_among places (long_place e)) (list_any (λ d. same_place (long_place e) (long_place d)) later)
     (promoted before e)) (long_parts s places (before ++ e ∷ []) later)
     (span-all P s (depth_among places (long_place e)) (list_any (λ d. same_place (long_place e) (long_place d)) later) (promoted before e)
-    (drawn-all P s (depth_among places (long_place e)) before e (All-head Q e later all)))
+    (drawn_all P s (depth_among places (long_place e)) before e (All-head Q e later all)))
     (long-all P s places (before ++ e ∷ []) later (All-tail Q e later all))
 
 -- what holds of the entries of each span of several lines holds of those of all of them

@@ -26,9 +26,9 @@ location-column : (s : Source) (b : ℕ) → (location_of s b).display ≤ 4 * l
 unfolding location_of
 location-column s b = place-column s.text b
 
-end-location-column : (s : Source) (start end : ℕ) → (end_location s start end).display ≤ 4 * length s.text + 1
+end_location_column : (s : Source) (start end : ℕ) → (end_location s start end).display ≤ 4 * length s.text + 1
 unfolding end_location
-end-location-column s start end =
+end_location_column s start end =
     let more : ℕ = cond (eqb (location_of s start).line (location_of s end).line) 0 (steps_after_text s.text end) in
     let one : more ≤ 1 = cond_both (eqb (location_of s start).line (location_of s end).line) 0 (steps_after_text s.text end) (λ n. n ≤ 1) (λ _. omega arith) (λ _. steps-bound s.text end) in
     omega (arith, location-column s end, one)
@@ -42,7 +42,7 @@ start-column-bound s start end = omega (arith, start_location-column s start, pl
 pub end-column-bound : (s : Source) (start end : ℕ) → (locations_of s start end).1.display ≤ 4 * length s.text + 1
 unfolding locations_of
 end-column-bound s start end =
-    cond_both (eqb start end) (start_location s start) (end_location s start end) (λ (l : Loc). l.display ≤ 4 * length s.text + 1) (λ _. omega (arith, start_location-column s start, place-column s.text start)) (λ _. end-location-column s start end)
+    cond_both (eqb start end) (start_location s start) (end_location s start end) (λ (l : Loc). l.display ≤ 4 * length s.text + 1) (λ _. omega (arith, start_location-column s start, place-column s.text start)) (λ _. end_location_column s start end)
 
 -- ---- characters
 

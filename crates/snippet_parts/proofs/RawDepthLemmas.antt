@@ -43,9 +43,9 @@ among-past : (p q : LongExtent) (later : List LongExtent) → same_place p q ≡
 among-past p q later fails = cond-false (same_place p q) (raw_depth q later) (raw_depth_among later p) fails
 
 -- a place that stands again has the depth that it has there
-pub among-after : (q p : LongExtent) (ps : List LongExtent) → list_any (same_place p) ps ≡ true
+pub among_after : (q p : LongExtent) (ps : List LongExtent) → list_any (same_place p) ps ≡ true
     → raw_depth_among (places_of (q ∷ ps)) p ≡ raw_depth_among (places_of ps) p
-among-after q p ps again =
+among_after q p ps again =
     elim (cases_Bool (list_any (same_place q) ps)) [
       | inl holds ↦ ap (λ qs. raw_depth_among qs p) (places-again q ps holds)
       | inr fails ↦ ap (λ qs. raw_depth_among qs p) (places-new q ps fails) ∙ among-past p q (places_of ps) (false_from_ne_true (same_place p q) (λ same. both_ways (list_any (same_place q) ps) fails (subst (λ (r : LongExtent). list_any (same_place r) ps ≡ true) (same-true p q same) again)))
@@ -121,7 +121,7 @@ any-at (p ∷ ps) (suc k) d within = or_right (same_place (get_or ps k d) p) (li
 pub raw_depths-are : (ps : List LongExtent) → raw_depths ps ≡ map (raw_depth_among (places_of ps)) ps
 raw_depths-are [] = refl
 raw_depths-are (p ∷ ps) =
-    ap (λ ns. raw_depth_among (places_of (p ∷ ps)) p ∷ ns) (raw_depths-are ps ∙ map-agree (raw_depth_among (places_of ps)) (raw_depth_among (places_of (p ∷ ps))) ps (λ k d within. sym (among-after p (get_or ps k d) ps (any-at ps k d within))))
+    ap (λ ns. raw_depth_among (places_of (p ∷ ps)) p ∷ ns) (raw_depths-are ps ∙ map-agree (raw_depth_among (places_of ps)) (raw_depth_among (places_of (p ∷ ps))) ps (λ k d within. sym (among_after p (get_or ps k d) ps (any-at ps k d within))))
 
 -- each place has a raw depth
 pub length-raw_depths : (ps : List LongExtent) → length (raw_depths ps) ≡ length ps

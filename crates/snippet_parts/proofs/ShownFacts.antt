@@ -145,23 +145,23 @@ span-kept fold source marks a k among within kept =
     (contains-range 0 (length (source_lines source)) k (omega arith) (omega arith))
 
 -- the first and the last line of each span are kept
-pub first-kept : (fold : Bool) (source : List ℕ) (marks : List Annotation) (a : Annotation) → Contains marks a → IsSpan source a.span.start a.span.end
+pub first_kept : (fold : Bool) (source : List ℕ) (marks : List Annotation) (a : Annotation) → Contains marks a → IsSpan source a.span.start a.span.end
     → Contains (kept_lines fold source marks) (first_line source a)
-first-kept fold source marks a among span =
+first_kept fold source marks a among span =
     span-kept fold source marks a (first_line source a) among (line_of-within source a.span.start) (keeps-first source a (first_line source a) span refl)
 
 -- the line on which a span ends is kept
-pub last-kept : (fold : Bool) (source : List ℕ) (marks : List Annotation) (a : Annotation) → Contains marks a → IsSpan source a.span.start a.span.end
+pub last_kept : (fold : Bool) (source : List ℕ) (marks : List Annotation) (a : Annotation) → Contains marks a → IsSpan source a.span.start a.span.end
     → Contains (kept_lines fold source marks) (last_line source a)
-last-kept fold source marks a among span =
+last_kept fold source marks a among span =
     span-kept fold source marks a (last_line source a) among (line_of-within source a.span.end) (keeps-last source a (last_line source a) span refl)
 
 -- so they are shown
 pub first-shown : (fold : Bool) (source : List ℕ) (marks : List Annotation) (a : Annotation) → Contains marks a → IsSpan source a.span.start a.span.end
     → Contains (shown_lines fold source marks) (first_line source a)
-first-shown fold source marks a among span = kept-shown fold source marks (first_line source a) (first-kept fold source marks a among span)
+first-shown fold source marks a among span = kept-shown fold source marks (first_line source a) (first_kept fold source marks a among span)
 
 -- the line on which a span ends is shown
 pub last-shown : (fold : Bool) (source : List ℕ) (marks : List Annotation) (a : Annotation) → Contains marks a → IsSpan source a.span.start a.span.end
     → Contains (shown_lines fold source marks) (last_line source a)
-last-shown fold source marks a among span = kept-shown fold source marks (last_line source a) (last-kept fold source marks a among span)
+last-shown fold source marks a among span = kept-shown fold source marks (last_line source a) (last_kept fold source marks a among span)

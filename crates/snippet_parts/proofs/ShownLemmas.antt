@@ -35,22 +35,22 @@ filter-map p f (x ∷ xs) =
 -- ---- entries of a line in a sorted list
 
 -- the entries between those above a line and those below it are those of the line
-pub on-line : {X : Type 0} (line : X → ℕ) (xs : List X) (n from to m : ℕ) → to ≡ from + m
+pub on_line : {X : Type 0} (line : X → ℕ) (xs : List X) (n from to m : ℕ) → to ≡ from + m
     → ((j : ℕ) (d : X) → j < from → j < length xs → line (get_or xs j d) < n)
     → ((j : ℕ) (d : X) → from ≤ j → j < length xs → n ≤ line (get_or xs j d)) → ((j : ℕ) (d : X) → j < to → j < length xs → line (get_or xs j d) ≤ n)
     → ((j : ℕ) (d : X) → to ≤ j → j < length xs → n < line (get_or xs j d)) → take m (drop from xs) ≡ filter (λ e. eqb (line e) n) xs
-on-line line [] n zero to zero is below from' upto after = refl
-on-line line [] n zero to (suc m) is below from' upto after = refl
-on-line line [] n (suc from) to zero is below from' upto after = refl
-on-line line [] n (suc from) to (suc m) is below from' upto after = refl
-on-line line (x ∷ xs) n (suc from) to m is below from' upto after =
-    on-line line xs n from (to - 1) m (omega arith) (λ j d a b. below (suc j) d (omega arith) (omega arith)) (λ j d a b. from' (suc j) d (omega arith) (omega arith)) (λ j d a b. upto (suc j) d (omega arith) (omega arith)) (λ j d a b. after (suc j) d (omega arith) (omega arith))
+on_line line [] n zero to zero is below from' upto after = refl
+on_line line [] n zero to (suc m) is below from' upto after = refl
+on_line line [] n (suc from) to zero is below from' upto after = refl
+on_line line [] n (suc from) to (suc m) is below from' upto after = refl
+on_line line (x ∷ xs) n (suc from) to m is below from' upto after =
+    on_line line xs n from (to - 1) m (omega arith) (λ j d a b. below (suc j) d (omega arith) (omega arith)) (λ j d a b. from' (suc j) d (omega arith) (omega arith)) (λ j d a b. upto (suc j) d (omega arith) (omega arith)) (λ j d a b. after (suc j) d (omega arith) (omega arith))
     ∙ sym (cond-false (eqb (line x) n) (x ∷ filter (λ e. eqb (line e) n) xs) (filter (λ e. eqb (line e) n) xs) (ne_eqb (line x) n (λ same. absurd (omega (arith, same, below 0 x (omega arith) (omega arith))))))
-on-line line (x ∷ xs) n zero to (suc m) is below from' upto after =
-    ap (λ ys. x ∷ ys) (on-line line xs n zero (to - 1) m (omega arith) (λ j d a b. absurd (omega arith)) (λ j d a b. from' (suc j) d (omega arith) (omega arith)) (λ j d a b. upto (suc j) d (omega arith) (omega arith)) (λ j d a b. after (suc j) d (omega arith) (omega arith)))
+on_line line (x ∷ xs) n zero to (suc m) is below from' upto after =
+    ap (λ ys. x ∷ ys) (on_line line xs n zero (to - 1) m (omega arith) (λ j d a b. absurd (omega arith)) (λ j d a b. from' (suc j) d (omega arith) (omega arith)) (λ j d a b. upto (suc j) d (omega arith) (omega arith)) (λ j d a b. after (suc j) d (omega arith) (omega arith)))
     ∙ sym (cond-true (eqb (line x) n) (x ∷ filter (λ e. eqb (line e) n) xs) (filter (λ e. eqb (line e) n) xs) (eq-eqb (line x) n (omega (arith, from' 0 x (omega arith) (omega arith), upto 0 x (omega arith) (omega arith)))))
-on-line line (x ∷ xs) n zero to zero is below from' upto after =
-    on-line line xs n zero zero zero (omega arith) (λ j d a b. absurd (omega arith)) (λ j d a b. from' (suc j) d (omega arith) (omega arith)) (λ j d a b. absurd (omega arith)) (λ j d a b. after (suc j) d (omega arith) (omega arith))
+on_line line (x ∷ xs) n zero to zero is below from' upto after =
+    on_line line xs n zero zero zero (omega arith) (λ j d a b. absurd (omega arith)) (λ j d a b. from' (suc j) d (omega arith) (omega arith)) (λ j d a b. absurd (omega arith)) (λ j d a b. after (suc j) d (omega arith) (omega arith))
     ∙ sym (cond-false (eqb (line x) n) (x ∷ filter (λ e. eqb (line e) n) xs) (filter (λ e. eqb (line e) n) xs) (ne_eqb (line x) n (λ same. absurd (omega (arith, same, after 0 x (omega arith) (omega arith))))))
 
 -- ---- a stable sort by lines

@@ -33,11 +33,11 @@ some-edits source (p ∷ ps) some =
     map-some source (put_in precedes (edit_of p) (in_order (map edit_of ps))) (put_in-some precedes (edit_of p) (in_order (map edit_of ps)))
 
 -- where nothing is left there was nothing
-pub none-given : (source : List ℕ) (ps : List Patch) (ts : List TrimmedPatch) → map trimmed_edit_of ts ≡ trimmed_edits source (map edit_of ps)
+pub none_given : (source : List ℕ) (ps : List Patch) (ts : List TrimmedPatch) → map trimmed_edit_of ts ≡ trimmed_edits source (map edit_of ps)
     → slice_get ts 0 ≡ None → ps ≡ []
-none-given source [] ts same none = refl
-none-given source (p ∷ ps) [] same none = absurd (some-edits source (p ∷ ps) (λ e. cc) (sym same))
-none-given source (p ∷ ps) (t ∷ ts) same none = absurd (cc)
+none_given source [] ts same none = refl
+none_given source (p ∷ ps) [] same none = absurd (some-edits source (p ∷ ps) (λ e. cc) (sym same))
+none_given source (p ∷ ps) (t ∷ ts) same none = absurd (cc)
 
 -- where nothing was given nothing is left
 pub some-given : (source : List ℕ) (ps : List Patch) (ts : List TrimmedPatch) (t : TrimmedPatch)

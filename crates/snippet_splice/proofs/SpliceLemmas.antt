@@ -107,16 +107,16 @@ line_with_byte-other b (c ∷ text) Eof other = refl
 line_with_byte-other b (c ∷ text) Lf other = refl
 line_with_byte-other b (c ∷ text) Crlf other = refl
 
-first-text : (b : ℕ) (ls : List Line) → b ≢ 13 → text_at (with_first_byte b ls) 0 ≡ b ∷ text_at ls 0
-first-text b [] other = refl
-first-text b (l ∷ ls) other = line_with_byte-other b l.0 l.1 other
+first_text : (b : ℕ) (ls : List Line) → b ≢ 13 → text_at (with_first_byte b ls) 0 ≡ b ∷ text_at ls 0
+first_text b [] other = refl
+first_text b (l ∷ ls) other = line_with_byte-other b l.0 l.1 other
 
 first-line-of : (xs : List ℕ) → HasNoCr xs → text_at (lines_of xs) 0 ≡ before_first is_lf xs
 first-line-of [] none = refl
 first-line-of (b ∷ bs) none =
     ⊎_elim (λ t. ap (λ (ls : List Line). text_at ls 0) (cond-true {A = List Line} (eqb b 10) (([], Lf) ∷ lines_of bs) (with_first_byte b (lines_of bs)) t) ∙ sym (prefix-none b bs t))
     (λ f. ap (λ (ls : List Line). text_at ls 0) (cond-false {A = List Line} (eqb b 10) (([], Lf) ∷ lines_of bs) (with_first_byte b (lines_of bs)) f)
-    ∙ first-text b (lines_of bs) (none 0 0 (omega arith)) ∙ ap (λ l. b ∷ l) (first-line-of bs (All-tail (λ c. c ≢ 13) b bs none))
+    ∙ first_text b (lines_of bs) (none 0 0 (omega arith)) ∙ ap (λ l. b ∷ l) (first-line-of bs (All-tail (λ c. c ≢ 13) b bs none))
     ∙ sym (prefix-first b bs f)) (cases_Bool (eqb b 10))
 
 pub first-line : (xs : List ℕ) → HasNoCr xs → text_at (source_lines xs) 0 ≡ before_first is_lf xs
@@ -173,9 +173,9 @@ last_byte-append (x ∷ xs) (y ∷ ys) e =
     let n : length ((x ∷ xs) ++ (y ∷ ys)) - 1 ≡ suc (length (xs ++ (y ∷ ys)) - 1) = omega (arith, length-append xs (y ∷ ys)) in
     ap (λ k. get_or ((x ∷ xs) ++ (y ∷ ys)) k 0) n ∙ last_byte-append xs (y ∷ ys) e
 
-some-bytes : (xs : List ℕ) → last_byte xs ≡ 10 → 0 < length xs
-some-bytes [] e = absurd (cc)
-some-bytes (x ∷ xs) e = omega arith
+some_bytes : (xs : List ℕ) → last_byte xs ≡ 10 → 0 < length xs
+some_bytes [] e = absurd (cc)
+some_bytes (x ∷ xs) e = omega arith
 
 last-written : (source : List ℕ) (at : ℕ) (ts : List Edit) → last_byte (last_text ts) ≡ 10 → last_byte (written source at ts) ≡ 10
 last-written source at [] e = absurd (cc)
@@ -185,11 +185,11 @@ last-written source at (t ∷ u ∷ ts) e =
     last_byte-append (copied source at t.start) (t.text ++ written source t.end (u ∷ ts)) (last_byte-append t.text (written source t.end (u ∷ ts)) (last-written source t.end (u ∷ ts) e))
 
 -- after the first line of a text stands its LF, or nothing
-first-stops : (xs : List ℕ) → Stops (drop (length (before_first is_lf xs)) xs)
-first-stops [] = inl refl
-first-stops (b ∷ bs) =
+first_stops : (xs : List ℕ) → Stops (drop (length (before_first is_lf xs)) xs)
+first_stops [] = inl refl
+first_stops (b ∷ bs) =
     ⊎_elim (λ t. inr (bs, ap (λ (l : List ℕ). drop (length l) (b ∷ bs)) (prefix-none b bs t) ∙ ap (λ c. c ∷ bs) (eqb-true b 10 t)))
-    (λ f. subst Stops (sym (ap (λ (l : List ℕ). drop (length l) (b ∷ bs)) (prefix-first b bs f))) (first-stops bs)) (cases_Bool (is_lf b))
+    (λ f. subst Stops (sym (ap (λ (l : List ℕ). drop (length l) (b ∷ bs)) (prefix-first b bs f))) (first_stops bs)) (cases_Bool (is_lf b))
 
 first-split : (xs : List ℕ) → xs ≡ before_first is_lf xs ++ drop (length (before_first is_lf xs)) xs
 first-split xs =
@@ -246,7 +246,7 @@ shown-part true source es none before apart some =
     let size : length f ≡ s = front-size true source (first_start (in_order es)) in
     let whole : patched source es ≡ f ++ (w ++ r) = shown-whole true source es none before apart in
     let same : edited_from source 0 ts ≡ f ++ (w ++ r) = edited_from-trimmed source 0 (in_order es) apart ∙ whole in
-    let to : last_end 0 (stands source ts) ≡ s + length w = last-of ts some before after size in
+    let to : last_end 0 (stands source ts) ≡ s + length w = last_of ts some before after size in
     let left : drop (last_end 0 (stands source ts)) (edited_from source 0 ts) ≡ r = ap (λ n. drop n (edited_from source 0 ts)) to ∙ ap (drop (s + length w)) same ∙ drop-part f w r s size in
     ⊎_elim
     (λ t. let end : spliced_end source ts ≡ s + length w + 0 = cond-true (closes_line ts) (last_end 0 (stands source ts)) (last_end 0 (stands source ts) + length (before_first is_lf (drop (last_end 0 (stands source ts)) (edited_from source 0 ts)))) t ∙ to ∙ omega arith in
@@ -258,7 +258,7 @@ shown-part true source es none before apart some =
       before = refl;
       size = size;
       stops = inr (last-written source s ts (eqb-true (last_byte (last_text ts)) 10 t));
-      closes = inr (some-bytes (last_text ts) (eqb-true (last_byte (last_text ts)) 10 t));
+      closes = inr (some_bytes (last_text ts) (eqb-true (last_byte (last_text ts)) 10 t));
       ends = omega arith;
       text = ap (λ l. without_final_line_feeds (w ++ l)) (cond-true (closes_line ts) [] (text_at (source_lines r) 0) t) ∙ ap without_final_line_feeds (append-nil w);
       spliced = ap without_final_line_feeds (ap (slice_range (patched source es) s) end ∙ ap (λ d. slice_range d s (s + length w + 0)) whole ∙ cut-part f w r s 0 size ∙ append-nil w);
@@ -278,18 +278,18 @@ shown-part true source es none before apart some =
       whole = whole ∙ ap (λ x. f ++ (w ++ x)) (first-split r) ∙ ap (λ x. f ++ x) (sym (append_assoc w l (drop (length l) r)));
       before = refl;
       size = size;
-      stops = inl (first-stops r);
-      closes = inl (first-stops r);
+      stops = inl (first_stops r);
+      closes = inl (first_stops r);
       ends = omega (arith, length-append w l);
       text = ap (λ x. without_final_line_feeds (w ++ x)) (cond-false (closes_line ts) [] (text_at (source_lines r) 0) t ∙ first-line r clean);
       spliced = ap without_final_line_feeds (ap (slice_range (patched source es) s) end ∙ ap (λ d. slice_range d s (s + length w + length l)) whole ∙ cut-part f w r s (length l) size ∙ ap (λ x. w ++ x) front_of);
     })
     (cases_Bool (closes_line ts))
   where
-    last-of : (ts : List Edit) → ts ≢ [] → AreBeforeFinalLf source ts → AreApart (shown_start true source (first_start (in_order es))) ts
+    last_of : (ts : List Edit) → ts ≢ [] → AreBeforeFinalLf source ts → AreApart (shown_start true source (first_start (in_order es))) ts
         → length (slice_range source 0 (shown_start true source (first_start (in_order es)))) ≡ shown_start true source (first_start (in_order es))
         → last_end 0 (stands source ts) ≡ shown_start true source (first_start (in_order es))
         + length (written source (shown_start true source (first_start (in_order es))) ts)
-    last-of [] some before apart size = absurd (some refl)
-    last-of (t ∷ ts) some before apart size =
+    last_of [] some before apart size = absurd (some refl)
+    last_of (t ∷ ts) some before apart size =
         last-end source (shown_start true source (first_start (in_order es))) t ts none before apart size

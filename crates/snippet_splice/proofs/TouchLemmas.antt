@@ -49,9 +49,9 @@ last_byte-drop b d inside =
     let e : b + (length (drop b d) - 1) ≡ length d - 1 = omega (arith, length-drop b d) in
     get_or-drop b d (length (drop b d) - 1) 0 ∙ ap (λ n. get_or d n 0) e
 
-no-feeds : (l : List ℕ) → IsLineWithEnd l → (0 < length l → last_byte l ≢ 10) → All (λ c. c ≢ 10) l
-no-feeds [] one last = All-nil (λ c. c ≢ 10)
-no-feeds (c ∷ cs) one last =
+no_feeds : (l : List ℕ) → IsLineWithEnd l → (0 < length l → last_byte l ≢ 10) → All (λ c. c ≢ 10) l
+no_feeds [] one last = All-nil (λ c. c ≢ 10)
+no_feeds (c ∷ cs) one last =
     All-same (λ c. c ≢ 10) (c ∷ cs) (take (length (c ∷ cs) - 1) (c ∷ cs) ++ last_byte (c ∷ cs) ∷ []) (split_last (c ∷ cs) (omega arith)) (All-push (λ c. c ≢ 10) (take (length (c ∷ cs) - 1) (c ∷ cs)) (last_byte (c ∷ cs)) one (last (omega arith)))
 
 in-line-feeds : (d : List ℕ) (j p : ℕ) → IsInLine d j p → feeds (take p d) ≡ j
@@ -71,7 +71,7 @@ in-line-feeds d j p h =
     let size : p - b ≡ length l = omega arith in
     let part : slice_range d b p ≡ l = ap (λ k. take k (drop b d)) size ∙ line in
     let tail : drop b d ≡ l = sym (take_all (length l) (drop b d) (omega (arith, length-drop b d))) ∙ line in
-    All-same (λ c. c ≢ 10) (slice_range d b p) l part (no-feeds l one (λ some e. open_end (sym (last_byte-drop b d (omega (arith, some))) ∙ ap last_byte tail ∙ e))))
+    All-same (λ c. c ≢ 10) (slice_range d b p) l part (no_feeds l one (λ some e. open_end (sym (last_byte-drop b d (omega (arith, some))) ∙ ap last_byte tail ∙ e))))
     h.to in
     let split : take p d ≡ take b d ++ slice_range d b p = front-split d b p h.from in
     ap feeds split ∙ feeds-append (take b d) (slice_range d b p) ∙ omega (arith, feeds-front d j h.within, feeds-none (slice_range d b p) none)

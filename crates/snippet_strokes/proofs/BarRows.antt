@@ -83,12 +83,12 @@ changed-is rule row end old new all changes =
     append_none (x ∷ rows) = ap (λ rs. x ∷ rs) (append_none rows)
 
 -- a rule that changes nothing
-pub changed-same : (rule : List Cell → List Cell) (row : ℕ) (rows : List (List Cell)) → ((cells : List Cell) → rule cells ≡ cells)
+pub changed_same : (rule : List Cell → List Cell) (row : ℕ) (rows : List (List Cell)) → ((cells : List Cell) → rule cells ≡ cells)
     → changed_from rule row rows ≡ rows
-changed-same rule zero [] same = refl
-changed-same rule zero (x ∷ rows) same = ap (λ y. y ∷ map rule rows) (same x) ∙ ap (λ rs. x ∷ rs) (changed-same rule zero rows same)
-changed-same rule (suc row) [] same = refl
-changed-same rule (suc row) (x ∷ rows) same = ap (λ rs. x ∷ rs) (changed-same rule row rows same)
+changed_same rule zero [] same = refl
+changed_same rule zero (x ∷ rows) same = ap (λ y. y ∷ map rule rows) (same x) ∙ ap (λ rs. x ∷ rs) (changed_same rule zero rows same)
+changed_same rule (suc row) [] same = refl
+changed_same rule (suc row) (x ∷ rows) same = ap (λ rs. x ∷ rs) (changed_same rule row rows same)
 
 -- one rule after another, where a third one does what both do
 pub changed-more : (first second both : List Cell → List Cell) (row : ℕ) (rows : List (List Cell)) → ((cells : List Cell) → second (first cells) ≡ both cells)

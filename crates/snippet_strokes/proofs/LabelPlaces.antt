@@ -114,9 +114,9 @@ shows_label e has some = by_length (length (chars (cow_str_bytes e.label))) (ome
     by_length n is = grind (arith, nat_tests, is)
 
 -- where a label begins
-stands_at : (layout : Layout) (e : PlacedEntry)
+stands-at : (layout : Layout) (e : PlacedEntry)
     → let l = placed_label layout e in ((l.row ≡ 0) × (l.cell ≡ layout.code + max e.entry.end.display 1 + 1)) ⊎ ((0 < l.row) × (l.cell ≡ layout.code + e.entry.start.display))
-stands_at layout e =
+stands-at layout e =
     elim (label_parts e) [
       | inl at ↦
           let place : label_place e ≡ (0, cond (e.entry.end.display == 0) 2 (e.entry.end.display + 1)) = ap (λ b. cond b (0, cond (e.entry.end.display == 0) 2 (e.entry.end.display + 1)) (e.position + 1, e.entry.start.display)) (eq-eqb e.position 0 at.position) in
@@ -186,7 +186,7 @@ LabelsStand-placed layout row es placed rows below is places stands beside hung 
           let e : PlacedEntry = get_or order k d in
           record {
             whole = λ n inside. same (label_place e).0 (layout.code + (label_place e).1 + n) ∙ stand k d within (shows_label e (has k d within) some) n inside;
-            place = stands_at layout e;
+            place = stands-at layout e;
           });
       led = All-map (λ (l : PlacedLabel). 0 < length (label_text l.entry) → IsLedTo layout.decor (map g order) below l) g order (λ k d within some r under above none.
           let e : PlacedEntry = get_or order k d in

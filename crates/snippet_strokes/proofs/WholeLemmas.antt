@@ -14,8 +14,8 @@ use Rattle.snippet_strokes.specs.SourceRows.{shown_cells, window_cells}
 use Rattle.snippet_window.proofs.LineWindowLemmas.{reaching-none, fitting_all}
 
 -- a window with no bound on the left begins at column 0
-pub left-none : (text : List ℕ) → window_left 0 text ≡ 0
-left-none text = omega arith
+pub left_none : (text : List ℕ) → window_left 0 text ≡ 0
+left_none text = omega arith
 
 right-whole : (room right : ℕ) (text : List ℕ) → width_of text ≤ room → window_right room 0 right text ≡ width_of text
 right-whole room right text fits =
@@ -23,13 +23,13 @@ right-whole room right text fits =
 
 inner-whole : (room right : ℕ) (text : List ℕ) → width_of text ≤ room → inner_part room 0 right text ≡ text
 inner-whole room right text fits =
-    rw (right-whole room right text fits, left-none text, reaching-none text, fitting_all (width_of text - 0) text (omega arith)) (take_all (length text) text (omega arith))
+    rw (right-whole room right text fits, left_none text, reaching-none text, fitting_all (width_of text - 0) text (omega arith)) (take_all (length text) text (omega arith))
 
 not_less : (n : ℕ) → ltb n n ≡ false
 not_less n = grind arith
 
-end-none : (room right : ℕ) (placeholder text : List ℕ) → width_of text ≤ room → covered_end room 0 right placeholder text ≡ None
-end-none room right placeholder text fits =
+end_none : (room right : ℕ) (placeholder text : List ℕ) → width_of text ≤ room → covered_end room 0 right placeholder text ≡ None
+end_none room right placeholder text fits =
     let at = unwrap_or (covered_columns 0 placeholder (inner_part room 0 right text)) 0 + length (uncovered_part 0 placeholder (inner_part room 0 right text)) in
     ap (λ n. cond (ltb n (width_of text)) (Some (at - reaching_last (width_of placeholder) (inner_part room 0 right text))) None) (right-whole room right text fits) ∙ ap (λ b. cond b (Some (at - reaching_last (width_of placeholder) (inner_part room 0 right text))) None) (not_less (width_of text))
 
@@ -43,7 +43,7 @@ cells_between decor room left right text =
 whole_between : (decor : DecorStyle) (room right : ℕ) (text : List ℕ) → width_of text ≤ room → cells_between decor room 0 right text ≡ text_cells Quotation text
 unfolding cells_between
 whole_between decor room right text fits =
-    ap (λ e. shown_cells decor None (inner_part room 0 right text) e) (end-none room right (placeholder_of decor) text fits) ∙ ap (text_cells Quotation) (inner-whole room right text fits)
+    ap (λ e. shown_cells decor None (inner_part room 0 right text) e) (end_none room right (placeholder_of decor) text fits) ∙ ap (text_cells Quotation) (inner-whole room right text fits)
 
 -- a text that fits the room, of which nothing is cut on the left, is shown whole
 pub window_cells-whole : (decor : DecorStyle) (margin : Margin) (text : List ℕ) → (bounds_of margin).left ≡ 0 → width_of text ≤ margin.term_width

@@ -27,8 +27,8 @@ shown_more layout first lines shown now line old mid new more adds row =
     })
 
 -- with one more shown line added the shown lines so far are added
-pub shown_next : (layout : SuggestionLayout) (first : ℕ) (lines : List (List ℕ)) (shown : List SuggestionLine) (i : ℕ) (d : SuggestionLine)
+pub shown-next : (layout : SuggestionLayout) (first : ℕ) (lines : List (List ℕ)) (shown : List SuggestionLine) (i : ℕ) (d : SuggestionLine)
     (old mid new : List (List Cell)) → i < length shown → AddsShown layout first lines (take i shown) old mid
     → AddsRow (IsShownRow layout first lines (get_or shown i d)) mid new → AddsShown layout first lines (take (i + 1) shown) old new
-shown_next layout first lines shown i d old mid new within adds row =
+shown-next layout first lines shown i d old mid new within adds row =
     shown_more layout first lines (take i shown) (take (i + 1) shown) (get_or shown i d) old mid new (take_more shown i d within) adds row

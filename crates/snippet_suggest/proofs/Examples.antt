@@ -44,7 +44,7 @@ pub record Gives (s : Snippet Patch) (kind : DisplaySuggestion) (lines : List (L
   pub lines_are : given_lines s ≡ lines
   pub offered_are : offered_lines s ≡ offered
   pub removed_are : removed_lines s ≡ removed
-  pub counted_is : counted_line s ≡ counted
+  pub counted-is : counted_line s ≡ counted
   pub rows_are : rows_of_suggestion Opening s ≡ rows
 
 -- `foo` with `bar` in its place:
@@ -60,7 +60,7 @@ one_word v = snippet v true (codes "foo") (patch 0 3 (codes "bar") ∷ []) (omeg
 pub one_word_gives : (v : Vec Patch Global)
     → Gives (one_word v) Diff (codes "bar" ∷ []) (0 ∷ []) (0 ∷ []) 1 (Begins Opening ∷ Removes 0 1 (codes "foo") ∷ Offers 0 ∷ [])
 unfolding shown_text trimmed_edit sandwich kept_before start_of line_of chars last_line_reached newline_count trim_start trim_end lib.Utf8.encode
-one_word_gives v = record { kind_is = refl; lines_are = refl; offered_are = refl; removed_are = refl; counted_is = refl; rows_are = refl }
+one_word_gives v = record { kind_is = refl; lines_are = refl; offered_are = refl; removed_are = refl; counted-is = refl; rows_are = refl }
 
 -- `foo()` with `x` put before the bracket:
 --
@@ -72,7 +72,7 @@ text_put_in v = snippet v true (codes "foo()") (patch 4 4 (codes "x") ∷ []) (o
 
 text_put_in_gives : (v : Vec Patch Global) → Gives (text_put_in v) Underline (codes "foo(x)" ∷ []) (0 ∷ []) [] 1 (Begins Opening ∷ Offers 0 ∷ [])
 unfolding shown_text trimmed_edit sandwich kept_before start_of line_of chars last_line_reached newline_count trim_start trim_end lib.Utf8.encode
-text_put_in_gives v = record { kind_is = refl; lines_are = refl; offered_are = refl; removed_are = refl; counted_is = refl; rows_are = refl }
+text_put_in_gives v = record { kind_is = refl; lines_are = refl; offered_are = refl; removed_are = refl; counted-is = refl; rows_are = refl }
 
 -- `a` and `bc` with `x` put first and `b` deleted. No line is lost:
 --
@@ -85,7 +85,7 @@ two_lines v = snippet v true (codes "a" ++ 10 ∷ codes "bc") (patch 0 0 (codes 
 
 two_lines_gives : (v : Vec Patch Global) → Gives (two_lines v) Plain (codes "xa" ∷ codes "c" ∷ []) (0 ∷ 1 ∷ []) [] 2 (Begins Opening ∷ Offers 0 ∷ Offers 1 ∷ [])
 unfolding shown_text trimmed_edit sandwich kept_before start_of line_of chars last_line_reached newline_count trim_start trim_end lib.Utf8.encode
-two_lines_gives v = record { kind_is = refl; lines_are = refl; offered_are = refl; removed_are = refl; counted_is = refl; rows_are = refl }
+two_lines_gives v = record { kind_is = refl; lines_are = refl; offered_are = refl; removed_are = refl; counted-is = refl; rows_are = refl }
 
 -- `a` with `b` in its place, given before `x` that is put before it:
 --
@@ -99,7 +99,7 @@ insertion_first v = snippet v true (codes "a") (patch 0 1 (codes "b") ∷ patch 
 insertion_first_gives : (v : Vec Patch Global)
     → Gives (insertion_first v) Diff (codes "xb" ∷ []) (0 ∷ []) (0 ∷ []) 1 (Begins Opening ∷ Removes 0 1 (codes "a") ∷ Offers 0 ∷ [])
 unfolding shown_text trimmed_edit sandwich kept_before start_of line_of chars last_line_reached newline_count trim_start trim_end lib.Utf8.encode
-insertion_first_gives v = record { kind_is = refl; lines_are = refl; offered_are = refl; removed_are = refl; counted_is = refl; rows_are = refl }
+insertion_first_gives v = record { kind_is = refl; lines_are = refl; offered_are = refl; removed_are = refl; counted-is = refl; rows_are = refl }
 
 -- `a`, deleted:
 --
@@ -111,7 +111,7 @@ deleted_line v = snippet v true (codes "a") (patch 0 1 [] ∷ []) (omega arith)
 
 deleted_line_gives : (v : Vec Patch Global) → Gives (deleted_line v) Diff [] [] (0 ∷ []) 1 (Begins Opening ∷ Removes 0 1 (codes "a") ∷ [])
 unfolding shown_text trimmed_edit sandwich kept_before start_of line_of chars last_line_reached newline_count trim_start trim_end lib.Utf8.encode
-deleted_line_gives v = record { kind_is = refl; lines_are = refl; offered_are = refl; removed_are = refl; counted_is = refl; rows_are = refl }
+deleted_line_gives v = record { kind_is = refl; lines_are = refl; offered_are = refl; removed_are = refl; counted-is = refl; rows_are = refl }
 
 -- `a` and a final LF, with `x` put after that. It is joined to the last line:
 --
@@ -123,7 +123,7 @@ after_final v = snippet v true (codes "a" ++ 10 ∷ []) (patch 2 2 (codes "x") �
 
 after_final_gives : (v : Vec Patch Global) → Gives (after_final v) Underline (codes "ax" ∷ []) (0 ∷ []) [] 1 (Begins Opening ∷ Offers 0 ∷ [])
 unfolding shown_text trimmed_edit sandwich kept_before start_of line_of chars last_line_reached newline_count trim_start trim_end lib.Utf8.encode
-after_final_gives v = record { kind_is = refl; lines_are = refl; offered_are = refl; removed_are = refl; counted_is = refl; rows_are = refl }
+after_final_gives v = record { kind_is = refl; lines_are = refl; offered_are = refl; removed_are = refl; counted-is = refl; rows_are = refl }
 
 -- `a` and `b`, the first with its LF deleted. The one line that is left is the same as the last line that is reached,
 -- so neither is shown:
@@ -137,7 +137,7 @@ first_line_deleted v = snippet v true (codes "a" ++ 10 ∷ codes "b") (patch 0 2
 first_line_deleted_gives : (v : Vec Patch Global)
     → Gives (first_line_deleted v) Diff (codes "b" ∷ []) [] (0 ∷ []) 2 (Begins Opening ∷ Removes 0 1 (codes "a") ∷ [])
 unfolding shown_text trimmed_edit sandwich kept_before start_of line_of chars last_line_reached newline_count trim_start trim_end lib.Utf8.encode
-first_line_deleted_gives v = record { kind_is = refl; lines_are = refl; offered_are = refl; removed_are = refl; counted_is = refl; rows_are = refl }
+first_line_deleted_gives v = record { kind_is = refl; lines_are = refl; offered_are = refl; removed_are = refl; counted-is = refl; rows_are = refl }
 
 -- `a` and `b`, the first with its LF put in its own place, and the second deleted. No text of a patch stands on the one line:
 --
@@ -149,7 +149,7 @@ untouched_only v = snippet v true (codes "a" ++ 10 ∷ codes "b") (patch 0 2 (co
 
 untouched_only_gives : (v : Vec Patch Global) → Gives (untouched_only v) Diff (codes "a" ∷ []) [] [] 2 (Begins Opening ∷ Empty ∷ [])
 unfolding shown_text trimmed_edit sandwich kept_before start_of line_of chars last_line_reached newline_count trim_start trim_end lib.Utf8.encode
-untouched_only_gives v = record { kind_is = refl; lines_are = refl; offered_are = refl; removed_are = refl; counted_is = refl; rows_are = refl }
+untouched_only_gives v = record { kind_is = refl; lines_are = refl; offered_are = refl; removed_are = refl; counted-is = refl; rows_are = refl }
 
 -- `a`, `b` and `c`, with `x` put first and `c` deleted. A line that is emptied at the end isn't given, and `b` isn't touched:
 --
@@ -161,7 +161,7 @@ first_of_three v = snippet v true (codes "a" ++ 10 ∷ codes "b" ++ 10 ∷ codes
 
 first_of_three_gives : (v : Vec Patch Global) → Gives (first_of_three v) Plain (codes "xa" ∷ codes "b" ∷ []) (0 ∷ []) [] 2 (Begins Opening ∷ Offers 0 ∷ [])
 unfolding shown_text trimmed_edit sandwich kept_before start_of line_of chars last_line_reached newline_count trim_start trim_end lib.Utf8.encode
-first_of_three_gives v = record { kind_is = refl; lines_are = refl; offered_are = refl; removed_are = refl; counted_is = refl; rows_are = refl }
+first_of_three_gives v = record { kind_is = refl; lines_are = refl; offered_are = refl; removed_are = refl; counted-is = refl; rows_are = refl }
 
 -- `a` to `g`, with `x` put before the first and `y` after the last. Of more than three lines between these the first and the last
 -- are shown:
@@ -179,7 +179,7 @@ gap v = snippet v true (codes "a" ++ 10 ∷ codes "b" ++ 10 ∷ codes "c" ++ 10 
 gap_gives : (v : Vec Patch Global)
     → Gives (gap v) Plain (codes "xa" ∷ codes "b" ∷ codes "c" ∷ codes "d" ∷ codes "e" ∷ codes "f" ∷ codes "gy" ∷ []) (0 ∷ 1 ∷ 5 ∷ 6 ∷ []) [] 7 (Begins Opening ∷ Offers 0 ∷ Offers 1 ∷ Skips ∷ Offers 5 ∷ Offers 6 ∷ [])
 unfolding shown_text trimmed_edit sandwich kept_before start_of line_of chars last_line_reached newline_count trim_start trim_end lib.Utf8.encode
-gap_gives v = record { kind_is = refl; lines_are = refl; offered_are = refl; removed_are = refl; counted_is = refl; rows_are = refl }
+gap_gives v = record { kind_is = refl; lines_are = refl; offered_are = refl; removed_are = refl; counted-is = refl; rows_are = refl }
 
 -- `a`, `b` and `c`, with `x` in place of `c`. Folded one line is given:
 --
@@ -193,7 +193,7 @@ third_line v = snippet v true (codes "a" ++ 10 ∷ codes "b" ++ 10 ∷ codes "c"
 third_line_gives : (v : Vec Patch Global)
     → Gives (third_line v) Diff (codes "x" ∷ []) (2 ∷ []) (2 ∷ []) 3 (Begins Opening ∷ Removes 2 3 (codes "c") ∷ Offers 0 ∷ [])
 unfolding shown_text trimmed_edit sandwich kept_before start_of line_of chars last_line_reached newline_count trim_start trim_end lib.Utf8.encode
-third_line_gives v = record { kind_is = refl; lines_are = refl; offered_are = refl; removed_are = refl; counted_is = refl; rows_are = refl }
+third_line_gives v = record { kind_is = refl; lines_are = refl; offered_are = refl; removed_are = refl; counted-is = refl; rows_are = refl }
 
 -- `a`, `b` and `c`, with `x` in place of `c`. Unfolded all are given:
 --
@@ -208,7 +208,7 @@ third_unfolded v = snippet v false (codes "a" ++ 10 ∷ codes "b" ++ 10 ∷ code
 third_unfolded_gives : (v : Vec Patch Global)
     → Gives (third_unfolded v) Plain (codes "a" ∷ codes "b" ∷ codes "x" ∷ []) (0 ∷ 1 ∷ 2 ∷ []) [] 3 (Begins Opening ∷ Offers 0 ∷ Offers 1 ∷ Offers 2 ∷ [])
 unfolding shown_text trimmed_edit sandwich kept_before start_of line_of chars last_line_reached newline_count trim_start trim_end lib.Utf8.encode
-third_unfolded_gives v = record { kind_is = refl; lines_are = refl; offered_are = refl; removed_are = refl; counted_is = refl; rows_are = refl }
+third_unfolded_gives v = record { kind_is = refl; lines_are = refl; offered_are = refl; removed_are = refl; counted-is = refl; rows_are = refl }
 
 -- `a` with a line `x` put before it:
 --
@@ -221,7 +221,7 @@ line_put_in v = snippet v true (codes "a") (patch 0 0 (codes "x" ++ 10 ∷ []) �
 line_put_in_gives : (v : Vec Patch Global) → Gives (line_put_in v) Add (codes "x" ∷ []) (0 ∷ []) [] 1 (Begins Opening ∷ Offers 0 ∷ [])
 unfolding shown_text trimmed_edit sandwich kept_before start_of line_of chars last_line_reached newline_count trim_start trim_end lib.Utf8.encode
 line_put_in_gives v =
-    record { kind_is = refl; lines_are = refl; offered_are = refl; removed_are = refl; counted_is = refl; rows_are = refl }
+    record { kind_is = refl; lines_are = refl; offered_are = refl; removed_are = refl; counted-is = refl; rows_are = refl }
 
 -- a blank line, deleted. It is no diff, so the removed line stands in the row that the suggestion begins with:
 --
@@ -232,4 +232,4 @@ blank_deleted v = snippet v true (codes " ") (patch 0 1 [] ∷ []) (omega arith)
 
 blank_deleted_gives : (v : Vec Patch Global) → Gives (blank_deleted v) Plain [] [] (0 ∷ []) 1 (Removes 0 1 (codes " ") ∷ [])
 unfolding shown_text trimmed_edit sandwich kept_before start_of line_of chars last_line_reached newline_count trim_start trim_end lib.Utf8.encode
-blank_deleted_gives v = record { kind_is = refl; lines_are = refl; offered_are = refl; removed_are = refl; counted_is = refl; rows_are = refl }
+blank_deleted_gives v = record { kind_is = refl; lines_are = refl; offered_are = refl; removed_are = refl; counted-is = refl; rows_are = refl }

@@ -13,7 +13,7 @@ use Rattle.snippet_splice.specs.Edits.{AreApart, Edit, edit_bounds, edit_of, in_
 use Rattle.snippet_splice.specs.Shown.{first_start}
 use Rattle.snippet_splice.proofs.EditLemmas.{trimmed-apart}
 use Rattle.snippet_splice.proofs.OverlapLemmas.{apart-in_order, ordered-spans}
-use Rattle.snippet_splice.proofs.ShownLemmas.{none-given}
+use Rattle.snippet_splice.proofs.ShownLemmas.{none_given}
 use Rattle.snippet_suggest.specs.declared.prepared.PreparedSuggestion.{PreparedSuggestion}
 use Rattle.snippet_suggest.specs.Given.{edits_of, first_end, first_given, first_original, first_original_end, last_reached, last_removed}
 use Rattle.snippet_suggest.proofs.ReachLemmas.{reached, touched_last}
@@ -43,7 +43,7 @@ pub known_some : (p : PreparedSuggestion) → IsPrepared p → 0 < length p.spli
 known_some p is = go p.splice.patches.items is.edits
   where
     go : (ts : List TrimmedPatch) → map trimmed_edit_of ts ≡ trimmed_edits (cow_str_bytes p.snippet.now.source) (edits_of p.snippet.now) → 0 < length ts
-    go [] same = absurd (is.some (none-given (cow_str_bytes p.snippet.now.source) p.snippet.now.markers.items [] same refl))
+    go [] same = absurd (is.some (none_given (cow_str_bytes p.snippet.now.source) p.snippet.now.markers.items [] same refl))
     go (t ∷ ts) same = omega arith
 
 -- its trimmed edits stand apart
@@ -64,11 +64,11 @@ known_reached p is infos start end ordered ends are =
     ∙ ap (λ n. text_at (source_lines source) (line_of (source_lines source) n)) (ends ∙ ap (end_from 0) is.edits)
     ∙ ap (text_at (source_lines source)) (sym (reached source es (known_apart p is)))
 
-first_end_of : (ts : List TrimmedPatch) (es : List Edit) → map original_bounds_of ts ≡ map edit_bounds es → first_original_end ts ≡ first_end es
-first_end_of [] [] same = refl
-first_end_of [] (e ∷ es) same = absurd (cc)
-first_end_of (t ∷ ts) [] same = absurd (cc)
-first_end_of (t ∷ ts) (e ∷ es) same =
+first_end-of : (ts : List TrimmedPatch) (es : List Edit) → map original_bounds_of ts ≡ map edit_bounds es → first_original_end ts ≡ first_end es
+first_end-of [] [] same = refl
+first_end-of [] (e ∷ es) same = absurd (cc)
+first_end-of (t ∷ ts) [] same = absurd (cc)
+first_end-of (t ∷ ts) (e ∷ es) same =
     let pair : ◌≡◌ {A = ℕ × ℕ} (original_bounds_of t) (edit_bounds e) = cc in
     ap (λ b. b.1) pair
 
@@ -79,7 +79,7 @@ known_first_start p is = first-original p.splice.patches.items (in_order (edits_
 -- the first patch of a prepared suggestion ends where its first edit does
 pub known_first_end : (p : PreparedSuggestion) → IsPrepared p → first_original_end p.splice.patches.items ≡ first_end (in_order (edits_of p.snippet.now))
 known_first_end p is =
-    first_end_of p.splice.patches.items (in_order (edits_of p.snippet.now)) is.originals
+    first_end-of p.splice.patches.items (in_order (edits_of p.snippet.now)) is.originals
 
 -- the number of the first line of a prepared suggestion is that of the first that is given
 pub known_first : (p : PreparedSuggestion) → IsPrepared p

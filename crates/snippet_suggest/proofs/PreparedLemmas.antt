@@ -14,7 +14,7 @@ use Rattle.snippet_splice.specs.declared.patches.TrimmedPatch.{TrimmedPatch}
 use Rattle.snippet_splice.specs.Edits.{Edit, edit_bounds, edit_of, in_order, original_bounds_of, trimmed_edit_of, trimmed_edits}
 use Rattle.snippet_splice.specs.Shown.{first_start}
 use Rattle.snippet_splice.specs.Spliced.{texts_of}
-use Rattle.snippet_splice.proofs.ShownLemmas.{none-given}
+use Rattle.snippet_splice.proofs.ShownLemmas.{none_given}
 use Rattle.snippet_suggest.specs.declared.kind.DisplaySuggestion.{DisplaySuggestion}
 use Rattle.snippet_suggest.specs.Given.{counted_folded, counted_line, edits_of, first_end, first_given, first_original, given_text, shown_kind, trimmed_of}
 use Rattle.snippet_parts.specs.Numbered.{numbered_source}
@@ -44,15 +44,15 @@ first_end-of (s ∷ ts) t is =
     ap (λ (u : TrimmedPatch). u.span.end) (sym same)
 
 -- where patches are given some are left
-pub some-left : (source : List ℕ) (ps : List Patch) (ts : List TrimmedPatch) → ps ≢ [] → map trimmed_edit_of ts ≡ trimmed_edits source (map edit_of ps)
+pub some_left : (source : List ℕ) (ps : List Patch) (ts : List TrimmedPatch) → ps ≢ [] → map trimmed_edit_of ts ≡ trimmed_edits source (map edit_of ps)
     → 0 < length ts
-some-left source ps [] some same = absurd (some (none-given source ps [] same refl))
-some-left source ps (t ∷ ts) some same = omega arith
+some_left source ps [] some same = absurd (some (none_given source ps [] same refl))
+some_left source ps (t ∷ ts) some same = omega arith
 
 -- where there are numbers for all lines of a text, there is one for the last
-lines-counted : (text : List ℕ) (first : ℕ) → first < 2 ^ 64 → first + length (texts_of (lines_of text)) ≤ 2 ^ 64 → first + newline_count text < 2 ^ 64
-lines-counted [] first small fits = omega (arith, length-source_lines [])
-lines-counted (b ∷ bs) first small fits =
+lines_counted : (text : List ℕ) (first : ℕ) → first < 2 ^ 64 → first + length (texts_of (lines_of text)) ≤ 2 ^ 64 → first + newline_count text < 2 ^ 64
+lines_counted [] first small fits = omega (arith, length-source_lines [])
+lines_counted (b ∷ bs) first small fits =
     omega (arith, length-source_lines (b ∷ bs), length-map (lines_of (b ∷ bs)) (λ (l : Line). l.0))
 
 -- there is a number for the last line that is given
@@ -61,7 +61,7 @@ last-fits s h =
     let source : List ℕ = cow_str_bytes s.source in
     let k : ℕ = line_of (source_lines source) (first_start (in_order (edits_of s))) in
     let below : first_given s < length (source_lines source) = cond_both s.fold k 0 (λ n. n < length (source_lines source)) (λ _. line_of-within source (first_start (in_order (edits_of s)))) (λ _. omega (arith, length-source_lines source)) in
-    lines-counted (given_text s) (s.line_start + first_given s) (omega (arith, h.lines, below)) h.numbers
+    lines_counted (given_text s) (s.line_start + first_given s) (omega (arith, h.lines, below)) h.numbers
 
 -- the number that is counted of a source, by the bytes at which its first patch starts and ends
 abbrev counted_from : Source → Bool → List ℕ → DisplaySuggestion → ℕ → ℕ → ℕ

@@ -166,8 +166,8 @@ number_and_glyph layout shares above tail old mid new r at (b ∷ bs) cells sign
     signs ∙ ap (λ (rows : List (List Cell)). cells_written rows r at sign) put ∙ ap (λ i. cells_written (above ++ row ∷ []) i at sign) here ∙ cells_written_last above row at sign
 
 -- what stands before cells that are put into a row stays
-take_written : (n : ℕ) (row : List Cell) (at : ℕ) (cells : List Cell) → n ≤ at → n ≤ length row → take n (written SPACE row at cells) ≡ take n row
-take_written n row at cells left within =
+take-written : (n : ℕ) (row : List Cell) (at : ℕ) (cells : List Cell) → n ≤ at → n ≤ length row → take n (written SPACE row at cells) ≡ take n row
+take-written n row at cells left within =
     same_lists _ _ (unfold written in grind (arith, places)) (λ k d h. unfold written in grind (arith, places))
 
 -- how long a row is that a number begins
@@ -193,7 +193,7 @@ removed_row numbers decor gutter role led number text begins within before left 
     let space : slice_index_or row (gutter + 2) SPACE ≡ unlinked_cell Removal 32 = subst (λ (n : ℕ). slice_index_or row n SPACE ≡ unlinked_cell Removal 32) second (slice_index_or-written_inside SPACE led (gutter + 1) glyph 1 SPACE (omega arith)) in
     let long : length row ≡ max (length led) (gutter + 1 + length glyph) = length-written SPACE led (gutter + 1) glyph in
     record {
-      numbered = λ short. ap row_text (take_texted (length number) text row (gutter + 3) (text_cells role (chars text)) (omega (arith, short)) (omega (arith, within, long)) ∙ take_written (length number) led (gutter + 1) glyph short within) ∙ begins;
+      numbered = λ short. ap row_text (take_texted (length number) text row (gutter + 3) (text_cells role (chars text)) (omega (arith, short)) (omega (arith, within, long)) ∙ take-written (length number) led (gutter + 1) glyph short within) ∙ begins;
       before = λ c here. subst (λ (cell : Cell). IsBeforeSign numbers decor cell.ch) (sym (kept_after text row (gutter + 3) c (text_cells role (chars text)) (omega (arith, here)) ∙ slice_index_or-written_before SPACE led (gutter + 1) glyph c (omega (arith, here)))) (before c (omega (arith, here)));
       minus = ap (λ (cell : Cell). cell.ch) (kept_after text row (gutter + 3) (gutter + 1) (text_cells role (chars text)) (omega arith) ∙ minus);
       space = ap (λ (cell : Cell). cell.ch) (kept_after text row (gutter + 3) (gutter + 2) (text_cells role (chars text)) (omega arith) ∙ space);

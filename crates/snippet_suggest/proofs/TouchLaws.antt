@@ -43,13 +43,13 @@ held-later base j ranges h =
     list_any_at (λ q. nat_le q.first (j - base) && nat_le (j - base) q.last) ranges i h.range within (and_from _ _ (le-leb r.first (j - base) (omega (arith, from))) (le-leb (j - base) r.last (omega (arith, to))))
 
 -- a line is left out only of a diff: it is blank, or the same as the last that is removed
-left-out : (kind : DisplaySuggestion) (lines : List (List ℕ)) (last : List ℕ) → is_left_out kind lines last ≡ true
+left_out : (kind : DisplaySuggestion) (lines : List (List ℕ)) (last : List ℕ) → is_left_out kind lines last ≡ true
     → (kind ≡ Diff) × ((is_blank (get_or lines 0 []) ≡ true) ⊎ (get_or lines 0 [] ≡ last))
-left-out Diff lines last is =
+left_out Diff lines last is =
     (refl, ⊎_elim (λ blank. inl blank) (λ same. inr ((bytes_eq-Decides (get_or lines 0 []) last).0 same)) (or_cases (is_blank (get_or lines 0 [])) (bytes_eq (get_or lines 0 []) last) is))
-left-out Underline lines last is = absurd (true≢false (sym is))
-left-out Plain lines last is = absurd (true≢false (sym is))
-left-out Add lines last is = absurd (true≢false (sym is))
+left_out Underline lines last is = absurd (true≢false (sym is))
+left_out Plain lines last is = absurd (true≢false (sym is))
+left_out Add lines last is = absurd (true≢false (sym is))
 
 -- a diff has at most one line
 diff-by : (few takes whole closes : Bool)
@@ -93,15 +93,15 @@ one-left-out : (s : Snippet Patch) → HaveSpans s → AreDisjoint (edits_of s) 
     → (length (given_lines s) ≤ 1) × ((is_blank (get_or (given_lines s) 0 []) ≡ true) ⊎ IsAsItWas s)
 one-left-out s spans disjoint some offerable first is =
     let source : List ℕ = cow_str_bytes s.source in
-    let why = left-out (shown_kind s) (given_lines s) (last_reached s) is in
+    let why = left_out (shown_kind s) (given_lines s) (last_reached s) is in
     let one : length (given_lines s) ≤ 1 = omega (arith, diff-one source (trimmed_of s) (given_text s) why.0, length-map (lines_of (given_text s)) (λ l. l.0)) in
     let part : IsShownPart s.fold source (edits_of s) = given-part s spans disjoint some offerable in
     let text : spliced_text s.fold source (edits_of s) ≡ given_text s = part.spliced ∙ sym part.text in
     (one, ⊎_elim (λ blank. inl blank) (λ same. inr (ap (λ t. texts_of (lines_of t)) text ∙ only (given_lines s) [] first one ∙ ap (λ t. t ∷ []) same)) why.1)
 
 -- where a line is touched there are patches
-touched-some : (s : Snippet Patch) (j : ℕ) → IsTouched (cow_str_bytes s.source) (edits_of s) j → s.markers.items ≢ []
-touched-some s j touched none =
+touched_some : (s : Snippet Patch) (j : ℕ) → IsTouched (cow_str_bytes s.source) (edits_of s) j → s.markers.items ≢ []
+touched_some s j touched none =
     let source : List ℕ = cow_str_bytes s.source in
     omega (arith, touched.among.1, ap (λ ps. length (stands source (trimmed_edits source (map edit_of ps)))) none)
 
@@ -109,7 +109,7 @@ touched-some s j touched none =
 pub touched-offered : (s : Snippet Patch) → HaveSpans s → AreDisjoint (edits_of s) → IsOfferable s → (j : ℕ) → IsTouched (cow_str_bytes s.source) (edits_of s) j
     → is_blank (text_at (source_lines (patched (cow_str_bytes s.source) (edits_of s))) j) ≡ false → IsAsItWas s ⊎ Contains (offered_lines s) j
 touched-offered s spans disjoint offerable j touched filled =
-    let some : s.markers.items ≢ [] = touched-some s j touched in
+    let some : s.markers.items ≢ [] = touched_some s j touched in
     let source : List ℕ = cow_str_bytes s.source in
     let es : List Edit = edits_of s in
     let base : ℕ = first_given s in

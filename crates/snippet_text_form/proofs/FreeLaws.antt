@@ -132,8 +132,8 @@ end_in_file-free anonymized start end = of_lines (start.line == end.line)
     text : List ℕ
     text = codes " to " ++ line_name anonymized end.line ++ codes ":" ++ decimal (end.char + 1)
 
-    text-free : AreFree text
-    text-free =
+    text_free : AreFree text
+    text_free =
         free-append (codes " to " ++ line_name anonymized end.line ++ codes ":") (decimal (end.char + 1))
         (free-append (codes " to " ++ line_name anonymized end.line) (codes ":")
         (free-append (codes " to ") (line_name anonymized end.line) (each-fails is_listed (codes " to ") refl)
@@ -141,7 +141,7 @@ end_in_file-free anonymized start end = of_lines (start.line == end.line)
 
     of_lines : (same : Bool) → AreFree (if same then [] else text)
     of_lines true = All-nil IsUnlisted
-    of_lines false = text-free
+    of_lines false = text_free
 
 end_on_line-free : (anonymized : Bool) (source : Source) (start end : Loc) → AreFree (end_on_line anonymized source start end)
 end_on_line-free anonymized source start end = of_lines (start.line == end.line)
@@ -152,13 +152,13 @@ end_on_line-free anonymized source start end = of_lines (start.line == end.line)
     text : List ℕ
     text = codes " to line " ++ line_name anonymized end.line ++ column_words column
 
-    text-free : AreFree text
-    text-free =
+    text_free : AreFree text
+    text_free =
         free-append (codes " to line " ++ line_name anonymized end.line) (column_words column) (free-append (codes " to line ") (line_name anonymized end.line) (each-fails is_listed (codes " to line ") refl) (line_name-free anonymized end.line)) (column_words-free column)
 
     of_lines : (same : Bool) → AreFree (if same then [] else text)
     of_lines true = All-nil IsUnlisted
-    of_lines false = text-free
+    of_lines false = text_free
 
 span_place-free : (anonymized : Bool) (source : Source) (path : Option (List ℕ)) (start end : Loc) → AreFree (span_place anonymized source path start end)
 span_place-free anonymized source None start end =
@@ -258,8 +258,8 @@ sign-free : (over : Bool) → AreFree (if over then codes " replace with: " else
 sign-free true = each-fails is_listed (codes " replace with: ") refl
 sign-free false = each-fails is_listed (codes " add: ") refl
 
-added-free : (source : List ℕ) (e : Edit) → FormIsFree (added_form source e)
-added-free source e = of_blank (is_blank e.text)
+added_free : (source : List ℕ) (e : Edit) → FormIsFree (added_form source e)
+added_free source e = of_blank (is_blank e.text)
   where
     sign : List ℕ
     sign = if overwrites source e then codes " replace with: " else codes " add: "
@@ -279,7 +279,7 @@ edit-free anonymized source indent path free e =
     let place : List ℕ = edit_place anonymized source path e at.0 at.1 in
     let front : List ℕ = indent ++ place in
     let line : FormIsFree (bare front) = each-bare IsUnlisted refl front (free-append indent place free (edit_place-free anonymized source path e at.0 at.1)) in
-    each-break IsUnlisted refl (bare front ++ added_form source.text e) (each-append IsUnlisted refl (bare front) (added_form source.text e) line (added-free source.text e))
+    each-break IsUnlisted refl (bare front ++ added_form source.text e) (each-append IsUnlisted refl (bare front) (added_form source.text e) line (added_free source.text e))
 
 option-free : (option : Option ℕ) → FormIsFree (option_form option)
 option-free None = each-nil IsUnlisted refl
@@ -368,9 +368,9 @@ module _ (P : ℕ → Type 0) (free : (c : ℕ) → IsUnlisted c → P c) where
       let one : EachPlain P (further_line role width line) = each-append P (free 10 refl) (bare front) (styled role line) (each-bare P (free 10 refl) front indent) (each-styled P (free 10 refl) role None line (All-head (All P) line lines all)) in
       each-append P (free 10 refl) (further_line role width line) (flat_map (further_line role width) lines) one (further-all role width lines (All-tail (All P) line lines all))
 
-  lines-all : (role : ElementStyle) (width : ℕ) (lines : List (List ℕ)) → All (All P) lines → EachPlain P (lines_form role width lines)
-  lines-all role width [] all = each-nil P (free 10 refl)
-  lines-all role width (line ∷ lines) all =
+  lines_all : (role : ElementStyle) (width : ℕ) (lines : List (List ℕ)) → All (All P) lines → EachPlain P (lines_form role width lines)
+  lines_all role width [] all = each-nil P (free 10 refl)
+  lines_all role width (line ∷ lines) all =
       each-append P (free 10 refl) (styled role line) (flat_map (further_line role width) lines) (each-styled P (free 10 refl) role None line (All-head (All P) line lines all)) (further-all role width lines (All-tail (All P) line lines all))
 
   heading-all : (hyperlink : Bool) (kind : HeadingKind) (heading : Heading) → All P (shown_text heading) → EachPlain P (heading_form hyperlink kind heading)
@@ -380,7 +380,7 @@ module _ (P : ℕ → Type 0) (free : (c : ℕ) → IsUnlisted c → P c) where
       let width : ℕ = width_of (heading_label kind heading) in
       let label : List FormPiece = label_form hyperlink kind roles heading in
       let lines : List FormPiece = lines_form roles.text width (heading_lines heading) in
-      each-break P (free 10 refl) (label ++ lines) (each-append P (free 10 refl) label lines (label-all hyperlink kind roles heading) (lines-all roles.text width (heading_lines heading) (All-slice_split P (λ c. c == 10) (shown_text heading) all)))
+      each-break P (free 10 refl) (label ++ lines) (each-append P (free 10 refl) label lines (label-all hyperlink kind roles heading) (lines_all roles.text width (heading_lines heading) (All-slice_split P (λ c. c == 10) (shown_text heading) all)))
 
 -- a listed character in the text form of a heading is of its own text, and that may be styled
 pub heading-free : (begun hyperlink : Bool) (kind : HeadingKind) (heading : Heading)

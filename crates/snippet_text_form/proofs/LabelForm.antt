@@ -28,13 +28,13 @@ use Rattle.snippet_text_form.proofs.FormSteps.{begun-chars}
 -- ---- the colon
 
 -- a label that isn't hidden has its colon
-pub colon-named : (role : ElementStyle) (hidden : Bool) (id : Option Id) → hidden ≡ false → styled role (chars (58 ∷ 32 ∷ [])) ≡ colon_form role hidden id
-colon-named role hidden id is = rw is (ap (styled role) chars-colon)
+pub colon_named : (role : ElementStyle) (hidden : Bool) (id : Option Id) → hidden ≡ false → styled role (chars (58 ∷ 32 ∷ [])) ≡ colon_form role hidden id
+colon_named role hidden id is = rw is (ap (styled role) chars-colon)
 
 -- a label with an id has its colon
-pub colon-set : (role : ElementStyle) (hidden : Bool) (id : Option Id) → is_set id ≡ true → styled role (chars (58 ∷ 32 ∷ [])) ≡ colon_form role hidden id
-colon-set role true id set = rw set (ap (styled role) chars-colon)
-colon-set role false id set = ap (styled role) chars-colon
+pub colon_set : (role : ElementStyle) (hidden : Bool) (id : Option Id) → is_set id ≡ true → styled role (chars (58 ∷ 32 ∷ [])) ≡ colon_form role hidden id
+colon_set role true id set = rw set (ap (styled role) chars-colon)
+colon_set role false id set = ap (styled role) chars-colon
 
 -- ---- the id
 

@@ -146,8 +146,8 @@ option-links : (option : Option ℕ) → form_links (option_form option) ≡ []
 option-links None = refl
 option-links (Some number) = bare-links (codes " option " ++ decimal number)
 
-added-links : (source : List ℕ) (e : Edit) → form_links (added_form source e) ≡ []
-added-links source e = of_blank (is_blank e.text) refl
+added_links : (source : List ℕ) (e : Edit) → form_links (added_form source e) ≡ []
+added_links source e = of_blank (is_blank e.text) refl
   where
     sign : List ℕ
     sign = if overwrites source e then codes " replace with: " else codes " add: "
@@ -162,7 +162,7 @@ edit-links : (anonymized : Bool) (source : Source) (indent : List ℕ) (path : O
 edit-links anonymized source indent path e =
     let at = locations_of source e.start e.end in
     let front : List ℕ = indent ++ edit_place anonymized source path e at.0 at.1 in
-    links-after (bare front) (added_form source.text e) (bare-links front) ∙ added-links source.text e
+    links-after (bare front) (added_form source.text e) (bare-links front) ∙ added_links source.text e
 
 -- the text form of a suggestion has no link
 pub suggestion-links : (anonymized : Bool) (at : SuggestionContext) (s : Snippet Patch) → form_links (suggestion_form anonymized at s) ≡ []

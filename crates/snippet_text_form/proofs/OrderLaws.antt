@@ -89,10 +89,10 @@ holds-bare : (parts : List (List ℕ)) (text : List ℕ) → StandInOrder parts 
 holds-bare parts text stand begun = subst (StandInOrder parts) (sym (plain-bare begun text)) stand
 
 -- the text of a heading that has one line
-pub heading-holds : (begun hyperlink : Bool) (kind : HeadingKind) (heading : Heading) → list_any (λ c. c == 10) (shown_text heading) ≡ false
+pub heading_holds : (begun hyperlink : Bool) (kind : HeadingKind) (heading : Heading) → list_any (λ c. c == 10) (shown_text heading) ≡ false
     → StandInOrder (shown_text heading ∷ []) (plain_from begun (heading_form hyperlink kind heading))
 unfolding heading_form
-heading-holds begun hyperlink kind heading one =
+heading_holds begun hyperlink kind heading one =
     let roles : HeadingRoles = text_roles_of kind heading.level.kind heading.allows_styling in
     let width : ℕ = width_of (heading_label kind heading) in
     let label : List FormPiece = label_form hyperlink kind roles heading in
@@ -101,10 +101,10 @@ heading-holds begun hyperlink kind heading one =
     holds-after (text ∷ []) (Break ∷ label) (lines_form roles.text width (heading_lines heading)) (subst (λ ls. Holds (text ∷ []) (lines_form roles.text width ls)) (sym lines) (λ now. subst (StandInOrder (text ∷ [])) (sym (append-nil text)) (stand-alone text))) begun
 
 -- a label stands after a place where it shows anything, and else anywhere
-label-stands : (label front : List ℕ) → StandInOrder (label ∷ []) (front ++ after_place label)
-label-stands [] front =
+label_stands : (label front : List ℕ) → StandInOrder (label ∷ []) (front ++ after_place label)
+label_stands [] front =
     (front ++ [], record { before = []; whole_is = refl }, tt)
-label-stands (c ∷ cs) front =
+label_stands (c ∷ cs) front =
     let full : after_place (c ∷ cs) ≡ codes ": " ++ c ∷ cs = grind (arith, nat_tests) in
     stand-after ((c ∷ cs) ∷ []) front (after_place (c ∷ cs)) (subst (StandInOrder ((c ∷ cs) ∷ [])) (sym full) (stand-after ((c ∷ cs) ∷ []) (codes ": ") (c ∷ cs) (stand-alone (c ∷ cs))))
 
@@ -114,7 +114,7 @@ span-holds : (anonymized : Bool) (source : Source) (indent : List ℕ) (path : O
 span-holds anonymized source indent path a =
     let at = locations_of source a.span.start a.span.end in
     let front : List ℕ = indent ++ span_place anonymized source path at.0 at.1 in
-    holds-after (label_characters a ∷ []) (Break ∷ []) (bare (front ++ after_place (label_characters a))) (holds-bare (label_characters a ∷ []) (front ++ after_place (label_characters a)) (label-stands (label_characters a) front))
+    holds-after (label_characters a ∷ []) (Break ∷ []) (bare (front ++ after_place (label_characters a))) (holds-bare (label_characters a ∷ []) (front ++ after_place (label_characters a)) (label_stands (label_characters a) front))
 
 -- those of further annotations, of which only those with a label are named
 further-holds : (anonymized : Bool) (source : Source) (indent : List ℕ) (marks : List Annotation)

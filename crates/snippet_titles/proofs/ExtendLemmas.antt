@@ -10,9 +10,9 @@ use Rattle.snippet_grid.proofs.GridLemmas.{cells_written_last}
 use Rattle.snippet_style.proofs.CellLemmas.{written_end}
 
 -- cells after the last row are added to it
-pub appended_last : (front : List (List Cell)) (row cells : List Cell)
+pub appended-last : (front : List (List Cell)) (row cells : List Cell)
     → cells_written (front ++ row ∷ []) (length front) (length row) cells ≡ front ++ (row ++ cells) ∷ []
-appended_last front row cells =
+appended-last front row cells =
     cells_written_last front row (length row) cells ∙ ap (λ (r : List Cell). front ++ r ∷ []) (written_end SPACE row cells)
 
 -- a list is what stands before its last element, and that element
@@ -25,7 +25,7 @@ extended_cells : (rows : List (List Cell)) (row : ℕ) (cells : List Cell) → l
     → cells_written rows row (length (row_at rows row)) cells ≡ take row rows ++ (row_at rows row ++ cells) ∷ []
 extended_cells rows row cells size =
     let front : length (take row rows) ≡ row = omega (arith, length-take row rows) in
-    ap (λ (all : List (List Cell)). cells_written all row (length (row_at rows row)) cells) (last_split rows row size) ∙ ap (λ r. cells_written (take row rows ++ row_at rows row ∷ []) r (length (row_at rows row)) cells) (sym front) ∙ appended_last (take row rows) (row_at rows row) cells
+    ap (λ (all : List (List Cell)). cells_written all row (length (row_at rows row)) cells) (last_split rows row size) ∙ ap (λ r. cells_written (take row rows ++ row_at rows row ∷ []) r (length (row_at rows row)) cells) (sym front) ∙ appended-last (take row rows) (row_at rows row) cells
 
 -- a text appended to the last row stands after its cells; one that is empty changes nothing
 pub extended : (old new : List (List Cell)) (row : ℕ) (role : ElementStyle) (text : List ℕ) → length old ≡ row + 1

@@ -145,10 +145,10 @@ module _ (P : ℕ → Type 0) (free : (c : ℕ) → IsUnlisted c → P c) where
       subst (All P) (sym (row_text-after cells (row_text cells) r line refl)) (All-append P (row_text cells) line before all)
 
   -- what holds of what stands before lines and of the lines holds of their rows
-  pub lines-all : (first further : List Cell) (r : ElementStyle) (lines : List (List ℕ)) → All P (row_text first) → All P (row_text further) → All (All P) lines
+  pub lines_all : (first further : List Cell) (r : ElementStyle) (lines : List (List ℕ)) → All P (row_text first) → All P (row_text further) → All (All P) lines
       → All (λ row. All P (row_text row)) (lines_below first further r lines)
-  lines-all first further r [] begun below all = All-nil (λ row. All P (row_text row))
-  lines-all first further r (line ∷ lines) begun below all =
+  lines_all first further r [] begun below all = All-nil (λ row. All P (row_text row))
+  lines_all first further r (line ∷ lines) begun below all =
       All-cons (λ row. All P (row_text row)) (first ++ text_cells r line) (map (λ l. further ++ text_cells r l) lines)
       (row-all first r begun line (All-head (All P) line lines all))
       (All-map (λ row. All P (row_text row)) (λ l. further ++ text_cells r l)
@@ -165,7 +165,7 @@ module _ (P : ℕ → Type 0) (free : (c : ℕ) → IsUnlisted c → P c) where
       let first : List Cell = sign_cells style ++ label in
       let further : List Cell = indent_cells style (label_width heading) in
       All-trimmed (λ row. All P (row_text row)) (lines_below first further roles.text (heading_lines heading))
-      (lines-all first further roles.text (heading_lines heading)
+      (lines_all first further roles.text (heading_lines heading)
       (parts-all (sign_cells style) label (sign-all style) (subst (All P) (sym (row_text-label hyperlink roles heading)) (label-all heading)))
       (indent-all style (label_width heading)) (All-slice_split P (λ c. c == 10) (shown_text heading) all))
 

@@ -59,14 +59,14 @@ file_row-free layout start =
     after_spaces-free layout.base.gutter LineNumber (file_glyph start layout.base.decor) (glyphs-unlisted start layout.base.decor)
 
 -- a digit is no listed character
-pub digit-unlisted : (c : ℕ) → IsDigit c → is_listed c ≡ false
-digit-unlisted c is = grind (arith, nat_tests)
+pub digit_unlisted : (c : ℕ) → IsDigit c → is_listed c ≡ false
+digit_unlisted c is = grind (arith, nat_tests)
 
 origin_text-free : (anonymized : Bool) (path : List ℕ) (place : OriginLocation) → All (λ c. is_listed c ≡ false) (origin_text anonymized path place)
 unfolding origin_text
 origin_text-free anonymized path place =
     let P : ℕ → Type 0 = λ c. is_listed c ≡ false in
-    All-append P (norm (chars path)) (place_text anonymized place) (each-fails is_listed (norm (chars path)) (list_any-norm (chars path))) (place_text-each P digit-unlisted refl refl anonymized place)
+    All-append P (norm (chars path)) (place_text anonymized place) (each-fails is_listed (norm (chars path)) (list_any-norm (chars path))) (place_text-each P digit_unlisted refl refl anonymized place)
 
 -- the row of an origin has no listed character and no link
 pub origin_row-free : (layout : OriginLayout) (start : FileStart) (path : List ℕ) (place : OriginLocation) → IsFree (origin_row layout start path place)

@@ -18,7 +18,7 @@ use Rattle.snippet_titles.specs.Short.{short_rows, short_texts, with_end}
 use Rattle.snippet_titles.specs.Shown.{IsFreeButText}
 use Rattle.snippet_titles.specs.Title.{id_links}
 use Rattle.snippet_titles.proofs.EndLemmas.{row_at-trimmed}
-use Rattle.snippet_titles.proofs.FreeLemmas.{All-slice_split, All-trimmed, IsUnlisted, IsOwn, from_free, indent-all, label-all, lines-all, own_text}
+use Rattle.snippet_titles.proofs.FreeLemmas.{All-slice_split, All-trimmed, IsUnlisted, IsOwn, from_free, indent-all, label-all, lines_all, own_text}
 use Rattle.snippet_titles.proofs.FreeLemmas.{own_unlisted, row-all}
 use Rattle.snippet_titles.proofs.LinkLemmas.{IsUnlinked, drawn_unlinked, indent_unlinked, label-links, lines-links, links-before, links-after, trimmed-links}
 use Rattle.snippet_titles.proofs.TextLemmas.{row_text-append, row_text-after, row_text-label, text_at, texts_of_lines}
@@ -91,7 +91,7 @@ module _ (P : ℕ → Type 0) (free : (c : ℕ) → IsUnlisted c → P c) where
       let lines : List (List ℕ) = heading_lines heading in
       let rows : List (List Cell) = lines_below first further roles.text lines in
       let begun : All P (row_text first) = subst (All P) (sym (first_text hyperlink roles before heading)) (All-append P before (heading_label_text heading) (from_free P free before front) (label-all P free heading)) in
-      let below : All (λ row. All P (row_text row)) rows = lines-all P free first further roles.text lines begun (indent-all P free Short (label_width heading)) (All-slice_split P (λ c. c == 10) (shown_text heading) all) in
+      let below : All (λ row. All P (row_text row)) rows = lines_all P free first further roles.text lines begun (indent-all P free Short (label_width heading)) (All-slice_split P (λ c. c == 10) (shown_text heading) all) in
       All-trimmed (λ row. All P (row_text row)) (with_end (text_cells NoStyle after) rows) (with_end-all after rows (from_free P free after back) below)
 
 -- each listed character of the rows stands in the title's text, and that is trusted

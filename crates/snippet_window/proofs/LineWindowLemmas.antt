@@ -41,9 +41,9 @@ reaches_start columns cs =
     record { bytes = refl; width_is = refl; rest = omega arith }
 
 -- a character is passed where the column isn't reached yet
-pub reaches_next : (columns : ℕ) (cs : List ℕ) (n m at width c len w : ℕ) → IsNext cs n c → m ≡ n + 1 → width < columns → len ≡ length (encode_utf8 c)
+pub reaches-next : (columns : ℕ) (cs : List ℕ) (n m at width c len w : ℕ) → IsNext cs n c → m ≡ n + 1 → width < columns → len ≡ length (encode_utf8 c)
     → w ≡ char_width c → ReachesSoFar columns cs n at width → ReachesSoFar columns cs m (at + len) (width + w)
-reaches_next columns cs n m at width c len w next one less is_len is_width so_far =
+reaches-next columns cs n m at width c len w next one less is_len is_width so_far =
     let front = ap (λ k. take k cs) one ∙ take-next cs n c next in
     let left : (columns - width) - char_width c ≡ columns - (width + w) = omega arith in
     let goes : reaching (columns - width) (drop n cs) ≡ reaching (columns - (width + w)) (drop (n + 1) cs) + 1 = ap (reaching (columns - width)) (drop-next cs n c next) ∙ reaching-cons (columns - width) c (drop (n + 1) cs) (omega arith) ∙ ap (λ k. reaching k (drop (n + 1) cs) + 1) left in

@@ -280,9 +280,9 @@ start_there g s places before (d ∷ later) e (inl same) =
     ]
 
 -- the lines on which a span starts and ends are kept
-keeps_ends : (f l k : ℕ) (x y : Bool) → f ≤ l → (k ≡ f) ⊎ (k ≡ l) → (leb f k && leb k l && (eqb k f || eqb k l || x || y)) ≡ true
-keeps_ends f l k x y up (inl first) = grind (arith, nat_tests)
-keeps_ends f l k x y up (inr last) = grind (arith, nat_tests)
+keeps-ends : (f l k : ℕ) (x y : Bool) → f ≤ l → (k ≡ f) ⊎ (k ≡ l) → (leb f k && leb k l && (eqb k f || eqb k l || x || y)) ≡ true
+keeps-ends f l k x y up (inl first) = grind (arith, nat_tests)
+keeps-ends f l k x y up (inr last) = grind (arith, nat_tests)
 
 line_kept : (fold : Bool) (source : List ℕ) (marks : List Annotation) (a : Annotation) (k : ℕ) → Among marks a → k < length (source_lines source)
     → keeps source k a ≡ true → Among (kept_lines fold source marks) k
@@ -293,13 +293,13 @@ first_kept : (fold : Bool) (source : List ℕ) (marks : List Annotation) (a : An
     → Among (kept_lines fold source marks) (first_line source a)
 first_kept fold source marks a ordered here =
     let up : first_line source a ≤ last_line source a = line_of-mono (source_lines source) a.span.start a.span.end (omega (arith, line_of-within source 0)) ordered in
-    line_kept fold source marks a (first_line source a) here (line_of-within source a.span.start) (keeps_ends (first_line source a) (last_line source a) (first_line source a) _ _ up (inl refl))
+    line_kept fold source marks a (first_line source a) here (line_of-within source a.span.start) (keeps-ends (first_line source a) (last_line source a) (first_line source a) _ _ up (inl refl))
 
 last_kept : (fold : Bool) (source : List ℕ) (marks : List Annotation) (a : Annotation) → a.span.start ≤ a.span.end → Among marks a
     → Among (kept_lines fold source marks) (last_line source a)
 last_kept fold source marks a ordered here =
     let up : first_line source a ≤ last_line source a = line_of-mono (source_lines source) a.span.start a.span.end (omega (arith, line_of-within source 0)) ordered in
-    line_kept fold source marks a (last_line source a) here (line_of-within source a.span.end) (keeps_ends (first_line source a) (last_line source a) (last_line source a) _ _ up (inr refl))
+    line_kept fold source marks a (last_line source a) here (line_of-within source a.span.end) (keeps-ends (first_line source a) (last_line source a) (last_line source a) _ _ up (inr refl))
 
 -- a part that stands on a kept line is measured
 part_measured : (g : Measure) (fold : Bool) (s : Source) (marks : List Annotation) (k c : ℕ) (ns : List ℕ) → Among (kept_lines fold s.text marks) k

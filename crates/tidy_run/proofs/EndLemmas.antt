@@ -21,9 +21,9 @@ end-elsewhere source i other =
     ]
 
 -- it is missing at the end of a source that isn't empty and doesn't end with a line feed
-end-here : (source : List ℕ) → 0 < length source → slice_index_or source (length source - 1) 0 ≢ 10
+end_here : (source : List ℕ) → 0 < length source → slice_index_or source (length source - 1) 0 ≢ 10
     → missing_end_at source (length source) ≡ Some (missing_end (length source))
-end-here source some other =
+end_here source some other =
     elim (eqb_tells (slice_index_or source (length source - 1) 0) 10) [
       | inl (so, is) ↦ absurd (other is)
       | inr (so, is) ↦
@@ -33,18 +33,18 @@ end-here source some other =
     ]
 
 -- from a byte before the end on
-end-after : (source : List ℕ) → (k : ℕ) → k ≤ length source
+end_after : (source : List ℕ) → (k : ℕ) → k ≤ length source
     → missing_end_at source (length source) ≡ Some (missing_end (length source))
     → first_from missing_end_at source (length source - k) ≡ Some (missing_end (length source))
-end-after source zero within here =
+end_after source zero within here =
     let all : length source - 0 ≡ length source = omega arith in
     ap (first_from missing_end_at source) all
     ∙ first-here missing_end_at source (length source) (missing_end (length source)) (omega arith) here
-end-after source (suc k) within here =
+end_after source (suc k) within here =
     let next : length source - suc k + 1 ≡ length source - k = omega (arith, within) in
     first-next missing_end_at source (length source - suc k) (omega arith) (end-elsewhere source (length source - suc k) (λ is. absurd (omega (arith, is, within))))
     ∙ ap (first_from missing_end_at source) next
-    ∙ end-after source k (omega (arith, within)) here
+    ∙ end_after source k (omega (arith, within)) here
 
 -- from any byte up to the end on, where it is missing
 pub end-found : (source : List ℕ) → (from : ℕ) → from ≤ length source → 0 < length source
@@ -52,7 +52,7 @@ pub end-found : (source : List ℕ) → (from : ℕ) → from ≤ length source 
 end-found source from within some other =
     let back : length source - (length source - from) ≡ from = omega (arith, within) in
     subst (λ i. first_from missing_end_at source i ≡ Some (missing_end (length source))) back
-    (end-after source (length source - from) (omega arith) (end-here source some other))
+    (end_after source (length source - from) (omega arith) (end_here source some other))
 
 -- after the end there is none
 pub end-past : (source : List ℕ) → (from : ℕ) → length source < from → first_from missing_end_at source from ≡ None
@@ -60,9 +60,9 @@ end-past source from past =
     first-none missing_end_at source from (λ i after. end-elsewhere source i (λ is. absurd (omega (arith, is, past, after))))
 
 -- nor anywhere in a source that is empty or ends with a line feed
-end-none : (source : List ℕ) → (i : ℕ) → (length source ≡ 0) ⊎ (slice_index_or source (length source - 1) 0 ≡ 10)
+end_none : (source : List ℕ) → (i : ℕ) → (length source ≡ 0) ⊎ (slice_index_or source (length source - 1) 0 ≡ 10)
     → missing_end_at source i ≡ None
-end-none source i ended =
+end_none source i ended =
     elim (eqb_tells i (length source)) [
       | inl (so, is) ↦ elim ended [
         | inl empty ↦
@@ -79,4 +79,4 @@ end-none source i ended =
 -- a source that is empty or ends in a line feed misses none at its end
 pub end-ended : (source : List ℕ) → (from : ℕ) → (length source ≡ 0) ⊎ (slice_index_or source (length source - 1) 0 ≡ 10)
     → first_from missing_end_at source from ≡ None
-end-ended source from ended = first-none missing_end_at source from (λ i after. end-none source i ended)
+end-ended source from ended = first-none missing_end_at source from (λ i after. end_none source i ended)

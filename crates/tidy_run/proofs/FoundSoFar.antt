@@ -79,19 +79,19 @@ pub found-next : (find : ℕ → Option Finding) → (source : List ℕ) → (fo
 found-next find source found from f so_far some is takes =
     next-at find source found from f so_far.within some is takes so_far.fuel so_far.enough so_far.whole
 
-none-at : (find : ℕ → Option Finding) → (source : List ℕ) → (found : List Finding) → (from : ℕ)
+none_at : (find : ℕ → Option Finding) → (source : List ℕ) → (found : List Finding) → (from : ℕ)
     → from ≤ length source → find from ≡ None
     → (fuel : ℕ) → length source < fuel + from → found ++ findings_from find fuel from ≡ findings_of find source
     → found ≡ findings_of find source
-none-at find source found from within none zero enough whole = absurd (omega (arith, enough, within))
-none-at find source found from within none (suc more) enough whole =
+none_at find source found from within none zero enough whole = absurd (omega (arith, enough, within))
+none_at find source found from within none (suc more) enough whole =
     sym (append-nil found) ∙ ap (λ rest. found ++ rest) (sym (ap (with_rest (findings_from find more)) none)) ∙ whole
 
 -- where nothing more is found, these are the findings
-pub found-none : (find : ℕ → Option Finding) → (source : List ℕ) → (found : List Finding) → (from : ℕ)
+pub found_none : (find : ℕ → Option Finding) → (source : List ℕ) → (found : List Finding) → (from : ℕ)
     → FoundSoFar find source found from → find from ≡ None → found ≡ findings_of find source
-found-none find source found from so_far none =
-    none-at find source found from so_far.within none so_far.fuel so_far.enough so_far.whole
+found_none find source found from so_far none =
+    none_at find source found from so_far.within none so_far.fuel so_far.enough so_far.whole
 
 last-at : (find : ℕ → Option Finding) → (source : List ℕ) → (found : List Finding) → (from : ℕ) → (f : Finding)
     → from ≤ length source → find from ≡ Some f → f.end ≤ f.start

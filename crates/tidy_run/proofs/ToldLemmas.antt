@@ -13,12 +13,12 @@ use Rattle.tidy_run.specs.Report.{IsGroupOf, IsReportOf, Told}
 use Rattle.std.proofs.lemmas.List.{append-nil as append_none}
 
 -- a group of a title and an element, where there is memory for it
-pub group-of : (r : Result Group AllocError) (level : Level) (text : List ℕ) (trusted : Bool) (title : Title) (element : Element)
+pub group_of : (r : Result Group AllocError) (level : Level) (text : List ℕ) (trusted : Bool) (title : Title) (element : Element)
     → IfOk r (λ g. g.title ≡ Some title) → IfOk r (λ g. g.level ≡ title.level.kind) → IfOk r (λ g. g.elements.items ≡ element ∷ [])
     → title.level ≡ level → cow_str_bytes title.text ≡ text → title.id ≡ None → title.allows_styling ≡ trusted
     → IfOk r (IsGroupOf level text trusted element)
-group-of (Err e) level text trusted title element titled kind elements l t i s = tt
-group-of (Ok g) level text trusted title element titled kind elements l t i s =
+group_of (Err e) level text trusted title element titled kind elements l t i s = tt
+group_of (Ok g) level text trusted title element titled kind elements l t i s =
     record {
       title = title;
       titled = titled;

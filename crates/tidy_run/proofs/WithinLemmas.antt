@@ -73,20 +73,20 @@ pub record IsToldOf (path source : List ℕ) (found : List Finding) : Type 0 whe
   pub path_fits : TextFits path
   pub source_fits : TextFits source
 
-path-fits : {T : Type 0} (path source : List ℕ) (s : Snippet T) → IsOfFile path source s → TextFits path → IfSome s.path (λ t. TextFits (cow_str_bytes t))
-path-fits path source s of fits = by_cases s.path of.path_is
+path_text_fits : {T : Type 0} (path source : List ℕ) (s : Snippet T) → IsOfFile path source s → TextFits path → IfSome s.path (λ t. TextFits (cow_str_bytes t))
+path_text_fits path source s of fits = by_cases s.path of.path_is
   where
     by_cases : (p : Option (CowStr Global)) → option_map cow_str_bytes p ≡ Some path → IfSome p (λ t. TextFits (cow_str_bytes t))
     by_cases None is = tt
     by_cases (Some t) is = let same : cow_str_bytes t ≡ path = cc in subst TextFits (sym same) fits
 
-source-fits : {T : Type 0} (path source : List ℕ) (s : Snippet T) → IsOfFile path source s → TextFits source → TextFits (cow_str_bytes s.source)
-source-fits path source s of fits = subst TextFits (sym of.source_is) fits
+source_text_fits : {T : Type 0} (path source : List ℕ) (s : Snippet T) → IsOfFile path source s → TextFits source → TextFits (cow_str_bytes s.source)
+source_text_fits path source s of fits = subst TextFits (sym of.source_is) fits
 
 -- a title of a level whose name fits, without an id
-title-fits : (level : Level) (text : List ℕ) (trusted : Bool) (element : Element) (g : Group) → IsGroupOf level text trusted element g → LevelFits level
+title_fits : (level : Level) (text : List ℕ) (trusted : Bool) (element : Element) (g : Group) → IsGroupOf level text trusted element g → LevelFits level
     → TextFits text → IfSome g.title TitleFits
-title-fits level text trusted element g of name fits =
+title_fits level text trusted element g of name fits =
     subst (λ t. IfSome t TitleFits) (sym of.titled)
     (subst LevelFits (sym of.level_is) name, subst TextFits (sym of.text_is) fits, subst (λ i. IfSome i IdFits) (sym of.id) tt)
 
@@ -97,7 +97,7 @@ group-within : (level : Level) (text : List ℕ) (trusted : Bool) (element : Ele
 group-within level text trusted element g of name fits element_fits clear =
     record {
       faultless = λ n. subst (λ es. faults_from (element_faults n) 0 es ≡ []) (sym of.elements) (ap (λ l. l ++ []) (clear n));
-      fits = (title-fits level text trusted element g of name fits, subst (All ElementFits) (sym of.elements) (All-cons ElementFits element [] element_fits (All-nil ElementFits)));
+      fits = (title_fits level text trusted element g of name fits, subst (All ElementFits) (sym of.elements) (All-cons ElementFits element [] element_fits (All-nil ElementFits)));
     }
 
 -- a warning is within bounds
@@ -116,7 +116,7 @@ warning-within path source title found g is titled of =
     let unlabelled : All AnnotationFits s.markers.items =
     subst (All AnnotationFits) (sym is.marks) (All-map AnnotationFits mark_of found (λ k d within. tt)) in
     group-within warning_level title false (Cause s) g is.is (lit< tt) (omega (arith, titled.short))
-    (source-fits path source s is.of_file of.source_fits, path-fits path source s is.of_file of.path_fits, unlabelled)
+    (source_text_fits path source s is.of_file of.source_fits, path_text_fits path source s is.of_file of.path_fits, unlabelled)
     (λ n. cause-clear n 0 s spans numbers)
 
 -- and so is the help
@@ -143,7 +143,7 @@ help-within path source found g is of =
     let replacements : All PatchFits ps =
     All-weaker (λ (p : Patch). length (cow_str_bytes p.replacement) ≤ 64) PatchFits (λ p few. omega (arith, few)) ps short in
     group-within help_level (codes "apply this") true (Suggestion s) g is.is (lit< tt) (lit< tt)
-    (source-fits path source s is.of_file of.source_fits, path-fits path source s is.of_file of.path_fits, replacements)
+    (source_text_fits path source s is.of_file of.source_fits, path_text_fits path source s is.of_file of.path_fits, replacements)
     (λ n. suggestion-clear n 0 s spans (patches-apart source 0 ps inside) numbers)
 
 -- what tells of a rule's findings is

@@ -1,6 +1,6 @@
 use Rattle.std.proofs.Common.{◌+◌, ◌-◌, min, not, ap, sym, ◌∙◌, arith}
 use Rattle.snippet_parts.specs.Kept.{is_trivial_line}
-use Rattle.snippet_parts.proofs.BarLemmas.{bars-found, bars-none}
+use Rattle.snippet_parts.proofs.BarLemmas.{bars-found, bars_none}
 use Rattle.snippet_parts.proofs.bars.bars_end.Goals as goal
 
 pub returns-then-not-is_trivial_line-clause-bars : goal.returns-then-not-is_trivial_line-clause-bars
@@ -11,4 +11,4 @@ returns-then-not-is_trivial_line-clause-bars c k past =
 
 pub returns-clause-bars : goal.returns-clause-bars
 returns-clause-bars c k past =
-    bars-none (λ j. not (is_trivial_line c.args.source.now.text j)) c.loop-line.line c.args.first (min (c.args.first + 4) c.args.last) k (omega arith) past c.loop-line.invariant
+    bars_none (λ j. not (is_trivial_line c.args.source.now.text j)) c.loop-line.line c.args.first (min (c.args.first + 4) c.args.last) k (omega arith) past c.loop-line.invariant

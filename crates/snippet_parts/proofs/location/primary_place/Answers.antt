@@ -6,7 +6,7 @@ use Rattle.snippet_parts.specs.Annotated.{seen_kept, seen_part}
 use Rattle.snippet_parts.specs.Least.{least}
 use Rattle.snippet_parts.specs.Location.{IsLocation, all_parts, least_place, primary_parts, primary_place, start_columns}
 use Rattle.snippet_parts.proofs.LocationLaws.{place-named}
-use Rattle.snippet_parts.proofs.LocationLemmas.{first-left, place-found, place_from}
+use Rattle.snippet_parts.proofs.LocationLemmas.{first_left, place-found, place_from}
 use Rattle.snippet_parts.proofs.location.primary_place.Goals as goal
 
 pub returns-in-Some-clause-value : goal.returns-in-Some-clause-value
@@ -28,7 +28,7 @@ returns-in-Some-clause-named c fold s marks spans same some none =
 pub returns-clause-value : goal.returns-clause-value
 returns-clause-value c =
     let infos = c.args.lines.now in
-    first-left (least_place primary_parts) (least_place all_parts) infos c.loop-info.info-index c.loop-info.first (primary_place (map seen_kept infos)) c.loop-info-test.false c.loop-info.invariant
+    first_left (least_place primary_parts) (least_place all_parts) infos c.loop-info.info-index c.loop-info.first (primary_place (map seen_kept infos)) c.loop-info-test.false c.loop-info.invariant
 
 pub returns-clause-named : goal.returns-clause-named
 returns-clause-named c fold s marks spans same some none =

@@ -2,7 +2,7 @@ use Rattle.std.proofs.Common.{◌-◌, ◌≤◌, ℕ, leb, ltb, rules, arith, g
 use Rattle.std.proofs.lemmas.Bool.{leb-true, leb-false, ltb-true, ltb-false}
 use Rattle.std.proofs.lemmas.List.Sorted.{IsPartitionedBy-leb, IsPartitionedBy-ltb, IsPartitionPoint-from_clause}
 use Rattle.snippet_parts.specs.declared.long_spans.LongSpan.{LongSpan}
-use Rattle.snippet_parts.proofs.ShownLemmas.{on-line, from-to}
+use Rattle.snippet_parts.proofs.ShownLemmas.{on_line, from-to}
 use Rattle.snippet_parts.proofs.EntryLemmas.{no_span}
 use Rattle.snippet_parts.proofs.long_spans.range_on.Goals as goal
 
@@ -24,7 +24,7 @@ returns c =
     record {
       ordered = ordered;
       within = c.partition_point-to.ensures.bound;
-      value = on-line (λ (e : LongSpan). e.start.line)
+      value = on_line (λ (e : LongSpan). e.start.line)
           es n c.partition_point-from.result c.partition_point-to.result (c.partition_point-to.result - c.partition_point-from.result) (omega arith)
           (λ j d a b. ltb-true (get_or es j d).start.line n (below.0 j d (omega arith) a))
           (λ j d a b. ltb-false (get_or es j d).start.line n (below.1 j d a b))

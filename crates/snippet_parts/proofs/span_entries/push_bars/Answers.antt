@@ -1,7 +1,7 @@
 use Rattle.std.proofs.Common.{◌+◌, ◌-◌, ℕ, map, ap, ◌∙◌, arith}
 use Rattle.snippet_parts.specs.Annotated.{seen_part, bar_part}
 use Rattle.snippet_parts.specs.LongSpans.{seen_long}
-use Rattle.snippet_parts.proofs.EntryLemmas.{bars-more, bars-closed, bars-open, same-bars}
+use Rattle.snippet_parts.proofs.EntryLemmas.{bars_more, bars-closed, bars-open, same-bars}
 use Rattle.snippet_parts.proofs.span_entries.push_bars.Goals as goal
 
 pub overflow_add-line-end : goal.overflow_add-line-end
@@ -10,7 +10,7 @@ overflow_add-line-end c = omega (arith, c.bars_end-end.ensures.before (omega (ar
 pub loop-line-preserved : goal.loop-line-preserved
 loop-line-preserved c =
     let f = λ (k : ℕ). bar_part (seen_long c.args.span) c.args.depth (c.args.source.now.first + k) in
-    bars-more f c.args.entries.now.items c.loop-line.entries.items c.push.new.self.items c.bar_entry.result
+    bars_more f c.args.entries.now.items c.loop-line.entries.items c.push.new.self.items c.bar_entry.result
     (c.args.span.start.line - c.line_start.result + 1)
     c.loop-line.line c.loop-line.auto.line c.in_ok-push.ensures.items
     (c.bar_entry.ensures.value ∙ ap (λ n. bar_part (seen_long c.args.span) c.args.depth (n + c.loop-line.line))

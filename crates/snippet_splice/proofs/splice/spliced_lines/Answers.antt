@@ -14,7 +14,7 @@ use Rattle.snippet_splice.proofs.OverlapLemmas.{apart-in_order, ordered-spans}
 use Rattle.snippet_splice.specs.Stretches.{capped, extent_of, extents_from, feeds_made}
 use Rattle.snippet_splice.proofs.PlaceLemmas.{replaced_are, stretches_are}
 use Rattle.snippet_splice.proofs.ShownLineLemmas.{num_replaced, num_shown}
-use Rattle.snippet_splice.proofs.ShownLemmas.{none-given, first-given, shown_start-border, shown-apart, shown-value, some-trimmed}
+use Rattle.snippet_splice.proofs.ShownLemmas.{none_given, first-given, shown_start-border, shown-apart, shown-value, some-trimmed}
 use Rattle.snippet_splice.proofs.SpliceLemmas.{IsShownPart, shown-part}
 use Rattle.snippet_splice.proofs.WriteLemmas.{without_final-twice}
 use Rattle.snippet_splice.proofs.LineLemmas.{shown-lines}
@@ -24,7 +24,7 @@ use Rattle.snippet_splice.proofs.splice.spliced_lines.Goals as goal
 
 pub returns-in_default-clause-none : goal.returns-in_default-clause-none
 returns-in_default-clause-none c =
-    (λ _. none-given c.args.source.now c.args.patches.now c.in_ok-patches.patches.items c.in_ok-patches.ensures.edits (sym (c.in_default.ensures.value ∙ ap (λ l. slice_get l 0) c.deref.ensures.value)), λ _. refl)
+    (λ _. none_given c.args.source.now c.args.patches.now c.in_ok-patches.patches.items c.in_ok-patches.ensures.edits (sym (c.in_default.ensures.value ∙ ap (λ l. slice_get l 0) c.deref.ensures.value)), λ _. refl)
 
 pub write_patches-requires-clause-from : goal.write_patches-requires-clause-from
 write_patches-requires-clause-from c =

@@ -3,14 +3,14 @@ use Rattle.std.proofs.lemmas.List.{get_or_default, take_all}
 use Rattle.snippet_strokes.specs.declared.bars.OpenBar.{OpenBar}
 use Rattle.snippet_style.specs.Cell.{Cell, SPACE, written}
 use Rattle.snippet_strokes.specs.Bars.{StandsBeside, bar_cell_part, barred, changed_from, with_bars}
-use Rattle.snippet_strokes.proofs.BarRows.{changed-more, changed-same, side_drawn}
+use Rattle.snippet_strokes.proofs.BarRows.{changed-more, changed_same, side_drawn}
 use Rattle.snippet_strokes.proofs.BarLemmas.{no_bar}
 use Rattle.snippet_strokes.proofs.bars.draw_bars.Goals as goal
 
 pub loop-from-init : goal.loop-from-init
 loop-from-init c = (
   omega arith,
-  sym (changed-same (with_bars c.args.layout c.args.stroke []) c.args.row c.args.buffer.now (λ cells. refl)),
+  sym (changed_same (with_bars c.args.layout c.args.stroke []) c.args.row c.args.buffer.now (λ cells. refl)),
 )
 
 pub side_end-to-requires-clause-right : goal.side_end-to-requires-clause-right

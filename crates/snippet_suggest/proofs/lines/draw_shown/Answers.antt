@@ -2,7 +2,7 @@ use Rattle.std.proofs.Common.{map, sym}
 use Rattle.std.proofs.lemmas.List.{append-nil}
 use Rattle.snippet_splice.specs.Stretches.{line_stretches}
 use Rattle.snippet_suggest.specs.Cells.{suggestion_row}
-use Rattle.snippet_suggest.proofs.DrawnLemmas.{shown_next, shown_none}
+use Rattle.snippet_suggest.proofs.DrawnLemmas.{shown-next, shown_none}
 use Rattle.snippet_suggest.proofs.RowsDrawn.{drawn_next}
 use Rattle.snippet_suggest.proofs.lines.draw_shown.Goals as goal
 
@@ -19,6 +19,6 @@ loop-line-preserved c =
     let i = c.loop-line.line-index in
     let lines = map (λ t. t.now) a.lines.now in
     record {
-      added = λ rooms. shown_next a.layout.now a.first lines a.shown.now i _ a.buffer.now c.loop-line.buffer c.draw_shown_line.new.buffer c.loop-line-test.true (c.loop-line.invariant.added rooms) (c.in_ok-draw_shown_line.ensures.added (rooms i _ c.loop-line-test.true));
+      added = λ rooms. shown-next a.layout.now a.first lines a.shown.now i _ a.buffer.now c.loop-line.buffer c.draw_shown_line.new.buffer c.loop-line-test.true (c.loop-line.invariant.added rooms) (c.in_ok-draw_shown_line.ensures.added (rooms i _ c.loop-line-test.true));
       cells = drawn_next (suggestion_row a.layout.now a.kind a.first lines (line_stretches a.stretches.now)) a.shown.now i _ a.buffer.now c.loop-line.buffer c.draw_shown_line.new.buffer c.loop-line-test.true c.loop-line.invariant.cells c.in_ok-draw_shown_line.ensures.cells;
     }

@@ -15,7 +15,7 @@ use Rattle.snippet_splice.specs.Stretches.{new_stretches, replaced_stretches}
 use Rattle.snippet_suggest.specs.Given.{edits_of, given_ranges, given_text, shown_kind, trimmed_of}
 use Rattle.snippet_parts.specs.Numbered.{numbered_source}
 use Rattle.snippet_suggest.specs.Kind.{kind_of}
-use Rattle.snippet_suggest.proofs.PreparedLemmas.{counted-is, some-left}
+use Rattle.snippet_suggest.proofs.PreparedLemmas.{counted-is, some_left}
 use Rattle.snippet_suggest.proofs.prepared.prepare_suggestion.Goals as goal
 
 pub new-requires-clause-numbers : goal.new-requires-clause-numbers
@@ -27,7 +27,7 @@ counted_line-counted-requires-clause-some c =
     let none = rw c.in-Some.is at c.in_ok-splice.ensures.none in
     let splice : IsSplice c.in_ok-map.map.text (map edit_of c.deref.result.now) c.args.snippet.now.fold c.in-Some.splice = rw c.in-Some.is at c.in_ok-splice.ensures.splice in
     let given : c.deref.result.now ≢ [] = λ e. let other = none.1 e in cc in
-    some-left c.in_ok-map.map.text c.deref.result.now c.in-Some.splice.patches.items given splice.edits
+    some_left c.in_ok-map.map.text c.deref.result.now c.in-Some.splice.patches.items given splice.edits
 
 pub returns-clause-prepared : goal.returns-clause-prepared
 returns-clause-prepared c =

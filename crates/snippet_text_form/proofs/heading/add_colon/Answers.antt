@@ -3,15 +3,15 @@ use Rattle.std.specs.Option.{option_copied}
 use Rattle.std.specs.Result.{OnOk}
 use Rattle.snippet_text_form.specs.Form.{FormPiece, styled}
 use Rattle.snippet_text_form.specs.Heading.{colon_form}
-use Rattle.snippet_text_form.proofs.LabelForm.{colon-named, colon-set}
+use Rattle.snippet_text_form.proofs.LabelForm.{colon_named, colon_set}
 use Rattle.snippet_text_form.proofs.heading.add_colon.Goals as goal
 use Rattle.snippet_text_form.proofs.heading.add_colon.Goals.{else-hidden-via-then-hidden+else-not-is_set, else-hidden-via-else-hidden}
 
 pub returns : goal.returns
 returns c =
     let known : styled c.args.role (chars (58 ∷ 32 ∷ [])) ≡ colon_form c.args.role c.args.hidden (option_copied c.args.id) = elim c.else-hidden.branch [
-      | else-hidden-via-then-hidden+else-not-is_set w ↦ colon-set c.args.role c.args.hidden (option_copied c.args.id) (sym w.is_set.ensures.value ∙ w.if-not-is_set.false)
-      | else-hidden-via-else-hidden w ↦ colon-named c.args.role c.args.hidden (option_copied c.args.id) w.if-hidden.false
+      | else-hidden-via-then-hidden+else-not-is_set w ↦ colon_set c.args.role c.args.hidden (option_copied c.args.id) (sym w.is_set.ensures.value ∙ w.if-not-is_set.false)
+      | else-hidden-via-else-hidden w ↦ colon_named c.args.role c.args.hidden (option_copied c.args.id) w.if-hidden.false
     ] in
     record {
       added = subst (λ (ps : List FormPiece). OnOk c.add_styled.result (c.add_styled.new.self ≡ c.args.form.now ++ ps)) known c.add_styled.ensures.added;

@@ -3,7 +3,7 @@ use Rattle.std.proofs.lemmas.Iterator.{YieldsList-from_chars}
 use Rattle.std.proofs.lemmas.List.{length_push}
 use Rattle.std.proofs.lemmas.Iterator.Consumers.{YieldsList-turn, YieldsList-end}
 use Rattle.snippet_text.specs.Width.{width_of}
-use Rattle.snippet_window.proofs.LineWindowLemmas.{reaches_next, reaches_enough, reaches_all, reaches_start, bytes_next}
+use Rattle.snippet_window.proofs.LineWindowLemmas.{reaches-next, reaches_enough, reaches_all, reaches_start, bytes_next}
 use Rattle.snippet_window.proofs.window.reaching_end.Goals as goal
 use Rattle.snippet_style.specs.Cell.{bytes_of}
 
@@ -28,7 +28,7 @@ overflow_add-at c =
 pub loop-c-preserved : goal.loop-c-preserved
 loop-c-preserved c =
     let at = YieldsList-turn (YieldsList-from_chars c.args.text.now c.utf8.text cc) c.loop-c.yielded _ c.loop-c.yielded_by _ _ c.in-Some.c c.in-Some.is c.next.ensures.steps in (
-      reaches_next c.args.columns (chars c.args.text.now) (length c.loop-c.yielded)
+      reaches-next c.args.columns (chars c.args.text.now) (length c.loop-c.yielded)
           _ c.loop-c.at c.loop-c.width c.in-Some.c c.len_utf8-at.result c.char_width-width.result at (length_push c.loop-c.yielded c.in-Some.c)
           c.if-width-columns.false c.len_utf8-at.ensures.len c.char_width-width.ensures.value c.loop-c.invariant.0,
       omega (arith, c.if-width-columns.false, c.char_width-width.ensures.bound),

@@ -3,7 +3,7 @@ use Rattle.std.specs.Option.{option_map}
 use Rattle.std.proofs.lemmas.List.{map-append}
 use Rattle.tidy_run.specs.Findings.{AreInside, Finding, IsFinding, finding_of}
 use Rattle.tidy_run.specs.declared.rule.Edit.{Edit}
-use Rattle.tidy_run.proofs.FoundSoFar.{FoundSoFar, ReachesTo, reaches-none-yet, reaches-next, found-none-yet, found-next, found-none, found-last}
+use Rattle.tidy_run.proofs.FoundSoFar.{FoundSoFar, ReachesTo, reaches-none-yet, reaches-next, found-none-yet, found-next, found_none, found-last}
 use Rattle.tidy_run.proofs.lint.findings.Goals as goal
 use Rattle.tidy_run.proofs.lint.findings.Goals.{in-Some+in_ok-push+then-last, in_default}
 
@@ -49,7 +49,7 @@ returns g c =
             (grind (arith, w.if-last.ensures))
         | in_default w ↦
             ap (λ (v : Vec Edit Global). map finding_of v.items) w.found-is
-            ∙ found-none find source so_far from c.loop-edit.invariant.so_far
+            ∙ found_none find source so_far from c.loop-edit.invariant.so_far
             (sym c.find.ensures.0 ∙ ap (option_map finding_of) w.in_default.is)
       ];
       inside = elim c.match-find.branch [
