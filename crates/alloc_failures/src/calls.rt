@@ -1,5 +1,5 @@
-//! The calls that no case of `replay` makes, and whose answers aren't compared where memory is refused: what each answers is
-//! printed, and has to be seen to succeed where memory is ample.
+//! The calls that no case of `replay` makes, and whose answers aren't compared where memory is refused: what each
+//! answers is printed, and has to be seen to succeed where memory is ample.
 
 mod builders;
 mod grid;

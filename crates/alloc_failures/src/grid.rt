@@ -35,9 +35,12 @@ const ROWS: u8 = 3;
 
 /// The text of three such rows: `a`, dots in place of `bc`, `d` and two spaces, and a mark with a linked label.
 const TEXT: &str = concat!(
-    "\u{1b}[32ma\u{1b}[0m\u{1b}[34m...\u{1b}[0m\u{1b}[35md  \u{1b}[0m\u{1b}[31m^ \u{1b}]8;;u\u{1b}\\label\u{1b}]8;;\u{1b}\\\u{1b}[0m\n",
-    "\u{1b}[32ma\u{1b}[0m\u{1b}[34m...\u{1b}[0m\u{1b}[35md  \u{1b}[0m\u{1b}[31m^ \u{1b}]8;;u\u{1b}\\label\u{1b}]8;;\u{1b}\\\u{1b}[0m\n",
-    "\u{1b}[32ma\u{1b}[0m\u{1b}[34m...\u{1b}[0m\u{1b}[35md  \u{1b}[0m\u{1b}[31m^ \u{1b}]8;;u\u{1b}\\label\u{1b}]8;;\u{1b}\\\u{1b}[0m",
+    "\u{1b}[32ma\u{1b}[0m\u{1b}[34m...\u{1b}[0m\u{1b}[35md  \u{1b}[0m\u{1b}[31m^ \
+        \u{1b}]8;;u\u{1b}\\label\u{1b}]8;;\u{1b}\\\u{1b}[0m\n",
+    "\u{1b}[32ma\u{1b}[0m\u{1b}[34m...\u{1b}[0m\u{1b}[35md  \u{1b}[0m\u{1b}[31m^ \
+        \u{1b}]8;;u\u{1b}\\label\u{1b}]8;;\u{1b}\\\u{1b}[0m\n",
+    "\u{1b}[32ma\u{1b}[0m\u{1b}[34m...\u{1b}[0m\u{1b}[35md  \u{1b}[0m\u{1b}[31m^ \
+        \u{1b}]8;;u\u{1b}\\label\u{1b}]8;;\u{1b}\\\u{1b}[0m",
 );
 
 /// A sheet that tells the roles apart.

@@ -14,7 +14,9 @@ pub const REPORTS: &[(Subject, Texts)] = &[
             graphic: "error: unused\n  |\n1 | let x = 1;\n  |     ^ here",
             short: "error: unused: here",
             text_form: "error: unused\n on line 1, column 5: here",
-            styled: "\u{1b}[1m\u{1b}[91merror\u{1b}[0m\u{1b}[1m: unused\u{1b}[0m\n  \u{1b}[1m\u{1b}[94m|\u{1b}[0m\n\u{1b}[1m\u{1b}[94m1\u{1b}[0m \u{1b}[1m\u{1b}[94m|\u{1b}[0m let x = 1;\n  \u{1b}[1m\u{1b}[94m|\u{1b}[0m     \u{1b}[1m\u{1b}[91m^\u{1b}[0m \u{1b}[1m\u{1b}[91mhere\u{1b}[0m",
+            styled: "\u{1b}[1m\u{1b}[91merror\u{1b}[0m\u{1b}[1m: unused\u{1b}[0m\n  \u{1b}[1m\u{1b}[94m|\u{1b}[0m\n\
+                \u{1b}[1m\u{1b}[94m1\u{1b}[0m \u{1b}[1m\u{1b}[94m|\u{1b}[0m let x = 1;\n  \u{1b}[1m\u{1b}[94m\
+                |\u{1b}[0m     \u{1b}[1m\u{1b}[91m^\u{1b}[0m \u{1b}[1m\u{1b}[91mhere\u{1b}[0m",
         },
     ),
     (
@@ -29,7 +31,8 @@ pub const REPORTS: &[(Subject, Texts)] = &[
                 "\u{1b}[1m\u{1b}[91merror\u{1b}[0m\u{1b}[1m: e\u{1b}[0m\n",
                 "  \u{1b}[1m\u{1b}[94m|\u{1b}[0m\n",
                 "\u{1b}[1m\u{1b}[94m1\u{1b}[0m \u{1b}[1m\u{1b}[94m|\u{1b}[0m ab cd\n",
-                "  \u{1b}[1m\u{1b}[94m|\u{1b}[0m \u{1b}[1m\u{1b}[94m--\u{1b}[0m \u{1b}[1m\u{1b}[91m^^\u{1b}[0m \u{1b}[1m\u{1b}[91mc\u{1b}[0m\n",
+                "  \u{1b}[1m\u{1b}[94m|\u{1b}[0m \u{1b}[1m\u{1b}[94m--\u{1b}[0m \u{1b}[1m\u{1b}[91m\
+                    ^^\u{1b}[0m \u{1b}[1m\u{1b}[91mc\u{1b}[0m\n",
                 "  \u{1b}[1m\u{1b}[94m|\u{1b}[0m \u{1b}[1m\u{1b}[94m|\u{1b}[0m\n",
                 "  \u{1b}[1m\u{1b}[94m|\u{1b}[0m \u{1b}[1m\u{1b}[94ma\u{1b}[0m",
             ),
@@ -64,7 +67,8 @@ pub const REPORTS: &[(Subject, Texts)] = &[
             styled: concat!(
                 "\u{1b}[1m\u{1b}[91merror\u{1b}[0m\u{1b}[1m: e\u{1b}[0m\n",
                 "  \u{1b}[1m\u{1b}[94m|\u{1b}[0m\n",
-                "\u{1b}[1m\u{1b}[94m1\u{1b}[0m \u{1b}[1m\u{1b}[94m|\u{1b}[0m \u{1b}[1m\u{1b}[94m...\u{1b}[0maaaaTaaaaa\u{1b}[1m\u{1b}[94m...\u{1b}[0m\n",
+                "\u{1b}[1m\u{1b}[94m1\u{1b}[0m \u{1b}[1m\u{1b}[94m|\u{1b}[0m \u{1b}[1m\u{1b}[94m...\u{1b}[0m\
+                    aaaaTaaaaa\u{1b}[1m\u{1b}[94m...\u{1b}[0m\n",
                 "  \u{1b}[1m\u{1b}[94m|\u{1b}[0m        \u{1b}[1m\u{1b}[91m^\u{1b}[0m",
             ),
         },
@@ -95,7 +99,8 @@ pub const REPORTS: &[(Subject, Texts)] = &[
             graphic: "error[E0308]: mismatched types\n--> $DIR/mismatched-types.rs",
             short: "error[E0308]: mismatched types",
             text_form: "error E0308: mismatched types\n at $DIR/mismatched-types.rs",
-            styled: "\u{1b}[1m\u{1b}[91merror[E0308]\u{1b}[0m\u{1b}[1m: mismatched types\u{1b}[0m\n\u{1b}[1m\u{1b}[94m--> \u{1b}[0m$DIR/mismatched-types.rs",
+            styled: "\u{1b}[1m\u{1b}[91merror[E0308]\u{1b}[0m\u{1b}[1m: mismatched types\u{1b}[0m\n\
+                \u{1b}[1m\u{1b}[94m--> \u{1b}[0m$DIR/mismatched-types.rs",
         },
     ),
     (
@@ -124,7 +129,9 @@ pub const REPORTS: &[(Subject, Texts)] = &[
             graphic: "help: t\n  |\n1 ~ xa\n2 | c\n  |",
             short: "help: t",
             text_form: "help: t\n on line 1, column 1 add: x\n on line 2, column 1",
-            styled: "\u{1b}[1m\u{1b}[96mhelp\u{1b}[0m: t\n  \u{1b}[1m\u{1b}[94m|\u{1b}[0m\n\u{1b}[1m\u{1b}[94m1\u{1b}[0m \u{1b}[92m~ x\u{1b}[0ma\n\u{1b}[1m\u{1b}[94m2\u{1b}[0m \u{1b}[1m\u{1b}[94m|\u{1b}[0m c\n  \u{1b}[1m\u{1b}[94m|\u{1b}[0m",
+            styled: "\u{1b}[1m\u{1b}[96mhelp\u{1b}[0m: t\n  \u{1b}[1m\u{1b}[94m|\u{1b}[0m\n\
+                \u{1b}[1m\u{1b}[94m1\u{1b}[0m \u{1b}[92m~ x\u{1b}[0ma\n\
+                \u{1b}[1m\u{1b}[94m2\u{1b}[0m \u{1b}[1m\u{1b}[94m|\u{1b}[0m c\n  \u{1b}[1m\u{1b}[94m|\u{1b}[0m",
         },
     ),
     (

@@ -85,7 +85,8 @@ pub shares_end : (es : List Element) → shares_before es (length es) ≡ false
 shares_end [] = refl
 shares_end (d ∷ es) =
     let at : length (d ∷ es) - 1 ≡ length es = omega arith in
-    and_false (not (nat_eq (length (d ∷ es)) 0)) (first_two_share (drop (length (d ∷ es) - 1) (d ∷ es))) (ap (λ j. first_two_share (drop j (d ∷ es))) at ∙ last_not (d ∷ es) (length es) (omega arith))
+    and_false (not (nat_eq (length (d ∷ es)) 0)) (first_two_share (drop (length (d ∷ es) - 1) (d ∷ es)))
+    (ap (λ j. first_two_share (drop j (d ∷ es))) at ∙ last_not (d ∷ es) (length es) (omega arith))
 
 -- an element begins in the row above it where the one before it shares that
 pub shares_after : (es : List Element) (i : ℕ) → shares_before es (i + 1) ≡ first_two_share (drop i es)
@@ -124,7 +125,8 @@ pub can_stand : (place : GroupPosition) (file : Option (List ℕ)) (es : List El
     → CanStandIn (context_at place file es i e) e
 can_stand place file es i (Message message) is = (refl, shared_not es i (Message message) is (λ d. refl))
 can_stand place file es i (Cause snippet) is = (refl, shared_not es i (Cause snippet) is (λ d. refl))
-can_stand place file es i (Suggestion snippet) is = λ starts. path_start (shares_before es i) (is_other_file file (path_bytes snippet.path)) file (path_bytes snippet.path) refl starts
+can_stand place file es i (Suggestion snippet) is = λ starts. path_start (shares_before es i) (is_other_file file (path_bytes snippet.path)) file
+    (path_bytes snippet.path) refl starts
 can_stand place file es i (Origin origin) is = (refl, shared_not es i (Origin origin) is (λ d. refl))
 can_stand place file es i (Padding padding) is = (refl, shared_not es i (Padding padding) is (λ d. refl))
 

@@ -58,7 +58,8 @@ unfolding span_fault
 span-faultless source start end ordered starts ends =
     let forward : nat_lt end start ≡ false = le-ltb end start ordered in
     let inside : nat_lt (length source + 1) end ≡ false = le-ltb (length source + 1) end (omega (arith, ends.0)) in
-    ap (λ t. if t then Some Reversed else if nat_lt (length source + 1) end then Some PastEnd else if is_span_border source start && is_span_border source end then None else Some OffBoundary) forward
+    ap (λ t. if t then Some Reversed else if nat_lt (length source + 1) end then Some PastEnd else if is_span_border source start
+    && is_span_border source end then None else Some OffBoundary) forward
     ∙ ap (λ t. if t then Some PastEnd else if is_span_border source start && is_span_border source end then None else Some OffBoundary) inside
     ∙ ap (λ t. if t && is_span_border source end then None else Some OffBoundary) (border-between source start starts)
     ∙ ap (λ t. if t then None else Some OffBoundary) (border-between source end ends)
@@ -133,7 +134,8 @@ pub cause-clear : (group element : ℕ) (s : Snippet Annotation)
 cause-clear group element s spans numbers =
     let few = source_lines-few (cow_str_bytes s.source) in
     let fits : number_after_lines s.line_start (cow_str_bytes s.source) < 2 ^ 64 = omega (arith, few, numbers) in
-    ap (λ l. l ++ number_faults group element (number_after_lines s.line_start (cow_str_bytes s.source))) (spans-clear (λ (a : Annotation). a.span) group element (cow_str_bytes s.source) s.markers.items spans)
+    ap (λ l. l ++ number_faults group element (number_after_lines s.line_start (cow_str_bytes s.source)))
+    (spans-clear (λ (a : Annotation). a.span) group element (cow_str_bytes s.source) s.markers.items spans)
     ∙ number-clear group element _ fits
 
 -- a suggestion without a fault: none of its spans has one, its patches stand one after the other, and the numbers of so many
@@ -146,11 +148,14 @@ pub suggestion-clear : (group element : ℕ) (s : Snippet Patch)
 suggestion-clear group element s spans apart numbers =
     let few = source_lines-few (cow_str_bytes s.source) in
     let feeds : added_lines s.markers.items ≤ sum_by (λ (p : Patch). length (cow_str_bytes p.replacement)) s.markers.items =
-    sum_by-le-sum_by (λ (p : Patch). count_by (λ b. b == 10) (cow_str_bytes p.replacement)) (λ (p : Patch). length (cow_str_bytes p.replacement)) s.markers.items (λ p. count_by-le-length (λ b. b == 10) (cow_str_bytes p.replacement)) in
+    sum_by-le-sum_by (λ (p : Patch). count_by (λ b. b == 10) (cow_str_bytes p.replacement))
+    (λ (p : Patch). length (cow_str_bytes p.replacement)) s.markers.items (λ p. count_by-le-length (λ b. b == 10) (cow_str_bytes p.replacement)) in
     let last = number_after_lines s.line_start (cow_str_bytes s.source) + added_lines s.markers.items in
     let fits : last < 2 ^ 64 = omega (arith, few, feeds, numbers) in
-    ap (λ l. l ++ overlap_faults group element s.markers.items ++ number_faults group element last) (spans-clear (λ (p : Patch). p.span) group element (cow_str_bytes s.source) s.markers.items spans)
-    ∙ ap (λ p. option_to_list (option_map (λ pair. PatchesOverlap group element pair.0 pair.1) p) ++ number_faults group element last) (apart-clear 0 (map edit_of s.markers.items) apart)
+    ap (λ l. l ++ overlap_faults group element s.markers.items ++ number_faults group element last)
+    (spans-clear (λ (p : Patch). p.span) group element (cow_str_bytes s.source) s.markers.items spans)
+    ∙ ap (λ p. option_to_list (option_map (λ pair. PatchesOverlap group element pair.0 pair.1) p) ++ number_faults group element last)
+    (apart-clear 0 (map edit_of s.markers.items) apart)
     ∙ number-clear group element last fits
 
 -- a report of groups that are within bounds, in the graphic form
@@ -158,7 +163,8 @@ pub within-bounds : (groups : List Group) → All IsGroupWithinBounds groups →
 unfolding first_fault
 within-bounds groups all =
     record {
-      faultless = ap first_of (none-clear group_faults 0 groups (All-weaker IsGroupWithinBounds (λ g. (n : ℕ) → group_faults n g ≡ []) (λ g within. within.faultless) groups all));
+      faultless = ap first_of (none-clear group_faults 0 groups (All-weaker IsGroupWithinBounds (λ g. (n : ℕ) → group_faults n g ≡ []) (λ g within.
+          within.faultless) groups all));
       fits = All-weaker IsGroupWithinBounds GroupFits (λ g within. within.fits) groups all;
     }
 

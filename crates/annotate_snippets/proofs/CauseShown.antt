@@ -73,7 +73,8 @@ place_known (Some place) P known = (place, refl, known)
 free_named : (part : List NamedRow) → All IsFree (cells_of part) → All (λ (row : NamedRow). IsFree row.cells) part
 free_named [] free = All-nil (λ (row : NamedRow). IsFree row.cells)
 free_named (row ∷ part) free =
-    All-cons (λ (r : NamedRow). IsFree r.cells) row part (All-head IsFree row.cells (cells_of part) free) (free_named part (All-tail IsFree row.cells (cells_of part) free))
+    All-cons (λ (r : NamedRow). IsFree r.cells) row part (All-head IsFree row.cells (cells_of part) free)
+    (free_named part (All-tail IsFree row.cells (cells_of part) free))
 
 module _ (r : Renderer) (layout : Layout) (around : ElementContext) (s : Snippet Annotation) where
   -- no row that stands below the lines holds a listed character, or a link
@@ -90,7 +91,8 @@ module _ (r : Renderer) (layout : Layout) (around : ElementContext) (s : Snippet
 
   head_free : All IsFree (cause_head r layout around s)
   head_free =
-      snippet_head-free (origin_layout r layout) around.primary around.first (path_bytes s.path) (place_named around.primary (annotated_lines s.fold (numbered_source s) s.markers.items))
+      snippet_head-free (origin_layout r layout) around.primary around.first (path_bytes s.path)
+      (place_named around.primary (annotated_lines s.fold (numbered_source s) s.markers.items))
 
   -- the first row names the first place of the snippet's spans
   names_place : All (λ a. IsSpan (cow_str_bytes s.source) a.span.start a.span.end) s.markers.items → (more : List NamedRow) → around.primary ≡ true
@@ -99,14 +101,17 @@ module _ (r : Renderer) (layout : Layout) (around : ElementContext) (s : Snippet
       → NamesLocation r layout s path (row_at (cells_of (others (cause_head r layout around s) ++ more)) 0)
   names_place spans more primary path has some none =
       let lines : List KeptLine = annotated_lines s.fold (numbered_source s) s.markers.items in
-      let found = place_known (primary_place lines) (IsLocation (numbered_source s) s.markers.items) (place-named s.fold (numbered_source s) s.markers.items lines spans refl some none) in
+      let found = place_known (primary_place lines) (IsLocation (numbered_source s) s.markers.items)
+      (place-named s.fold (numbered_source s) s.markers.items lines spans refl some none) in
       let named : place_named around.primary lines ≡ place_found (Some found.0) = place_of_primary around.primary lines primary ∙ ap place_found found.1 in
       let first = path_first (origin_layout r layout) around.primary around.first (path_bytes s.path)
       (place_named around.primary lines) more path primary has in
       record {
         place = found.0;
         is = found.2;
-        text = ap (λ row. row_text (drop (layout.gutter + 4) row)) first ∙ origin_row-text (origin_layout r layout) (primary_start around.first) path (place_named around.primary lines) ∙ ap (origin_text r.anonymized_origin_line_numbers path) named;
+        text = ap (λ row. row_text (drop (layout.gutter + 4) row)) first
+            ∙ origin_row-text (origin_layout r layout) (primary_start around.first) path (place_named around.primary lines)
+            ∙ ap (origin_text r.anonymized_origin_line_numbers path) named;
       }
 
 -- code stands right of the gutter, the separator and a space
@@ -124,9 +129,11 @@ cause_shown r layout around found s rows drawable room drawn =
     let src = numbered_source s in
     let are : AreCauseRows r layout (closes_with around) s drawn.lines = drawn.are in
     let ks : List ℕ = shown_lines s.fold (cow_str_bytes s.source) s.markers.items in
-    let fit : All (λ (info : AnnotatedLineInfo). length (shown_number (line_numbers r s.line_numbering) layout.gutter info.line_index) ≤ layout.gutter + 1) are.infos = numbers_fit r layout s are.infos room drawable are.lines in
+    let fit : All (λ (info : AnnotatedLineInfo). length (shown_number (line_numbers r s.line_numbering) layout.gutter info.line_index) ≤ layout.gutter + 1)
+    are.infos = numbers_fit r layout s are.infos room drawable are.lines in
     let place : layout.gutter + 3 ≤ layout.code = omega (arith, room.bars, code_right layout.gutter (depth_of_element (Cause s))) in
-    let named = named_lines r layout s drawable.spans are.margin are.room are.bounds are.ordered place (closes_with around) [] ks are.infos drawn.lines (shown_within src s.markers.items drawable.spans s.fold) are.lines fit are.shown in
+    let named = named_lines r layout s drawable.spans are.margin are.room are.bounds are.ordered place (closes_with around) [] ks are.infos drawn.lines
+    (shown_within src s.markers.items drawable.spans s.fold) are.lines fit are.shown in
     let head : List (List Cell) = cause_head r layout around s in
     let tail : List (List Cell) = rows_after_cause r layout around in
     let part : List NamedRow = others head ++ (named.part ++ others tail) in
@@ -134,8 +141,10 @@ cause_shown r layout around found s rows drawable room drawn =
     ∙ ap (λ rs. rs ++ cells_of (named.part ++ others tail)) (cells_of-others head)
     ∙ ap (λ rs. head ++ rs) (cells_of-append named.part (others tail) ∙ ap (λ rs. rs ++ cells_of (others tail)) named.cells
     ∙ ap (λ rs. drawn.lines ++ rs) (cells_of-others tail)) ∙ sym drawn.rows_are in
-    let lines_free : All IsFree drawn.lines = free_from_AreLinesShown layout are.margin (line_numbers r s.line_numbering) (closes_with around) [] are.infos drawn.lines are.shown in
-    let all_free : All IsFree (head ++ (drawn.lines ++ tail)) = All-append IsFree head (drawn.lines ++ tail) (head_free r layout around s) (All-append IsFree drawn.lines tail lines_free (after-free r layout around s)) in
+    let lines_free : All IsFree drawn.lines = free_from_AreLinesShown layout are.margin (line_numbers r s.line_numbering)
+    (closes_with around) [] are.infos drawn.lines are.shown in
+    let all_free : All IsFree (head ++ (drawn.lines ++ tail)) = All-append IsFree head (drawn.lines ++ tail) (head_free r layout around s)
+    (All-append IsFree drawn.lines tail lines_free (after-free r layout around s)) in
     let text : List ℕ = cow_str_bytes s.source in
     let Ends : List ℕ → Type 0 = λ js. All (λ a. Contains js (first_line text a) × Contains js (last_line text a)) s.markers.items in
     let ends : Ends (lines_named named.part) = subst Ends (sym named.lines) (ends_shown src s.markers.items drawable.spans s.fold) in
@@ -159,7 +168,8 @@ cause_shown r layout around found s rows drawable room drawn =
       };
       free = free_named part (subst (All IsFree) (sym (cells ∙ drawn.rows_are)) all_free);
       one_line = λ plain.
-          let lines : All HasNoFeed drawn.lines = subst (All HasNoFeed) named.cells (lines_one_line r layout (closes_with around) s named.part named.are named.drawn named.begins are.utf8 plain.1) in
+          let lines : All HasNoFeed drawn.lines = subst (All HasNoFeed) named.cells
+          (lines_one_line r layout (closes_with around) s named.part named.are named.drawn named.begins are.utf8 plain.1) in
           let below : All HasNoFeed (drawn.lines ++ tail) = All-append HasNoFeed drawn.lines tail lines (after_one_line r layout around) in
           subst (All HasNoFeed) (sym drawn.rows_are) (All-append HasNoFeed head (drawn.lines ++ tail) (head_one_line r layout around s plain.0) below);
     }

@@ -26,7 +26,8 @@ abbrev pub shares_before : List Element → ℕ → Bool
 shares_before es i = not (i == 0) && first_two_share (drop (i - 1) es)
 
 -- the elements before this one have their contexts, and what the next one's depend on is known
-pub record AreAroundBefore (place : GroupPosition) (file : Option (List ℕ)) (es : List Element) (i : ℕ) (primary shares : Bool) (around : List ElementContext) : Type 0 where
+pub record AreAroundBefore (place : GroupPosition) (file : Option (List ℕ)) (es : List Element) (i : ℕ) (primary shares : Bool)
+    (around : List ElementContext) : Type 0 where
   pub count : length around ≡ i
   pub each : (j : ℕ) (e : Element) → j < i → slice_get es j ≡ Some e → slice_get around j ≡ Some (context_at place file es j e)
   pub primary_is : primary ≡ primary_before es i
@@ -49,8 +50,10 @@ around_next place file es i e primary shares shared start next p s starts pairs 
 primary_next : (es : List Element) (i : ℕ) (e : Element) (primary : Bool) → slice_get es i ≡ Some e → primary ≡ primary_before es i
     → (primary && not (has_file e)) ≡ primary_before es (i + 1)
 primary_next es i e primary at is =
-    let more : take (i + 1) es ≡ take i es ++ e ∷ [] = take_more es i e (slice_get_within es i e at) ∙ ap (λ (d : Element). take i es ++ d ∷ []) (get_or_from_slice_get es i e e at) in
-    let either : list_any has_file (take (i + 1) es) ≡ (list_any has_file (take i es) || has_file e) = ap (list_any has_file) more ∙ list_any-append has_file (take i es) (e ∷ []) ∙ ap (λ b. list_any has_file (take i es) || b) (last (has_file e)) in
+    let more : take (i + 1) es ≡ take i es ++ e ∷ [] = take_more es i e (slice_get_within es i e at)
+    ∙ ap (λ (d : Element). take i es ++ d ∷ []) (get_or_from_slice_get es i e e at) in
+    let either : list_any has_file (take (i + 1) es) ≡ (list_any has_file (take i es) || has_file e) = ap (list_any has_file) more
+    ∙ list_any-append has_file (take i es) (e ∷ []) ∙ ap (λ b. list_any has_file (take i es) || b) (last (has_file e)) in
     ap (λ b. b && not (has_file e)) is ∙ neither (list_any has_file (take i es)) (has_file e) ∙ ap not (sym either)
   where
     last : (b : Bool) → (b || false) ≡ b
@@ -75,7 +78,8 @@ pub around_more : (place : GroupPosition) (file : Option (List ℕ)) (es : List 
     → AreAroundBefore place file es (i + 1) (primary && not (has_file e)) shared new
 around_more place file es i e primary shares shared start next around new before at starts pairs follows pushed =
     let one : ElementContext = record { place = place; first = nat_eq i 0; primary = primary; start = start; shared = shared; next = next } in
-    let one_is : one ≡ context_at place file es i e = around_next place file es i e primary shares shared start next before.primary_is before.shares_is starts pairs follows in
+    let one_is : one ≡ context_at place file es i e = around_next place file es i e primary shares shared start next before.primary_is before.shares_is starts
+    pairs follows in
     let size : length new ≡ i + 1 = ap length pushed ∙ length_push around one ∙ ap (λ n. n + 1) before.count in
     record {
       count = size;
@@ -83,12 +87,16 @@ around_more place file es i e primary shares shared start next around new before
         | inl below ↦
             let old : slice_get around j ≡ Some (context_at place file es j d) = before.each j d below same in
             let there : j < length around = omega (arith, below, before.count) in
-            slice_get-get_or new j one (omega (arith, within, size)) ∙ ap Some (ap (λ (ss : List ElementContext). get_or ss j one) pushed ∙ get_or_append_left around (one ∷ []) one j there ∙ get_or_from_slice_get around j (context_at place file es j d) one old)
+            slice_get-get_or new j one (omega (arith, within, size)) ∙ ap Some
+            (ap (λ (ss : List ElementContext). get_or ss j one) pushed ∙ get_or_append_left around (one ∷ []) one j there
+            ∙ get_or_from_slice_get around j (context_at place file es j d) one old)
         | inr after ↦
             let last : j ≡ i = omega (arith, within, after) in
             let same_element : e ≡ d = sym (get_or_from_slice_get es i e e at) ∙ ap (λ k. get_or es k e) (sym last) ∙ get_or_from_slice_get es j d e same in
-            let seam : get_or new j one ≡ one = ap (λ (ss : List ElementContext). get_or ss j one) pushed ∙ ap (λ k. get_or (around ++ one ∷ []) k one) (last ∙ sym before.count) ∙ get_or-append_seam around one [] one in
-            slice_get-get_or new j one (omega (arith, within, size)) ∙ ap Some (seam ∙ one_is ∙ ap (λ k. context_at place file es k e) (sym last) ∙ ap (λ (x : Element). context_at place file es j x) same_element)
+            let seam : get_or new j one ≡ one = ap (λ (ss : List ElementContext). get_or ss j one) pushed
+            ∙ ap (λ k. get_or (around ++ one ∷ []) k one) (last ∙ sym before.count) ∙ get_or-append_seam around one [] one in
+            slice_get-get_or new j one (omega (arith, within, size)) ∙ ap Some
+            (seam ∙ one_is ∙ ap (λ k. context_at place file es k e) (sym last) ∙ ap (λ (x : Element). context_at place file es j x) same_element)
       ];
       primary_is = primary_next es i e primary at before.primary_is;
       shares_is = pairs ∙ shares_next es i;

@@ -35,7 +35,8 @@ overlap_from-clear n (e ∷ es) none zero (suc k) low high =
     each_fails (overlap e) (n + 1) es (unmapped (λ k. (n, k)) (position_from (overlap e) (n + 1) es) (neither _ _ none).0) k (omega arith)
 overlap_from-clear n (e ∷ es) none (suc m) zero low high = absurd (omega arith)
 overlap_from-clear n (e ∷ es) none (suc m) (suc k) low high =
-    overlap_from-clear (n + 1) es (neither (option_map (λ k. (n, k)) (position_from (overlap e) (n + 1) es)) (first_overlap_from (n + 1) es) none).1 m k (omega arith) (omega arith)
+    overlap_from-clear (n + 1) es (neither (option_map (λ k. (n, k)) (position_from (overlap e) (n + 1) es)) (first_overlap_from (n + 1) es) none).1 m k
+    (omega arith) (omega arith)
 
 -- edits of which no first overlap is found don't overlap
 pub first_overlap-clear : (es : List Edit) → first_overlap es ≡ None → AreDisjoint es

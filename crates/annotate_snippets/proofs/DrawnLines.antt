@@ -31,14 +31,16 @@ bars_of_parts : (es : List LineAnnotation) → ends_of_bars es ≡ filter_map (�
 bars_of_parts [] = refl
 bars_of_parts (e ∷ es) =
     let h : PartEntry → Option Bar = λ p. bar_at p.part (is_primary p.entry.kind) in
-    filter_map-append bar_of (e ∷ []) es ∙ ap (λ bs. filter_map h (seen_part e ∷ []) ++ bs) (bars_of_parts es) ∙ sym (filter_map-append h (seen_part e ∷ []) (map seen_part es))
+    filter_map-append bar_of (e ∷ []) es ∙ ap (λ bs. filter_map h (seen_part e ∷ []) ++ bs) (bars_of_parts es)
+    ∙ sym (filter_map-append h (seen_part e ∷ []) (map seen_part es))
 
 -- the bars of a line's entries are those of its spans
 pub bars_seen : (s : Snippet Annotation) (k : ℕ) (es : List LineAnnotation) → map seen_part es ≡ entries_on s k → ends_of_bars es ≡ bars_on s k
 bars_seen s k es are =
     bars_of_parts es ∙ ap (filter_map (λ (p : PartEntry). bar_at p.part (is_primary p.entry.kind))) are
 
-module _ (r : Renderer) (layout : Layout) (s : Snippet Annotation) (margin : Margin) (room : margin.term_width ≡ room_of r layout) (bounds : bounds_of margin ≡ bounds_in r layout s) where
+module _ (r : Renderer) (layout : Layout) (s : Snippet Annotation) (margin : Margin) (room : margin.term_width ≡ room_of r layout)
+    (bounds : bounds_of margin ≡ bounds_in r layout s) where
   abbrev numbers : LineNumbers
   numbers = line_numbers r s.line_numbering
 
@@ -53,7 +55,9 @@ module _ (r : Renderer) (layout : Layout) (s : Snippet Annotation) (margin : Mar
   line_drawn closes open_bars k info rows seen shows =
       let text : List ℕ = norm (chars info.line.now) in
       let es : List LineAnnotation = info.annotations.items in
-      let number : shown_number numbers layout.gutter info.line_index ≡ number_text r s.line_numbering layout.gutter (s.line_start + k) = ap (λ n. shown_number numbers layout.gutter n) (ap (λ (l : KeptLine). l.number) seen) in
+      let number : shown_number numbers layout.gutter info.line_index
+      ≡ number_text r s.line_numbering layout.gutter (s.line_start + k) = ap (λ n.
+      shown_number numbers layout.gutter n) (ap (λ (l : KeptLine). l.number) seen) in
       let Drawn : List (List Cell) → Type 0 = λ rs. AreLineRows layout margin.term_width closes text shows.dropped open_bars es shows.highlighted rs in
       record {
         entries = es;
@@ -84,5 +88,6 @@ module _ (r : Renderer) (layout : Layout) (closes : Bool) (s : Snippet Annotatio
   bar_shown rows line bar among alone i within =
       let ends : ends_of_bars line.entries ≡ bars_on s k = bars_seen s k line.entries line.are in
       let own : Contains (bars_apart open_bars (ends_of_bars line.entries)) bar = subst (λ bs. Contains (bars_apart open_bars bs) bar) (sym ends) among in
-      let only : HasOwnDepth bar (bars_apart open_bars (ends_of_bars line.entries)) = subst (λ bs. HasOwnDepth bar (bars_apart open_bars bs)) (sym ends) alone in
+      let only : HasOwnDepth bar (bars_apart open_bars (ends_of_bars line.entries)) = subst (λ bs.
+      HasOwnDepth bar (bars_apart open_bars bs)) (sym ends) alone in
       bar_past layout line.margin.term_width closes line.text line.dropped open_bars line.entries line.highlighted rows line.drawn bar own only i within

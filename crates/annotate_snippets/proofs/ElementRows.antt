@@ -22,7 +22,8 @@ use Rattle.annotate_snippets.proofs.AroundLaws.{begins_is, can_stand, shared_goe
 
 -- the rows of the first so many of these elements stand below some rows, and nothing else, but the row in which the next one begins,
 -- where it shares that
-pub record DrawnSoFar (r : Renderer) (layout : Layout) (place : GroupPosition) (file : Option (List ℕ)) (es : List Element) (n : ℕ) (old new : List (List Cell)) : Type 0 where
+pub record DrawnSoFar (r : Renderer) (layout : Layout) (place : GroupPosition) (file : Option (List ℕ)) (es : List Element) (n : ℕ)
+    (old new : List (List Cell)) : Type 0 where
   pub parts : List (List (List Cell))
   pub tail : List (List Cell)
   pub added : new ≡ (old ++ flat_map (λ part. part) parts) ++ tail
@@ -55,25 +56,31 @@ drawn_more r layout place file es n e old mid new before here adds =
     let Part : Type 0 = List (List Cell) in
     let parts : List Part = before.parts ++ adds.rows ∷ [] in
     let Holds : ℕ → Element → Type 0 = λ j y. IsElementDrawn r layout (context_at place file es j y) (found_at r layout es j) y (slice_index_or parts j []) in
-    let joined : flat_map (λ (part : Part). part) parts ≡ flat_map (λ (part : Part). part) before.parts ++ adds.rows = flat_map-append (λ (part : Part). part) before.parts (adds.rows ∷ []) ∙ ap (λ rows. flat_map (λ (part : Part). part) before.parts ++ rows) (append-nil adds.rows) in
+    let joined : flat_map (λ (part : Part). part) parts ≡ flat_map (λ (part : Part). part) before.parts
+    ++ adds.rows = flat_map-append (λ (part : Part). part) before.parts (adds.rows ∷ [])
+    ∙ ap (λ rows. flat_map (λ (part : Part). part) before.parts ++ rows) (append-nil adds.rows) in
     let last : slice_index_or parts n [] ≡ adds.rows = last_part before.parts adds.rows n before.count in
     record {
       parts = parts;
       tail = adds.tail;
-      added = adds.added ∙ sym (append_assoc (old ++ flat_map (λ (part : Part). part) before.parts) adds.rows adds.tail) ∙ ap (λ rows. rows ++ adds.tail) (append_assoc old (flat_map (λ (part : Part). part) before.parts) adds.rows ∙ ap (λ rows. old ++ rows) (sym joined));
+      added = adds.added ∙ sym (append_assoc (old ++ flat_map (λ (part : Part). part) before.parts) adds.rows adds.tail)
+          ∙ ap (λ rows. rows ++ adds.tail) (append_assoc old (flat_map (λ (part : Part). part) before.parts) adds.rows ∙ ap (λ rows. old ++ rows) (sym joined));
       count = omega (arith, length-append before.parts (adds.rows ∷ []), before.count);
       each = λ i x within is.
           elim (cases_lt i n) [
-            | inl below ↦ subst (λ part. IsElementDrawn r layout (context_at place file es i x) (found_at r layout es i) x part) (sym (early_part before.parts adds.rows i (omega (arith, below, before.count)))) (before.each i x below is)
+            | inl below ↦ subst (λ part. IsElementDrawn r layout (context_at place file es i x) (found_at r layout es i) x part)
+                (sym (early_part before.parts adds.rows i (omega (arith, below, before.count)))) (before.each i x below is)
             | inr past ↦
                 let at : n ≡ i = omega (arith, past, within) in
                 let same : e ≡ x = same_element es n i e x at here is in
-                subst (λ j. Holds j x) at (subst (λ y. Holds n y) same (subst (λ part. IsElementDrawn r layout (context_at place file es n e) (found_at r layout es n) e part) (sym last) adds.is))
+                subst (λ j. Holds j x) at (subst (λ y. Holds n y) same (subst (λ part.
+                IsElementDrawn r layout (context_at place file es n e) (found_at r layout es n) e part) (sym last) adds.is))
           ];
       ends = subst (λ b. IsTail layout.decor layout.gutter b adds.tail) (sym (shares_after es n)) adds.ends;
       last = λ shares.
           let shared : first_two_share (drop n es) ≡ true = sym (shares_after es n) ∙ shares in
-          adds.last shared ∙ ap (λ ends. last_row r layout (not ends) (Some e) ∷ []) (shared_goes_on es n shared) ∙ ap (λ x. last_row r layout true x ∷ []) (sym here ∙ ap (slice_get es) (one_back n));
+          adds.last shared ∙ ap (λ ends. last_row r layout (not ends) (Some e) ∷ []) (shared_goes_on es n shared)
+          ∙ ap (λ x. last_row r layout true x ∷ []) (sym here ∙ ap (slice_get es) (one_back n));
     }
   where
     one_back : (n : ℕ) → n ≡ n + 1 - 1
@@ -132,8 +139,10 @@ turn_around : (place : GroupPosition) (file : Option (List ℕ)) (ps : List Prep
     → at ≡ context_at place file (map element_of ps) n (element_of p)
 turn_around place file ps around n i p at are turn is =
     let item = turn_item ps n i p turn in
-    let there : slice_get around n ≡ Some (context_at place file (map element_of ps) n (element_of p)) = are.each n (element_of p) (get-mapped element_of ps n p item.1) in
-    let found : slice_get around n ≡ Some (slice_index_or around n at) = slice_get-get_or around n at (slice_get_within around n (context_at place file (map element_of ps) n (element_of p)) there) in
+    let there : slice_get around n ≡ Some (context_at place file (map element_of ps) n (element_of p)) = are.each n (element_of p)
+    (get-mapped element_of ps n p item.1) in
+    let found : slice_get around n ≡ Some (slice_index_or around n at) = slice_get-get_or around n at
+    (slice_get_within around n (context_at place file (map element_of ps) n (element_of p)) there) in
     let same : Some (slice_index_or around n at) ≡ Some (context_at place file (map element_of ps) n (element_of p)) = sym found ∙ there in
     let equal : slice_index_or around n at ≡ context_at place file (map element_of ps) n (element_of p) = cc in
     is ∙ ap (λ j. slice_index_or around j at) item.0 ∙ equal
@@ -145,7 +154,8 @@ pub turn_stands : (place : GroupPosition) (file : Option (List ℕ)) (ps : List 
     → CanStandIn at (element_of p)
 turn_stands place file ps around n i p at are turn is =
     let item = turn_item ps n i p turn in
-    subst (λ a. CanStandIn a (element_of p)) (sym (turn_around place file ps around n i p at are turn is)) (can_stand place file (map element_of ps) n (element_of p) (get-mapped element_of ps n p item.1))
+    subst (λ a. CanStandIn a (element_of p)) (sym (turn_around place file ps around n i p at are turn is))
+    (can_stand place file (map element_of ps) n (element_of p) (get-mapped element_of ps n p item.1))
 
 -- its rows stand below those before it
 pub turn_drawn : (r : Renderer) (layout : Layout) (place : GroupPosition) (file : Option (List ℕ)) (ps : List PreparedElement)
@@ -162,8 +172,10 @@ turn_drawn r layout place file ps around n m i p at old mid new are turn is next
     let at_is : at ≡ context_at place file es n e = turn_around place file ps around n i p at are turn is in
     let begins : begins_in_row_above at ≡ shares_before es n = ap begins_in_row_above at_is ∙ begins_is place file es n e here in
     let above : List (List Cell) = old ++ flat_map (λ part. part) before.parts in
-    let added : AddsElement r layout at (found_at r layout es n) e above new = adds above before.tail (found_at r layout es n) before.added (subst (λ b. IsTail layout.decor layout.gutter b before.tail) (sym begins) before.ends) (λ starts. before.last (sym begins ∙ starts)) in
-    subst (λ k. DrawnSoFar r layout place file es k old new) (sym next) (drawn_more r layout place file es n e old mid new before here (subst (λ a. AddsElement r layout a (found_at r layout es n) e above new) at_is added))
+    let added : AddsElement r layout at (found_at r layout es n) e above new = adds above before.tail (found_at r layout es n) before.added
+    (subst (λ b. IsTail layout.decor layout.gutter b before.tail) (sym begins) before.ends) (λ starts. before.last (sym begins ∙ starts)) in
+    subst (λ k. DrawnSoFar r layout place file es k old new) (sym next)
+    (drawn_more r layout place file es n e old mid new before here (subst (λ a. AddsElement r layout a (found_at r layout es n) e above new) at_is added))
 
 -- after the last all are drawn
 pub turns_all : (r : Renderer) (layout : Layout) (place : GroupPosition) (file : Option (List ℕ)) (ps : List PreparedElement) (n : ℕ)

@@ -10,7 +10,8 @@ use Rattle.annotate_snippets.specs.declared.renderer.Renderer.{Renderer}
 use Rattle.snippet_grid.specs.Layout.{Layout}
 use Rattle.annotate_snippets.specs.declared.renderer.element_context.ElementContext.{ElementContext}
 
--- rows that show an element once they have names, with which they are those of its value; and they hold no listed character but a message's own; and no line feed, where its texts
+-- rows that show an element once they have names, with which they are those of its value; and they hold no listed character but a message's own; and no line
+-- feed, where its texts
 -- bring none
 pub record ElementShown (r : Renderer) (layout : Layout) (around : ElementContext) (found : List Cell) (e : Element) (rows : List (List Cell)) : Type 0 where
   pub part : List NamedRow

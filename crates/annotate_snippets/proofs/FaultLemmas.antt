@@ -39,7 +39,8 @@ pub added_more : (patches : List Patch) (i : ℕ) (p : Patch) → i < length pat
 added_more patches i p within is =
     let feeds : Patch → ℕ = λ q. count_by (λ b. b == 10) (cow_str_bytes q.replacement) in
     let more : take (i + 1) patches ≡ take i patches ++ p ∷ [] = take_more patches i p within ∙ ap (λ (q : Patch). take i patches ++ q ∷ []) (sym is) in
-    let sum : added_lines (take (i + 1) patches) ≡ added_lines (take i patches) + feeds p = ap added_lines more ∙ fold_push (λ a q. a + feeds q) 0 (take i patches) p in
+    let sum : added_lines (take (i + 1) patches) ≡ added_lines (take i patches) + feeds p = ap added_lines more
+    ∙ fold_push (λ a q. a + feeds q) 0 (take i patches) p in
     omega (arith, sum, count_by-le-length (λ b. b == 10) (cow_str_bytes p.replacement))
 
 -- no first fault, no fault
@@ -99,7 +100,8 @@ border source b test = by_cases (is_character_border source b) refl
 -- a span without a fault is a span
 pub IsSpan-faultless : (source : List ℕ) (start end : ℕ) → span_fault source start end ≡ None → IsSpan source start end
 unfolding span_fault
-IsSpan-faultless source start end none = by_cases (nat_lt end start) (nat_lt (length source + 1) end) (is_span_border source start) (is_span_border source end) refl refl refl refl none
+IsSpan-faultless source start end none = by_cases (nat_lt end start) (nat_lt (length source + 1) end) (is_span_border source start)
+    (is_span_border source end) refl refl refl refl none
   where
     by_cases : (reversed past from to : Bool) → nat_lt end start ≡ reversed → nat_lt (length source + 1) end ≡ past
         → is_span_border source start ≡ from → is_span_border source end ≡ to
@@ -131,7 +133,8 @@ pub overlap-first : (spans after : List RenderError) (group element : ℕ) (patc
     → first_overlap (map edit_of patches) ≡ Some (m, n)
     → Some (PatchesOverlap group element m n) ≡ first_of (spans ++ overlap_faults group element patches ++ after)
 overlap-first spans after group element patches m n none pair =
-    sym (ap (λ faults. first_of (faults ++ overlap_faults group element patches ++ after)) none ∙ ap (λ (p : Option (ℕ × ℕ)). first_of (option_to_list (option_map (λ t. PatchesOverlap group element t.0 t.1) p) ++ after)) pair)
+    sym (ap (λ faults. first_of (faults ++ overlap_faults group element patches ++ after)) none
+    ∙ ap (λ (p : Option (ℕ × ℕ)). first_of (option_to_list (option_map (λ t. PatchesOverlap group element t.0 t.1) p) ++ after)) pair)
 
 -- a number without a fault fits
 number-faultless : (group element number : ℕ) → number_faults group element number ≡ [] → number < 2 ^ 64
@@ -165,7 +168,8 @@ suggestion-drawable group element s none fits =
     let last : ℕ = number_after_lines s.line_start (cow_str_bytes s.source) in
     let all = number-faultless group element (last + added_lines s.markers.items) (back_none _ _ none) in
     let spans = spans-faultless (λ (p : Patch). p.span) group element 0 (cow_str_bytes s.source) s.markers.items (front_none _ _ (front_none _ _ none)) in
-    let disjoint = first_overlap-clear (map edit_of s.markers.items) (no_overlap group element (first_overlap (map edit_of s.markers.items)) (back_none _ _ (front_none _ _ none))) in
+    let disjoint = first_overlap-clear (map edit_of s.markers.items)
+    (no_overlap group element (first_overlap (map edit_of s.markers.items)) (back_none _ _ (front_none _ _ none))) in
     record { source = fits.0; lines = without_more last _ all; spans = spans; disjoint = disjoint; numbers = numbers-bound s spans disjoint all }
 
 -- and any element
@@ -180,14 +184,16 @@ element-drawable group element (Padding padding) none fits = tt
 elements-drawable : (group n : ℕ) (es : List Element) → faults_from (element_faults group) n es ≡ [] → All ElementFits es → All IsElementDrawable es
 elements-drawable group n [] none fit = All-nil IsElementDrawable
 elements-drawable group n (e ∷ es) none fit =
-    All-cons IsElementDrawable e es (element-drawable group n e (front_none _ _ none) (All-head ElementFits e es fit)) (elements-drawable group (n + 1) es (back_none _ _ none) (All-tail ElementFits e es fit))
+    All-cons IsElementDrawable e es (element-drawable group n e (front_none _ _ none) (All-head ElementFits e es fit))
+    (elements-drawable group (n + 1) es (back_none _ _ none) (All-tail ElementFits e es fit))
 
 -- and groups without faults
 groups-faultless : (n : ℕ) (groups : List Group) → faults_from group_faults n groups ≡ [] → All GroupFits groups → All IsGroupDrawable groups
 groups-faultless n [] none fit = All-nil IsGroupDrawable
 groups-faultless n (g ∷ groups) none fit =
     let fits : GroupFits g = All-head GroupFits g groups fit in
-    All-cons IsGroupDrawable g groups (fits, elements-drawable n 0 g.elements.items (front_none _ _ none) fits.1) (groups-faultless (n + 1) groups (back_none _ _ none) (All-tail GroupFits g groups fit))
+    All-cons IsGroupDrawable g groups (fits, elements-drawable n 0 g.elements.items (front_none _ _ none) fits.1)
+    (groups-faultless (n + 1) groups (back_none _ _ none) (All-tail GroupFits g groups fit))
 
 -- each group of a report without faults can be drawn
 pub groups-drawable : (groups : List Group) → ReportFits groups → first_fault groups ≡ None → All IsGroupDrawable groups

@@ -65,8 +65,10 @@ one cell holds = All-cons HoldsNoFeed cell [] holds (All-nil HoldsNoFeed)
 
 -- a row of strokes before any stroke is drawn holds no line feed
 pub bare-plain : (decor : DecorStyle) (gutter : ℕ) (closes : Bool) → HasNoFeed (bare_row decor gutter closes)
-bare-plain Ascii gutter false = after_spaces (gutter + 1) (text_cells LineNumber (separator_of Ascii ∷ [])) (one (unlinked_cell LineNumber (separator_of Ascii)) refl)
-bare-plain Unicode gutter false = after_spaces (gutter + 1) (text_cells LineNumber (separator_of Unicode ∷ [])) (one (unlinked_cell LineNumber (separator_of Unicode)) refl)
+bare-plain Ascii gutter false = after_spaces (gutter + 1) (text_cells LineNumber (separator_of Ascii ∷ []))
+    (one (unlinked_cell LineNumber (separator_of Ascii)) refl)
+bare-plain Unicode gutter false = after_spaces (gutter + 1) (text_cells LineNumber (separator_of Unicode ∷ []))
+    (one (unlinked_cell LineNumber (separator_of Unicode)) refl)
 bare-plain decor gutter true = after_spaces (gutter + 1) (text_cells LineNumber (closing_of decor)) (cells_plain LineNumber (closing_of decor) (closing decor))
   where
     closing : (decor : DecorStyle) → All IsNoFeed (closing_of decor)
@@ -76,7 +78,8 @@ bare-plain decor gutter true = after_spaces (gutter + 1) (text_cells LineNumber 
 bare_elision : (decor : DecorStyle) (gutter : ℕ) → HasNoFeed (bare_elision_row decor gutter)
 bare_elision Ascii gutter = cells_plain LineNumber (elision_of Ascii) (each-fails (λ c. c == 10) (elision_of Ascii) refl)
 bare_elision Unicode gutter =
-    after_spaces (gutter + 1) (text_cells LineNumber (elision_of Unicode)) (cells_plain LineNumber (elision_of Unicode) (each-fails (λ c. c == 10) (elision_of Unicode) refl))
+    after_spaces (gutter + 1) (text_cells LineNumber (elision_of Unicode))
+    (cells_plain LineNumber (elision_of Unicode) (each-fails (λ c. c == 10) (elision_of Unicode) refl))
 
 -- a row in place of lines that are left out holds none
 pub elided : (decor : DecorStyle) (layout : Layout) (row : List Cell) → IsElided decor layout row → HasNoFeed row

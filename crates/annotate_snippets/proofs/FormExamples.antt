@@ -52,7 +52,8 @@ labelled label kind start end = labelled_span (Some (text_of (label ∷ []))) ki
 --       | |
 --       | x
 two_labels : (v : Vec Annotation Global)
-    → texts_of (rows_of_lines plain_settings layout false (marked v (codes "ab cd") (labelled 120 Context 0 2 ∷ labelled 121 Primary 3 5 ∷ []) (omega arith)) [] (0 ∷ [])) ≡ codes "1 | ab cd" ∷ codes "  | -- ^^ y" ∷ codes "  | |" ∷ codes "  | x" ∷ []
+    → texts_of (rows_of_lines plain_settings layout false (marked v (codes "ab cd") (labelled 120 Context 0 2 ∷ labelled 121 Primary 3 5 ∷ [])
+    (omega arith)) [] (0 ∷ [])) ≡ codes "1 | ab cd" ∷ codes "  | -- ^^ y" ∷ codes "  | |" ∷ codes "  | x" ∷ []
 unfolding place_of line_of start_of chars char_width unicode_width norm locations_of start_location location_of end_location steps_after_text written digits
 two_labels v = refl
 
@@ -67,7 +68,8 @@ abbrev four_lines : Vec Annotation Global → Snippet Annotation
 four_lines v = marked v (codes "a\nb\nc\nd") (span_of Primary 0 1 ∷ span_of Primary 6 7 ∷ []) (omega arith)
 
 lines_left_out : (v : Vec Annotation Global)
-    → texts_of (rows_of_lines plain_settings layout false (four_lines v) [] (0 ∷ 3 ∷ [])) ≡ codes "1 | a" ∷ codes "  | ^" ∷ codes "..." ∷ codes "4 | d" ∷ codes "  | ^" ∷ []
+    → texts_of (rows_of_lines plain_settings layout false (four_lines v) [] (0 ∷ 3 ∷ []))
+    ≡ codes "1 | a" ∷ codes "  | ^" ∷ codes "..." ∷ codes "4 | d" ∷ codes "  | ^" ∷ []
 unfolding place_of line_of start_of chars char_width unicode_width norm locations_of start_location location_of end_location steps_after_text written digits
 lines_left_out v = refl
 
@@ -83,7 +85,8 @@ names_of_rows v = refl
 --     3 | | c
 --       | |_^
 one_bar : (v : Vec Annotation Global)
-    → texts_of (rows_of_lines plain_settings (record { gutter = 1; code = 6; decor = Ascii }) false (marked v (codes "a\nb\nc") (span_of Primary 0 5 ∷ []) (omega arith)) []
+    → texts_of (rows_of_lines plain_settings (record { gutter = 1; code = 6; decor = Ascii }) false
+    (marked v (codes "a\nb\nc") (span_of Primary 0 5 ∷ []) (omega arith)) []
     (0 ∷ 1 ∷ 2 ∷ [])) ≡ codes "1 | / a" ∷ codes "2 | | b" ∷ codes "3 | | c" ∷ codes "  | |_^" ∷ []
 unfolding place_of line_of start_of chars char_width unicode_width norm locations_of start_location location_of end_location steps_after_text written digits
 one_bar v = refl

@@ -22,7 +22,8 @@ use Rattle.annotate_snippets.specs.declared.renderer.text_form.PreviousSuggestio
 
 -- the elements before this one were added: with those that are left, the form is what all are after the old one. The suggestion
 -- right before has at most as large a number as there are elements before
-pub record ElementsSoFar (r : Renderer) (file : Option (List ℕ)) (es : List Element) (i : ℕ) (old form : List FormPiece) (before : Option PreviousSuggestion) : Type 0 where
+pub record ElementsSoFar (r : Renderer) (file : Option (List ℕ)) (es : List Element) (i : ℕ) (old form : List FormPiece)
+    (before : Option PreviousSuggestion) : Type 0 where
   pub left : form ++ elements_form r file before (drop i es) ≡ old ++ elements_form r file None es
   pub numbered : IfSome before (λ (b : PreviousSuggestion). b.number ≤ i)
 
@@ -55,15 +56,18 @@ pub element_added : (r : Renderer) (file : Option (List ℕ)) (es : List Element
     → ElementsSoFar r file es (i + 1) old new after
 element_added r file es i e old form new before after followed at shares added follows so_far =
     let next : suc i ≡ i + 1 = omega arith in
-    let rest : drop i es ≡ e ∷ drop (i + 1) es = drop-cons es i e (slice_get_within es i e at) ∙ ap (λ (x : Element). x ∷ drop (suc i) es) (get_or_from_slice_get es i e e at) ∙ ap (λ n. e ∷ drop n es) next in
+    let rest : drop i es ≡ e ∷ drop (i + 1) es = drop-cons es i e (slice_get_within es i e at)
+    ∙ ap (λ (x : Element). x ∷ drop (suc i) es) (get_or_from_slice_get es i e e at) ∙ ap (λ n. e ∷ drop n es) next in
     let later : List FormPiece = elements_form r file (before_next before e) (drop (i + 1) es) in
-    let own : element_form r file before followed e ≡ element_form r file before (first_two_share (e ∷ drop (i + 1) es)) e = ap (λ b. element_form r file before b e) (shares ∙ ap first_two_share rest) in
+    let own : element_form r file before followed e ≡ element_form r file before (first_two_share (e ∷ drop (i + 1) es)) e = ap (λ b.
+    element_form r file before b e) (shares ∙ ap first_two_share rest) in
     record {
       left = ap (λ (b : Option PreviousSuggestion). new ++ elements_form r file b (drop (i + 1) es)) follows
           ∙ ap (λ (x : List FormPiece). x ++ later) (added ∙ ap (λ (x : List FormPiece). form ++ x) own)
           ∙ append_assoc form (element_form r file before (first_two_share (e ∷ drop (i + 1) es)) e) later
           ∙ ap (λ (xs : List Element). form ++ elements_form r file before xs) (sym rest) ∙ so_far.left;
-      numbered = subst (λ (b : Option PreviousSuggestion). IfSome b (λ (x : PreviousSuggestion). x.number ≤ i + 1)) (sym follows) (next_within before e i so_far.numbered);
+      numbered = subst (λ (b : Option PreviousSuggestion). IfSome b (λ (x : PreviousSuggestion). x.number ≤ i + 1)) (sym follows)
+          (next_within before e i so_far.numbered);
     }
 
 -- all of them
@@ -87,7 +91,8 @@ title_form r title =
 pub title_added : (r : Renderer) (title : Option Title) (t : Title) (old new : List FormPiece) → title ≡ Some t
     → new ≡ old ++ heading_form r.hyperlink kind.Title (heading_of_title t) → new ≡ old ++ title_form r title
 title_added r title t old new is added =
-    added ∙ ap (λ (x : List FormPiece). old ++ x) (sym (append-nil (heading_form r.hyperlink kind.Title (heading_of_title t)))) ∙ ap (λ (x : Option Title). old ++ title_form r x) (sym is)
+    added ∙ ap (λ (x : List FormPiece). old ++ x) (sym (append-nil (heading_form r.hyperlink kind.Title (heading_of_title t))))
+    ∙ ap (λ (x : Option Title). old ++ title_form r x) (sym is)
 
 -- a group without a title adds nothing for it
 pub no_title_added : (r : Renderer) (title : Option Title) (old new : List FormPiece) → title ≡ None → new ≡ old → new ≡ old ++ title_form r title
@@ -113,4 +118,5 @@ pub one_group_added : (r : Renderer) (groups gs : List Group) (i : ℕ) (g : Gro
 one_group_added r groups gs i g form new within is so_far added =
     let own : Group → List FormPiece = group_form r groups in
     let more : take (i + 1) gs ≡ take i gs ++ g ∷ [] = take_more gs i g within ∙ ap (λ (h : Group). take i gs ++ h ∷ []) (sym is) in
-    added ∙ ap (λ (x : List FormPiece). x ++ own g) so_far ∙ ap (λ (x : List FormPiece). flat_map own (take i gs) ++ x) (sym (append-nil (own g))) ∙ sym (flat_map-append own (take i gs) (g ∷ [])) ∙ ap (flat_map own) (sym more)
+    added ∙ ap (λ (x : List FormPiece). x ++ own g) so_far ∙ ap (λ (x : List FormPiece). flat_map own (take i gs) ++ x) (sym (append-nil (own g)))
+    ∙ sym (flat_map-append own (take i gs) (g ∷ [])) ∙ ap (flat_map own) (sym more)

@@ -1,5 +1,6 @@
 -- The texts of a report that is drawn show it in its form, and have the laws of that.
-use Rattle.std.proofs.Common.{◌≡◌, ℕ, true, Option, None, Some, Result, Ok, Err, IfSome, String, Vec, Global, refl, sym, ap, List, [], ◌∷◌, All, subst, length, map, string_bytes}
+use Rattle.std.proofs.Common.{◌≡◌, ℕ, true, Option, None, Some, Result, Ok, Err, IfSome, String, Vec, Global, refl, sym, ap, List, [], ◌∷◌, All, subst, length}
+use Rattle.std.proofs.Common.{map, string_bytes}
 use Rattle.std.proofs.lemmas.List.{nil_from_length}
 use Rattle.std.proofs.lemmas.List.Elements.{All-nil}
 use Rattle.std.specs.List.{AllZip, Contains, flat_map}
@@ -130,7 +131,8 @@ free-in r groups Short laws =
 free-in r groups Text laws = laws.free
 
 -- texts that have the laws of a form differ in their codes alone, and each listed character is one of a trusted text
-pub are-free : (r : Renderer) (groups : List Group) (form : Form) (sheets : List Stylesheet) (texts : List (List ℕ)) → AllZip (LawsIn form r groups) sheets texts
+pub are-free : (r : Renderer) (groups : List Group) (form : Form) (sheets : List Stylesheet) (texts : List (List ℕ))
+    → AllZip (LawsIn form r groups) sheets texts
     → AreFree (trusted_texts groups) (links_in form r groups) sheets texts
 are-free r groups form [] [] laws = record {
   plain = [];

@@ -57,9 +57,12 @@ pub layout_is : (r : Renderer) (groups gs : List Group) (g : Group) (layout : La
     → layout ≡ layout_of_group r groups g
 layout_is r groups gs g layout gutter depth same wide deep left code decor =
     let wanted : gutter ≡ gutter_of_report r groups = wide ∙ ap (gutter_of_report r) same in
-    let after : layout.code ≡ code_after (gutter_of_report r groups) (depth_of_group g) = code ∙ ap (λ w. code_after w depth) wanted ∙ ap (code_after (gutter_of_report r groups)) deep in
-    let first : ◌≡◌ {A = Layout} layout (record { gutter = gutter_of_report r groups; code = layout.code; decor = layout.decor }) = ap (λ w. laid_out w layout.code layout.decor) (left ∙ wanted) in
-    first ∙ ap (λ c. laid_out (gutter_of_report r groups) c layout.decor) after ∙ ap (laid_out (gutter_of_report r groups) (code_after (gutter_of_report r groups) (depth_of_group g))) decor
+    let after : layout.code ≡ code_after (gutter_of_report r groups) (depth_of_group g) = code ∙ ap (λ w. code_after w depth) wanted
+    ∙ ap (code_after (gutter_of_report r groups)) deep in
+    let first : ◌≡◌ {A = Layout} layout (record { gutter = gutter_of_report r groups; code = layout.code; decor = layout.decor }) = ap (λ w.
+    laid_out w layout.code layout.decor) (left ∙ wanted) in
+    first ∙ ap (λ c. laid_out (gutter_of_report r groups) c layout.decor) after
+    ∙ ap (laid_out (gutter_of_report r groups) (code_after (gutter_of_report r groups) (depth_of_group g))) decor
 
 -- an iteration's group is the next of the report
 pub turn_group : (groups : List Group) (ps : List PreparedGroup) (n i : ℕ) (p : PreparedGroup) → map group_of ps ≡ groups
@@ -83,7 +86,9 @@ pub turn_room : (r : Renderer) (groups : List Group) (ps : List PreparedGroup) (
     → (n < length (enumerate_from 0 ps)) × ((i, p) ≡ get_or (enumerate_from 0 ps) n (i, p)) → layout ≡ layout_of_group r groups p.group.now
     → All (λ e. HasRoomFor r layout (element_of e)) p.elements.items
 turn_room r groups ps n i p layout drawable prepared same turn is =
-    All-unmapped (HasRoomFor r layout) element_of p.elements.items (subst (λ es. All (HasRoomFor r layout) es) (sym prepared.elements_are) (subst (λ f. All (HasRoomFor r f) (drawn_elements p.group.now)) (sym is) (room_in_report r groups drawable n p.group.now (turn_group groups ps n i p same turn))))
+    All-unmapped (HasRoomFor r layout) element_of p.elements.items (subst (λ es.
+    All (HasRoomFor r layout) es) (sym prepared.elements_are) (subst (λ f.
+    All (HasRoomFor r f) (drawn_elements p.group.now)) (sym is) (room_in_report r groups drawable n p.group.now (turn_group groups ps n i p same turn))))
 
 -- one more grid
 pub turn_grid : (r : Renderer) (groups : List Group) (ps : List PreparedGroup) (n m i : ℕ) (p : PreparedGroup) (layout : Layout) (place : GroupPosition)

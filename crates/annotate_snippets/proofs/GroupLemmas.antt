@@ -109,7 +109,8 @@ no_links rows none =
 element-unlinked : (r : Renderer) (layout : Layout) (around : ElementContext) (found : List Cell) (e : Element) (part : List NamedRow)
     → ShowsElement r layout around found e part → IsFreeElement e part → All IsUnlinked (cells_of part)
 element-unlinked r layout around found (Message message) part shows free =
-    subst (All IsUnlinked) (sym shows.shows.rows_are) (message_rows-unlinked r.hyperlink (record { layout = layout; followed = not (is_end around.next) }) (heading_of_message message) refl)
+    subst (All IsUnlinked) (sym shows.shows.rows_are) (message_rows-unlinked r.hyperlink (record { layout = layout; followed = not (is_end around.next) })
+    (heading_of_message message) refl)
 element-unlinked r layout around found (Cause snippet) part shows free =
     free_unlinked (cells_of part) (All-map IsFree (λ (row : NamedRow). row.cells) part free)
 element-unlinked r layout around found (Suggestion snippet) part shows free =
@@ -130,7 +131,8 @@ title_part-links : (r : Renderer) (layout : Layout) (place : GroupPosition) (fol
 title_part-links r layout place follows None = refl
 title_part-links r layout place follows (Some title) =
     let after : List (List Cell) = rows_after_title r layout place follows title.allows_styling in
-    links-append (title_rows r.hyperlink title) after (free_unlinked after (after_title-free r layout place follows title.allows_styling)) ∙ title_rows-links r.hyperlink title ∙ sym (append-nil (id_links r.hyperlink title.id))
+    links-append (title_rows r.hyperlink title) after (free_unlinked after (after_title-free r layout place follows title.allows_styling))
+    ∙ title_rows-links r.hyperlink title ∙ sym (append-nil (id_links r.hyperlink title.id))
 
 module _ (r : Renderer) (layout : Layout) (place : GroupPosition) (file : Option (List ℕ)) (es : List Element) (parts : List (List (List Cell))) where
   -- rows with names that show element i, and are part i without them
@@ -147,7 +149,8 @@ module _ (r : Renderer) (layout : Layout) (place : GroupPosition) (file : Option
     count : length named ≡ length es
     each : (i : ℕ) (e : Element) → slice_get es i ≡ Some e → IsPartShown i e (get_or named i [])
 
-  module _ (drawable : All IsElementDrawable es) (drawn : All (λ e. is_drawn e ≡ true) es) (room : All (HasRoomFor r layout) es) (are : AreElementsDrawn r layout place file es parts) where
+  module _ (drawable : All IsElementDrawable es) (drawn : All (λ e. is_drawn e ≡ true) es) (room : All (HasRoomFor r layout) es)
+      (are : AreElementsDrawn r layout place file es parts) where
     -- each part shows its element, with names
     part_shown : (i : ℕ) (e : Element) → slice_get es i ≡ Some e → (part : List NamedRow) × IsPartShown i e part
     part_shown i e is =
@@ -156,8 +159,17 @@ module _ (r : Renderer) (layout : Layout) (place : GroupPosition) (file : Option
         let shown = element_shown r layout (context_at place file es i e) (found_at r layout es i) e (get_or parts i [])
         (subst IsElementDrawable own (All-get_or IsElementDrawable es i e within drawable))
         (subst (λ x. is_drawn x ≡ true) own (All-get_or (λ x. is_drawn x ≡ true) es i e within drawn))
-        (subst (HasRoomFor r layout) own (All-get_or (HasRoomFor r layout) es i e within room)) (are.each i e is) in
-        (shown.part, record { value = shown.value; cells = shown.cells; shows = shown.shows; free = shown.free; one_line = λ plain. subst (All HasNoFeed) (sym shown.cells) (shown.one_line plain) })
+        (subst (HasRoomFor r layout) own (All-get_or (HasRoomFor r layout) es i e within room)) (are.each i e is) in (
+          shown.part,
+          record {
+            value = shown.value;
+            cells = shown.cells;
+            shows = shown.shows;
+            free = shown.free;
+            one_line = λ plain.
+                subst (All HasNoFeed) (sym shown.cells) (shown.one_line plain);
+          },
+        )
 
     named_parts : AreNamed
     named_parts =
@@ -175,7 +187,8 @@ module _ (r : Renderer) (layout : Layout) (place : GroupPosition) (file : Option
   -- the parts with names are those of the group's page
   parts_value : (names : AreNamed) → names.named ≡ rows_of_elements r layout place file es
   parts_value names =
-      ext_get_or [] names.named (map rows_of (enumerate_from 0 es)) (names.count ∙ sym (length-enumerate_from 0 es) ∙ sym (length-map (enumerate_from 0 es) rows_of)) same
+      ext_get_or [] names.named (map rows_of (enumerate_from 0 es)) (names.count ∙ sym (length-enumerate_from 0 es)
+      ∙ sym (length-map (enumerate_from 0 es) rows_of)) same
     where
       rows_of : ℕ × Element → List NamedRow
       rows_of pair = element_rows r layout (context_at place file es pair.0 pair.1) (found_at r layout es pair.0) pair.1
@@ -185,7 +198,8 @@ module _ (r : Renderer) (layout : Layout) (place : GroupPosition) (file : Option
           let e = element_at names i within in
           let inside : i < length es = omega (arith, within, names.count) in
           let numbered : i < length (enumerate_from 0 es) = omega (arith, inside, length-enumerate_from 0 es) in
-          let item : get_or (enumerate_from 0 es) i (0, e.0) ≡ (i, e.0) = get_or-enumerate_from 0 es i (0, e.0) inside ∙ ap (λ (n : ℕ). (n, get_or es i e.0)) (zero-add i) ∙ ap (λ (x : Element). (i, x)) (get_or_from_slice_get es i e.0 e.0 e.1) in
+          let item : get_or (enumerate_from 0 es) i (0, e.0) ≡ (i, e.0) = get_or-enumerate_from 0 es i (0, e.0) inside
+          ∙ ap (λ (n : ℕ). (n, get_or es i e.0)) (zero-add i) ∙ ap (λ (x : Element). (i, x)) (get_or_from_slice_get es i e.0 e.0 e.1) in
           (names.each i e.0 e.1).value ∙ ap rows_of (sym item) ∙ sym (get_or-map rows_of (enumerate_from 0 es) i (0, e.0) [] numbered)
 
   -- the parts with names are those without them
@@ -219,7 +233,9 @@ module _ (r : Renderer) (layout : Layout) (place : GroupPosition) (file : Option
       each i within =
           let e = element_at names i within in
           let own : get_or es i e.0 ≡ e.0 = get_or_from_slice_get es i e.0 e.0 e.1 in
-          let texts : AreTextsAmong trusted (trusted_of_element e.0) = subst (λ x. AreTextsAmong trusted (trusted_of_element x)) own (All-get_or (λ x. AreTextsAmong trusted (trusted_of_element x)) es i e.0 (slice_get_within es i e.0 e.1) among) in
+          let texts : AreTextsAmong trusted (trusted_of_element e.0) = subst (λ x.
+          AreTextsAmong trusted (trusted_of_element x)) own (All-get_or (λ x.
+          AreTextsAmong trusted (trusted_of_element x)) es i e.0 (slice_get_within es i e.0 e.1) among) in
           element_free trusted e.0 (get_or names.named i []) texts (names.each i e.0 e.1).free
 
   -- and no line feed, where no text of the elements brings one
@@ -238,14 +254,17 @@ pub group_shown : (r : Renderer) (layout : Layout) (place : GroupPosition) (file
 group_shown r layout place file g rows drawable room grid =
     let es : List Element = drawn_elements g in
     let parts : List (List (List Cell)) = grid.parts in
-    let names = named_parts r layout place file es parts (All-filter is_drawn IsElementDrawable g.elements.items drawable.1) (filter_passes is_drawn g.elements.items) room grid.are in
+    let names = named_parts r layout place file es parts (All-filter is_drawn IsElementDrawable g.elements.items drawable.1)
+    (filter_passes is_drawn g.elements.items) room grid.are in
     let title : List (List Cell) = title_part r layout place (next_of es) g.title in
     let below : List (List Cell) = flat_map cells_of names.named in
     let rows_are : rows ≡ title ++ below = grid.rows_are ∙ ap (λ rs. title ++ rs) (sym (parts_are r layout place file es parts names grid.are.count)) in
     let titles : List (List ℕ) = flat_map trusted_of_title (option_to_list g.title) in
     let texts : List (List ℕ) = flat_map trusted_of_element g.elements.items in
-    let among : All (λ e. AreTextsAmong (titles ++ texts) (trusted_of_element e)) es = All-filter is_drawn (λ e. AreTextsAmong (titles ++ texts) (trusted_of_element e)) g.elements.items (texts_among titles g.elements.items) in
-    let free : All (IsFreeRow (titles ++ texts)) (title ++ below) = All-append (IsFreeRow (titles ++ texts)) title below (title_part-free r layout place (next_of es) g.title texts) (parts-free r layout place file es parts (titles ++ texts) among names) in
+    let among : All (λ e. AreTextsAmong (titles ++ texts) (trusted_of_element e)) es = All-filter is_drawn (λ e.
+    AreTextsAmong (titles ++ texts) (trusted_of_element e)) g.elements.items (texts_among titles g.elements.items) in
+    let free : All (IsFreeRow (titles ++ texts)) (title ++ below) = All-append (IsFreeRow (titles ++ texts)) title below
+    (title_part-free r layout place (next_of es) g.title texts) (parts-free r layout place file es parts (titles ++ texts) among names) in
     record {
       page = record { title = title; elements = names.named };
       value = ap (λ (els : List (List NamedRow)). record { title = title; elements = els }) (parts_value r layout place file es parts names);
@@ -254,8 +273,10 @@ group_shown r layout place file g rows drawable room grid =
         title = title_shown r layout place (next_of es) g.title;
         elements = record { count = names.count; each = λ i e is. (names.each i e is).shows; free = λ i e is. (names.each i e is).free };
       };
-      links = ap links_of rows_are ∙ links-append title below (parts-unlinked r layout place file es parts names) ∙ title_part-links r layout place (next_of es) g.title;
-      free = subst (λ ts. IsFreeBut ts (plain_text rows)) (sym (append-nil (titles ++ texts))) (free_text (titles ++ texts) rows (subst (All (IsFreeRow (titles ++ texts))) (sym rows_are) free));
+      links = ap links_of rows_are ∙ links-append title below (parts-unlinked r layout place file es parts names)
+          ∙ title_part-links r layout place (next_of es) g.title;
+      free = subst (λ ts. IsFreeBut ts (plain_text rows)) (sym (append-nil (titles ++ texts)))
+          (free_text (titles ++ texts) rows (subst (All (IsFreeRow (titles ++ texts))) (sym rows_are) free));
       one_line = λ plain. All-append HasNoFeed title below (title_part-one_line r layout place (next_of es) g.title plain.0)
           (parts_one_line r layout place file es parts names (All-filter is_drawn IsOneLineElement g.elements.items plain.1));
     }

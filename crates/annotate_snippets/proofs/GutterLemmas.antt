@@ -72,7 +72,8 @@ feeds-before (x ∷ xs) b e within =
     let inside = HoldsByte-source source b in
     let before : k ≤ feeds (joined (take k ls)) = feeds-lines ls k (AreLines-lines_of source) inside.within in
     let whole : joined ls ≡ source = joined-source_lines source in
-    let front : take start source ≡ joined (take k ls) = ap (λ bytes. take start bytes) (sym whole ∙ split_at_line ls k ([], Eof) inside.within) ∙ take-append_seam (joined (take k ls)) _ in
+    let front : take start source ≡ joined (take k ls) = ap (λ bytes. take start bytes) (sym whole ∙ split_at_line ls k ([], Eof) inside.within)
+    ∙ take-append_seam (joined (take k ls)) _ in
     let early : start ≤ e = omega (arith, inside.from) in
     let cut : take start (take e source) ≡ take start source = take-take start e source early in
     let fewer : feeds (take start (take e source)) ≤ feeds (take e source) = sum_by-take-le (λ c. cond (is_lf c) 1 0) (take e source) start in
@@ -93,7 +94,8 @@ fold-end-ge (a ∷ marks) m = omega (arith, fold-end-ge marks (max a.span.end m)
 fold-ends : (marks : List Annotation) (m : ℕ) → All (λ (a : Annotation). a.span.end ≤ fold (λ end (b : Annotation). max b.span.end end) m marks) marks
 fold-ends [] m = All-nil (λ (a : Annotation). a.span.end ≤ m)
 fold-ends (a ∷ marks) m =
-    All-cons (λ (b : Annotation). b.span.end ≤ fold (λ end (c : Annotation). max c.span.end end) (max a.span.end m) marks) a marks (omega (arith, fold-end-ge marks (max a.span.end m))) (fold-ends marks (max a.span.end m))
+    All-cons (λ (b : Annotation). b.span.end ≤ fold (λ end (c : Annotation). max c.span.end end) (max a.span.end m) marks) a marks
+    (omega (arith, fold-end-ge marks (max a.span.end m))) (fold-ends marks (max a.span.end m))
 
 -- each line that a span ends on has a number at most one more than the number counted for the gutter
 lines_counted : (s : Snippet Annotation) → All (λ a. last_line (cow_str_bytes s.source) a ≤ newline_count (reached_source s) + 1) s.markers.items
@@ -101,9 +103,12 @@ lines_counted s = λ k d within.
     let source : List ℕ = cow_str_bytes s.source in
     let marks : List Annotation = s.markers.items in
     let ends : (get_or marks k d).span.end ≤ greatest_end marks = fold-ends marks 0 k d within in
-    let folded : last_line source (get_or marks k d) ≤ newline_count (take (greatest_end marks) source) + 1 = first_line-counted source (get_or marks k d).span.end (greatest_end marks) ends in
-    let unfolded : last_line source (get_or marks k d) ≤ newline_count source + 1 = omega (arith, line_of-within source (get_or marks k d).span.end, length-source_lines source) in
-    elim (s.fold && not (length marks == 0)) as (λ b. last_line source (get_or marks k d) ≤ newline_count (cond b (take (greatest_end marks) source) source) + 1) [
+    let folded : last_line source (get_or marks k d) ≤ newline_count (take (greatest_end marks) source) + 1 = first_line-counted source
+    (get_or marks k d).span.end (greatest_end marks) ends in
+    let unfolded : last_line source (get_or marks k d) ≤ newline_count source + 1 = omega
+    (arith, line_of-within source (get_or marks k d).span.end, length-source_lines source) in
+    elim (s.fold && not (length marks == 0)) as (λ b. last_line source (get_or marks k d) ≤ newline_count
+    (cond b (take (greatest_end marks) source) source) + 1) [
       | true ↦ folded
       | false ↦ unfolded
     ]
@@ -130,7 +135,8 @@ kept-counted s = by_cases s.fold refl
         let p : ℕ → Bool = λ k. list_any (keeps source k) s.markers.items in
         All-weaker (λ k. p k ≡ true) (λ k. k ≤ newline_count (reached_source s) + 1) (λ k kept.
         let found = from_any (keeps source k) s.markers.items kept in
-        let low : last_line source found.0 ≤ newline_count (reached_source s) + 1 = All-contains (λ a. last_line source a ≤ newline_count (reached_source s) + 1) s.markers.items found.0 (lines_counted s) found.1 in
+        let low : last_line source found.0 ≤ newline_count (reached_source s) + 1 = All-contains (λ a.
+        last_line source a ≤ newline_count (reached_source s) + 1) s.markers.items found.0 (lines_counted s) found.1 in
         omega (arith, low, kept_before source found.0 k found.2)) (filter p all) (filter_passes p all)
     by_cases false is =
         let same : newline_count (reached_source s) ≡ newline_count source = rw is refl in
@@ -160,7 +166,9 @@ between-counted n (j ∷ k ∷ ks) low =
           All-same (λ i. i ≤ n) (with_between (j ∷ k ∷ ks)) (j ∷ (j + 1) ∷ with_between (k ∷ ks))
           (cond-true (k == j + 2) (j ∷ (j + 1) ∷ with_between (k ∷ ks)) (j ∷ with_between (k ∷ ks)) one)
           (All-cons (λ i. i ≤ n) j ((j + 1) ∷ with_between (k ∷ ks)) here (All-cons (λ i. i ≤ n) (j + 1) (with_between (k ∷ ks)) middle after))
-      | inr other ↦ All-same (λ i. i ≤ n) (with_between (j ∷ k ∷ ks)) (j ∷ with_between (k ∷ ks)) (cond-false (k == j + 2) (j ∷ (j + 1) ∷ with_between (k ∷ ks)) (j ∷ with_between (k ∷ ks)) other) (All-cons (λ i. i ≤ n) j (with_between (k ∷ ks)) here after)
+      | inr other ↦ All-same (λ i. i ≤ n) (with_between (j ∷ k ∷ ks)) (j ∷ with_between (k ∷ ks))
+          (cond-false (k == j + 2) (j ∷ (j + 1) ∷ with_between (k ∷ ks)) (j ∷ with_between (k ∷ ks)) other)
+          (All-cons (λ i. i ≤ n) j (with_between (k ∷ ks)) here after)
     ]
 
 -- what holds of lines holds of what is seen of them
@@ -200,7 +208,12 @@ number_width-step Hidden m n near small fits = omega arith
 -- what it shows takes the cells that it has, or those that are needed
 length-shown : (numbers : LineNumbers) (gutter number : ℕ) → number_width numbers number ≤ gutter + 1 → length (shown_number numbers gutter number) ≤ gutter + 1
 length-shown Shown gutter number fits =
-    omega (arith, length-append (replicate (gutter - length (decimal number)) 32) (decimal number), length-replicate {A = ℕ} (gutter - length (decimal number)) 32)
+    omega (
+      arith,
+      length-append (replicate (gutter - length (decimal number)) 32) (decimal number),
+      length-replicate {A = ℕ}
+          (gutter - length (decimal number)) 32,
+    )
 length-shown Anonymized gutter number fits =
     let letters : List ℕ = 76 ∷ 76 ∷ [] in
     omega (arith, length-append {A = ℕ} (replicate (gutter - 2) 32) letters, length-replicate {A = ℕ} (gutter - 2) 32)
@@ -223,8 +236,10 @@ counted-width r layout s room = by_cases s.line_numbering refl r.anonymized_snip
 pub counted-small : (s : Snippet Annotation) → s.line_start + length (source_lines (cow_str_bytes s.source)) < 2 ^ 64 → counted_number s < 2 ^ 64
 counted-small s fits =
     let source : List ℕ = cow_str_bytes s.source in
-    let folded : newline_count (take (greatest_end s.markers.items) source) ≤ newline_count source + 1 = newline_count-take source (greatest_end s.markers.items) in
-    let low : newline_count (reached_source s) ≤ newline_count source + 1 = elim (s.fold && not (length s.markers.items == 0)) as (λ b. newline_count (cond b (take (greatest_end s.markers.items) source) source) ≤ newline_count source + 1) [ true ↦ folded | false ↦ omega arith ] in
+    let folded : newline_count (take (greatest_end s.markers.items) source) ≤ newline_count source + 1 = newline_count-take source
+    (greatest_end s.markers.items) in
+    let low : newline_count (reached_source s) ≤ newline_count source + 1 = elim (s.fold && not (length s.markers.items == 0)) as (λ b.
+    newline_count (cond b (take (greatest_end s.markers.items) source) source) ≤ newline_count source + 1) [ true ↦ folded | false ↦ omega arith ] in
     omega (arith, length-source_lines source)
 
 -- what the gutter shows beside the lines of a snippet takes at most one cell more than the gutter has
@@ -239,11 +254,18 @@ numbers_fit r layout s infos room drawable lines =
     let Small : KeptLine → Type 0 = λ l. l.number < 2 ^ 64 in
     let ks : List ℕ = shown_lines s.fold source s.markers.items in
     let low = between-counted (newline_count (reached_source s) + 1) (kept_lines s.fold source s.markers.items) (kept-counted s) in
-    let counted : All (λ info. Counted (seen_kept info)) infos = All-of_lines Counted (kept_line (numbered_source s) s.markers.items) ks infos lines (λ i d within. omega (arith, low i d within)) in
+    let counted : All (λ info. Counted (seen_kept info)) infos = All-of_lines Counted (kept_line (numbered_source s) s.markers.items) ks infos lines
+    (λ i d within. omega (arith, low i d within)) in
     let inside = shown_within (numbered_source s) s.markers.items drawable.spans s.fold in
-    let small : All (λ info. Small (seen_kept info)) infos = All-of_lines Small (kept_line (numbered_source s) s.markers.items) ks infos lines (λ i d within. omega (arith, inside i d within, drawable.numbers)) in
+    let small : All (λ info. Small (seen_kept info)) infos = All-of_lines Small (kept_line (numbered_source s) s.markers.items) ks infos lines (λ i d within.
+    omega (arith, inside i d within, drawable.numbers)) in
     let fits : counted_number s < 2 ^ 64 = counted-small s drawable.numbers in
     let wide : number_width numbers (counted_number s) ≤ layout.gutter = counted-width r layout s room in
     λ i d within.
     let number : ℕ = (get_or infos i d).line_index in
-    length-shown numbers layout.gutter number (omega (arith, wide, number_width-step numbers number (counted_number s) (counted i d within) (small i d within) fits))
+    length-shown numbers layout.gutter number (omega (
+      arith,
+      wide,
+      number_width-step numbers number (counted_number s) (counted i d within)
+          (small i d within) fits,
+    ))

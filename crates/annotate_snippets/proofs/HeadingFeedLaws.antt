@@ -62,7 +62,8 @@ brackets_plain hidden role address (Some text) plain =
     let opened : HasNoFeed (text_cells role (opening_bracket_of hidden) ++ own) =
     All-append HoldsNoFeed (text_cells role (opening_bracket_of hidden)) own (cells_plain role (opening_bracket_of hidden) (opening_plain hidden))
     (linked_plain address (text_cells role (norm (chars text))) (cells_plain role (norm (chars text)) (norm-plain (chars text) plain))) in
-    All-append HoldsNoFeed (text_cells role (opening_bracket_of hidden) ++ own) (text_cells role (closing_bracket_of hidden)) opened (cells_plain role (closing_bracket_of hidden) (closing_plain hidden))
+    All-append HoldsNoFeed (text_cells role (opening_bracket_of hidden) ++ own) (text_cells role (closing_bracket_of hidden)) opened
+    (cells_plain role (closing_bracket_of hidden) (closing_plain hidden))
 
 id_plain : (hyperlink hidden : Bool) (role : ElementStyle) (id : Option Id) → IsOneLineId id → HasNoFeed (id_cells hyperlink hidden role id)
 id_plain hyperlink hidden role None plain = All-nil HoldsNoFeed
@@ -79,8 +80,10 @@ label_plain hyperlink roles heading plain =
     let hidden : Bool = is_hidden heading.level.name in
     let name : List ℕ = norm (chars (name_of heading.level)) in
     let id : List Cell = id_cells hyperlink hidden roles.label heading.id in
-    let named : HasNoFeed (text_cells roles.label name ++ id) = All-append HoldsNoFeed (text_cells roles.label name) id (cells_plain roles.label name (norm-plain (chars (name_of heading.level)) plain.0)) (id_plain hyperlink hidden roles.label heading.id plain.1) in
-    All-append HoldsNoFeed (text_cells roles.label name ++ id) (text_cells roles.colon (colon_of hidden heading.id)) named (cells_plain roles.colon (colon_of hidden heading.id) (colon_plain hidden heading.id))
+    let named : HasNoFeed (text_cells roles.label name ++ id) = All-append HoldsNoFeed (text_cells roles.label name) id
+    (cells_plain roles.label name (norm-plain (chars (name_of heading.level)) plain.0)) (id_plain hyperlink hidden roles.label heading.id plain.1) in
+    All-append HoldsNoFeed (text_cells roles.label name ++ id) (text_cells roles.colon (colon_of hidden heading.id)) named
+    (cells_plain roles.colon (colon_of hidden heading.id) (colon_plain hidden heading.id))
 
 -- ---- what stands before it, and below
 
@@ -104,7 +107,8 @@ indent_plain Title width = blank width
 indent_plain Short width = blank width
 indent_plain (Message place) width =
     let bar : Cell = note_bar_of place.layout.decor place.followed in
-    after_spaces (place.layout.gutter + 1) (bar ∷ replicate (width + 1) SPACE) (All-cons HoldsNoFeed bar (replicate (width + 1) SPACE) (by_decor place.layout.decor place.followed) (blank (width + 1)))
+    after_spaces (place.layout.gutter + 1) (bar ∷ replicate (width + 1) SPACE)
+    (All-cons HoldsNoFeed bar (replicate (width + 1) SPACE) (by_decor place.layout.decor place.followed) (blank (width + 1)))
   where
     by_decor : (decor : DecorStyle) (followed : Bool) → HoldsNoFeed (note_bar_of decor followed)
     by_decor Ascii followed = refl
@@ -122,7 +126,8 @@ onto_plain c (part ∷ parts) plain all =
 one_more : (c : ℕ) (cs : List ℕ) (feed : Bool) → (c == 10) ≡ feed → All (All IsNoFeed) (slice_split (λ x. x == 10) cs)
     → All (All IsNoFeed) (slice_split (λ x. x == 10) (c ∷ cs))
 one_more c cs true is all =
-    subst (All (All IsNoFeed)) (sym (slice_split-cons_yes (λ x. x == 10) c cs is)) (All-cons (All IsNoFeed) [] (slice_split (λ x. x == 10) cs) (All-nil IsNoFeed) all)
+    subst (All (All IsNoFeed)) (sym (slice_split-cons_yes (λ x. x == 10) c cs is))
+    (All-cons (All IsNoFeed) [] (slice_split (λ x. x == 10) cs) (All-nil IsNoFeed) all)
 one_more c cs false is all =
     subst (All (All IsNoFeed)) (sym (slice_split-cons_no (λ x. x == 10) c cs is)) (onto_plain c (slice_split (λ x. x == 10) cs) is all)
 
@@ -141,7 +146,8 @@ lines_plain first further role [] begun below all = All-nil HasNoFeed
 lines_plain first further role (line ∷ lines) begun below all =
     let rest : List (List Cell) = map (λ l. further ++ text_cells role l) lines in
     let later : All (All IsNoFeed) lines = All-tail (All IsNoFeed) line lines all in
-    All-cons HasNoFeed (first ++ text_cells role line) rest (after_plain first role line begun (All-head (All IsNoFeed) line lines all)) (All-map HasNoFeed (λ l. further ++ text_cells role l) lines (λ k d within. after_plain further role _ below (later k d within)))
+    All-cons HasNoFeed (first ++ text_cells role line) rest (after_plain first role line begun (All-head (All IsNoFeed) line lines all))
+    (All-map HasNoFeed (λ l. further ++ text_cells role l) lines (λ k d within. after_plain further role _ below (later k d within)))
 
 -- so no row of a title or message holds one, whatever its text is, where its level's name and its id hold none
 pub heading_one_line : (hyperlink : Bool) (style : TitleStyle) (heading : Heading) → IsOneLineHeading heading
@@ -153,7 +159,9 @@ heading_one_line hyperlink style heading plain =
     let label : List Cell = label_cells hyperlink roles heading in
     let indent : List Cell = indent_cells style (label_width heading) in
     let begun : HasNoFeed (sign ++ label) = All-append HoldsNoFeed sign label (sign_plain style) (label_plain hyperlink roles heading plain) in
-    All-trimmed HasNoFeed (lines_below (sign ++ label) indent roles.text (heading_lines heading)) (lines_plain (sign ++ label) indent roles.text (heading_lines heading) begun (indent_plain style (label_width heading)) (parts_plain (shown_text heading)))
+    All-trimmed HasNoFeed (lines_below (sign ++ label) indent roles.text (heading_lines heading))
+    (lines_plain (sign ++ label) indent roles.text (heading_lines heading) begun (indent_plain style (label_width heading))
+    (parts_plain (shown_text heading)))
 
 -- so no row of a group's title does, and none below it
 pub title_part-one_line : (r : Renderer) (layout : Layout) (place : GroupPosition) (follows : NextElement) (title : Option TitleGiven)

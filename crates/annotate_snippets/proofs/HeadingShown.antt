@@ -60,7 +60,8 @@ pub message_shown : (r : Renderer) (layout : Layout) (around : ElementContext) (
     → rows ≡ message_rows r layout around message → ElementShown r layout around found (Message message) rows
 message_shown r layout around found message rows are =
     let heading : Heading = heading_of_message message in
-    let shows : ShowsHeading r.hyperlink (message_style r layout around) heading rows = subst (ShowsHeading r.hyperlink (message_style r layout around) heading) (sym are) (heading_shown r.hyperlink (message_style r layout around) heading) in
+    let shows : ShowsHeading r.hyperlink (message_style r layout around) heading rows = subst
+    (ShowsHeading r.hyperlink (message_style r layout around) heading) (sym are) (heading_shown r.hyperlink (message_style r layout around) heading) in
     record {
       part = others rows;
       value = ap others are;
@@ -84,14 +85,16 @@ pub origin_shown : (r : Renderer) (layout : Layout) (around : ElementContext) (f
 origin_shown r layout around found origin rows are =
     let path : List ℕ = cow_str_bytes origin.path in
     let row : List Cell = origin_row (origin_layout r layout) (origin_start around) path (place_given origin) in
-    let free : All IsFree (origin_rows r layout around origin) = All-cons IsFree row _ (origin_row-free (origin_layout r layout) (origin_start around) path (place_given origin)) (closing-free r layout (closes_after around)) in
+    let free : All IsFree (origin_rows r layout around origin) = All-cons IsFree row _
+    (origin_row-free (origin_layout r layout) (origin_start around) path (place_given origin)) (closing-free r layout (closes_after around)) in
     record {
       part = others rows;
       value = ap others are;
       cells = cells_of-others rows;
       shows = record {
         rows_are = ap others are;
-        text = ap (λ (rs : List (List Cell)). row_text (drop (layout.gutter + 4) (row_at (cells_of (others rs)) 0))) are ∙ origin_row-text (origin_layout r layout) (origin_start around) path (place_given origin);
+        text = ap (λ (rs : List (List Cell)). row_text (drop (layout.gutter + 4) (row_at (cells_of (others rs)) 0))) are
+            ∙ origin_row-text (origin_layout r layout) (origin_start around) path (place_given origin);
       };
       free = others-each IsFree rows (subst (All IsFree) (sym are) free);
       one_line = λ plain. subst (All HasNoFeed) (sym are) (origin_one_line r layout around origin plain);

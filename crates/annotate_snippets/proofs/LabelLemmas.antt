@@ -63,7 +63,8 @@ none_before s marks =
 pub labelled_at_end : (s : Source) (marks : List Annotation) (k dropped : ℕ) (es : List LineAnnotation) → map seen_part es ≡ parts_on s marks k
     → All IsLabelledAtEnd (map (shifted dropped) es)
 labelled_at_end s marks k dropped es same =
-    each es (subst (All HasNoneBefore) (sym same) (All-filter (λ (p : PartEntry). p.entry.start.line == s.first + k) HasNoneBefore (made_parts s marks) (none_before s marks)))
+    each es (subst (All HasNoneBefore) (sym same) (All-filter (λ (p : PartEntry). p.entry.start.line == s.first + k) HasNoneBefore (made_parts s marks)
+    (none_before s marks)))
   where
     own : (e : LineAnnotation) → HasNoneBefore (seen_part e) → IsLabelledAtEnd (shifted dropped e)
     own e none before = label_is e.label ∙ no_text (none before)
@@ -74,7 +75,8 @@ labelled_at_end s marks k dropped es same =
     each : (xs : List LineAnnotation) → All HasNoneBefore (map seen_part xs) → All IsLabelledAtEnd (map (shifted dropped) xs)
     each [] all = All-nil IsLabelledAtEnd
     each (x ∷ xs) all =
-        All-cons IsLabelledAtEnd (shifted dropped x) (map (shifted dropped) xs) (own x (All-head HasNoneBefore (seen_part x) (map seen_part xs) all)) (each xs (All-tail HasNoneBefore (seen_part x) (map seen_part xs) all))
+        All-cons IsLabelledAtEnd (shifted dropped x) (map (shifted dropped) xs) (own x (All-head HasNoneBefore (seen_part x) (map seen_part xs) all))
+        (each xs (All-tail HasNoneBefore (seen_part x) (map seen_part xs) all))
 
 -- ---- the labels of the entries at which spans end
 
@@ -134,7 +136,9 @@ module _ (dropped : ℕ) (layout : Layout) (rows_layout : Layout) (code : rows_l
       let end : l.entry.end.display ≡ e.end.display - dropped = ap (λ (x : LineAnnotation). x.end.display) entry in
       let kind : l.entry.kind ≡ e.kind = ap (λ (x : LineAnnotation). x.kind) entry in
       record {
-        whole = λ n within. there.whole n (omega (arith, within, ap length text)) ∙ ap (λ (x : AnnotationKind). unlinked_cell (label_role x) (get_or (label_text l.entry) n 0)) kind ∙ ap (λ (cs : List ℕ). unlinked_cell (label_role e.kind) (get_or cs n 0)) text;
+        whole = λ n within. there.whole n (omega (arith, within, ap length text))
+            ∙ ap (λ (x : AnnotationKind). unlinked_cell (label_role x) (get_or (label_text l.entry) n 0)) kind
+            ∙ ap (λ (cs : List ℕ). unlinked_cell (label_role e.kind) (get_or cs n 0)) text;
         place = elim there.place [
           | inl at ↦ inl (at.0, at.1 ∙ ap (λ m. rows_layout.code + max m 1 + 1) end ∙ ap (λ m. m + max (e.end.display - dropped) 1 + 1) code)
           | inr at ↦ inr (at.0, omega (arith, at.1, start, right, code))
@@ -154,7 +158,8 @@ module _ (dropped : ℕ) (layout : Layout) (rows_layout : Layout) (code : rows_l
   all_shown (e ∷ es) (l ∷ ls) entries clear stand =
       let entry = head_same l.entry (shifted dropped e) (map (λ (x : PlacedLabel). x.entry) ls) (map (shifted dropped) es) entries in
       let further = tail_same l.entry (shifted dropped e) (map (λ (x : PlacedLabel). x.entry) ls) (map (shifted dropped) es) entries in
-      both (ends_here (seen_part e)) (one_label e l entry (All-head IsClear e es clear)) (All-head Stands l ls stand) (all_shown es ls further (All-tail IsClear e es clear) (All-tail Stands l ls stand))
+      both (ends_here (seen_part e)) (one_label e l entry (All-head IsClear e es clear)) (All-head Stands l ls stand)
+      (all_shown es ls further (All-tail IsClear e es clear) (All-tail Stands l ls stand))
     where
       both : (b : Bool) → (b ≡ true → Stands l → Shows (shown_at e l)) → Stands l → All Shows (shown_labels es ls)
           → All Shows (cond b (shown_at e l ∷ shown_labels es ls) (shown_labels es ls))
@@ -177,7 +182,8 @@ module _ (dropped : ℕ) (layout : Layout) (rows_layout : Layout) (code : rows_l
   all_led all shown clear (e ∷ es) (l ∷ ls) entries led =
       let entry = head_same l.entry (shifted dropped e) (map (λ (x : PlacedLabel). x.entry) ls) (map (shifted dropped) es) entries in
       let further = tail_same l.entry (shifted dropped e) (map (λ (x : PlacedLabel). x.entry) ls) (map (shifted dropped) es) entries in
-      let own : Stemmed shown (shown_at e l) = λ some r under above none. All-head (Led all) l ls led (omega (arith, ap length (text_is e l entry), some)) r under above (clear r l.cell none) in
+      let own : Stemmed shown (shown_at e l) = λ some r under above none.
+      All-head (Led all) l ls led (omega (arith, ap length (text_is e l entry), some)) r under above (clear r l.cell none) in
       both (ends_here (seen_part e)) own (all_led all shown clear es ls further (All-tail (Led all) l ls led))
     where
       both : (b : Bool) → Stemmed shown (shown_at e l) → All (Stemmed shown) (shown_labels es ls)
@@ -194,7 +200,8 @@ module _ (dropped : ℕ) (layout : Layout) (rows_layout : Layout) (code : rows_l
   cells_few r c (e ∷ es) (l ∷ ls) entries =
       let entry = head_same l.entry (shifted dropped e) (map (λ (x : PlacedLabel). x.entry) ls) (map (shifted dropped) es) entries in
       let further = tail_same l.entry (shifted dropped e) (map (λ (x : PlacedLabel). x.entry) ls) (map (shifted dropped) es) entries in
-      let one : is_in_label r c (shown_at e l) ≡ is_cell_of r c l = ap (λ (n : ℕ). l.row == r && (nat_le l.cell c && nat_lt c (l.cell + n))) (sym (ap length (text_is e l entry))) in
+      let one : is_in_label r c (shown_at e l) ≡ is_cell_of r c l = ap (λ (n : ℕ). l.row == r && (nat_le l.cell c && nat_lt c (l.cell + n)))
+      (sym (ap length (text_is e l entry))) in
       both (ends_here (seen_part e)) one (cells_few r c es ls further)
     where
       both : (b : Bool) → is_in_label r c (shown_at e l) ≡ is_cell_of r c l → count_by (is_in_label r c) (shown_labels es ls) ≤ count_by (is_cell_of r c) ls
@@ -218,11 +225,13 @@ module _ (dropped : ℕ) (layout : Layout) (rows_layout : Layout) (code : rows_l
   cells_all r c (e ∷ es) (l ∷ ls) entries ends =
       let entry = head_same l.entry (shifted dropped e) (map (λ (x : PlacedLabel). x.entry) ls) (map (shifted dropped) es) entries in
       let further = tail_same l.entry (shifted dropped e) (map (λ (x : PlacedLabel). x.entry) ls) (map (shifted dropped) es) entries in
-      let one : is_in_label r c (shown_at e l) ≡ is_cell_of r c l = ap (λ (n : ℕ). l.row == r && (nat_le l.cell c && nat_lt c (l.cell + n))) (sym (ap length (text_is e l entry))) in
+      let one : is_in_label r c (shown_at e l) ≡ is_cell_of r c l = ap (λ (n : ℕ). l.row == r && (nat_le l.cell c && nat_lt c (l.cell + n)))
+      (sym (ap length (text_is e l entry))) in
       let none : (is_start_part e.annotation_type || is_bar e.annotation_type) ≡ true → is_cell_of r c l ≡ false =
       λ before. no_cell r c l.row l.cell (length (label_text l.entry))
       (ap length (ap label_text entry ∙ All-head IsLabelledAtEnd (shifted dropped e) (map (shifted dropped) es) ends before)) in
-      both (is_start_part e.annotation_type || is_bar e.annotation_type) one none (cells_all r c es ls further (All-tail IsLabelledAtEnd (shifted dropped e) (map (shifted dropped) es) ends))
+      both (is_start_part e.annotation_type || is_bar e.annotation_type) one none
+      (cells_all r c es ls further (All-tail IsLabelledAtEnd (shifted dropped e) (map (shifted dropped) es) ends))
     where
       no_cell : (r c row cell n : ℕ) → n ≡ 0 → (row == r && (nat_le cell c && nat_lt c (cell + n))) ≡ false
       no_cell r c row cell n is = grind (arith, nat_tests, is)
@@ -244,7 +253,8 @@ module _ (dropped : ℕ) (layout : Layout) (rows_layout : Layout) (code : rows_l
 
 -- of the entries of a span of several lines the last one alone is where it ends
 one_end : (s : Source) (k depth : ℕ) (again : Bool) (e : Entry)
-    → map label_of_part (filter ends_here (filter (λ (p : PartEntry). p.entry.start.line == s.first + k) (span_parts s depth again e))) ≡ map label_of_end (cond (e.end.line == s.first + k) (e ∷ []) [])
+    → map label_of_part (filter ends_here (filter (λ (p : PartEntry). p.entry.start.line == s.first + k) (span_parts s depth again e)))
+    ≡ map label_of_end (cond (e.end.line == s.first + k) (e ∷ []) [])
 one_end s k depth true e = both (e.end.line == s.first + k)
   where
     both : (b : Bool) → map label_of_part (filter ends_here (cond b (end_part e Singleline ∷ []) [])) ≡ map label_of_end (cond b (e ∷ []) [])
@@ -302,7 +312,8 @@ single_labels : (s : Source) (k : ℕ) (marked : List Annotation) → All (λ a.
 single_labels s k [] own = refl
 single_labels s k (a ∷ marked) own =
     let O : Annotation → Type 0 = λ x. is_marked_on s.text k x ≡ true in
-    let single : is_single_line s.text a ≡ true = (and_parts (is_marking a.kind) (is_single_line s.text a) (and_parts (is_marking a.kind && is_single_line s.text a) (first_line s.text a == k) (All-head O a marked own)).0).1 in
+    let single : is_single_line s.text a ≡ true = (and_parts (is_marking a.kind) (is_single_line s.text a)
+    (and_parts (is_marking a.kind && is_single_line s.text a) (first_line s.text a == k) (All-head O a marked own)).0).1 in
     let rest = single_labels s k marked (All-tail O a marked own) in
     let here : label_of_part (single_part s a) ≡ label_of_span s.text a =
     ap (λ n. record { text = shown_label a; kind = a.kind; from = n; to = (entry_of s a).end.display }) (start_of_entry s a)
@@ -323,10 +334,12 @@ labels_shown sn k dropped layout rows_layout es rows code same clear stand =
     let marked : List Annotation = filter (is_marked_on s.text k) marks in
     let singles : List PartEntry = map (single_part s) marked in
     let longs : List PartEntry = filter on_line (long_parts s (long_places s marks) [] (long_spans s marks)) in
-    let parts : map seen_part es ≡ singles ++ longs = same ∙ filter-append on_line (map (single_part s) (filter (is_short s.text) marks)) (long_parts s (long_places s marks) [] (long_spans s marks)) ∙ ap (λ ps. ps ++ longs) (singles-on s marks k) in
+    let parts : map seen_part es ≡ singles ++ longs = same ∙ filter-append on_line (map (single_part s) (filter (is_short s.text) marks))
+    (long_parts s (long_places s marks) [] (long_spans s marks)) ∙ ap (λ ps. ps ++ longs) (singles-on s marks k) in
     let none_kept : (r c : ℕ) → count_by (is_in_label r c) (shown_labels es stand.labels) ≡ 0 → count_by (is_cell_of r c) stand.labels ≡ 0 = λ r c none.
     omega (arith, none, cells_all dropped layout rows_layout code rows r c es stand.labels stand.are (labelled_at_end s marks k dropped es same)) in
-    let long : length stand.labels ≡ length es = sym (length-map stand.labels (λ (l : PlacedLabel). l.entry)) ∙ ap length stand.are ∙ length-map es (shifted dropped) in
+    let long : length stand.labels ≡ length es = sym (length-map stand.labels (λ (l : PlacedLabel). l.entry)) ∙ ap length stand.are
+    ∙ length-map es (shifted dropped) in
     record {
       labels = shown_labels es stand.labels;
       spans = labels_are es stand.labels long ∙ ap (λ ps. map label_of_part (filter ends_here ps)) parts

@@ -30,7 +30,14 @@ module _ (decor : DecorStyle) (gutter : ℕ) (shown : List ℕ) where
 
   long_left : length (cells_left decor gutter shown) ≡ length shown + (gutter + 1 - length shown) + 1
   long_left =
-      omega (arith, length-append (text_cells LineNumber shown) (spaces ++ end), length-text_cells LineNumber shown, length-append spaces end, length-replicate (gutter + 1 - length shown) SPACE)
+      omega (
+        arith,
+        length-append (text_cells LineNumber shown) (spaces ++ end),
+        length-text_cells LineNumber shown,
+        length-append spaces end,
+        length-replicate
+            (gutter + 1 - length shown) SPACE,
+      )
 
   -- where a row begins so, the number leaves room for the separator
   number_fits : (row : List Cell) → take (gutter + 2) row ≡ cells_left decor gutter shown → length shown ≤ gutter + 1
@@ -44,7 +51,8 @@ module _ (decor : DecorStyle) (gutter : ℕ) (shown : List ℕ) where
       let fits : n ≤ gutter + 2 = omega (arith, number_fits row is) in
       let cells : List Cell = text_cells LineNumber shown in
       let long : length cells ≡ n = length-text_cells LineNumber shown in
-      ap row_text (sym (take-take n (gutter + 2) row fits) ∙ ap (take n) is ∙ take-append-le n cells (spaces ++ end) (omega (arith, long)) ∙ take_all n cells (omega (arith, long))) ∙ row_text-text_cells LineNumber shown
+      ap row_text (sym (take-take n (gutter + 2) row fits) ∙ ap (take n) is ∙ take-append-le n cells (spaces ++ end) (omega (arith, long))
+      ∙ take_all n cells (omega (arith, long))) ∙ row_text-text_cells LineNumber shown
 
   module _ (fits : length shown ≤ gutter + 1) where
     -- its cells, one by one
@@ -59,7 +67,8 @@ module _ (decor : DecorStyle) (gutter : ℕ) (shown : List ℕ) where
     at_space : (c : ℕ) → length shown ≤ c → c < gutter + 1 → get_or (cells_left decor gutter shown) c SPACE ≡ SPACE
     at_space c right left =
         let n : ℕ = gutter + 1 - length shown in
-        after_number c right ∙ get_or_append_left spaces end SPACE (c - length shown) (omega (arith, right, left, length-replicate n SPACE)) ∙ get_or-replicate n (c - length shown) SPACE SPACE (omega (arith, right, left))
+        after_number c right ∙ get_or_append_left spaces end SPACE (c - length shown) (omega (arith, right, left, length-replicate n SPACE))
+        ∙ get_or-replicate n (c - length shown) SPACE SPACE (omega (arith, right, left))
 
     at_separator : get_or (cells_left decor gutter shown) (gutter + 1) SPACE ≡ unlinked_cell LineNumber (separator_of decor)
     at_separator =
@@ -81,15 +90,19 @@ reaches_separator decor row c is =
       | inr short ↦ absurd (false≢true (ap (λ (cell : Cell). gives_way cell.role) (sym is ∙ get_or_past row c SPACE short)))
     ]
 
-module _ (layout : Layout) (shown : List ℕ) (cells plain row : List Cell) (fits : length shown ≤ layout.gutter + 1) (place : layout.gutter + 3 ≤ layout.code) (is : IsSourceRow layout shown cells plain) (same : (c : ℕ) → c < layout.gutter + 3 → get_or row c SPACE ≡ get_or plain c SPACE) where
+module _ (layout : Layout) (shown : List ℕ) (cells plain row : List Cell) (fits : length shown ≤ layout.gutter + 1) (place : layout.gutter + 3 ≤ layout.code)
+    (is : IsSourceRow layout shown cells plain) (same : (c : ℕ) → c < layout.gutter + 3 → get_or row c SPACE ≡ get_or plain c SPACE) where
   -- left of the bars a row that is as a source row there holds the number, spaces and the separator
   left_cells : (c : ℕ) → c < layout.gutter + 2 → get_or row c SPACE ≡ get_or (cells_left layout.decor layout.gutter shown) c SPACE
   left_cells c left =
       same c (omega (arith, left)) ∙ elim (cases_lt c (length shown)) [
-        | inl number ↦ sym (get_or-take (length shown) plain c SPACE number) ∙ ap (λ cs. get_or cs c SPACE) is.shows.number ∙ sym (at_number layout.decor layout.gutter shown fits c number)
+        | inl number ↦ sym (get_or-take (length shown) plain c SPACE number) ∙ ap (λ cs. get_or cs c SPACE) is.shows.number
+            ∙ sym (at_number layout.decor layout.gutter shown fits c number)
         | inr right ↦ elim (cases_eq c (layout.gutter + 1)) [
-          | inl at ↦ ap (λ n. get_or plain n SPACE) at ∙ is.separator ∙ sym (ap (λ n. get_or (cells_left layout.decor layout.gutter shown) n SPACE) at ∙ at_separator layout.decor layout.gutter shown fits)
-          | inr other ↦ is.blank c right other (omega (arith, left, place)) ∙ sym (at_space layout.decor layout.gutter shown fits c right (omega (arith, left, other)))
+          | inl at ↦ ap (λ n. get_or plain n SPACE) at ∙ is.separator ∙ sym
+              (ap (λ n. get_or (cells_left layout.decor layout.gutter shown) n SPACE) at ∙ at_separator layout.decor layout.gutter shown fits)
+          | inr other ↦ is.blank c right other (omega (arith, left, place))
+              ∙ sym (at_space layout.decor layout.gutter shown fits c right (omega (arith, left, other)))
         ]
       ]
 
@@ -98,7 +111,8 @@ module _ (layout : Layout) (shown : List ℕ) (cells plain row : List Cell) (fit
   left_of_source =
       let all : List Cell = cells_left layout.decor layout.gutter shown in
       let long : length all ≡ layout.gutter + 2 = omega (arith, long_left layout.decor layout.gutter shown, fits) in
-      let reaches : layout.gutter + 1 < length row = reaches_separator layout.decor row (layout.gutter + 1) (same (layout.gutter + 1) (omega arith) ∙ is.separator) in
+      let reaches : layout.gutter + 1 < length row = reaches_separator layout.decor row (layout.gutter + 1)
+      (same (layout.gutter + 1) (omega arith) ∙ is.separator) in
       same_front row all (layout.gutter + 2) (omega (arith, reaches)) (omega (arith, long)) left_cells ∙ take_all (layout.gutter + 2) all (omega (arith, long))
 
   -- and after that a space
@@ -119,7 +133,8 @@ bare_unnumbered Ascii gutter (suc zero) left = refl
 bare_unnumbered Ascii gutter (suc (suc zero)) left = refl
 bare_unnumbered Ascii gutter (suc (suc (suc c))) left = refl
 bare_unnumbered Unicode gutter c left =
-    ap (λ (cell : Cell). is_ascii_alphanumeric cell.ch) (get_or_append_left (replicate (gutter + 1) SPACE) (text_cells LineNumber (elision_of Unicode)) SPACE c (omega (arith, left, length-replicate (gutter + 1) SPACE)) ∙ get_or-replicate (gutter + 1) c SPACE SPACE (omega (arith, left)))
+    ap (λ (cell : Cell). is_ascii_alphanumeric cell.ch) (get_or_append_left (replicate (gutter + 1) SPACE) (text_cells LineNumber (elision_of Unicode)) SPACE c
+    (omega (arith, left, length-replicate (gutter + 1) SPACE)) ∙ get_or-replicate (gutter + 1) c SPACE SPACE (omega (arith, left)))
 
 -- the row for lines that are left out has no number
 pub unnumbered_elided : (decor : DecorStyle) (layout : Layout) (row : List Cell) → IsElided decor layout row → HasNoNumber layout.gutter row

@@ -84,7 +84,8 @@ pub line_plain : (source : List ℕ) (k : ℕ) → IsUtf8 source → All IsNoFee
 line_plain source k utf8 =
     elim (cases_lt k (length (source_lines source))) [
       | inl within ↦ chars-plain (text_at (source_lines source) k) (IsUtf8-text_at source k utf8) (IsLine-at source k within).no_lf
-      | inr past ↦ subst (λ (l : Line). All IsNoFeed (chars l.0)) (sym (get_or_past (source_lines source) k ([], Eof) past)) (chars-plain [] IsUtf8-nil (All-nil (λ b. b ≢ 10)))
+      | inr past ↦ subst (λ (l : Line). All IsNoFeed (chars l.0)) (sym (get_or_past (source_lines source) k ([], Eof) past))
+          (chars-plain [] IsUtf8-nil (All-nil (λ b. b ≢ 10)))
     ]
 
 -- ---- glyphs. The type of an entry with its place has no name outside its crate, so `_` stands for it
@@ -128,7 +129,8 @@ module _ (layout : Layout) where
     where
       of_entry : (e : _) → All IsPlainWrite (connector_of layout row e)
       of_entry e =
-          All-connector_of IsPlainWrite layout row e (λ depth. stretch_plain (row + e.position) (layout.gutter + 3 + depth) (layout.code + e.entry.start.display) _ (stroke_role e) (code_plain layout.decor (is_primary e.entry.kind)).connector)
+          All-connector_of IsPlainWrite layout row e (λ depth. stretch_plain (row + e.position) (layout.gutter + 3 + depth)
+          (layout.code + e.entry.start.display) _ (stroke_role e) (code_plain layout.decor (is_primary e.entry.kind)).connector)
 
   corners_plain : (row count : ℕ) (es : _) → All IsPlainWrite (corners_of layout row count es)
   corners_plain row count es =
@@ -144,12 +146,14 @@ module _ (layout : Layout) where
           let at : ℕ = row + 1 + e.position in
           let corner : ℕ = (strokes_of layout.decor (is_primary e.entry.kind)).bar_top in
           let first : Write = glyph_at at (bar_column layout depth) corner (stroke_role e) in
-          All-cons IsPlainWrite first (bar_writes layout e depth (at + 1) count) (alone corner (bars_plain layout.decor (is_primary e.entry.kind)).bar_top) (bar e depth (at + 1) count)
+          All-cons IsPlainWrite first (bar_writes layout e depth (at + 1) count) (alone corner (bars_plain layout.decor (is_primary e.entry.kind)).bar_top)
+          (bar e depth (at + 1) count)
       by_part e (MultilineEnd depth) =
           let at : ℕ = row + 1 + e.position in
           let corner : ℕ = (strokes_of layout.decor (is_primary e.entry.kind)).bar_bottom in
           let last : Write = glyph_at at (bar_column layout depth) corner (stroke_role e) in
-          let one : All IsPlainWrite (last ∷ []) = All-cons IsPlainWrite last [] (alone corner (bars_plain layout.decor (is_primary e.entry.kind)).bar_bottom) (All-nil IsPlainWrite) in
+          let one : All IsPlainWrite (last ∷ []) = All-cons IsPlainWrite last [] (alone corner (bars_plain layout.decor (is_primary e.entry.kind)).bar_bottom)
+          (All-nil IsPlainWrite) in
           All-append IsPlainWrite (bar_writes layout e depth row at) (last ∷ []) (bar e depth row at) one
       by_part e (MultilineLine depth) = All-nil IsPlainWrite
 
@@ -160,7 +164,8 @@ module _ (layout : Layout) where
       of_entry : (e : _) (below : ℕ) → IsPlainWrite (stem_write layout row e below)
       of_entry e below =
           let primary : Bool = is_primary e.entry.kind in
-          alone _ (either_plain (below == e.position) _ _ (of_foot IsNoFeed e.entry.annotation_type layout.decor primary (has_label e) (code_plain layout.decor primary).stems) (code_plain layout.decor primary).stems.stem)
+          alone _ (either_plain (below == e.position) _ _ (of_foot IsNoFeed e.entry.annotation_type layout.decor primary (has_label e)
+          (code_plain layout.decor primary).stems) (code_plain layout.decor primary).stems.stem)
 
   labels_plain : (row : ℕ) (es : _) → ((k : ℕ) (d : _) → k < length es → IsPlainWrite (label_write layout row (get_or es k d)))
       → All IsPlainWrite (labels_of layout row es)
@@ -179,7 +184,8 @@ module _ (layout : Layout) where
           let first : Write = glyph_at row from (first_glyph layout.decor e) (stroke_role e) in
           let rest : List Write = stretch_of row (from + 1) to line (stroke_role e) in
           elim (nat_lt from to) as (λ b. All IsPlainWrite (cond b (first ∷ rest) [])) [
-            | true ↦ All-cons IsPlainWrite first rest (alone _ (of_first IsNoFeed layout.decor e (code_plain layout.decor (is_primary e.entry.kind)))) (stretch_plain row (from + 1) to line (stroke_role e) (code_plain layout.decor (is_primary e.entry.kind)).underline)
+            | true ↦ All-cons IsPlainWrite first rest (alone _ (of_first IsNoFeed layout.decor e (code_plain layout.decor (is_primary e.entry.kind))))
+                (stretch_plain row (from + 1) to line (stroke_role e) (code_plain layout.decor (is_primary e.entry.kind)).underline)
             | false ↦ All-nil IsPlainWrite
           ]
 
@@ -212,15 +218,18 @@ pub row_written : (row : List Cell) (at : ℕ) (new : List Cell) → HasNoFeed r
 unfolding written
 row_written row at new plain own =
     let filled : List Cell = row ++ replicate (at - length row) SPACE in
-    let before : HasNoFeed (take at filled) = All-take HoldsNoFeed at filled (All-append HoldsNoFeed row (replicate (at - length row) SPACE) plain (All-replicate HoldsNoFeed (at - length row) SPACE refl)) in
-    All-append HoldsNoFeed (take at filled ++ new) (drop (at + length new) row) (All-append HoldsNoFeed (take at filled) new before own) (All-drop HoldsNoFeed (at + length new) row plain)
+    let before : HasNoFeed (take at filled) = All-take HoldsNoFeed at filled
+    (All-append HoldsNoFeed row (replicate (at - length row) SPACE) plain (All-replicate HoldsNoFeed (at - length row) SPACE refl)) in
+    All-append HoldsNoFeed (take at filled ++ new) (drop (at + length new) row) (All-append HoldsNoFeed (take at filled) new before own)
+    (All-drop HoldsNoFeed (at + length new) row plain)
 
 row_replaced : (from to : ℕ) (new row : List Cell) → HasNoFeed row → HasNoFeed new → HasNoFeed (replaced_within from to new row)
 unfolding replaced_within
 row_replaced from to new row plain own =
     let changed : List Cell = take from row ++ new ++ drop to row in
     elim (nat_lt from to && nat_le to (length row)) as (λ b. HasNoFeed (cond b changed row)) [
-      | true ↦ All-append HoldsNoFeed (take from row ++ new) (drop to row) (All-append HoldsNoFeed (take from row) new (All-take HoldsNoFeed from row plain) own) (All-drop HoldsNoFeed to row plain)
+      | true ↦ All-append HoldsNoFeed (take from row ++ new) (drop to row)
+          (All-append HoldsNoFeed (take from row) new (All-take HoldsNoFeed from row plain) own) (All-drop HoldsNoFeed to row plain)
       | false ↦ plain
     ]
 
@@ -228,7 +237,8 @@ row_cut : (decor : DecorStyle) (cuts : List Stretch) (row : List Cell) → HasNo
 row_cut decor [] row plain = plain
 row_cut decor (cut ∷ cuts) row plain =
     let placeholder : List Cell = text_cells LineNumber (placeholder_of decor) in
-    row_cut decor cuts (replaced_within cut.from cut.to placeholder row) (row_replaced cut.from cut.to placeholder row plain (cells_plain LineNumber (placeholder_of decor) (placeholder_plain decor)))
+    row_cut decor cuts (replaced_within cut.from cut.to placeholder row)
+    (row_replaced cut.from cut.to placeholder row plain (cells_plain LineNumber (placeholder_of decor) (placeholder_plain decor)))
 
 -- the bar of a span that goes on past a line, and a row with such bars
 abbrev bar_beside : Layout → Bar → Cell
@@ -268,7 +278,8 @@ module _ (layout : Layout) (room : ℕ) (closes : Bool) where
       let empty : List Cell = separator_row layout.decor layout.gutter in
       let last : List Cell = bare_row layout.decor layout.gutter closes in
       let above : All HasNoFeed (replicate count empty) = All-replicate HasNoFeed count empty (bare-plain layout.decor layout.gutter false) in
-      All-append HasNoFeed (replicate count empty) (last ∷ []) above (All-cons HasNoFeed last [] (bare-plain layout.decor layout.gutter closes) (All-nil HasNoFeed))
+      All-append HasNoFeed (replicate count empty) (last ∷ []) above
+      (All-cons HasNoFeed last [] (bare-plain layout.decor layout.gutter closes) (All-nil HasNoFeed))
 
   -- nor after that
   drawn_plain : (es : List LineAnnotation) (source : List Cell) (rows : List (List Cell)) (strokes : StrokesPainted layout room closes es source rows)
@@ -301,9 +312,12 @@ module _ (layout : Layout) (room : ℕ) (closes : Bool) where
         | inr other ↦
             let strokes = are.strokes other (omega arith) in
             let cuts : List Stretch = cuts_of layout room (painting_order strokes.placed) (overlapped strokes.placed) in
-            let drawn : All HasNoFeed (strokes.marks ∷ strokes.lower) = drawn_plain (map (shifted dropped) (e ∷ es)) source (row ∷ below) strokes (All-map (λ x. All IsNoFeed (label_text x)) (shifted dropped) (e ∷ es) plain) in
+            let drawn : All HasNoFeed (strokes.marks ∷ strokes.lower) = drawn_plain (map (shifted dropped) (e ∷ es)) source (row ∷ below) strokes
+            (All-map (λ x. All IsNoFeed (label_text x)) (shifted dropped) (e ∷ es) plain) in
             let marks : List Cell = cut_row layout.decor cuts strokes.marks in
-            let cut : All HasNoFeed (marks ∷ strokes.lower) = All-cons HasNoFeed marks strokes.lower (row_cut layout.decor cuts strokes.marks (All-head HasNoFeed strokes.marks strokes.lower drawn)) (All-tail HasNoFeed strokes.marks strokes.lower drawn) in
+            let cut : All HasNoFeed (marks ∷ strokes.lower) = All-cons HasNoFeed marks strokes.lower
+            (row_cut layout.decor cuts strokes.marks (All-head HasNoFeed strokes.marks strokes.lower drawn))
+            (All-tail HasNoFeed strokes.marks strokes.lower drawn) in
             subst (All HasNoFeed) (sym (tail_same row _ below (marks ∷ strokes.lower) strokes.rows_are)) cut
       ]
 
@@ -319,7 +333,8 @@ module _ (layout : Layout) (room : ℕ) (closes : Bool) where
       of [] own_are same = cc
       of (first ∷ later) own_are same =
           let later_plain : All HasNoFeed later = own_plain text dropped es source first later own_are plain in
-          let each : All (λ x. HasNoFeed (rule x)) later = λ k d within. row_barred layout (bars_apart open_bars (ends_of_bars es)) (get_or later k d) (later_plain k d within) in
+          let each : All (λ x. HasNoFeed (rule x)) later = λ k d within.
+          row_barred layout (bars_apart open_bars (ends_of_bars es)) (get_or later k d) (later_plain k d within) in
           subst (All HasNoFeed) (sym (tail_same row (rule first) below (map rule later) same)) (All-map HasNoFeed rule later each)
 
 -- ---- labels
@@ -350,12 +365,14 @@ entries_plain : (s : Snippet Annotation) (k : ℕ) (es : List LineAnnotation) �
     → All (λ e. All IsNoFeed (label_text e)) es
 entries_plain s k es are plain =
     let source : Source = numbered_source s in
-    each es (subst (All IsPlainPart) (sym are) (All-filter (λ (p : PartEntry). p.entry.start.line == source.first + k) IsPlainPart (made_parts source s.markers.items) (parts_one_line source s.markers.items plain)))
+    each es (subst (All IsPlainPart) (sym are) (All-filter (λ (p : PartEntry). p.entry.start.line == source.first + k) IsPlainPart
+    (made_parts source s.markers.items) (parts_one_line source s.markers.items plain)))
   where
     each : (xs : List LineAnnotation) → All IsPlainPart (map seen_part xs) → All (λ e. All IsNoFeed (label_text e)) xs
     each [] all = All-nil (λ e. All IsNoFeed (label_text e))
     each (x ∷ xs) all =
-        All-cons (λ e. All IsNoFeed (label_text e)) x xs (subst (All IsNoFeed) (sym (label_is x.label)) (All-head IsPlainPart (seen_part x) (map seen_part xs) all)) (each xs (All-tail IsPlainPart (seen_part x) (map seen_part xs) all))
+        All-cons (λ e. All IsNoFeed (label_text e)) x xs (subst (All IsNoFeed) (sym (label_is x.label))
+        (All-head IsPlainPart (seen_part x) (map seen_part xs) all)) (each xs (All-tail IsPlainPart (seen_part x) (map seen_part xs) all))
 
 -- ---- all rows
 
@@ -363,17 +380,22 @@ entries_plain s k es are plain =
 abbrev IsRowOfText : NamedRow → Type 0
 IsRowOfText row = HasNoFeed row.cells
 
-module _ (r : Renderer) (layout : Layout) (closes : Bool) (s : Snippet Annotation) (utf8 : IsUtf8 (cow_str_bytes s.source)) (plain : All IsOneLineLabel s.markers.items) where
+module _ (r : Renderer) (layout : Layout) (closes : Bool) (s : Snippet Annotation) (utf8 : IsUtf8 (cow_str_bytes s.source))
+    (plain : All IsOneLineLabel s.markers.items) where
   line_below : (open_bars : List Bar) (k : ℕ) (row : List Cell) (below : List (List Cell)) (ends : Bool) → IsLineDrawn r layout ends s open_bars k (row ∷ below)
       → All HasNoFeed below
   line_below open_bars k row below ends drawn =
-      below_plain layout drawn.margin.term_width ends drawn.text drawn.dropped open_bars drawn.entries drawn.highlighted row below drawn.drawn (entries_plain s k drawn.entries drawn.are plain)
+      below_plain layout drawn.margin.term_width ends drawn.text drawn.dropped open_bars drawn.entries drawn.highlighted row below drawn.drawn
+      (entries_plain s k drawn.entries drawn.are plain)
 
   one_row : (open_bars : List Bar) (name : RowName) (cells : List Cell) (rows : List NamedRow) → IsRowOf r layout closes s name cells rows
       → IsRowDrawn r layout closes s open_bars name cells rows → All HasNoFeed (rows_below (record { name = name; cells = cells } ∷ rows))
       → HasNoFeed cells × All HasNoFeed (rows_below rows)
-  one_row open_bars (SourceRow k) cells rows shows drawn below =
-      (source_one_line r layout s k shows.dropped cells shows.line (line_plain (cow_str_bytes s.source) k utf8), line_below open_bars k cells (rows_below rows) _ drawn)
+  one_row open_bars (SourceRow k) cells rows shows drawn below = (
+    source_one_line r layout s k shows.dropped cells shows.line (line_plain (cow_str_bytes s.source) k utf8),
+    line_below open_bars k cells
+        (rows_below rows) _ drawn,
+  )
   one_row open_bars Elision cells rows shows drawn below =
       (elided layout.decor layout cells shows, subst (All HasNoFeed) (sym drawn.1) (All-nil HasNoFeed))
   one_row open_bars (OfferedLine j) cells rows shows drawn below = absurd shows

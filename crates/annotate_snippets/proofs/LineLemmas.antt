@@ -79,7 +79,8 @@ wide_entries-shifted : (dropped room width : ℕ) (es : List LineAnnotation) →
 wide_entries-shifted dropped room width [] clear = refl
 wide_entries-shifted dropped room width (e ∷ es) clear =
     let here = wide_shifted dropped room width e (All-head (λ (x : LineAnnotation). is_bar x.annotation_type ≡ false → dropped ≤ x.start.display) e es clear) in
-    let rest = wide_entries-shifted dropped room width es (All-tail (λ (x : LineAnnotation). is_bar x.annotation_type ≡ false → dropped ≤ x.start.display) e es clear) in
+    let rest = wide_entries-shifted dropped room width es (All-tail
+    (λ (x : LineAnnotation). is_bar x.annotation_type ≡ false → dropped ≤ x.start.display) e es clear) in
     sum_by-cons (λ x. cond (is_wide_entry room width x) 1 0) (shifted dropped e) (map (shifted dropped) es)
     ∙ ap (λ b. cond b 1 0 + count_by (is_wide_entry room width) (map (shifted dropped) es)) here
     ∙ ap (λ n. cond (is_wide_entry room width e) 1 0 + n) rest ∙ sym (sum_by-cons (λ x. cond (is_wide_entry room width x) 1 0) e es)
@@ -105,7 +106,8 @@ seen_alone : (es : List LineAnnotation) → map (λ (p : PartEntry). p.entry) (m
 seen_alone [] = refl
 seen_alone (e ∷ es) = ap (λ xs. seen_entry e ∷ xs) (seen_alone es)
 
-module _ (s : Snippet Annotation) (es : List LineAnnotation) (k : ℕ) (same : map seen_part es ≡ map (single_part (numbered_source s)) (filter (is_marked_on (cow_str_bytes s.source) k) s.markers.items)) where
+module _ (s : Snippet Annotation) (es : List LineAnnotation) (k : ℕ)
+    (same : map seen_part es ≡ map (single_part (numbered_source s)) (filter (is_marked_on (cow_str_bytes s.source) k) s.markers.items)) where
   abbrev marked : List Annotation
   marked = filter (is_marked_on (cow_str_bytes s.source) k) s.markers.items
 
@@ -126,8 +128,10 @@ module _ (s : Snippet Annotation) (es : List LineAnnotation) (k : ℕ) (same : m
       each [] ys is = refl
       each (x ∷ xs) [] is = cc
       each (x ∷ xs) (y ∷ ys) is =
-          let here : seen_part x ≡ single_part (numbered_source s) y = head_same (seen_part x) (single_part (numbered_source s) y) (map seen_part xs) (map (single_part (numbered_source s)) ys) is in
-          let rest : map seen_part xs ≡ map (single_part (numbered_source s)) ys = tail_same (seen_part x) (single_part (numbered_source s) y) (map seen_part xs) (map (single_part (numbered_source s)) ys) is in
+          let here : seen_part x ≡ single_part (numbered_source s) y = head_same (seen_part x) (single_part (numbered_source s) y) (map seen_part xs)
+          (map (single_part (numbered_source s)) ys) is in
+          let rest : map seen_part xs ≡ map (single_part (numbered_source s)) ys = tail_same (seen_part x) (single_part (numbered_source s) y)
+          (map seen_part xs) (map (single_part (numbered_source s)) ys) is in
           and_from (is_single x) (list_all is_single xs) (ap is_single_part (ap (λ (p : PartEntry). p.part) here)) (each xs ys rest)
 
 -- so they are where columns are dropped
@@ -180,7 +184,9 @@ module _ (r : Renderer) (layout : Layout) (s : Snippet Annotation)
 
     -- as many entries are wide as spans
     wide_is : wide_entries margin.term_width layout.decor (map (shifted shows.dropped) es) ≡ wide_spans (room_of r layout) placeholder_width s k
-    wide_is = wide_entries-shifted shows.dropped margin.term_width placeholder_width es shows.clear ∙ ap (λ n. count_by (is_wide_entry n placeholder_width) es) room ∙ wide_on_line (numbered_source s) s.markers.items spans k info (room_of r layout) placeholder_width seen
+    wide_is = wide_entries-shifted shows.dropped margin.term_width placeholder_width es shows.clear
+        ∙ ap (λ n. count_by (is_wide_entry n placeholder_width) es) room
+        ∙ wide_on_line (numbered_source s) s.markers.items spans k info (room_of r layout) placeholder_width seen
 
     -- left of the bars the row is as drawn, whatever is highlighted
     left_cell : (c : ℕ) → c < layout.gutter + 3 → c < layout.code → get_or shows.source c SPACE ≡ get_or shows.plain c SPACE
@@ -190,14 +196,16 @@ module _ (r : Renderer) (layout : Layout) (s : Snippet Annotation)
         kept : get_or shows.source c SPACE ≡ get_or shows.highlighted c SPACE
         kept =
             elim (cases_lt c (layout.gutter + 2)) [
-              | inl front ↦ sym (get_or-take (layout.gutter + 2) shows.source c SPACE front) ∙ ap (λ cs. get_or cs c SPACE) shows.beside.front ∙ get_or-take (layout.gutter + 2) shows.highlighted c SPACE front
+              | inl front ↦ sym (get_or-take (layout.gutter + 2) shows.source c SPACE front) ∙ ap (λ cs. get_or cs c SPACE) shows.beside.front
+                  ∙ get_or-take (layout.gutter + 2) shows.highlighted c SPACE front
               | inr after ↦
                   let at : c ≡ layout.gutter + 2 = omega (arith, after, beside) in
                   ap (λ n. get_or shows.source n SPACE) at ∙ shows.beside.gap ∙ ap (λ n. get_or shows.highlighted n SPACE) (sym at)
             ]
 
     -- the text of the line before it is cut where spans are wide
-    window_text : row_text (drop layout.code shows.highlighted) ≡ window (placeholder_of layout.decor) (room_of r layout) (bounds_in r layout s).left (bounds_in r layout s).right text
+    window_text : row_text (drop layout.code shows.highlighted) ≡ window (placeholder_of layout.decor) (room_of r layout) (bounds_in r layout s).left
+        (bounds_in r layout s).right text
     window_text =
         sym (drop-map (λ (cell : Cell). cell.ch) layout.code shows.highlighted)
         ∙ ap (drop layout.code) (highlighted_text layout.code shows.dropped _ shows.plain shows.highlighted shows.highlights)
@@ -208,7 +216,8 @@ module _ (r : Renderer) (layout : Layout) (s : Snippet Annotation)
 
     dropped_here : shows.dropped ≡ width_of (dropped_part (bounds_in r layout s).left text)
     dropped_here =
-        shows.dropped_is ∙ ap (λ (b : Bounds). width_of (dropped_part b.left (norm (chars info.line.now)))) bounds ∙ ap (λ cs. width_of (dropped_part (bounds_in r layout s).left cs)) line_text
+        shows.dropped_is ∙ ap (λ (b : Bounds). width_of (dropped_part b.left (norm (chars info.line.now)))) bounds
+        ∙ ap (λ cs. width_of (dropped_part (bounds_in r layout s).left cs)) line_text
 
     -- where the line stands whole, nothing is dropped and nothing is cut
     whole_text : stands_whole (room_of r layout) placeholder_width s.fold (cow_str_bytes s.source) s.markers.items k ≡ true
@@ -217,13 +226,18 @@ module _ (r : Renderer) (layout : Layout) (s : Snippet Annotation)
         let left : (bounds_in r layout s).left ≡ 0 = stands_left (numbered_source s) s.markers.items spans
         (room_of r layout) placeholder_width s.fold k stands in
         let parts = and_parts _ _ stands in
-        let narrow : list_all (λ a. not (is_marked_on (cow_str_bytes s.source) k a && is_wide (room_of r layout) placeholder_width (cow_str_bytes s.source) a)) s.markers.items ≡ true = parts.1 in
-        let none : wide_spans (room_of r layout) placeholder_width s k ≡ 0 = count-none (λ a. is_marked_on (cow_str_bytes s.source) k a && is_wide (room_of r layout) placeholder_width (cow_str_bytes s.source) a) s.markers.items narrow in
+        let narrow : list_all (λ a. not (is_marked_on (cow_str_bytes s.source) k a
+        && is_wide (room_of r layout) placeholder_width (cow_str_bytes s.source) a)) s.markers.items ≡ true = parts.1 in
+        let none : wide_spans (room_of r layout) placeholder_width s k
+        ≡ 0 = count-none (λ a. is_marked_on (cow_str_bytes s.source) k a
+        && is_wide (room_of r layout) placeholder_width (cow_str_bytes s.source) a) s.markers.items narrow in
         let own_fits : width_of (chars_at (cow_str_bytes s.source) k) ≤ room_of r layout = le_of _ _ (and_parts _ _ (and_parts _ _ parts.0).0).0 in
         let at_left : (bounds_of margin).left ≡ 0 = ap (λ (b : Bounds). b.left) bounds ∙ left in
         let uncut : drop layout.code shows.source ≡ drop layout.code shows.highlighted = shows.beside.uncut (wide_is ∙ none) in
-        let narrow_text : width_of (norm (chars info.line.now)) ≤ margin.term_width = omega (arith, room, own_fits, ap width_of line_text, width_of-norm (chars_at (cow_str_bytes s.source) k)) in
-        let all : row_text (drop layout.code shows.plain) ≡ text = ap row_text (shows.whole at_left narrow_text) ∙ row_text-text_cells Quotation (norm (chars info.line.now)) ∙ line_text in (
+        let narrow_text : width_of (norm (chars info.line.now)) ≤ margin.term_width = omega
+        (arith, room, own_fits, ap width_of line_text, width_of-norm (chars_at (cow_str_bytes s.source) k)) in
+        let all : row_text (drop layout.code shows.plain) ≡ text = ap row_text (shows.whole at_left narrow_text)
+        ∙ row_text-text_cells Quotation (norm (chars info.line.now)) ∙ line_text in (
           dropped_here ∙ ap (λ n. width_of
               (dropped_part n text)) left ∙ dropped-none text,
           ap row_text uncut
@@ -236,7 +250,8 @@ module _ (r : Renderer) (layout : Layout) (s : Snippet Annotation)
     pub source_line : layout.gutter + 3 ≤ layout.code → ShowsSourceLine r layout s k shows.dropped shows.source
     source_line place =
         let cells : List Cell = window_cells layout.decor margin (norm (chars info.line.now)) in
-        let same : (c : ℕ) → c < layout.gutter + 3 → get_or shows.source c SPACE ≡ get_or shows.plain c SPACE = λ c beside. left_cell c beside (omega (arith, beside, place)) in
+        let same : (c : ℕ) → c < layout.gutter + 3 → get_or shows.source c SPACE ≡ get_or shows.plain c SPACE = λ c beside.
+        left_cell c beside (omega (arith, beside, place)) in
         record {
           within = within;
           left = left_of_source layout shown cells shows.plain shows.source fits place shows.shows same
@@ -301,9 +316,14 @@ module _ (r : Renderer) (layout : Layout) (s : Snippet Annotation)
 
       plain : are_plain margin.term_width layout.decor moved ≡ true
       plain =
-          let none : wide_spans (room_of r layout) placeholder_width s k ≡ 0 = count-none (λ a. is_marked_on (cow_str_bytes s.source) k a && is_wide (room_of r layout) placeholder_width (cow_str_bytes s.source) a) s.markers.items qualified_parts.1 in
-          let narrow : (wide_entries margin.term_width layout.decor moved == 0) ≡ true = eq-eqb (wide_entries margin.term_width layout.decor moved) 0 (wide_is ∙ none) in
-          and_from (list_all is_single moved) (list_all has_column moved && wide_entries margin.term_width layout.decor moved == 0) (single-shifted shows.dropped es single) (and_from (list_all has_column moved) (wide_entries margin.term_width layout.decor moved == 0) columns narrow)
+          let none : wide_spans (room_of r layout) placeholder_width s k
+          ≡ 0 = count-none (λ a. is_marked_on (cow_str_bytes s.source) k a
+          && is_wide (room_of r layout) placeholder_width (cow_str_bytes s.source) a) s.markers.items qualified_parts.1 in
+          let narrow : (wide_entries margin.term_width layout.decor moved == 0)
+          ≡ true = eq-eqb (wide_entries margin.term_width layout.decor moved) 0 (wide_is ∙ none) in
+          and_from (list_all is_single moved) (list_all has_column moved && wide_entries margin.term_width layout.decor moved == 0)
+          (single-shifted shows.dropped es single) (and_from (list_all has_column moved)
+          (wide_entries margin.term_width layout.decor moved == 0) columns narrow)
 
       -- there is a row below
       pub marks_there : 0 < length shows.below
@@ -322,8 +342,10 @@ module _ (r : Renderer) (layout : Layout) (s : Snippet Annotation)
             marks = λ p kind mark.
                 let own : IsEntryMark es p kind = mark_of_entries (numbered_source s) s.markers.items k es same p kind mark in
                 let right : d ≤ p = omega (arith, All-contains (λ (e : LineAnnotation). d ≤ e.start.display) es own.entry clear own.among, own.covers.0) in
-                subst (λ c. IsMarkCell layout.decor kind (get_or row c SPACE)) (omega (arith, right)) (marks_are.marks (p - d) kind (shifted_mark d es clear p kind own));
-            unmarked = λ p right none. subst (λ c. has_mark_role (get_or row c SPACE) ≡ false) (omega (arith, right)) (marks_are.unmarked (p - d) (shifted_unmarked d es clear p right (unmarked_by_entries (numbered_source s) s.markers.items k es same p none)));
+                subst (λ c. IsMarkCell layout.decor kind (get_or row c SPACE)) (omega (arith, right))
+                (marks_are.marks (p - d) kind (shifted_mark d es clear p kind own));
+            unmarked = λ p right none. subst (λ c. has_mark_role (get_or row c SPACE) ≡ false) (omega (arith, right))
+                (marks_are.unmarked (p - d) (shifted_unmarked d es clear p right (unmarked_by_entries (numbered_source s) s.markers.items k es same p none)));
             before = λ p right left. subst (λ c. get_or row c SPACE ≡ SPACE) (omega (arith, right))
                 (strokes_row.before plain (layout.code + (p - d)) (layout.code + (p - d) + 1) (omega arith) (omega arith)
                 (shifted_after d es clear layout.code p right (entries_after (numbered_source s) s.markers.items k es same layout.code p left)));
@@ -335,8 +357,10 @@ module _ (r : Renderer) (layout : Layout) (s : Snippet Annotation)
                 let own = lone_entry (numbered_source s) s.markers.items k es same a alone in
                 let e : LineAnnotation = own.0 in
                 let is : IsEntryOf (numbered_source s) k a e = own.2 in
-                let right : d ≤ e.start.display = All-head (λ (x : LineAnnotation). d ≤ x.start.display) e [] (subst (All (λ (x : LineAnnotation). d ≤ x.start.display)) own.1 clear) in
-                let after = marks_are.lone (shifted d e) (ap (map (shifted d)) own.1) (omega (arith, is.start, is.end, right)) (omega (arith, label, ap length is.label)) in
+                let right : d ≤ e.start.display = All-head (λ (x : LineAnnotation). d ≤ x.start.display) e []
+                (subst (All (λ (x : LineAnnotation). d ≤ x.start.display)) own.1 clear) in
+                let after = marks_are.lone (shifted d e) (ap (map (shifted d)) own.1) (omega (arith, is.start, is.end, right))
+                (omega (arith, label, ap length is.label)) in
                 subst (λ c. row_text (drop c row) ≡ 32 ∷ shown_label a)
                 (let at : layout.code + (e.end.display - d) ≡ layout.code + end_column (cow_str_bytes s.source) a - d = omega (
                   arith,

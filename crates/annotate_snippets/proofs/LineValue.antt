@@ -79,11 +79,13 @@ module _ (r : Renderer) (layout : Layout) (closes : Bool) (s : Snippet Annotatio
       let entries : List LineAnnotation = map line_entry (entries_on s k) in
       let entries_are : map plain_entry line.entries ≡ entries = sym (plain_parts line.entries) ∙ ap (map line_entry) line.are in
       let margin_is : line.margin ≡ margin_in r layout s = one_margin line.margin (room_of r layout) (bounds_in r layout s) line.room line.bounds in
-      let source_is = highlighted_is layout.code line.dropped (filter colours line.entries) line.plain line.highlighted line.highlights ∙ ap (highlighted_row layout.code line.dropped (filter colours line.entries)) line.shows.is in
+      let source_is = highlighted_is layout.code line.dropped (filter colours line.entries) line.plain line.highlighted line.highlights
+      ∙ ap (highlighted_row layout.code line.dropped (filter colours line.entries)) line.shows.is in
       line_rows_are layout line.margin.term_width closes line.text line.dropped open_bars line.entries line.highlighted rows line.drawn
       ∙ ap (line_rows layout line.margin.term_width closes line.text line.dropped open_bars line.entries) source_is
       ∙ sym (made_plain line.margin line.text line.dropped line.entries)
       ∙ ap (made line.margin line.text line.dropped) entries_are
       ∙ ap (λ d. made line.margin line.text d entries) line.dropped_is
       ∙ ap (λ text. made line.margin text (dropped_in line.margin text) entries) line.text_is
-      ∙ ap (λ margin. made margin (norm (chars_at (cow_str_bytes s.source) k)) (dropped_in margin (norm (chars_at (cow_str_bytes s.source) k))) entries) margin_is
+      ∙ ap (λ margin. made margin (norm (chars_at (cow_str_bytes s.source) k))
+      (dropped_in margin (norm (chars_at (cow_str_bytes s.source) k))) entries) margin_is

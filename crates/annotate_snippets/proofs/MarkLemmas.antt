@@ -76,7 +76,8 @@ entry_is s k a e marked single same =
       label = label_is e.label ∙ ap normalized_chars (ap (λ (x : Entry). x.label) same);
     }
 
-module _ (s : Source) (marks : List Annotation) (k : ℕ) (es : List LineAnnotation) (same : map seen_entry es ≡ map (entry_of s) (filter (is_marked_on s.text k) marks)) where
+module _ (s : Source) (marks : List Annotation) (k : ℕ) (es : List LineAnnotation)
+    (same : map seen_entry es ≡ map (entry_of s) (filter (is_marked_on s.text k) marks)) where
   -- a span that is marked on a line stands on it alone
   single_of : (a : Annotation) → is_marked_on s.text k a ≡ true → is_single_line s.text a ≡ true
   single_of a marked =
@@ -85,7 +86,9 @@ module _ (s : Source) (marks : List Annotation) (k : ℕ) (es : List LineAnnotat
   -- each span of the line has an entry
   pub entry_of_span : (a : Annotation) → Contains marks a → is_marked_on s.text k a ≡ true → (e : LineAnnotation) × Contains es e × IsEntryOf s k a e
   entry_of_span a among marked =
-      let seen : Contains (map seen_entry es) (entry_of s a) = subst (λ xs. Contains xs (entry_of s a)) (sym same) (Contains-map (entry_of s) (filter (is_marked_on s.text k) marks) a (Contains-filter (is_marked_on s.text k) marks a marked among)) in
+      let seen : Contains (map seen_entry es) (entry_of s a) = subst (λ xs.
+      Contains xs (entry_of s a)) (sym same) (Contains-map (entry_of s) (filter (is_marked_on s.text k) marks) a
+      (Contains-filter (is_marked_on s.text k) marks a marked among)) in
       let found = from_map seen_entry es (entry_of s a) seen in
       (found.0, found.1, entry_is s k a found.0 marked (single_of a marked) found.2)
 
@@ -96,8 +99,10 @@ module _ (s : Source) (marks : List Annotation) (k : ℕ) (es : List LineAnnotat
       let seen : Contains (map (entry_of s) kept) (seen_entry e) = subst (λ xs. Contains xs (seen_entry e)) same (Contains-map seen_entry es e among) in
       let found = from_map (entry_of s) kept (seen_entry e) seen in
       let a : Annotation = found.0 in
-      let in_marks : Contains marks a = All-contains (Contains marks) kept a (All-filter (is_marked_on s.text k) (Contains marks) marks (All-contains_itself marks)) found.1 in
-      let marked : is_marked_on s.text k a ≡ true = All-contains (λ b. is_marked_on s.text k b ≡ true) kept a (filter_passes (is_marked_on s.text k) marks) found.1 in
+      let in_marks : Contains marks a = All-contains (Contains marks) kept a
+      (All-filter (is_marked_on s.text k) (Contains marks) marks (All-contains_itself marks)) found.1 in
+      let marked : is_marked_on s.text k a ≡ true = All-contains (λ b.
+      is_marked_on s.text k b ≡ true) kept a (filter_passes (is_marked_on s.text k) marks) found.1 in
       (a, in_marks, entry_is s k a e marked (single_of a marked) (sym found.2))
 
   -- the mark of a column is that which the entries leave there
@@ -115,7 +120,8 @@ module _ (s : Source) (marks : List Annotation) (k : ℕ) (es : List LineAnnotat
             let theirs = span_of_entry other in_es in
             let b : Annotation = theirs.0 in
             let isb : IsEntryOf s k b other = theirs.2 in
-            let narrow : span_width s.text mark.span ≤ span_width s.text b = mark.least b theirs.1 (isb.marked, (omega (arith, isb.start, covers.0), omega (arith, isb.end, covers.1))) in
+            let narrow : span_width s.text mark.span ≤ span_width s.text b = mark.least b theirs.1
+            (isb.marked, (omega (arith, isb.start, covers.0), omega (arith, isb.end, covers.1))) in
             omega (arith, is.start, is.end, isb.start, isb.end, narrow);
         primary_wins = λ unprimary other in_es covers primary.
             let theirs = span_of_entry other in_es in
@@ -151,7 +157,8 @@ module _ (s : Source) (marks : List Annotation) (k : ℕ) (es : List LineAnnotat
       let theirs = span_of_entry (get_or es i d) (Contains-get_or es i d within) in
       let b : Annotation = theirs.0 in
       let isb : IsEntryOf s k b (get_or es i d) = theirs.2 in
-      let after : p < start_column s.text b = All-contains (λ a. is_marked_on s.text k a ≡ true → p < start_column s.text a) marks b right theirs.1 isb.marked in
+      let after : p < start_column s.text b = All-contains (λ a. is_marked_on s.text k a ≡ true
+      → p < start_column s.text a) marks b right theirs.1 isb.marked in
       omega (arith, isb.start, after)
 
   -- a line that qualifies has an entry
@@ -178,7 +185,9 @@ module _ (s : Source) (marks : List Annotation) (k : ℕ) (es : List LineAnnotat
       let first : LineAnnotation × Unit {0} = head_of es one in
       let e : LineAnnotation = first.0 in
       let sole : es ≡ e ∷ [] = head_of_is es one in
-      let marked : is_marked_on s.text k a ≡ true = All-contains (λ b. is_marked_on s.text k b ≡ true) (filter (is_marked_on s.text k) marks) a (filter_passes (is_marked_on s.text k) marks) (subst (λ xs. Contains xs a) (sym lone) (Contains-head a [])) in
+      let marked : is_marked_on s.text k a ≡ true = All-contains (λ b.
+      is_marked_on s.text k b ≡ true) (filter (is_marked_on s.text k) marks) a (filter_passes (is_marked_on s.text k) marks)
+      (subst (λ xs. Contains xs a) (sym lone) (Contains-head a [])) in
       (e, sole, entry_is s k a e marked (single_of a marked) (same_head (sym (ap (map seen_entry) sole) ∙ seen)))
     where
       head_of : (xs : List LineAnnotation) → length xs ≡ 1 → LineAnnotation × Unit {0}
@@ -218,20 +227,24 @@ module _ (dropped : ℕ) (es : List LineAnnotation) (clear : All (λ e. dropped 
             let own = unshifted_entry other inside in
             let start : other.start.display ≡ own.0.start.display - dropped = ap (λ (x : LineAnnotation). x.start.display) own.2 in
             let end : other.end.display ≡ own.0.end.display - dropped = ap (λ (x : LineAnnotation). x.end.display) own.2 in
-            let narrow : entry.entry_width e ≤ entry.entry_width own.0 = mark.least own.0 own.1 (omega (arith, own.3, start, covers.0, right, mark.covers.0), omega (arith, own.3, end, covers.1, right, mark.covers.0)) in
+            let narrow : entry.entry_width e ≤ entry.entry_width own.0 = mark.least own.0 own.1
+            (omega (arith, own.3, start, covers.0, right, mark.covers.0), omega (arith, own.3, end, covers.1, right, mark.covers.0)) in
             omega (arith, narrow, start, end, own.3, right, covers.0, covers.1);
         primary_wins = λ unprimary other inside covers primary.
             let own = unshifted_entry other inside in
             let start : other.start.display ≡ own.0.start.display - dropped = ap (λ (x : LineAnnotation). x.start.display) own.2 in
             let end : other.end.display ≡ own.0.end.display - dropped = ap (λ (x : LineAnnotation). x.end.display) own.2 in
-            let narrow : entry.entry_width e < entry.entry_width own.0 = mark.primary_wins unprimary own.0 own.1 (omega (arith, own.3, start, covers.0, right, mark.covers.0), omega (arith, own.3, end, covers.1, right, mark.covers.0)) (ap (λ (x : LineAnnotation). x.kind) (sym own.2) ∙ primary) in
+            let narrow : entry.entry_width e < entry.entry_width own.0 = mark.primary_wins unprimary own.0 own.1
+            (omega (arith, own.3, start, covers.0, right, mark.covers.0), omega (arith, own.3, end, covers.1, right, mark.covers.0))
+            (ap (λ (x : LineAnnotation). x.kind) (sym own.2) ∙ primary) in
             omega (arith, narrow, start, end, own.3, right, covers.0, covers.1, mark.covers.0, mark.covers.1);
       }
 
   -- a column that no entry covers is covered by none
   pub shifted_unmarked : (p : ℕ) → dropped ≤ p → All (λ e. EntryCovers e p → ⊥) es → All (λ e. EntryCovers e (p - dropped) → ⊥) (map (shifted dropped) es)
   shifted_unmarked p right none =
-      All-map (λ (e : LineAnnotation). EntryCovers e (p - dropped) → ⊥) (shifted dropped) es (λ i d within covers. none i d within (omega (arith, clear i d within, right, covers.0), omega (arith, clear i d within, right, covers.1)))
+      All-map (λ (e : LineAnnotation). EntryCovers e (p - dropped) → ⊥) (shifted dropped) es (λ i d within covers.
+      none i d within (omega (arith, clear i d within, right, covers.0), omega (arith, clear i d within, right, covers.1)))
 
   -- entries that stand after a column stand after it
   pub shifted_after : (code p : ℕ) → dropped ≤ p → All (StandsFrom code (code + p + 1)) es

@@ -63,7 +63,8 @@ no_line layout bar primary same =
     by_kind Unicode false true is = omega (arith, is)
     by_kind Unicode false false is = omega (arith, is)
 
-module _ (r : Renderer) (layout : Layout) (s : Snippet Annotation) (rows : List NamedRow) (shown : ShowsBars r layout s rows) (above : List NamedRow) (row : NamedRow) (below : List NamedRow) (is : rows ≡ above ++ row ∷ below) where
+module _ (r : Renderer) (layout : Layout) (s : Snippet Annotation) (rows : List NamedRow) (shown : ShowsBars r layout s rows) (above : List NamedRow)
+    (row : NamedRow) (below : List NamedRow) (is : rows ≡ above ++ row ∷ below) where
   -- the row stands between the lines of a span of several lines
   record GoesPast (a : Annotation) : Type 0 where
     among : Contains s.markers.items a
@@ -95,7 +96,8 @@ module _ (r : Renderer) (layout : Layout) (s : Snippet Annotation) (rows : List 
       → c < layout.code → (slice_index_or row.cells c SPACE ≡ SPACE → ⊥) → ⊥
   bar_of_no_span none shows c from to filled =
       filled (shown.spaces above row below is shows c from to (All-weaker (λ (a : Annotation). is_long (cow_str_bytes s.source) a ≡ false)
-      (λ a. is_long (cow_str_bytes s.source) a ≡ true → touches (cow_str_bytes s.source) a (line_beside above row.name) ≡ true → bar_cell_of layout s a ≢ c) (λ a short long touched same. both_ways (is_long (cow_str_bytes s.source) a) short long) s.markers.items none))
+      (λ a. is_long (cow_str_bytes s.source) a ≡ true → touches (cow_str_bytes s.source) a (line_beside above row.name) ≡ true → bar_cell_of layout s a ≢ c)
+      (λ a short long touched same. both_ways (is_long (cow_str_bytes s.source) a) short long) s.markers.items none))
 
   -- nor below a line, whatever bar that is:
   --
@@ -107,7 +109,8 @@ module _ (r : Renderer) (layout : Layout) (s : Snippet Annotation) (rows : List 
   bar_of_no_span_below none bar from to there =
       let c : ℕ = layout.gutter + 2 + bar.depth in
       let clear = shown.others above row below is c from to (All-weaker (λ (a : Annotation). is_long (cow_str_bytes s.source) a ≡ false)
-      (λ a. is_long (cow_str_bytes s.source) a ≡ true → touches (cow_str_bytes s.source) a (line_beside above row.name) ≡ true → bar_cell_of layout s a ≢ c) (λ a short long touched same. both_ways (is_long (cow_str_bytes s.source) a) short long) s.markers.items none) in
+      (λ a. is_long (cow_str_bytes s.source) a ≡ true → touches (cow_str_bytes s.source) a (line_beside above row.name) ≡ true → bar_cell_of layout s a ≢ c)
+      (λ a short long touched same. both_ways (is_long (cow_str_bytes s.source) a) short long) s.markers.items none) in
       elim clear [
         | inl space ↦ no_space layout Other bar (sym there ∙ space)
         | inr line ↦ no_line layout bar line.0 (sym there ∙ line.1)

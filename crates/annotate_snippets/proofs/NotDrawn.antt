@@ -52,7 +52,8 @@ pub bar_of_other_kind : (r : Renderer) (layout : Layout) (closes : Bool) (s : Sn
     → ((cell_at rows i (layout.gutter + 2 + bar.depth)).role ≡ underline_role bar.primary → ⊥) → ⊥
 bar_of_other_kind r layout closes s bar k rows line none i within other =
     let ends = bars_seen s k line.entries line.are ∙ none in
-    other (ap (λ (cell : Cell). cell.role) (bar_beside layout line.margin.term_width closes line.text line.dropped line.highlighted rows bar line.entries line.drawn ends i within))
+    other (ap (λ (cell : Cell). cell.role) (bar_beside layout line.margin.term_width closes line.text line.dropped line.highlighted rows bar line.entries
+    line.drawn ends i within))
 
 -- ---- rows that no line has
 
@@ -79,9 +80,12 @@ pub row_above_the_first_line : (s : Snippet Annotation) → IsLineA s → (aroun
 row_above_the_first_line s is around row more none shown =
     let closes : Bool = closes_with around in
     let tail : List NamedRow = others (rows_after_cause plain_settings layout around) in
-    let same : shown.after ≡ row ∷ more = append_cancel_right shown.after (row ∷ more) tail (sym (append_cancel_left (others (cause_head plain_settings layout around s)) ((row ∷ more) ++ tail) (shown.after ++ tail) shown.rows_are)) in
+    let same : shown.after ≡ row ∷ more = append_cancel_right shown.after (row ∷ more) tail
+    (sym (append_cancel_left (others (cause_head plain_settings layout around s)) ((row ∷ more) ++ tail) (shown.after ++ tail) shown.rows_are)) in
     let named : IsRowOf plain_settings layout closes s row.name row.cells more = (subst (AreRowsOf plain_settings layout closes s) same shown.named).0 in
-    let names : names_in (row ∷ more) ≡ SourceRow 0 ∷ [] = ap names_in (sym same) ∙ shown.elided ∙ ap (λ source. names_of_lines (shown_lines s.fold source s.markers.items)) is.is.source_is ∙ ap (λ marks. names_of_lines (shown_lines s.fold (codes "a") marks)) is.is.marks_are ∙ one_line s.fold in
+    let names : names_in (row ∷ more) ≡ SourceRow 0 ∷ [] = ap names_in (sym same) ∙ shown.elided
+    ∙ ap (λ source. names_of_lines (shown_lines s.fold source s.markers.items)) is.is.source_is
+    ∙ ap (λ marks. names_of_lines (shown_lines s.fold (codes "a") marks)) is.is.marks_are ∙ one_line s.fold in
     by_name row.name (unnamed closes s is row.name row.cells more none named) (subst (λ rows. rows_below rows ≡ []) same shown.begins) names
   where
     -- it is no row of a line, a row in place of lines would be one too many, and any other belongs to a line above it
@@ -98,9 +102,11 @@ row_above_the_first_line s is around row more none shown =
 --     ...
 --       |
 --     9 | b
-pub row_below_an_elision : (r : Renderer) (layout : Layout) (closes : Bool) (s : Snippet Annotation) (open_bars : List Bar) (above row : NamedRow) (more : List NamedRow) → above.name ≡ Elision → shows_lines row.name ≡ false → AreRowsDrawn r layout closes s open_bars (above ∷ row ∷ more) → ⊥
+pub row_below_an_elision : (r : Renderer) (layout : Layout) (closes : Bool) (s : Snippet Annotation) (open_bars : List Bar) (above row : NamedRow)
+    (more : List NamedRow) → above.name ≡ Elision → shows_lines row.name ≡ false → AreRowsDrawn r layout closes s open_bars (above ∷ row ∷ more) → ⊥
 row_below_an_elision r layout closes s open_bars above row more elided other drawn =
-    let own : IsRowDrawn r layout closes s open_bars Elision above.cells (row ∷ more) = subst (λ name. IsRowDrawn r layout closes s open_bars name above.cells (row ∷ more)) elided drawn.0 in
+    let own : IsRowDrawn r layout closes s open_bars Elision above.cells (row ∷ more) = subst (λ name.
+    IsRowDrawn r layout closes s open_bars name above.cells (row ∷ more)) elided drawn.0 in
     let one : row.cells ∷ rows_below more ≡ [] = sym (ap (λ b. cond b [] (row.cells ∷ rows_below more)) other) ∙ own.1 in
     absurd (omega (arith, ap length one))
 
@@ -110,7 +116,8 @@ row_below_an_elision r layout closes s open_bars above row more elided other dra
 --
 --     1 |:ab
 pub punctuation_left_of_the_code : (s : Snippet Annotation) (k dropped : ℕ)
-    → ShowsSourceLine plain_settings layout s k dropped (text_cells LineNumber (codes "1") ++ SPACE ∷ text_cells LineNumber (codes "|:") ++ text_cells Quotation (codes "ab")) → ⊥
+    → ShowsSourceLine plain_settings layout s k dropped (text_cells LineNumber (codes "1") ++ SPACE ∷ text_cells LineNumber (codes "|:")
+    ++ text_cells Quotation (codes "ab")) → ⊥
 punctuation_left_of_the_code s k dropped shown =
     let letter : ◌≡◌ {A = ℕ} 58 32 = ap (λ (cell : Cell). cell.ch) shown.space in
     absurd (omega (arith, letter))

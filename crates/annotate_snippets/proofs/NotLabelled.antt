@@ -39,7 +39,8 @@ begins : (layout : Layout) (dropped : ℕ) (rows : List (List Cell)) (l : ShownL
     → is_label_role (cell_at rows l.row l.cell).role ≡ true
 begins layout dropped rows l some shows =
     let first : l.cell + 0 ≡ l.cell = omega arith in
-    ap (λ c. is_label_role (cell_at rows l.row c).role) (sym first) ∙ ap (λ (cell : Cell). is_label_role cell.role) (shows.whole 0 some) ∙ label_role_is l.label.kind
+    ap (λ c. is_label_role (cell_at rows l.row c).role) (sym first) ∙ ap (λ (cell : Cell). is_label_role cell.role) (shows.whole 0 some)
+    ∙ label_role_is l.label.kind
 
 -- rows without any cell in the role of labels, below a line on which a span ends that has a label:
 --
@@ -96,7 +97,8 @@ label_over_another decor layout s k dropped rows shows a b spans some_a some_b r
         let its : 0 < length m.label.text = omega (arith, some_b, ap (λ (x : SpanLabel). length x.text) second) in
         let f : ShownLabel → ℕ = λ x. cond (is_in_label row cell x) 1 0 in
         let P : ShownLabel → Type 0 = Stands layout dropped rows in
-        two (is_in_label row cell l) (is_in_label row cell m) (holds l own (All-head P l (m ∷ []) stand)) (holds m its (All-head P m [] (All-tail P l (m ∷ []) stand))) (omega (arith, few, sum_by-cons f l (m ∷ []), sum_by-cons f m []))
+        two (is_in_label row cell l) (is_in_label row cell m) (holds l own (All-head P l (m ∷ []) stand))
+        (holds m its (All-head P m [] (All-tail P l (m ∷ []) stand))) (omega (arith, few, sum_by-cons f l (m ∷ []), sum_by-cons f m []))
     over (l ∷ m ∷ n ∷ labels) are stand few = cc are
 
 -- rows with a space where no label stands, between a mark and the label that hangs below it:

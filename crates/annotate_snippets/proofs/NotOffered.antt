@@ -65,7 +65,8 @@ record IsSnippetOf (s : Snippet Patch) (source : List ℕ) (es : List Edit) : Ty
 given_by : (s : Snippet Patch) (source : List ℕ) (es : List Edit) (lines : List (List ℕ)) → IsSnippetOf s source es
     → ((fold : Bool) → texts_of (lines_of (shown_text fold source es)) ≡ lines) → given_lines s ≡ lines
 given_by s source es lines is given =
-    ap (λ text. texts_of (lines_of (shown_text s.fold text (edits_of s)))) is.source_is ∙ ap (λ xs. texts_of (lines_of (shown_text s.fold source xs))) is.edits_are ∙ given s.fold
+    ap (λ text. texts_of (lines_of (shown_text s.fold text (edits_of s)))) is.source_is
+    ∙ ap (λ xs. texts_of (lines_of (shown_text s.fold source xs))) is.edits_are ∙ given s.fold
 
 -- ---- the source's own lines
 
@@ -86,7 +87,8 @@ unfolding char_width unicode_width norm chars
 old_line_offered s is j offers =
     let given : given_lines s ≡ codes "ac" ∷ [] = given_by s (codes "ab") one_edit (codes "ac" ∷ []) is gives_ac in
     let first : j - first_given s ≡ 0 = omega (arith, offers.from, offers.within, ap length given) in
-    let text : codes "ab" ≡ norm (chars (codes "ac")) = offers.line ∙ ap (λ k. norm (chars (get_or (given_lines s) k []))) first ∙ ap (λ lines. norm (chars (get_or lines 0 []))) given in
+    let text : codes "ab" ≡ norm (chars (codes "ac")) = offers.line ∙ ap (λ k. norm (chars (get_or (given_lines s) k []))) first
+    ∙ ap (λ lines. norm (chars (get_or lines 0 []))) given in
     let letter : ◌≡◌ {A = ℕ} 98 99 = ap (λ (cs : List ℕ). get_or cs 1 0) text in
     absurd (omega (arith, letter))
 
@@ -104,7 +106,8 @@ named_first s is (SourceRow k) cells same shows = absurd shows
 named_first s is Elision cells same shows = absurd shows
 named_first s is (OfferedLine j) cells same shows =
     let given : given_lines s ≡ codes "ac" ∷ [] = given_by s (codes "ab") one_edit (codes "ac" ∷ []) is gives_ac in
-    let from : first_given s ≡ 0 = ap (λ text. shown_line s.fold text (edits_of s)) is.source_is ∙ ap (shown_line s.fold (codes "ab")) is.edits_are ∙ from_first s.fold in
+    let from : first_given s ≡ 0 = ap (λ text. shown_line s.fold text (edits_of s)) is.source_is ∙ ap (shown_line s.fold (codes "ab")) is.edits_are
+    ∙ from_first s.fold in
     let at : j ≡ 0 = omega (arith, shows.from, shows.within, ap length given, from) in
     ap OfferedLine at
 named_first s is (RemovedLine i) cells same shows =
@@ -119,8 +122,11 @@ named_first s is Other cells same shows =
 row_named : (s : Snippet Patch) (before : List NamedRow) (row : NamedRow) (after : List NamedRow)
     → All (λ r. IsSuggestionRow plain_settings Ascii 1 s r.name r.cells) (before ++ (row ∷ after))
     → IsSuggestionRow plain_settings Ascii 1 s row.name row.cells × All (λ r. IsSuggestionRow plain_settings Ascii 1 s r.name r.cells) after
-row_named s [] row after named =
-    (All-head (λ r. IsSuggestionRow plain_settings Ascii 1 s r.name r.cells) row after named, All-tail (λ r. IsSuggestionRow plain_settings Ascii 1 s r.name r.cells) row after named)
+row_named s [] row after named = (
+  All-head (λ r. IsSuggestionRow plain_settings Ascii 1 s r.name r.cells) row after named,
+  All-tail (λ r.
+      IsSuggestionRow plain_settings Ascii 1 s r.name r.cells) row after named,
+)
 row_named s (first ∷ before) row after named =
     row_named s before row after (All-tail (λ r. IsSuggestionRow plain_settings Ascii 1 s r.name r.cells) first (before ++ (row ∷ after)) named)
 
@@ -150,8 +156,10 @@ suggestion_repeats_old_lines : {found : List Cell} (s : Snippet Patch) → IsSni
 suggestion_repeats_old_lines s is layout narrow ascii around row before after row_is shown =
     let rows : List NamedRow = before ++ (row ∷ after) in
     let same : shown.after ≡ rows = append_cancel_left (others (suggestion_head plain_settings layout around s)) shown.after rows (sym shown.rows_are) in
-    let named : All (λ r. IsSuggestionRow plain_settings Ascii 1 s r.name r.cells) rows = subst (λ gutter. All (λ r. IsSuggestionRow plain_settings Ascii gutter s r.name r.cells) rows) narrow (subst (λ decor. All
-    (λ r. IsSuggestionRow plain_settings decor layout.gutter s r.name r.cells) rows) ascii (subst (All (λ r. IsSuggestionRow plain_settings layout.decor layout.gutter s r.name r.cells)) same shown.named)) in
+    let named : All (λ r. IsSuggestionRow plain_settings Ascii 1 s r.name r.cells) rows = subst (λ gutter.
+    All (λ r. IsSuggestionRow plain_settings Ascii gutter s r.name r.cells) rows) narrow (subst (λ decor. All
+    (λ r. IsSuggestionRow plain_settings decor layout.gutter s r.name r.cells) rows) ascii
+    (subst (All (λ r. IsSuggestionRow plain_settings layout.decor layout.gutter s r.name r.cells)) same shown.named)) in
     old_row_named s is row.name row.cells row_is (row_named s before row after named).0
 
 -- so no rows that offer it twice show the suggestion, after the row of its path, where that is named:
@@ -167,8 +175,10 @@ second_copy_offered : {found : List Cell} (s : Snippet Patch) → IsSnippetOf s 
 second_copy_offered s is layout narrow ascii around row copy before between after row_is copy_is shown =
     let rows : List NamedRow = before ++ (row ∷ (between ++ (copy ∷ after))) in
     let same : shown.after ≡ rows = append_cancel_left (others (suggestion_head plain_settings layout around s)) shown.after rows (sym shown.rows_are) in
-    let named : All (λ r. IsSuggestionRow plain_settings Ascii 1 s r.name r.cells) rows = subst (λ gutter. All (λ r. IsSuggestionRow plain_settings Ascii gutter s r.name r.cells) rows) narrow (subst (λ decor. All
-    (λ r. IsSuggestionRow plain_settings decor layout.gutter s r.name r.cells) rows) ascii (subst (All (λ r. IsSuggestionRow plain_settings layout.decor layout.gutter s r.name r.cells)) same shown.named)) in
+    let named : All (λ r. IsSuggestionRow plain_settings Ascii 1 s r.name r.cells) rows = subst (λ gutter.
+    All (λ r. IsSuggestionRow plain_settings Ascii gutter s r.name r.cells) rows) narrow (subst (λ decor. All
+    (λ r. IsSuggestionRow plain_settings decor layout.gutter s r.name r.cells) rows) ascii
+    (subst (All (λ r. IsSuggestionRow plain_settings layout.decor layout.gutter s r.name r.cells)) same shown.named)) in
     let ordered : IsAscending (lines_offered rows) = subst (λ all. IsAscending (lines_offered all)) same shown.ordered in
     let first = row_named s before row (between ++ (copy ∷ after)) named in
     let second = row_named s between copy after first.1 in
@@ -188,7 +198,8 @@ two_edits = replaced 0 1 (codes "x") ∷ replaced 2 3 (codes "y") ∷ []
 -- a text without a CR
 no_cr : (text : List ℕ) → list_all (λ b. not (b == 13)) text ≡ true → HasNoCr text
 no_cr text none =
-    All-weaker (λ b. not (b == 13) ≡ true) (λ b. b ≢ 13) (λ b other same. clash (b == 13) (eq-eqb b 13 same) other) text (AllPass-from_list_all (λ b. not (b == 13)) text none)
+    All-weaker (λ b. not (b == 13) ≡ true) (λ b. b ≢ 13) (λ b other same.
+    clash (b == 13) (eq-eqb b 13 same) other) text (AllPass-from_list_all (λ b. not (b == 13)) text none)
   where
     clash : (t : Bool) → t ≡ true → not t ≡ true → ⊥
     clash true is isnt = cc
@@ -241,15 +252,22 @@ touched_left_out : {found : List Cell} (s : Snippet Patch) → IsSnippetOf s two
     → ShowsSuggestion plain_settings layout around found s (others (suggestion_head plain_settings layout around s) ++ rows) → ⊥
 touched_left_out s is layout around rows out shown =
     let same : shown.after ≡ rows = append_cancel_left (others (suggestion_head plain_settings layout around s)) shown.after rows (sym shown.rows_are) in
-    let touched : IsTouched (cow_str_bytes s.source) (edits_of s) 1 = subst (λ text. IsTouched text (edits_of s) 1) (sym is.source_is) (subst (λ es. IsTouched two_lines es 1) (sym is.edits_are) second_touched) in
+    let touched : IsTouched (cow_str_bytes s.source) (edits_of s) 1 = subst (λ text.
+    IsTouched text (edits_of s) 1) (sym is.source_is) (subst (λ es. IsTouched two_lines es 1) (sym is.edits_are) second_touched) in
     let visible : is_blank (text_at (source_lines (patched (cow_str_bytes s.source) (edits_of s))) 1) ≡ false =
     ap (λ text. is_blank (text_at (source_lines (patched text (edits_of s))) 1)) is.source_is
     ∙ ap (λ es. is_blank (text_at (source_lines (patched two_lines es)) 1)) is.edits_are ∙ second_visible in
-    elim (shown.offered (offerable s is) 1 touched visible) [ inl as_it_was ↦ changed as_it_was | inr among ↦ out (subst (λ all. Contains (lines_offered all) 1) same among) ]
+    elim (shown.offered (offerable s is) 1 touched visible) [
+      | inl as_it_was ↦ changed as_it_was
+      | inr among ↦ out
+          (subst (λ all. Contains (lines_offered all) 1) same among)
+    ]
   where
     changed : IsAsItWas s → ⊥
     changed same =
-        let both : codes "x" ∷ codes "y" ∷ [] ≡ last_reached s ∷ [] = sym (two_spliced s.fold) ∙ ap (λ es. texts_of (lines_of (spliced_text s.fold two_lines es))) (sym is.edits_are) ∙ ap (λ text. texts_of (lines_of (spliced_text s.fold text (edits_of s)))) (sym is.source_is) ∙ same in
+        let both : codes "x" ∷ codes "y" ∷ [] ≡ last_reached s ∷ [] = sym (two_spliced s.fold)
+        ∙ ap (λ es. texts_of (lines_of (spliced_text s.fold two_lines es))) (sym is.edits_are)
+        ∙ ap (λ text. texts_of (lines_of (spliced_text s.fold text (edits_of s)))) (sym is.source_is) ∙ same in
         cc
 
 -- ---- a line that is lost
@@ -304,15 +322,22 @@ cut_at_any_line_feed : {found : List Cell} (s : Snippet Patch) → IsSnippetOf s
     (others (suggestion_head plain_settings layout around s) ++ rows) → ⊥
 cut_at_any_line_feed s is layout around rows out shown =
     let same : shown.after ≡ rows = append_cancel_left (others (suggestion_head plain_settings layout around s)) shown.after rows (sym shown.rows_are) in
-    let touched : IsTouched (cow_str_bytes s.source) (edits_of s) 1 = subst (λ text. IsTouched text (edits_of s) 1) (sym is.source_is) (subst (λ es. IsTouched lines_of_three es 1) (sym is.edits_are) rest_touched) in
+    let touched : IsTouched (cow_str_bytes s.source) (edits_of s) 1 = subst (λ text.
+    IsTouched text (edits_of s) 1) (sym is.source_is) (subst (λ es. IsTouched lines_of_three es 1) (sym is.edits_are) rest_touched) in
     let visible : is_blank (text_at (source_lines (patched (cow_str_bytes s.source) (edits_of s))) 1) ≡ false =
     ap (λ text. is_blank (text_at (source_lines (patched text (edits_of s))) 1)) is.source_is
     ∙ ap (λ es. is_blank (text_at (source_lines (patched lines_of_three es)) 1)) is.edits_are ∙ rest_visible in
-    elim (shown.offered (deleted_offerable s is) 1 touched visible) [ inl as_it_was ↦ changed as_it_was | inr among ↦ out (subst (λ all. Contains (lines_offered all) 1) same among) ]
+    elim (shown.offered (deleted_offerable s is) 1 touched visible) [
+      | inl as_it_was ↦ changed as_it_was
+      | inr among ↦ out
+          (subst (λ all. Contains (lines_offered all) 1) same among)
+    ]
   where
     changed : IsAsItWas s → ⊥
     changed same =
-        let both : codes "xa" ∷ codes "c" ∷ [] ≡ last_reached s ∷ [] = sym (rest_spliced s.fold) ∙ ap (λ es. texts_of (lines_of (spliced_text s.fold lines_of_three es))) (sym is.edits_are) ∙ ap (λ text. texts_of (lines_of (spliced_text s.fold text (edits_of s)))) (sym is.source_is) ∙ same in
+        let both : codes "xa" ∷ codes "c" ∷ [] ≡ last_reached s ∷ [] = sym (rest_spliced s.fold)
+        ∙ ap (λ es. texts_of (lines_of (spliced_text s.fold lines_of_three es))) (sym is.edits_are)
+        ∙ ap (λ text. texts_of (lines_of (spliced_text s.fold text (edits_of s)))) (sym is.source_is) ∙ same in
         cc
 
 -- ---- edits in another order
@@ -335,7 +360,8 @@ unfolding char_width unicode_width norm chars
 replacement_before_insertion s is j offers =
     let given : given_lines s ≡ codes "xb" ∷ [] = given_by s (codes "a") replaced_and_put_in (codes "xb" ∷ []) is gives_xb in
     let first : j - first_given s ≡ 0 = omega (arith, offers.from, offers.within, ap length given) in
-    let text : codes "bxa" ≡ norm (chars (codes "xb")) = offers.line ∙ ap (λ k. norm (chars (get_or (given_lines s) k []))) first ∙ ap (λ lines. norm (chars (get_or lines 0 []))) given in
+    let text : codes "bxa" ≡ norm (chars (codes "xb")) = offers.line ∙ ap (λ k. norm (chars (get_or (given_lines s) k []))) first
+    ∙ ap (λ lines. norm (chars (get_or lines 0 []))) given in
     let letter : ◌≡◌ {A = ℕ} 98 120 = ap (λ (cs : List ℕ). get_or cs 0 0) text in
     absurd (omega (arith, letter))
 
@@ -388,7 +414,8 @@ module _ (v : Vec Patch Global) (layout : Layout) (narrow : layout.gutter ≡ 1)
 
   foo_rows_are : suggestion_rows around foo ≡ foo_rows
   foo_rows_are =
-      ap (λ rows. rows ++ (if around.shared then [] else Ends (not (is_end around.next)) ∷ [])) (ap (λ at. rows_of_suggestion at foo) opens ∙ (one_word_gives v).rows_are)
+      ap (λ rows. rows ++ (if around.shared then [] else Ends (not (is_end around.next)) ∷ []))
+      (ap (λ at. rows_of_suggestion at foo) opens ∙ (one_word_gives v).rows_are)
 
   -- rows that show it, after the row of its path: the second is that of the removed line, whatever it holds
   second_removed : {found : List Cell} → layout.decor ≡ Ascii → (first row : NamedRow) (rest : List NamedRow)
@@ -398,10 +425,13 @@ module _ (v : Vec Patch Global) (layout : Layout) (narrow : layout.gutter ≡ 1)
       let rows : List NamedRow = first ∷ row ∷ rest in
       let same : shown.after ≡ rows = append_cancel_left (others (suggestion_head plain_settings layout around foo)) shown.after rows (sym shown.rows_are) in
       let Named : DecorStyle → ℕ → NamedRow → Type 0 = λ decor gutter r. IsSuggestionRow plain_settings decor gutter foo r.name r.cells in
-      let named : All (Named Ascii 1) rows = subst (λ gutter. All (Named Ascii gutter) rows) narrow (subst (λ decor. All (Named decor layout.gutter) rows) ascii (subst (All (Named layout.decor layout.gutter)) same shown.named)) in
-      let names : map (λ (r : NamedRow). r.name) rows ≡ map (name_of_row foo) foo_rows = ap (map (λ (r : NamedRow). r.name)) (sym same) ∙ shown.order ∙ ap (map (name_of_row foo)) foo_rows_are in
+      let named : All (Named Ascii 1) rows = subst (λ gutter. All (Named Ascii gutter) rows) narrow
+      (subst (λ decor. All (Named decor layout.gutter) rows) ascii (subst (All (Named layout.decor layout.gutter)) same shown.named)) in
+      let names : map (λ (r : NamedRow). r.name) rows ≡ map (name_of_row foo) foo_rows = ap (map (λ (r : NamedRow). r.name)) (sym same) ∙ shown.order
+      ∙ ap (map (name_of_row foo)) foo_rows_are in
       let name : row.name ≡ RemovedLine 0 = ap (λ (ns : List RowName). get_or ns 1 Other) names in
-      subst (λ n. IsSuggestionRow plain_settings Ascii 1 foo n row.cells) name (All-head (Named Ascii 1) row rest (All-tail (Named Ascii 1) first (row ∷ rest) named))
+      subst (λ n. IsSuggestionRow plain_settings Ascii 1 foo n row.cells) name
+      (All-head (Named Ascii 1) row rest (All-tail (Named Ascii 1) first (row ∷ rest) named))
 
   -- so no rows show it in which the new line stands above the removed one:
   --
@@ -438,9 +468,12 @@ module _ (v : Vec Patch Global) (layout : Layout) (narrow : layout.gutter ≡ 1)
       → ShowsSuggestion r layout around found foo (others (suggestion_head r layout around foo) ++ (first ∷ rest))
       → HasStrokes layout.decor 1 (Begins Opening) first.cells
   first_begins r first rest shown =
-      let same : shown.after ≡ first ∷ rest = append_cancel_left (others (suggestion_head r layout around foo)) shown.after (first ∷ rest) (sym shown.rows_are) in
+      let same : shown.after ≡ first ∷ rest = append_cancel_left (others (suggestion_head r layout around foo)) shown.after (first ∷ rest)
+      (sym shown.rows_are) in
       let Strokes : ℕ → SuggestionRow → List Cell → Type 0 = HasStrokes layout.decor in
-      let strokes : AllZip (Strokes layout.gutter) foo_rows (cells_of (first ∷ rest)) = subst (λ rows. AllZip (Strokes layout.gutter) rows (cells_of (first ∷ rest))) foo_rows_are (subst (λ rows. AllZip (Strokes layout.gutter) (suggestion_rows around foo) (cells_of rows)) same shown.strokes) in
+      let strokes : AllZip (Strokes layout.gutter) foo_rows (cells_of (first ∷ rest)) = subst (λ rows.
+      AllZip (Strokes layout.gutter) rows (cells_of (first ∷ rest))) foo_rows_are
+      (subst (λ rows. AllZip (Strokes layout.gutter) (suggestion_rows around foo) (cells_of rows)) same shown.strokes) in
       subst (λ gutter. Strokes gutter (Begins Opening) first.cells) narrow strokes.0
 
   -- so nothing stands over it, as what stands for lines that are left out:
@@ -454,7 +487,8 @@ module _ (v : Vec Patch Global) (layout : Layout) (narrow : layout.gutter ≡ 1)
       → ShowsSuggestion plain_settings layout around found foo (others (suggestion_head plain_settings layout around foo) ++ (first ∷ rest)) → ⊥
   gap_row_over_separator ascii first rest is shown =
       let P : List Cell → Type 0 = λ cells. (get_or cells 2 SPACE).ch ≡ 124 in
-      let dot : ◌≡◌ {A = ℕ} 46 124 = subst P is (subst (λ d. HasStrokes d 1 (Begins Opening) first.cells) ascii (first_begins plain_settings first rest shown) 2 (omega arith)) in
+      let dot : ◌≡◌ {A = ℕ} 46 124 = subst P is (subst (λ d. HasStrokes d 1 (Begins Opening) first.cells) ascii
+      (first_begins plain_settings first rest shown) 2 (omega arith)) in
       absurd (omega (arith, dot))
 
   -- nor does it close there:

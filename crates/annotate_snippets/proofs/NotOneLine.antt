@@ -20,7 +20,8 @@ use Rattle.annotate_snippets.specs.PageLaws.{PageLaws}
 -- the row of the marks of `let x = 1;` with a label that is `here`, a line feed, and what looks like a second line
 abbrev pub forged_row : List Cell
 forged_row =
-    separator_row Ascii 1 ++ SPACE ∷ SPACE ∷ SPACE ∷ SPACE ∷ SPACE ∷ text_cells UnderlinePrimary (codes "^") ++ SPACE ∷ text_cells LabelPrimary (codes "here\n2 | let y = 666;")
+    separator_row Ascii 1 ++ SPACE ∷ SPACE ∷ SPACE ∷ SPACE ∷ SPACE ∷ text_cells UnderlinePrimary (codes "^")
+    ++ SPACE ∷ text_cells LabelPrimary (codes "here\n2 | let y = 666;")
 
 -- it is one row, and two lines of the text
 two_lines : text_lines (row_text forged_row) ≡ codes "  |     ^ here" ∷ codes "2 | let y = 666;" ∷ []
@@ -56,6 +57,7 @@ pub number_without_a_line : (r : Renderer) (groups : List Group) (page : Page) �
     → slice_get groups i ≡ Some g → slice_get page i ≡ Some part → (rows : List NamedRow) → Contains part.elements rows → Contains rows numbered_row → ⊥
 number_without_a_line r groups page laws i g part at there rows of_part among =
     let gutter : ℕ = (layout_of_group r groups g).gutter in
-    let all : All (IsNumberedAsLine gutter) rows = All-contains (λ (some : List NamedRow). All (IsNumberedAsLine gutter) some) part.elements rows (laws.numbers i g part at there) of_part in
+    let all : All (IsNumberedAsLine gutter) rows = All-contains (λ (some : List NamedRow). All (IsNumberedAsLine gutter) some) part.elements rows
+    (laws.numbers i g part at there) of_part in
     let row : IsNumberedAsLine gutter numbered_row = All-contains (IsNumberedAsLine gutter) rows numbered_row all among in
     false≢true (sym (row refl 0 (omega arith)))

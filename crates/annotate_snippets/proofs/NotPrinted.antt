@@ -75,7 +75,22 @@ printed =
     record {
       pieces = pieces;
       text_is = refl;
-      prints = (pieces, [], refl, (refl, differs, inl refl, (refl, refl, (unlinked_cell MainHeaderMsg 101, [], refl, refl, refl, refl, (refl, ends, inl refl, (refl, refl, refl))))), refl);
+      prints = (
+        pieces,
+        [],
+        refl,
+        (
+          refl,
+          differs,
+          inl refl,
+          (
+            refl,
+            refl,
+            (unlinked_cell MainHeaderMsg 101, [], refl, refl, refl, refl, (refl, ends, inl refl, (refl, refl, refl))),
+          ),
+        ),
+        refl,
+      );
     }
   where
     differs : next_style default_sheet Error bold_row ≡ Some plain_style → ⊥
@@ -87,7 +102,8 @@ printed =
 -- so it is the one text under that sheet
 only_text : (v : Vec Element Global) (text : List ℕ) → ShowsReport coloured (nameless v) default_sheet text → text ≡ bold_text
 only_text v text shown =
-    let page : PrintsPage default_sheet (Error ∷ []) (record { title = bold_row ∷ []; elements = [] } ∷ []) text = subst (λ page. PrintsPage default_sheet (Error ∷ []) page text) (page_is v) shown.printed.0 in
+    let page : PrintsPage default_sheet (Error ∷ []) (record { title = bold_row ∷ []; elements = [] } ∷ []) text = subst (λ page.
+    PrintsPage default_sheet (Error ∷ []) page text) (page_is v) shown.printed.0 in
     page.joined ∙ joined page.parts page.printed
   where
     joined : (parts : List (List ℕ)) → ArePrinted default_sheet (Error ∷ []) (record { title = bold_row ∷ []; elements = [] } ∷ []) parts

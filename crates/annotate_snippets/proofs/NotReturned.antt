@@ -59,7 +59,8 @@ put_in_and_replaced =
     record { start = 2; end = 2; text = codes "y" } ∷ record { start = 0; end = 2; text = codes "abx" } ∷ []
 
 -- the order of the trimmed ones, which gives `abyx` and not `abxy`
-patches_reordered_after_trimming : record { start = 2; end = 2; text = codes "y" } ∷ record { start = 2; end = 2; text = codes "x" } ∷ [] ≡ trimmed_edits (codes "ab") put_in_and_replaced → ⊥
+patches_reordered_after_trimming : record { start = 2; end = 2; text = codes "y" } ∷ record { start = 2; end = 2; text = codes "x" } ∷ []
+    ≡ trimmed_edits (codes "ab") put_in_and_replaced → ⊥
 unfolding trimmed_edit sandwich kept_before
 patches_reordered_after_trimming same =
     let letter : ◌≡◌ {A = ℕ} 121 120 = ap (λ (es : List Edit). slice_index_or (first_text es) 0 0) same in

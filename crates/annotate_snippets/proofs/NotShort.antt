@@ -83,7 +83,8 @@ two_short : (marks : List Annotation) → marks ≡ both_spans → All (λ a. is
 unfolding line_of start_of
 two_short marks is =
     let Short : Annotation → Type 0 = λ a. is_long (codes "ab") a ≡ false in
-    subst (All Short) (sym is) (All-cons Short (span_of Primary 1 2) (span_of Primary 0 1 ∷ []) refl (All-cons Short (span_of Primary 0 1) [] refl (All-nil Short)))
+    subst (All Short) (sym is) (All-cons Short (span_of Primary 1 2) (span_of Primary 0 1 ∷ []) refl
+    (All-cons Short (span_of Primary 0 1) [] refl (All-nil Short)))
 
 -- the first row doesn't name the column at which the first one starts:
 --

@@ -99,7 +99,8 @@ record AreOtherMarks (source : List ℕ) (marks : List Annotation) (cells : List
 whole_line : (s : Snippet Annotation) (source : List ℕ) (marks : List Annotation) → IsSnippetOf s source marks → IsPlainLine source marks
     → is_whole s.fold (cow_str_bytes s.source) s.markers.items ≡ true
 whole_line s source marks is plain =
-    subst (λ text. is_whole s.fold text s.markers.items ≡ true) (sym is.source_is) (subst (λ spans. is_whole s.fold source spans ≡ true) (sym is.marks_are) (whole s.fold))
+    subst (λ text. is_whole s.fold text s.markers.items ≡ true) (sym is.source_is)
+    (subst (λ spans. is_whole s.fold source spans ≡ true) (sym is.marks_are) (whole s.fold))
   where
     whole : (fold : Bool) → is_whole fold source marks ≡ true
     whole true = plain.folded
@@ -112,7 +113,9 @@ other_marks source marks cells plain wrong =
     record {
       below = wrong;
       above = λ s is row rows shown.
-          let promised : qualifies (cow_str_bytes s.source) s.markers.items ≡ true = subst (λ text. qualifies text s.markers.items ≡ true) (sym is.source_is) (subst (λ spans. qualifies source spans ≡ true) (sym is.marks_are) plain.qualified) in
+          let promised : qualifies (cow_str_bytes s.source) s.markers.items
+          ≡ true = subst (λ text. qualifies text s.markers.items ≡ true) (sym is.source_is)
+          (subst (λ spans. qualifies source spans ≡ true) (sym is.marks_are) plain.qualified) in
           let none : shown.dropped ≡ 0 = (shown.line.whole (whole_line s source marks is plain)).0 in
           wrong s is (subst (λ dropped. ShowsMarksOf Ascii layout s 0 dropped (row_below cells)) none (shown.marks promised));
     }
@@ -171,18 +174,22 @@ caret ch (inl is) = is
 caret ch (inr is) = is
 
 -- what holds of a row that has the marks of such a snippet's first line, in terms of the snippet's source and spans
-module _ {s : Snippet Annotation} {source : List ℕ} {marks : List Annotation} {row : List Cell} (is : IsSnippetOf s source marks) (shown : ShowsMarksOf Ascii layout s 0 0 row) where
+module _ {s : Snippet Annotation} {source : List ℕ} {marks : List Annotation} {row : List Cell} (is : IsSnippetOf s source marks)
+    (shown : ShowsMarksOf Ascii layout s 0 0 row) where
   -- below a column that has a primary mark stands nothing but '^'
   primary_missing : (p : ℕ) → IsMarkOf source marks 0 p Primary → ((slice_index_or row (cell_of layout 0 p) SPACE).ch == char_of (codes "^")) ≡ false → ⊥
   primary_missing p mark other =
-      let cell : IsMarkCell Ascii Primary (slice_index_or row (cell_of layout 0 p) SPACE) = shown.marks p Primary (subst (λ text. IsMarkOf text s.markers.items 0 p Primary) (sym is.source_is) (subst (λ spans. IsMarkOf source spans 0 p Primary) (sym is.marks_are) mark)) in
+      let cell : IsMarkCell Ascii Primary (slice_index_or row (cell_of layout 0 p) SPACE) = shown.marks p Primary
+      (subst (λ text. IsMarkOf text s.markers.items 0 p Primary) (sym is.source_is)
+      (subst (λ spans. IsMarkOf source spans 0 p Primary) (sym is.marks_are) mark)) in
       let same : ((slice_index_or row (cell_of layout 0 p) SPACE).ch == char_of (codes "^")) ≡ true = eq-eqb _ _ (caret _ cell.0) in
       cc
 
   -- below a column that no span covers no cell is in the role of marks
   no_mark_role : (p : ℕ) → All (λ a. IsMarkedAt source 0 p a → ⊥) marks → has_mark_role (slice_index_or row (cell_of layout 0 p) SPACE) ≡ false
   no_mark_role p none =
-      shown.unmarked p (omega arith) (subst (λ text. All (λ a. IsMarkedAt text 0 p a → ⊥) s.markers.items) (sym is.source_is) (subst (All (λ a. IsMarkedAt source 0 p a → ⊥)) (sym is.marks_are) none))
+      shown.unmarked p (omega arith) (subst (λ text. All (λ a. IsMarkedAt text 0 p a → ⊥) s.markers.items) (sym is.source_is)
+      (subst (All (λ a. IsMarkedAt source 0 p a → ⊥)) (sym is.marks_are) none))
 
   -- after the mark of a lone span stands its label
   label_after : (a : Annotation) → filter (is_marked_on source 0) marks ≡ a ∷ [] → 0 < length (shown_label a)
@@ -233,10 +240,12 @@ named_first closes s is (SourceRow k) cells rows same shows =
 named_first closes s is (OfferedLine j) cells rows same shows = absurd shows
 named_first closes s is (RemovedLine i) cells rows same shows = absurd shows
 named_first closes s is Elision cells rows same shows =
-    let digit : true ≡ false = subst (λ row. is_ascii_alphanumeric (slice_index_or row 0 SPACE).ch ≡ false) same (unnumbered_elided Ascii layout cells shows 0 (omega arith)) in
+    let digit : true ≡ false = subst (λ row. is_ascii_alphanumeric (slice_index_or row 0 SPACE).ch ≡ false) same
+    (unnumbered_elided Ascii layout cells shows 0 (omega arith)) in
     cc
 named_first closes s is Other cells rows same shows =
-    let digit : true ≡ false = subst (λ row. is_ascii_alphanumeric (slice_index_or row 0 SPACE).ch ≡ false) same (unnumbered_below Ascii layout (closes && length rows == 0) cells shows 0 (omega arith)) in
+    let digit : true ≡ false = subst (λ row. is_ascii_alphanumeric (slice_index_or row 0 SPACE).ch ≡ false) same
+    (unnumbered_below Ascii layout (closes && length rows == 0) cells shows 0 (omega arith)) in
     cc
 
 -- ---- the laws
@@ -254,10 +263,12 @@ source_row_elided s is dropped shown =
 
 -- a separator in the role of marks, as a highlight that begins left of the code would leave it
 coloured_separator : (s : Snippet Annotation) (k dropped : ℕ)
-    → ShowsSourceLine plain_settings layout s k dropped (text_cells LineNumber (codes "1") ++ SPACE ∷ text_cells UnderlinePrimary (codes "|") ++ SPACE ∷ text_cells Quotation (codes "ab")) → ⊥
+    → ShowsSourceLine plain_settings layout s k dropped (text_cells LineNumber (codes "1") ++ SPACE ∷ text_cells UnderlinePrimary (codes "|")
+    ++ SPACE ∷ text_cells Quotation (codes "ab")) → ⊥
 coloured_separator s k dropped shown =
     let shown_there : List ℕ = number_text plain_settings s.line_numbering 1 (s.line_start + k) in
-    let marked : true ≡ false = ap has_mark_role (separator_of_left Ascii 1 shown_there (text_cells LineNumber (codes "1") ++ SPACE ∷ text_cells UnderlinePrimary (codes "|") ++ SPACE ∷ text_cells Quotation (codes "ab")) shown.left) in
+    let marked : true ≡ false = ap has_mark_role (separator_of_left Ascii 1 shown_there
+    (text_cells LineNumber (codes "1") ++ SPACE ∷ text_cells UnderlinePrimary (codes "|") ++ SPACE ∷ text_cells Quotation (codes "ab")) shown.left) in
     cc
 
 -- a second copy of a line, here of `a`, whatever it is named: two rows that are named by one line don't ascend, whatever
@@ -267,8 +278,12 @@ coloured_separator s k dropped shown =
 --     1 | a
 second_copy : (k : ℕ) (row copy : NamedRow) (before between after : List NamedRow) (closes : Bool) → row.name ≡ SourceRow k → copy.name ≡ SourceRow k
     → (IsAscending (lines_named (before ++ (row ∷ (between ++ (copy ∷ after))))) → ⊥) × (IsRowBelow Ascii layout closes (source_row (codes "a")) → ⊥)
-second_copy k row copy before between after closes row_is copy_is =
-    (λ ascending. two_of_one k (lines_named before) (lines_named between) (lines_named after) (simp (filter_map-append, row_is, copy_is) at ascending), λ below. let digit : true ≡ false = unnumbered_below Ascii layout closes (source_row (codes "a")) below 0 (omega arith) in cc)
+second_copy k row copy before between after closes row_is copy_is = (
+  λ ascending. two_of_one k (lines_named before) (lines_named between) (lines_named after)
+      (simp (filter_map-append, row_is, copy_is) at ascending),
+  λ below.
+      let digit : true ≡ false = unnumbered_below Ascii layout closes (source_row (codes "a")) below 0 (omega arith) in cc,
+)
 
 -- so no rows in which it stands twice show the snippet, wherever that stands: neither after those that it begins with nor
 -- before those below its lines
@@ -281,8 +296,10 @@ second_copy_of_a_line s is around row copy before between after row_is copy_is s
     let rows : List NamedRow = before ++ (row ∷ (between ++ (copy ∷ after))) in
     let tail : List NamedRow = others (rows_after_cause plain_settings layout around) in
     let closes : Bool = closes_with around in
-    let same : shown.after ≡ rows = append_cancel_right shown.after rows tail (sym (append_cancel_left (others (cause_head plain_settings layout around s)) (rows ++ tail) (shown.after ++ tail) shown.rows_are)) in
-    let from_row : AreRowsOf plain_settings layout closes s (row ∷ (between ++ (copy ∷ after))) = rows_after closes s before (row ∷ (between ++ (copy ∷ after))) (subst (AreRowsOf plain_settings layout closes s) same shown.named) in
+    let same : shown.after ≡ rows = append_cancel_right shown.after rows tail
+    (sym (append_cancel_left (others (cause_head plain_settings layout around s)) (rows ++ tail) (shown.after ++ tail) shown.rows_are)) in
+    let from_row : AreRowsOf plain_settings layout closes s (row ∷ (between ++ (copy ∷ after))) = rows_after closes s before
+    (row ∷ (between ++ (copy ∷ after))) (subst (AreRowsOf plain_settings layout closes s) same shown.named) in
     let from_copy : AreRowsOf plain_settings layout closes s (copy ∷ after) = rows_after closes s between (copy ∷ after) from_row.1 in
     let row_named : row.name ≡ SourceRow 0 = named_first closes s is row.name row.cells (between ++ (copy ∷ after)) row_is from_row.0 in
     let copy_named : copy.name ≡ SourceRow 0 = named_first closes s is copy.name copy.cells after copy_is from_copy.0 in
@@ -298,9 +315,11 @@ underlines_in_given_order =
     let source : List ℕ = codes "abcdef" in
     let wide : Annotation = span_of Context 0 6 in
     let narrow : Annotation = span_of Primary 2 4 in
-    let at : IsMarkedAt source 0 2 narrow = is_marked_at source narrow 2 4 (record { marked = refl; start_is = refl; end_is = refl }) 2 (omega arith) (omega arith) in
+    let at : IsMarkedAt source 0 2 narrow = is_marked_at source narrow 2 4 (record { marked = refl; start_is = refl; end_is = refl }) 2 (omega arith)
+    (omega arith) in
     let mark : IsMarkOf source (wide ∷ narrow ∷ []) 0 2 Primary = mark_of_primary source 0 2 wide narrow at refl (omega arith) in
-    other_marks source (wide ∷ narrow ∷ []) (text_cells UnderlineSecondary (codes "------")) (record { folded = refl; unfolded = refl; qualified = refl }) (λ s is shown. primary_missing is shown 2 mark refl)
+    other_marks source (wide ∷ narrow ∷ []) (text_cells UnderlineSecondary (codes "------")) (record { folded = refl; unfolded = refl; qualified = refl })
+    (λ s is shown. primary_missing is shown 2 mark refl)
 
 -- the marks for context below a primary span of the same width, here of `ab`:
 --
@@ -312,9 +331,11 @@ context_wins_ties =
     let source : List ℕ = codes "abcd" in
     let context : Annotation = span_of Context 0 2 in
     let primary : Annotation = span_of Primary 0 2 in
-    let at : IsMarkedAt source 0 0 primary = is_marked_at source primary 0 2 (record { marked = refl; start_is = refl; end_is = refl }) 0 (omega arith) (omega arith) in
+    let at : IsMarkedAt source 0 0 primary = is_marked_at source primary 0 2 (record { marked = refl; start_is = refl; end_is = refl }) 0 (omega arith)
+    (omega arith) in
     let mark : IsMarkOf source (context ∷ primary ∷ []) 0 0 Primary = mark_of_primary source 0 0 context primary at refl (omega arith) in
-    other_marks source (context ∷ primary ∷ []) (text_cells UnderlineSecondary (codes "--")) (record { folded = refl; unfolded = refl; qualified = refl }) (λ s is shown. primary_missing is shown 0 mark refl)
+    other_marks source (context ∷ primary ∷ []) (text_cells UnderlineSecondary (codes "--")) (record { folded = refl; unfolded = refl; qualified = refl })
+    (λ s is shown. primary_missing is shown 0 mark refl)
 
 -- marks at the columns of a span's bytes, here below the second character of `日本`, which has the bytes 3 to 5 and stands
 -- at columns 2 and 3:
@@ -326,9 +347,11 @@ unfolding place_of line_of start_of chars char_width unicode_width lib.Utf8.enco
 marks_by_byte_offset =
     let source : List ℕ = encode_utf8_all (codes "日本") in
     let span : Annotation = span_of Primary 3 6 in
-    let at : IsMarkedAt source 0 2 span = is_marked_at source span 2 4 (record { marked = refl; start_is = refl; end_is = refl }) 2 (omega arith) (omega arith) in
+    let at : IsMarkedAt source 0 2 span = is_marked_at source span 2 4 (record { marked = refl; start_is = refl; end_is = refl }) 2 (omega arith)
+    (omega arith) in
     let mark : IsMarkOf source (span ∷ []) 0 2 Primary = mark_of_one source 0 2 span at in
-    other_marks source (span ∷ []) (replicate 3 SPACE ++ text_cells UnderlinePrimary (codes "^^^")) (record { folded = refl; unfolded = refl; qualified = refl }) (λ s is shown. primary_missing is shown 2 mark refl)
+    other_marks source (span ∷ []) (replicate 3 SPACE ++ text_cells UnderlinePrimary (codes "^^^"))
+    (record { folded = refl; unfolded = refl; qualified = refl }) (λ s is shown. primary_missing is shown 2 mark refl)
 
 -- a mark at the column of a span's character, here below the `x` after a tab, which is character 1 and stands at column 4:
 --
@@ -339,9 +362,11 @@ unfolding place_of line_of start_of chars char_width unicode_width norm
 marks_by_character_count =
     let source : List ℕ = 9 ∷ codes "x" in
     let span : Annotation = span_of Primary 1 2 in
-    let at : IsMarkedAt source 0 4 span = is_marked_at source span 4 5 (record { marked = refl; start_is = refl; end_is = refl }) 4 (omega arith) (omega arith) in
+    let at : IsMarkedAt source 0 4 span = is_marked_at source span 4 5 (record { marked = refl; start_is = refl; end_is = refl }) 4 (omega arith)
+    (omega arith) in
     let mark : IsMarkOf source (span ∷ []) 0 4 Primary = mark_of_one source 0 4 span at in
-    other_marks source (span ∷ []) (SPACE ∷ text_cells UnderlinePrimary (codes "^")) (record { folded = refl; unfolded = refl; qualified = refl }) (λ s is shown. primary_missing is shown 4 mark refl)
+    other_marks source (span ∷ []) (SPACE ∷ text_cells UnderlinePrimary (codes "^")) (record { folded = refl; unfolded = refl; qualified = refl })
+    (λ s is shown. primary_missing is shown 4 mark refl)
 
 -- marks below columns that no span covers, here below all of `ab cd`, of which a span covers `a` alone:
 --
@@ -353,7 +378,8 @@ every_column_marked =
     let span : Annotation = span_of Primary 0 1 in
     let IsFreeOf : Annotation → Type 0 = λ a. IsMarkedAt (codes "ab cd") 0 1 a → ⊥ in
     let free : All IsFreeOf (span ∷ []) = All-cons IsFreeOf span [] (λ at. absurd (omega (arith, at.1.1))) (All-nil IsFreeOf) in
-    other_marks (codes "ab cd") (span ∷ []) (text_cells UnderlinePrimary (codes "^^^^^")) (record { folded = refl; unfolded = refl; qualified = refl }) (λ s is shown. let role : true ≡ false = no_mark_role is shown 1 free in cc)
+    other_marks (codes "ab cd") (span ∷ []) (text_cells UnderlinePrimary (codes "^^^^^")) (record { folded = refl; unfolded = refl; qualified = refl })
+    (λ s is shown. let role : true ≡ false = no_mark_role is shown 1 free in cc)
 
 -- a mark without its span's label, here `x`, where no other span is on the line:
 --
@@ -366,14 +392,16 @@ lone_label_left_out label label_is =
     let span : Annotation = labelled_span label Primary 0 1 in
     let text : shown_label span ≡ codes "x" = ap normalized_chars label_is in
     let some : 0 < length (shown_label span) = omega (arith, ap length text) in
-    other_marks (codes "ab") (span ∷ []) (text_cells UnderlinePrimary (codes "^")) (record { folded = refl; unfolded = refl; qualified = refl }) (λ s is shown. let after : [] ≡ 32 ∷ shown_label span = label_after is shown span refl some in cc)
+    other_marks (codes "ab") (span ∷ []) (text_cells UnderlinePrimary (codes "^")) (record { folded = refl; unfolded = refl; qualified = refl }) (λ s is shown.
+    let after : [] ≡ 32 ∷ shown_label span = label_after is shown span refl some in cc)
 
 -- the label of the one span on a line elsewhere than one cell after its mark, here two cells:
 --
 --     1 | ab
 --       | ^  x
 label_elsewhere : (label : Option (CowStr Global)) → option_map cow_str_bytes label ≡ Some (codes "x")
-    → AreOtherMarks (codes "ab") (labelled_span label Primary 0 1 ∷ []) (text_cells UnderlinePrimary (codes "^") ++ SPACE ∷ SPACE ∷ text_cells LabelPrimary (codes "x"))
+    → AreOtherMarks (codes "ab") (labelled_span label Primary 0 1 ∷ [])
+    (text_cells UnderlinePrimary (codes "^") ++ SPACE ∷ SPACE ∷ text_cells LabelPrimary (codes "x"))
 unfolding place_of line_of start_of chars char_width unicode_width norm
 label_elsewhere label label_is =
     let span : Annotation = labelled_span label Primary 0 1 in
@@ -411,9 +439,12 @@ unfolding place_of line_of start_of chars char_width unicode_width
 marks_not_shifted s is shown =
     let source : List ℕ = codes "abcd" in
     let span : Annotation = span_of Primary 2 3 in
-    let at : IsMarkedAt source 0 2 span = is_marked_at source span 2 3 (record { marked = refl; start_is = refl; end_is = refl }) 2 (omega arith) (omega arith) in
+    let at : IsMarkedAt source 0 2 span = is_marked_at source span 2 3 (record { marked = refl; start_is = refl; end_is = refl }) 2 (omega arith)
+    (omega arith) in
     let mark : IsMarkOf source (span ∷ []) 0 2 Primary = mark_of_one source 0 2 span at in
-    let cell : IsMarkCell Ascii Primary SPACE = shown.marks 2 Primary (subst (λ text. IsMarkOf text s.markers.items 0 2 Primary) (sym is.source_is) (subst (λ spans. IsMarkOf source spans 0 2 Primary) (sym is.marks_are) mark)) in
+    let cell : IsMarkCell Ascii Primary SPACE = shown.marks 2 Primary
+    (subst (λ text. IsMarkOf text s.markers.items 0 2 Primary) (sym is.source_is)
+    (subst (λ spans. IsMarkOf source spans 0 2 Primary) (sym is.marks_are) mark)) in
     let same : SPACE.ch ≡ char_of (codes "^") = caret SPACE.ch cell.0 in
     absurd (omega (arith, same))
 
@@ -438,8 +469,11 @@ named_second : (closes : Bool) (s : Snippet Annotation) → IsSnippetOf s two_li
     → name ≡ SourceRow 1
 unfolding chars norm
 named_second closes s is (SourceRow zero) cells rows same shows =
-    let whole : is_whole s.fold (cow_str_bytes s.source) s.markers.items ≡ true = subst (λ text. is_whole s.fold text s.markers.items ≡ true) (sym is.source_is) (subst (λ spans. is_whole s.fold two_lines spans ≡ true) (sym is.marks_are) (first_whole s.fold)) in
-    let text : codes "b" ≡ norm (chars_at (cow_str_bytes s.source) 0) = subst (λ row. row_text (drop 4 row) ≡ norm (chars_at (cow_str_bytes s.source) 0)) same (shows.line.whole whole).1 in
+    let whole : is_whole s.fold (cow_str_bytes s.source) s.markers.items
+    ≡ true = subst (λ text. is_whole s.fold text s.markers.items ≡ true) (sym is.source_is)
+    (subst (λ spans. is_whole s.fold two_lines spans ≡ true) (sym is.marks_are) (first_whole s.fold)) in
+    let text : codes "b" ≡ norm (chars_at (cow_str_bytes s.source) 0) = subst (λ row.
+    row_text (drop 4 row) ≡ norm (chars_at (cow_str_bytes s.source) 0)) same (shows.line.whole whole).1 in
     let letter : ◌≡◌ {A = ℕ} 98 97 = ap (λ (cs : List ℕ). slice_index_or cs 0 0) (text ∙ ap (λ source. norm (chars_at source 0)) is.source_is) in
     absurd (omega (arith, letter))
 named_second closes s is (SourceRow (suc k)) cells rows same shows =
@@ -449,10 +483,12 @@ named_second closes s is (SourceRow (suc k)) cells rows same shows =
 named_second closes s is (OfferedLine j) cells rows same shows = absurd shows
 named_second closes s is (RemovedLine i) cells rows same shows = absurd shows
 named_second closes s is Elision cells rows same shows =
-    let digit : true ≡ false = subst (λ row. is_ascii_alphanumeric (slice_index_or row 0 SPACE).ch ≡ false) same (unnumbered_elided Ascii layout cells shows 0 (omega arith)) in
+    let digit : true ≡ false = subst (λ row. is_ascii_alphanumeric (slice_index_or row 0 SPACE).ch ≡ false) same
+    (unnumbered_elided Ascii layout cells shows 0 (omega arith)) in
     cc
 named_second closes s is Other cells rows same shows =
-    let digit : true ≡ false = subst (λ row. is_ascii_alphanumeric (slice_index_or row 0 SPACE).ch ≡ false) same (unnumbered_below Ascii layout (closes && length rows == 0) cells shows 0 (omega arith)) in
+    let digit : true ≡ false = subst (λ row. is_ascii_alphanumeric (slice_index_or row 0 SPACE).ch ≡ false) same
+    (unnumbered_below Ascii layout (closes && length rows == 0) cells shows 0 (omega arith)) in
     cc
 
 -- a list of one number holds no other
@@ -481,8 +517,12 @@ fold_ignored s is folds around row before after row_is shown =
     let rows : List NamedRow = before ++ (row ∷ after) in
     let tail : List NamedRow = others (rows_after_cause plain_settings layout around) in
     let closes : Bool = closes_with around in
-    let same : shown.after ≡ rows = append_cancel_right shown.after rows tail (sym (append_cancel_left (others (cause_head plain_settings layout around s)) (rows ++ tail) (shown.after ++ tail) shown.rows_are)) in
-    let from_row : AreRowsOf plain_settings layout closes s (row ∷ after) = rows_after closes s before (row ∷ after) (subst (AreRowsOf plain_settings layout closes s) same shown.named) in
+    let same : shown.after ≡ rows = append_cancel_right shown.after rows tail
+    (sym (append_cancel_left (others (cause_head plain_settings layout around s)) (rows ++ tail) (shown.after ++ tail) shown.rows_are)) in
+    let from_row : AreRowsOf plain_settings layout closes s (row ∷ after) = rows_after closes s before (row ∷ after)
+    (subst (AreRowsOf plain_settings layout closes s) same shown.named) in
     let named : row.name ≡ SourceRow 1 = named_second closes s is row.name row.cells after row_is from_row.0 in
-    let kept : lines_named rows ≡ 0 ∷ [] = ap lines_named (sym same) ∙ shown.lines ∙ ap (λ fold. shown_lines fold (cow_str_bytes s.source) s.markers.items) folds ∙ ap (λ text. shown_lines true text s.markers.items) is.source_is ∙ ap (shown_lines true two_lines) is.marks_are ∙ first_alone in
+    let kept : lines_named rows ≡ 0 ∷ [] = ap lines_named (sym same) ∙ shown.lines
+    ∙ ap (λ fold. shown_lines fold (cow_str_bytes s.source) s.markers.items) folds ∙ ap (λ text. shown_lines true text s.markers.items) is.source_is
+    ∙ ap (shown_lines true two_lines) is.marks_are ∙ first_alone in
     other_number (lines_named before) (lines_named after) (simp (filter_map-append, named) at kept)

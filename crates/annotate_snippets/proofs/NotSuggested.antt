@@ -38,16 +38,22 @@ unfolding suggestion_cells
 rows_alone layout around found s lines layout_is alone shown =
     let next : Bool = not (is_end around.next) in
     let under : under_of plain_settings layout around.start found ≡ [] = ap (λ at. under_of plain_settings layout at found) alone.start in
-    let Rows : SuggestionLayout → SuggestionStart → List Cell → Bool → List (List Cell) = λ suggested at row shared. body_cells suggested at s row ++ (if shared then [] else row_cells suggested s [] (Ends next) ∷ []) in
+    let Rows : SuggestionLayout → SuggestionStart → List Cell → Bool → List (List Cell) = λ suggested at row shared.
+    body_cells suggested at s row ++ (if shared then [] else row_cells suggested s [] (Ends next) ∷ []) in
     let suggested : SuggestionLayout = suggestion_layout plain_settings layout s in
     let below : List Cell = under_of plain_settings layout around.start found in
-    shown ∙ ap (λ l. Rows l around.start below around.shared) layout_is ∙ ap (λ at. Rows (ascii layout.code) at below around.shared) alone.start ∙ ap (λ row. Rows (ascii layout.code) Opening row around.shared) under ∙ ap (Rows (ascii layout.code) Opening []) alone.own
+    shown ∙ ap (λ l. Rows l around.start below around.shared) layout_is ∙ ap (λ at. Rows (ascii layout.code) at below around.shared) alone.start
+    ∙ ap (λ row. Rows (ascii layout.code) Opening row around.shared) under ∙ ap (Rows (ascii layout.code) Opening []) alone.own
 
 -- with a gutter of one cell its rows stand as in ASCII
 narrow_layout : (layout : Layout) (s : Snippet Patch) → layout.gutter ≡ 1 → layout.decor ≡ Ascii → s.line_numbering ≡ true
     → suggestion_layout plain_settings layout s ≡ ascii layout.code
 narrow_layout layout s narrow plain numbered =
-    ap (λ (d : DecorStyle). record { base = record { gutter = layout.gutter; code = layout.code; decor = d }; numbers = line_numbers plain_settings s.line_numbering }) plain
+    ap (λ (d : DecorStyle). record {
+      base = record { gutter = layout.gutter; code = layout.code; decor = d };
+      numbers = line_numbers plain_settings
+          s.line_numbering;
+    }) plain
     ∙ ap (λ (g : ℕ). record { base = record { gutter = g; code = layout.code; decor = Ascii }; numbers = line_numbers plain_settings s.line_numbering }) narrow
     ∙ ap (λ (b : Bool). record { base = record { gutter = 1; code = layout.code; decor = Ascii }; numbers = line_numbers plain_settings b }) numbered
 
@@ -63,7 +69,8 @@ marks_one_right : (v : Vec Patch Global) (layout : Layout) (around : ElementCont
     → row_at (cells_of shown.after) 2 ≡ stroke ++ replicate 6 SPACE ++ text_cells Addition (codes "+") → ⊥
 marks_one_right v layout around found rows narrow plain alone shown wrong =
     let s : Snippet Patch = text_put_in v in
-    let all = rows_alone layout around found s (cells_of shown.after) (narrow_layout layout s narrow plain refl) alone shown.cells ∙ put_in_cells layout.code v (not (is_end around.next)) in
+    let all = rows_alone layout around found s (cells_of shown.after) (narrow_layout layout s narrow plain refl) alone shown.cells
+    ∙ put_in_cells layout.code v (not (is_end around.next)) in
     let At : List Cell → ℕ = λ row. (get_or row 8 SPACE).ch in
     let mark : ◌≡◌ {A = ℕ} 32 43 = sym (ap At wrong) ∙ ap (λ (rs : List (List Cell)). At (row_at rs 2)) all in
     absurd (omega (arith, mark))
@@ -82,7 +89,8 @@ kept_shown_as_changed : (v : Vec Patch Global) (layout : Layout) (around : Eleme
     ++ text_cells NoStyle (codes "a") → ⊥
 kept_shown_as_changed v layout around found rows narrow plain alone shown wrong =
     let s : Snippet Patch = third_unfolded v in
-    let all = rows_alone layout around found s (cells_of shown.after) (narrow_layout layout s narrow plain refl) alone shown.cells ∙ unfolded_cells layout.code v (not (is_end around.next)) in
+    let all = rows_alone layout around found s (cells_of shown.after) (narrow_layout layout s narrow plain refl) alone shown.cells
+    ∙ unfolded_cells layout.code v (not (is_end around.next)) in
     let At : List Cell → ℕ = λ row. (get_or row 2 SPACE).ch in
     let sign : ◌≡◌ {A = ℕ} 126 124 = sym (ap At wrong) ∙ ap (λ (rs : List (List Cell)). At (row_at rs 1)) all in
     absurd (omega (arith, sign))
@@ -96,7 +104,8 @@ removal_for_addition : (v : Vec Patch Global) (layout : Layout) (around : Elemen
     → (get_or (row_at (cells_of shown.after) 3) 4 SPACE).role ≡ Removal → ⊥
 removal_for_addition v layout around found rows narrow plain alone shown wrong =
     let s : Snippet Patch = third_unfolded v in
-    let all = rows_alone layout around found s (cells_of shown.after) (narrow_layout layout s narrow plain refl) alone shown.cells ∙ unfolded_cells layout.code v (not (is_end around.next)) in
+    let all = rows_alone layout around found s (cells_of shown.after) (narrow_layout layout s narrow plain refl) alone shown.cells
+    ∙ unfolded_cells layout.code v (not (is_end around.next)) in
     let Role : List (List Cell) → ElementStyle = λ rs. (get_or (row_at rs 3) 4 SPACE).role in
     let role : Removal ≡ Addition = sym wrong ∙ ap Role all in
     cc

@@ -51,11 +51,13 @@ messages_left_out v shown =
 -- a report of the source `ab` in the file of this path, of which a span with this label covers `a`
 abbrev labelled : Vec Element Global → Vec Annotation Global → List ℕ → List ℕ → List Group
 labelled v w path label =
-    group v (Some (error_title None (codes "e"))) (element.Cause (snippet w (Some path) (codes "ab") (labelled_span (Some (text_of label)) Primary 0 1 ∷ []) (omega arith)) ∷ []) (omega arith) ∷ []
+    group v (Some (error_title None (codes "e"))) (element.Cause (snippet w (Some path) (codes "ab") (labelled_span (Some (text_of label)) Primary 0 1 ∷ [])
+    (omega arith)) ∷ []) (omega arith) ∷ []
 
 labelled_is : (v : Vec Element Global) (w : Vec Annotation Global)
     → form_bytes plain_sheet (text_form speaking (labelled v w (codes "f") (codes "x"))) ≡ codes "error: e\n at f:1:1: x"
-unfolding heading_form cause_form locations_of start_location end_location location_of place_of steps_after_text line_of start_of digits norm chars lib.Utf8.encode
+unfolding heading_form cause_form locations_of start_location end_location location_of place_of steps_after_text line_of start_of digits norm chars
+    lib.Utf8.encode
 labelled_is v w = refl
 
 -- a span without its label, here `x`:
@@ -74,7 +76,8 @@ text_form_without_labels v w shown =
 --
 --     error <U+001B>: e
 id_drawn_raw : (v : Vec Element Global)
-    → ShowsReport speaking (group v (Some (error_title (Some (record { id = Some (text_of (27 ∷ [])); url = None })) (codes "e"))) [] (omega arith) ∷ []) plain_sheet (codes "error " ++ 27 ∷ codes ": e") → ⊥
+    → ShowsReport speaking (group v (Some (error_title (Some (record { id = Some (text_of (27 ∷ [])); url = None })) (codes "e"))) []
+    (omega arith) ∷ []) plain_sheet (codes "error " ++ 27 ∷ codes ": e") → ⊥
 unfolding heading_form norm chars lib.Utf8.encode
 id_drawn_raw v shown =
     let right : codes "error " ++ 27 ∷ codes ": e" ≡ codes "error " ++ (encode_utf8_all (0x241B ∷ []) ++ codes ": e") = shown.are.0 in
@@ -86,8 +89,10 @@ id_drawn_raw v shown =
 --     error: e
 --      at <U+001B>:1:1: x
 raw_path_is : (v : Vec Element Global) (w : Vec Annotation Global)
-    → form_bytes plain_sheet (text_form speaking (labelled v w (27 ∷ []) (codes "x"))) ≡ codes "error: e\n at " ++ encode_utf8_all (0x241B ∷ []) ++ codes ":1:1: x"
-unfolding heading_form cause_form locations_of start_location end_location location_of place_of steps_after_text line_of start_of digits norm chars lib.Utf8.encode
+    → form_bytes plain_sheet (text_form speaking (labelled v w (27 ∷ []) (codes "x"))) ≡ codes "error: e\n at " ++ encode_utf8_all (0x241B ∷ [])
+    ++ codes ":1:1: x"
+unfolding heading_form cause_form locations_of start_location end_location location_of place_of steps_after_text line_of start_of digits norm chars
+    lib.Utf8.encode
 raw_path_is v w = refl
 
 path_drawn_raw : (v : Vec Element Global) (w : Vec Annotation Global)
@@ -103,7 +108,8 @@ path_drawn_raw v w shown =
 --      at f:1:1: <U+001B>
 raw_label_is : (v : Vec Element Global) (w : Vec Annotation Global)
     → form_bytes plain_sheet (text_form speaking (labelled v w (codes "f") (27 ∷ []))) ≡ codes "error: e\n at f:1:1: " ++ encode_utf8_all (0x241B ∷ [])
-unfolding heading_form cause_form locations_of start_location end_location location_of place_of steps_after_text line_of start_of digits norm chars lib.Utf8.encode
+unfolding heading_form cause_form locations_of start_location end_location location_of place_of steps_after_text line_of start_of digits norm chars
+    lib.Utf8.encode
 raw_label_is v w = refl
 
 label_drawn_raw : (v : Vec Element Global) (w : Vec Annotation Global)

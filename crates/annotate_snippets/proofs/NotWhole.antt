@@ -87,9 +87,12 @@ unfolding digits
 unnamed closes s is (SourceRow k) cells rows none shows =
     let within : k < 1 = subst (λ source. k < length (source_lines source)) is.is.source_is shows.line.within in
     let first : k ≡ 0 = omega arith in
-    let IsNumber : Bool → ℕ → Type 0 = λ numbered number. row_text (take (length (number_text plain_settings numbered 1 number)) cells) ≡ number_text plain_settings numbered 1 number in
+    let IsNumber : Bool → ℕ → Type 0 = λ numbered number. row_text (take (length (number_text plain_settings numbered 1 number)) cells)
+    ≡ number_text plain_settings numbered 1 number in
     let one : s.line_start + k ≡ 1 = omega (arith, first, is.first) in
-    let text : row_text (take 1 cells) ≡ codes "1" = subst (IsNumber true) one (subst (λ numbered. IsNumber numbered (s.line_start + k)) is.numbered (number_of_left Ascii 1 (number_text plain_settings s.line_numbering 1 (s.line_start + k)) cells shows.line.left)) in
+    let text : row_text (take 1 cells) ≡ codes "1" = subst (IsNumber true) one
+    (subst (λ numbered. IsNumber numbered (s.line_start + k)) is.numbered
+    (number_of_left Ascii 1 (number_text plain_settings s.line_numbering 1 (s.line_start + k)) cells shows.line.left)) in
     absurd (digit_left_out cells none text)
 unnamed closes s is Elision cells rows none shows = refl
 unnamed closes s is (OfferedLine j) cells rows none shows = refl
@@ -115,7 +118,8 @@ unnumbered_after (row ∷ rows) more all =
 unnumbered_before : (rows more : List NamedRow) → All (λ row. HasNoNumber 1 row.cells) (rows ++ more) → All (λ row. HasNoNumber 1 row.cells) rows
 unnumbered_before [] more all = All-nil (λ row. HasNoNumber 1 row.cells)
 unnumbered_before (row ∷ rows) more all =
-    All-cons (λ r. HasNoNumber 1 r.cells) row rows (All-head (λ r. HasNoNumber 1 r.cells) row (rows ++ more) all) (unnumbered_before rows more (All-tail (λ r. HasNoNumber 1 r.cells) row (rows ++ more) all))
+    All-cons (λ r. HasNoNumber 1 r.cells) row rows (All-head (λ r. HasNoNumber 1 r.cells) row (rows ++ more) all)
+    (unnumbered_before rows more (All-tail (λ r. HasNoNumber 1 r.cells) row (rows ++ more) all))
 
 -- so rows without a number show no snippet of a line that has one, whatever they are named
 line_left_out : (s : Snippet Annotation) → IsLineA s → (around : ElementContext) (rows : List NamedRow) → All (λ row. HasNoNumber 1 row.cells) rows
@@ -123,9 +127,12 @@ line_left_out : (s : Snippet Annotation) → IsLineA s → (around : ElementCont
 unfolding line_of start_of
 line_left_out s is around rows none shown =
     let tail : List NamedRow = others (rows_after_cause plain_settings layout around) in
-    let after : All (λ row. HasNoNumber 1 row.cells) shown.after = unnumbered_before shown.after tail (unnumbered_after (others (cause_head plain_settings layout around s)) (shown.after ++ tail) (subst (All (λ row. HasNoNumber 1 row.cells)) shown.rows_are none)) in
+    let after : All (λ row. HasNoNumber 1 row.cells) shown.after = unnumbered_before shown.after tail
+    (unnumbered_after (others (cause_head plain_settings layout around s)) (shown.after ++ tail)
+    (subst (All (λ row. HasNoNumber 1 row.cells)) shown.rows_are none)) in
     let empty : lines_named shown.after ≡ [] = none_named (closes_with around) s is shown.after after shown.named in
-    let one : shown_lines s.fold (codes "a") (span_of Primary 0 1 ∷ []) ≡ [] = ap (λ marks. shown_lines s.fold (codes "a") marks) (sym is.is.marks_are) ∙ ap (λ source. shown_lines s.fold source s.markers.items) (sym is.is.source_is) ∙ sym shown.lines ∙ empty in
+    let one : shown_lines s.fold (codes "a") (span_of Primary 0 1 ∷ []) ≡ [] = ap (λ marks. shown_lines s.fold (codes "a") marks) (sym is.is.marks_are)
+    ∙ ap (λ source. shown_lines s.fold source s.markers.items) (sym is.is.source_is) ∙ sym shown.lines ∙ empty in
     some s.fold one
   where
     some : (fold : Bool) → shown_lines fold (codes "a") (span_of Primary 0 1 ∷ []) ≡ [] → ⊥
@@ -156,16 +163,19 @@ trusted_title text = record { level = error_level; id = None; text = text; allow
 --
 --     error: ␛[1mx
 normalised_away : (text : CowStr Global)
-    → cow_str_bytes text ≡ 27 ∷ codes "[1mx" → (place : GroupPosition) (follows : Next) (rows : List (List Cell)) → row_text (row_at rows 0) ≡ codes "error: " ++ 9243 ∷ codes "[1mx" → ShowsTitle plain_settings layout place follows (trusted_title text) rows → ⊥
+    → cow_str_bytes text ≡ 27 ∷ codes "[1mx" → (place : GroupPosition) (follows : Next) (rows : List (List Cell)) → row_text (row_at rows 0) ≡ codes "error: "
+    ++ 9243 ∷ codes "[1mx" → ShowsTitle plain_settings layout place follows (trusted_title text) rows → ⊥
 unfolding chars norm
 normalised_away text is place follows rows wrong shown =
-    in_own shown.own shown.rows_are (shown.shows.texts 0 ∙ ap (λ bytes. slice_index_or (heading_texts style.Title (record { level = error_level; id = None; text = bytes; allows_styling = true })) 0 []) is)
+    in_own shown.own shown.rows_are (shown.shows.texts 0 ∙ ap (λ bytes.
+    slice_index_or (heading_texts style.Title (record { level = error_level; id = None; text = bytes; allows_styling = true })) 0 []) is)
   where
     in_own : (own : List (List Cell)) → rows ≡ own ++ rows_after_title plain_settings layout place follows true
         → row_text (row_at own 0) ≡ codes "error: " ++ 27 ∷ codes "[1mx" → ⊥
     in_own [] same right = cc
     in_own (row ∷ own) same right =
-        let both : codes "error: " ++ 9243 ∷ codes "[1mx" ≡ codes "error: " ++ 27 ∷ codes "[1mx" = sym wrong ∙ ap (λ all. row_text (row_at all 0)) same ∙ right in
+        let both : codes "error: " ++ 9243 ∷ codes "[1mx" ≡ codes "error: " ++ 27 ∷ codes "[1mx" = sym wrong ∙ ap (λ all. row_text (row_at all 0)) same
+        ∙ right in
         let code : ◌≡◌ {A = ℕ} 9243 27 = ap (λ (cs : List ℕ). slice_index_or cs 7 0) both in
         absurd (omega (arith, code))
 
@@ -190,7 +200,8 @@ linked_elsewhere r text id trusted place follows rows url wrong shown =
 
     in_own : (own : List (List Cell)) → rows ≡ own ++ rows_after_title r layout place follows trusted → (cell_at own 0 0).link ≡ None → ⊥
     in_own [] same none =
-        let both : ◌≡◌ {A = Option (List ℕ)} (Some url) None = sym wrong ∙ ap (λ all. (cell_at all 0 0).link) same ∙ below layout.decor (is_before_message follows) (is_end follows && is_first_of_several place && not trusted) in
+        let both : ◌≡◌ {A = Option (List ℕ)} (Some url) None = sym wrong ∙ ap (λ all. (cell_at all 0 0).link) same
+        ∙ below layout.decor (is_before_message follows) (is_end follows && is_first_of_several place && not trusted) in
         cc
     in_own (row ∷ own) same none =
         let both : ◌≡◌ {A = Option (List ℕ)} (Some url) None = sym wrong ∙ ap (λ all. (cell_at all 0 0).link) same ∙ none in
@@ -226,7 +237,8 @@ at_first place is =
     not_second : second ≡ is.span → ⊥
     not_second same =
         let line : first_line (codes "ab") first ≡ first_line (codes "ab") is.span = ap (first_line (codes "ab")) same in
-        let less : start_at source_ab is.span ≤ start_at source_ab first = is.least first (Contains-tail second first (first ∷ []) (Contains-head first []), refl) line in
+        let less : start_at source_ab is.span ≤ start_at source_ab first = is.least first
+        (Contains-tail second first (first ∷ []) (Contains-head first []), refl) line in
         let two : 2 ≤ 1 = subst (λ a. start_at source_ab a ≤ 1) (sym same) less in
         absurd (omega (arith, two))
 
@@ -240,9 +252,13 @@ origin_of_first_given_span : (s : Snippet Annotation) → IsSnippetOf s (codes "
 unfolding origin_text digits norm chars
 origin_of_first_given_span s is first row wrong named =
     let Names : List ℕ → ℕ → List Annotation → Type 0 = λ text line marks. IsLocation (record { text = text; first = line }) marks named.place in
-    let there : IsLocation source_ab both_spans named.place = subst (λ marks. Names (codes "ab") 1 marks) is.marks_are (subst (λ line. Names (codes "ab") line s.markers.items) first (subst (λ text. Names text s.line_start s.markers.items) is.source_is named.is)) in
+    let there : IsLocation source_ab both_spans named.place = subst (λ marks.
+    Names (codes "ab") 1 marks) is.marks_are (subst (λ line. Names (codes "ab") line s.markers.items) first
+    (subst (λ text. Names text s.line_start s.markers.items) is.source_is named.is)) in
     let at : (named.place.line ≡ 1) × (named.place.column ≡ Some 1) = at_first named.place there in
-    let right : row_text (drop 5 row) ≡ codes "f:1:1" = named.text ∙ ap (λ line. origin_text false (codes "f") (record { line = Some line; column = named.place.column })) at.0 ∙ ap (λ column. origin_text false (codes "f") (record { line = Some 1; column = column })) at.1 in
+    let right : row_text (drop 5 row) ≡ codes "f:1:1" = named.text ∙ ap (λ line.
+    origin_text false (codes "f") (record { line = Some line; column = named.place.column })) at.0
+    ∙ ap (λ column. origin_text false (codes "f") (record { line = Some 1; column = column })) at.1 in
     let digit : ◌≡◌ {A = ℕ} 50 49 = ap (λ (cs : List ℕ). slice_index_or cs 4 0) (sym wrong ∙ right) in
     absurd (omega (arith, digit))
 
@@ -270,9 +286,13 @@ origin_by_byte : (s : Snippet Annotation) → IsSnippetOf s (encode_utf8_all (co
 unfolding origin_text digits norm chars
 origin_by_byte s is first row wrong named =
     let Names : List ℕ → ℕ → List Annotation → Type 0 = λ text line marks. IsLocation (record { text = text; first = line }) marks named.place in
-    let there : IsLocation source_eb (second_span ∷ []) named.place = subst (λ marks. Names source_eb.text 1 marks) is.marks_are (subst (λ line. Names source_eb.text line s.markers.items) first (subst (λ text. Names text s.line_start s.markers.items) is.source_is named.is)) in
+    let there : IsLocation source_eb (second_span ∷ []) named.place = subst (λ marks.
+    Names source_eb.text 1 marks) is.marks_are (subst (λ line. Names source_eb.text line s.markers.items) first
+    (subst (λ text. Names text s.line_start s.markers.items) is.source_is named.is)) in
     let at : (named.place.line ≡ 1) × (named.place.column ≡ Some 2) = at_second named.place there in
-    let right : row_text (drop 5 row) ≡ codes "f:1:2" = named.text ∙ ap (λ line. origin_text false (codes "f") (record { line = Some line; column = named.place.column })) at.0 ∙ ap (λ column. origin_text false (codes "f") (record { line = Some 1; column = column })) at.1 in
+    let right : row_text (drop 5 row) ≡ codes "f:1:2" = named.text ∙ ap (λ line.
+    origin_text false (codes "f") (record { line = Some line; column = named.place.column })) at.0
+    ∙ ap (λ column. origin_text false (codes "f") (record { line = Some 1; column = column })) at.1 in
     let digit : ◌≡◌ {A = ℕ} 51 50 = ap (λ (cs : List ℕ). slice_index_or cs 4 0) (sym wrong ∙ right) in
     absurd (omega (arith, digit))
 
@@ -290,11 +310,16 @@ first_line_left_out : (s : Snippet Annotation) → IsSnippetOf s (codes "a\nb") 
 unfolding line_of start_of
 first_line_left_out s is around rows out shown =
     let tail : List NamedRow = others (rows_after_cause plain_settings layout around) in
-    let same : shown.after ≡ rows = append_cancel_right shown.after rows tail (sym (append_cancel_left (others (cause_head plain_settings layout around s)) (rows ++ tail) (shown.after ++ tail) shown.rows_are)) in
-    let Begins : List Annotation → Type 0 = λ marks. All (λ a. Contains (lines_named shown.after) (first_line (cow_str_bytes s.source) a) × Contains (lines_named shown.after) (last_line (cow_str_bytes s.source) a)) marks in
+    let same : shown.after ≡ rows = append_cancel_right shown.after rows tail
+    (sym (append_cancel_left (others (cause_head plain_settings layout around s)) (rows ++ tail) (shown.after ++ tail) shown.rows_are)) in
+    let Begins : List Annotation → Type 0 = λ marks. All (λ a. Contains (lines_named shown.after) (first_line (cow_str_bytes s.source) a)
+    × Contains (lines_named shown.after) (last_line (cow_str_bytes s.source) a)) marks in
     let ends : Begins (span_of Primary 0 3 ∷ span_of Primary 0 3 ∷ []) = subst Begins is.marks_are shown.ends in
-    let first : Contains (lines_named shown.after) (first_line (cow_str_bytes s.source) (span_of Primary 0 3)) = (All-head (λ a. Contains (lines_named shown.after) (first_line (cow_str_bytes s.source) a) × Contains (lines_named shown.after) (last_line (cow_str_bytes s.source) a)) (span_of Primary 0 3) (span_of Primary 0 3 ∷ []) ends).0 in
-    let at : Contains (lines_named shown.after) 0 = subst (λ text. Contains (lines_named shown.after) (first_line text (span_of Primary 0 3))) is.source_is first in
+    let first : Contains (lines_named shown.after) (first_line (cow_str_bytes s.source) (span_of Primary 0 3)) =
+    (All-head (λ a. Contains (lines_named shown.after) (first_line (cow_str_bytes s.source) a)
+    × Contains (lines_named shown.after) (last_line (cow_str_bytes s.source) a)) (span_of Primary 0 3) (span_of Primary 0 3 ∷ []) ends).0 in
+    let at : Contains (lines_named shown.after) 0 = subst (λ text. Contains (lines_named shown.after)
+    (first_line text (span_of Primary 0 3))) is.source_is first in
     out (subst (λ all. Contains (lines_named all) 0) same at)
 
 -- ---- a closing row that is missing
@@ -317,7 +342,10 @@ closing_left_out : (s : Snippet Annotation) (around : ElementContext) → around
 closing_left_out s around first last rows row cells shown =
     let closing : NamedRow = record { name = Other; cells = closing_row Ascii 1 } in
     let head : List NamedRow = others (cause_head plain_settings layout around s) in
-    let closes : rows_after_cause plain_settings layout around ≡ closing_row Ascii 1 ∷ [] = ap (λ p. rows_after_cause plain_settings layout (record around { place = p })) first ∙ ap (λ n. rows_after_cause plain_settings layout (record around { place = place.First; next = n })) last in
-    let same : rows ++ row ∷ [] ≡ (head ++ shown.after) ++ closing ∷ [] = shown.rows_are ∙ ap (λ tail. head ++ (shown.after ++ others tail)) closes ∙ sym (append_assoc head shown.after (closing ∷ [])) in
+    let closes : rows_after_cause plain_settings layout around ≡ closing_row Ascii 1 ∷ [] = ap (λ p.
+    rows_after_cause plain_settings layout (record around { place = p })) first
+    ∙ ap (λ n. rows_after_cause plain_settings layout (record around { place = place.First; next = n })) last in
+    let same : rows ++ row ∷ [] ≡ (head ++ shown.after) ++ closing ∷ [] = shown.rows_are ∙ ap (λ tail. head ++ (shown.after ++ others tail)) closes
+    ∙ sym (append_assoc head shown.after (closing ∷ [])) in
     let is : row.cells ≡ closing_row Ascii 1 = ap (λ (r : NamedRow). r.cells) (last_row rows (head ++ shown.after) row closing same) in
     absurd (omega (arith, ap length (sym cells ∙ is)))

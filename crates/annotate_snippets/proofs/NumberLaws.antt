@@ -63,14 +63,17 @@ one_of : (ds : List ℕ) (c : ℕ) → list_all (λ d. not (is_ascii_alphanumeri
 one_of [] c none some = absurd (false≢true some)
 one_of (d ∷ ds) c none some =
     elim (cases_Bool (d == c)) [
-      | inl same ↦ subst (λ e. is_ascii_alphanumeric e ≡ false) (eqb-true d c same) (not_true (is_ascii_alphanumeric d) (both_first (not (is_ascii_alphanumeric d)) (list_all (λ e. not (is_ascii_alphanumeric e)) ds) none))
-      | inr other ↦ one_of ds c (both_second (not (is_ascii_alphanumeric d)) (list_all (λ e. not (is_ascii_alphanumeric e)) ds) none) (rest_of (d == c) (list_any (λ e. e == c) ds) other some)
+      | inl same ↦ subst (λ e. is_ascii_alphanumeric e ≡ false) (eqb-true d c same)
+          (not_true (is_ascii_alphanumeric d) (both_first (not (is_ascii_alphanumeric d)) (list_all (λ e. not (is_ascii_alphanumeric e)) ds) none))
+      | inr other ↦ one_of ds c (both_second (not (is_ascii_alphanumeric d)) (list_all (λ e. not (is_ascii_alphanumeric e)) ds) none)
+          (rest_of (d == c) (list_any (λ e. e == c) ds) other some)
     ]
 
 -- what stands left of the lines in a row of a suggestion that shows none
 abbrev strokes : DecorStyle → List ℕ
 strokes decor =
-    32 ∷ (placeholder_of decor ++ suggestion_glyph_of decor sign.Opening ++ suggestion_glyph_of decor sign.Next ++ suggestion_glyph_of decor sign.Leading ++ suggestion_glyph_of decor sign.Closing)
+    32 ∷ (placeholder_of decor ++ suggestion_glyph_of decor sign.Opening ++ suggestion_glyph_of decor sign.Next ++ suggestion_glyph_of decor sign.Leading
+    ++ suggestion_glyph_of decor sign.Closing)
 
 -- it is no letter or digit
 stroke_unnumbered : (decor : DecorStyle) (c : ℕ) → is_stroke decor c ≡ true → is_ascii_alphanumeric c ≡ false
@@ -82,7 +85,8 @@ stroke_unnumbered Unicode c is = one_of (strokes Unicode) c refl is
 others_numbered : (gutter : ℕ) (rows : List (List Cell)) → All (HasNoNumber gutter) rows → All (IsNumberedAsLine gutter) (others rows)
 others_numbered gutter [] none = All-nil (IsNumberedAsLine gutter)
 others_numbered gutter (row ∷ rows) none =
-    All-cons (IsNumberedAsLine gutter) (record { name = Other; cells = row }) (others rows) (λ other. All-head (HasNoNumber gutter) row rows none) (others_numbered gutter rows (All-tail (HasNoNumber gutter) row rows none))
+    All-cons (IsNumberedAsLine gutter) (record { name = Other; cells = row }) (others rows) (λ other.
+    All-head (HasNoNumber gutter) row rows none) (others_numbered gutter rows (All-tail (HasNoNumber gutter) row rows none))
 
 one_row : (gutter : ℕ) (row : List Cell) → HasNoNumber gutter row → All (HasNoNumber gutter) (row ∷ [])
 one_row gutter row none = All-cons (HasNoNumber gutter) row [] none (All-nil (HasNoNumber gutter))
@@ -143,29 +147,36 @@ element_numbered : (r : Renderer) (layout : Layout) (around : ElementContext) (f
     → ShowsElement r layout around found e rows → All (IsNumberedAsLine layout.gutter) rows
 element_numbered r layout around found (element.Message message) rows shown =
     let place : MessageContext = record { layout = layout; followed = not (is_end around.next) } in
-    let none : All (HasNoNumber layout.gutter) (cells_of rows) = subst (All (HasNoNumber layout.gutter)) (sym shown.shows.rows_are) (message_rows-unnumbered r.hyperlink place (heading_of_message message)) in
+    let none : All (HasNoNumber layout.gutter) (cells_of rows) = subst (All (HasNoNumber layout.gutter)) (sym shown.shows.rows_are)
+    (message_rows-unnumbered r.hyperlink place (heading_of_message message)) in
     subst (All (IsNumberedAsLine layout.gutter)) (sym shown.named) (others_numbered layout.gutter (cells_of rows) none)
 element_numbered r layout around found (element.Cause s) rows shown =
     let P : NamedRow → Type 0 = IsNumberedAsLine layout.gutter in
     let head : List (List Cell) = cause_head r layout around s in
     let tail : List (List Cell) = rows_after_cause r layout around in
-    let above : All P (others head) = others_numbered layout.gutter head (snippet_head-unnumbered (origin_layout r layout) around.primary around.first (path_bytes s.path) _) in
-    let below : All P (others tail) = others_numbered layout.gutter tail (after_unnumbered r layout (is_first_group around.place && is_before_message around.next) (closes_after around)) in
+    let above : All P (others head) = others_numbered layout.gutter head
+    (snippet_head-unnumbered (origin_layout r layout) around.primary around.first (path_bytes s.path) _) in
+    let below : All P (others tail) = others_numbered layout.gutter tail
+    (after_unnumbered r layout (is_first_group around.place && is_before_message around.next) (closes_after around)) in
     let lines : All P shown.after = rows_numbered r layout (closes_with around) s shown.after shown.named in
     subst (All P) (sym shown.rows_are) (All-append P (others head) (shown.after ++ others tail) above (All-append P shown.after (others tail) lines below))
 element_numbered r layout around found (element.Suggestion s) rows shown =
     let P : NamedRow → Type 0 = IsNumberedAsLine layout.gutter in
     let head : List (List Cell) = suggestion_head r layout around s in
     let above : All P (others head) = others_numbered layout.gutter head (head_unnumbered around.start r layout around.first s) in
-    let lines : All P shown.after = All-weaker (λ row. IsSuggestionRow r layout.decor layout.gutter s row.name row.cells) P (λ row is. suggested_numbered r layout.decor layout.gutter s row.name row.cells is) shown.after shown.named in
+    let lines : All P shown.after = All-weaker (λ row. IsSuggestionRow r layout.decor layout.gutter s row.name row.cells) P (λ row is.
+    suggested_numbered r layout.decor layout.gutter s row.name row.cells is) shown.after shown.named in
     subst (All P) (sym shown.rows_are) (All-append P (others head) shown.after above lines)
 element_numbered r layout around found (element.Origin origin) rows shown =
     let P : List Cell → Type 0 = HasNoNumber layout.gutter in
-    let none : All P (origin_rows r layout around origin) = All-cons P _ _ (origin_row-unnumbered (origin_layout r layout) (origin_start around) (cow_str_bytes origin.path) (place_given origin)) (closing_unnumbered r layout (closes_after around)) in
+    let none : All P (origin_rows r layout around origin) = All-cons P _ _
+    (origin_row-unnumbered (origin_layout r layout) (origin_start around) (cow_str_bytes origin.path) (place_given origin))
+    (closing_unnumbered r layout (closes_after around)) in
     subst (All (IsNumberedAsLine layout.gutter)) (sym shown.rows_are) (others_numbered layout.gutter (origin_rows r layout around origin) none)
 element_numbered r layout around found (element.Padding padding) rows shown =
     let row : List Cell = padding_row layout.decor layout.gutter (is_end around.next) in
-    subst (All (IsNumberedAsLine layout.gutter)) (sym shown) (others_numbered layout.gutter (row ∷ []) (one_row layout.gutter row (padding_row-unnumbered layout.decor layout.gutter (is_end around.next))))
+    subst (All (IsNumberedAsLine layout.gutter)) (sym shown) (others_numbered layout.gutter (row ∷ [])
+    (one_row layout.gutter row (padding_row-unnumbered layout.decor layout.gutter (is_end around.next))))
 
 -- a group's elements have numbers beside lines alone
 pub group_numbered : (r : Renderer) (layout : Layout) (place : GroupPosition) (file : Option (List ℕ)) (es : List Element) (g : GroupPage)
@@ -176,6 +187,7 @@ group_numbered r layout place file es g shown =
     each : (k : ℕ) → k < length g.elements → All (IsNumberedAsLine layout.gutter) (get_or g.elements k [])
     each k within =
         elim (slice_get_cases es k).1 [
-          | inl there ↦ element_numbered r layout (context_at place file es k there.0) (found_at r layout es k) there.0 (get_or g.elements k []) (shown.each k there.0 there.2)
+          | inl there ↦ element_numbered r layout (context_at place file es k there.0) (found_at r layout es k) there.0 (get_or g.elements k [])
+              (shown.each k there.0 there.2)
           | inr past ↦ absurd (omega (arith, within, past.0, shown.count))
         ]

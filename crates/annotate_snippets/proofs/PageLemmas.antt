@@ -90,7 +90,8 @@ module _ (r : Renderer) (layout : Layout) (s : Snippet Annotation)
             (sym (below-first shows.below more
             (marks_there r layout s spans margin room bounds ordered last open_bars k info rows within seen fits shows qualifies)))
             (marks_of_line r layout s spans margin room bounds ordered last open_bars k info rows within seen fits shows qualifies);
-        labels = λ uncut. subst (λ lower. ShowsLabels layout.decor layout s k shows.dropped lower) (sym (below-own shows.below more ends)) (labels_of_line r layout s spans margin room bounds ordered last open_bars k info rows within seen fits shows uncut);
+        labels = λ uncut. subst (λ lower. ShowsLabels layout.decor layout s k shows.dropped lower) (sym (below-own shows.below more ends))
+            (labels_of_line r layout s spans margin room bounds ordered last open_bars k info rows within seen fits shows uncut);
       }
 
   -- rows below a line, with the last of which the window closes where no row stands after
@@ -150,7 +151,18 @@ module _ (r : Renderer) (layout : Layout) (s : Snippet Annotation)
       → seen_kept info ≡ line_of_snippet j → map seen_kept infos ≡ map line_of_snippet ks
       → strokes.IsGap layout open_bars info.line_index infos rows → IsGapNamed open_bars j ks rows
   gap_named open_bars j [] info [] rows here lines gap =
-      record { gap = []; cells = sym gap; lines = λ more. refl; names = λ more none. ap (λ names. SourceRow j ∷ names) none; are = λ more are. are; ends = λ more same. same; begins = λ more none. none; drawn = λ more none drawn. drawn; value = refl }
+      record {
+        gap = [];
+        cells = sym gap;
+        lines = λ more. refl;
+        names = λ more none. ap (λ names. SourceRow j ∷ names) none;
+        are = λ more are.
+            are;
+        ends = λ more same. same;
+        begins = λ more none. none;
+        drawn = λ more none drawn. drawn;
+        value = refl;
+      }
   gap_named open_bars j [] info (next ∷ infos) rows here lines gap = cc
   gap_named open_bars j (k ∷ ks) info [] rows here lines gap = cc
   gap_named open_bars j (k ∷ ks) info (next ∷ infos) rows here lines gap =
@@ -165,7 +177,8 @@ module _ (r : Renderer) (layout : Layout) (s : Snippet Annotation)
               gap = row ∷ [];
               cells = sym left_out.2;
               lines = λ more. refl;
-              names = λ more named. ap (λ names. SourceRow j ∷ Elision ∷ names) named ∙ sym (ap (λ b. cond b (SourceRow j ∷ Elision ∷ names_of_lines (k ∷ ks)) (SourceRow j ∷ names_of_lines (k ∷ ks))) far);
+              names = λ more named. ap (λ names. SourceRow j ∷ Elision ∷ names) named
+                  ∙ sym (ap (λ b. cond b (SourceRow j ∷ Elision ∷ names_of_lines (k ∷ ks)) (SourceRow j ∷ names_of_lines (k ∷ ks))) far);
               are = λ more are. (record { is = left_out.3 }, are);
               ends = λ more same. some_more (length more) (length ks);
               begins = λ more none. refl;
@@ -178,7 +191,8 @@ module _ (r : Renderer) (layout : Layout) (s : Snippet Annotation)
               gap = [];
               cells = sym next_to.1;
               lines = λ more. refl;
-              names = λ more named. ap (λ names. SourceRow j ∷ names) named ∙ sym (ap (λ b. cond b (SourceRow j ∷ Elision ∷ names_of_lines (k ∷ ks)) (SourceRow j ∷ names_of_lines (k ∷ ks))) near);
+              names = λ more named. ap (λ names. SourceRow j ∷ names) named
+                  ∙ sym (ap (λ b. cond b (SourceRow j ∷ Elision ∷ names_of_lines (k ∷ ks)) (SourceRow j ∷ names_of_lines (k ∷ ks))) near);
               are = λ more are. are;
               ends = λ more same. same;
               begins = λ more none. none;
@@ -203,7 +217,9 @@ module _ (r : Renderer) (layout : Layout) (s : Snippet Annotation)
   last_is : (rows : List (List Cell)) (more : List NamedRow) (last : Bool) → (length more == 0) ≡ last
       → (closes && length rows == length (others rows ++ more)) ≡ (closes && last)
   last_is rows more last ends =
-      ap (λ b. closes && b) (same_long (length rows) (length more) (length (others rows ++ more)) (length-append (others rows) more ∙ ap (λ n. n + length more) (length-map rows (λ (cells : List Cell). record { name = Other; cells = cells }))) ∙ ends)
+      ap (λ b. closes && b) (same_long (length rows) (length more) (length (others rows ++ more))
+      (length-append (others rows) more ∙ ap (λ n. n + length more)
+      (length-map rows (λ (cells : List Cell). record { name = Other; cells = cells }))) ∙ ends)
     where
       same_long : (m n all : ℕ) → all ≡ m + n → (m == all) ≡ (n == 0)
       same_long m n all is = grind (arith, nat_tests, is)
@@ -217,22 +233,27 @@ module _ (r : Renderer) (layout : Layout) (s : Snippet Annotation)
   pub named_lines : (open_bars : List Bar) (ks : List ℕ) (infos : List AnnotatedLineInfo) (rows : List (List Cell)) → All (λ k. k < own_lines) ks
       → map seen_kept infos ≡ map line_of_snippet ks → All NumberFits infos
       → strokes.AreLinesShown layout margin (line_numbers r s.line_numbering) closes open_bars infos rows → AreNamed open_bars ks rows
-  named_lines open_bars [] [] rows within lines fit shown = record { part = []; cells = sym shown; lines = refl; names = refl; are = tt; ends = refl; begins = refl; drawn = tt; value = refl }
+  named_lines open_bars [] [] rows within lines fit shown = record
+      { part = []; cells = sym shown; lines = refl; names = refl; are = tt; ends = refl; begins = refl; drawn = tt; value = refl }
   named_lines open_bars [] (info ∷ infos) rows within lines fit shown = cc
   named_lines open_bars (k ∷ ks) [] rows within lines fit shown = cc
   named_lines open_bars (k ∷ ks) (info ∷ infos) rows within lines fit shown =
       let here = head_same (seen_kept info) (line_of_snippet k) (map seen_kept infos) (map line_of_snippet ks) lines in
       let further = tail_same (seen_kept info) (line_of_snippet k) (map seen_kept infos) (map line_of_snippet ks) lines in
       let open_now : List Bar = open_below open_bars info.annotations.items in
-      let rest : AreNamed open_now ks shown.2 = named_lines open_now ks infos shown.2 (All-tail (λ j. j < own_lines) k ks within) further (All-tail NumberFits info infos fit) shown.6 in
+      let rest : AreNamed open_now ks shown.2 = named_lines open_now ks infos shown.2 (All-tail (λ j. j < own_lines) k ks within) further
+      (All-tail NumberFits info infos fit) shown.6 in
       let last : Bool = length infos == 0 in
       let shows : strokes.ShowsLine layout margin (line_numbers r s.line_numbering) (closes && last) open_bars info shown.0 = shown.4 in
       let source_row : NamedRow = record { name = SourceRow k; cells = shows.source } in
       let between : IsGapNamed open_now k ks shown.1 = gap_named open_now k ks info infos shown.1 here further shown.5 in
       let after : List NamedRow = between.gap ++ rest.part in
       let ends : (length after == 0) ≡ last = between.ends rest.part rest.ends ∙ none_left ks infos further in
-      let line : IsLineDrawn r layout (closes && last) s open_bars k (shows.source ∷ shows.below) = line_drawn r layout s margin room bounds (closes && last) open_bars k info shown.0 here shows in
-      let own : shows.source ∷ shows.below ≡ rows_of_line r layout (closes && length ks == 0) s open_bars k = line_value r layout (closes && last) s open_bars k (shows.source ∷ shows.below) line ∙ ap (λ b. rows_of_line r layout (closes && b) s open_bars k) (sym (none_left ks infos further)) in
+      let line : IsLineDrawn r layout (closes && last) s open_bars k (shows.source ∷ shows.below) = line_drawn r layout s margin room bounds
+      (closes && last) open_bars k info shown.0 here shows in
+      let own : shows.source ∷ shows.below ≡ rows_of_line r layout (closes && length ks == 0) s open_bars k = line_value r layout
+      (closes && last) s open_bars k (shows.source ∷ shows.below) line
+      ∙ ap (λ b. rows_of_line r layout (closes && b) s open_bars k) (sym (none_left ks infos further)) in
       record {
         part = source_row ∷ (others shows.below ++ after);
         cells = ap (λ rs. shows.source ∷ rs)
@@ -256,7 +277,8 @@ module _ (r : Renderer) (layout : Layout) (s : Snippet Annotation)
               (sym (below-own shows.below after (between.begins rest.part rest.begins)))
               (subst (λ b. IsLineDrawn r layout b s open_bars k (shows.source ∷ shows.below)) (sym (last_is shows.below after last ends))
               line),
-          subst (λ bs. AreRowsDrawn r layout closes s bs (others shows.below ++ after)) (open_seen open_bars k info here) (others_drawn open_now shows.below after (between.drawn rest.part rest.begins rest.drawn)),
+          subst (λ bs. AreRowsDrawn r layout closes s bs (others shows.below ++ after)) (open_seen open_bars k info here)
+              (others_drawn open_now shows.below after (between.drawn rest.part rest.begins rest.drawn)),
         );
         value = ap (λ rs. named_line k rs ++ after) own ∙ ap (λ rs. named_line k (rows_of_line r layout (closes && length ks == 0) s open_bars k) ++ rs)
             (ap (λ gap. gap ++ rest.part) between.value ∙ ap (λ rs. gap_below r layout open_now k ks ++ rs) rest.value

@@ -50,8 +50,11 @@ use Rattle.snippet_parts.proofs.RawDepthLemmas.{greatest-bound, places-bound}
 ascending : (ks : List ℕ) → Ascends ks → IsAscending ks
 ascending [] ascends = tt
 ascending (j ∷ []) ascends = tt
-ascending (j ∷ k ∷ ks) ascends =
-    (ascends 0 1 0 (omega arith) (omega arith), ascending (k ∷ ks) (λ i l d less within. ascends (suc i) (suc l) d (omega (arith, less)) (omega (arith, within))))
+ascending (j ∷ k ∷ ks) ascends = (
+  ascends 0 1 0 (omega arith) (omega arith),
+  ascending (k ∷ ks) (λ i l d less within.
+      ascends (suc i) (suc l) d (omega (arith, less)) (omega (arith, within))),
+)
 
 module _ (s : Source) (marks : List Annotation) (spans : All (λ a. IsSpan s.text a.span.start a.span.end) marks) where
   -- a line that no span of several lines touches has the parts of the spans that are marked on it
@@ -61,7 +64,8 @@ module _ (s : Source) (marks : List Annotation) (spans : All (λ a. IsSpan s.tex
 
   -- a kept line has as many wide entries as wide spans are marked on it
   pub wide_on_line : (k : ℕ) (info : AnnotatedLineInfo) (room placeholder_width : ℕ) → seen_kept info ≡ kept_line s marks k
-      → count_by (is_wide_entry room placeholder_width) info.annotations.items ≡ count_by (λ a. is_marked_on s.text k a && is_wide room placeholder_width s.text a) marks
+      → count_by (is_wide_entry room placeholder_width) info.annotations.items
+      ≡ count_by (λ a. is_marked_on s.text k a && is_wide room placeholder_width s.text a) marks
   wide_on_line k info room placeholder_width same = wide-count room placeholder_width s marks k info same
 
   -- each line that is shown is a line of the source
@@ -76,8 +80,11 @@ module _ (s : Source) (marks : List Annotation) (spans : All (λ a. IsSpan s.tex
   pub ends_shown : (fold : Bool)
       → All (λ a. Contains (shown_lines fold s.text marks) (first_line s.text a) × Contains (shown_lines fold s.text marks) (last_line s.text a)) marks
   ends_shown fold = λ k d within.
-      let a : Annotation = get_or marks k d in
-      (first-shown fold s.text marks a (Contains-get_or marks k d within) (spans k d within), last-shown fold s.text marks a (Contains-get_or marks k d within) (spans k d within))
+      let a : Annotation = get_or marks k d in (
+        first-shown fold s.text marks a (Contains-get_or marks k d within) (spans k d within),
+        last-shown fold s.text marks a (Contains-get_or marks k d within)
+            (spans k d within),
+      )
 
   -- where lines stand whole, nothing is cut on the left
   pub stands_left : (room placeholder_width : ℕ) (fold : Bool) (k : ℕ) → stands_whole room placeholder_width fold s.text marks k ≡ true
@@ -92,7 +99,8 @@ bar_cell layout deepest code part depth = by part depth
     after : (depth : ℕ) → 0 < depth → depth ≤ deepest → layout.gutter + 3 + depth < layout.code
     after depth some low =
         let more : (deepest == 0) ≡ false = grind (arith, nat_tests, some, low) in
-        let wide : code_after layout.gutter deepest ≡ layout.gutter + 3 + deepest + 1 = ap (λ b. cond b (layout.gutter + 3) (layout.gutter + 3 + deepest + 1)) more in
+        let wide : code_after layout.gutter deepest ≡ layout.gutter + 3 + deepest + 1 = ap (λ b.
+        cond b (layout.gutter + 3) (layout.gutter + 3 + deepest + 1)) more in
         omega (arith, code, wide, low)
 
     by : (part : LineAnnotationType) → HasDepthWithin deepest part → HasBarCellAt layout part
@@ -103,7 +111,8 @@ bar_cell layout deepest code part depth = by part depth
 
 -- ---- what drawing asks of the lines
 
-module _ (s : Source) (marks : List Annotation) (spans : All (λ a. IsSpan s.text a.span.start a.span.end) marks) (ks : List ℕ) (infos : List AnnotatedLineInfo) (same : map seen_kept infos ≡ map (kept_line s marks) ks) where
+module _ (s : Source) (marks : List Annotation) (spans : All (λ a. IsSpan s.text a.span.start a.span.end) marks) (ks : List ℕ) (infos : List AnnotatedLineInfo)
+    (same : map seen_kept infos ≡ map (kept_line s marks) ks) where
   -- the texts of kept lines fit, where the source does
   pub lines_texts : length s.text < 2 ^ 56 → All (λ info. length info.line.now < 2 ^ 56) infos
   lines_texts short = texts-fit s marks ks infos same short
@@ -140,7 +149,8 @@ pub shown_clear : (s : Source) (marks : List Annotation) → All (λ a. IsSpan s
     → map seen_kept shown ≡ map (kept_line s marks) (shown_lines fold s.text marks)
     → All (λ info. All (StandsClear margin) info.annotations.items) kept → All (λ info. All (StandsClear margin) info.annotations.items) shown
 shown_clear s marks spans fold kept shown margin kept_is shown_is clear =
-    each-line (λ info. All (StandsClear margin) info.annotations.items) s marks (shown_lines fold s.text marks) shown shown_is (λ i d within info seen. on_line (get_or (shown_lines fold s.text marks) i d) (All-get_or_within i d within) info seen)
+    each-line (λ info. All (StandsClear margin) info.annotations.items) s marks (shown_lines fold s.text marks) shown shown_is (λ i d within info seen.
+    on_line (get_or (shown_lines fold s.text marks) i d) (All-get_or_within i d within) info seen)
   where
     keeps_it : ℕ → Bool
     keeps_it k = not fold || list_any (keeps s.text k) marks
@@ -160,8 +170,10 @@ shown_clear s marks spans fold kept shown margin kept_is shown_is clear =
                 omega (arith, within, length-range_with_len 0 (length (source_lines s.text))),
                 omega (arith, get_or-range_with_len 0 (length (source_lines s.text)) k k within),
               ) in
-              let found = from_map seen_kept kept (kept_line s marks k) (subst (λ ls. Contains ls (kept_line s marks k)) (sym kept_is) (Contains-map (kept_line s marks) (kept_lines fold s.text marks) k among)) in
-              let own : All (StandsClear margin) found.0.annotations.items = All-contains (λ (x : AnnotatedLineInfo). All (StandsClear margin) x.annotations.items) kept found.0 clear found.1 in
+              let found = from_map seen_kept kept (kept_line s marks k) (subst (λ ls.
+              Contains ls (kept_line s marks k)) (sym kept_is) (Contains-map (kept_line s marks) (kept_lines fold s.text marks) k among)) in
+              let own : All (StandsClear margin) found.0.annotations.items = All-contains
+              (λ (x : AnnotatedLineInfo). All (StandsClear margin) x.annotations.items) kept found.0 clear found.1 in
               let same : map seen_part found.0.annotations.items ≡ map seen_part info.annotations.items = ap (λ (l : KeptLine). l.parts) (found.2 ∙ sym seen) in
               all_seen found.0.annotations.items info.annotations.items same own
           | inr left_out ↦

@@ -72,16 +72,19 @@ none_not (x ∷ xs) some = grind (arith, nat_tests)
 pub gutter_room : (r : Renderer) (layout : Layout) (s : Snippet Patch) → s.markers.items ≢ [] → HasRoomFor r layout (Suggestion s)
     → HasGutter (suggestion_layout r layout s) s
 gutter_room r layout s some room =
-    wide_enough s.line_numbering r.anonymized_snippet_line_numbers (nat_eq (length s.markers.items) 0) 0 layout.gutter (counted_line s) (none_not s.markers.items some) room.anonymized room.numbers
+    wide_enough s.line_numbering r.anonymized_snippet_line_numbers (nat_eq (length s.markers.items) 0) 0 layout.gutter (counted_line s)
+    (none_not s.markers.items some) room.anonymized room.numbers
 
 -- the row of a path with the separator row below it
 path_head_is : (r : Renderer) (layout : Layout) (first : Bool) (s : Snippet Patch) (path : Option (List ℕ)) → is_some path ≡ true
-    → flat_map (λ path. path_row r layout first s (Some path) ++ separator_rows r layout) (option_to_list path) ≡ path_row r layout first s path ++ separator_rows r layout
+    → flat_map (λ path. path_row r layout first s (Some path) ++ separator_rows r layout) (option_to_list path) ≡ path_row r layout first s path
+    ++ separator_rows r layout
 path_head_is r layout first s None some = absurd (cc)
 path_head_is r layout first s (Some path) some = refl
 
 -- what stands below some rows where a suggestion begins: the row in which it begins, if it shares that
-pub record Begun (r : Renderer) (layout : Layout) (at : SuggestionStart) (suggested : SuggestionLayout) (found : List Cell) (rows mid : List (List Cell)) : Type 0 where
+pub record Begun (r : Renderer) (layout : Layout) (at : SuggestionStart) (suggested : SuggestionLayout) (found : List Cell)
+    (rows mid : List (List Cell)) : Type 0 where
   pub end : List (List Cell)
   pub is : mid ≡ rows ++ end
   pub start : IsStart suggested at end
@@ -89,7 +92,8 @@ pub record Begun (r : Renderer) (layout : Layout) (at : SuggestionStart) (sugges
   pub under : row_at end 0 ≡ under_of r layout at found
 
 -- so stand its head, and that row
-pub begun_below : (r : Renderer) (layout : Layout) (at : SuggestionStart) (first : Bool) (s : Snippet Patch) (found : List Cell) (above tail old mid : List (List Cell))
+pub begun_below : (r : Renderer) (layout : Layout) (at : SuggestionStart) (first : Bool) (s : Snippet Patch) (found : List Cell)
+    (above tail old mid : List (List Cell))
     → old ≡ above ++ tail → IsTail layout.decor layout.gutter (is_next_start at) tail → (is_next_start at ≡ true → tail ≡ found ∷ []) → HasPathFor at s
     → (at ≡ Path → mid ≡ old ++ path_head r layout first s) → ((at ≡ Path → ⊥) → mid ≡ old)
     → Begun r layout at (suggestion_layout r layout s) found (above ++ suggestion_head_at at r layout first s) mid
@@ -115,7 +119,8 @@ begun_below r layout Path first s found above tail old mid is tail_is found_is p
     let head_is : path_head r layout first s ≡ head ++ separator_rows r layout = path_head_is r layout first s (path_bytes s.path) (path refl) in
     record {
       end = separator_rows r layout;
-      is = headed refl ∙ ap (λ rows. rows ++ path_head r layout first s) old_is ∙ ap (λ rows. above ++ rows) head_is ∙ sym (append_assoc above head (separator_rows r layout));
+      is = headed refl ∙ ap (λ rows. rows ++ path_head r layout first s) old_is ∙ ap (λ rows. above ++ rows) head_is
+          ∙ sym (append_assoc above head (separator_rows r layout));
       start = (separator_row layout.decor layout.gutter, refl, separator_stroke layout.decor layout.gutter);
       count = refl;
       under = refl;
@@ -153,7 +158,8 @@ pub suggestion_added : (r : Renderer) (layout : Layout) (around : ElementContext
 suggestion_added r layout around s found under above new utf8 given_utf8 under_is adds drawn = at around.shared refl
   where
     -- the rows are those of its value
-    parts : (adds.rows ≡ body_cells (suggestion_layout r layout s) around.start s under) × (adds.last ≡ row_cells (suggestion_layout r layout s) s [] (Ends (follows around)))
+    parts : (adds.rows ≡ body_cells (suggestion_layout r layout s) around.start s under)
+        × (adds.last ≡ row_cells (suggestion_layout r layout s) s [] (Ends (follows around)))
     parts =
         snoc_parts adds.rows (body_cells (suggestion_layout r layout s) around.start s under)
         adds.last (row_cells (suggestion_layout r layout s) s [] (Ends (follows around)))
@@ -162,9 +168,11 @@ suggestion_added r layout around s found under above new utf8 given_utf8 under_i
         (whole (suggestion_layout r layout s) around.start (follows around) s under)))
 
     -- over what the suggestion finds there
-    over : body_cells (suggestion_layout r layout s) around.start s under ++ (if around.shared then [] else row_cells (suggestion_layout r layout s) s [] (Ends (follows around)) ∷ []) ≡ suggestion_lines r layout around found s
+    over : body_cells (suggestion_layout r layout s) around.start s under
+        ++ (if around.shared then [] else row_cells (suggestion_layout r layout s) s [] (Ends (follows around)) ∷ []) ≡ suggestion_lines r layout around found s
     over =
-        ap (λ cells. body_cells (suggestion_layout r layout s) around.start s cells ++ (if around.shared then [] else row_cells (suggestion_layout r layout s) s [] (Ends (follows around)) ∷ [])) under_is
+        ap (λ cells. body_cells (suggestion_layout r layout s) around.start s cells
+        ++ (if around.shared then [] else row_cells (suggestion_layout r layout s) s [] (Ends (follows around)) ∷ [])) under_is
 
     at : (b : Bool) → around.shared ≡ b → AddsElement r layout around found (Suggestion s) above new
     at true shares =
@@ -176,7 +184,8 @@ suggestion_added r layout around s found under above new utf8 given_utf8 under_i
         record {
           rows = head ++ adds.rows;
           tail = adds.last ∷ [];
-          added = adds.added ∙ append_assoc above head (adds.rows ++ adds.last ∷ []) ∙ ap (λ rows. above ++ rows) (sym (append_assoc head adds.rows (adds.last ∷ [])));
+          added = adds.added ∙ append_assoc above head (adds.rows ++ adds.last ∷ [])
+              ∙ ap (λ rows. above ++ rows) (sym (append_assoc head adds.rows (adds.last ∷ [])));
           is = record {
             utf8 = utf8;
             given_utf8 = given_utf8;
@@ -204,8 +213,10 @@ suggestion_added r layout around s found under above new utf8 given_utf8 under_i
             given_utf8 = given_utf8;
             lines = lines;
             rows_are = refl;
-            are = subst (λ shown. AllZip IsShown shown lines) (sym (ap ends shares)) (zip_push IsShown (rows_of_suggestion around.start s) adds.rows (Ends (follows around)) adds.last adds.are adds.last_is);
-            cells = ap (λ rows. rows ++ adds.last ∷ []) parts.0 ∙ ap (λ (row : List Cell). body ++ row ∷ []) parts.1 ∙ ap (λ (b : Bool). body ++ (if b then [] else last ∷ [])) (sym shares) ∙ over;
+            are = subst (λ shown. AllZip IsShown shown lines) (sym (ap ends shares))
+                (zip_push IsShown (rows_of_suggestion around.start s) adds.rows (Ends (follows around)) adds.last adds.are adds.last_is);
+            cells = ap (λ rows. rows ++ adds.last ∷ []) parts.0 ∙ ap (λ (row : List Cell). body ++ row ∷ []) parts.1
+                ∙ ap (λ (b : Bool). body ++ (if b then [] else last ∷ [])) (sym shares) ∙ over;
           };
           ends = subst (λ b. IsTail layout.decor layout.gutter b []) (sym shares) refl;
           last = λ shared. let never : ◌≡◌ {A = Bool} true false = sym shared ∙ shares in cc;
@@ -218,26 +229,33 @@ layout_with r layout numbers = record { base = layout; numbers = numbers }
 -- what drawing a suggestion adds in a suggested, if it succeeds
 abbrev pub DrawsBelow : Snippet Patch → SuggestionStart → Bool → List (List Cell) → List (List Cell) → Result (Unit {0}) AllocError → SuggestionLayout → Type 0
 DrawsBelow s at next mid new result suggested =
-    HasGutter suggested s → (above tail : List (List Cell)) → mid ≡ above ++ tail → IsStart suggested at tail → OnOk result (AddsSuggestion suggested at next s above new)
+    HasGutter suggested s → (above tail : List (List Cell)) → mid ≡ above ++ tail → IsStart suggested at tail
+    → OnOk result (AddsSuggestion suggested at next s above new)
 
 -- the rows that it adds are a value
 abbrev pub DrawsCells : Snippet Patch → SuggestionStart → Bool → List (List Cell) → List (List Cell) → Result (Unit {0}) AllocError → SuggestionLayout → Type 0
 DrawsCells s at next mid new result suggested =
-    (above tail : List (List Cell)) → mid ≡ above ++ tail → length tail ≡ rows_shared at → OnOk result (new ≡ above ++ suggestion_cells suggested at next s (row_at tail 0))
+    (above tail : List (List Cell)) → mid ≡ above ++ tail → length tail ≡ rows_shared at
+    → OnOk result (new ≡ above ++ suggestion_cells suggested at next s (row_at tail 0))
 
 -- the rows of a suggestion stand below what is there
-pub patches_added : (r : Renderer) (layout : Layout) (around : ElementContext) (s : Snippet Patch) (found : List Cell) (above tail old mid new : List (List Cell))
+pub patches_added : (r : Renderer) (layout : Layout) (around : ElementContext) (s : Snippet Patch) (found : List Cell)
+    (above tail old mid new : List (List Cell))
     (numbers : LineNumbers) (next : Bool) (result : Result (Unit {0}) AllocError) → numbers ≡ line_numbers r s.line_numbering → next ≡ follows around
     → s.markers.items ≢ [] → IsUtf8 (cow_str_bytes s.source) → IsUtf8 (given_text s) → HasRoomFor r layout (Suggestion s) → old ≡ above ++ tail
     → IsTail layout.decor layout.gutter (begins_in_row_above around) tail → (begins_in_row_above around ≡ true → tail ≡ found ∷ []) → HasPathFor around.start s
     → (around.start ≡ Path → mid ≡ old ++ path_head r layout around.first s) → ((around.start ≡ Path → ⊥) → mid ≡ old)
     → DrawsBelow s around.start next mid new result (layout_with r layout numbers)
     → DrawsCells s around.start next mid new result (layout_with r layout numbers) → OnOk result (AddsElement r layout around found (Suggestion s) above new)
-patches_added r layout around s found above tail old mid new numbers next result numbers_are next_is some utf8 given_utf8 room is tail_is found_is path headed same draws draws_cells =
+patches_added r layout around s found above tail old mid new numbers next result numbers_are next_is some utf8 given_utf8 room is tail_is found_is path headed
+    same draws draws_cells =
     let begun = begun_below r layout around.start around.first s found above tail old mid is tail_is found_is path headed same in
     let Draws : Bool → SuggestionLayout → Type 0 = λ b suggested. DrawsBelow s around.start b mid new result suggested in
-    let drawn : Draws (follows around) (suggestion_layout r layout s) = subst (λ b. Draws b (suggestion_layout r layout s)) next_is (subst (λ n. Draws next (layout_with r layout n)) numbers_are draws) in
+    let drawn : Draws (follows around) (suggestion_layout r layout s) = subst (λ b.
+    Draws b (suggestion_layout r layout s)) next_is (subst (λ n. Draws next (layout_with r layout n)) numbers_are draws) in
     let Cells : Bool → SuggestionLayout → Type 0 = λ b suggested. DrawsCells s around.start b mid new result suggested in
-    let cells : Cells (follows around) (suggestion_layout r layout s) = subst (λ b. Cells b (suggestion_layout r layout s)) next_is (subst (λ n. Cells next (layout_with r layout n)) numbers_are draws_cells) in
+    let cells : Cells (follows around) (suggestion_layout r layout s) = subst (λ b.
+    Cells b (suggestion_layout r layout s)) next_is (subst (λ n. Cells next (layout_with r layout n)) numbers_are draws_cells) in
     let added = suggestion_added r layout around s found (row_at begun.end 0) above new utf8 given_utf8 begun.under in
-    on_ok_two result added (drawn (gutter_room r layout s some room) (above ++ suggestion_head r layout around s) begun.end begun.is begun.start) (cells (above ++ suggestion_head r layout around s) begun.end begun.is begun.count)
+    on_ok_two result added (drawn (gutter_room r layout s some room) (above ++ suggestion_head r layout around s) begun.end begun.is begun.start)
+    (cells (above ++ suggestion_head r layout around s) begun.end begun.is begun.count)

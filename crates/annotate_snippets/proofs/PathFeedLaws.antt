@@ -49,7 +49,8 @@ alone c plain = All-cons IsNoFeed c [] plain (All-nil IsNoFeed)
 -- what is shown for a character that is no line feed holds none, and so does a normalised text
 shown_plain : (c : ℕ) → IsNoFeed c → All IsNoFeed (shown c)
 shown_plain c plain =
-    let spaces : All IsNoFeed (32 ∷ 32 ∷ 32 ∷ 32 ∷ []) = All-cons IsNoFeed 32 (32 ∷ 32 ∷ 32 ∷ []) refl (All-cons IsNoFeed 32 (32 ∷ 32 ∷ []) refl (All-cons IsNoFeed 32 (32 ∷ []) refl (alone 32 refl))) in
+    let spaces : All IsNoFeed (32 ∷ 32 ∷ 32 ∷ 32 ∷ []) = All-cons IsNoFeed 32 (32 ∷ 32 ∷ 32 ∷ []) refl
+    (All-cons IsNoFeed 32 (32 ∷ 32 ∷ []) refl (All-cons IsNoFeed 32 (32 ∷ []) refl (alone 32 refl))) in
     let picture : IsNoFeed (0x2400 + c) = grind (arith, nat_tests) in
     choice (c == 0x9) _ _ spaces
     (choice (has_control_picture c) _ _ (alone (0x2400 + c) picture)
@@ -62,7 +63,8 @@ pub norm-plain : (cs : List ℕ) → All IsNoFeed cs → All IsNoFeed (norm cs)
 unfolding norm
 norm-plain [] plain = All-nil IsNoFeed
 norm-plain (c ∷ cs) plain =
-    subst (All IsNoFeed) (sym (flat_map-cons shown c cs)) (All-append IsNoFeed (shown c) (flat_map shown cs) (shown_plain c (All-head IsNoFeed c cs plain)) (norm-plain cs (All-tail IsNoFeed c cs plain)))
+    subst (All IsNoFeed) (sym (flat_map-cons shown c cs)) (All-append IsNoFeed (shown c) (flat_map shown cs) (shown_plain c (All-head IsNoFeed c cs plain))
+    (norm-plain cs (All-tail IsNoFeed c cs plain)))
 
 -- a digit is no line feed
 pub digit_plain : (c : ℕ) → IsDigit c → IsNoFeed c
@@ -84,12 +86,14 @@ file_plain : (layout : OriginLayout) (start : FileStart) → HasNoFeed (file_row
 unfolding file_row
 file_plain layout start =
     let glyph : List ℕ = file_glyph start layout.base.decor in
-    after_spaces layout.base.gutter (text_cells LineNumber glyph) (cells_plain LineNumber glyph (each-fails (λ c. c == 10) glyph (glyphs_plain start layout.base.decor)))
+    after_spaces layout.base.gutter (text_cells LineNumber glyph) (cells_plain LineNumber glyph
+    (each-fails (λ c. c == 10) glyph (glyphs_plain start layout.base.decor)))
 
 text_plain : (anonymized : Bool) (path : List ℕ) (place : OriginLocation) → All IsNoFeed (chars path) → All IsNoFeed (origin_text anonymized path place)
 unfolding origin_text
 text_plain anonymized path place plain =
-    All-append IsNoFeed (norm (chars path)) (place_text anonymized place) (norm-plain (chars path) plain) (place_text-each IsNoFeed digit_plain refl refl anonymized place)
+    All-append IsNoFeed (norm (chars path)) (place_text anonymized place) (norm-plain (chars path) plain)
+    (place_text-each IsNoFeed digit_plain refl refl anonymized place)
 
 -- the row of a path that holds none holds none
 pub row_plain : (layout : OriginLayout) (start : FileStart) (path : List ℕ) (place : OriginLocation) → All IsNoFeed (chars path)
@@ -97,14 +101,16 @@ pub row_plain : (layout : OriginLayout) (start : FileStart) (path : List ℕ) (p
 unfolding origin_row
 row_plain layout start path place plain =
     let text : List ℕ = origin_text layout.anonymized path place in
-    All-append HoldsNoFeed (file_row layout start) (text_cells LineAndColumn text) (file_plain layout start) (cells_plain LineAndColumn text (text_plain layout.anonymized path place plain))
+    All-append HoldsNoFeed (file_row layout start) (text_cells LineAndColumn text) (file_plain layout start)
+    (cells_plain LineAndColumn text (text_plain layout.anonymized path place plain))
 
 head_plain : (layout : OriginLayout) (primary first : Bool) (named : Option (List ℕ)) (place : OriginLocation) → IsOneLineText named
     → All HasNoFeed (snippet_head layout primary first named place)
 head_plain layout true first None place plain =
     opening_head-each HasNoFeed layout (bare-plain layout.base.decor layout.base.gutter false) (file_plain layout) first
 head_plain layout true first (Some path) place plain =
-    primary_head-each HasNoFeed layout (bare-plain layout.base.decor layout.base.gutter false) path place (λ start. row_plain layout start path place plain) first
+    primary_head-each HasNoFeed layout (bare-plain layout.base.decor layout.base.gutter false) path place (λ start.
+    row_plain layout start path place plain) first
 head_plain layout false first None place plain =
     nameless_head-each HasNoFeed layout (bare-plain layout.base.decor layout.base.gutter false) (file_plain layout Secondary)
 head_plain layout false first (Some path) place plain =
@@ -122,7 +128,8 @@ closing_plain r layout false = All-nil HasNoFeed
 pub head_one_line : (r : Renderer) (layout : Layout) (around : ElementContext) (s : Snippet Annotation) → IsOneLineText (path_bytes s.path)
     → All HasNoFeed (cause_head r layout around s)
 head_one_line r layout around s plain =
-    head_plain (origin_layout r layout) around.primary around.first (path_bytes s.path) (place_named around.primary (annotated_lines s.fold (numbered_source s) s.markers.items)) plain
+    head_plain (origin_layout r layout) around.primary around.first (path_bytes s.path)
+    (place_named around.primary (annotated_lines s.fold (numbered_source s) s.markers.items)) plain
 
 -- nor do the rows below a snippet's lines hold one, whatever follows
 pub after_one_line : (r : Renderer) (layout : Layout) (around : ElementContext) → All HasNoFeed (rows_after_cause r layout around)
@@ -143,4 +150,5 @@ pub origin_one_line : (r : Renderer) (layout : Layout) (around : ElementContext)
     → All HasNoFeed (origin_rows r layout around o)
 origin_one_line r layout around o plain =
     let row : List Cell = origin_row (origin_layout r layout) (origin_start around) (cow_str_bytes o.path) (place_given o) in
-    All-cons HasNoFeed row (cond (closes_after around) (closing_rows r layout) []) (row_plain (origin_layout r layout) (origin_start around) (cow_str_bytes o.path) (place_given o) plain) (closing_plain r layout (closes_after around))
+    All-cons HasNoFeed row (cond (closes_after around) (closing_rows r layout) [])
+    (row_plain (origin_layout r layout) (origin_start around) (cow_str_bytes o.path) (place_given o) plain) (closing_plain r layout (closes_after around))

@@ -28,9 +28,9 @@ first_start-of (s ∷ ts) t is =
     ap (λ (u : TrimmedPatch). u.span.start) (sym same)
 
 -- what holds of each patch holds of the first
-first_all : (P : TrimmedPatch → Type 0) (ts : List TrimmedPatch) (t : TrimmedPatch) → All P ts → slice_get ts 0 ≡ Some t → P t
-first_all P [] t all is = absurd (cc)
-first_all P (s ∷ ts) t all is =
+first-all : (P : TrimmedPatch → Type 0) (ts : List TrimmedPatch) (t : TrimmedPatch) → All P ts → slice_get ts 0 ≡ Some t → P t
+first-all P [] t all is = absurd (cc)
+first-all P (s ∷ ts) t all is =
     let same : s ≡ t = cc in
     subst P same (all 0 s (omega arith))
 
@@ -48,8 +48,11 @@ pub first-span : (p : PreparedSuggestion) (t : TrimmedPatch) → IsPrepared p �
     → IsSpan p.map.text t.span.start t.span.end
 first-span p t h is =
     let source : List ℕ = cow_str_bytes p.snippet.now.source in
-    let spans : All (λ e. IsSpan source e.start e.end) (edits_of p.snippet.now) = All-map (λ e. IsSpan source e.start e.end) edit_of p.snippet.now.markers.items h.suggestible.spans in
-    subst (λ (m : Source). IsSpan m.text t.span.start t.span.end) (sym h.lines) (first_all (λ u. IsSpan source u.span.start u.span.end) p.splice.patches.items t (trimmed_spans source (edits_of p.snippet.now) p.splice.patches.items spans h.edits) is)
+    let spans : All (λ e. IsSpan source e.start e.end) (edits_of p.snippet.now) = All-map (λ e.
+    IsSpan source e.start e.end) edit_of p.snippet.now.markers.items h.suggestible.spans in
+    subst (λ (m : Source). IsSpan m.text t.span.start t.span.end) (sym h.lines)
+    (first-all (λ u. IsSpan source u.span.start u.span.end) p.splice.patches.items t
+    (trimmed_spans source (edits_of p.snippet.now) p.splice.patches.items spans h.edits) is)
 
 -- where it starts is the place that the path names
 abbrev place_from : Loc → OriginLocation
@@ -61,4 +64,5 @@ pub first-place : (p : PreparedSuggestion) (t : TrimmedPatch) (at : Loc × Loc) 
     → ◌≡◌ {A = OriginLocation} (record { line = Some at.0.line; column = Some (at.0.char + 1) }) (patch_place p.snippet.now)
 first-place p t at h is located =
     let first : t.span.start ≡ first_start (trimmed_of p.snippet.now) = first_start-of p.splice.patches.items t is ∙ ap first_start h.edits in
-    ap (λ (l : Loc × Loc). place_from l.0) located ∙ ap place_from (locations_of-start p.map t.span.start t.span.end) ∙ ap (λ m. place_from (start_location m t.span.start)) h.lines ∙ ap (λ b. place_from (start_location (numbered_source p.snippet.now) b)) first
+    ap (λ (l : Loc × Loc). place_from l.0) located ∙ ap place_from (locations_of-start p.map t.span.start t.span.end)
+    ∙ ap (λ m. place_from (start_location m t.span.start)) h.lines ∙ ap (λ b. place_from (start_location (numbered_source p.snippet.now) b)) first

@@ -25,7 +25,8 @@ pub record ArePrepared (gs : List Group) (ps : List PreparedGroup) : Type 0 wher
 pub ArePrepared-push : (gs : List Group) (i : ℕ) (g : Group) (ps new : List PreparedGroup) (p : PreparedGroup) → new ≡ ps ++ p ∷ [] → i < length gs
     → g ≡ get_or gs i g → group_of p ≡ g → ArePrepared (take i gs) ps → IsGroupPrepared p → ArePrepared (take (i + 1) gs) new
 ArePrepared-push gs i g ps new p pushed within is of before prepared = record {
-  groups = ap (map group_of) pushed ∙ map-append group_of ps (p ∷ []) ∙ ap (λ hs. hs ++ group_of p ∷ []) before.groups ∙ ap (λ h. take i gs ++ h ∷ []) (of ∙ is) ∙ sym (take_more gs i g within);
+  groups = ap (map group_of) pushed ∙ map-append group_of ps (p ∷ []) ∙ ap (λ hs. hs ++ group_of p ∷ []) before.groups
+      ∙ ap (λ h. take i gs ++ h ∷ []) (of ∙ is) ∙ sym (take_more gs i g within);
   prepared = All-same IsGroupPrepared new (ps ++ p ∷ []) pushed (All-push IsGroupPrepared ps p before.prepared prepared);
 }
 

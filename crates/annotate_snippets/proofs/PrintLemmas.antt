@@ -12,7 +12,8 @@ pub use Rattle.snippet_model.proofs.ZipLemmas.{AllZip-last, AllZip-weaker}
 pub AllZip-push : {A B : Type 0} (P : A → B → Type 0) (xs : List A) (i : ℕ) (d : A) → i < length xs → (ys new : List B) (y : B) → new ≡ ys ++ y ∷ []
     → AllZip P (take i xs) ys → P (get_or xs i d) y → AllZip P (take (i + 1) xs) new
 AllZip-push P xs i d within ys new y pushed before last =
-    subst (λ zs. AllZip P zs new) (sym (take_more xs i d within)) (subst (λ zs. AllZip P (take i xs ++ get_or xs i d ∷ []) zs) (sym pushed) (AllZip-last P (take i xs) ys (get_or xs i d) y before last))
+    subst (λ zs. AllZip P zs new) (sym (take_more xs i d within)) (subst (λ zs.
+    AllZip P (take i xs ++ get_or xs i d ∷ []) zs) (sym pushed) (AllZip-last P (take i xs) ys (get_or xs i d) y before last))
 
 -- one more part after some that are joined
 join-last : (x : List ℕ) (xs : List (List ℕ)) (part : List ℕ) → join_with_byte 10 ((x ∷ xs) ++ part ∷ []) ≡ join_with_byte 10 (x ∷ xs) ++ 10 ∷ part

@@ -44,7 +44,8 @@ use Rattle.annotate_snippets.proofs.WovenLemmas.{IsWoven-from_page, grid_links, 
 -- two free texts with a line feed between them, which isn't listed
 free_joined : (trusted : List (List ℕ)) (a b : List ℕ) → IsFreeBut trusted a → IsFreeBut trusted b → IsFreeBut trusted (a ++ 10 ∷ b)
 free_joined trusted a b first second =
-    All-append (λ c. is_listed c ≡ true → Contains (flat_map chars trusted) c) a (10 ∷ b) first (All-cons (λ c. is_listed c ≡ true → Contains (flat_map chars trusted) c) 10 b (λ listed. cc) second)
+    All-append (λ c. is_listed c ≡ true → Contains (flat_map chars trusted) c) a (10 ∷ b) first
+    (All-cons (λ c. is_listed c ≡ true → Contains (flat_map chars trusted) c) 10 b (λ listed. cc) second)
 
 -- places that are counted on
 none_more : (n : ℕ) → n + 0 ≡ n
@@ -87,14 +88,16 @@ module _ (r : Renderer) (groups : List Group) where
       → IsFreeBut (trusted_texts (g ∷ gs)) (join_with_byte 10 (map grid_plain (grid ∷ grids)))
   free_above g gs grid [] first rest = free_first g gs (grid_plain grid) first
   free_above g gs grid (other ∷ grids) first rest =
-      free_joined (trusted_texts (g ∷ gs)) (grid_plain grid) (join_with_byte 10 (map grid_plain (other ∷ grids))) (free_first g gs (grid_plain grid) first) (free_rest g gs (join_with_byte 10 (map grid_plain (other ∷ grids))) rest)
+      free_joined (trusted_texts (g ∷ gs)) (grid_plain grid) (join_with_byte 10 (map grid_plain (other ∷ grids))) (free_first g gs (grid_plain grid) first)
+      (free_rest g gs (join_with_byte 10 (map grid_plain (other ∷ grids))) rest)
 
   PageOf-cons : (n : ℕ) (g : Group) (gs : List Group) (grid : GroupGrid) (grids : List GroupGrid) → grid.level ≡ g.level → IsGridShown n g grid
       → PageOf (suc n) gs grids → PageOf n (g ∷ gs) (grid ∷ grids)
   PageOf-cons n g gs grid grids leveled shown rest =
       record {
         page = shown.page ∷ rest.page;
-        value = ap (λ (part : GroupPage). part ∷ rest.page) shown.value ∙ ap (λ (parts : Page). page_at (n, g) ∷ parts) rest.value ∙ ap (λ k. page_at (n, g) ∷ map page_at (enumerate_from k gs)) (next n);
+        value = ap (λ (part : GroupPage). part ∷ rest.page) shown.value ∙ ap (λ (parts : Page). page_at (n, g) ∷ parts) rest.value
+            ∙ ap (λ k. page_at (n, g) ∷ map page_at (enumerate_from k gs)) (next n);
         count = ap suc rest.count;
         each = each;
         text = ap (λ rows. plain_text rows ∷ map grid_plain grids) shown.rows_are ∙ ap (λ texts. plain_text (group_rows shown.page) ∷ texts) rest.text;
@@ -102,7 +105,8 @@ module _ (r : Renderer) (groups : List Group) where
         links = ap (λ urls. urls ++ flat_map grid_links grids) shown.links ∙ ap (λ urls. title_links r.hyperlink g ++ urls) rest.links;
         free = free_above g gs grid grids shown.free rest.free;
         printed = printed;
-        one_line = λ plain. All-cons HasOneLineRows shown.page rest.page (shown.one_line (All-head IsOneLineGroup g gs plain)) (rest.one_line (All-tail IsOneLineGroup g gs plain));
+        one_line = λ plain. All-cons HasOneLineRows shown.page rest.page (shown.one_line (All-head IsOneLineGroup g gs plain))
+            (rest.one_line (All-tail IsOneLineGroup g gs plain));
       }
     where
       next : (k : ℕ) → suc k ≡ k + 1
@@ -111,7 +115,8 @@ module _ (r : Renderer) (groups : List Group) where
       each : (i : ℕ) (h : Group) (part : GroupPage) → slice_get (g ∷ gs) i ≡ Some h → slice_get (shown.page ∷ rest.page) i ≡ Some part
           → IsShownAt (n + i) h part
       each zero h part at there =
-          let here : IsShownAt n h part = subst (λ (x : GroupPage). IsShownAt n h x) (some_same there) (subst (λ (x : Group). IsShownAt n x shown.page) (some_same at) shown.shows) in
+          let here : IsShownAt n h part = subst (λ (x : GroupPage). IsShownAt n h x) (some_same there)
+          (subst (λ (x : Group). IsShownAt n x shown.page) (some_same at) shown.shows) in
           subst (λ k. IsShownAt k h part) (sym (none_more n)) here
       each (suc i) h part at there =
           subst (λ k. IsShownAt k h part) (one_more n i) (rest.each i h part at there)
@@ -119,8 +124,11 @@ module _ (r : Renderer) (groups : List Group) where
       printed : (sheet : Stylesheet) (parts : List (List ℕ)) → AllZip (λ (grid : GroupGrid) part. Prints sheet grid.level grid.buffer part) (grid ∷ grids) parts
           → ArePrinted sheet (levels_of (g ∷ gs)) (shown.page ∷ rest.page) parts
       printed sheet [] prints = absurd prints
-      printed sheet (part ∷ parts) prints =
-          (subst (λ level. Prints sheet level (group_rows shown.page) part) leveled (subst (λ rows. Prints sheet grid.level rows part) shown.rows_are prints.0), rest.printed sheet parts prints.1)
+      printed sheet (part ∷ parts) prints = (
+        subst (λ level. Prints sheet level (group_rows shown.page) part) leveled
+            (subst (λ rows. Prints sheet grid.level rows part) shown.rows_are prints.0),
+        rest.printed sheet parts prints.1,
+      )
 
   PageOf-grids : (n : ℕ) (gs : List Group) (grids : List GroupGrid) → map (λ (grid : GroupGrid). grid.level) grids ≡ levels_of gs
       → ((i : ℕ) (g : Group) (grid : GroupGrid) → slice_get gs i ≡ Some g → slice_get grids i ≡ Some grid → IsGridShown (n + i) g grid) → PageOf n gs grids
@@ -147,7 +155,8 @@ module _ (r : Renderer) (groups : List Group) where
   PageOf-grids n (g ∷ gs) (grid ∷ grids) levels shown =
       let leveled : grid.level ≡ g.level = ap (first_level g.level) levels in
       let rest : map (λ (d : GroupGrid). d.level) grids ≡ levels_of gs = ap (drop 1) levels in
-      PageOf-cons n g gs grid grids leveled (subst (λ k. IsGridShown k g grid) (none_more n) (shown 0 g grid refl refl)) (PageOf-grids (suc n) gs grids rest (λ i h other at there. subst (λ k. IsGridShown k h other) (sym (one_more n i)) (shown (suc i) h other at there)))
+      PageOf-cons n g gs grid grids leveled (subst (λ k. IsGridShown k g grid) (none_more n) (shown 0 g grid refl refl))
+      (PageOf-grids (suc n) gs grids rest (λ i h other at there. subst (λ k. IsGridShown k h other) (sym (one_more n i)) (shown (suc i) h other at there)))
     where
       first_level : LevelInner → List LevelInner → LevelInner
       first_level default [] = default
@@ -169,7 +178,11 @@ module _ (r : Renderer) (groups : List Group) (grids : List GroupGrid) (drawable
   -- it shows each group
   page_shows : AreGroupsShown r groups report_page.page
   page_shows =
-      record { count = report_page.count; each = λ i g part at there. subst (λ k. IsShownAt r groups k g part) (zero-add i) (report_page.each i g part at there) }
+      record {
+        count = report_page.count;
+        each = λ i g part at there.
+            subst (λ k. IsShownAt r groups k g part) (zero-add i) (report_page.each i g part at there);
+      }
 
   -- its characters are those of the grids
   text_of_page : page_text report_page.page ≡ join_with_byte 10 (map grid_plain grids)
@@ -194,7 +207,8 @@ module _ (r : Renderer) (groups : List Group) (grids : List GroupGrid) (drawable
       record {
         printed = AllZip-weaker (λ sheet text. PrintsGrids sheet grids text)
             (λ sheet text. PrintsPage sheet (levels_of groups) (graphic_form r groups) text)
-            (λ sheet text prints. subst (λ page. PrintsPage sheet (levels_of groups) page text) report_page.value (page_printed sheet text prints)) sheets texts printed;
+            (λ sheet text prints. subst (λ page. PrintsPage sheet (levels_of groups) page text) report_page.value
+            (page_printed sheet text prints)) sheets texts printed;
       }
 
   -- the report's page has its laws
@@ -206,8 +220,10 @@ module _ (r : Renderer) (groups : List Group) (grids : List GroupGrid) (drawable
         links = links_of_page;
         one_line = report_page.one_line;
         lines = λ plain. lines_of_page report_page.page (report_page.one_line plain);
-        numbers = λ i g part at there. group_numbered r (layout_of_group r groups g) (position_of_group (length groups) i) (file_of_group groups g) (drawn_elements g) part (page_shows.each i g part at there).elements;
-        titles = λ i g part title at there titled words. group_title_unnumbered r (layout_of_group r groups g) (position_of_group (length groups) i) (next_of (drawn_elements g)) g.title title part.title (page_shows.each i g part at there).title titled words;
+        numbers = λ i g part at there. group_numbered r (layout_of_group r groups g) (position_of_group (length groups) i) (file_of_group groups g)
+            (drawn_elements g) part (page_shows.each i g part at there).elements;
+        titles = λ i g part title at there titled words. group_title_unnumbered r (layout_of_group r groups g) (position_of_group (length groups) i)
+            (next_of (drawn_elements g)) g.title title part.title (page_shows.each i g part at there).title titled words;
       })
 
 -- a text that prints a page is woven of its characters, with what it links to

@@ -27,7 +27,8 @@ title_links hyperlink g = flat_map (λ (t : Title). id_links hyperlink t.id) (op
 free_more : (few many : List (List ℕ)) (text : List ℕ) → ((c : ℕ) → Contains (flat_map chars few) c → Contains (flat_map chars many) c) → IsFreeBut few text
     → IsFreeBut many text
 free_more few many text more free =
-    All-weaker (λ c. is_listed c ≡ true → Contains (flat_map chars few) c) (λ c. is_listed c ≡ true → Contains (flat_map chars many) c) (λ c trusted listed. more c (trusted listed)) text free
+    All-weaker (λ c. is_listed c ≡ true → Contains (flat_map chars few) c) (λ c. is_listed c ≡ true → Contains (flat_map chars many) c) (λ c trusted listed.
+    more c (trusted listed)) text free
 
 -- what is free but for the first group's trusted texts is free but for those of all groups
 pub free_first : (g : Group) (gs : List Group) (text : List ℕ) → IsFreeBut (trusted_texts (g ∷ [])) text → IsFreeBut (trusted_texts (g ∷ gs)) text
@@ -40,7 +41,9 @@ free_first g gs text free =
 -- what is free but for the further groups' trusted texts is free but for those of all groups
 pub free_rest : (g : Group) (gs : List Group) (text : List ℕ) → IsFreeBut (trusted_texts gs) text → IsFreeBut (trusted_texts (g ∷ gs)) text
 free_rest g gs text free =
-    free_more (trusted_texts gs) (trusted_texts (g ∷ gs)) text (λ c among. subst (λ cs. Contains cs c) (sym (flat_map-append chars (trusted_of g) (trusted_texts gs))) (Contains-append_right (flat_map chars (trusted_of g)) (flat_map chars (trusted_texts gs)) c among)) free
+    free_more (trusted_texts gs) (trusted_texts (g ∷ gs)) text (λ c among.
+    subst (λ cs. Contains cs c) (sym (flat_map-append chars (trusted_of g) (trusted_texts gs)))
+    (Contains-append_right (flat_map chars (trusted_of g)) (flat_map chars (trusted_texts gs)) c among)) free
 
 -- without links nothing links
 pub no_links : (id : Option Id) → id_links false id ≡ []

@@ -40,7 +40,8 @@ widest-from wants most (e ∷ es) = omega (arith, widest-from wants (greater wan
 widest-each : (wants : Element → ℕ) (most : ℕ) (es : List Element) → All (λ e. wants e ≤ fold (greater wants) most es) es
 widest-each wants most [] = All-nil (λ e. wants e ≤ most)
 widest-each wants most (e ∷ es) =
-    All-cons (λ d. wants d ≤ fold (greater wants) (greater wants most e) es) e es (omega (arith, widest-from wants (greater wants most e) es)) (widest-each wants (greater wants most e) es)
+    All-cons (λ d. wants d ≤ fold (greater wants) (greater wants most e) es) e es (omega (arith, widest-from wants (greater wants most e) es))
+    (widest-each wants (greater wants most e) es)
 
 -- and no more than what none of them exceeds
 widest-low : (wants : Element → ℕ) (most top : ℕ) (es : List Element) → most ≤ top → All (λ e. wants e ≤ top) es → fold (greater wants) most es ≤ top
@@ -58,7 +59,8 @@ widest-group wants most [] i g is = cc
 widest-group wants most (h ∷ gs) zero g is =
     let same : h ≡ g = cc in
     let own : ℕ = fold (greater wants) most h.elements.items in
-    let all : fold (greater wants) most (flat_map elements_of (h ∷ gs)) ≡ fold (greater wants) own (flat_map elements_of gs) = fold-append (greater wants) most h.elements.items (flat_map elements_of gs) in
+    let all : fold (greater wants) most (flat_map elements_of (h ∷ gs))
+    ≡ fold (greater wants) own (flat_map elements_of gs) = fold-append (greater wants) most h.elements.items (flat_map elements_of gs) in
     let more : own ≤ fold (greater wants) own (flat_map elements_of gs) = widest-from wants own (flat_map elements_of gs) in
     let here : All (λ e. wants e ≤ fold (greater wants) most (flat_map elements_of (h ∷ gs))) h.elements.items =
     All-weaker (λ e. wants e ≤ own) (λ e. wants e ≤ fold (greater wants) most (flat_map elements_of (h ∷ gs)))
@@ -66,13 +68,15 @@ widest-group wants most (h ∷ gs) zero g is =
     subst (λ (k : Group). All (λ e. wants e ≤ fold (greater wants) most (flat_map elements_of (h ∷ gs))) k.elements.items) same here
 widest-group wants most (h ∷ gs) (suc i) g is =
     let own : ℕ = fold (greater wants) most h.elements.items in
-    subst (λ n. All (λ e. wants e ≤ n) g.elements.items) (sym (fold-append (greater wants) most h.elements.items (flat_map elements_of gs))) (widest-group wants own gs i g is)
+    subst (λ n. All (λ e. wants e ≤ n) g.elements.items) (sym (fold-append (greater wants) most h.elements.items (flat_map elements_of gs)))
+    (widest-group wants own gs i g is)
 
 -- what holds of the elements of each group holds of all
 all_elements : (P : Element → Type 0) (gs : List Group) → All (λ (g : Group). All P g.elements.items) gs → All P (flat_map elements_of gs)
 all_elements P [] all = All-nil P
 all_elements P (g ∷ gs) all =
-    All-append P g.elements.items (flat_map elements_of gs) (All-head (λ (h : Group). All P h.elements.items) g gs all) (all_elements P gs (All-tail (λ (h : Group). All P h.elements.items) g gs all))
+    All-append P g.elements.items (flat_map elements_of gs) (All-head (λ (h : Group). All P h.elements.items) g gs all)
+    (all_elements P gs (All-tail (λ (h : Group). All P h.elements.items) g gs all))
 
 -- ---- the numbers that are counted have at most 20 digits
 
@@ -85,7 +89,8 @@ counted-suggested s can =
     let last : ℕ = first + newline_count (given_text s) in
     let small : last < 2 ^ 64 = last-fits s can in
     let there : removed < 2 ^ 64 = omega (arith, can.lines, line_of-within source (first_end (trimmed_of s))) in
-    cond_both s.fold (counted_folded (shown_kind s) first removed last) last (λ n. n < 2 ^ 64) (λ _. folded_small (shown_kind s) first removed last (omega (arith, small)) there small) (λ _. small)
+    cond_both s.fold (counted_folded (shown_kind s) first removed last) last (λ n. n < 2 ^ 64) (λ _.
+    folded_small (shown_kind s) first removed last (omega (arith, small)) there small) (λ _. small)
 
 -- a number that fits 64 bits has at most 20 digits
 pub digits : (number : ℕ) → number < 2 ^ 64 → length (decimal number) ≤ 20
@@ -94,9 +99,11 @@ digits number small = length-decimal-le 20 number (omega arith) (omega (arith, s
 wanted-low : (e : Element) → IsElementDrawable e → width_wanted e ≤ 20
 wanted-low (Message m) drawable = omega arith
 wanted-low (Cause s) drawable =
-    cond_both s.line_numbering (length (decimal (counted_number s))) 0 (λ n. n ≤ 20) (λ _. digits (counted_number s) (counted-small s drawable.numbers)) (λ _. omega arith)
+    cond_both s.line_numbering (length (decimal (counted_number s))) 0 (λ n. n ≤ 20) (λ _. digits (counted_number s) (counted-small s drawable.numbers)) (λ _.
+    omega arith)
 wanted-low (Suggestion s) drawable =
-    cond_both (s.line_numbering && not (length s.markers.items == 0)) (length (decimal (counted_line s))) 0 (λ n. n ≤ 20) (λ _. digits (counted_line s) (counted-suggested s drawable)) (λ _. omega arith)
+    cond_both (s.line_numbering && not (length s.markers.items == 0)) (length (decimal (counted_line s))) 0 (λ n. n ≤ 20) (λ _.
+    digits (counted_line s) (counted-suggested s drawable)) (λ _. omega arith)
 wanted-low (Origin o) drawable = omega arith
 wanted-low (Padding p) drawable = omega arith
 
@@ -104,8 +111,10 @@ wanted-low (Padding p) drawable = omega arith
 gutter-small : (r : Renderer) (groups : List Group) → All IsGroupDrawable groups → gutter_of_report r groups ≤ 20
 gutter-small r groups drawable =
     let Low : Element → Type 0 = λ e. width_wanted e ≤ 20 in
-    let each : All (λ (g : Group). All Low g.elements.items) groups = All-weaker IsGroupDrawable (λ (g : Group). All Low g.elements.items) (λ g can. All-weaker IsElementDrawable Low wanted-low g.elements.items can.1) groups drawable in
-    cond_both r.anonymized_snippet_line_numbers 2 (greatest_wanted (flat_map elements_of groups)) (λ n. n ≤ 20) (λ _. omega arith) (λ _. widest-low width_wanted 0 20 (flat_map elements_of groups) (omega arith) (all_elements Low groups each))
+    let each : All (λ (g : Group). All Low g.elements.items) groups = All-weaker IsGroupDrawable (λ (g : Group). All Low g.elements.items) (λ g can.
+    All-weaker IsElementDrawable Low wanted-low g.elements.items can.1) groups drawable in
+    cond_both r.anonymized_snippet_line_numbers 2 (greatest_wanted (flat_map elements_of groups)) (λ n. n ≤ 20) (λ _. omega arith) (λ _.
+    widest-low width_wanted 0 20 (flat_map elements_of groups) (omega arith) (all_elements Low groups each))
 
 -- ---- and the layout has room
 

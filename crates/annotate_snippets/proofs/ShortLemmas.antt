@@ -52,7 +52,8 @@ primary_labels-append xs ys =
 pub primary_labels-more : (marks : List Annotation) (i : ℕ) (a : Annotation) → i < length marks → a ≡ get_or marks i a
     → primary_labels (take i marks) ++ primary_labels (a ∷ []) ≡ primary_labels (take (i + 1) marks)
 primary_labels-more marks i a within is =
-    sym (primary_labels-append (take i marks) (a ∷ [])) ∙ ap (λ b. primary_labels (take i marks ++ b ∷ [])) is ∙ sym (ap primary_labels (take_more marks i a within))
+    sym (primary_labels-append (take i marks) (a ∷ [])) ∙ ap (λ b. primary_labels (take i marks ++ b ∷ [])) is
+    ∙ sym (ap primary_labels (take_more marks i a within))
 
 -- that of a primary span
 pub primary_labels-one : (a : Annotation) (t : CowStr Global) (label : List ℕ) (blank : Bool) → a.kind ≡ Primary → a.label ≡ Some t
@@ -81,7 +82,9 @@ joined_labels-last [] label true is = ap (λ l. 58 ∷ 32 ∷ l) (append-nil lab
 joined_labels-last [] label false is = cc
 joined_labels-last (first ∷ labels) label true is = absurd (some (length (32 ∷ (first ++ flat_map (λ l. 44 ∷ 32 ∷ l) labels))) is)
 joined_labels-last (first ∷ labels) label false is =
-    ap (λ l. 58 ∷ 32 ∷ (first ++ l)) (flat_map-append (λ l. 44 ∷ 32 ∷ l) labels (label ∷ []) ∙ ap (λ l. flat_map (λ m. 44 ∷ 32 ∷ m) labels ++ 44 ∷ 32 ∷ l) (append-nil label)) ∙ ap (λ l. 58 ∷ 32 ∷ l) (sym (append_assoc first (flat_map (λ l. 44 ∷ 32 ∷ l) labels) (44 ∷ 32 ∷ label)))
+    ap (λ l. 58 ∷ 32 ∷ (first ++ l)) (flat_map-append (λ l. 44 ∷ 32 ∷ l) labels (label ∷ [])
+    ∙ ap (λ l. flat_map (λ m. 44 ∷ 32 ∷ m) labels ++ 44 ∷ 32 ∷ l) (append-nil label))
+    ∙ ap (λ l. 58 ∷ 32 ∷ l) (sym (append_assoc first (flat_map (λ l. 44 ∷ 32 ∷ l) labels) (44 ∷ 32 ∷ label)))
 
 lead-ascii : (empty : Bool) → IsAscii (lead empty)
 lead-ascii true = IsAscii-cons 58 (32 ∷ []) (omega arith) (IsAscii-cons 32 [] (omega arith) IsAscii-nil)
@@ -94,7 +97,8 @@ lead-chars empty = chars-IsAscii (lead empty) (lead-ascii empty)
 pub joined_labels-added : (labels : List (List ℕ)) (old sep new label : List ℕ) (empty : Bool) → IsUtf8 old → chars old ≡ joined_labels labels
     → empty ≡ (length old == 0) → sep ≡ old ++ lead empty → new ≡ sep ++ label → chars new ≡ joined_labels (labels ++ chars label ∷ [])
 joined_labels-added labels old sep new label empty text are none led added =
-    let first : chars (old ++ lead empty) ≡ joined_labels labels ++ lead empty = chars-append old (lead empty) text ∙ ap (λ cs. cs ++ chars (lead empty)) are ∙ ap (λ cs. joined_labels labels ++ cs) (lead-chars empty) in
+    let first : chars (old ++ lead empty) ≡ joined_labels labels ++ lead empty = chars-append old (lead empty) text ∙ ap (λ cs. cs ++ chars (lead empty)) are
+    ∙ ap (λ cs. joined_labels labels ++ cs) (lead-chars empty) in
     let nothing : empty ≡ (length (joined_labels labels) == 0) = none ∙ is_empty-chars old text ∙ ap (λ cs. length cs == 0) are in
     ap chars (added ∙ ap (λ t. t ++ label) led)
     ∙ chars-append (old ++ lead empty) label (IsUtf8-append old (lead empty) text (IsUtf8-from_ascii (lead empty) (lead-ascii empty)))
@@ -119,13 +123,26 @@ line_text-short : (anonymized : Bool) (line column : Option ℕ) → IfSome line
     → length (line_text anonymized line column) ≤ 42
 line_text-short anonymized None column line_small column_small = omega arith
 line_text-short anonymized (Some line) column line_small column_small =
-    omega (arith, length-append (line_name anonymized line) (column_text column), line_name-short anonymized line line_small, column_text-short column column_small)
+    omega (
+      arith,
+      length-append (line_name anonymized line) (column_text column),
+      line_name-short anonymized line line_small,
+      column_text-short column
+          column_small,
+    )
 
 origin_text-short : (anonymized : Bool) (path : List ℕ) (place : OriginLocation) → PlaceFits place
     → length (origin_text anonymized path place) ≤ 4 * length path + 42
 unfolding origin_text
 origin_text-short anonymized path place fits =
-    omega (arith, length-append (norm (chars path)) (place_text anonymized place), length-norm (chars path), length-chars_le path, line_text-short anonymized place.line place.column fits.0 fits.1)
+    omega (
+      arith,
+      length-append (norm (chars path)) (place_text anonymized place),
+      length-norm
+          (chars path),
+      length-chars_le path,
+      line_text-short anonymized place.line place.column fits.0 fits.1,
+    )
 
 -- a path with a place, and a colon after it
 pub place-added : (text new shown : List ℕ) → IsUtf8 text → chars text ≡ shown → new ≡ text ++ 58 ∷ 32 ∷ [] → chars new ≡ shown ++ 58 ∷ 32 ∷ []

@@ -80,17 +80,22 @@ labels-free (a ∷ marks) = label-free a (filter_map short_label marks) (labels-
 
 primary-free : (marks : List Annotation) → All (All IsUnlisted) (primary_labels marks)
 primary-free marks =
-    All-filter (λ label. not (list_all is_whitespace label)) (All IsUnlisted) (filter_map short_label (filter (λ (a : Annotation). is_primary a.kind) marks)) (labels-free (filter (λ (a : Annotation). is_primary a.kind) marks))
+    All-filter (λ label. not (list_all is_whitespace label)) (All IsUnlisted) (filter_map short_label (filter (λ (a : Annotation). is_primary a.kind) marks))
+    (labels-free (filter (λ (a : Annotation). is_primary a.kind) marks))
 
 further_free : (labels : List (List ℕ)) → All (All IsUnlisted) labels → All IsUnlisted (flat_map (λ l. codes ", " ++ l) labels)
 further_free [] free = All-nil IsUnlisted
 further_free (label ∷ labels) free =
-    All-append IsUnlisted (codes ", " ++ label) (flat_map (λ l. codes ", " ++ l) labels) (All-append IsUnlisted (codes ", ") label (sep-free 44 refl) (All-head (All IsUnlisted) label labels free)) (further_free labels (All-tail (All IsUnlisted) label labels free))
+    All-append IsUnlisted (codes ", " ++ label) (flat_map (λ l. codes ", " ++ l) labels)
+    (All-append IsUnlisted (codes ", ") label (sep-free 44 refl) (All-head (All IsUnlisted) label labels free))
+    (further_free labels (All-tail (All IsUnlisted) label labels free))
 
 joined-free : (labels : List (List ℕ)) → All (All IsUnlisted) labels → All IsUnlisted (joined_labels labels)
 joined-free [] free = All-nil IsUnlisted
 joined-free (label ∷ labels) free =
-    All-append IsUnlisted (codes ": ") (label ++ flat_map (λ l. codes ", " ++ l) labels) (sep-free 58 refl) (All-append IsUnlisted label (flat_map (λ l. codes ", " ++ l) labels) (All-head (All IsUnlisted) label labels free) (further_free labels (All-tail (All IsUnlisted) label labels free)))
+    All-append IsUnlisted (codes ": ") (label ++ flat_map (λ l. codes ", " ++ l) labels) (sep-free 58 refl)
+    (All-append IsUnlisted label (flat_map (λ l. codes ", " ++ l) labels) (All-head (All IsUnlisted) label labels free)
+    (further_free labels (All-tail (All IsUnlisted) label labels free)))
 
 after-free : (cause : Option (Snippet Annotation)) → All IsUnlisted (labels_of_cause cause)
 after-free None = All-nil IsUnlisted
@@ -99,13 +104,15 @@ after-free (Some s) = joined-free (primary_labels s.markers.items) (primary-free
 origin-free : (anonymized : Bool) (path : List ℕ) (place : OriginLocation) → All IsUnlisted (origin_text anonymized path place)
 unfolding origin_text
 origin-free anonymized path place =
-    All-append IsUnlisted (norm (chars path)) (place_text anonymized place) (norm-free (chars path)) (place_text-each IsUnlisted digit_unlisted refl refl anonymized place)
+    All-append IsUnlisted (norm (chars path)) (place_text anonymized place) (norm-free (chars path))
+    (place_text-each IsUnlisted digit_unlisted refl refl anonymized place)
 
 path-free : (r : Renderer) (s : Snippet Annotation) (path : Option (List ℕ)) → All IsUnlisted (place_of_path r s path)
 path-free r s None = All-nil IsUnlisted
 path-free r s (Some path) =
     let place = place_named true (annotated_lines s.fold (numbered_source s) s.markers.items) in
-    All-append IsUnlisted (origin_text r.anonymized_origin_line_numbers path place) (codes ": ") (origin-free r.anonymized_origin_line_numbers path place) (sep-free 58 refl)
+    All-append IsUnlisted (origin_text r.anonymized_origin_line_numbers path place) (codes ": ") (origin-free r.anonymized_origin_line_numbers path place)
+    (sep-free 58 refl)
 
 before-free : (r : Renderer) (cause : Option (Snippet Annotation)) → All IsUnlisted (place_of_cause r cause)
 before-free r None = All-nil IsUnlisted
@@ -116,8 +123,11 @@ before-free r (Some s) = path-free r s (path_bytes s.path)
 first_text : (before label further after : List ℕ) (lines : List (List ℕ)) → 0 < length lines
     → (rest : List ℕ) × (slice_index_or (with_end after (texts_below (before ++ label) further lines)) 0 [] ≡ before ++ rest)
 first_text before label further after [] some = absurd (omega (arith, some))
-first_text before label further after (line ∷ lines) some =
-    (label ++ (line ++ after), ap (λ t. t ++ after) (append_assoc before label line) ∙ append_assoc before (label ++ line) after ∙ ap (λ t. before ++ t) (append_assoc label line after))
+first_text before label further after (line ∷ lines) some = (
+  label ++ (line ++ after),
+  ap (λ t. t ++ after) (append_assoc before label line) ∙ append_assoc before (label ++ line) after
+      ∙ ap (λ t. before ++ t) (append_assoc label line after),
+)
 
 -- ---- what a title links to
 
@@ -166,16 +176,20 @@ begins : (r : Renderer) (g : Group) (title : Title) (rows : List (List Cell)) �
 begins r g title rows are drawable s first path has some none =
     let lines : List KeptLine = annotated_lines s.fold (numbered_source s) s.markers.items in
     let can : IsDrawable s = subst (λ cause. IfSome cause IsDrawable) first (first_cause-drawable g drawable) in
-    let found = place_known (primary_place lines) (IsLocation (numbered_source s) s.markers.items) (place-named s.fold (numbered_source s) s.markers.items lines can.spans refl some none) in
+    let found = place_known (primary_place lines) (IsLocation (numbered_source s) s.markers.items)
+    (place-named s.fold (numbered_source s) s.markers.items lines can.spans refl some none) in
     let heading : Heading = heading_of_title title in
     let before : List ℕ = before_title r g in
-    let text = first_text before (heading_label_text heading) (row_text (indent_cells style.Short (label_width heading))) (after_title g) (heading_lines heading) (omega (arith, length-slice_split (λ c. c == 10) (shown_text heading))) in
-    let named : before ≡ origin_text r.anonymized_origin_line_numbers path (place_found (Some found.0)) ++ codes ": " = ap (place_of_cause r) first ∙ ap (place_of_path r s) has ∙ ap (λ o. origin_text r.anonymized_origin_line_numbers path (place_found o) ++ codes ": ") found.1 in
+    let text = first_text before (heading_label_text heading) (row_text (indent_cells style.Short (label_width heading))) (after_title g)
+    (heading_lines heading) (omega (arith, length-slice_split (λ c. c == 10) (shown_text heading))) in
+    let named : before ≡ origin_text r.anonymized_origin_line_numbers path (place_found (Some found.0)) ++ codes ": " = ap (place_of_cause r) first
+    ∙ ap (place_of_path r s) has ∙ ap (λ o. origin_text r.anonymized_origin_line_numbers path (place_found o) ++ codes ": ") found.1 in
     record {
       place = found.0;
       is = found.2;
       rest = text.0;
-      text = ap (λ (rs : List (List Cell)). row_text (row_at rs 0)) are ∙ short-texts r.hyperlink before (after_title g) heading 0 ∙ text.1 ∙ ap (λ cs. cs ++ text.0) named ∙ append_assoc (origin_text r.anonymized_origin_line_numbers path (place_found (Some found.0))) (codes ": ") text.0;
+      text = ap (λ (rs : List (List Cell)). row_text (row_at rs 0)) are ∙ short-texts r.hyperlink before (after_title g) heading 0 ∙ text.1
+          ∙ ap (λ cs. cs ++ text.0) named ∙ append_assoc (origin_text r.anonymized_origin_line_numbers path (place_found (Some found.0))) (codes ": ") text.0;
     }
 
 -- the rows show the first group
@@ -185,7 +199,8 @@ rows_shown r g title rows are drawable =
     record {
       texts = λ i. ap (λ (rs : List (List Cell)). row_text (row_at rs i)) are ∙ short-texts r.hyperlink (before_title r g) (after_title g) heading i;
       origin = begins r g title rows are drawable;
-      free = subst (All (IsFreeButText heading)) (sym are) (short-free r.hyperlink (before_title r g) (after_title g) heading (before-free r (first_cause g.elements.items)) (after-free (first_cause g.elements.items)));
+      free = subst (All (IsFreeButText heading)) (sym are) (short-free r.hyperlink (before_title r g) (after_title g) heading
+          (before-free r (first_cause g.elements.items)) (after-free (first_cause g.elements.items)));
     }
 
 -- a text that prints the one grid
@@ -218,7 +233,8 @@ short-shown r groups grids sheets texts page prints =
       title = page.title;
       first = page.first;
       titled = page.titled;
-      printed = AllZip-weaker (λ sheet text. PrintsGrids sheet grids text) (λ sheet text. Prints sheet g.level rows text) (prints-page r groups grids page) sheets texts prints;
+      printed = AllZip-weaker (λ sheet text. PrintsGrids sheet grids text) (λ sheet text.
+          Prints sheet g.level rows text) (prints-page r groups grids page) sheets texts prints;
     }
 
 -- a report's short form, whose one grid this is, has its laws
@@ -228,7 +244,8 @@ short-laws r groups grids drawable page =
     let title : Title = page.title in
     let heading : Heading = heading_of_title title in
     let rows : List (List Cell) = short_form r g title in
-    let can : IsGroupDrawable g = subst IsGroupDrawable (get_or_from_slice_get groups 0 g g page.first) (All-get_or IsGroupDrawable groups 0 g (slice_get_within groups 0 g page.first) drawable) in
+    let can : IsGroupDrawable g = subst IsGroupDrawable (get_or_from_slice_get groups 0 g g page.first)
+    (All-get_or IsGroupDrawable groups 0 g (slice_get_within groups 0 g page.first) drawable) in
     let shows : ShowsShort r g title rows = rows_shown r g title rows refl can in
     record {
       group = g;
@@ -236,7 +253,8 @@ short-laws r groups grids drawable page =
       first = page.first;
       titled = page.titled;
       shows = shows;
-      free = free_text (trusted_texts groups) rows (All-weaker (IsFreeButText heading) (IsFreeRow (trusted_texts groups)) (own_row (trusted_texts groups) heading (title-trusted groups g title page.first page.titled)) rows shows.free);
+      free = free_text (trusted_texts groups) rows (All-weaker (IsFreeButText heading) (IsFreeRow (trusted_texts groups))
+          (own_row (trusted_texts groups) heading (title-trusted groups g title page.first page.titled)) rows shows.free);
       links = short-links r.hyperlink (before_title r g) (after_title g) heading ∙ first-links r groups g title page.first page.titled;
     }
 
@@ -256,7 +274,8 @@ short-law r groups laws sheet level g title text first titled prints =
     let own : short_page r groups ≡ short_form r laws.group laws.title = page_is r groups laws.group laws.title laws.first laws.titled in
     let links : links_of (short_page r groups) ≡ short_links r groups = ap links_of own ∙ laws.links in
     let printed : Prints sheet level (short_page r groups) text = subst (λ rows. Prints sheet level rows text) (sym page) prints in
-    let woven : IsWoven sheet text (plain_text (short_page r groups)) (short_links r groups) = subst (IsWoven sheet text (plain_text (short_page r groups))) links
+    let woven : IsWoven sheet text (plain_text (short_page r groups)) (short_links r groups) = subst
+    (IsWoven sheet text (plain_text (short_page r groups))) links
     (IsWoven-from_prints sheet level (short_page r groups) text printed) in
     record {
       form_laws = laws;

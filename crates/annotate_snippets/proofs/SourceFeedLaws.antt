@@ -42,8 +42,10 @@ written_plain : (xs : List ℕ) (at : ℕ) (new : List ℕ) → All IsNoFeed xs 
 unfolding written
 written_plain xs at new plain own =
     let blanks : List ℕ = replicate (at - length xs) 32 in
-    let before : All IsNoFeed (take at (xs ++ blanks)) = All-take IsNoFeed at (xs ++ blanks) (All-append IsNoFeed xs blanks plain (All-replicate IsNoFeed (at - length xs) 32 refl)) in
-    All-append IsNoFeed (take at (xs ++ blanks) ++ new) (drop (at + length new) xs) (All-append IsNoFeed (take at (xs ++ blanks)) new before own) (All-drop IsNoFeed (at + length new) xs plain)
+    let before : All IsNoFeed (take at (xs ++ blanks)) = All-take IsNoFeed at (xs ++ blanks)
+    (All-append IsNoFeed xs blanks plain (All-replicate IsNoFeed (at - length xs) 32 refl)) in
+    All-append IsNoFeed (take at (xs ++ blanks) ++ new) (drop (at + length new) xs) (All-append IsNoFeed (take at (xs ++ blanks)) new before own)
+    (All-drop IsNoFeed (at + length new) xs plain)
 
 begun_plain : (placeholder : List ℕ) (columns : Option ℕ) (text : List ℕ) → All IsNoFeed placeholder → All IsNoFeed text
     → All IsNoFeed (begun_with placeholder columns text)
@@ -74,7 +76,8 @@ pub window_plain : (placeholder : List ℕ) (room left right : ℕ) (text : List
 window_plain placeholder room left right text own plain =
     let inner : List ℕ = inner_part room left right text in
     let kept : All IsNoFeed inner = All-take IsNoFeed _ _ (All-drop IsNoFeed _ text plain) in
-    ended_plain placeholder (covered_end room left right placeholder text) _ own (begun_plain placeholder (covered_columns left placeholder inner) _ own (uncovered_plain left placeholder inner kept))
+    ended_plain placeholder (covered_end room left right placeholder text) _ own
+    (begun_plain placeholder (covered_columns left placeholder inner) _ own (uncovered_plain left placeholder inner kept))
 
 -- and neither does one of which stretches gave their place to a placeholder
 pub replaced_plain : (placeholder : List ℕ) (n : ℕ) (before after : List ℕ) → All IsNoFeed placeholder → AreReplaced placeholder n before after
@@ -86,7 +89,8 @@ replaced_plain placeholder (suc n) before after own (inr replaced) plain =
     let whole : All IsNoFeed (cut.front ++ cut.stretch ++ cut.back) = subst (All IsNoFeed) cut.before_is plain in
     let front : All IsNoFeed cut.front = left_of cut.front cut.stretch (left_of (cut.front ++ cut.stretch) cut.back whole) in
     let back : All IsNoFeed cut.back = right_of (cut.front ++ cut.stretch) cut.back whole in
-    let now : All IsNoFeed replaced.0 = subst (All IsNoFeed) (sym cut.after_is) (All-append IsNoFeed (cut.front ++ placeholder) cut.back (All-append IsNoFeed cut.front placeholder front own) back) in
+    let now : All IsNoFeed replaced.0 = subst (All IsNoFeed) (sym cut.after_is)
+    (All-append IsNoFeed (cut.front ++ placeholder) cut.back (All-append IsNoFeed cut.front placeholder front own) back) in
     replaced_plain placeholder n replaced.0 after own replaced.2 now
   where
     left_of : (xs ys : List ℕ) → All IsNoFeed (xs ++ ys) → All IsNoFeed xs
@@ -102,9 +106,11 @@ replaced_plain placeholder (suc n) before after own (inr replaced) plain =
 -- nor of what the gutter shows beside a line
 pub number_plain : (numbers : LineNumbers) (gutter n : ℕ) → All IsNoFeed (shown_number numbers gutter n)
 number_plain Shown gutter n =
-    All-append IsNoFeed (replicate (gutter - length (decimal n)) 32) (decimal n) (All-replicate IsNoFeed (gutter - length (decimal n)) 32 refl) (All-weaker IsDigit IsNoFeed digit_plain (decimal n) (decimal-all n))
+    All-append IsNoFeed (replicate (gutter - length (decimal n)) 32) (decimal n) (All-replicate IsNoFeed (gutter - length (decimal n)) 32 refl)
+    (All-weaker IsDigit IsNoFeed digit_plain (decimal n) (decimal-all n))
 number_plain Anonymized gutter n =
-    All-append IsNoFeed (replicate (gutter - 2) 32) (codes "LL") (All-replicate IsNoFeed (gutter - 2) 32 refl) (All-cons IsNoFeed 76 (76 ∷ []) refl (alone 76 refl))
+    All-append IsNoFeed (replicate (gutter - 2) 32) (codes "LL") (All-replicate IsNoFeed (gutter - 2) 32 refl)
+    (All-cons IsNoFeed 76 (76 ∷ []) refl (alone 76 refl))
 number_plain Hidden gutter n = All-replicate IsNoFeed gutter 32 refl
 
 separator_plain : (decor : DecorStyle) → All IsNoFeed (separator_of decor ∷ [])
@@ -115,7 +121,9 @@ left_plain : (decor : DecorStyle) (gutter : ℕ) (shown : List ℕ) → All IsNo
 left_plain decor gutter shown plain =
     let spaces : List Cell = replicate (gutter + 1 - length shown) SPACE in
     let end : List Cell = text_cells LineNumber (separator_of decor ∷ []) in
-    All-append HoldsNoFeed (text_cells LineNumber shown) (spaces ++ end) (cells_plain LineNumber shown plain) (All-append HoldsNoFeed spaces end (All-replicate HoldsNoFeed (gutter + 1 - length shown) SPACE refl) (cells_plain LineNumber (separator_of decor ∷ []) (separator_plain decor)))
+    All-append HoldsNoFeed (text_cells LineNumber shown) (spaces ++ end) (cells_plain LineNumber shown plain)
+    (All-append HoldsNoFeed spaces end (All-replicate HoldsNoFeed (gutter + 1 - length shown) SPACE refl)
+    (cells_plain LineNumber (separator_of decor ∷ []) (separator_plain decor)))
 
 -- a row whose characters from a cell on hold none has none there
 code_plain : (code : ℕ) (row : List Cell) → All IsNoFeed (row_text (drop code row)) → (c : ℕ) → code ≤ c → c < length row → HoldsNoFeed (get_or row c SPACE)
@@ -140,12 +148,16 @@ source_one_line r layout s k dropped row shows plain =
     let line : List ℕ = norm (chars_at (cow_str_bytes s.source) k) in
     let shown : List ℕ = row_text (drop layout.code row) in
     let own : All IsNoFeed placeholder = placeholder_plain layout.decor in
-    let windowed : All IsNoFeed (window placeholder room bounds.left bounds.right line) = window_plain placeholder room bounds.left bounds.right line own (norm-plain (chars_at (cow_str_bytes s.source) k) plain) in
-    let text : All IsNoFeed shown = replaced_plain placeholder (wide_spans room (length placeholder) s k) (window placeholder room bounds.left bounds.right line) shown own shows.window.shown_is windowed in
+    let windowed : All IsNoFeed (window placeholder room bounds.left bounds.right line) = window_plain placeholder room bounds.left bounds.right line own
+    (norm-plain (chars_at (cow_str_bytes s.source) k) plain) in
+    let text : All IsNoFeed shown = replaced_plain placeholder (wide_spans room (length placeholder) s k)
+    (window placeholder room bounds.left bounds.right line) shown own shows.window.shown_is windowed in
     let number : List ℕ = number_text r s.line_numbering layout.gutter (s.line_start + k) in
-    let left : HasNoFeed (cells_left layout.decor layout.gutter number) = left_plain layout.decor layout.gutter number (number_plain (line_numbers r s.line_numbering) layout.gutter (s.line_start + k)) in
+    let left : HasNoFeed (cells_left layout.decor layout.gutter number) = left_plain layout.decor layout.gutter number
+    (number_plain (line_numbers r s.line_numbering) layout.gutter (s.line_start + k)) in
     All-from_get_or HoldsNoFeed row SPACE (λ c within. elim (cases_lt c (layout.gutter + 2)) [
-      | inl before ↦ subst HoldsNoFeed (ap (λ cells. get_or cells c SPACE) (sym shows.left) ∙ get_or-take (layout.gutter + 2) row c SPACE before) (at_any (cells_left layout.decor layout.gutter number) left c)
+      | inl before ↦ subst HoldsNoFeed (ap (λ cells. get_or cells c SPACE) (sym shows.left) ∙ get_or-take (layout.gutter + 2) row c SPACE before)
+          (at_any (cells_left layout.decor layout.gutter number) left c)
       | inr after ↦ elim (cases_lt c layout.code) [
         | inr right ↦ code_plain layout.code row text c (omega (arith, right)) within
         | inl bars ↦ elim (cases_lt c (layout.gutter + 3)) [

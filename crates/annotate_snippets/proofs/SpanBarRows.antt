@@ -139,7 +139,8 @@ short_number decor gutter shown row same =
 
 -- ---- the rows
 
-module _ (r : Renderer) (layout : Layout) (closes : Bool) (s : Snippet Annotation) (spans : All (λ a. IsSpan (cow_str_bytes s.source) a.span.start a.span.end) s.markers.items) where
+module _ (r : Renderer) (layout : Layout) (closes : Bool) (s : Snippet Annotation)
+    (spans : All (λ a. IsSpan (cow_str_bytes s.source) a.span.start a.span.end) s.markers.items) where
   abbrev Open : ℕ → List Bar → Type 0
   Open k bars = AreOpen (source s) (marks s) k bars
 
@@ -156,10 +157,13 @@ module _ (r : Renderer) (layout : Layout) (closes : Bool) (s : Snippet Annotatio
   line_bars open_bars k row rows drawn are_open i d within a among long above below =
       let all : List (List Cell) = row ∷ rows_below rows in
       let bar : Bar = bar_by_place s a in
-      let past : Contains (bars_apart open_bars (bars_on s k)) bar = among_contains (bars_apart open_bars (bars_on s k)) bar (goes_past (source s) (marks s) spans k open_bars are_open a among long above below) in
+      let past : Contains (bars_apart open_bars (bars_on s k)) bar = among_contains (bars_apart open_bars (bars_on s k)) bar
+      (goes_past (source s) (marks s) spans k open_bars are_open a among long above below) in
       let own : HasOwnDepth bar open_bars = alone (source s) (marks s) spans k open_bars are_open a among long above (omega (arith, below)) in
-      let only : HasOwnDepth bar (bars_apart open_bars (bars_on s k)) = All-filter (λ (b : Bar). not (has_depth (bars_on s k) b.depth)) (λ (b : Bar). b.depth ≡ bar.depth → b ≡ bar) open_bars own in
-      ap (λ (cells : List Cell). get_or cells (bar_cell_of layout s a) SPACE) (get_or_any all i d [] within) ∙ bar_shown r layout (closes && length (rows_below rows) == length rows) s open_bars k all drawn bar past only i within
+      let only : HasOwnDepth bar (bars_apart open_bars (bars_on s k)) = All-filter (λ (b : Bar). not (has_depth (bars_on s k) b.depth))
+      (λ (b : Bar). b.depth ≡ bar.depth → b ≡ bar) open_bars own in
+      ap (λ (cells : List Cell). get_or cells (bar_cell_of layout s a) SPACE) (get_or_any all i d [] within)
+      ∙ bar_shown r layout (closes && length (rows_below rows) == length rows) s open_bars k all drawn bar past only i within
 
   -- and a row in place of lines
   elision_bars : (open_bars : List Bar) (n : ℕ) (row : List Cell) (rows : List NamedRow) → IsRowDrawn r layout closes s open_bars Elision row rows
@@ -168,7 +172,8 @@ module _ (r : Renderer) (layout : Layout) (closes : Bool) (s : Snippet Annotatio
       let bar : Bar = bar_by_place s a in
       let here : Contains open_bars bar = among_contains open_bars bar (are_open.all a among long above (omega (arith, below))) in
       let own : HasOwnDepth bar open_bars = alone (source s) (marks s) spans n open_bars are_open a among long above (omega (arith, below)) in
-      ap (λ (cells : List Cell). get_or cells (bar_cell_of layout s a) SPACE) drawn.0 ∙ elision_stands layout bar open_bars (bare_elision_row layout.decor layout.gutter) own here
+      ap (λ (cells : List Cell). get_or cells (bar_cell_of layout s a) SPACE) drawn.0
+      ∙ elision_stands layout bar open_bars (bare_elision_row layout.decor layout.gutter) own here
 
   -- a cell of bars is a space that has the depth of no span which touches line k
   abbrev HasSpaces : ℕ → List Cell → Type 0
@@ -183,16 +188,19 @@ module _ (r : Renderer) (layout : Layout) (closes : Bool) (s : Snippet Annotatio
   line_blank open_bars k row rows shows line depth some within =
       let cell : ℕ = layout.gutter + 2 + depth in
       let short = short_number layout.decor layout.gutter (number_text r s.line_numbering layout.gutter (s.line_start + k)) row shows.line.left in
-      highlighted_left layout.code line.dropped (filter (λ e. not (is_end_part e.annotation_type)) line.entries) line.plain line.highlighted line.highlights cell within ∙ line.shows.blank cell (omega (arith, short)) (λ same. omega (arith, same)) within
+      highlighted_left layout.code line.dropped (filter (λ e. not (is_end_part e.annotation_type)) line.entries) line.plain line.highlighted line.highlights
+      cell within ∙ line.shows.blank cell (omega (arith, short)) (λ same. omega (arith, same)) within
 
   -- so do they in a line's source row
   line_spaces : (open_bars : List Bar) (k : ℕ) (row : List Cell) (rows : List NamedRow) → IsRowOf r layout closes s (SourceRow k) row rows
       → IsRowDrawn r layout closes s open_bars (SourceRow k) row rows → Open k open_bars → HasSpaces k row
   line_spaces open_bars k row rows shows line are_open depth some within free =
-      let ends : All (λ (b : Bar). b.depth ≢ depth) (ends_of_bars line.entries) = subst (All (λ (b : Bar). b.depth ≢ depth)) (sym (bars_seen s k line.entries line.are)) (ends_apart (source s) (marks s) spans k depth free) in
+      let ends : All (λ (b : Bar). b.depth ≢ depth) (ends_of_bars line.entries) = subst (All (λ (b : Bar). b.depth ≢ depth))
+      (sym (bars_seen s k line.entries line.are)) (ends_apart (source s) (marks s) spans k depth free) in
       let others = open_apart (source s) (marks s) spans k depth open_bars are_open free in
       let last : Bool = closes && length (rows_below rows) == length rows in
-      line_source layout depth within line.margin.term_width last line.text line.dropped line.entries line.highlighted ends open_bars (row ∷ rows_below rows) line.drawn others (omega arith) ∙ line_blank open_bars k row rows shows line depth some within
+      line_source layout depth within line.margin.term_width last line.text line.dropped line.entries line.highlighted ends open_bars
+      (row ∷ rows_below rows) line.drawn others (omega arith) ∙ line_blank open_bars k row rows shows line depth some within
 
   -- and in none of its rows a bar stands there
   abbrev HasNoOthers : ℕ → List Cell → Type 0
@@ -204,17 +212,21 @@ module _ (r : Renderer) (layout : Layout) (closes : Bool) (s : Snippet Annotatio
       → IsRowDrawn r layout closes s open_bars (SourceRow k) row rows → Open k open_bars → All (HasNoOthers k) (row ∷ rows_below rows)
   line_others open_bars k row rows shows line are_open i d inside depth some within free =
       let all : List (List Cell) = row ∷ rows_below rows in
-      let ends : All (λ (b : Bar). b.depth ≢ depth) (ends_of_bars line.entries) = subst (All (λ (b : Bar). b.depth ≢ depth)) (sym (bars_seen s k line.entries line.are)) (ends_apart (source s) (marks s) spans k depth free) in
+      let ends : All (λ (b : Bar). b.depth ≢ depth) (ends_of_bars line.entries) = subst (All (λ (b : Bar). b.depth ≢ depth))
+      (sym (bars_seen s k line.entries line.are)) (ends_apart (source s) (marks s) spans k depth free) in
       let others = open_apart (source s) (marks s) spans k depth open_bars are_open free in
       let blank = line_blank open_bars k row rows shows line depth some within in
-      let clear = line_clear layout depth some within line.margin.term_width (closes && length (rows_below rows) == length rows) line.text line.dropped line.entries line.highlighted ends blank open_bars all line.drawn others i inside in
+      let clear = line_clear layout depth some within line.margin.term_width
+      (closes && length (rows_below rows) == length rows) line.text line.dropped line.entries line.highlighted ends blank open_bars all line.drawn others i
+      inside in
       subst (λ (cells : List Cell). IsNoBar layout.decor (get_or cells (layout.gutter + 2 + depth) SPACE)) (get_or_any all i [] d inside) clear
 
   -- and in a row in place of lines
   elision_spaces : (open_bars : List Bar) (n : ℕ) (row : List Cell) (rows : List NamedRow) → IsRowDrawn r layout closes s open_bars Elision row rows
       → Open n open_bars → HasSpaces n row
   elision_spaces open_bars n row rows drawn are_open depth some within free =
-      ap (λ (cells : List Cell). get_or cells (layout.gutter + 2 + depth) SPACE) drawn.0 ∙ gap_space layout depth within open_bars (open_apart (source s) (marks s) spans n depth open_bars are_open free) some
+      ap (λ (cells : List Cell). get_or cells (layout.gutter + 2 + depth) SPACE) drawn.0
+      ∙ gap_space layout depth within open_bars (open_apart (source s) (marks s) spans n depth open_bars are_open free) some
 
   -- a row of this name beside line k has its bars, and where it stands for lines spaces beside them
   record IsShown (name : RowName) (k : ℕ) (cells : List Cell) : Type 0 where
@@ -241,8 +253,11 @@ module _ (r : Renderer) (layout : Layout) (closes : Bool) (s : Snippet Annotatio
       let ks : List ℕ = lines_named rows in
       let up : n ≤ k = ready.lines.0 in
       let here : Open k open_bars = open_lower (source s) (marks s) spans n k open_bars ready.are_open up (λ a among long.
-      let ends = ready.ends a among long in
-      (past_next n k ks (first_line (cow_str_bytes s.source) a) ready.lines ends.0, past_next n k ks (last_line (cow_str_bytes s.source) a) ready.lines ends.1)) in
+      let ends = ready.ends a among long in (
+        past_next n k ks (first_line (cow_str_bytes s.source) a) ready.lines ends.0,
+        past_next n k ks
+            (last_line (cow_str_bytes s.source) a) ready.lines ends.1,
+      )) in
       let bars : All (HasBars Other k) (cells ∷ rows_below rows) = line_bars open_bars k cells rows ready.drawn.0 here in
       let others : All (HasNoOthers k) (cells ∷ rows_below rows) = line_others open_bars k cells rows ready.named.0 ready.drawn.0 here in
       let last : k ≡ k + 1 - 1 = omega arith in (
@@ -256,7 +271,11 @@ module _ (r : Renderer) (layout : Layout) (closes : Bool) (s : Snippet Annotatio
           drawn = ready.drawn.1;
           are_open = open_next (source s) (marks s) spans k open_bars here;
           lines = ready.lines.1;
-          ends = λ a among long. let ends = ready.ends a among long in (past_after n k ks (first_line (cow_str_bytes s.source) a) up ends.0, past_after n k ks (last_line (cow_str_bytes s.source) a) up ends.1);
+          ends = λ a among long. let ends = ready.ends a among long in (
+            past_after n k ks (first_line (cow_str_bytes s.source) a) up ends.0,
+            past_after n k ks
+                (last_line (cow_str_bytes s.source) a) up ends.1,
+          );
           below = subst (λ m. All (HasBars Other m) (rows_below rows)) last (All-tail (HasBars Other k) cells (rows_below rows) bars);
           others = subst (λ m. All (HasNoOthers m) (rows_below rows)) last (All-tail (HasNoOthers k) cells (rows_below rows) others);
         },
@@ -280,7 +299,12 @@ module _ (r : Renderer) (layout : Layout) (closes : Bool) (s : Snippet Annotatio
   one_row open_bars n (OfferedLine j) cells rows ready = absurd ready.named.0
   one_row open_bars n (RemovedLine i) cells rows ready = absurd ready.named.0
   one_row open_bars n Other cells rows ready = (
-    record { bars = All-head (HasBars Other (n - 1)) cells (rows_below rows) ready.below; spaces = λ wrong. cc wrong; others = All-head (HasNoOthers (n - 1)) cells (rows_below rows) ready.others },
+    record {
+      bars = All-head (HasBars Other (n - 1)) cells (rows_below rows) ready.below;
+      spaces = λ wrong.
+          cc wrong;
+      others = All-head (HasNoOthers (n - 1)) cells (rows_below rows) ready.others;
+    },
     record {
       named = ready.named.1;
       drawn = ready.drawn.1;
@@ -300,8 +324,10 @@ module _ (r : Renderer) (layout : Layout) (closes : Bool) (s : Snippet Annotatio
       subst (λ (y : NamedRow). IsShown y.name (here_line n y.name) y.cells) (head_same x row rows below is) (one_row open_bars n x.name x.cells rows ready).0
   all_rows open_bars n (x ∷ rows) ready (y ∷ above) row below is =
       let same : x ≡ y = head_same x y rows (above ++ row ∷ below) is in
-      let rest = all_rows (open_after s x.name open_bars) (next_line n x.name) rows (one_row open_bars n x.name x.cells rows ready).1 above row below (tail_same x y rows (above ++ row ∷ below) is) in
-      let line : line_from (next_line n x.name) above row.name ≡ line_from n (y ∷ above) row.name = sym (from_later n x.name x.cells above row.name) ∙ ap (λ z. line_from n (z ∷ above) row.name) same in
+      let rest = all_rows (open_after s x.name open_bars) (next_line n x.name) rows (one_row open_bars n x.name x.cells rows ready).1 above row below
+      (tail_same x y rows (above ++ row ∷ below) is) in
+      let line : line_from (next_line n x.name) above row.name ≡ line_from n (y ∷ above) row.name = sym (from_later n x.name x.cells above row.name)
+      ∙ ap (λ z. line_from n (z ∷ above) row.name) same in
       subst (λ k. IsShown row.name k row.cells) line rest
 
   -- what is known of one row: what its name says, and that it is drawn, where some bars are open above it
@@ -324,9 +350,15 @@ module _ (r : Renderer) (layout : Layout) (closes : Bool) (s : Snippet Annotatio
   renamed : (name : RowName) (row : NamedRow) (below : List NamedRow) → row.name ≡ name → IsKnown row below
       → IsKnown (record { name = name; cells = row.cells }) below
   renamed name row below is known =
-      record { named = subst (λ n. IsRowOf r layout closes s n row.cells below) is known.named; bars = known.bars; drawn = subst (λ n. IsRowDrawn r layout closes s known.bars n row.cells below) is known.drawn }
+      record {
+        named = subst (λ n. IsRowOf r layout closes s n row.cells below) is known.named;
+        bars = known.bars;
+        drawn = subst (λ n.
+            IsRowDrawn r layout closes s known.bars n row.cells below) is known.drawn;
+      }
 
-  module _ (a : Annotation) (among : Contains (marks s) a) (long : is_long (cow_str_bytes s.source) a ≡ true) (room : layout.gutter + 2 + depth_of (source s) (marks s) a < layout.code) where
+  module _ (a : Annotation) (among : Contains (marks s) a) (long : is_long (cow_str_bytes s.source) a ≡ true)
+      (room : layout.gutter + 2 + depth_of (source s) (marks s) a < layout.code) where
     abbrev bar : Bar
     bar = bar_by_place s a
 
@@ -343,26 +375,35 @@ module _ (r : Renderer) (layout : Layout) (closes : Bool) (s : Snippet Annotatio
         → first_line (cow_str_bytes s.source) a ≡ k → BarBegins layout bar (row ∷ rows_below rows)
     line_begins open_bars k row rows shows line here =
         let ends : bars_on s k ≡ ends_of_bars line.entries = sym (bars_seen s k line.entries line.are) in
-        let own : Contains (ends_of_bars line.entries) bar = subst (λ bs. Contains bs bar) ends (among_contains (bars_on s k) bar (start_here (source s) (marks s) k a among long here)) in
-        let only : HasOwnDepth bar (ends_of_bars line.entries) = subst (HasOwnDepth bar) ends (own_on_line (source s) (marks s) spans k a among long (omega (arith, here)) (omega (arith, here, longer (source s) (marks s) spans a among long))) in
+        let own : Contains (ends_of_bars line.entries) bar = subst (λ bs.
+        Contains bs bar) ends (among_contains (bars_on s k) bar (start_here (source s) (marks s) k a among long here)) in
+        let only : HasOwnDepth bar (ends_of_bars line.entries) = subst (HasOwnDepth bar) ends
+        (own_on_line (source s) (marks s) spans k a among long (omega (arith, here))
+        (omega (arith, here, longer (source s) (marks s) spans a among long))) in
         let none = none_there k (MultilineEnd bar.depth) line.entries line.are (no_end (source s) (marks s) spans k a among long here) in
         let blank = line_blank open_bars k row rows shows line bar.depth (depth-within (source s) (marks s) a among long).0 room in
-        begins layout bar room line.entries own only line.margin.term_width (closes && length (rows_below rows) == length rows) line.text line.dropped open_bars line.highlighted (row ∷ rows_below rows) line.drawn none blank
+        begins layout bar room line.entries own only line.margin.term_width
+        (closes && length (rows_below rows) == length rows) line.text line.dropped open_bars line.highlighted (row ∷ rows_below rows) line.drawn none blank
 
     -- and ends in those of the last
     line_ends : (open_bars : List Bar) (k : ℕ) (row : List Cell) (rows : List NamedRow) → IsRowDrawn r layout closes s open_bars (SourceRow k) row rows
         → last_line (cow_str_bytes s.source) a ≡ k → BarEnds layout bar (row ∷ rows_below rows)
     line_ends open_bars k row rows line here =
         let ends : bars_on s k ≡ ends_of_bars line.entries = sym (bars_seen s k line.entries line.are) in
-        let own : Contains (ends_of_bars line.entries) bar = subst (λ bs. Contains bs bar) ends (among_contains (bars_on s k) bar (end_here (source s) (marks s) k a among long here)) in
-        let only : HasOwnDepth bar (ends_of_bars line.entries) = subst (HasOwnDepth bar) ends (own_on_line (source s) (marks s) spans k a among long (omega (arith, here, longer (source s) (marks s) spans a among long)) (omega (arith, here))) in
+        let own : Contains (ends_of_bars line.entries) bar = subst (λ bs.
+        Contains bs bar) ends (among_contains (bars_on s k) bar (end_here (source s) (marks s) k a among long here)) in
+        let only : HasOwnDepth bar (ends_of_bars line.entries) = subst (HasOwnDepth bar) ends
+        (own_on_line (source s) (marks s) spans k a among long (omega (arith, here, longer (source s) (marks s) spans a among long))
+        (omega (arith, here))) in
         let none = none_there k (MultilineStart bar.depth) line.entries line.are (no_start (source s) (marks s) spans k a among long here) in
-        bar_ends layout bar room line.entries own only line.margin.term_width (closes && length (rows_below rows) == length rows) line.text line.dropped open_bars line.highlighted (row ∷ rows_below rows) line.drawn none
+        bar_ends layout bar room line.entries own only line.margin.term_width
+        (closes && length (rows_below rows) == length rows) line.text line.dropped open_bars line.highlighted (row ∷ rows_below rows) line.drawn none
 
   -- so the rows of a snippet's lines show the bars of its spans
   pub bars_shown : (rows : List NamedRow) → AreRowsOf r layout closes s rows → AreRowsDrawn r layout closes s [] rows → rows_below rows ≡ []
       → IsAscending (lines_named rows)
-      → All (λ a. Contains (lines_named rows) (first_line (cow_str_bytes s.source) a) × Contains (lines_named rows) (last_line (cow_str_bytes s.source) a)) (marks s)
+      → All (λ a. Contains (lines_named rows) (first_line (cow_str_bytes s.source) a) × Contains (lines_named rows) (last_line (cow_str_bytes s.source) a))
+      (marks s)
       → code_after layout.gutter (deepest (source s) (marks s)) ≤ layout.code → ShowsBars r layout s rows
   bars_shown rows named drawn none_above ascends ends room =
       let ks : List ℕ = lines_named rows in
@@ -372,33 +413,41 @@ module _ (r : Renderer) (layout : Layout) (closes : Bool) (s : Snippet Annotatio
         drawn = drawn;
         are_open = none_open (source s) (marks s) spans;
         lines = climbs_from 0 ks (λ k more same. omega arith) ascends;
-        ends = λ a among long. let shown = All-contains (λ a. Contains ks (first_line text a) × Contains ks (last_line text a)) (marks s) a ends among in (inr (contains_among ks (first_line text a) shown.0), inr (contains_among ks (last_line text a) shown.1));
+        ends = λ a among long. let shown = All-contains (λ a. Contains ks (first_line text a) × Contains ks (last_line text a)) (marks s) a ends among in
+            (inr (contains_among ks (first_line text a) shown.0), inr (contains_among ks (last_line text a) shown.1));
         below = subst (All (HasBars Other 0)) (sym none_above) (All-nil (HasBars Other 0));
         others = subst (All (HasNoOthers 0)) (sym none_above) (All-nil (HasNoOthers 0));
       } in
       record {
         stand = λ a among long above row below is begun ended.
             let line : line_from 0 above row.name ≡ line_beside above row.name = from_start above row.name in
-            (all_rows [] 0 rows ready above row below is).bars a among long (omega (arith, line, begun)) (omega (arith, line, ended)) ∙ ap (bar_beside layout row.name) (bar_given s a long);
+            (all_rows [] 0 rows ready above row below is).bars a among long (omega (arith, line, begun)) (omega (arith, line, ended))
+            ∙ ap (bar_beside layout row.name) (bar_given s a long);
         begin = λ a among long above row below is name.
             let line = renamed (SourceRow (first_line text a)) row below name (row_known [] rows named drawn above row below is) in
-            subst (λ bar. BarBegins layout bar (row.cells ∷ rows_below below)) (bar_given s a long) (line_begins a among long (deep a among long) line.bars (first_line text a) row.cells below line.named line.drawn refl);
+            subst (λ bar. BarBegins layout bar (row.cells ∷ rows_below below)) (bar_given s a long)
+            (line_begins a among long (deep a among long) line.bars (first_line text a) row.cells below line.named line.drawn refl);
         end = λ a among long above row below is name.
             let line = renamed (SourceRow (last_line text a)) row below name (row_known [] rows named drawn above row below is) in
-            subst (λ bar. BarEnds layout bar (row.cells ∷ rows_below below)) (bar_given s a long) (line_ends a among long (deep a among long) line.bars (last_line text a) row.cells below line.drawn refl);
+            subst (λ bar. BarEnds layout bar (row.cells ∷ rows_below below)) (bar_given s a long)
+            (line_ends a among long (deep a among long) line.bars (last_line text a) row.cells below line.drawn refl);
         within = λ a among long. let depth = depth-within (source s) (marks s) a among long in inside (depth_of (source s) (marks s) a) depth.0 depth.1;
         spaces = λ above row below is shows c from to free.
             let cell : layout.gutter + 2 + (c - (layout.gutter + 2)) ≡ c = omega (arith, from) in
-            ap (λ n. get_or row.cells n SPACE) (sym cell) ∙ (all_rows [] 0 rows ready above row below is).spaces shows (c - (layout.gutter + 2)) (omega (arith, from)) (omega (arith, to, cell)) (free_there above row c from free);
+            ap (λ n. get_or row.cells n SPACE) (sym cell) ∙ (all_rows [] 0 rows ready above row below is).spaces shows (c - (layout.gutter + 2))
+            (omega (arith, from)) (omega (arith, to, cell)) (free_there above row c from free);
         others = λ above row below is c from to free.
             let cell : layout.gutter + 2 + (c - (layout.gutter + 2)) ≡ c = omega (arith, from) in
-            subst (λ n. IsNoBar layout.decor (get_or row.cells n SPACE)) cell ((all_rows [] 0 rows ready above row below is).others (c - (layout.gutter + 2)) (omega (arith, from)) (omega (arith, to, cell)) (free_there above row c from free));
+            subst (λ n. IsNoBar layout.decor (get_or row.cells n SPACE)) cell
+            ((all_rows [] 0 rows ready above row below is).others (c - (layout.gutter + 2)) (omega (arith, from)) (omega (arith, to, cell))
+            (free_there above row c from free));
         apart = λ a b among-a among-b long-a long-b from to same.
             bytes_same (source s) a b (one_place (source s) (marks s) spans a b among-a among-b long-a long-b from to (omega (arith, same)));
       }
     where
       free_there : (above : List NamedRow) (row : NamedRow) (c : ℕ) → layout.gutter + 3 ≤ c
-          → All (λ a. is_long (cow_str_bytes s.source) a ≡ true → touches (cow_str_bytes s.source) a (line_beside above row.name) ≡ true → bar_cell_of layout s a ≢ c) (marks s)
+          → All (λ a. is_long (cow_str_bytes s.source) a ≡ true → touches (cow_str_bytes s.source) a (line_beside above row.name) ≡ true
+          → bar_cell_of layout s a ≢ c) (marks s)
           → IsFreeAt (source s) (marks s) spans (line_from 0 above row.name) (c - (layout.gutter + 2))
       free_there above row c from free a among long first last same =
           let text : List ℕ = cow_str_bytes s.source in
@@ -407,7 +456,8 @@ module _ (r : Renderer) (layout : Layout) (closes : Bool) (s : Snippet Annotatio
           let up : leb (first_line text a) k ≡ true = le-leb (first_line text a) k (omega (arith, first, line)) in
           let down : leb k (last_line text a) ≡ true = le-leb k (last_line text a) (omega (arith, last, line)) in
           let touched : touches text a k ≡ true = and_from (leb (first_line text a) k) (leb k (last_line text a)) up down in
-          All-contains (λ a. is_long text a ≡ true → touches text a k ≡ true → bar_cell_of layout s a ≢ c) (marks s) a free among long touched (omega (arith, same, from))
+          All-contains (λ a. is_long text a ≡ true → touches text a k ≡ true → bar_cell_of layout s a ≢ c) (marks s) a free among long touched
+          (omega (arith, same, from))
 
       inside : (depth : ℕ) → 0 < depth → depth ≤ deepest (source s) (marks s)
           → (layout.gutter + 3 ≤ layout.gutter + 2 + depth) × (layout.gutter + 2 + depth + 1 < layout.code)

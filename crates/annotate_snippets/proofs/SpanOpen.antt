@@ -83,7 +83,8 @@ module _ (s : Source) (marks : List Annotation) where
         | inl single ↦ (let made = map_cases (single_part s) (filter (is_short s.text) marks) p single in absurd (no_bar (ap has made.2 ∙ has_it)))
         | inr long ↦
             let e : IsEndOf places spans_in_order spans_in_order p bar = end_of s places [] spans_in_order spans_in_order refl p bar long has_it in
-            let made = map_cases (long_entry s) (filter (is_long s.text) marks) e.span (in_order_cases stands_before (map (long_entry s) (filter (is_long s.text) marks)) e.span e.among) in
+            let made = map_cases (long_entry s) (filter (is_long s.text) marks) e.span
+            (in_order_cases stands_before (map (long_entry s) (filter (is_long s.text) marks)) e.span e.among) in
             let given = filter_cases (is_long s.text) marks made.0 made.1 in
             let first : (long_entry s made.0).start.line ≡ s.first + first_line s.text made.0 = start-line s made.0.span.start made.0.span.end in
             let last : (long_entry s made.0).end.line ≡ s.first + last_line s.text made.0 = end-line s made.0.span.start made.0.span.end in
@@ -120,14 +121,16 @@ module _ (s : Source) (marks : List Annotation) where
   place_ends : (a : Annotation) → Contains marks a → is_long s.text a ≡ true → HasEnds places spans_in_order longs (place_in s a)
   place_ends a among long =
       let given : Among (filter (is_long s.text) marks) a = among_filter (is_long s.text) marks a (contains_among marks a among) long in
-      let ordered : Among spans_in_order (long_entry s a) = among_in_order stands_before (map (long_entry s) (filter (is_long s.text) marks)) (long_entry s a) (among_map (long_entry s) (filter (is_long s.text) marks) a given) in
+      let ordered : Among spans_in_order (long_entry s a) = among_in_order stands_before (map (long_entry s) (filter (is_long s.text) marks)) (long_entry s a)
+      (among_map (long_entry s) (filter (is_long s.text) marks) a given) in
       ends_of s places [] spans_in_order spans_in_order refl (place_in s a) (long_entry s a) ordered refl
 
   -- an entry of a span's place that stands on line k gives its bar
   gives_bar : (k : ℕ) (p : PartEntry) (place : LongExtent) → Among longs p → p.entry.start.line ≡ s.first + k → has p ≡ Some (bar_at_place s marks place)
       → Among (bars_of_line s marks k) (bar_at_place s marks place)
   gives_bar k p place among line is =
-      among_filter_map has (parts_on s marks k) p (bar_at_place s marks place) (among_filter (on_line k) (made_parts s marks) p (among_right singles longs p among) (eq-eqb p.entry.start.line (s.first + k) line)) is
+      among_filter_map has (parts_on s marks k) p (bar_at_place s marks place)
+      (among_filter (on_line k) (made_parts s marks) p (among_right singles longs p among) (eq-eqb p.entry.start.line (s.first + k) line)) is
 
   -- where a span begins its bar is one of the line's
   pub start_here : (k : ℕ) (a : Annotation) → Contains marks a → is_long s.text a ≡ true → first_line s.text a ≡ k
@@ -138,7 +141,8 @@ module _ (s : Source) (marks : List Annotation) where
       let depth : ℕ = depth_among places place in
       let line : ends.span.start.line ≡ (long_entry s a).start.line = ap (λ (p : LongExtent). p.first) ends.place_is in
       let first : (long_entry s a).start.line ≡ s.first + first_line s.text a = start-line s a.span.start a.span.end in
-      gives_bar k (start_part ends.span depth) place ends.start (omega (arith, line, first, here)) (ap (λ b. Some (record { depth = depth; primary = b })) ends.primary)
+      gives_bar k (start_part ends.span depth) place ends.start (omega (arith, line, first, here))
+      (ap (λ b. Some (record { depth = depth; primary = b })) ends.primary)
 
   -- and where it ends
   pub end_here : (k : ℕ) (a : Annotation) → Contains marks a → is_long s.text a ≡ true → last_line s.text a ≡ k
@@ -149,20 +153,25 @@ module _ (s : Source) (marks : List Annotation) where
       let depth : ℕ = depth_among places place in
       let line : ends.span.end.line ≡ (long_entry s a).end.line = ap (λ (p : LongExtent). p.last) ends.place_is in
       let last : (long_entry s a).end.line ≡ s.first + last_line s.text a = end-line s a.span.start a.span.end in
-      gives_bar k (end_part ends.span (MultilineEnd depth)) place ends.end (omega (arith, line, last, here)) (ap (λ b. Some (record { depth = depth; primary = b })) ends.primary)
+      gives_bar k (end_part ends.span (MultilineEnd depth)) place ends.end (omega (arith, line, last, here))
+      (ap (λ b. Some (record { depth = depth; primary = b })) ends.primary)
 
 -- ---- bars that none of some others closes or has open
 
 apart_cases : (bars others : List Bar) (bar : Bar) → Among (bars_apart bars others) bar
     → Among bars bar × ((b : Bar) → Among others b → b.depth ≡ bar.depth → ⊥)
 apart_cases bars others bar here =
-    let found = filter_cases (λ (b : Bar). not (has_depth others b.depth)) bars bar here in
-    (found.0, λ b among same. both_ways (has_depth others bar.depth) (not-true (has_depth others bar.depth) found.1) (any_among (λ (x : Bar). x.depth == bar.depth) others b among (eq-eqb b.depth bar.depth same)))
+    let found = filter_cases (λ (b : Bar). not (has_depth others b.depth)) bars bar here in (
+      found.0,
+      λ b among same. both_ways (has_depth others bar.depth) (not-true (has_depth others bar.depth) found.1)
+          (any_among (λ (x : Bar). x.depth == bar.depth) others b among (eq-eqb b.depth bar.depth same)),
+    )
 
 among_apart : (bars others : List Bar) (bar : Bar) → Among bars bar → ((b : Bar) → Among others b → b.depth ≡ bar.depth → ⊥)
     → Among (bars_apart bars others) bar
 among_apart bars others bar here none =
-    let no : has_depth others bar.depth ≡ false = false_from_ne_true (has_depth others bar.depth) (λ yes. some (any_cases (λ (x : Bar). x.depth == bar.depth) others yes)) in
+    let no : has_depth others bar.depth ≡ false = false_from_ne_true (has_depth others bar.depth) (λ yes.
+    some (any_cases (λ (x : Bar). x.depth == bar.depth) others yes)) in
     among_filter (λ (b : Bar). not (has_depth others b.depth)) bars bar here (ap not no)
   where
     some : (x : Bar) × Among others x × ((x.depth == bar.depth) ≡ true) → ⊥
@@ -189,7 +198,8 @@ module _ (s : Source) (marks : List Annotation) (spans : All (λ a. IsSpan s.tex
   -- a span of several lines ends below its first line
   pub longer : (a : Annotation) → Contains marks a → is_long s.text a ≡ true → first_line s.text a < last_line s.text a
   longer a among long =
-      let up : first_line s.text a ≤ last_line s.text a = lines_ordered s.text a (All-contains (λ a. IsSpan s.text a.span.start a.span.end) marks a spans among) in
+      let up : first_line s.text a ≤ last_line s.text a = lines_ordered s.text a
+      (All-contains (λ a. IsSpan s.text a.span.start a.span.end) marks a spans among) in
       let other : is_single_line s.text a ≡ false = not-true (is_single_line s.text a) (and_parts (is_marking a.kind) (not (is_single_line s.text a)) long).1 in
       elim (cases_eq (last_line s.text a) (first_line s.text a)) [
         | inl same ↦ absurd (both_ways (is_single_line s.text a) other (eq-eqb (last_line s.text a) (first_line s.text a) same))
@@ -272,7 +282,8 @@ module _ (s : Source) (marks : List Annotation) (spans : All (λ a. IsSpan s.tex
         let depth : depth_of s marks is.span ≡ depth_of s marks a = sym (ap (λ (x : Bar). x.depth) is.bar_is) in
         elim is.line [
           | inl start ↦ two_parts (sym start.0 ∙ end)
-          | inr last ↦ (let lines = same_lines is.span a (one_place is.span a is.among among is.long long (omega (arith, last.1, order, order-a, here)) (omega (arith, last.1, here)) depth) in omega (arith, lines.1, last.1, here, order-a))
+          | inr last ↦ (let lines = same_lines is.span a (one_place is.span a is.among among is.long long (omega (arith, last.1, order, order-a, here))
+              (omega (arith, last.1, here)) depth) in omega (arith, lines.1, last.1, here, order-a))
         ]
       where
         two_parts : {d e : ℕ} → MultilineStart d ≡ MultilineEnd e → ⊥
@@ -288,7 +299,8 @@ module _ (s : Source) (marks : List Annotation) (spans : All (λ a. IsSpan s.tex
         let order-a = longer a among long in
         let depth : depth_of s marks is.span ≡ depth_of s marks a = sym (ap (λ (x : Bar). x.depth) is.bar_is) in
         elim is.line [
-          | inl first ↦ (let lines = same_lines is.span a (one_place is.span a is.among among is.long long (omega (arith, first.1, here)) (omega (arith, first.1, order, order-a, here)) depth) in omega (arith, lines.0, first.1, here, order-a))
+          | inl first ↦ (let lines = same_lines is.span a (one_place is.span a is.among among is.long long (omega (arith, first.1, here))
+              (omega (arith, first.1, order, order-a, here)) depth) in omega (arith, lines.0, first.1, here, order-a))
           | inr end ↦ two_parts (sym start ∙ end.0)
         ]
       where
@@ -301,7 +313,8 @@ module _ (s : Source) (marks : List Annotation) (spans : All (λ a. IsSpan s.tex
 
   -- the bars that are open above a line are open above a lower one, where no span begins or ends between
   pub open_lower : (j k : ℕ) (bars : List Bar) → AreOpen s marks j bars → j ≤ k
-      → ((a : Annotation) → Contains marks a → is_long s.text a ≡ true → ((first_line s.text a < j) ⊎ (k ≤ first_line s.text a)) × ((last_line s.text a < j) ⊎ (k ≤ last_line s.text a)))
+      → ((a : Annotation) → Contains marks a → is_long s.text a ≡ true → ((first_line s.text a < j) ⊎ (k ≤ first_line s.text a))
+      × ((last_line s.text a < j) ⊎ (k ≤ last_line s.text a)))
       → AreOpen s marks k bars
   open_lower j k bars open_bars lower between =
       record {
@@ -316,7 +329,8 @@ module _ (s : Source) (marks : List Annotation) (spans : All (λ a. IsSpan s.tex
               below = elim (between o.span o.among o.long).1 [ inl before ↦ absurd (omega (arith, before, o.below)) | inr after ↦ after ];
             };
         all = λ a among long above below.
-            open_bars.all a among long (elim (between a among long).0 [ inl before ↦ before | inr after ↦ absurd (omega (arith, after, above)) ]) (omega (arith, lower, below));
+            open_bars.all a among long (elim (between a among long).0 [ inl before ↦ before | inr after ↦ absurd (omega (arith, after, above)) ])
+            (omega (arith, lower, below));
       }
 
   module _ (k : ℕ) (bars : List Bar) (open_bars : AreOpen s marks k bars) where
@@ -327,15 +341,18 @@ module _ (s : Source) (marks : List Annotation) (spans : All (λ a. IsSpan s.tex
     pub goes_past : (a : Annotation) → Contains marks a → is_long s.text a ≡ true → first_line s.text a < k → k < last_line s.text a
         → Among (bars_apart bars ends) (bar_at_place s marks (place_in s a))
     goes_past a among long above below =
-        among_apart bars ends (bar_at_place s marks (place_in s a)) (open_bars.all a among long above (omega (arith, below))) (λ b here same. none b (end_bar s marks k b here) same)
+        among_apart bars ends (bar_at_place s marks (place_in s a)) (open_bars.all a among long above (omega (arith, below))) (λ b here same.
+        none b (end_bar s marks k b here) same)
       where
         none : (b : Bar) → IsBarOf s marks k b → b.depth ≡ depth_of s marks a → ⊥
         none b is same =
             let order = longer is.span is.among is.long in
             let depth : depth_of s marks a ≡ depth_of s marks is.span = sym same ∙ ap (λ (x : Bar). x.depth) is.bar_is in
             elim is.line [
-              | inl first ↦ (let lines = same_lines a is.span (one_place a is.span among is.among long is.long (omega (arith, above, first, order)) (omega (arith, below, first)) depth) in omega (arith, above, first, lines.0))
-              | inr last ↦ (let lines = same_lines a is.span (one_place a is.span among is.among long is.long (omega (arith, above, last)) (omega (arith, below, last, order)) depth) in omega (arith, below, last, lines.1))
+              | inl first ↦ (let lines = same_lines a is.span (one_place a is.span among is.among long is.long (omega (arith, above, first, order))
+                  (omega (arith, below, first)) depth) in omega (arith, above, first, lines.0))
+              | inr last ↦ (let lines = same_lines a is.span (one_place a is.span among is.among long is.long (omega (arith, above, last))
+                  (omega (arith, below, last, order)) depth) in omega (arith, below, last, lines.1))
             ]
 
     -- no other bar that is open has its depth
@@ -345,7 +362,8 @@ module _ (s : Source) (marks : List Annotation) (spans : All (λ a. IsSpan s.tex
         all_from_among (λ (b : Bar). b.depth ≡ depth_of s marks a → b ≡ bar_at_place s marks (place_in s a)) bars (λ b here same.
         let o = open_bars.own b here in
         let depth : depth_of s marks o.span ≡ depth_of s marks a = sym (ap (λ (x : Bar). x.depth) o.bar_is) ∙ same in
-        o.bar_is ∙ ap (bar_at_place s marks) (one_place o.span a o.among among o.long long (omega (arith, o.above, below)) (omega (arith, o.below, above)) depth))
+        o.bar_is ∙ ap (bar_at_place s marks) (one_place o.span a o.among among o.long long (omega (arith, o.above, below))
+        (omega (arith, o.below, above)) depth))
 
     -- a bar that is open above the line, or that one of its spans opens, ends below it
     left_open : (bar : Bar) → Among (open_past bars ends) bar → IsOpenBar s marks (k + 1) bar
@@ -361,7 +379,8 @@ module _ (s : Source) (marks : List Annotation) (spans : All (λ a. IsSpan s.tex
                 bar_is = o.bar_is;
                 above = omega (arith, o.above);
                 below = elim (cases_eq (last_line s.text o.span) k) [
-                  | inl here ↦ absurd (found.1 (bar_at_place s marks (place_in s o.span)) (end_here s marks k o.span o.among o.long here) (sym (ap (λ (x : Bar). x.depth) o.bar_is)))
+                  | inl here ↦ absurd (found.1 (bar_at_place s marks (place_in s o.span)) (end_here s marks k o.span o.among o.long here)
+                      (sym (ap (λ (x : Bar). x.depth) o.bar_is)))
                   | inr lower ↦ omega (arith, o.below, lower)
                 ];
               }
@@ -371,7 +390,8 @@ module _ (s : Source) (marks : List Annotation) (spans : All (λ a. IsSpan s.tex
               let order = longer is.span is.among is.long in
               let first : first_line s.text is.span ≡ k = elim is.line [
                 | inl at ↦ at
-                | inr last ↦ absurd (found.1 (bar_at_place s marks (place_in s is.span)) (open_bars.all is.span is.among is.long (omega (arith, last, order)) (omega (arith, last))) (sym (ap (λ (x : Bar). x.depth) is.bar_is)))
+                | inr last ↦ absurd (found.1 (bar_at_place s marks (place_in s is.span))
+                    (open_bars.all is.span is.among is.long (omega (arith, last, order)) (omega (arith, last))) (sym (ap (λ (x : Bar). x.depth) is.bar_is)))
               ] in
               record { span = is.span; among = is.among; long = is.long; bar_is = is.bar_is; above = omega (arith, first); below = omega (arith, first, order) }
         ]
@@ -383,8 +403,10 @@ module _ (s : Source) (marks : List Annotation) (spans : All (λ a. IsSpan s.tex
           own = left_open;
           all = λ a among long above below.
               elim (cases_lt (first_line s.text a) k) [
-                | inl higher ↦ among_left (bars_apart bars ends) (bars_apart ends bars) (bar_at_place s marks (place_in s a)) (goes_past a among long higher (omega (arith, below)))
-                | inr here ↦ among_right (bars_apart bars ends) (bars_apart ends bars) (bar_at_place s marks (place_in s a)) (begins a among long (omega (arith, here, above)))
+                | inl higher ↦ among_left (bars_apart bars ends) (bars_apart ends bars) (bar_at_place s marks (place_in s a))
+                    (goes_past a among long higher (omega (arith, below)))
+                | inr here ↦ among_right (bars_apart bars ends) (bars_apart ends bars) (bar_at_place s marks (place_in s a))
+                    (begins a among long (omega (arith, here, above)))
               ];
         }
       where
@@ -395,5 +417,6 @@ module _ (s : Source) (marks : List Annotation) (spans : All (λ a. IsSpan s.tex
             among_apart ends bars (bar_at_place s marks (place_in s a)) (start_here s marks k a among long first) (λ b here same.
             let o = open_bars.own b here in
             let depth : depth_of s marks o.span ≡ depth_of s marks a = sym (ap (λ (x : Bar). x.depth) o.bar_is) ∙ same in
-            let lines = same_lines o.span a (one_place o.span a o.among among o.long long (omega (arith, o.above, first, order)) (omega (arith, o.below, first)) depth) in
+            let lines = same_lines o.span a (one_place o.span a o.among among o.long long (omega (arith, o.above, first, order))
+            (omega (arith, o.below, first)) depth) in
             omega (arith, lines.0, o.above, first))

@@ -30,7 +30,8 @@ promoted-kind before e =
     let drawn : Entry = record e { kind = Primary } in
     elim (cases_Bool (is_promoted before e)) [
       | inl so ↦ ap (λ (d : Entry). is_primary d.kind) (cond-true (is_promoted before e) drawn e so) ∙ sym so
-      | inr other ↦ ap (λ (d : Entry). is_primary d.kind) (cond-false (is_promoted before e) drawn e other) ∙ (or_parts (is_primary e.kind) (is_primary_at before (long_place e)) other).0 ∙ sym other
+      | inr other ↦ ap (λ (d : Entry). is_primary d.kind) (cond-false (is_promoted before e) drawn e other)
+          ∙ (or_parts (is_primary e.kind) (is_primary_at before (long_place e)) other).0 ∙ sym other
     ]
 
 -- it keeps its place
@@ -43,7 +44,8 @@ none_later : (e : Entry) (later : List Entry) → stands_among e later ≡ false
 none_later e [] none = refl
 none_later e (d ∷ later) none =
     let parts = or_parts (same_place (long_place e) (long_place d)) (stands_among e later) none in
-    ap (λ b. (is_primary d.kind && b) || is_primary_at later (long_place e)) parts.0 ∙ neither (is_primary d.kind) (is_primary_at later (long_place e)) (none_later e later parts.1)
+    ap (λ b. (is_primary d.kind && b) || is_primary_at later (long_place e)) parts.0
+    ∙ neither (is_primary d.kind) (is_primary_at later (long_place e)) (none_later e later parts.1)
   where
     neither : (a b : Bool) → b ≡ false → ((a && false) || b) ≡ false
     neither true b is = is
@@ -56,7 +58,9 @@ kind_drawn before e later last =
     let place = long_place e in
     let test : Entry → Bool = λ d. is_primary d.kind && same_place place (long_place d) in
     let earlier : Bool = is_primary_at before place in
-    let after : earlier || ((is_primary e.kind && true) || false) ≡ earlier || ((is_primary e.kind && true) || is_primary_at later place) = ap (λ b. earlier || ((is_primary e.kind && true) || b)) (sym (none_later e later last)) in
+    let after : earlier || ((is_primary e.kind && true) || false) ≡ earlier
+    || ((is_primary e.kind && true) || is_primary_at later place) = ap (λ b.
+    earlier || ((is_primary e.kind && true) || b)) (sym (none_later e later last)) in
     let itself = ap (λ b. earlier || ((is_primary e.kind && b) || is_primary_at later place)) (sym (same-refl place)) in
     promoted-kind before e ∙ either (is_primary e.kind) earlier ∙ after ∙ itself ∙ sym (list_any-append test before (e ∷ later))
   where
@@ -89,7 +93,8 @@ further places all own parts place ends =
 
 last_ends : (s : Source) (places : List LongExtent) (before : List Entry) (e : Entry) (later : List Entry) (others : List PartEntry)
     → stands_among e later ≡ false
-    → HasEnds places (before ++ e ∷ later) (span_parts s (depth_among places (long_place e)) (stands_among e later) (promoted before e) ++ others) (long_place e)
+    → HasEnds places (before ++ e ∷ later) (span_parts s (depth_among places (long_place e)) (stands_among e later) (promoted before e) ++ others)
+    (long_place e)
 last_ends s places before e later others last =
     let depth : ℕ = depth_among places (long_place e) in
     let drawn : Entry = promoted before e in
@@ -100,8 +105,10 @@ last_ends s places before e later others last =
       span = drawn;
       place-is = promoted_place before e;
       primary = kind_drawn before e later last;
-      start = among_left (span_parts s depth (stands_among e later) drawn) others start (subst (λ b. Among (span_parts s depth b drawn) start) (sym last) (inl refl));
-      end = among_left (span_parts s depth (stands_among e later) drawn) others end (subst (λ b. Among (span_parts s depth b drawn) end) (sym last) (inr (among_right bars (end ∷ []) end (inl refl))));
+      start = among_left (span_parts s depth (stands_among e later) drawn) others start
+          (subst (λ b. Among (span_parts s depth b drawn) start) (sym last) (inl refl));
+      end = among_left (span_parts s depth (stands_among e later) drawn) others end
+          (subst (λ b. Among (span_parts s depth b drawn) end) (sym last) (inr (among_right bars (end ∷ []) end (inl refl))));
     }
 
 -- a span's place has them
@@ -109,16 +116,21 @@ pub ends_of : (s : Source) (places : List LongExtent) (before later all : List E
     → long_place e ≡ place → HasEnds places all (long_parts s places before later) place
 ends_of s places before [] all is place e here at = absurd here
 ends_of s places before (f ∷ later) all is place e (inr among) at =
-    further places all (span_parts s (depth_among places (long_place f)) (stands_among f later) (promoted before f)) (long_parts s places (before ++ f ∷ []) later) place (ends_of s places (before ++ f ∷ []) later all (is ∙ sym (append_assoc before (f ∷ []) later)) place e among at)
+    further places all (span_parts s (depth_among places (long_place f)) (stands_among f later) (promoted before f))
+    (long_parts s places (before ++ f ∷ []) later) place (ends_of s places (before ++ f ∷ []) later all
+    (is ∙ sym (append_assoc before (f ∷ []) later)) place e among at)
 ends_of s places before (f ∷ later) all is place e (inl same) at =
     elim (cases_Bool (stands_among f later)) [
       | inl again ↦
           let g = any_cases (λ (d : Entry). same_place (long_place f) (long_place d)) later again in
-          let next = ends_of s places (before ++ f ∷ []) later all (is ∙ sym (append_assoc before (f ∷ []) later)) place g.0 g.1 (sym (same-true (long_place f) (long_place g.0) g.2) ∙ here) in
-          further places all (span_parts s (depth_among places (long_place f)) (stands_among f later) (promoted before f)) (long_parts s places (before ++ f ∷ []) later) place next
+          let next = ends_of s places (before ++ f ∷ []) later all (is ∙ sym (append_assoc before (f ∷ []) later)) place g.0 g.1
+          (sym (same-true (long_place f) (long_place g.0) g.2) ∙ here) in
+          further places all (span_parts s (depth_among places (long_place f)) (stands_among f later) (promoted before f))
+          (long_parts s places (before ++ f ∷ []) later) place next
       | inr last ↦
           let parts : List PartEntry = long_parts s places before (f ∷ later) in
-          subst (λ p. HasEnds places all parts p) here (subst (λ es. HasEnds places es parts (long_place f)) (sym is) (last_ends s places before f later (long_parts s places (before ++ f ∷ []) later) last))
+          subst (λ p. HasEnds places all parts p) here (subst (λ es. HasEnds places es parts (long_place f)) (sym is)
+          (last_ends s places before f later (long_parts s places (before ++ f ∷ []) later) last))
     ]
   where
     here : long_place f ≡ place
@@ -131,12 +143,14 @@ pub record IsEndOf (places : List LongExtent) (all later : List Entry) (p : Part
   pub span : Entry
   pub among : Among later span
   pub bar_is : bar ≡ record { depth = depth_among places (long_place span); primary = is_primary_at all (long_place span) }
-  pub line : ((p.part ≡ MultilineStart bar.depth) × (p.entry.start.line ≡ span.start.line)) ⊎ ((p.part ≡ MultilineEnd bar.depth) × (p.entry.start.line ≡ span.end.line))
+  pub line : ((p.part ≡ MultilineStart bar.depth) × (p.entry.start.line ≡ span.start.line))
+      ⊎ ((p.part ≡ MultilineEnd bar.depth) × (p.entry.start.line ≡ span.end.line))
 
 some_same : {X : Type 0} (x y : X) → Some x ≡ Some y → x ≡ y
 some_same x y same = cc
 
-module _ (s : Source) (places : List LongExtent) (before : List Entry) (e : Entry) (later : List Entry) (all : List Entry) (all_is : all ≡ before ++ e ∷ later) (p : PartEntry) (bar : Bar) (bar_is : bar_at p.part (is_primary p.entry.kind) ≡ Some bar) where
+module _ (s : Source) (places : List LongExtent) (before : List Entry) (e : Entry) (later : List Entry) (all : List Entry) (all_is : all ≡ before ++ e ∷ later)
+    (p : PartEntry) (bar : Bar) (bar_is : bar_at p.part (is_primary p.entry.kind) ≡ Some bar) where
   abbrev depth : ℕ
   depth = depth_among places (long_place e)
 
@@ -156,12 +170,14 @@ module _ (s : Source) (places : List LongExtent) (before : List Entry) (e : Entr
       → ((p.part ≡ MultilineStart depth) × (p.entry.start.line ≡ e.start.line)) ⊎ ((p.part ≡ MultilineEnd depth) × (p.entry.start.line ≡ e.end.line))
       → IsEndOf places all (e ∷ later) p bar
   is_own last same line =
-      let own : record { depth = depth; primary = is_primary drawn.kind } ≡ bar = some_same (record { depth = depth; primary = is_primary drawn.kind }) bar same in
+      let own : record { depth = depth; primary = is_primary drawn.kind }
+      ≡ bar = some_same (record { depth = depth; primary = is_primary drawn.kind }) bar same in
       let deep : depth ≡ bar.depth = ap (λ (b : Bar). b.depth) own in
       record {
         span = e;
         among = inl refl;
-        bar_is = sym own ∙ ap (λ b. record { depth = depth; primary = b }) (kind_drawn before e later last ∙ ap (λ es. is_primary_at es (long_place e)) (sym all_is));
+        bar_is = sym own ∙ ap (λ b. record { depth = depth; primary = b })
+            (kind_drawn before e later last ∙ ap (λ es. is_primary_at es (long_place e)) (sym all_is));
         line = elim line [
           | inl start ↦ inl (start.0 ∙ ap MultilineStart deep, start.1)
           | inr end ↦ inr (end.0 ∙ ap MultilineEnd deep, end.1)
@@ -179,15 +195,24 @@ module _ (s : Source) (places : List LongExtent) (before : List Entry) (e : Entr
   one_part : stands_among e later ≡ false → Among (span_parts s depth false drawn) p → IsEndOf places all (e ∷ later) p bar
   unfolding has
   one_part last (inl same) =
-      is_own last (own_bar (start_part drawn depth) same) (inl (sym (ap (λ (q : PartEntry). q.part) same), sym (ap (λ (q : PartEntry). q.entry.start.line) same) ∙ ap (λ l. l.line) (promoted-start before e)))
+      is_own last (own_bar (start_part drawn depth) same) (inl (
+        sym (ap (λ (q : PartEntry). q.part) same),
+        sym
+            (ap (λ (q : PartEntry). q.entry.start.line) same) ∙ ap (λ l. l.line) (promoted-start before e),
+      ))
   one_part last (inr rest) =
       let bars : List PartEntry = map (λ k. bar_part drawn depth (s.first + k)) (bar_lines s.text (drawn.start.line - s.first) (drawn.end.line - s.first)) in
       let end : PartEntry = end_part drawn (MultilineEnd depth) in
       elim (append_cases bars (end ∷ []) p rest) [
         | inl beside ↦
-            let made = map_cases (λ k. bar_part drawn depth (s.first + k)) (bar_lines s.text (drawn.start.line - s.first) (drawn.end.line - s.first)) p beside in
+            let made = map_cases (λ k. bar_part drawn depth (s.first + k))
+            (bar_lines s.text (drawn.start.line - s.first) (drawn.end.line - s.first)) p beside in
             absurd (no_bar (own_bar (bar_part drawn depth (s.first + made.0)) made.2))
-        | inr (inl same) ↦ is_own last (own_bar end same) (inr (sym (ap (λ (q : PartEntry). q.part) same), sym (ap (λ (q : PartEntry). q.entry.start.line) same) ∙ ap (λ l. l.line) (promoted-end before e)))
+        | inr (inl same) ↦ is_own last (own_bar end same) (inr (
+          sym (ap (λ (q : PartEntry). q.part) same),
+          sym
+              (ap (λ (q : PartEntry). q.entry.start.line) same) ∙ ap (λ l. l.line) (promoted-end before e),
+        ))
         | inr (inr none) ↦ absurd none
       ]
     where
@@ -206,9 +231,11 @@ pub end_of : (s : Source) (places : List LongExtent) (before later all : List En
     → Among (long_parts s places before later) p → bar_at p.part (is_primary p.entry.kind) ≡ Some bar → IsEndOf places all later p bar
 end_of s places before [] all is p bar here bar_is = absurd here
 end_of s places before (e ∷ later) all is p bar here bar_is =
-    elim (append_cases (span_parts s (depth_among places (long_place e)) (stands_among e later) (promoted before e)) (long_parts s places (before ++ e ∷ []) later) p here) [
+    elim (append_cases (span_parts s (depth_among places (long_place e)) (stands_among e later) (promoted before e))
+    (long_parts s places (before ++ e ∷ []) later) p here) [
       | inl own ↦ own_part s places before e later all is p bar bar_is own
       | inr more ↦
-          let found : IsEndOf places all later p bar = end_of s places (before ++ e ∷ []) later all (is ∙ sym (append_assoc before (e ∷ []) later)) p bar more bar_is in
+          let found : IsEndOf places all later p bar = end_of s places (before ++ e ∷ []) later all
+          (is ∙ sym (append_assoc before (e ∷ []) later)) p bar more bar_is in
           record { span = found.span; among = inr found.among; bar_is = found.bar_is; line = found.line }
     ]

@@ -47,8 +47,11 @@ same_bytes s a b starts ends =
 
 -- and spans of one place the same bytes
 pub bytes_same : (s : Source) (a b : Annotation) → place_in s a ≡ place_in s b → (a.span.start ≡ b.span.start) × (a.span.end ≡ b.span.end)
-bytes_same s a b same =
-    (sym (starts_at s a.span.start a.span.end) ∙ ap (λ (p : LongExtent). p.from) same ∙ starts_at s b.span.start b.span.end, sym (ends_at s a.span.start a.span.end) ∙ ap (λ (p : LongExtent). p.to) same ∙ ends_at s b.span.start b.span.end)
+bytes_same s a b same = (
+  sym (starts_at s a.span.start a.span.end) ∙ ap (λ (p : LongExtent). p.from) same
+      ∙ starts_at s b.span.start b.span.end,
+  sym (ends_at s a.span.start a.span.end) ∙ ap (λ (p : LongExtent). p.to) same ∙ ends_at s b.span.start b.span.end,
+)
 
 -- primary spans are marked
 primary_marks : (k : AnnotationKind) → is_primary k ≡ true → is_marking k ≡ true
@@ -85,12 +88,14 @@ module _ (s : Snippet Annotation) where
   -- the bar of a span's place is primary where one of the spans of its bytes is
   pub bar_given : (a : Annotation) → is_long source.text a ≡ true → bar_by_place a ≡ bar_of_span s a
   bar_given a long =
-      ap (λ b. record { depth = depth_of source marks a; primary = b }) (pass_alike (is_primary_at (long_spans source marks) (place_in source a)) (is_bar_primary s a) given back)
+      ap (λ b. record { depth = depth_of source marks a; primary = b })
+      (pass_alike (is_primary_at (long_spans source marks) (place_in source a)) (is_bar_primary s a) given back)
     where
       given : is_primary_at (long_spans source marks) (place_in source a) ≡ true → is_bar_primary s a ≡ true
       given there =
           let d = any_cases (λ (d : Entry). is_primary d.kind && same_place (place_in source a) (long_place d)) (long_spans source marks) there in
-          let made = map_cases (long_entry source) (filter (is_long source.text) marks) d.0 (in_order_cases stands_before (map (long_entry source) (filter (is_long source.text) marks)) d.0 d.1) in
+          let made = map_cases (long_entry source) (filter (is_long source.text) marks) d.0
+          (in_order_cases stands_before (map (long_entry source) (filter (is_long source.text) marks)) d.0 d.1) in
           let b : Annotation = made.0 in
           let among = filter_cases (is_long source.text) marks b made.1 in
           let parts = and_parts (is_primary d.0.kind) (same_place (place_in source a) (long_place d.0)) d.2 in
@@ -98,7 +103,8 @@ module _ (s : Snippet Annotation) where
           let primary : is_primary b.kind ≡ true = ap (λ (e : Entry). is_primary e.kind) made.2 ∙ parts.0 in
           any_among (λ (b : Annotation). is_primary b.kind && (b.span.start == a.span.start && b.span.end == a.span.end)) marks b among.0
           (and_from (is_primary b.kind) (b.span.start == a.span.start && b.span.end == a.span.end) primary
-          (and_from (b.span.start == a.span.start) (b.span.end == a.span.end) (eq-eqb b.span.start a.span.start bytes.0) (eq-eqb b.span.end a.span.end bytes.1)))
+          (and_from (b.span.start == a.span.start) (b.span.end == a.span.end) (eq-eqb b.span.start a.span.start bytes.0)
+          (eq-eqb b.span.end a.span.end bytes.1)))
 
       back : is_bar_primary s a ≡ true → is_primary_at (long_spans source marks) (place_in source a) ≡ true
       back there =
@@ -109,6 +115,9 @@ module _ (s : Snippet Annotation) where
           let starts : b.span.start ≡ a.span.start = eqb-true b.span.start a.span.start bytes.0 in
           let ends : b.span.end ≡ a.span.end = eqb-true b.span.end a.span.end bytes.1 in
           let among = among_filter (is_long source.text) marks b found.1 (long_too source.text a b long (primary_marks b.kind parts.0) starts ends) in
-          let ordered = among_in_order stands_before (map (long_entry source) (filter (is_long source.text) marks)) (long_entry source b) (among_map (long_entry source) (filter (is_long source.text) marks) b among) in
-          let same : same_place (place_in source a) (place_in source b) ≡ true = ap (same_place (place_in source a)) (same_bytes source b a starts ends) ∙ same-refl (place_in source a) in
-          any_among (λ (d : Entry). is_primary d.kind && same_place (place_in source a) (long_place d)) (long_spans source marks) (long_entry source b) ordered (and_from (is_primary b.kind) (same_place (place_in source a) (place_in source b)) parts.0 same)
+          let ordered = among_in_order stands_before (map (long_entry source) (filter (is_long source.text) marks)) (long_entry source b)
+          (among_map (long_entry source) (filter (is_long source.text) marks) b among) in
+          let same : same_place (place_in source a) (place_in source b) ≡ true = ap (same_place (place_in source a)) (same_bytes source b a starts ends)
+          ∙ same-refl (place_in source a) in
+          any_among (λ (d : Entry). is_primary d.kind && same_place (place_in source a) (long_place d)) (long_spans source marks) (long_entry source b) ordered
+          (and_from (is_primary b.kind) (same_place (place_in source a) (place_in source b)) parts.0 same)

@@ -138,7 +138,8 @@ removed_one_line numbers decor gutter number text row removed plain =
         let n : ℕ = c - (gutter + 3) in
         let fits : n < length text = omega (arith, after, inside) in
         let here : gutter + 3 + n ≡ c = omega (arith, after) in
-        subst HoldsNoFeed (get_or-take (length text) (drop (gutter + 3) row) n SPACE fits ∙ get_or-drop (gutter + 3) row n SPACE ∙ ap (λ i. get_or row i SPACE) here) (at_any shown shown_plain n)
+        subst HoldsNoFeed (get_or-take (length text) (drop (gutter + 3) row) n SPACE fits ∙ get_or-drop (gutter + 3) row n SPACE
+        ∙ ap (λ i. get_or row i SPACE) here) (at_any shown shown_plain n)
 
     beside : (c : ℕ) → gutter + 1 ≤ c → c < gutter + 3 → HoldsNoFeed (get_or row c SPACE)
     beside c right sign =
@@ -163,7 +164,9 @@ restyled_plain role from to row plain =
     let part : List Cell = take (to - from) (drop from row) in
     let now : List Cell = map (restyled role true) part in
     let part_plain : HasNoFeed part = All-take HoldsNoFeed (to - from) (drop from row) (All-drop HoldsNoFeed from row plain) in
-    All-append HoldsNoFeed (before ++ now) (drop (max from to) row) (All-append HoldsNoFeed before now (All-take HoldsNoFeed from row plain) (All-map HoldsNoFeed (restyled role true) part part_plain)) (All-drop HoldsNoFeed (max from to) row plain)
+    All-append HoldsNoFeed (before ++ now) (drop (max from to) row)
+    (All-append HoldsNoFeed before now (All-take HoldsNoFeed from row plain) (All-map HoldsNoFeed (restyled role true) part part_plain))
+    (All-drop HoldsNoFeed (max from to) row plain)
 
 stretches_plain : (role : ElementStyle) (gutter : ℕ) (line : List ℕ) (ss : List SubstitutionHighlight) (row : List Cell) → HasNoFeed row
     → HasNoFeed (with_stretches role gutter line ss row)
@@ -181,7 +184,8 @@ line_row_plain suggested glyph number line plain =
     let g : ℕ = suggested.base.gutter in
     let signed : List Cell = put (suggestion_role_of glyph) (suggestion_glyph_of suggested.base.decor glyph) (g + 1) [] in
     let digits : List ℕ = shown_number suggested.numbers g number in
-    let signed_plain : HasNoFeed signed = put_plain (suggestion_role_of glyph) (suggestion_glyph_of suggested.base.decor glyph) (g + 1) [] (All-nil HoldsNoFeed) (glyph_plain suggested.base.decor glyph) in
+    let signed_plain : HasNoFeed signed = put_plain (suggestion_role_of glyph) (suggestion_glyph_of suggested.base.decor glyph) (g + 1) []
+    (All-nil HoldsNoFeed) (glyph_plain suggested.base.decor glyph) in
     let numbered_plain = put_plain LineNumber digits 0 signed signed_plain (number_plain suggested.numbers g number) in
     put_plain NoStyle (norm (chars line)) (g + 3) (put LineNumber digits 0 signed) numbered_plain (norm-plain (chars line) plain)
 
@@ -214,7 +218,8 @@ module _ (suggested : SuggestionLayout) (s : Snippet Patch) (utf8 : IsUtf8 (give
       let line : List ℕ = slice_index_or (given_lines s) k [] in
       let glyph : SuggestionGlyph = sign_of (shown_kind s) (length (given_lines s)) line (new_on s k) in
       let number : ℕ = number_after (s.line_start + first_given s) k in
-      stretches_plain Addition suggested.base.gutter (chars line) (new_on s k) (line_cells suggested glyph number line) (line_row_plain suggested glyph number line (text_line_plain (given_text s) k utf8))
+      stretches_plain Addition suggested.base.gutter (chars line) (new_on s k) (line_cells suggested glyph number line)
+      (line_row_plain suggested glyph number line (text_line_plain (given_text s) k utf8))
   offer_plain under Skips = tt
   offer_plain under (Removes i number text) = tt
   offer_plain under Empty = tt
@@ -251,10 +256,12 @@ module _ (suggested : SuggestionLayout) (s : Snippet Patch) (utf8 : IsUtf8 (give
       → AllZip IsPlainOffer shown (with_left_out suggested s lines rows)
   offers_left_out [] shown rows plain = plain
   offers_left_out (line ∷ lines) shown rows plain =
-      let gone : List SubstitutionHighlight = cond (bytes_eq line (last_reached s)) (suggested_stretches s (last_line_reached (cow_str_bytes s.source) (edits_of s) - first_given s)) [] in
+      let gone : List SubstitutionHighlight = cond (bytes_eq line (last_reached s))
+      (suggested_stretches s (last_line_reached (cow_str_bytes s.source) (edits_of s) - first_given s)) [] in
       let f : List Cell → List Cell = left_out_cells suggested.base.gutter line gone (new_on s 0) in
       let keeps : (row : List Cell) → HasNoFeed row → HasNoFeed (f row) =
-      λ row own. stretches_plain Addition suggested.base.gutter (chars line) (new_on s 0) (with_stretches Removal suggested.base.gutter (chars line) gone row) (stretches_plain Removal suggested.base.gutter (chars line) gone row own) in
+      λ row own. stretches_plain Addition suggested.base.gutter (chars line) (new_on s 0) (with_stretches Removal suggested.base.gutter (chars line) gone row)
+      (stretches_plain Removal suggested.base.gutter (chars line) gone row own) in
       let test : Bool = is_diff (shown_kind s) && is_touched s.fold (given_ranges s) 0 && is_left_out (shown_kind s) (line ∷ lines) (last_reached s) in
       elim test as (λ b. AllZip IsPlainOffer shown (cond b (on_last f rows) rows)) [
         | true ↦ offers_last f keeps shown rows plain
@@ -264,7 +271,8 @@ module _ (suggested : SuggestionLayout) (s : Snippet Patch) (utf8 : IsUtf8 (give
   offers_body : (at : SuggestionStart) (under : List Cell) → AllZip IsPlainOffer (rows_of_suggestion at s) (body_cells suggested at s under)
   unfolding body_cells
   offers_body at under =
-      offers_left_out (given_lines s) (rows_of_suggestion at s) (cells_over (row_cells suggested s) under (rows_of_suggestion at s)) (offers_over under (rows_of_suggestion at s))
+      offers_left_out (given_lines s) (rows_of_suggestion at s) (cells_over (row_cells suggested s) under (rows_of_suggestion at s))
+      (offers_over under (rows_of_suggestion at s))
 
 -- ---- all rows
 
@@ -281,7 +289,8 @@ module _ (r : Renderer) (layout : Layout) (around : ElementContext) (found : Lis
       let body : List (List Cell) = body_cells own_layout around.start s under in
       let last : List (List Cell) = cond around.shared [] (row_cells own_layout s [] (Ends next) ∷ []) in
       subst (AllZip IsPlainOffer (suggestion_rows around s)) (sym drawn)
-      (zip_append IsPlainOffer shown (cond around.shared [] (Ends next ∷ [])) body last (offers_body own_layout s utf8 around.start under) (ends around.shared next))
+      (zip_append IsPlainOffer shown (cond around.shared [] (Ends next ∷ [])) body last (offers_body own_layout s utf8 around.start under)
+      (ends around.shared next))
     where
       ends : (shared next : Bool) → AllZip IsPlainOffer (cond shared [] (Ends next ∷ [])) (cond shared [] (row_cells own_layout s [] (Ends next) ∷ []))
       ends true next = tt
@@ -297,7 +306,8 @@ module _ (r : Renderer) (layout : Layout) (around : ElementContext) (found : Lis
   one_row Skips row utf8 is offer own = bare_one_line own_layout.base.decor own_layout.base.gutter row is.bare
   one_row (Removes i number text) row utf8 is offer own =
       let plain : All IsNoFeed (chars text) = subst (λ t. All IsNoFeed (chars t)) (sym own.1) (line_plain (cow_str_bytes s.source) i utf8) in
-      removed_one_line own_layout.numbers own_layout.base.decor own_layout.base.gutter (shown_number own_layout.numbers own_layout.base.gutter number) (norm (chars text)) row is (norm-plain (chars text) plain)
+      removed_one_line own_layout.numbers own_layout.base.decor own_layout.base.gutter (shown_number own_layout.numbers own_layout.base.gutter number)
+      (norm (chars text)) row is (norm-plain (chars text) plain)
   one_row Empty row utf8 is offer own = bare_one_line own_layout.base.decor own_layout.base.gutter row is.bare
   one_row (Ends follows) row utf8 is offer own = bare_one_line own_layout.base.decor own_layout.base.gutter row is.bare
 
@@ -307,7 +317,8 @@ module _ (r : Renderer) (layout : Layout) (around : ElementContext) (found : Lis
   all_rows [] (row ∷ rows) utf8 are offers own = elim are [ ]
   all_rows (x ∷ shown) [] utf8 are offers own = elim are [ ]
   all_rows (x ∷ shown) (row ∷ rows) utf8 are offers own =
-      All-cons HasNoFeed row rows (one_row x row utf8 are.0 offers.0 (All-head (IsRowOf s) x shown own)) (all_rows shown rows utf8 are.1 offers.1 (All-tail (IsRowOf s) x shown own))
+      All-cons HasNoFeed row rows (one_row x row utf8 are.0 offers.0 (All-head (IsRowOf s) x shown own))
+      (all_rows shown rows utf8 are.1 offers.1 (All-tail (IsRowOf s) x shown own))
 
   path_plain : (first : Bool) (path : Option (List ℕ)) → IsOneLineText path → All HasNoFeed (path_row r layout first s path)
   path_plain first None plain = All-nil HasNoFeed
@@ -324,5 +335,6 @@ module _ (r : Renderer) (layout : Layout) (around : ElementContext) (found : Lis
       → IsOneLineText (path_bytes s.path) → All HasNoFeed rows
   suggestion_one_line rows drawn own plain =
       let head : List (List Cell) = suggestion_head r layout around s in
-      let lines : All HasNoFeed drawn.lines = all_rows (suggestion_rows around s) drawn.lines drawn.utf8 drawn.are (offers_drawn drawn.lines drawn.given_utf8 drawn.cells) own in
+      let lines : All HasNoFeed drawn.lines = all_rows (suggestion_rows around s) drawn.lines drawn.utf8 drawn.are
+      (offers_drawn drawn.lines drawn.given_utf8 drawn.cells) own in
       subst (All HasNoFeed) (sym drawn.rows_are) (All-append HasNoFeed head drawn.lines (head_plain around.start around.first plain) lines)

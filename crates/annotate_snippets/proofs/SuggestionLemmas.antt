@@ -119,7 +119,8 @@ module _ (r : Renderer) (layout : Layout) (s : Snippet Patch) where
   module _ (suggestible : IsSuggestible s) (some : s.markers.items ≢ []) where
     -- there is a number for each line that is given, and it is shown
     number_is : (k : ℕ) → k < length (given_lines s)
-        → shown_number (line_numbers r s.line_numbering) layout.gutter (number_after (s.line_start + first_given s) k) ≡ number_text r s.line_numbering layout.gutter (s.line_start + (first_given s + k))
+        → shown_number (line_numbers r s.line_numbering) layout.gutter (number_after (s.line_start + first_given s) k)
+        ≡ number_text r s.line_numbering layout.gutter (s.line_start + (first_given s + k))
     number_is k within =
         let same : number_after (s.line_start + first_given s) k ≡ s.line_start + (first_given s + k) = omega (arith, suggestible.numbers) in
         ap (shown_number (line_numbers r s.line_numbering) layout.gutter) same
@@ -163,16 +164,24 @@ module _ (r : Renderer) (layout : Layout) (s : Snippet Patch) where
     rows_named from [] part rising own are = All-nil IsNamed
     rows_named from (shows ∷ shown) [] rising own are = absurd are
     rows_named from (Offers k ∷ shown) (row ∷ part) rising own are =
-        let last : first_given s + k + 1 ≤ first_given s + length (given_lines s) = rising_within (first_given s + k + 1) (first_given s + length (given_lines s)) _ rising.1 in
-        All-cons IsNamed (record { name = OfferedLine (first_given s + k); cells = row }) (named_rows s shown part) (offered_row k row (omega (arith, last)) are.0) (rows_named (first_given s + k + 1) shown part rising.1 (All-tail (IsRowOf s) (Offers k) shown own) are.1)
+        let last : first_given s + k + 1 ≤ first_given s + length (given_lines s) = rising_within (first_given s + k + 1)
+        (first_given s + length (given_lines s)) _ rising.1 in
+        All-cons IsNamed (record { name = OfferedLine (first_given s + k); cells = row }) (named_rows s shown part)
+        (offered_row k row (omega (arith, last)) are.0) (rows_named (first_given s + k + 1) shown part rising.1
+        (All-tail (IsRowOf s) (Offers k) shown own) are.1)
     rows_named from (Removes i number text ∷ shown) (row ∷ part) rising own are =
         let of = All-head (IsRowOf s) (Removes i number text) shown own in
-        All-cons IsNamed (record { name = RemovedLine i; cells = row }) (named_rows s shown part) (removed_row_shown i number text row of are.0) (rows_named from shown part rising (All-tail (IsRowOf s) (Removes i number text) shown own) are.1)
+        All-cons IsNamed (record { name = RemovedLine i; cells = row }) (named_rows s shown part) (removed_row_shown i number text row of are.0)
+        (rows_named from shown part rising (All-tail (IsRowOf s) (Removes i number text) shown own) are.1)
     rows_named from (Begins start ∷ shown) (row ∷ part) rising own are =
-        All-cons IsNamed (record { name = Other; cells = row }) (named_rows s shown part) are.0.bare (rows_named from shown part rising (All-tail (IsRowOf s) (Begins start) shown own) are.1)
+        All-cons IsNamed (record { name = Other; cells = row }) (named_rows s shown part) are.0.bare
+        (rows_named from shown part rising (All-tail (IsRowOf s) (Begins start) shown own) are.1)
     rows_named from (Skips ∷ shown) (row ∷ part) rising own are =
-        All-cons IsNamed (record { name = Other; cells = row }) (named_rows s shown part) are.0.bare (rows_named from shown part rising (All-tail (IsRowOf s) Skips shown own) are.1)
+        All-cons IsNamed (record { name = Other; cells = row }) (named_rows s shown part) are.0.bare
+        (rows_named from shown part rising (All-tail (IsRowOf s) Skips shown own) are.1)
     rows_named from (Empty ∷ shown) (row ∷ part) rising own are =
-        All-cons IsNamed (record { name = Other; cells = row }) (named_rows s shown part) are.0.bare (rows_named from shown part rising (All-tail (IsRowOf s) Empty shown own) are.1)
+        All-cons IsNamed (record { name = Other; cells = row }) (named_rows s shown part) are.0.bare
+        (rows_named from shown part rising (All-tail (IsRowOf s) Empty shown own) are.1)
     rows_named from (Ends follows ∷ shown) (row ∷ part) rising own are =
-        All-cons IsNamed (record { name = Other; cells = row }) (named_rows s shown part) are.0.bare (rows_named from shown part rising (All-tail (IsRowOf s) (Ends follows) shown own) are.1)
+        All-cons IsNamed (record { name = Other; cells = row }) (named_rows s shown part) are.0.bare
+        (rows_named from shown part rising (All-tail (IsRowOf s) (Ends follows) shown own) are.1)

@@ -75,11 +75,13 @@ module _ (around : ElementContext) (s : Snippet Patch) where
 
   all_offer : numbers_offered (suggestion_rows around s) ≡ numbers_given s
   all_offer =
-      filter_map-append number_offered rows (ends around.shared) ∙ ap (λ ks. numbers_offered rows ++ ks) (ends_offer around.shared) ∙ append-nil (numbers_offered rows) ∙ rows-offer around.start s
+      filter_map-append number_offered rows (ends around.shared) ∙ ap (λ ks. numbers_offered rows ++ ks) (ends_offer around.shared)
+      ∙ append-nil (numbers_offered rows) ∙ rows-offer around.start s
 
   all_take : lines_taken (suggestion_rows around s) ≡ removed_lines s
   all_take =
-      filter_map-append line_taken rows (ends around.shared) ∙ ap (λ ks. lines_taken rows ++ ks) (ends_take around.shared) ∙ append-nil (lines_taken rows) ∙ rows-take around.start s
+      filter_map-append line_taken rows (ends around.shared) ∙ ap (λ ks. lines_taken rows ++ ks) (ends_take around.shared) ∙ append-nil (lines_taken rows)
+      ∙ rows-take around.start s
 
   all_own : All (IsRowOf s) (suggestion_rows around s)
   all_own = All-append (IsRowOf s) rows (ends around.shared) (rows-own around.start s) (ends_own around.shared)
@@ -113,8 +115,11 @@ suggestion_shown r layout around found s rows suggestible some room drawn =
     let same : map (λ k. first_given s + k) (numbers_offered shown) ≡ offered_lines s = ap (map (λ k. first_given s + k)) (all_offer around s) in
     let lines : lines_offered after ≡ offered_lines s = lines_offered-named IsShown s shown drawn.lines drawn.are ∙ same in
     let end : ℕ = first_given s + length (given_lines s) in
-    let cells : cells_of (others head ++ after) ≡ rows = map-append (λ (row : NamedRow). row.cells) (others head) after ∙ ap (λ rs. rs ++ cells_of after) (cells_of-others head) ∙ ap (λ rs. head ++ rs) (cells_of-named IsShown s shown drawn.lines drawn.are) ∙ sym drawn.rows_are in
-    let free : All IsFree rows = subst (All IsFree) (sym drawn.rows_are) (All-append IsFree head drawn.lines (suggestion_head-free r layout around.start around.first s) (lines_free r layout s shown drawn.lines drawn.are)) in
+    let cells : cells_of (others head ++ after) ≡ rows = map-append (λ (row : NamedRow). row.cells) (others head) after
+    ∙ ap (λ rs. rs ++ cells_of after) (cells_of-others head) ∙ ap (λ rs. head ++ rs) (cells_of-named IsShown s shown drawn.lines drawn.are)
+    ∙ sym drawn.rows_are in
+    let free : All IsFree rows = subst (All IsFree) (sym drawn.rows_are)
+    (All-append IsFree head drawn.lines (suggestion_head-free r layout around.start around.first s) (lines_free r layout s shown drawn.lines drawn.are)) in
     let shows : ShowsSuggestion r layout around found s (others head ++ after) = record {
       after = after;
       rows_are = refl;
@@ -126,10 +131,13 @@ suggestion_shown r layout around found s rows suggestible some room drawn =
       lines = lines;
       order = names_of-named IsShown s shown drawn.lines drawn.are;
       cells = cells_of-named IsShown s shown drawn.lines drawn.are ∙ drawn.cells;
-      signs = subst (AllZip (HasSign (suggestion_layout r layout s) s) shown) (sym (cells_of-named IsShown s shown drawn.lines drawn.are)) (signs_shown r layout around found s drawn.lines drawn.cells);
-      strokes = subst (AllZip (HasStrokes layout.decor layout.gutter) shown) (sym (cells_of-named IsShown s shown drawn.lines drawn.are)) (strokes_shown r layout s shown drawn.lines drawn.are);
+      signs = subst (AllZip (HasSign (suggestion_layout r layout s) s) shown) (sym (cells_of-named IsShown s shown drawn.lines drawn.are))
+          (signs_shown r layout around found s drawn.lines drawn.cells);
+      strokes = subst (AllZip (HasStrokes layout.decor layout.gutter) shown) (sym (cells_of-named IsShown s shown drawn.lines drawn.are))
+          (strokes_shown r layout s shown drawn.lines drawn.are);
       removed = lines_removed-named IsShown s shown drawn.lines drawn.are ∙ all_take around s;
-      named = rows_named r layout s suggestible some (first_given s) shown drawn.lines (subst (AreRising (first_given s) end) (sym same) (offered-ascends s)) (all_own around s) drawn.are;
+      named = rows_named r layout s suggestible some (first_given s) shown drawn.lines (subst (AreRising (first_given s) end) (sym same) (offered-ascends s))
+          (all_own around s) drawn.are;
     } in
     record {
       part = others head ++ after;

@@ -19,7 +19,8 @@ onto_front c (line ∷ lines) more some = refl
 one_more : (c : ℕ) (xs ys : List ℕ) (feed : Bool) → (c == 10) ≡ feed → text_lines (xs ++ 10 ∷ ys) ≡ text_lines xs ++ text_lines ys
     → text_lines (c ∷ (xs ++ 10 ∷ ys)) ≡ text_lines (c ∷ xs) ++ text_lines ys
 one_more c xs ys true is later =
-    slice_split-cons_yes (λ x. x == 10) c (xs ++ 10 ∷ ys) is ∙ ap (λ lines. [] ∷ lines) later ∙ ap (λ lines. lines ++ text_lines ys) (sym (slice_split-cons_yes (λ x. x == 10) c xs is))
+    slice_split-cons_yes (λ x. x == 10) c (xs ++ 10 ∷ ys) is ∙ ap (λ lines. [] ∷ lines) later
+    ∙ ap (λ lines. lines ++ text_lines ys) (sym (slice_split-cons_yes (λ x. x == 10) c xs is))
 one_more c xs ys false is later =
     slice_split-cons_no (λ x. x == 10) c (xs ++ 10 ∷ ys) is ∙ ap (onto_first c) later
     ∙ onto_front c (text_lines xs) (text_lines ys) (omega (arith, length-slice_split (λ x. x == 10) xs))
@@ -60,7 +61,8 @@ lines_of_page (g ∷ h ∷ page) all =
     let later : Page = h ∷ page in
     lines_joined (plain_text (group_rows g)) (page_text later)
     ∙ ap (λ lines. lines ++ text_lines (page_text later)) (lines_of_rows (group_rows g) (All-head HasOneLineRows g later all))
-    ∙ ap (λ lines. group_lines g ++ lines) (lines_of_page (h ∷ page) (All-tail HasOneLineRows g later all) ∙ some_lines (map row_text (group_rows h)) (flat_map group_lines page))
+    ∙ ap (λ lines. group_lines g ++ lines) (lines_of_page (h ∷ page) (All-tail HasOneLineRows g later all)
+    ∙ some_lines (map row_text (group_rows h)) (flat_map group_lines page))
     ∙ sym (some_lines (map row_text (group_rows g)) (flat_map group_lines later))
 
 -- ---- computed on small inputs

@@ -62,12 +62,14 @@ after P begun a b holds = subst P (sym (plain-append begun a b)) holds
 both_hold : (ps qs : List (List ℕ)) (begun : Bool) (a b : List FormPiece) → ((begun : Bool) → StandInOrder ps (plain_from begun a))
     → ((begun : Bool) → StandInOrder qs (plain_from begun b)) → StandInOrder (ps ++ qs) (plain_from begun (a ++ b))
 both_hold ps qs begun a b first second =
-    after (StandInOrder (ps ++ qs)) begun a b (stand-append ps qs (plain_from begun a) (plain_from (begun_after begun (plain_from begun a)) b) (first begun) (second (begun_after begun (plain_from begun a))))
+    after (StandInOrder (ps ++ qs)) begun a b (stand-append ps qs (plain_from begun a) (plain_from (begun_after begun (plain_from begun a)) b) (first begun)
+    (second (begun_after begun (plain_from begun a))))
 
 both_free : (trusted : List (List ℕ)) (begun : Bool) (a b : List FormPiece) → ((begun : Bool) → IsFreeBut trusted (plain_from begun a))
     → ((begun : Bool) → IsFreeBut trusted (plain_from begun b)) → IsFreeBut trusted (plain_from begun (a ++ b))
 both_free trusted begun a b first second =
-    after (IsFreeBut trusted) begun a b (All-append (IsTrusted trusted) (plain_from begun a) (plain_from (begun_after begun (plain_from begun a)) b) (first begun) (second (begun_after begun (plain_from begun a))))
+    after (IsFreeBut trusted) begun a b (All-append (IsTrusted trusted) (plain_from begun a) (plain_from (begun_after begun (plain_from begun a)) b)
+    (first begun) (second (begun_after begun (plain_from begun a))))
 
 -- the links of an element, of elements and of a group
 element_links : (r : Renderer) (file : Option (List ℕ)) (before : Option PreviousSuggestion) (followed : Bool) (e : Element)
@@ -86,7 +88,8 @@ elements_links r file before [] = refl
 elements_links r file before (e ∷ es) =
     let own : List FormPiece = element_form r file before (first_two_share (e ∷ es)) e in
     let rest : List FormPiece = elements_form r file (before_next before e) es in
-    flat_map-append piece_links own rest ∙ ap (λ (urls : List (List ℕ)). urls ++ form_links rest) (element_links r file before (first_two_share (e ∷ es)) e) ∙ elements_links r file (before_next before e) es
+    flat_map-append piece_links own rest ∙ ap (λ (urls : List (List ℕ)). urls ++ form_links rest) (element_links r file before (first_two_share (e ∷ es)) e)
+    ∙ elements_links r file (before_next before e) es
 
 title_form-links : (r : Renderer) (title : Option Title)
     → form_links (title_form r title) ≡ flat_map (λ (t : Title). id_links r.hyperlink t.id) (option_to_list title)
@@ -99,13 +102,15 @@ group_links : (r : Renderer) (groups : List Group) (g : Group) → form_links (g
 group_links r groups g =
     let title : List FormPiece = title_form r g.title in
     let elements : List FormPiece = elements_form r (file_of_group groups g) None (drawn_elements g) in
-    flat_map-append piece_links title elements ∙ ap (λ (urls : List (List ℕ)). form_links title ++ urls) (elements_links r (file_of_group groups g) None (drawn_elements g)) ∙ append-nil (form_links title) ∙ title_form-links r g.title
+    flat_map-append piece_links title elements ∙ ap (λ (urls : List (List ℕ)). form_links title ++ urls)
+    (elements_links r (file_of_group groups g) None (drawn_elements g)) ∙ append-nil (form_links title) ∙ title_form-links r g.title
 
 groups_links : (r : Renderer) (groups gs : List Group) → form_links (flat_map (group_form r groups) gs) ≡ flat_map (title_links r.hyperlink) gs
 groups_links r groups [] = refl
 groups_links r groups (g ∷ gs) =
     let rest : List FormPiece = flat_map (group_form r groups) gs in
-    flat_map-append piece_links (group_form r groups g) rest ∙ ap (λ (urls : List (List ℕ)). urls ++ form_links rest) (group_links r groups g) ∙ ap (λ (urls : List (List ℕ)). title_links r.hyperlink g ++ urls) (groups_links r groups gs)
+    flat_map-append piece_links (group_form r groups g) rest ∙ ap (λ (urls : List (List ℕ)). urls ++ form_links rest) (group_links r groups g)
+    ∙ ap (λ (urls : List (List ℕ)). title_links r.hyperlink g ++ urls) (groups_links r groups gs)
 
 -- which texts stand in a heading, in an element, in elements and in a group
 heading_holds : (begun hyperlink : Bool) (of : HeadingKind) (heading : Heading)
@@ -131,13 +136,16 @@ elements_hold : (r : Renderer) (file : Option (List ℕ)) (before : Option Previ
     → StandInOrder (flat_map element_texts es) (plain_from begun (elements_form r file before es))
 elements_hold r file before [] begun = tt
 elements_hold r file before (e ∷ es) begun =
-    both_hold (element_texts e) (flat_map element_texts es) begun (element_form r file before (first_two_share (e ∷ es)) e) (elements_form r file (before_next before e) es) (element_holds r file before (first_two_share (e ∷ es)) e) (elements_hold r file (before_next before e) es)
+    both_hold (element_texts e) (flat_map element_texts es) begun (element_form r file before (first_two_share (e ∷ es)) e)
+    (elements_form r file (before_next before e) es) (element_holds r file before (first_two_share (e ∷ es)) e)
+    (elements_hold r file (before_next before e) es)
 
 title_holds : (r : Renderer) (title : Option Title) (begun : Bool)
     → StandInOrder (flat_map (λ (t : Title). whole_text (heading_of_title t)) (option_to_list title)) (plain_from begun (title_form r title))
 title_holds r None begun = tt
 title_holds r (Some t) begun =
-    both_hold (whole_text (heading_of_title t)) [] begun (heading_form r.hyperlink kind.Title (heading_of_title t)) [] (λ b. heading_holds b r.hyperlink kind.Title (heading_of_title t)) (λ b. tt)
+    both_hold (whole_text (heading_of_title t)) [] begun (heading_form r.hyperlink kind.Title (heading_of_title t)) [] (λ b.
+    heading_holds b r.hyperlink kind.Title (heading_of_title t)) (λ b. tt)
 
 group_holds : (r : Renderer) (groups : List Group) (g : Group) (begun : Bool) → StandInOrder (group_texts g) (plain_from begun (group_form r groups g))
 group_holds r groups g begun =
@@ -149,17 +157,20 @@ group_holds r groups g begun =
 groups_hold : (r : Renderer) (groups gs : List Group) (begun : Bool) → StandInOrder (report_texts gs) (plain_from begun (flat_map (group_form r groups) gs))
 groups_hold r groups [] begun = tt
 groups_hold r groups (g ∷ gs) begun =
-    both_hold (group_texts g) (report_texts gs) begun (group_form r groups g) (flat_map (group_form r groups) gs) (group_holds r groups g) (groups_hold r groups gs)
+    both_hold (group_texts g) (report_texts gs) begun (group_form r groups g) (flat_map (group_form r groups) gs) (group_holds r groups g)
+    (groups_hold r groups gs)
 
 -- each listed character of an element, of elements and of a group is one of a trusted text
 element_free : (trusted : List (List ℕ)) (r : Renderer) (file : Option (List ℕ)) (before : Option PreviousSuggestion) (followed : Bool) (e : Element)
     → AreTextsAmong trusted (trusted_of_element e) → (begun : Bool) → IsFreeBut trusted (plain_from begun (element_form r file before followed e))
 element_free trusted r file before followed (Message m) among begun =
-    own_text trusted (heading_of_message m) (λ styled. message_among trusted m among) (plain_from begun (heading_form r.hyperlink kind.Message (heading_of_message m))) (heading-free begun r.hyperlink kind.Message (heading_of_message m))
+    own_text trusted (heading_of_message m) (λ styled. message_among trusted m among)
+    (plain_from begun (heading_form r.hyperlink kind.Message (heading_of_message m))) (heading-free begun r.hyperlink kind.Message (heading_of_message m))
 element_free trusted r file before followed (Cause s) among begun =
     unlisted_text trusted (plain_from begun (cause_form r.anonymized_origin_line_numbers s)) (cause-free begun r.anonymized_origin_line_numbers s)
 element_free trusted r file before followed (Suggestion s) among begun =
-    unlisted_text trusted (plain_from begun (suggestion_form r.anonymized_origin_line_numbers (suggestion_place file before followed s) s)) (suggestion-free begun r.anonymized_origin_line_numbers (suggestion_place file before followed s) s)
+    unlisted_text trusted (plain_from begun (suggestion_form r.anonymized_origin_line_numbers (suggestion_place file before followed s) s))
+    (suggestion-free begun r.anonymized_origin_line_numbers (suggestion_place file before followed s) s)
 element_free trusted r file before followed (Origin o) among begun =
     unlisted_text trusted (plain_from begun (origin_form r.anonymized_origin_line_numbers o)) (origin-free begun r.anonymized_origin_line_numbers o)
 element_free trusted r file before followed (Padding p) among begun = All-nil (IsTrusted trusted)
@@ -179,18 +190,23 @@ title_free r None more begun = All-nil (IsTrusted more)
 title_free r (Some t) more begun =
     let trusted : List (List ℕ) = flat_map trusted_of_title (t ∷ []) ++ more in
     let own : List FormPiece = heading_form r.hyperlink kind.Title (heading_of_title t) in
-    both_free trusted begun own [] (λ b. own_text trusted (heading_of_title t) (title_among t more) (plain_from b own) (heading-free b r.hyperlink kind.Title (heading_of_title t))) (λ b. All-nil (IsTrusted trusted))
+    both_free trusted begun own [] (λ b. own_text trusted (heading_of_title t) (title_among t more) (plain_from b own)
+    (heading-free b r.hyperlink kind.Title (heading_of_title t))) (λ b. All-nil (IsTrusted trusted))
 
 group_free : (r : Renderer) (groups : List Group) (g : Group) (begun : Bool) → IsFreeBut (trusted_of g) (plain_from begun (group_form r groups g))
 group_free r groups g begun =
     let Among : Element → Type 0 = λ e. AreTextsAmong (trusted_of g) (trusted_of_element e) in
-    let among : All Among (drawn_elements g) = All-filter is_drawn Among g.elements.items (texts_among (flat_map trusted_of_title (option_to_list g.title)) g.elements.items) in
-    both_free (trusted_of g) begun (title_form r g.title) (elements_form r (file_of_group groups g) None (drawn_elements g)) (title_free r g.title (flat_map trusted_of_element g.elements.items)) (elements_free (trusted_of g) r (file_of_group groups g) None (drawn_elements g) among)
+    let among : All Among (drawn_elements g) = All-filter is_drawn Among g.elements.items
+    (texts_among (flat_map trusted_of_title (option_to_list g.title)) g.elements.items) in
+    both_free (trusted_of g) begun (title_form r g.title) (elements_form r (file_of_group groups g) None (drawn_elements g))
+    (title_free r g.title (flat_map trusted_of_element g.elements.items))
+    (elements_free (trusted_of g) r (file_of_group groups g) None (drawn_elements g) among)
 
 groups_free : (r : Renderer) (groups gs : List Group) (begun : Bool) → IsFreeBut (trusted_texts gs) (plain_from begun (flat_map (group_form r groups) gs))
 groups_free r groups [] begun = All-nil (IsTrusted [])
 groups_free r groups (g ∷ gs) begun =
-    both_free (trusted_texts (g ∷ gs)) begun (group_form r groups g) (flat_map (group_form r groups) gs) first (λ b. free_rest g gs (plain_from b (flat_map (group_form r groups) gs)) (groups_free r groups gs b))
+    both_free (trusted_texts (g ∷ gs)) begun (group_form r groups g) (flat_map (group_form r groups) gs) first (λ b.
+    free_rest g gs (plain_from b (flat_map (group_form r groups) gs)) (groups_free r groups gs b))
   where
     first : (b : Bool) → IsFreeBut (trusted_texts (g ∷ gs)) (plain_from b (group_form r groups g))
     first b =

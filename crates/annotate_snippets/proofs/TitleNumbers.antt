@@ -56,7 +56,8 @@ unnumbered_row : (n : ℕ) (row : List Cell) → ((c : ℕ) → c < n → is_asc
 unnumbered_row zero row none = refl
 unnumbered_row (suc n) [] none = refl
 unnumbered_row (suc n) (cell ∷ cells) none =
-    none_there (cell.ch == 32) (is_ascii_alphanumeric cell.ch) (is_ascii_digit cell.ch) (begins_with_number (take n (row_text cells))) (digit_too cell.ch) (none 0 (omega arith)) (unnumbered_row n cells (λ c within. none (suc c) (omega (arith, within))))
+    none_there (cell.ch == 32) (is_ascii_alphanumeric cell.ch) (is_ascii_digit cell.ch) (begins_with_number (take n (row_text cells))) (digit_too cell.ch)
+    (none 0 (omega arith)) (unnumbered_row n cells (λ c within. none (suc c) (omega (arith, within))))
 
 unnumbered : (gutter : ℕ) (row : List Cell) → HasNoNumber gutter row → IsUnnumbered gutter row
 unnumbered gutter row none = unnumbered_row (gutter + 1) row (λ c within. none c (omega (arith, within)))
@@ -64,8 +65,10 @@ unnumbered gutter row none = unnumbered_row (gutter + 1) row (λ c within. none 
 -- the rows below a title
 after_title : (r : Renderer) (layout : Layout) (sets_off closes : Bool)
     → All (IsUnnumbered layout.gutter) (cond sets_off (separator_rows r layout) (cond closes (closing_rows r layout) []))
-after_title r layout true closes = All-cons (IsUnnumbered layout.gutter) _ [] (unnumbered layout.gutter _ (separator_row-unnumbered layout.decor layout.gutter)) (All-nil (IsUnnumbered layout.gutter))
-after_title r layout false true = All-cons (IsUnnumbered layout.gutter) _ [] (unnumbered layout.gutter _ (closing_row-unnumbered layout.decor layout.gutter)) (All-nil (IsUnnumbered layout.gutter))
+after_title r layout true closes = All-cons (IsUnnumbered layout.gutter) _ []
+    (unnumbered layout.gutter _ (separator_row-unnumbered layout.decor layout.gutter)) (All-nil (IsUnnumbered layout.gutter))
+after_title r layout false true = All-cons (IsUnnumbered layout.gutter) _ [] (unnumbered layout.gutter _ (closing_row-unnumbered layout.decor layout.gutter))
+    (All-nil (IsUnnumbered layout.gutter))
 after_title r layout false false = All-nil (IsUnnumbered layout.gutter)
 
 -- each text of a title's rows begins with its level's name, or with as many spaces as what stands before its text is wide
@@ -93,15 +96,21 @@ title_unnumbered r layout place follows title rows shown words =
     let heading : Heading = heading_of_title title in
     let hidden : Bool = is_hidden title.level.name in
     let after_name : List ℕ = id_text hidden title.id ++ colon_of hidden title.id in
-    let label : heading_label_text heading ≡ norm (chars (name_of title.level)) ++ after_name = append_assoc (norm (chars (name_of title.level))) (id_text hidden title.id) (colon_of hidden title.id) in
-    let text_at : List ℕ → ℕ → List ℕ = λ first i. slice_index_or (texts_below first (row_text (replicate (label_width heading) SPACE)) (heading_lines heading)) i [] in
+    let label : heading_label_text heading ≡ norm (chars (name_of title.level))
+    ++ after_name = append_assoc (norm (chars (name_of title.level))) (id_text hidden title.id) (colon_of hidden title.id) in
+    let text_at : List ℕ → ℕ → List ℕ = λ first i. slice_index_or (texts_below first (row_text (replicate (label_width heading) SPACE))
+    (heading_lines heading)) i [] in
     let each : (i : ℕ) → i < length shown.own → IsUnnumbered layout.gutter (get_or shown.own i []) =
     λ i within. ap (λ text. begins_with_number (take (layout.gutter + 1) text)) (shown.shows.texts i ∙ ap (λ first. text_at first i) label)
-    ∙ text_of_row (layout.gutter + 1) (norm (chars (name_of title.level))) after_name (label_width heading) words.word (omega (arith, words.wide)) (heading_lines heading) i in
-    subst (All (IsUnnumbered layout.gutter)) (sym shown.rows_are) (All-append (IsUnnumbered layout.gutter) shown.own (rows_after_title r layout place follows title.allows_styling) (All-from_get_or (IsUnnumbered layout.gutter) shown.own [] each) (after_title r layout _ _))
+    ∙ text_of_row (layout.gutter + 1) (norm (chars (name_of title.level))) after_name (label_width heading) words.word (omega (arith, words.wide))
+    (heading_lines heading) i in
+    subst (All (IsUnnumbered layout.gutter)) (sym shown.rows_are) (All-append (IsUnnumbered layout.gutter) shown.own
+    (rows_after_title r layout place follows title.allows_styling) (All-from_get_or (IsUnnumbered layout.gutter) shown.own [] each)
+    (after_title r layout _ _))
 
 -- the same of the title that a group has
-pub group_title_unnumbered : (r : Renderer) (layout : Layout) (place : GroupPosition) (follows : Next) (own : Option Title) (title : Title) (rows : List (List Cell))
+pub group_title_unnumbered : (r : Renderer) (layout : Layout) (place : GroupPosition) (follows : Next) (own : Option Title) (title : Title)
+    (rows : List (List Cell))
     → ShowsTitlePart r layout place follows own rows → own ≡ Some title → IsTitleOfWords layout.gutter title → All (IsUnnumbered layout.gutter) rows
 group_title_unnumbered r layout place follows own title rows shown is words =
     title_unnumbered r layout place follows title rows (subst (λ t. ShowsTitlePart r layout place follows t rows) is shown) words

@@ -52,19 +52,23 @@ unlisted_text trusted text free = All-weaker (λ c. is_listed c ≡ false) (IsTr
 -- rows that hold no listed character
 pub free_rows : (trusted : List (List ℕ)) (rows : List (List Cell)) → All IsFree rows → All (IsFreeRow trusted) rows
 free_rows trusted rows free =
-    All-weaker IsFree (IsFreeRow trusted) (λ row free_row. All-map (IsTrusted trusted) (λ (cell : Cell). cell.ch) row (All-weaker IsFreeCell (λ cell. IsTrusted trusted cell.ch) (λ cell is. unlisted trusted cell.ch is.0) row free_row)) rows free
+    All-weaker IsFree (IsFreeRow trusted) (λ row free_row. All-map (IsTrusted trusted) (λ (cell : Cell). cell.ch) row
+    (All-weaker IsFreeCell (λ cell. IsTrusted trusted cell.ch) (λ cell is. unlisted trusted cell.ch is.0) row free_row)) rows free
 
 -- the text of such rows
 further_free : (trusted : List (List ℕ)) (rows : List (List Cell)) → All (IsFreeRow trusted) rows → IsFreeBut trusted (further_text rows)
 further_free trusted [] free = All-nil (IsTrusted trusted)
 further_free trusted (row ∷ rows) free =
-    All-append (IsTrusted trusted) (10 ∷ row_text row) (further_text rows) (All-cons (IsTrusted trusted) 10 (row_text row) (unlisted trusted 10 refl) (All-head (IsFreeRow trusted) row rows free)) (further_free trusted rows (All-tail (IsFreeRow trusted) row rows free))
+    All-append (IsTrusted trusted) (10 ∷ row_text row) (further_text rows)
+    (All-cons (IsTrusted trusted) 10 (row_text row) (unlisted trusted 10 refl) (All-head (IsFreeRow trusted) row rows free))
+    (further_free trusted rows (All-tail (IsFreeRow trusted) row rows free))
 
 -- the text of rows that are free but for trusted texts is free but for them
 pub free_text : (trusted : List (List ℕ)) (rows : List (List Cell)) → All (IsFreeRow trusted) rows → IsFreeBut trusted (plain_text rows)
 free_text trusted [] free = All-nil (IsTrusted trusted)
 free_text trusted (row ∷ rows) free =
-    All-append (IsTrusted trusted) (row_text row) (further_text rows) (All-head (IsFreeRow trusted) row rows free) (further_free trusted rows (All-tail (IsFreeRow trusted) row rows free))
+    All-append (IsTrusted trusted) (row_text row) (further_text rows) (All-head (IsFreeRow trusted) row rows free)
+    (further_free trusted rows (All-tail (IsFreeRow trusted) row rows free))
 
 -- each character of these texts is one of those
 abbrev pub AreTextsAmong : List (List ℕ) → List (List ℕ) → Type 0
@@ -75,7 +79,8 @@ pub own_text : (trusted : List (List ℕ)) (heading : Heading)
     → (heading.allows_styling ≡ true → (c : ℕ) → Contains (chars heading.text) c → Contains (flat_map chars trusted) c) → (text : List ℕ)
     → All (λ c. is_listed c ≡ true → (heading.allows_styling ≡ true) × Contains (chars heading.text) c) text → IsFreeBut trusted text
 own_text trusted heading among text own =
-    All-weaker (λ c. is_listed c ≡ true → (heading.allows_styling ≡ true) × Contains (chars heading.text) c) (IsTrusted trusted) (λ c is listed. among (is listed).0 c (is listed).1) text own
+    All-weaker (λ c. is_listed c ≡ true → (heading.allows_styling ≡ true) × Contains (chars heading.text) c) (IsTrusted trusted) (λ c is listed.
+    among (is listed).0 c (is listed).1) text own
 
 -- a row that holds no other
 pub own_row : (trusted : List (List ℕ)) (heading : Heading)
@@ -142,11 +147,13 @@ element_free trusted (Padding padding) part among free =
 -- the trusted texts of each of some elements are among those of all
 pub texts_among : (titles : List (List ℕ)) (es : List Element) → All (λ e. AreTextsAmong (titles ++ flat_map trusted_of_element es) (trusted_of_element e)) es
 texts_among titles es =
-    All-weaker (λ e. AreTextsAmong (flat_map trusted_of_element es) (trusted_of_element e)) (λ e. AreTextsAmong (titles ++ flat_map trusted_of_element es) (trusted_of_element e)) (λ e among c is. after c (among c is)) es (each es)
+    All-weaker (λ e. AreTextsAmong (flat_map trusted_of_element es) (trusted_of_element e)) (λ e.
+    AreTextsAmong (titles ++ flat_map trusted_of_element es) (trusted_of_element e)) (λ e among c is. after c (among c is)) es (each es)
   where
     after : (c : ℕ) → Contains (flat_map chars (flat_map trusted_of_element es)) c → Contains (flat_map chars (titles ++ flat_map trusted_of_element es)) c
     after c is =
-        subst (λ cs. Contains cs c) (sym (flat_map-append chars titles (flat_map trusted_of_element es))) (Contains-append_right (flat_map chars titles) (flat_map chars (flat_map trusted_of_element es)) c is)
+        subst (λ cs. Contains cs c) (sym (flat_map-append chars titles (flat_map trusted_of_element es)))
+        (Contains-append_right (flat_map chars titles) (flat_map chars (flat_map trusted_of_element es)) c is)
 
     each : (xs : List Element) → All (λ e. AreTextsAmong (flat_map trusted_of_element xs) (trusted_of_element e)) xs
     each [] = All-nil (λ e. AreTextsAmong [] (trusted_of_element e))

@@ -39,13 +39,15 @@ pub primary_path-first : (g : Group) (es : List Element) (i : ℕ) (e : Element)
     → filter_map file_of_element es ≡ filter_map file_of_element (drop i es) → i < length es → e ≡ get_or es i e → file_of_element e ≡ Some path
     → path ≡ primary_path g
 primary_path-first g es i e path same none within is some =
-    sym (ap (λ (xs : List Element). option_flatten (slice_get (filter_map file_of_element xs) 0)) (sym same) ∙ ap option_flatten (filter_map-first file_of_element es i e path none within is some))
+    sym (ap (λ (xs : List Element). option_flatten (slice_get (filter_map file_of_element xs) 0)) (sym same)
+    ∙ ap option_flatten (filter_map-first file_of_element es i e path none within is some))
 
 -- a group has no primary path where none of its elements has one
 pub primary_path-none : (g : Group) (es : List Element) (i : ℕ) → es ≡ g.elements.items → filter_map file_of_element es ≡ filter_map file_of_element (drop i es)
     → length es ≤ i → None ≡ primary_path g
 primary_path-none g es i same none past =
-    sym (ap (λ (xs : List Element). option_flatten (slice_get (filter_map file_of_element xs) 0)) (sym same) ∙ ap option_flatten (filter_map-none file_of_element es i none past))
+    sym (ap (λ (xs : List Element). option_flatten (slice_get (filter_map file_of_element xs) 0)) (sym same)
+    ∙ ap option_flatten (filter_map-none file_of_element es i none past))
 
 -- an element that is neither source with annotations nor an origin is of no file
 pub no_file : (e : Element) → ((s : Snippet Annotation) → e ≢ Cause s) → ((o : PlaceGiven) → e ≢ Origin o) → file_of_element e ≡ None

@@ -25,7 +25,9 @@ pub widest-more : (wants : Element → ℕ) (most : ℕ) (ps : List PreparedElem
     → fold (greater wants) most (map element_of (take (i + 1) ps)) ≡ max (wants (element_of p)) (fold (greater wants) most (map element_of (take i ps)))
 widest-more wants most ps i p within is =
     let f : ℕ → Element → ℕ = greater wants in
-    fold-map f element_of most (take (i + 1) ps) ∙ fold_more (λ m q. f m (element_of q)) most ps i p within ∙ ap (λ q. f (fold (λ m t. f m (element_of t)) most (take i ps)) (element_of q)) (sym is) ∙ ap (λ m. f m (element_of p)) (sym (fold-map f element_of most (take i ps)))
+    fold-map f element_of most (take (i + 1) ps) ∙ fold_more (λ m q. f m (element_of q)) most ps i p within
+    ∙ ap (λ q. f (fold (λ m t. f m (element_of t)) most (take i ps)) (element_of q)) (sym is)
+    ∙ ap (λ m. f m (element_of p)) (sym (fold-map f element_of most (take i ps)))
 
 -- elements that aren't drawn want nothing
 unnumbered : (b : Bool) (n : ℕ) → cond (b && false) n 0 ≡ 0
@@ -68,7 +70,8 @@ pub widest-prepared : (wants : Element → ℕ) → ((e : Element) → is_drawn 
     → (most : ℕ) (p : PreparedGroup) (ps : List PreparedElement) → ps ≡ p.elements.items → IsGroupPrepared p
     → fold (greater wants) most (map element_of ps) ≡ fold (greater wants) most p.group.now.elements.items
 widest-prepared wants none most p ps is prepared =
-    ap (λ (qs : List PreparedElement). fold (greater wants) most (map element_of qs)) is ∙ ap (fold (greater wants) most) prepared.elements_are ∙ widest-drawn wants none most p.group.now.elements.items
+    ap (λ (qs : List PreparedElement). fold (greater wants) most (map element_of qs)) is ∙ ap (fold (greater wants) most) prepared.elements_are
+    ∙ widest-drawn wants none most p.group.now.elements.items
 
 -- the elements of a group that was prepared
 abbrev pub elements_in : PreparedGroup → List Element

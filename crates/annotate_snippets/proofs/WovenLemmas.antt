@@ -27,10 +27,15 @@ IsWoven-joined sheet a pa la b pb lb first second =
     let fed : piece_text (Char 10) ≡ 10 ∷ [] = encode_ascii 10 (lit< tt) in
     record {
       pieces = pieces;
-      text_is = ap (λ x. x ++ 10 ∷ b) first.text_is ∙ ap (λ y. flat_map piece_text first.pieces ++ 10 ∷ y) second.text_is ∙ ap (λ y. flat_map piece_text first.pieces ++ (y ++ flat_map piece_text second.pieces)) (sym fed) ∙ sym (flat_map-append piece_text first.pieces (Char 10 ∷ second.pieces));
-      plain_is = ap (λ x. x ++ 10 ∷ pb) first.plain_is ∙ ap (λ y. flat_map plain_piece first.pieces ++ 10 ∷ y) second.plain_is ∙ sym (flat_map-append plain_piece first.pieces (Char 10 ∷ second.pieces));
-      links_are = ap (λ x. x ++ lb) first.links_are ∙ ap (λ y. flat_map piece_link first.pieces ++ y) second.links_are ∙ sym (flat_map-append piece_link first.pieces (Char 10 ∷ second.pieces));
-      of_sheet = All-append (λ p. IsOfSheet sheet p) first.pieces (Char 10 ∷ second.pieces) first.of_sheet (All-cons (λ p. IsOfSheet sheet p) (Char 10) second.pieces tt second.of_sheet);
+      text_is = ap (λ x. x ++ 10 ∷ b) first.text_is ∙ ap (λ y. flat_map piece_text first.pieces ++ 10 ∷ y) second.text_is
+          ∙ ap (λ y. flat_map piece_text first.pieces ++ (y ++ flat_map piece_text second.pieces)) (sym fed)
+          ∙ sym (flat_map-append piece_text first.pieces (Char 10 ∷ second.pieces));
+      plain_is = ap (λ x. x ++ 10 ∷ pb) first.plain_is ∙ ap (λ y. flat_map plain_piece first.pieces ++ 10 ∷ y) second.plain_is
+          ∙ sym (flat_map-append plain_piece first.pieces (Char 10 ∷ second.pieces));
+      links_are = ap (λ x. x ++ lb) first.links_are ∙ ap (λ y. flat_map piece_link first.pieces ++ y) second.links_are
+          ∙ sym (flat_map-append piece_link first.pieces (Char 10 ∷ second.pieces));
+      of_sheet = All-append (λ p. IsOfSheet sheet p) first.pieces (Char 10 ∷ second.pieces) first.of_sheet
+          (All-cons (λ p. IsOfSheet sheet p) (Char 10) second.pieces tt second.of_sheet);
       ended = ended-append false first.pieces (Char 10 ∷ second.pieces) first.ended second.ended;
     }
 
@@ -51,7 +56,8 @@ IsWoven-from_groups sheet [] (g ∷ gs) parts printed = absurd printed
 IsWoven-from_groups sheet (level ∷ levels) [] parts printed = absurd printed
 IsWoven-from_groups sheet (level ∷ levels) (g ∷ gs) [] printed = absurd printed
 IsWoven-from_groups sheet (level ∷ []) (g ∷ []) (part ∷ []) printed =
-    subst (IsWoven sheet part (plain_text (group_rows g))) (sym (append-nil (links_of (group_rows g)))) (IsWoven-from_prints sheet level (group_rows g) part printed.0)
+    subst (IsWoven sheet part (plain_text (group_rows g))) (sym (append-nil (links_of (group_rows g))))
+    (IsWoven-from_prints sheet level (group_rows g) part printed.0)
 IsWoven-from_groups sheet (level ∷ []) (g ∷ []) (part ∷ next ∷ parts) printed = absurd printed.1
 IsWoven-from_groups sheet (level ∷ []) (g ∷ other ∷ gs) (part ∷ parts) printed = absurd printed.1
 IsWoven-from_groups sheet (level ∷ more ∷ levels) (g ∷ []) (part ∷ parts) printed = absurd printed.1

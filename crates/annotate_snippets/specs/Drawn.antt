@@ -112,7 +112,8 @@ suggestion_lines r layout around found s =
 
 -- the rows of a suggestion, whose source and whose lines are UTF-8: that of its path, where it names that, and those of its lines, each
 -- of which shows what the suggestion has there
-pub record IsSuggestionDrawn (r : Renderer) (layout : Layout) (around : ElementContext) (found : List Cell) (s : Snippet Patch) (rows : List (List Cell)) : Type 0 where
+pub record IsSuggestionDrawn (r : Renderer) (layout : Layout) (around : ElementContext) (found : List Cell) (s : Snippet Patch)
+    (rows : List (List Cell)) : Type 0 where
   pub utf8 : IsUtf8 (cow_str_bytes s.source)
   pub given_utf8 : IsUtf8 (given_text s)
   pub lines : List (List Cell)
@@ -131,7 +132,8 @@ IsElementDrawn r layout around found (Padding padding) rows =
 
 -- the rows of an element stand below some rows, and nothing else, but the row in which the next one begins, where it shares that: the
 -- one that the element ends with
-pub record AddsElement (r : Renderer) (layout : Layout) (around : ElementContext) (found : List Cell) (e : Element) (above new : List (List Cell)) : Type 0 where
+pub record AddsElement (r : Renderer) (layout : Layout) (around : ElementContext) (found : List Cell) (e : Element)
+    (above new : List (List Cell)) : Type 0 where
   pub rows : List (List Cell)
   pub tail : List (List Cell)
   pub added : new ≡ above ++ (rows ++ tail)
@@ -140,13 +142,15 @@ pub record AddsElement (r : Renderer) (layout : Layout) (around : ElementContext
   pub last : around.shared ≡ true → tail ≡ last_row r layout (not (is_end around.next)) (Some e) ∷ []
 
 -- each of these parts is the rows of one of these elements, which are all that a group draws, in order
-pub record AreElementsDrawn (r : Renderer) (layout : Layout) (place : GroupPosition) (file : Option (List ℕ)) (es : List Element) (parts : List (List (List Cell))) : Type 0 where
+pub record AreElementsDrawn (r : Renderer) (layout : Layout) (place : GroupPosition) (file : Option (List ℕ)) (es : List Element)
+    (parts : List (List (List Cell))) : Type 0 where
   pub count : length parts ≡ length es
   pub each : (i : ℕ) (e : Element) → slice_get es i ≡ Some e
       → IsElementDrawn r layout (context_at place file es i e) (found_at r layout es i) e (slice_index_or parts i [])
 
 -- the rows of these elements stand below some rows, and nothing else
-pub record AddsElements (r : Renderer) (layout : Layout) (place : GroupPosition) (file : Option (List ℕ)) (es : List Element) (old new : List (List Cell)) : Type 0 where
+pub record AddsElements (r : Renderer) (layout : Layout) (place : GroupPosition) (file : Option (List ℕ)) (es : List Element)
+    (old new : List (List Cell)) : Type 0 where
   pub parts : List (List (List Cell))
   pub added : new ≡ old ++ flat_map (λ part. part) parts
   pub are : AreElementsDrawn r layout place file es parts

@@ -56,7 +56,15 @@ lent text = record { ref_ptr = (0, 0); now = text }
 -- an entry as it is drawn
 abbrev pub line_entry : PartEntry → LineAnnotation
 line_entry p =
-    record { start = p.entry.start; end = p.entry.end; kind = p.entry.kind; label = option_map lent p.entry.label; annotation_type = p.part; highlight_source = p.entry.highlight_source }
+    record {
+      start = p.entry.start;
+      end = p.entry.end;
+      kind = p.entry.kind;
+      label = option_map lent p.entry.label;
+      annotation_type = p.part;
+      highlight_source =
+          p.entry.highlight_source;
+    }
 
 -- the rows of line k of a snippet, where these bars are open above it: what its entries make of the row that holds its number, the
 -- separator and its window, with the roles that entries highlight. The group's window may close with the line
@@ -67,7 +75,8 @@ rows_of_line r layout closes s open_bars k =
     let dropped = width_of (dropped_part (bounds_of margin).left text) in
     let entries = map line_entry (entries_on s k) in
     let plain = source_row layout (number_text r s.line_numbering layout.gutter (s.line_start + k)) (window_cells layout.decor margin text) in
-    line_rows layout margin.term_width closes text dropped open_bars entries (highlighted_row layout.code dropped (filter (λ e. not (is_end_part e.annotation_type)) entries) plain)
+    line_rows layout margin.term_width closes text dropped open_bars entries
+    (highlighted_row layout.code dropped (filter (λ e. not (is_end_part e.annotation_type)) entries) plain)
 
 -- the rows of line k with their names: the first shows the line
 abbrev pub named_line : ℕ → List (List Cell) → List NamedRow
@@ -93,7 +102,8 @@ rows_of_lines r layout closes s open_bars (k ∷ ks) =
 -- the rows of an annotated snippet: those that it begins with, those of the lines that are shown, and what stands below
 abbrev pub snippet_rows : Renderer → Layout → ElementContext → Snippet Annotation → List NamedRow
 snippet_rows r layout around s =
-    others (cause_head r layout around s) ++ (rows_of_lines r layout (closes_with around) s [] (shown_lines s.fold (cow_str_bytes s.source) s.markers.items) ++ others (rows_after_cause r layout around))
+    others (cause_head r layout around s) ++ (rows_of_lines r layout (closes_with around) s [] (shown_lines s.fold (cow_str_bytes s.source) s.markers.items)
+    ++ others (rows_after_cause r layout around))
 
 -- what the row of a suggestion is named by
 abbrev pub name_of_row : Snippet Patch → SuggestionRow → RowName

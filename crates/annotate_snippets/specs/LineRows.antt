@@ -44,7 +44,8 @@ open_after s Other open_bars = open_bars
 -- the rows are those of line k, the source row and all below it, where these bars are open above it: what its entries and those
 -- bars make of the row that holds the number, the separator and the window of the line between the snippet's bounds alone, with
 -- the roles that entries highlight. The group's window may close with the line
-pub record IsLineDrawn (r : Renderer) (layout : Layout) (closes : Bool) (s : Snippet Annotation) (open_bars : List Bar) (k : ℕ) (rows : List (List Cell)) : Type 0 where
+pub record IsLineDrawn (r : Renderer) (layout : Layout) (closes : Bool) (s : Snippet Annotation) (open_bars : List Bar) (k : ℕ)
+    (rows : List (List Cell)) : Type 0 where
   pub entries : List LineAnnotation
   pub are : map seen_part entries ≡ entries_on s k
   pub margin : Margin

@@ -87,7 +87,8 @@ place_given origin = record { line = origin.line; column = origin.char_column }
 -- its rows: that of its path, and a closing row where nothing follows in the first of several groups
 abbrev pub origin_rows : Renderer → Layout → ElementContext → Origin → List (List Cell)
 origin_rows r layout around origin =
-    origin_row (origin_layout r layout) (origin_start around) (cow_str_bytes origin.path) (place_given origin) ∷ (if closes_after around then closing_rows r layout else [])
+    origin_row (origin_layout r layout) (origin_start around) (cow_str_bytes origin.path) (place_given origin) ∷
+    (if closes_after around then closing_rows r layout else [])
 
 -- a place that is found in a source
 abbrev pub place_found : Option Location → OriginLocation
@@ -101,7 +102,8 @@ place_named primary lines = place_found (if primary then primary_place lines els
 -- what an annotated snippet begins with
 abbrev pub cause_head : Renderer → Layout → ElementContext → Snippet Annotation → List (List Cell)
 cause_head r layout around s =
-    snippet_head (origin_layout r layout) around.primary around.first (path_bytes s.path) (place_named around.primary (annotated_lines s.fold (numbered_source s) s.markers.items))
+    snippet_head (origin_layout r layout) around.primary around.first (path_bytes s.path)
+    (place_named around.primary (annotated_lines s.fold (numbered_source s) s.markers.items))
 
 -- the place at which the first patch of a snippet starts, trimmed as it is
 abbrev pub patch_place : Snippet Patch → OriginLocation

@@ -60,7 +60,8 @@ use Rattle.snippet_grid.specs.Layout.{Layout, code_cell, inner_cell}
 use Rattle.annotate_snippets.specs.declared.renderer.element_context.GroupPosition.{GroupPosition}
 use Rattle.annotate_snippets.specs.declared.renderer.element_context.Next.{Next}
 use Rattle.annotate_snippets.specs.declared.renderer.element_context.ElementContext.{ElementContext}
-use Rattle.annotate_snippets.specs.Around.{closes_with, drawn_elements, file_of_group, is_end, next_of, path_bytes, position_of_group, context_at, suggestion_rows}
+use Rattle.annotate_snippets.specs.Around.{closes_with, drawn_elements, file_of_group, is_end, next_of, path_bytes, position_of_group, context_at}
+use Rattle.annotate_snippets.specs.Around.{suggestion_rows}
 use Rattle.annotate_snippets.specs.Drawn.{found_at, suggestion_layout, suggestion_lines}
 pub use Rattle.annotate_snippets.specs.GraphicForm.{name_of_row}
 use Rattle.annotate_snippets.specs.GraphicForm.{graphic_form}
@@ -102,7 +103,8 @@ pub record ShowsMessage (r : Renderer) (layout : Layout) (around : ElementContex
 -- normalised, and the place that it gives
 pub record ShowsOrigin (r : Renderer) (layout : Layout) (around : ElementContext) (o : origin.Origin) (rows : List NamedRow) : Type 0 where
   pub rows_are : rows ≡ others (origin_rows r layout around o)
-  pub text : row_text (drop (layout.gutter + 4) (row_at (cells_of rows) 0)) ≡ origin_text r.anonymized_origin_line_numbers (cow_str_bytes o.path) (place_given o)
+  pub text : row_text (drop (layout.gutter + 4) (row_at (cells_of rows) 0))
+      ≡ origin_text r.anonymized_origin_line_numbers (cow_str_bytes o.path) (place_given o)
 
 -- the columns that code has
 abbrev pub room_of : Renderer → Layout → ℕ
@@ -145,7 +147,8 @@ pub record ShowsSourceLine (r : Renderer) (layout : Layout) (s : Snippet Annotat
   pub left : take (layout.gutter + 2) row ≡ cells_left layout.decor layout.gutter (number_text r s.line_numbering layout.gutter (s.line_start + k))
   pub space : slice_index_or row (layout.gutter + 2) SPACE ≡ SPACE
   pub bars : HasBarsAlone layout.decor layout row
-  pub window : IsWindowOf (placeholder_of layout.decor) (room_of r layout) (wide_spans (room_of r layout) (length (placeholder_of layout.decor)) s k) (bounds_in r layout s).left (bounds_in r layout s).right (norm (chars_at (cow_str_bytes s.source) k)) dropped (row_text (drop layout.code row))
+  pub window : IsWindowOf (placeholder_of layout.decor) (room_of r layout) (wide_spans (room_of r layout) (length (placeholder_of layout.decor)) s k)
+      (bounds_in r layout s).left (bounds_in r layout s).right (norm (chars_at (cow_str_bytes s.source) k)) dropped (row_text (drop layout.code row))
   pub whole : stands_whole (room_of r layout) (length (placeholder_of layout.decor)) s.fold (cow_str_bytes s.source) s.markers.items k ≡ true
       → (dropped ≡ 0) × (row_text (drop layout.code row) ≡ norm (chars_at (cow_str_bytes s.source) k))
 
@@ -193,7 +196,8 @@ promoted_spans before (e ∷ later) = promoted before e ∷ promoted_spans (befo
 abbrev pub labels_ending_on : Snippet Annotation → ℕ → List SpanLabel
 labels_ending_on s k =
     let source = numbered_source s in
-    map (label_of_span source.text) (filter (is_marked_on source.text k) s.markers.items) ++ map label_of_end (filter (λ (e : Entry). e.end.line == source.first + k) (promoted_spans [] (long_spans source s.markers.items)))
+    map (label_of_span source.text) (filter (is_marked_on source.text k) s.markers.items)
+    ++ map label_of_end (filter (λ (e : Entry). e.end.line == source.first + k) (promoted_spans [] (long_spans source s.markers.items)))
 
 -- where a label stands: in which of the rows below its line, from 0, and from which cell of it on
 pub record ShownLabel : Type 0 where
@@ -285,7 +289,8 @@ pub record ShowsSnippet (r : Renderer) (layout : Layout) (around : ElementContex
       → All (λ a. is_long (cow_str_bytes s.source) a ≡ false) s.markers.items → NamesLocation r layout s path (row_at (cells_of rows) 0)
   pub lines : lines_named after ≡ shown_lines s.fold (cow_str_bytes s.source) s.markers.items
   pub elided : names_in after ≡ names_of_lines (shown_lines s.fold (cow_str_bytes s.source) s.markers.items)
-  pub ends : All (λ a. Contains (lines_named after) (first_line (cow_str_bytes s.source) a) × Contains (lines_named after) (last_line (cow_str_bytes s.source) a)) s.markers.items
+  pub ends : All (λ a. Contains (lines_named after) (first_line (cow_str_bytes s.source) a)
+      × Contains (lines_named after) (last_line (cow_str_bytes s.source) a)) s.markers.items
   pub ordered : IsAscending (lines_named after)
   pub named : AreRowsOf r layout (closes_with around) s after
   pub drawn : AreRowsDrawn r layout (closes_with around) s [] after
@@ -305,7 +310,8 @@ pub record IsOfferedRow (r : Renderer) (decor : DecorStyle) (gutter : ℕ) (s : 
   pub space : (slice_index_or row (gutter + 2) SPACE).ch ≡ 32
   pub line : row_text (drop (gutter + 3) row) ≡ norm (chars (slice_index_or (given_lines s) (j - first_given s) []))
   pub patched_line : IsOfferable s
-      → (j < length (source_lines (patched (cow_str_bytes s.source) (edits_of s)))) × (row_text (drop (gutter + 3) row) ≡ norm (chars (text_at (source_lines (patched (cow_str_bytes s.source) (edits_of s))) j)))
+      → (j < length (source_lines (patched (cow_str_bytes s.source) (edits_of s))))
+      × (row_text (drop (gutter + 3) row) ≡ norm (chars (text_at (source_lines (patched (cow_str_bytes s.source) (edits_of s))) j)))
 
 -- a row of a suggestion is what its name says: it offers a line; or it shows a line of the source as removed: with the number
 -- beside it, if that ends before the sign, `-` after the gutter, the line's normalised text from three cells after it on, and no letter
@@ -315,7 +321,8 @@ IsSuggestionRow r decor gutter s (SourceRow k) row = ⊥
 IsSuggestionRow r decor gutter s Elision row = ⊥
 IsSuggestionRow r decor gutter s (OfferedLine j) row = IsOfferedRow r decor gutter s j row
 IsSuggestionRow r decor gutter s (RemovedLine i) row =
-    IsRemovedRow (line_numbers r s.line_numbering) decor gutter (number_text r s.line_numbering gutter (removed_number s i)) (norm (chars (text_at (source_lines (cow_str_bytes s.source)) i))) row
+    IsRemovedRow (line_numbers r s.line_numbering) decor gutter (number_text r s.line_numbering gutter (removed_number s i))
+    (norm (chars (text_at (source_lines (cow_str_bytes s.source)) i))) row
 IsSuggestionRow r decor gutter s Other row = IsBareRow decor gutter row
 
 -- left of the lines a row of a suggestion that shows none holds just what such a row has: what the suggestion begins or ends with,
@@ -333,7 +340,8 @@ HasStrokes decor gutter (Ends follows) row = HasLeft gutter (beside_gutter gutte
 -- in order, above the line in their place, where one stands there; and each row is what its name says. Each line
 -- that a patch touches is offered, if it isn't blank; but not where the spliced text has one line, and that is the last source line
 -- that is reached. Where the suggestion begins in the row in which the one before it ends, that row holds what is found there
-pub record ShowsSuggestion (r : Renderer) (layout : Layout) (around : ElementContext) (found : List Cell) (s : Snippet Patch) (rows : List NamedRow) : Type 0 where
+pub record ShowsSuggestion (r : Renderer) (layout : Layout) (around : ElementContext) (found : List Cell) (s : Snippet Patch)
+    (rows : List NamedRow) : Type 0 where
   pub after : List NamedRow
   pub rows_are : rows ≡ others (suggestion_head r layout around s) ++ after
   pub offered : IsOfferable s → (j : ℕ) → IsTouched (cow_str_bytes s.source) (edits_of s) j
@@ -365,7 +373,8 @@ IsFreeElement (element.Origin origin) rows = All (λ row. IsFree row.cells) rows
 IsFreeElement (element.Padding padding) rows = All (λ row. IsFree row.cells) rows
 
 -- the parts of a group's page show these elements, which are all that are drawn, one by one, in order
-pub record AreElementsShown (r : Renderer) (layout : Layout) (place : GroupPosition) (file : Option (List ℕ)) (es : List Element) (parts : List (List NamedRow)) : Type 0 where
+pub record AreElementsShown (r : Renderer) (layout : Layout) (place : GroupPosition) (file : Option (List ℕ)) (es : List Element)
+    (parts : List (List NamedRow)) : Type 0 where
   pub count : length parts ≡ length es
   pub each : (i : ℕ) (e : Element) → slice_get es i ≡ Some e
       → ShowsElement r layout (context_at place file es i e) (found_at r layout es i) e (slice_index_or parts i [])

@@ -75,7 +75,8 @@ elements_form r file before (e ∷ es) =
 -- a group: its title, and the elements that are drawn
 abbrev pub group_form : Renderer → List Group → Group → List FormPiece
 group_form r groups g =
-    flat_map (λ title. heading_form r.hyperlink Title (heading_of_title title)) (option_to_list g.title) ++ elements_form r (file_of_group groups g) None (drawn_elements g)
+    flat_map (λ title. heading_form r.hyperlink Title (heading_of_title title)) (option_to_list g.title)
+    ++ elements_form r (file_of_group groups g) None (drawn_elements g)
 
 -- the text form of a report
 abbrev pub text_form : Renderer → List Group → List FormPiece

@@ -3,8 +3,8 @@
 use crate::renderer::parts::LevelInner;
 pub use snippet_model::level::{ERROR, HELP, INFO, Level, LevelName, NOTE, WARNING};
 
-/// Proves, and does nothing else, that each constant that this module gives is the level of the kind that its name says, shown
-/// by the name of the kind.
+/// Proves, and does nothing else, that each constant that this module gives is the level of the kind that its name
+/// says, shown by the name of the kind.
 fn prove_constants() {
     prove!(matches!(
         &ERROR,

@@ -235,8 +235,9 @@ impl Renderer {
         self
     }
 
-    /// Whether a report is drawn on one line, for editors and logs: the title of its first group, after the place of its first
-    /// annotated snippet and before the labels of that. Such a report needs a group, and its first group a title.
+    /// Whether a report is drawn on one line, for editors and logs: the title of its first group, after the place of
+    /// its first annotated snippet and before the labels of that. Such a report needs a group, and its first group a
+    /// title.
     pub fn short_message(mut self, short_message: bool) -> Renderer
         ensures changed { result ≡ record self { short_message = short_message } }
     {
@@ -244,8 +245,8 @@ impl Renderer {
         self
     }
 
-    /// Whether a report is written without graphics, for speech and Braille; where this is set, `short_message` isn't looked
-    /// at.
+    /// Whether a report is written without graphics, for speech and Braille; where this is set, `short_message` isn't
+    /// looked at.
     pub fn no_graphics(mut self, no_graphics: bool) -> Renderer
         ensures changed { result ≡ record self { no_graphics = no_graphics } }
     {
@@ -261,7 +262,8 @@ impl Renderer {
     pub fn render(&self, alloc: Global, groups: Report<'_>) -> Result<String, RenderError>
         requires fits { ReportFits groups.now }
 
-        // A report is refused for the first reason in order: that the short form lacks a title, or a fault of what it holds.
+        // A report is refused for the first reason in order: that the short form lacks a title, or a fault of what it
+        // holds.
         ensures refused { IfSome (spec.first_refusal self.now groups.now) (λ refusal. result ≡ Err refusal) }
 
         // One within bounds gives a text where memory is found.
@@ -275,10 +277,11 @@ impl Renderer {
         ensures laws { IfOk result (λ text.
             HasLaws self.now groups.now self.now.stylesheet (string_bytes text)) }
 
-        // Without the codes of the sheet and of the report's links, each listed character of the text is one of a trusted text.
-        // It follows from `laws`, in fewer words.
+        // Without the codes of the sheet and of the report's links, each listed character of the text is one of a
+        // trusted text. It follows from `laws`, in fewer words.
         ensures free { IfOk result (λ text. AreFree (trusted_texts groups.now)
-            (links_in (spec.form_of self.now) self.now groups.now) (self.now.stylesheet ∷ []) (string_bytes text ∷ [])) }
+            (links_in (spec.form_of self.now) self.now groups.now) (self.now.stylesheet ∷ [])
+            (string_bytes text ∷ [])) }
     {
         let drawn = self.drawn(alloc, groups)?;
         text_under(alloc, &drawn, &self.stylesheet).map_err(RenderError::Memory)
@@ -299,7 +302,8 @@ impl Renderer {
     ) -> Result<Vec<String>, RenderError>
         requires fits { ReportFits groups.now }
 
-        // A report is refused for the first reason in order: that the short form lacks a title, or a fault of what it holds.
+        // A report is refused for the first reason in order: that the short form lacks a title, or a fault of what it
+        // holds.
         ensures refused { IfSome (spec.first_refusal self.now groups.now) (λ refusal. result ≡ Err refusal) }
 
         // One within bounds gives its texts where memory is found.
@@ -313,8 +317,8 @@ impl Renderer {
         ensures laws { IfOk result (λ texts.
             AllZip (HasLaws self.now groups.now) sheets.now (map string_bytes texts.items)) }
 
-        // They differ in their codes alone: there is one plain text and one list of links, and each listed character of the plain
-        // text is one of a trusted text. It follows from `laws`, in fewer words.
+        // They differ in their codes alone: there is one plain text and one list of links, and each listed character of
+        // the plain text is one of a trusted text. It follows from `laws`, in fewer words.
         ensures free { IfOk result (λ texts. AreFree (trusted_texts groups.now)
             (links_in (spec.form_of self.now) self.now groups.now) sheets.now (map string_bytes texts.items)) }
     {

@@ -17,7 +17,8 @@ const SOURCE: &str = "fn total(prices: &[u32]) -> u64 {\n    prices.iter().sum::
 fn marked(alloc: Global) -> Result<Snippet<'static, Annotation<'static>>, AllocError>
     ensures fits { IfOk result (SnippetFits AnnotationFits) }
 {
-    // What is wrong is primary: its place stands at the top, and its mark is in the error's colour. What explains it is context.
+    // What is wrong is primary: its place stands at the top, and its mark is in the error's colour. What explains it is
+    // context.
     let found = AnnotationKind::Primary
         .span(38..64)
         .label_str("expected `u64`, found `u32`");

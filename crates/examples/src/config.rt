@@ -17,7 +17,8 @@ fn not_toml<'a>(alloc: Global, path: &'a str, text: &'a str, error: &'a Error) -
     requires path { TextFits path.now }
     requires text { TextFits text.now }
 {
-    // An error without a place is that the parser was out of memory. How long a reason may be no clause of `toml` tells.
+    // An error without a place is that the parser was out of memory. How long a reason may be no clause of `toml`
+    // tells.
     let place = error.span().ok_or(RenderError::Memory(AllocError))?;
     let reason = error.message();
     let label = if text_fits(reason) { reason } else { "" };

@@ -1,6 +1,6 @@
 //! Programs in small that report through `annotate_snippets`, one a module, each to be copied: a compiler, a reader of
-//! configurations, a test tool, a service that draws what strangers send, a linter of JSON, a printer of failed tests in
-//! colour; and reports after the examples of annotate-snippets. A linter that is more than small is `tidy`.
+//! configurations, a test tool, a service that draws what strangers send, a linter of JSON, a printer of failed tests
+//! in colour; and reports after the examples of annotate-snippets. A linter that is more than small is `tidy`.
 //!
 //! `main` gives each of them something to report, and prints what it answers.
 #![tactic(auto)]

@@ -6,7 +6,8 @@ use annotate_snippets::text::is_one_line;
 use annotate_snippets::{AnnotationKind, Group, Renderer, Snippet};
 use std::alloc::{AllocError, Global};
 
-/// What a stranger sent: a source, and the bytes of it to be marked, from `start` to before `end`. Any of it may be wrong.
+/// What a stranger sent: a source, and the bytes of it to be marked, from `start` to before `end`. Any of it may be
+/// wrong.
 #[derive(Clone, Copy, Debug)]
 pub struct Request<'a> {
     pub source: &'a str,

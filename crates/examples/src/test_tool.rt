@@ -43,8 +43,8 @@ fn difference(alloc: Global) -> Result<Group<'static>, AllocError>
         .snippet(found)
 }
 
-/// The report of an assertion that failed, in the form that the renderer is set to. With `short_message(true)` it is one line,
-/// which begins with a place that editors jump to, and which tells of the first side alone.
+/// The report of an assertion that failed, in the form that the renderer is set to. With `short_message(true)` it is
+/// one line, which begins with a place that editors jump to, and which tells of the first side alone.
 pub fn failure(alloc: Global, renderer: &Renderer) -> Result<String, RenderError> {
     let group: Group<'static> = difference(alloc)?;
     renderer.render(alloc, &[group])

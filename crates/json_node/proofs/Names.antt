@@ -42,7 +42,8 @@ pub named : (names : List (List ℕ)) (es : List Entry) → AllNamed names (keys
     → IsOneOf names name
 named names [] all name is = absurd (false≢true is)
 named names (e ∷ es) all name is =
-    named_at names name (string_bytes e.0) (view e.1) (get_member name (members_view es)) (slice_cmp nat_cmp name (string_bytes e.0)) refl all.0 (named names es all.1 name) is
+    named_at names name (string_bytes e.0) (view e.1) (get_member name (members_view es)) (slice_cmp nat_cmp name (string_bytes e.0)) refl all.0
+    (named names es all.1 name) is
 
 -- an object of these members
 pub object_of : (d : Data) (ms : Members) → Some ms ≡ as_object d → d ≡ object ms

@@ -36,8 +36,8 @@ impl Problems {
     }
 }
 
-/// A value of JSON, and where it stands. A field that has `null` counts as one that isn't there. Where something else stands
-/// than what is asked for, that is reported, and there is no answer.
+/// A value of JSON, and where it stands. A field that has `null` counts as one that isn't there. Where something else
+/// stands than what is asked for, that is reported, and there is no answer.
 #[derive(Clone, Copy)]
 pub struct Node<'v, 'p> {
     pub value: &'v Value,

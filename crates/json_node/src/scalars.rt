@@ -34,7 +34,8 @@ impl<'v> Node<'v, '_> {
 
     /// The text in the field of this name, if one is given.
     pub fn optional_text(&self, name: &str) -> Result<Option<&'v str>, Fault>
-        ensures value { IfOk result (λ found. optional_at as_str name.now (view self.now.value.now) ≡ Some (lent_text found)) }
+        ensures value { IfOk result (λ found. optional_at as_str name.now (view self.now.value.now)
+            ≡ Some (lent_text found)) }
         ensures fits { IfOk result (λ found. IfSome found (λ text. TextFits text.now)) }
     {
         match self.given(name) {
@@ -72,7 +73,8 @@ impl<'v> Node<'v, '_> {
 
     /// The number in the field of this name, and this one where none is given.
     pub fn number_or(&self, name: &str, missing: usize) -> Result<usize, Fault>
-        ensures value { IfOk result (λ number. given_or as_whole missing name.now (view self.now.value.now) ≡ Some number) }
+        ensures value { IfOk result (λ number. given_or as_whole missing name.now (view self.now.value.now)
+            ≡ Some number) }
     {
         match self.given(name) {
             Some(field) => field.as_number(),

@@ -1,5 +1,5 @@
-//! What the programs share: the words of the command line, what a file holds, lines that are written whole or cut short, and
-//! the status.
+//! What the programs share: the words of the command line, what a file holds, lines that are written whole or cut
+//! short, and the status.
 #![tactic(auto)]
 
 pub mod exit;

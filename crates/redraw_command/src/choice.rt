@@ -63,7 +63,8 @@ impl Choice<'_> {
     }
 }
 
-/// Whether this only sums up how many others there are, as rustc and cargo do in the end: `aborting due to 2 previous errors`.
+/// Whether this only sums up how many others there are, as rustc and cargo do in the end: `aborting due to 2 previous
+/// errors`.
 pub fn is_sum(diagnostic: &Diagnostic) -> bool
     ensures value { result ≡ spec.is_sum diagnostic.now }
 {

@@ -1,5 +1,5 @@
-//! What `redraw` is asked for, and what it does beside drawing: its words, which findings are chosen, what a line of an input is,
-//! what was drawn before, findings as workflow commands, what is written where, and the status.
+//! What `redraw` is asked for, and what it does beside drawing: its words, which findings are chosen, what a line of an
+//! input is, what was drawn before, findings as workflow commands, what is written where, and the status.
 #![tactic(auto)]
 
 pub mod choice;

@@ -7,7 +7,8 @@ use std::io::Write;
 
 /// Prints a text with its ending, and a line feed.
 pub fn print<W: Write>(text: &str, ending: &str, out: &mut W) -> Result<(), Stop>
-    ensures printed { OnOk result (Appends (W.contents out.old) (W.contents out.new) (text.now ++ (ending.now ++ 10 ∷ []))) }
+    ensures printed { OnOk result (Appends (W.contents out.old) (W.contents out.new)
+        (text.now ++ (ending.now ++ 10 ∷ []))) }
 {
     let line = format_args!("{text}{ending}");
     out.writeln(line).map_err(Stop::Unwritable)?;

@@ -4,8 +4,8 @@ use crate::terminal::Surroundings;
 use redraw_report::diagnostic::{Child, Diagnostic};
 use std::alloc::{AllocError, Global};
 
-/// The path of the folder that files are read below, from the root of the machine, without a slash at its end; `None` where it
-/// isn't known. A folder is given or not, in the one that the program runs in.
+/// The path of the folder that files are read below, from the root of the machine, without a slash at its end; `None`
+/// where it isn't known. A folder is given or not, in the one that the program runs in.
 pub fn folder_of(
     alloc: Global,
     root: Option<&str>,

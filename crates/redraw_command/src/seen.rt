@@ -9,8 +9,8 @@ use std::hash::{BuildHasherDefault, FoldHasher};
 /// How many diagnostics are kept in mind.
 const MOST: usize = 16_384;
 
-/// The diagnostics of cargo that were drawn, by what their texts have for a digest: of 32 bytes each, so that a run takes no
-/// memory for their texts. No two texts are known that have the same.
+/// The diagnostics of cargo that were drawn, by what their texts have for a digest: of 32 bytes each, so that a run
+/// takes no memory for their texts. No two texts are known that have the same.
 #[derive(Drop)]
 pub struct Seen {
     alloc: Global,
@@ -26,7 +26,8 @@ impl Seen {
         }
     }
 
-    /// Keeps a diagnostic in mind, and says whether it was kept before. When too many are kept, all others are forgotten first.
+    /// Keeps a diagnostic in mind, and says whether it was kept before. When too many are kept, all others are
+    /// forgotten first.
     pub fn keeps(&mut self, message: &Value) -> Result<bool, AllocError> {
         let text = message.to_string(self.alloc)?;
         let digest = Sha256::digest(text.as_bytes());

@@ -140,7 +140,8 @@ fn inputs<'a>(alloc: Global) -> Arg<'a> {
         .num_args(0..)
 }
 
-/// What the words are matched with, or what is to be told in place of that: what is wrong with them, the help or the version.
+/// What the words are matched with, or what is to be told in place of that: what is wrong with them, the help or the
+/// version.
 pub fn matches_of<'a>(alloc: Global, words: &'a [&'a str]) -> Result<ArgMatches<'a>, Error> {
     let command = command(alloc)?;
     command.try_get_matches_from(words)

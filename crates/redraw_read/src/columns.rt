@@ -1,5 +1,5 @@
-//! The columns of places in files that rustc hasn't at hand, as those of the standard library: its text has one that is less by
-//! one than its JSON's.
+//! The columns of places in files that rustc hasn't at hand, as those of the standard library: its text has one that is
+//! less by one than its JSON's.
 
 use redraw_report::diagnostic::{FileSpan, LineRegion, Region};
 use std::alloc::{AllocError, Global};

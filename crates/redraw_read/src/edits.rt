@@ -39,8 +39,8 @@ fn add_edit(place: &Node<'_, '_>, edits: &mut Vec<Edit>) -> Result<(), Fault> {
     Ok(())
 }
 
-/// An edit: a place, and what is to stand there. An attribute above a line is to stand as far right as the line: so it is put in
-/// at the line's start, after what is blank there.
+/// An edit: a place, and what is to stand there. An attribute above a line is to stand as far right as the line: so it
+/// is put in at the line's start, after what is blank there.
 fn edit_of(node: &Node<'_, '_>, replacement: &str) -> Result<Edit, Fault> {
     let region = region_of(node)?;
     let file = node.text("file_name")?;
@@ -85,8 +85,8 @@ fn text_before(span: &Value, region: LineRegion) -> Option<&str> {
     span.pointer("/text/0/text")?.as_str()?.get(..before)
 }
 
-/// Edits as the alternatives that they are. rustc writes these one after another, and none of them has edits that overlap: so
-/// one begins with an edit that overlaps with one of the edits before.
+/// Edits as the alternatives that they are. rustc writes these one after another, and none of them has edits that
+/// overlap: so one begins with an edit that overlaps with one of the edits before.
 pub fn alternatives_of(alloc: Global, edits: Vec<Edit>) -> Result<Vec<Vec<Edit>>, AllocError> {
     let mut alternatives = Vec::new(alloc);
     let mut current: Vec<Edit> = Vec::new(alloc);

@@ -1,5 +1,6 @@
-//! Macros that the places of rustc's diagnostics come from. rustc writes with each place where the macro around it was called,
-//! and with that place the same, up to one outside of all macros; what it says of them in its text is not in its JSON.
+//! Macros that the places of rustc's diagnostics come from. rustc writes with each place where the macro around it was
+//! called, and with that place the same, up to one outside of all macros; what it says of them in its text is not in
+//! its JSON.
 
 use serde_json::Value;
 use std::alloc::{AllocError, Global};
@@ -159,8 +160,8 @@ impl<'v> Macros<'v> {
         macros
     }
 
-    /// What rustc's text says of the macros that a diagnostic of this level originates in. Of those whose source isn't at hand
-    /// it says nothing.
+    /// What rustc's text says of the macros that a diagnostic of this level originates in. Of those whose source isn't
+    /// at hand it says nothing.
     pub fn note(&self, alloc: Global, level: &str) -> Result<Option<String>, AllocError> {
         match (
             self.first.and_then(macro_name),
@@ -181,7 +182,8 @@ fn told_name(expansion: &Value) -> Option<(&'static str, &str)> {
     }
 }
 
-/// What is said of the first and the last macro that a diagnostic of this level originates in, each by its kind and name.
+/// What is said of the first and the last macro that a diagnostic of this level originates in, each by its kind and
+/// name.
 fn note_of(
     alloc: Global,
     level: &str,

@@ -47,7 +47,8 @@ pub fn lines_for<'a>(
     }
 }
 
-/// The file, where it has these lines of it; else the lines. Parts of lines may be other than the file's: it counts more than they.
+/// The file, where it has these lines of it; else the lines. Parts of lines may be other than the file's: it counts
+/// more than they.
 fn choice_of<'a>(source: &'a Source, lines: &'a Carried) -> Extract<'a>
     ensures value { Some (chosen result) ≡ spec.lines_for (Some (string_bytes source.now.text)) (Some lines.now) }
 {

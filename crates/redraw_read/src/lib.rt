@@ -1,5 +1,5 @@
-//! What is read for a report: the diagnostics that rustc writes as JSON, the sources that they speak of, and where their places are in
-//! these.
+//! What is read for a report: the diagnostics that rustc writes as JSON, the sources that they speak of, and where
+//! their places are in these.
 #![tactic(auto)]
 
 mod calls;

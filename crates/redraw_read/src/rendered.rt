@@ -1,5 +1,5 @@
-//! How a suggestion is shown, which rustc's own text of a diagnostic tells: its JSON says of each suggestion only what it
-//! changes.
+//! How a suggestion is shown, which rustc's own text of a diagnostic tells: its JSON says of each suggestion only what
+//! it changes.
 
 ghost use Rattle.std.specs.Prelude.{◌≡◌, ◌==◌};
 ghost use Rattle.std.specs.List.{slice_split};
@@ -99,7 +99,8 @@ fn stands_in<'t>(place: Stand, line: &'t str) -> Option<&'t str>
     }
 }
 
-/// Whether a text shows all of a diagnostic: an empty line is at its end then. One of a single line shows only where it is.
+/// Whether a text shows all of a diagnostic: an empty line is at its end then. One of a single line shows only where it
+/// is.
 pub fn is_whole(text: &str) -> bool {
     text.ends_with("\n\n")
 }

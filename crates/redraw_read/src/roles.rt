@@ -1,5 +1,5 @@
-//! Which places are the point of a diagnostic of rustc. Places that rustc knows apart may be one when they are shown where a
-//! macro was called: then each is primary if one is.
+//! Which places are the point of a diagnostic of rustc. Places that rustc knows apart may be one when they are shown
+//! where a macro was called: then each is primary if one is.
 
 use redraw_report::diagnostic::FileSpan;
 

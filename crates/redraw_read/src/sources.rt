@@ -65,8 +65,8 @@ impl<S: SourceFiles + Drop> Sources<S> {
         }
     }
 
-    /// Reads the file of this name, unless it was asked for before. One that isn't on the source_files by its name is looked for
-    /// below the folders of these files.
+    /// Reads the file of this name, unless it was asked for before. One that isn't on the source_files by its name is
+    /// looked for below the folders of these files.
     pub fn load(&mut self, name: &str, homes: &[String]) -> Result<(), AllocError> {
         let home = first_home(homes);
         if !self.has(name, home) {

@@ -13,8 +13,8 @@ pub struct Diagnostic {
     pub spans: Vec<FileSpan>,
     /// What else is said of it, in the order given.
     pub children: Vec<Child>,
-    /// Files of the project that it is about, by absolute paths. A relative path that can't be found is looked for below their
-    /// folders too, and upwards.
+    /// Files of the project that it is about, by absolute paths. A relative path that can't be found is looked for
+    /// below their folders too, and upwards.
     pub homes: Vec<String>,
 }
 
@@ -87,8 +87,8 @@ pub struct Carried {
     pub first_line: usize,
     /// The lines, with line feeds between them and none after the last.
     pub text: String,
-    /// Whether these are whole lines, as the file had them: then they are shown in place of the file where it holds others.
-    /// Else they are shown only where the file can't be read.
+    /// Whether these are whole lines, as the file had them: then they are shown in place of the file where it holds
+    /// others. Else they are shown only where the file can't be read.
     pub is_whole: bool,
 }
 
@@ -110,9 +110,9 @@ pub enum Region {
     },
 }
 
-/// A part of a file by lines and columns, all counted from 1: from a column of a line to before a column of the same or a
-/// later line. Without a start column it begins with its first line, but without any columns with the first character of
-/// that line that isn't a blank. Without an end column it ends with its last line, before that line's end.
+/// A part of a file by lines and columns, all counted from 1: from a column of a line to before a column of the same or
+/// a later line. Without a start column it begins with its first line, but without any columns with the first character
+/// of that line that isn't a blank. Without an end column it ends with its last line, before that line's end.
 #[derive(Clone, Copy, PartialEq, Eq)]
 pub struct LineRegion {
     pub start_line: usize,

@@ -26,7 +26,8 @@ pub enum Content<'a> {
         line: Option<usize>,
         column: Option<usize>,
     },
-    /// None of it, where a form tells places by marks alone: a line of blanks with this number is shown, up to this column.
+    /// None of it, where a form tells places by marks alone: a line of blanks with this number is shown, up to this
+    /// column.
     Blank {
         line: usize,
         column: usize,

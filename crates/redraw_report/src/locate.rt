@@ -43,7 +43,8 @@ pub fn locate(lookup: Lookup<'_>, region: Region) -> SpanAt
 
 /// Where a region starts.
 fn start_place(lookup: Lookup<'_>, region: Region) -> Place
-    ensures value { result ≡ spec.start_place lookup.entry.text.now lookup.entry.starts.now lookup.entry.first_line region }
+    ensures value { result ≡ spec.start_place lookup.entry.text.now lookup.entry.starts.now lookup.entry.first_line
+        region }
 {
     match region {
         Region::Bytes { start, .. } => byte_place(start),
@@ -57,7 +58,8 @@ fn start_place(lookup: Lookup<'_>, region: Region) -> Place
 
 /// Where a region ends.
 fn end_place(lookup: Lookup<'_>, region: Region) -> Place
-    ensures value { result ≡ spec.end_place lookup.entry.text.now lookup.entry.starts.now lookup.entry.first_line region }
+    ensures value { result ≡ spec.end_place lookup.entry.text.now lookup.entry.starts.now lookup.entry.first_line
+        region }
 {
     match region {
         Region::Bytes { end, .. } => byte_place(end),
@@ -99,7 +101,8 @@ fn byte_place(byte: usize) -> Place
 
 /// Where a place on the line of this number is.
 fn place_on_line(lookup: Lookup<'_>, line: usize, at: OnLine, unit: Unit) -> Place
-    ensures value { result ≡ place_on unit lookup.entry.text.now lookup.entry.starts.now lookup.entry.first_line line at }
+    ensures value { result ≡ place_on unit lookup.entry.text.now lookup.entry.starts.now lookup.entry.first_line
+        line at }
 {
     if line < lookup.first_line {
         return Place {
@@ -135,7 +138,8 @@ fn place_from_start(text: &str, start: usize, at: OnLine, unit: Unit) -> Place
     }
 }
 
-/// The bytes in which columns of the first line of some bytes count: of the last line of a text they count its line feed too.
+/// The bytes in which columns of the first line of some bytes count: of the last line of a text they count its line
+/// feed too.
 fn counted_line(bytes: &[u8]) -> &[u8]
     ensures value { result.now ≡ spec.counted_line bytes.now }
     ensures within { length result.now ≤ length bytes.now }

@@ -118,7 +118,8 @@ fn annotations_in<'a>(
     source: &Shown<'a>,
     marks: &[Mark<'a>],
 ) -> Result<Vec<Annotation<'a>>, AllocError>
-    ensures value { IfOk result (λ annotations. map marked_view annotations.items ≡ flat_map (mark_in source.now) marks.now) }
+    ensures value { IfOk result (λ annotations. map marked_view annotations.items
+        ≡ flat_map (mark_in source.now) marks.now) }
 {
     let mut annotations = Vec::new(alloc);
     for mark in marks {
@@ -133,7 +134,8 @@ fn add_label_rows<'a>(
     elements: &mut Vec<Element<'a>>,
     label: Option<&'a str>,
 ) -> Result<(), AllocError>
-    ensures added { OnOk result (map part_view elements.new.items ≡ map part_view elements.old.items ++ label_rows label.entry) }
+    ensures added { OnOk result (map part_view elements.new.items ≡ map part_view elements.old.items
+        ++ label_rows label.entry) }
 {
     match label {
         Some(label) => add_row(alloc, elements, label),
@@ -160,7 +162,8 @@ fn add_note<'a>(
     elements: &mut Vec<Element<'a>>,
     text: &'a str,
 ) -> Result<(), AllocError>
-    ensures added { OnOk result (map part_view elements.new.items ≡ map part_view elements.old.items ++ said Note text.now ∷ []) }
+    ensures added { OnOk result (map part_view elements.new.items ≡ map part_view elements.old.items
+        ++ said Note text.now ∷ []) }
 {
     let message = message_of(alloc, Severity::Note, text)?;
     elements.push(message)?;
@@ -174,7 +177,8 @@ fn add_label<'a>(
     source: &Shown<'a>,
     mark: &Mark<'a>,
 ) -> Result<(), AllocError>
-    ensures added { OnOk result (map part_view elements.new.items ≡ map part_view elements.old.items ++ label_in source.now mark.now) }
+    ensures added { OnOk result (map part_view elements.new.items ≡ map part_view elements.old.items
+        ++ label_in source.now mark.now) }
 {
     if is_same(&mark.source, source) {
         add_label_rows(alloc, elements, mark.label)?;
@@ -245,7 +249,8 @@ fn add_marked<'a>(
     marks: &[Mark<'a>],
 ) -> Result<(), AllocError>
     ensures added { OnOk result (map part_view elements.new.items ≡ map part_view elements.old.items
-        ++ Marks (lines_of source.now.path.now (cow_str_bytes text.entry) first_line true) (flat_map (mark_in source.now) marks.now) ∷ []) }
+        ++ Marks (lines_of source.now.path.now (cow_str_bytes text.entry) first_line true)
+        (flat_map (mark_in source.now) marks.now) ∷ []) }
 {
     let markers = annotations_in(alloc, source, marks)?;
     elements.push(Element::Cause(Snippet {

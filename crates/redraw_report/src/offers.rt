@@ -42,7 +42,8 @@ fn add_offer<'a>(
     elements: &mut Vec<Element<'a>>,
     offer: &Offer<'a>,
 ) -> Result<(), AllocError>
-    ensures added { OnOk result (map part_view elements.new.items ≡ map part_view elements.old.items ++ offered offer.now) }
+    ensures added { OnOk result (map part_view elements.new.items ≡ map part_view elements.old.items
+        ++ offered offer.now) }
 {
     if let Content::Lines { text, first_line } = offer.source.content {
         let markers = patches_of(alloc, &offer.changes)?;
@@ -90,7 +91,8 @@ fn add_more<'a>(
     elements: &mut Vec<Element<'a>>,
     more: usize,
 ) -> Result<(), AllocError>
-    ensures added { OnOk result (map part_view elements.new.items ≡ map part_view elements.old.items ++ more_parts more) }
+    ensures added { OnOk result (map part_view elements.new.items ≡ map part_view elements.old.items
+        ++ more_parts more) }
 {
     if more > 0 {
         let text = more_text(alloc, more)?;

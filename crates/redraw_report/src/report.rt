@@ -71,8 +71,8 @@ fn with_message<'a>(
     group.element(message)
 }
 
-/// Takes a remark: as a message of the last group, which is answered; or as a group of its own, which is answered, and the one
-/// before it is put to the others.
+/// Takes a remark: as a message of the last group, which is answered; or as a group of its own, which is answered, and
+/// the one before it is put to the others.
 fn add_remark<'a>(
     alloc: Global,
     groups: &mut Vec<Group<'a>>,

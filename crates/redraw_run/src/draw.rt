@@ -266,7 +266,8 @@ impl<S: SourceFiles + Drop> Drawing<'_, S> {
             (string_bytes t ++ (ending_after self.old.renderer.short_message diagnostic.now.severity ++ 10 ∷ [])))) }
         ensures counted { OnOk result (IfOk text (λ t. IsCounted diagnostic.now self.old.tally self.new.tally)) }
         ensures untold { OnOk result (IfOk text (λ t. err.new ≡ err.old)) }
-        ensures left_out { OnOk result (IfErr text (λ e. (out.new ≡ out.old) × IsLeftOut self.old.tally self.new.tally)) }
+        ensures left_out { OnOk result (IfErr text (λ e. (out.new ≡ out.old)
+            × IsLeftOut self.old.tally self.new.tally)) }
         ensures kept { (self.new.renderer ≡ self.old.renderer) × (self.new.choice ≡ self.old.choice) }
         ensures does { self.old.choice.form ≡ Report
             → (files : List File)

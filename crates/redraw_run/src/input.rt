@@ -152,8 +152,8 @@ impl Reading {
         }
     }
 
-    /// Takes a line that begins as an object does and isn't JSON: the first such may begin a document, and another one is told
-    /// and left out.
+    /// Takes a line that begins as an object does and isn't JSON: the first such may begin a document, and another one
+    /// is told and left out.
     fn no_value<S: SourceFiles + Drop, V: Write>(
         &mut self,
         line: &str,
@@ -192,7 +192,8 @@ impl Reading {
         Ok(())
     }
 
-    /// Ends the input: a document is read when all of its lines are there. An input in which nothing begins as an object does is told.
+    /// Ends the input: a document is read when all of its lines are there. An input in which nothing begins as an
+    /// object does is told.
     pub fn end<S: SourceFiles + Drop, W: Write, V: Write>(
         &mut self,
         drawing: &mut Drawing<'_, S>,
@@ -232,8 +233,8 @@ impl Reading {
         }
     }
 
-    /// Takes a value of JSON, which is this line where it isn't a document. A line of no known form after one that is of one is
-    /// handed on: what else writes there may write JSON too.
+    /// Takes a value of JSON, which is this line where it isn't a document. A line of no known form after one that is
+    /// of one is handed on: what else writes there may write JSON too.
     fn value<S: SourceFiles + Drop, W: Write, V: Write>(
         &mut self,
         value: &Value,
@@ -329,8 +330,8 @@ fn sarif_log<S: SourceFiles + Drop, W: Write, V: Write>(
     }
 }
 
-/// Draws what an input holds, each part before the next is waited for, and answers whether it is of a form that is known,
-/// or empty.
+/// Draws what an input holds, each part before the next is waited for, and answers whether it is of a form that is
+/// known, or empty.
 pub fn draw_input<B: BufRead + Drop, S: SourceFiles + Drop, W: Write, V: Write>(
     input: B,
     drawing: &mut Drawing<'_, S>,

@@ -53,7 +53,8 @@ fn answer_error<W: Write, V: Write>(
     ensures told { kind_of error.now ≢ kind.DisplayHelp → kind_of error.now ≢ kind.DisplayVersion
         → TellsOfWords (V.contents err.old) (V.contents err.new) }
     ensures status { result ≤ 2 }
-    ensures asked { (kind_of error.now ≡ kind.DisplayHelp) ⊎ (kind_of error.now ≡ kind.DisplayVersion) → err.new ≡ err.old }
+    ensures asked { (kind_of error.now ≡ kind.DisplayHelp) ⊎ (kind_of error.now ≡ kind.DisplayVersion) → err.new
+        ≡ err.old }
 {
     if error.use_stderr() {
         tell_error(alloc, error, err);
@@ -113,8 +114,8 @@ fn draw_all<'w, R: Files + Input + AllocGlobal, W: Write, V: Write>(
 /// The name that is shown for standard input.
 const INPUT: &str = "standard input";
 
-/// Draws what each input holds, or standard input where there are none, and answers whether all of it could be read and is of
-/// a form that is known. It stops where nothing can be written.
+/// Draws what each input holds, or standard input where there are none, and answers whether all of it could be read and
+/// is of a form that is known. It stops where nothing can be written.
 fn draw_inputs<'r, R: Files + Input + AllocGlobal, S: SourceFiles + Drop, W: Write, V: Write>(
     rt: &R,
     names: Option<&[&'r str]>,

@@ -11,8 +11,8 @@ use std::alloc::{AllocError, Global};
 /// What stands over a fix that isn't described.
 const UNDESCRIBED: &str = "apply this fix";
 
-/// Adds what is said of a list of fixes: one help for each description, with the fixes of that description, one of which
-/// is to be made. Those of one description have to stand in a row. A fix with something wrong in it is left out.
+/// Adds what is said of a list of fixes: one help for each description, with the fixes of that description, one of
+/// which is to be made. Those of one description have to stand in a row. A fix with something wrong in it is left out.
 pub fn add_fixes(
     children: &mut Vec<Child>,
     fixes: &List<'_, '_>,
@@ -89,8 +89,8 @@ fn help_of(message: String, edits: Vec<Edit>, context: &Context<'_>) -> Result<C
     })
 }
 
-/// The edits of a fix, in all files; `None` where something is wrong with one of them, which is reported: the others alone would be
-/// another fix.
+/// The edits of a fix, in all files; `None` where something is wrong with one of them, which is reported: the others
+/// alone would be another fix.
 fn edits_of(
     fix: &Node<'_, '_>,
     context: &Context<'_>,

@@ -37,7 +37,8 @@ fn shown_of(alloc: Global, written: &[char]) -> Result<String, AllocError>
 fn add_piece_at(text: &mut String, written: &[char], at: usize) -> Result<usize, AllocError>
     requires within { at < length written.now }
     ensures added { OnOk result (string_bytes text.new
-        ≡ string_bytes text.old ++ encode_utf8_all (piece_of (slice_index written.now at) (drop (at + 1) written.now)).shown) }
+        ≡ string_bytes text.old ++ encode_utf8_all (piece_of (slice_index written.now at)
+        (drop (at + 1) written.now)).shown) }
     ensures more { IfOk result (λ more. more
         ≡ (piece_of (slice_index written.now at) (drop (at + 1) written.now)).more) }
 {

@@ -8,9 +8,9 @@ use json_node::lenient::{Node, Problems};
 use serde_json::Value;
 use std::alloc::{AllocError, Global};
 
-/// The text of the message in the field of this name, if there is one: its own, or one of the rule's by its id, with its
-/// arguments in the place of placeholders. In a text of its own without arguments braces stay as they are. A link to
-/// a location is its text.
+/// The text of the message in the field of this name, if there is one: its own, or one of the rule's by its id, with
+/// its arguments in the place of placeholders. In a text of its own without arguments braces stay as they are. A link
+/// to a location is its text.
 pub fn text_in(
     alloc: Global,
     object: &Node<'_, '_>,

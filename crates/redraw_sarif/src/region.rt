@@ -6,8 +6,8 @@ use redraw_report::diagnostic::{Carried, LineRegion, Region, Unit};
 use serde_json::Value;
 use std::alloc::{AllocError, Global};
 
-/// The part of a file that a region names. Where it says no place to begin at, that is reported, unless what it says in its
-/// stead has been.
+/// The part of a file that a region names. Where it says no place to begin at, that is reported, unless what it says in
+/// its stead has been.
 pub fn region_of(region: &Node<'_, '_>, unit: Unit, problems: &mut Problems) -> Option<Region> {
     let told = problems.lines.len();
     let found = region_in(region, unit, problems);
@@ -70,8 +70,8 @@ pub fn carried_of(
     }
 }
 
-/// The lines that a region's snippet holds; none of a region that isn't given by its lines. Before a snippet that begins within
-/// its first line, blanks stand for what comes before it.
+/// The lines that a region's snippet holds; none of a region that isn't given by its lines. Before a snippet that
+/// begins within its first line, blanks stand for what comes before it.
 pub fn carried_in(
     alloc: Global,
     region: &Node<'_, '_>,
@@ -111,8 +111,8 @@ fn first_line_of(region: &Node<'_, '_>) -> Option<usize> {
     }
 }
 
-/// Whether a snippet has all of the lines that its region touches: the region has no columns, or the last line is longer than
-/// the region says. The snippet is to have the region's text alone, but some tools write the lines.
+/// Whether a snippet has all of the lines that its region touches: the region has no columns, or the last line is
+/// longer than the region says. The snippet is to have the region's text alone, but some tools write the lines.
 fn has_whole_lines(lines: &LineRegion, before: usize, snippet: &str) -> bool {
     let Some(end) = lines.end_column else {
         return before == 0;

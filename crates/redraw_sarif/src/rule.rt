@@ -153,7 +153,8 @@ fn owned(alloc: Global, text: Option<&str>) -> Result<Option<String>, AllocError
     }
 }
 
-/// How severe a result is: by its level, else a note where it isn't of the kind `fail`, else by its rule, else a warning.
+/// How severe a result is: by its level, else a note where it isn't of the kind `fail`, else by its rule, else a
+/// warning.
 pub fn severity_of(reported: &Node<'_, '_>, rule: &Rule<'_>, problems: &mut Problems) -> Severity {
     if let Some(level) = reported.text("level", problems) {
         match severity_by_name(level) {

@@ -19,9 +19,9 @@ struct Address<'v> {
     base: Option<&'v str>,
 }
 
-/// The path of the file at the artifact's location in an object's field `artifactLocation`. It may be relative: to where, the
-/// log doesn't say. `None` where the location isn't there, or has neither an address nor the number of an artifact that has
-/// one; both are reported.
+/// The path of the file at the artifact's location in an object's field `artifactLocation`. It may be relative: to
+/// where, the log doesn't say. `None` where the location isn't there, or has neither an address nor the number of an
+/// artifact that has one; both are reported.
 pub fn path_in(
     alloc: Global,
     object: &Node<'_, '_>,
@@ -63,7 +63,8 @@ fn artifact_location<'v>(run: &'v Value, location: &Value) -> Option<&'v Value> 
     }
 }
 
-/// The path that an address names, after its base, which may have a base itself. A base without an address adds nothing.
+/// The path that an address names, after its base, which may have a base itself. A base without an address adds
+/// nothing.
 fn path_at(alloc: Global, run: &Value, address: Address<'_>) -> Result<String, AllocError> {
     let mut whole = String::from_str(alloc, address.uri)?;
     add_bases(alloc, run, address.base, &mut whole)?;
@@ -108,8 +109,8 @@ fn joined(alloc: Global, base: &str, uri: &str) -> Result<String, AllocError> {
     format!(in alloc; "{base}{slash}{uri}")
 }
 
-/// An address of a file without `file:`, without an empty host, and without the slash before the letter of a drive; another
-/// address without `./` before it.
+/// An address of a file without `file:`, without an empty host, and without the slash before the letter of a drive;
+/// another address without `./` before it.
 fn local(uri: &str) -> &str {
     let Some(rest) = uri.strip_prefix("file:") else {
         return uri.strip_prefix("./").unwrap_or(uri);

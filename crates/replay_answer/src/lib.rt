@@ -1,4 +1,5 @@
-//! The cases of `replay`: how a case is read from the JSON of its line, what becomes of it, and the answer to it as JSON.
+//! The cases of `replay`: how a case is read from the JSON of its line, what becomes of it, and the answer to it as
+//! JSON.
 #![tactic(auto)]
 
 pub mod answer;

@@ -52,7 +52,8 @@ fn error_answer(alloc: Global, error: Error) -> Result<String, AllocError>
 
 /// The answer to a line that holds this value.
 fn value_answer(alloc: Global, value: &Value) -> Result<String, AllocError>
-    ensures answers { IfOk result (λ text. AnswersAs (view value.now) (string_bytes text) ⊎ TellsAs (string_bytes text)) }
+    ensures answers { IfOk result (λ text. AnswersAs (view value.now) (string_bytes text)
+        ⊎ TellsAs (string_bytes text)) }
 {
     match case_of(alloc, value) {
         Ok(case) => case_answer(alloc, &case),

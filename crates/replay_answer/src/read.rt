@@ -1,4 +1,5 @@
-//! How a case is read from the JSON of its line, and how its settings are: those of the plain renderer where they are missing.
+//! How a case is read from the JSON of its line, and how its settings are: those of the plain renderer where they are
+//! missing.
 
 ghost use Rattle.std.specs.Prelude.{◌≡◌, Some, false, IfOk, codes};
 ghost use Rattle.annotate_snippets.specs.Fits.{ReportFits};

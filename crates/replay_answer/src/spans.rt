@@ -4,8 +4,8 @@ use annotate_snippets::renderer::RenderError;
 use annotate_snippets::{Element, Group};
 use std::alloc::{AllocError, Global};
 
-/// What is told of the span that a refusal of these groups is about: its bytes, and the length of its source. It is empty where
-/// the refusal is about no span, or about several.
+/// What is told of the span that a refusal of these groups is about: its bytes, and the length of its source. It is
+/// empty where the refusal is about no span, or about several.
 pub fn span_of(
     alloc: Global,
     refusal: &RenderError,

@@ -65,7 +65,8 @@ pub record AreMarkersOf {T : Type 0} (Says : List ℕ → Option SpanUnit → Da
   pub marked : SaysAt (ListSays (Says source unit)) name d markers
 
 -- a snippet of this shape, whose markers stand under this name and say what Says tells
-pub record IsSnippetOf {T : Type 0} (Says : List ℕ → Option SpanUnit → Data → T → Type 0) (its : Shape) (markers : List ℕ) (d : Data) (snippet : Snippet T) : Type 0 where
+pub record IsSnippetOf {T : Type 0} (Says : List ℕ → Option SpanUnit → Data → T → Type 0) (its : Shape) (markers : List ℕ) (d : Data)
+    (snippet : Snippet T) : Type 0 where
   pub only : HasShape its d
   pub source : text_at (codes "source") d ≡ Some (cow_str_bytes snippet.source)
   pub path : optional_at as_str (codes "path") d ≡ Some (option_map cow_str_bytes snippet.path)

@@ -71,7 +71,8 @@ effect_of effect.Strikethrough = record no_effects { strikethrough = true }
 -- the effects that are listed, all of them
 abbrev pub AreEffectsOf : Data → Effects → Type 0
 AreEffectsOf d effects =
-    (names : List EffectName) × ListSays (λ e name. as_str e ≡ Some (effect_name name)) d names × (effects ≡ fold (λ (joined : Effects) name. joined_effects joined (effect_of name)) no_effects names)
+    (names : List EffectName) × ListSays (λ e name. as_str e ≡ Some (effect_name name)) d names
+    × (effects ≡ fold (λ (joined : Effects) name. joined_effects joined (effect_of name)) no_effects names)
 
 -- the same of a list that may be missing: then there are none
 abbrev pub MayBeEffects : Option Data → Effects → Type 0

@@ -7,7 +7,8 @@ ghost use Rattle.snippet_model.specs.Fits.{AnnotationFits, PatchFits, SnippetFit
 ghost use Rattle.serde_json.specs.Find.{as_bool, as_str, get};
 ghost use Rattle.serde_json.specs.View.{view};
 ghost use Rattle.json_node.specs.Field.{OrNull, SaysAt, as_whole, given_or, lent_text};
-ghost use Rattle.replay_read.specs.Report.{AreMarkersOf, IsAnnotationOf, IsElementOf, IsGroupOf, IsLevelOf, IsMessageOf, IsNameOf};
+ghost use Rattle.replay_read.specs.Report.{AreMarkersOf, IsAnnotationOf, IsElementOf, IsGroupOf, IsLevelOf};
+ghost use Rattle.replay_read.specs.Report.{IsMessageOf, IsNameOf};
 ghost use Rattle.replay_read.specs.Report.{IsOriginOf, IsPatchOf, IsSnippetOf, IsTitleOf};
 ghost use Rattle.replay_read.specs.Kinds.{NameFits, kind_name, mark_name};
 
@@ -247,13 +248,15 @@ fn marked_in<'v, T: Marker<'v> + Drop>(
     markers_of(&snippet.needed(name, Expectation::List)?, ruler)
 }
 
-/// How the lines of a snippet are shown: the number of the first, whether they have numbers, and whether some are left out.
+/// How the lines of a snippet are shown: the number of the first, whether they have numbers, and whether some are left
+/// out.
 fn lines_of(snippet: &Node<'_, '_>) -> Result<(usize, bool, bool), Fault>
     ensures line_start { IfOk result (λ lines.
         given_or as_whole 1 (codes "line_start") (view snippet.now.value.now) ≡ Some lines.0) }
     ensures line_numbering { IfOk result (λ lines.
         given_or as_bool true (codes "line_numbering") (view snippet.now.value.now) ≡ Some lines.1) }
-    ensures fold { IfOk result (λ lines. given_or as_bool true (codes "fold") (view snippet.now.value.now) ≡ Some lines.2) }
+    ensures fold { IfOk result (λ lines. given_or as_bool true (codes "fold") (view snippet.now.value.now)
+        ≡ Some lines.2) }
 {
     let line_start = snippet.number_or("line_start", 1)?;
     let line_numbering = snippet.flag_or("line_numbering", true)?;

@@ -18,7 +18,8 @@ use snippet_style::{AnsiColor, Color, Effects, Style, Stylesheet};
 
 /// The sheets of a case: the plain one where none are given.
 pub fn sheets_of(case: &Node<'_, '_>) -> Result<Vec<Stylesheet>, Fault>
-    ensures value { IfOk result (λ sheets. AreSheetsOf (given (codes "sheets") (view case.now.value.now)) sheets.items) }
+    ensures value { IfOk result (λ sheets. AreSheetsOf (given (codes "sheets")
+        (view case.now.value.now)) sheets.items) }
 {
     match case.given("sheets") {
         Some(sheets) => items_of(&sheets),
@@ -65,7 +66,8 @@ fn own_sheet(node: &Node<'_, '_>) -> Result<Stylesheet, Fault>
 /// The sheet of the styles of levels, plain in all else.
 fn level_styles(sheet: &Node<'_, '_>) -> Result<Stylesheet, Fault>
     ensures error { IfOk result (λ styles. MayBeStyle (given (codes "error") (view sheet.now.value.now)) styles.error) }
-    ensures warning { IfOk result (λ styles. MayBeStyle (given (codes "warning") (view sheet.now.value.now)) styles.warning) }
+    ensures warning { IfOk result (λ styles. MayBeStyle (given (codes "warning")
+        (view sheet.now.value.now)) styles.warning) }
     ensures info { IfOk result (λ styles. MayBeStyle (given (codes "info") (view sheet.now.value.now)) styles.info) }
     ensures note { IfOk result (λ styles. MayBeStyle (given (codes "note") (view sheet.now.value.now)) styles.note) }
     ensures help { IfOk result (λ styles. MayBeStyle (given (codes "help") (view sheet.now.value.now)) styles.help) }
@@ -82,12 +84,17 @@ fn level_styles(sheet: &Node<'_, '_>) -> Result<Stylesheet, Fault>
 
 /// The sheet of the other styles, plain in all else.
 fn part_styles(sheet: &Node<'_, '_>) -> Result<Stylesheet, Fault>
-    ensures line_num { IfOk result (λ styles. MayBeStyle (given (codes "line_num") (view sheet.now.value.now)) styles.line_num) }
-    ensures emphasis { IfOk result (λ styles. MayBeStyle (given (codes "emphasis") (view sheet.now.value.now)) styles.emphasis) }
+    ensures line_num { IfOk result (λ styles. MayBeStyle (given (codes "line_num")
+        (view sheet.now.value.now)) styles.line_num) }
+    ensures emphasis { IfOk result (λ styles. MayBeStyle (given (codes "emphasis")
+        (view sheet.now.value.now)) styles.emphasis) }
     ensures none { IfOk result (λ styles. MayBeStyle (given (codes "none") (view sheet.now.value.now)) styles.none) }
-    ensures context { IfOk result (λ styles. MayBeStyle (given (codes "context") (view sheet.now.value.now)) styles.context) }
-    ensures addition { IfOk result (λ styles. MayBeStyle (given (codes "addition") (view sheet.now.value.now)) styles.addition) }
-    ensures removal { IfOk result (λ styles. MayBeStyle (given (codes "removal") (view sheet.now.value.now)) styles.removal) }
+    ensures context { IfOk result (λ styles. MayBeStyle (given (codes "context")
+        (view sheet.now.value.now)) styles.context) }
+    ensures addition { IfOk result (λ styles. MayBeStyle (given (codes "addition")
+        (view sheet.now.value.now)) styles.addition) }
+    ensures removal { IfOk result (λ styles. MayBeStyle (given (codes "removal")
+        (view sheet.now.value.now)) styles.removal) }
 {
     Ok(Stylesheet {
         line_num: style_at(sheet, "line_num")?,

@@ -129,8 +129,8 @@ fn place_of(node: &Node<'_, '_>) -> Result<LineColumn, Fault>
     Ok(LineColumn { line, column })
 }
 
-/// The span between two bytes. Where the source has one of them not, it is one past the end, and past the one byte after it that
-/// may be marked.
+/// The span between two bytes. Where the source has one of them not, it is one past the end, and past the one byte
+/// after it that may be marked.
 fn between(source: &str, start: Option<usize>, end: Option<usize>) -> Range<usize>
     ensures value { result ≡ spec.between source.now start end }
 {

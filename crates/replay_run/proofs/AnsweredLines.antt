@@ -215,13 +215,15 @@ stops_after way told is_first still_first number held left old mid new problem h
       );
     }
 
-stops_in : (way : Way) (told here is_first still_first : Bool) (number more : ℕ) (held left next old mid new : Option (List ℕ)) (problem : Problem) (line text : List ℕ)
+stops_in : (way : Way) (told here is_first still_first : Bool) (number more : ℕ) (held left next old mid new : Option (List ℕ)) (problem : Problem)
+    (line text : List ℕ)
     → HaveAnswered way told is_first still_first number held left old mid → more ≡ min (number + 1) most → GivesLine left next line → IsWrite problem
     → AnswersLine way here still_first (more, line) text → AppendsFirst mid new text → StopsReader way is_first held old new problem
 stops_in way told here is_first still_first number more held left next old mid new problem line text h step gives write answers first =
     let this : Numbered = next_line h.lines line in
     let one = answer_after way here is_first still_first number more h.lines line text h.counted step h.still answers in
-    let whole : concat (h.texts ++ text ∷ []) ≡ concat h.texts ++ text = concat-append h.texts (text ∷ []) ∙ ap (λ (l : List ℕ). concat h.texts ++ l) (append-nil text) in
+    let whole : concat (h.texts ++ text ∷ []) ≡ concat h.texts ++ text = concat-append h.texts (text ∷ [])
+    ∙ ap (λ (l : List ℕ). concat h.texts ++ l) (append-nil text) in
     record {
       lines = h.lines ++ this ∷ [];
       read = left_first held next (h.lines ++ this ∷ []) (left_more held left next h.lines line h.leaves gives);
@@ -268,7 +270,8 @@ problem_after held left next lines at line (Write error) h gives at_is with = ab
 problem_after held left next lines at line Memory h gives at_is with = tt
 
 -- it stops within one line more, or at it
-pub stops_within : {E : Type 0} (way : Way) (told is_first still_first : Bool) (number more : ℕ) (held left next old mid new : Option (List ℕ)) (problem : Problem)
+pub stops_within : {E : Type 0} (way : Way) (told is_first still_first : Bool) (number more : ℕ) (held left next old mid new : Option (List ℕ))
+    (problem : Problem)
     (r : Option (Result (String Global) E)) (line : Result (String Global) E) → HaveAnswered way told is_first still_first number held left old mid
     → more ≡ min (number + 1) most → r ≡ Some line → YieldsKnownPiece string_bytes first_line 10 left r next
     → StopsLine way still_first more line mid new problem → StopsReader way is_first held old new problem
@@ -281,7 +284,8 @@ stops_within way told is_first still_first number more held left next old mid ne
       answered = h.answered;
       written = inr (
         appends_kept old mid new (concat h.texts) h.written with.0,
-        problem_after held left next h.lines (Case more) line problem h.leaves (subst (λ item. YieldsKnownPiece string_bytes first_line 10 left item next) is gives)
+        problem_after held left next h.lines (Case more) line problem h.leaves
+            (subst (λ item. YieldsKnownPiece string_bytes first_line 10 left item next) is gives)
             (ap Case (next_number (length h.lines) number more h.counted step)) with.1,
         with.2,
       );

@@ -29,7 +29,8 @@ lines_push readers reader lines =
     flat_map-append (λ r. r.1) readers ((reader, lines) ∷ []) ∙ ap (λ (l : List Numbered). lines_of readers ++ l) (append-nil lines)
 
 -- readers are answered, and still_first tells whether still nothing is written
-pub record HaveAnsweredReaders (Reader : Type 0) (bytes : Reader → Option (List ℕ)) (way : Way) (told : Bool) (count : ℕ) (still_first : Bool) (old new : Option (List ℕ)) : Type 0 where
+pub record HaveAnsweredReaders (Reader : Type 0) (bytes : Reader → Option (List ℕ)) (way : Way) (told : Bool) (count : ℕ) (still_first : Bool)
+    (old new : Option (List ℕ)) : Type 0 where
   pub all : AnswersReaders Reader bytes way told count old new
   pub still : still_first ≡ first_after true (lines_of all.readers)
 
@@ -56,7 +57,8 @@ pub readers_more : {Reader : Type 0} (bytes : Reader → Option (List ℕ)) (way
     → HaveAnsweredReaders Reader bytes way both (count + 1) still_first old new
 readers_more {Reader} bytes way told here both count is_first still_first old mid new reader h one either =
     let so_far = lines_of h.all.readers in
-    let next : AnswersLines way here (first_after true so_far) one.lines one.texts = subst (λ f. AnswersLines way here f one.lines one.texts) h.still one.answered in
+    let next : AnswersLines way here (first_after true so_far) one.lines one.texts = subst (λ f.
+    AnswersLines way here f one.lines one.texts) h.still one.answered in
     let all_lines = so_far ++ one.lines in
     let all_texts = h.all.texts ++ one.texts in
     let joined = answered_twice way told here true so_far h.all.texts one.lines one.texts h.all.answered next in
@@ -169,11 +171,13 @@ names_at (r ∷ refs) (suc i) d within =
     (r.now ∷ before, after, ap (λ (l : List Word). r.now ∷ l) split, ap suc many)
 
 -- with so many readers answered it stops at the next
-pub readers_stop : {Reader : Type 0} (bytes : Reader → Option (List ℕ)) (way : Way) (told : Bool) (count : ℕ) (names before after : List Word) (name : Word) (is_first : Bool) (old mid new : Option (List ℕ)) (problem : Problem)
+pub readers_stop : {Reader : Type 0} (bytes : Reader → Option (List ℕ)) (way : Way) (told : Bool) (count : ℕ) (names before after : List Word) (name : Word)
+    (is_first : Bool) (old mid new : Option (List ℕ)) (problem : Problem)
     → HaveAnsweredReaders Reader bytes way told count is_first old mid → names ≡ before ++ name ∷ after → length before ≡ count
     → StopsAt Reader bytes way is_first mid new problem → StopsReaders Reader bytes way names old new name problem
 readers_stop {Reader} bytes way told count names before after name is_first old mid new problem h split many stops =
-    let all : HaveAnsweredReaders Reader bytes way told (length before) is_first old mid = subst (λ n. HaveAnsweredReaders Reader bytes way told n is_first old mid) (sym many) h in
+    let all : HaveAnsweredReaders Reader bytes way told (length before) is_first old mid = subst (λ n.
+    HaveAnsweredReaders Reader bytes way told n is_first old mid) (sym many) h in
     record {
       before = before;
       mid = mid;
@@ -189,7 +193,8 @@ first_stops bytes way name old new problem stops =
     readers_stop bytes way false 0 (name ∷ []) [] [] name true old old new problem (readers_none bytes way old) refl refl stops
 
 -- it stops where all readers are answered: as the last flush fails, or as a line was no case
-pub all_stop : {Reader : Type 0} (bytes : Reader → Option (List ℕ)) (way : Way) (told : Bool) (names : List Word) (old mid new : Option (List ℕ)) (problem : Problem)
+pub all_stop : {Reader : Type 0} (bytes : Reader → Option (List ℕ)) (way : Way) (told : Bool) (names : List Word) (old mid new : Option (List ℕ))
+    (problem : Problem)
     → AnswersReaders Reader bytes way told (length names) old mid
     → Keeps mid new → IsEndTrouble told problem → StopsReaders Reader bytes way names old new (codes "standard output") problem
 all_stop bytes way told names old mid new problem h kept end =
@@ -201,11 +206,14 @@ all_stop bytes way told names old mid new problem h kept end =
       stops = inr (refl, refl, end, kept);
     }
 
-pub stops_kept : {Reader : Type 0} (bytes : Reader → Option (List ℕ)) (way : Way) (names : List Word) (old mid new : Option (List ℕ)) (name : Word) (problem : Problem) → StopsReaders Reader bytes way names old mid name problem → Keeps mid new → StopsReaders Reader bytes way names old new name problem
+pub stops_kept : {Reader : Type 0} (bytes : Reader → Option (List ℕ)) (way : Way) (names : List Word) (old mid new : Option (List ℕ)) (name : Word)
+    (problem : Problem) → StopsReaders Reader bytes way names old mid name problem → Keeps mid new → StopsReaders Reader bytes way names old new name problem
 stops_kept {Reader} bytes way names old mid new name problem h kept = kept_at h.stops
   where
-    kept_at : ((after : List Word) × (names ≡ h.before ++ name ∷ after) × StopsAt Reader bytes way (first_after true (lines_of h.answered.readers)) h.mid mid problem)
-        ⊎ ((names ≡ h.before) × (name ≡ codes "standard output") × IsEndTrouble h.told problem × Keeps h.mid mid) → StopsReaders Reader bytes way names old new name problem
+    kept_at : ((after : List Word) × (names ≡ h.before ++ name ∷ after)
+        × StopsAt Reader bytes way (first_after true (lines_of h.answered.readers)) h.mid mid problem)
+        ⊎ ((names ≡ h.before) × (name ≡ codes "standard output") × IsEndTrouble h.told problem × Keeps h.mid mid)
+        → StopsReaders Reader bytes way names old new name problem
     kept_at (inl at) =
         record {
           before = h.before;

@@ -64,27 +64,32 @@ pub checked_more : (expected cases expected_left cases_left expected_next cases_
     → HaveCheckedKnown expected cases expected_next cases_next more_counts
 checked_more None cases _ _ _ _ _ _ _ _ _ h answers lines checks passed failed = tt
 checked_more (Some answers) None _ _ _ _ _ _ _ _ _ h gives_answer gives_line checks passed failed = tt
-checked_more (Some answers) (Some lines) expected_left cases_left expected_next cases_next counts more_counts answer line passes h gives_answer gives_line checks passed failed =
+checked_more (Some answers) (Some lines) expected_left cases_left expected_next cases_next counts more_counts answer line passes h gives_answer gives_line
+    checks passed failed =
     let from_answers : GivesLine (Some h.next_answers) expected_next answer = subst (λ left. GivesLine left expected_next answer) h.answers_are gives_answer in
     let from_lines : GivesLine (Some h.next_lines) cases_next line = subst (λ left. GivesLine left cases_next line) h.lines_are gives_line in
     let (some_answers, answer_is) = from_answers.0 in
     let (some_lines, line_is) = from_lines.0 in
-    let here : ChecksLine (first_line h.next_answers) (first_line h.next_lines) passes = subst (λ a. ChecksLine a (first_line h.next_lines) passes) answer_is (subst (λ l. ChecksLine answer l passes) line_is checks) in
+    let here : ChecksLine (first_line h.next_answers) (first_line h.next_lines) passes = subst (λ a.
+    ChecksLine a (first_line h.next_lines) passes) answer_is (subst (λ l. ChecksLine answer l passes) line_is checks) in
     record {
       verdicts = h.verdicts ++ passes ∷ [];
       next_answers = drop_through 10 h.next_answers;
       next_lines = drop_through 10 h.next_lines;
       answers_are = from_answers.1;
       lines_are = from_lines.1;
-      joins = λ more rest. subst (ChecksLines answers lines) (sym (append_assoc h.verdicts (passes ∷ []) more)) (h.joins (passes ∷ more) (some_answers, some_lines, here, rest));
+      joins = λ more rest. subst (ChecksLines answers lines) (sym (append_assoc h.verdicts (passes ∷ []) more))
+          (h.joins (passes ∷ more) (some_answers, some_lines, here, rest));
       counted = (
         passed ∙ ap (λ n. n + (if passes then 1 else 0)) h.counted.0 ∙ sym (sum_by_push (λ v. cond v 1 0) h.verdicts passes),
-        failed ∙ ap (λ n. n + (if passes then 0 else 1)) h.counted.1 ∙ sym (sum_by_push (λ v. cond (not v) 1 0) h.verdicts passes ∙ ap (λ n. count_by not h.verdicts + n) (fails passes)),
+        failed ∙ ap (λ n. n + (if passes then 0 else 1)) h.counted.1 ∙ sym
+            (sum_by_push (λ v. cond (not v) 1 0) h.verdicts passes ∙ ap (λ n. count_by not h.verdicts + n) (fails passes)),
       );
     }
 
 -- once no case is left all are counted
-pub checked_all : (expected cases expected_left cases_left : Option (List ℕ)) (counts : Counts) → HaveCheckedKnown expected cases expected_left cases_left counts
+pub checked_all : (expected cases expected_left cases_left : Option (List ℕ)) (counts : Counts)
+    → HaveCheckedKnown expected cases expected_left cases_left counts
     → IsAtEnd expected_left → IsAtEnd cases_left → CountsLines expected cases counts
 checked_all None cases _ _ _ h answers lines = tt
 checked_all (Some answers) None _ _ _ h no_answers no_lines = tt
@@ -118,8 +123,10 @@ one_more bytes pairs counts more all expected cases h checked passed failed =
       files = h.files ++ (expected, cases, more) ∷ [];
       each = All-push (λ pair. CountsLines (bytes pair.0) (bytes pair.1) pair.2) h.files (expected, cases, more) h.each checked;
       many = length_push h.files (expected, cases, more) ∙ ap (λ n. n + 1) h.many;
-      passed = passed ∙ bounded counts.passed more.passed most _ h.passed ∙ ap (λ n. min n most) (sym (sum_by_push (λ pair. pair.2.passed) h.files (expected, cases, more)));
-      failed = failed ∙ bounded counts.failed more.failed most _ h.failed ∙ ap (λ n. min n most) (sym (sum_by_push (λ pair. pair.2.failed) h.files (expected, cases, more)));
+      passed = passed ∙ bounded counts.passed more.passed most _ h.passed
+          ∙ ap (λ n. min n most) (sym (sum_by_push (λ pair. pair.2.passed) h.files (expected, cases, more)));
+      failed = failed ∙ bounded counts.failed more.failed most _ h.failed
+          ∙ ap (λ n. min n most) (sym (sum_by_push (λ pair. pair.2.failed) h.files (expected, cases, more)));
     }
 
 -- no case failed in either, where none did in both
@@ -142,7 +149,9 @@ pub checked_step : {E F : Type 0} (expected cases expected_left cases_left expec
     → more.passed ≡ counts.passed + (if passes then 1 else 0) → more.failed ≡ counts.failed + (if passes then 0 else 1)
     → HaveCheckedKnown expected cases expected_next cases_next more
 checked_step expected cases el cl en cn counts more a l (Ok x) (Ok y) passes h a_is l_is a_gives l_gives checks passed failed =
-    checked_more expected cases el cl en cn counts more (string_bytes x) (string_bytes y) passes h (subst (λ next. YieldsKnownPiece string_bytes first_line 10 el next en) a_is a_gives) (subst (λ next. YieldsKnownPiece string_bytes first_line 10 cl next cn) l_is l_gives) checks passed failed
+    checked_more expected cases el cl en cn counts more (string_bytes x) (string_bytes y) passes h
+    (subst (λ next. YieldsKnownPiece string_bytes first_line 10 el next en) a_is a_gives)
+    (subst (λ next. YieldsKnownPiece string_bytes first_line 10 cl next cn) l_is l_gives) checks passed failed
 checked_step expected cases el cl en cn counts more a l (Ok x) (Err e) passes h a_is l_is a_gives l_gives checks passed failed = absurd checks
 checked_step expected cases el cl en cn counts more a l (Err e) line passes h a_is l_is a_gives l_gives checks passed failed = absurd checks
 

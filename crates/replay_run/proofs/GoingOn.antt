@@ -38,7 +38,8 @@ pub answer_told : {E : Type 0} (way : Way) (is_first : Bool) (number : ℕ) (lin
 answer_told way is_first number line problem (Ok answer) keep with told text =
     let (words, fault, is) = text in
     ok_and line
-    (λ x none. subst (λ t. AnswersLine way t is_first (number, string_bytes x) answer.text.items) (sym told) (keep, record { words = words; is = none; text_is = is }))
+    (λ x none. subst (λ t. AnswersLine way t is_first (number, string_bytes x) answer.text.items) (sym told)
+    (keep, record { words = words; is = none; text_is = is }))
     (no_case (Case number) line problem words with fault)
 answer_told way is_first number line problem (Err stop) keep with told text = tt
 

@@ -42,7 +42,8 @@ invented way is_first b rest problem h = written h.written
     none : concat h.texts ≡ []
     none = none_of_none way h.told is_first h.lines h.texts h.read h.answered
 
-    written : (IsWrite problem × AppendsFirst (Some []) (Some (b ∷ rest)) (concat h.texts)) ⊎ (Appends (Some []) (Some (b ∷ rest)) (concat h.texts) × StopsAfter (Some []) h.lines problem × StopsFor way problem) → ⊥
+    written : (IsWrite problem × AppendsFirst (Some []) (Some (b ∷ rest)) (concat h.texts))
+        ⊎ (Appends (Some []) (Some (b ∷ rest)) (concat h.texts) × StopsAfter (Some []) h.lines problem × StopsFor way problem) → ⊥
     written (inl w) = part_of_none b rest (concat h.texts) w.1.part w.1.rest none w.1.split w.1.added
     written (inr w) =
         let same : b ∷ rest ≡ concat h.texts = w.0 in
@@ -80,7 +81,8 @@ pub unanswered : (keep_going is_first : Bool) (held : List ℕ) → StopsReader 
     → ⊥
 unanswered keep_going is_first held h = written h.written
   where
-    written : (IsWrite (NotText (Case 2)) × AppendsFirst (Some []) (Some []) (concat h.texts)) ⊎ (Appends (Some []) (Some []) (concat h.texts) × StopsAfter (Some held) h.lines (NotText (Case 2)) × StopsFor (json keep_going) (NotText (Case 2))) → ⊥
+    written : (IsWrite (NotText (Case 2)) × AppendsFirst (Some []) (Some []) (concat h.texts))
+        ⊎ (Appends (Some []) (Some []) (concat h.texts) × StopsAfter (Some held) h.lines (NotText (Case 2)) × StopsFor (json keep_going) (NotText (Case 2))) → ⊥
     written (inl w) = let never = w.0.1 in cc
     written (inr w) =
         let place = w.1 in
@@ -91,7 +93,8 @@ pub stopped_all_the_same : (is_first : Bool) (held old new : Option (List ℕ)) 
     → StopsReader (json true) is_first held old new (NotJson at 1 false) → ⊥
 stopped_all_the_same is_first held old new at h = written h.written
   where
-    written : (IsWrite (NotJson at 1 false) × AppendsFirst old new (concat h.texts)) ⊎ (Appends old new (concat h.texts) × StopsAfter held h.lines (NotJson at 1 false) × StopsFor (json true) (NotJson at 1 false)) → ⊥
+    written : (IsWrite (NotJson at 1 false) × AppendsFirst old new (concat h.texts))
+        ⊎ (Appends old new (concat h.texts) × StopsAfter held h.lines (NotJson at 1 false) × StopsFor (json true) (NotJson at 1 false)) → ⊥
     written (inl w) = let never = w.0.1 in cc
     written (inr w) = w.2 refl (column_text 1 false) refl
 

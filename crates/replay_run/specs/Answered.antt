@@ -106,7 +106,8 @@ IsEndTrouble told problem = IsWrite problem ⊎ (IsTrue told × (problem ≡ Not
 
 -- answering the readers of these names stops: those of the first names are answered, each to its end, and it stops at the next; or all
 -- are answered, and there is problem with that
-pub record StopsReaders (Reader : Type 0) (bytes : Reader → Option (List ℕ)) (way : Way) (names : List Word) (old new : Option (List ℕ)) (name : Word) (problem : Problem) : Type 0 where
+pub record StopsReaders (Reader : Type 0) (bytes : Reader → Option (List ℕ)) (way : Way) (names : List Word) (old new : Option (List ℕ)) (name : Word)
+    (problem : Problem) : Type 0 where
   pub before : List Word
   pub mid : Option (List ℕ)
   pub told : Bool

@@ -29,7 +29,8 @@ pub record ChecksLine (answer line : List ℕ) (passes : Bool) : Type 0 where
 abbrev pub ChecksLines : List ℕ → List ℕ → List Bool → Type 0
 ChecksLines answers lines [] = (answers ≡ []) × (lines ≡ [])
 ChecksLines answers lines (passes ∷ verdicts) =
-    (0 < length answers) × (0 < length lines) × ChecksLine (first_line answers) (first_line lines) passes × ChecksLines (drop_through 10 answers) (drop_through 10 lines) verdicts
+    (0 < length answers) × (0 < length lines) × ChecksLine (first_line answers) (first_line lines) passes
+    × ChecksLines (drop_through 10 answers) (drop_through 10 lines) verdicts
 
 -- how many cases passed and how many failed, by the verdicts on them
 abbrev pub AreCounted : List Bool → Counts → Type 0

@@ -56,7 +56,8 @@ Asks words (Answer way files) = AsksAnswers words way (words_at files.now)
 Asks words (Check files) =
     (words ≡ codes "--check" ∷ words_at files.now) × AreFiles (words_at files.now) × ArePairs (words_at files.now)
 Asks words (Repeat times files) =
-    (digits : Word) × (words ≡ codes "--repeat" ∷ digits ∷ words_at files.now) × AreFiles (words_at files.now) × IsNumber digits × (times ≡ digits_value 10 digits)
+    (digits : Word) × (words ≡ codes "--repeat" ∷ digits ∷ words_at files.now) × AreFiles (words_at files.now) × IsNumber digits
+    × (times ≡ digits_value 10 digits)
 Asks words Help = words ≡ codes "--help" ∷ []
 
 -- the words are of the form

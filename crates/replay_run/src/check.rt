@@ -61,8 +61,8 @@ impl Counts {
     }
 }
 
-/// Compares each case with the answer that stands in the same line of `expected`, writes those that differ, and counts the
-/// cases.
+/// Compares each case with the answer that stands in the same line of `expected`, writes those that differ, and counts
+/// the cases.
 pub fn check_lines<B: BufRead + Drop, C: BufRead + Drop, W: Write>(
     alloc: Global,
     expected: B,

@@ -65,7 +65,8 @@ pub fn answer_lines<B: BufRead + Drop, W: Write>(
 ) -> Result<bool, Problem>
     ensures answers { IfOk result (λ told. AnswersReader way told is_first.old is_first.new (B.remaining input)
         (W.contents out.old) (W.contents out.new)) }
-    ensures stops { IfErr result (StopsReader way is_first.old (B.remaining input) (W.contents out.old) (W.contents out.new)) }
+    ensures stops { IfErr result (StopsReader way is_first.old (B.remaining input) (W.contents out.old)
+        (W.contents out.new)) }
 {
     let mut number = 0u64;
     let mut told = false;
@@ -241,7 +242,8 @@ fn text_for(
     form: Form,
     is_first: bool,
 ) -> Result<Vec<u8>, Problem>
-    ensures answers { IfOk result (λ text. IsOkAnd line (λ line. AnswersCase form is_first (string_bytes line) text.items)) }
+    ensures answers { IfOk result (λ text. IsOkAnd line (λ line.
+        AnswersCase form is_first (string_bytes line) text.items)) }
     ensures stops { IfErr result (IsProblemWith (Line.Case number) line) }
 {
     match value_of(alloc, Line::Case(number), line) {
@@ -318,7 +320,8 @@ pub fn value_of(alloc: Global, line: Line, text: io::Result<String>) -> Result<V
 /// The problem with a line at which reading JSON met this.
 fn not_json(line: Line, error: Error) -> Problem
     ensures memory { IsMemory error → result ≡ Problem.Memory }
-    ensures text { (IsMemory error → ⊥) → (column : ℕ) × (ends_early : Bool) × (result ≡ Problem.NotJson line column ends_early) }
+    ensures text { (IsMemory error → ⊥) → (column : ℕ) × (ends_early : Bool)
+        × (result ≡ Problem.NotJson line column ends_early) }
 {
     if error.is_memory() {
         Problem::Memory

@@ -130,7 +130,8 @@ fn finish<'a, R: Files + Input + Clock + AllocGlobal, W: Write>(
     ensures stops_input { IfErr result (λ stop. IfAnswers command.now (λ way files. length files ≡ 0
         → StopsReaders R.Reader R.Reader.remaining way (codes "standard input" ∷ [])
         (W.contents out.old) (W.contents out.new) stop.file.now stop.problem)) }
-    ensures help { OnOk result (command.now ≡ Help → Appends (W.contents out.old) (W.contents out.new) (line_of usage_text)) }
+    ensures help { OnOk result (command.now ≡ Help → Appends (W.contents out.old) (W.contents out.new)
+        (line_of usage_text)) }
 {
     match do_command(rt, command, out) {
         Ok(status) => match out.flush() {
@@ -207,7 +208,8 @@ fn do_command<'a, R: Files + Input + Clock + AllocGlobal, W: Write>(
     ensures stops_input { IfErr result (λ stop. IfAnswers command.now (λ way files. length files ≡ 0
         → StopsReaders R.Reader R.Reader.remaining way (codes "standard input" ∷ [])
         (W.contents out.old) (W.contents out.new) stop.file.now stop.problem)) }
-    ensures help { OnOk result (command.now ≡ Help → Appends (W.contents out.old) (W.contents out.new) (line_of usage_text)) }
+    ensures help { OnOk result (command.now ≡ Help → Appends (W.contents out.old) (W.contents out.new)
+        (line_of usage_text)) }
 {
     match *command {
         Command::Answer(way, files) => answer(rt, way, files, out),
@@ -240,7 +242,8 @@ fn answer<'a, R: Files + Input + AllocGlobal, W: Write>(
         → AnswersReaders R.Reader R.Reader.remaining way false 1 (W.contents out.old) (W.contents out.new)) }
     ensures stops { IfErr result (λ stop. 0 < length (words_at files.now) → StopsReaders R.File R.File.remaining way
         (words_at files.now) (W.contents out.old) (W.contents out.new) stop.file.now stop.problem) }
-    ensures stops_input { IfErr result (λ stop. length (words_at files.now) ≡ 0 → StopsReaders R.Reader R.Reader.remaining way
+    ensures stops_input { IfErr result (λ stop. length (words_at files.now) ≡ 0
+        → StopsReaders R.Reader R.Reader.remaining way
         (codes "standard input" ∷ []) (W.contents out.old) (W.contents out.new) stop.file.now stop.problem) }
 {
     if files.is_empty() {
@@ -357,9 +360,11 @@ fn answer_file<R: Files + AllocGlobal, W: Write>(
     is_first: &mut bool,
     out: &mut W,
 ) -> Result<bool, Problem>
-    ensures answers { IfOk result (λ told. (input : R.File) × AnswersReader way told is_first.old is_first.new (R.File.remaining input)
+    ensures answers { IfOk result (λ told. (input : R.File)
+        × AnswersReader way told is_first.old is_first.new (R.File.remaining input)
         (W.contents out.old) (W.contents out.new)) }
-    ensures stops { IfErr result (StopsAt R.File R.File.remaining way is_first.old (W.contents out.old) (W.contents out.new)) }
+    ensures stops { IfErr result (StopsAt R.File R.File.remaining way is_first.old (W.contents out.old)
+        (W.contents out.new)) }
 {
     match opened(rt, file) {
         Ok(input) => answer_lines(rt.alloc(), input, way, is_first, out),

@@ -32,8 +32,8 @@ pub fn usage_error_of<'a>(words: &'a [&'a str]) -> UsageError<'a> {
     }
 }
 
-/// What is wrong with these words, after an option or without one: the first that names no file. Where each names one, they
-/// stand after `--check`, and aren't pairs.
+/// What is wrong with these words, after an option or without one: the first that names no file. Where each names one,
+/// they stand after `--check`, and aren't pairs.
 fn misplaced<'a>(words: &'a [&'a str]) -> UsageError<'a> {
     for word in words {
         if is_option(word) {

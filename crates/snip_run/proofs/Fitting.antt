@@ -31,7 +31,8 @@ given_label (Some t) (Some w) same fits =
 own_label : (words : List Word) (line : Line) → AreLine words line → All TextFits words → (own : Option Word) → line.label ≡ own → IfSome own TextFits
 own_label words line are fits None is = tt
 own_label words line are fits (Some w) is =
-    operand_fits words line are fits w (subst (λ own. Contains (line.file ∷ line.start ∷ line.end ∷ line.title ∷ option_to_list own) w) (sym is) (4, omega arith, refl))
+    operand_fits words line are fits w (subst (λ own. Contains (line.file ∷ line.start ∷ line.end ∷ line.title ∷ option_to_list own) w) (sym is)
+    (4, omega arith, refl))
 
 -- the label of a command fits, where the words do
 pub label_fits : (words : List Word) (line : Line) (command : Command) → AreLine words line → Says no_options line command → All TextFits words

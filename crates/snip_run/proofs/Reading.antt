@@ -17,7 +17,9 @@ width_front (digits ∷ ws) = Some (Width digits, ws)
 abbrev front : List Word → Option (Setting × List Word)
 front [] = None
 front (w ∷ ws) =
-    cond (bytes_eq w (codes "--unicode")) (Some (Unicode, ws)) (cond (bytes_eq w (codes "--text")) (Some (Text, ws)) (cond (bytes_eq w (codes "--short")) (Some (Short, ws)) (cond (bytes_eq w (codes "--styled")) (Some (Styled, ws)) (cond (bytes_eq w (codes "--width")) (width_front ws) None))))
+    cond (bytes_eq w (codes "--unicode")) (Some (Unicode, ws)) (cond (bytes_eq w (codes "--text")) (Some (Text, ws))
+    (cond (bytes_eq w (codes "--short")) (Some (Short, ws)) (cond (bytes_eq w (codes "--styled")) (Some (Styled, ws))
+    (cond (bytes_eq w (codes "--width")) (width_front ws) None))))
 
 front-words_of : (s : Setting) (xs : List Word) → front (words_of s ++ xs) ≡ Some (s, xs)
 front-words_of Unicode xs = refl
@@ -54,7 +56,8 @@ first_setting s rest (t ∷ later) file more e free =
 pub after_option : (s : Setting) (rest : List Word) (first : Options) (line : Line) → AreLine (words_of s ++ rest) line
     → (next : Line) × AreLine rest next × ((c : Command) → Says (options_with first s) next c → Says first line c)
 after_option s rest first line h =
-    let (later, same, after) = first_setting s rest line.settings line.file (line.start ∷ line.end ∷ line.title ∷ option_to_list line.label) h.whole h.operands.file in (
+    let (later, same, after) = first_setting s rest line.settings line.file
+    (line.start ∷ line.end ∷ line.title ∷ option_to_list line.label) h.whole h.operands.file in (
       record line { settings = later },
       record {
         whole = after;

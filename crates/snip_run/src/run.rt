@@ -148,9 +148,9 @@ fn tell<V: Write>(alloc: Global, failure: &Failure, name: &str, err: &mut V)
 
 /// Prints the report that the words ask for, and answers the status to end with.
 ///
-/// `file` is what FILE holds, or `None` where it can't be read. The status is 0 where the report was printed, 2 for words
-/// that aren't of the form, and else 1. The report goes to `out`, and what is in its way to `err`; a report that couldn't be
-/// written is told by the status alone. Neither writer is flushed.
+/// `file` is what FILE holds, or `None` where it can't be read. The status is 0 where the report was printed, 2 for
+/// words that aren't of the form, and else 1. The report goes to `out`, and what is in its way to `err`; a report that
+/// couldn't be written is told by the status alone. Neither writer is flushed.
 ///
 /// | Status | `out` | `err` |
 /// |---|---|---|

@@ -19,7 +19,8 @@ unfolding changed_within
 slice_index_or-changed_within_inside f start end xs k d from before within =
     let mid = take (end - start) (drop start xs) in
     let inside : k - start < length mid = grind (arith, places) in
-    let read : slice_index_or (take start xs ++ map f mid ++ drop (max start end) xs) k d ≡ get_or (map f mid) (k - start) d = grind (arith, places, length-map) in
+    let read : slice_index_or (take start xs ++ map f mid ++ drop (max start end) xs) k d
+    ≡ get_or (map f mid) (k - start) d = grind (arith, places, length-map) in
     let same : get_or mid (k - start) d ≡ get_or xs k d = grind (arith, places) in
     read ∙ get_or-map f mid (k - start) d d inside ∙ ap f same
 
@@ -61,7 +62,8 @@ row_at-cells_changed_same f rows row start end =
       | inl there ↦ slice_index_or-changed_within_inside change row (row + 1) rows row [] (omega arith) (omega arith) there
       | inr past ↦
           let no_cells : length (row_at rows row) ≡ 0 = ap length (get_or_past rows row [] past) in
-          ap (λ rs. row_at rs row) (changed_within_none change row (row + 1) rows (omega arith)) ∙ sym (changed_within_none f start end (row_at rows row) (omega arith))
+          ap (λ rs. row_at rs row) (changed_within_none change row (row + 1) rows (omega arith))
+          ∙ sym (changed_within_none f start end (row_at rows row) (omega arith))
     ]
 
 -- the other rows
@@ -92,7 +94,8 @@ ChangesCells-cells_changed f rows row start end =
     let old = row_at rows row in
     let same = row_at-cells_changed_same f rows row start end in
     record {
-      inside = λ c from before within. ap (λ r. slice_index_or r c SPACE) same ∙ slice_index_or-changed_within_inside f start end old c SPACE from before within;
+      inside = λ c from before within. ap (λ r. slice_index_or r c SPACE) same
+          ∙ slice_index_or-changed_within_inside f start end old c SPACE from before within;
       before = λ c h. ap (λ r. slice_index_or r c SPACE) same ∙ slice_index_or-changed_within_before f start end old c SPACE h;
       after = λ c h. ap (λ r. slice_index_or r c SPACE) same ∙ slice_index_or-changed_within_after f start end old c SPACE h;
       others = row_at-cells_changed_other f rows row start end;

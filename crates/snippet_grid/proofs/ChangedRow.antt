@@ -63,7 +63,8 @@ part_free old new runs part row from to end n are within before follows below ga
       row_is = gap.row_is;
       cell_is = gap.cell_is;
       within = omega (arith, gap.count_is);
-      cells = λ c first last. gap.cells c ∙ sym (free_between old runs row from c n are within before first (λ d more. omega (arith, follows d more, gap.count_is)));
+      cells = λ c first last. gap.cells c ∙ sym (free_between old runs row from c n are within before first (λ d more.
+          omega (arith, follows d more, gap.count_is)));
     }
 
 -- what was changed so far, up to a cell
@@ -110,7 +111,8 @@ put_span now mid new runs_now runs_new part changed row col to change grows are 
     put.shows row c ∙ elim (cases_lt c col) [
       | inl before ↦ pick x y (holds_before changed row c (omega (arith, cell))) ∙ kept ∙ sym (pick (g c) was (within_before col end c before))
       | inr low ↦ elim (cases_lt c end) [
-        | inl high ↦ pick x y (holds_inside changed row c row_is (omega (arith, cell)) (omega (arith, cell, same.count))) ∙ same.cells mid c ∙ ap (λ (d : Cell). changed_by change d) (is.cells c low high) ∙ sym (pick (g c) was (within_yes col end c low high))
+        | inl high ↦ pick x y (holds_inside changed row c row_is (omega (arith, cell)) (omega (arith, cell, same.count))) ∙ same.cells mid c
+            ∙ ap (λ (d : Cell). changed_by change d) (is.cells c low high) ∙ sym (pick (g c) was (within_yes col end c low high))
         | inr follows ↦ pick x y (holds-after changed row c (omega (arith, cell, same.count))) ∙ kept ∙ sym (pick (g c) was (within_after col end c follows))
       ]
     ]
@@ -146,7 +148,8 @@ change_next old now mid new runs_old runs_now runs_new part changed row from to 
 pub put_stays : (now mid new : List ℕ) (runs_now runs_new : List Run) (changed : Run) (r c : ℕ) → BeginsWith now mid → All (λ x. IsRun now x) runs_now
     → IsPut mid new runs_now runs_new changed → r ≢ changed.row → shown_cell new runs_new r c ≡ shown_cell now runs_now r c
 put_stays now mid new runs_now runs_new changed r c grows are put other =
-    put.shows r c ∙ pick (run_cell mid changed c) (shown_cell mid runs_now r c) (holds_elsewhere changed r c (λ same. other (sym same))) ∙ painted-grown now mid r c SPACE runs_now grows are
+    put.shows r c ∙ pick (run_cell mid changed c) (shown_cell mid runs_now r c) (holds_elsewhere changed r c (λ same. other (sym same)))
+    ∙ painted-grown now mid r c SPACE runs_now grows are
 
 -- a part of a row, in a grid that shows the same row
 pub part_same : (text : List ℕ) (row from to : ℕ) (g h : ℕ → Cell) (part : Run) → ((c : ℕ) → g c ≡ h c) → IsPartOfRow text row from to g part

@@ -16,7 +16,8 @@ openings_set codes styles i code d are within is =
       count = length-set codes i (Some code) ∙ are.count;
       each = λ k other e s inside reads. elim (cases_eq k i) [
         | inl same ↦
-            let read : Some other ≡ Some code = sym reads ∙ ap (λ j. get_or (set codes i (Some code)) j e) same ∙ get_or-set_same codes i (Some code) e (omega (arith, are.count, within)) in
+            let read : Some other ≡ Some code = sym reads ∙ ap (λ j. get_or (set codes i (Some code)) j e) same
+            ∙ get_or-set_same codes i (Some code) e (omega (arith, are.count, within)) in
             ap string_bytes (some_same read) ∙ is ∙ ap opening_bytes (get_or_default styles i d s within ∙ ap (λ j. get_or styles j s) (sym same))
         | inr apart ↦ are.each k other e s inside (sym (get_or-set_other codes i k (Some code) e apart) ∙ reads)
       ];

@@ -36,7 +36,8 @@ copied_after from to at c after = and_right _ _ (le-ltb c (at + (to - from)) aft
 pub shown_past : (text : List ℕ) (r c n : ℕ) (d : Cell) (runs : List Run) → EndsBy n runs → n ≤ c → painted_over text r c d runs ≡ d
 shown_past text r c n d [] ends past = refl
 shown_past text r c n d (run ∷ runs) ends past =
-    ap (λ (cell : Cell). painted_over text r c cell runs) (pick (run_cell text run c) d (holds-after run r c (omega (arith, ends 0 run (omega arith))))) ∙ shown_past text r c n d runs (All-tail (λ x. x.cell + x.count ≤ n) run runs ends) past
+    ap (λ (cell : Cell). painted_over text r c cell runs) (pick (run_cell text run c) d (holds-after run r c (omega (arith, ends 0 run (omega arith)))))
+    ∙ shown_past text r c n d runs (All-tail (λ x. x.cell + x.count ≤ n) run runs ends) past
 
 num_touched-append : (from to : ℕ) (xs ys : List Run) → num_touched from to (xs ++ ys) ≡ num_touched from to xs + num_touched from to ys
 num_touched-append from to [] ys = omega arith
@@ -46,7 +47,8 @@ num_touched-append from to (run ∷ xs) ys = omega (arith, num_touched-append fr
 touched_more : (from to n : ℕ) (runs : List Run) (run : Run) → n < length runs → run ≡ get_or runs n run
     → num_touched from to (take (n + 1) runs) ≡ num_touched from to (take n runs) + num_touched from to (run ∷ [])
 touched_more from to n runs run within read =
-    ap (λ (xs : List Run). num_touched from to xs) (take_more runs n run within ∙ ap (λ (x : Run). take n runs ++ x ∷ []) (sym read)) ∙ num_touched-append from to (take n runs) (run ∷ [])
+    ap (λ (xs : List Run). num_touched from to xs) (take_more runs n run within ∙ ap (λ (x : Run). take n runs ++ x ∷ []) (sym read))
+    ∙ num_touched-append from to (take n runs) (run ∷ [])
 
 touched_one : (from to : ℕ) (run : Run) → max run.cell from < min (run.cell + run.count) to → num_touched from to (run ∷ []) ≡ 1
 touched_one from to run some = ap (λ k. k + 0) (pick 1 0 (lt-ltb (max run.cell from) (min (run.cell + run.count) to) some))
@@ -87,11 +89,14 @@ pub piece_cell : (old now : List ℕ) (run part piece : Run) (from at start end 
     → c < piece.cell + (end - start) → run_cell now piece c ≡ run_cell old run (from + (c - at))
 piece_cell old now run part piece from at start end c grows is cut low from_le cell starts ends role link above below =
     let cs = run_chars old run in
-    let bytes : run_bytes now piece ≡ run_bytes now part = ap (λ s. take (piece.end - s) (drop s now)) starts ∙ ap (λ e. take (e - part.start) (drop part.start now)) ends in
-    let characters : run_chars now piece ≡ take (end - start) (drop (start - run.cell) cs) = ap chars bytes ∙ cut.chars_are ∙ ap (λ (t : List ℕ). take (end - start) (drop (start - run.cell) (chars t))) (run_bytes-grown old now run grows is) in
+    let bytes : run_bytes now piece ≡ run_bytes now part = ap (λ s. take (piece.end - s) (drop s now)) starts
+    ∙ ap (λ e. take (e - part.start) (drop part.start now)) ends in
+    let characters : run_chars now piece ≡ take (end - start) (drop (start - run.cell) cs) = ap chars bytes ∙ cut.chars_are
+    ∙ ap (λ (t : List ℕ). take (end - start) (drop (start - run.cell) (chars t))) (run_bytes-grown old now run grows is) in
     let i : ℕ = c - piece.cell in
     let index : (start - run.cell) + i ≡ from + (c - at) - run.cell = omega arith in
-    let ch : get_or (run_chars now piece) i 32 ≡ get_or cs (from + (c - at) - run.cell) 32 = ap (λ (x : List ℕ). get_or x i 32) characters ∙ get_or-take (end - start) (drop (start - run.cell) cs) i 32 (omega arith) ∙ get_or-drop (start - run.cell) cs i 32 ∙ ap (λ k. get_or cs k 32) index in
+    let ch : get_or (run_chars now piece) i 32 ≡ get_or cs (from + (c - at) - run.cell) 32 = ap (λ (x : List ℕ). get_or x i 32) characters
+    ∙ get_or-take (end - start) (drop (start - run.cell) cs) i 32 (omega arith) ∙ get_or-drop (start - run.cell) cs i 32 ∙ ap (λ k. get_or cs k 32) index in
     cell_same (run_cell now piece c) (run_cell old run (from + (c - at))) ch (role ∙ cut.role) (link ∙ cut.link)
 
 -- one more run was copied
@@ -113,17 +118,22 @@ copied_cell old now run part piece from to at start end r c before outside grows
     let end_le : end ≤ to = omega arith in
     let run_end : end ≤ run.cell + run.count = omega arith in
     elim (cases_lt c at) [
-      | inl left ↦ pick x kept (holds_before piece r c (omega arith)) ∙ pick before outside (copied_before from to at c left) ∙ sym (pick more outside (copied_before from to at c left))
+      | inl left ↦ pick x kept (holds_before piece r c (omega arith)) ∙ pick before outside (copied_before from to at c left)
+          ∙ sym (pick more outside (copied_before from to at c left))
       | inr above ↦ elim (cases_lt c (at + (to - from))) [
-        | inr after ↦ pick x kept (holds-after piece r c (omega arith)) ∙ pick before outside (copied_after from to at c after) ∙ sym (pick more outside (copied_after from to at c after))
+        | inr after ↦ pick x kept (holds-after piece r c (omega arith)) ∙ pick before outside (copied_after from to at c after)
+            ∙ sym (pick more outside (copied_after from to at c after))
         | inl below ↦
             let yes = copied_yes from to at c above below in
             elim (cases_eq run.row r) [
-              | inr other ↦ pick x kept (holds_elsewhere piece r c (λ h. other (sym row ∙ h))) ∙ pick before outside yes ∙ sym (pick more outside yes ∙ pick y before (holds_elsewhere run r there other))
+              | inr other ↦ pick x kept (holds_elsewhere piece r c (λ h. other (sym row ∙ h))) ∙ pick before outside yes
+                  ∙ sym (pick more outside yes ∙ pick y before (holds_elsewhere run r there other))
               | inl here ↦ elim (cases_lt there run.cell) [
-                | inl short ↦ pick x kept (holds_before piece r c (omega arith)) ∙ pick before outside yes ∙ sym (pick more outside yes ∙ pick y before (holds_before run r there short))
+                | inl short ↦ pick x kept (holds_before piece r c (omega arith)) ∙ pick before outside yes
+                    ∙ sym (pick more outside yes ∙ pick y before (holds_before run r there short))
                 | inr reaches ↦ elim (cases_lt there (run.cell + run.count)) [
-                  | inr past ↦ pick x kept (holds-after piece r c (omega arith)) ∙ pick before outside yes ∙ sym (pick more outside yes ∙ pick y before (holds-after run r there past))
+                  | inr past ↦ pick x kept (holds-after piece r c (omega arith)) ∙ pick before outside yes
+                      ∙ sym (pick more outside yes ∙ pick y before (holds-after run r there past))
                   | inl within ↦
                       let first : piece.cell ≤ c = omega arith in
                       let last : c < piece.cell + (end - start) = omega arith in
@@ -149,11 +159,13 @@ pub copy_next : (old now new : List ℕ) (out_old out_now out_new runs : List Ru
     → piece.cell ≡ at + (start - from) → piece.count ≡ part.count → piece.start ≡ part.start → piece.end ≡ part.end → piece.role ≡ part.role
     → option_copied piece.link ≡ option_copied part.link → BeginsWith now new → ShowsMore now new out_now out_new piece
     → All (λ x. IsRun new x) out_new → AddsRun out_now out_new piece → CopySoFar old new out_old out_new runs row from to at (n + 1)
-copy_next old now new out_old out_now out_new runs run part piece row from to at n start end within read are so_far cut is_start is_end some piece_row cell count starts ends role link grows shows are_new adds =
+copy_next old now new out_old out_now out_new runs run part piece row from to at n start end within read are so_far cut is_start is_end some piece_row cell
+    count starts ends role link grows shows are_new adds =
     let is : IsRun old run = subst (λ x. IsRun old x) (sym read) (are.are_runs n run within) in
     let run_row : run.row ≡ row = subst (λ (x : Run). x.row ≡ row) (sym read) (are.in_row n run within) in
     let piece_end : piece.cell + piece.count ≡ at + (end - from) = omega (arith, count, cut.count, cell) in
-    let ends_now : EndsBy (at + (run.cell - from)) out_now = subst (λ (x : Run). EndsBy (at + (x.cell - from)) out_now) (sym read) (so_far.before n run (omega arith) within) in
+    let ends_now : EndsBy (at + (run.cell - from)) out_now = subst (λ (x : Run). EndsBy (at + (x.cell - from)) out_now) (sym read)
+    (so_far.before n run (omega arith) within) in
     let all_before : All (λ x. Precedes x piece) out_now = λ k d inside. record {
       rows = omega (arith, piece_row, so_far.is_row.in_row k d inside);
       cells = λ same. omega (arith, ends_now k d inside, cell, is_start);
@@ -175,13 +187,15 @@ copy_next old now new out_old out_now out_new runs run part piece row from to at
           let precedes : Precedes (get_or runs n d) next = are.ordered n k d (omega arith) inside in
           let read_at : get_or runs n d ≡ run = get_or_default runs n d run within ∙ sym read in
           let next_row : next.row ≡ row = are.in_row k d inside in
-          let gap : run.cell + run.count ≤ next.cell = subst (λ (x : Run). x.cell + x.count ≤ next.cell) read_at (precedes.cells (ap (λ (x : Run). x.row) read_at ∙ run_row ∙ sym next_row)) in
+          let gap : run.cell + run.count ≤ next.cell = subst (λ (x : Run). x.cell + x.count ≤ next.cell) read_at
+          (precedes.cells (ap (λ (x : Run). x.row) read_at ∙ run_row ∙ sym next_row)) in
           adds.ends (at + (next.cell - from)) (so_far.before k d (omega arith) inside) (omega arith);
       shows = λ r c.
           let there = from + (c - at) in
           let before = shown_cell old (take n runs) r there in
           let outside = shown_cell old out_old r c in
-          let one_more : shown_cell old (take (n + 1) runs) r there ≡ (if holds run r there then run_cell old run there else before) = shown_more old runs n r there run within ∙ ap (λ (x : Run). if holds x r there then run_cell old x there else before) (sym read) in
+          let one_more : shown_cell old (take (n + 1) runs) r there ≡ (if holds run r there then run_cell old run there else before) = shown_more old runs n r
+          there run within ∙ ap (λ (x : Run). if holds x r there then run_cell old x there else before) (sym read) in
           shows r c ∙ ap (λ (d : Cell). if holds piece r c then run_cell now piece c else d) (so_far.shows r c)
           ∙ copied_cell old now run part piece from to at start end r c before outside so_far.grows is cut is_start is_end some
           (piece_row ∙ sym run_row) cell count starts ends role link
@@ -204,11 +218,14 @@ copy_past old now out_old out_now runs run row from to at n start end within rea
           let there = from + (c - at) in
           let before = shown_cell old (take n runs) r there in
           let outside = shown_cell old out_old r c in
-          let one_more : shown_cell old (take (n + 1) runs) r there ≡ (if holds run r there then run_cell old run there else before) = shown_more old runs n r there run within ∙ ap (λ (x : Run). if holds x r there then run_cell old x there else before) (sym read) in
+          let one_more : shown_cell old (take (n + 1) runs) r there ≡ (if holds run r there then run_cell old run there else before) = shown_more old runs n r
+          there run within ∙ ap (λ (x : Run). if holds x r there then run_cell old x there else before) (sym read) in
           so_far.shows r c ∙ elim (cases_lt c at) [
-            | inl left ↦ pick before outside (copied_before from to at c left) ∙ sym (pick (shown_cell old (take (n + 1) runs) r there) outside (copied_before from to at c left))
+            | inl left ↦ pick before outside (copied_before from to at c left)
+                ∙ sym (pick (shown_cell old (take (n + 1) runs) r there) outside (copied_before from to at c left))
             | inr above ↦ elim (cases_lt c (at + (to - from))) [
-              | inr after ↦ pick before outside (copied_after from to at c after) ∙ sym (pick (shown_cell old (take (n + 1) runs) r there) outside (copied_after from to at c after))
+              | inr after ↦ pick before outside (copied_after from to at c after)
+                  ∙ sym (pick (shown_cell old (take (n + 1) runs) r there) outside (copied_after from to at c after))
               | inl below ↦
                   let gone : shown_cell old (take (n + 1) runs) r there ≡ before = elim (cases_lt there run.cell) [
                     | inl short ↦ one_more ∙ pick (run_cell old run there) before (holds_before run r there short)

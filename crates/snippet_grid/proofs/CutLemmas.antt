@@ -22,7 +22,18 @@ bytes_single : (cs : List ℕ) (n : ℕ) → bytes_of cs ≡ length cs → n ≤
 bytes_single cs n single within =
     let front = take n cs in
     let back = drop n cs in
-    omega (arith, single, ap bytes_of (take-append-drop n cs), ap length (encodes-append front back), length-append (encode_utf8_all front) (encode_utf8_all back), length-le-encodes front, length-le-encodes back, length-take-le n cs within, length-drop n cs)
+    omega (
+      arith,
+      single,
+      ap bytes_of (take-append-drop n cs),
+      ap length (encodes-append front back),
+      length-append (encode_utf8_all front)
+          (encode_utf8_all back),
+      length-le-encodes front,
+      length-le-encodes back,
+      length-take-le n cs within,
+      length-drop n cs,
+    )
 
 -- and a run of as many bytes as cells is cut after as many bytes as cells
 pub run_single : (text : List ℕ) (run : Run) (n : ℕ) → IsUtf8 text → IsRun text run → run.end - run.start ≡ run.count → n ≤ run.count
@@ -89,10 +100,12 @@ IsPart-cut text run part from to a b utf8 is low some high is_a is_b row cell co
     let a_is : a ≡ bytes_of (take i (chars front)) = is_a ∙ sym (ap bytes_of fewer) in
     let a_within : a ≤ b = omega (arith, a_is, bytes_within front i utf8_front, length-take-le b bytes b_within) in
     let part_bytes : run_bytes text part ≡ drop a front =
-    ap (λ s. stretch text s part.end) start ∙ ap (λ e. stretch text (run.start + a) e) end ∙ stretch_within text run.start run.end a b a_within (omega arith) is.within in
+    ap (λ s. stretch text s part.end) start ∙ ap (λ e. stretch text (run.start + a) e) end
+    ∙ stretch_within text run.start run.end a b a_within (omega arith) is.within in
     let index : i + (to - from) ≡ j = omega arith in
     let part_chars : run_chars text part ≡ take (to - from) (drop i cs) =
-    ap chars part_bytes ∙ cut_back front i a utf8_front a_is ∙ ap (drop i) front_chars ∙ ap (λ n. drop i (take n cs)) (sym index) ∙ drop-take i (to - from) cs in
+    ap chars part_bytes ∙ cut_back front i a utf8_front a_is ∙ ap (drop i) front_chars ∙ ap (λ n. drop i (take n cs)) (sym index)
+    ∙ drop-take i (to - from) cs in
     let front_at : (n k : ℕ) → n ≡ bytes_of (take k cs) → n ≤ length bytes → is_utf8 (take (run.start + n) text) ≡ true =
     λ n k is_n within_n. is_utf8-from_IsUtf8 (take (run.start + n) text)
     (subst IsUtf8 (sym (front_within text run.start run.end n is.ordered (omega arith) is.within))

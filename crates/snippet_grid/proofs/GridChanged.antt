@@ -57,7 +57,8 @@ ChangesCells-shown f old new runs now w row start end last is_last fit_old fit_n
     cell_shown new now w row c fit_new ∙ shows c ∙ pick (g c) (shown_cell old runs row c) no ∙ sym (cell_shown old runs w row c fit_old) in
     record {
       inside = λ c low high within.
-          cell_shown new now w row c fit_new ∙ shows c ∙ pick (g c) (shown_cell old runs row c) (within_yes start last c low (omega (arith, width_shown old runs w row))) ∙ ap f (sym (cell_shown old runs w row c fit_old));
+          cell_shown new now w row c fit_new ∙ shows c ∙ pick (g c) (shown_cell old runs row c)
+          (within_yes start last c low (omega (arith, width_shown old runs w row))) ∙ ap f (sym (cell_shown old runs w row c fit_old));
       before = λ c low. stays c (within_before start last c low);
       after = λ c high. stays c (within_after start last c (omega arith));
       others = λ r other. same_row old new runs now w w r refl (λ c. others r c other);
@@ -71,7 +72,8 @@ pub grid_span : (f : Cell → Cell) (old new : List ℕ) (runs now : List Run) (
     → ((r c : ℕ) → r ≢ row → shown_cell new now r c ≡ shown_cell old runs r c) → grid_shown new now w ≡ cells_changed f (grid_shown old runs w) row start end
 grid_span f old new runs now w row start end last is_last fit_old fit_new shows others =
     let before = grid_shown old runs w in
-    ChangesCells-unique f before (grid_shown new now w) (cells_changed f before row start end) row start end (ChangesCells-shown f old new runs now w row start end last is_last fit_old fit_new shows others) (ChangesCells-cells_changed f before row start end)
+    ChangesCells-unique f before (grid_shown new now w) (cells_changed f before row start end) row start end
+    (ChangesCells-shown f old new runs now w row start end last is_last fit_old fit_new shows others) (ChangesCells-cells_changed f before row start end)
 
 -- what holds after the runs of a row gave their place to others
 pub record IsExchanged (old new : List ℕ) (runs now fresh : List Run) (row start end : ℕ) : Type 0 where
@@ -115,9 +117,11 @@ grid_changed f old new runs now fresh w row start end last from to put is_last f
     let was : (c : ℕ) → shown_cell old (stretch runs from to) row c ≡ shown_cell old runs row c = λ c. row_shows old runs row from to c put.at in
     let g = λ (c : ℕ). f (shown_cell old (stretch runs from to) row c) in
     let h = λ (c : ℕ). f (shown_cell old runs row c) in
-    let here : ShowsSpan old new runs fresh row start last h = λ c. shows c ∙ ap (λ (d : Cell). (let cell : Cell = if is_within start last c then f d else d in cell)) (was c) in
+    let here : ShowsSpan old new runs fresh row start last h = λ c.
+    shows c ∙ ap (λ (d : Cell). (let cell : Cell = if is_within start last c then f d else d in cell)) (was c) in
     let there : ShowsSpan old new runs now row start last h = λ c. put_shows new runs now fresh row from to c put.at put.is ∙ here c in
-    grid_span f old new runs now w row start end last is_last fit_old fit_new there (λ r c other. put_elsewhere old new runs now fresh row from to r c put other)
+    grid_span f old new runs now w row start end last is_last fit_old fit_new there (λ r c other.
+    put_elsewhere old new runs now fresh row from to r c put other)
 
 -- the change of a grid whose lengths were lent, read cell by cell
 pub reads_changed : {T E : Type 0} (r : Result T E) (f : Cell → Cell) (grid : List (List Cell)) (old new : List ℕ) (runs now : List Run)
@@ -125,4 +129,6 @@ pub reads_changed : {T E : Type 0} (r : Result T E) (f : Cell → Cell) (grid : 
     → OnOk r (grid_shown new now lent ≡ cells_changed f (grid_shown old runs lent) row start end)
     → OnOk r (ChangesCells f grid (grid_shown new now w) row start end)
 reads_changed r f grid old new runs now w lent row start end same was is =
-    on_ok_weaker r (λ equal. ChangesCells-from_equal f grid (grid_shown new now w) row start end (subst (λ (v : List ℕ). grid_shown new now v ≡ cells_changed f (grid_shown old runs v) row start end) same equal ∙ ap (λ (rows : List (List Cell)). cells_changed f rows row start end) was)) is
+    on_ok_weaker r (λ equal. ChangesCells-from_equal f grid (grid_shown new now w) row start end
+    (subst (λ (v : List ℕ). grid_shown new now v ≡ cells_changed f (grid_shown old runs v) row start end) same equal
+    ∙ ap (λ (rows : List (List Cell)). cells_changed f rows row start end) was)) is

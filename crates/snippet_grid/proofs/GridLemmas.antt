@@ -13,13 +13,15 @@ use Rattle.snippet_grid.specs.Grid.{row_at, cell_at, cells_written, WritesCells,
 pub cells_written_below : (rows : List (List Cell)) (at : ℕ) (cells : List Cell)
     → cells_written rows (length rows) at cells ≡ rows ++ written SPACE [] at cells ∷ []
 cells_written_below rows at cells =
-    ap (λ row. written [] rows (length rows) (written SPACE row at cells ∷ [])) (get_or_past rows (length rows) [] (omega arith)) ∙ written_end [] rows (written SPACE [] at cells ∷ [])
+    ap (λ row. written [] rows (length rows) (written SPACE row at cells ∷ [])) (get_or_past rows (length rows) [] (omega arith))
+    ∙ written_end [] rows (written SPACE [] at cells ∷ [])
 
 -- writing in the last row
 pub cells_written_last : (rows : List (List Cell)) (row : List Cell) (at : ℕ) (cells : List Cell)
     → cells_written (rows ++ row ∷ []) (length rows) at cells ≡ rows ++ written SPACE row at cells ∷ []
 cells_written_last rows row at cells =
-    ap (λ r. written [] (rows ++ row ∷ []) (length rows) (written SPACE r at cells ∷ [])) (get_or_push rows row [] (length rows) refl) ∙ written_last [] rows row (written SPACE row at cells)
+    ap (λ r. written [] (rows ++ row ∷ []) (length rows) (written SPACE r at cells ∷ [])) (get_or_push rows row [] (length rows) refl)
+    ∙ written_last [] rows row (written SPACE row at cells)
 
 -- the row that was written
 pub row_at-cells_written_same : (rows : List (List Cell)) (row at : ℕ) (cells : List Cell)

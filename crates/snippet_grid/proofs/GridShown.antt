@@ -14,7 +14,8 @@ use Rattle.snippet_grid.proofs.StretchLemmas.{stretch, stretch_added, BeginsWith
 use Rattle.snippet_grid.proofs.ShownLemmas.{All-tail, pick, cell_same, painted-grown, All-IsRun-grown, holds_inside, holds_elsewhere, holds_before, holds-after}
 use Rattle.snippet_grid.specs.Grid.{row_at, cell_at, cells_written, WritesCells}
 use Rattle.snippet_style.specs.Cell.{Cell, SPACE, text_cells}
-use Rattle.snippet_grid.specs.Runs.{IsRun, BeginsWith, ShowsMore, FitIn, IsGrid, IsWord, IsWidened, run_bytes, run_chars, run_cell, holds, painted_over, shown_cell}
+use Rattle.snippet_grid.specs.Runs.{IsRun, BeginsWith, ShowsMore, FitIn, IsGrid, IsWord, IsWidened, run_bytes, run_chars, run_cell, holds, painted_over}
+use Rattle.snippet_grid.specs.Runs.{shown_cell}
 use Rattle.snippet_grid.specs.Runs.{grid_shown}
 use Rattle.snippet_style.specs.declared.role.ElementStyle.{ElementStyle}
 use Rattle.snippet_grid.specs.declared.runs.Run.{Run}
@@ -32,7 +33,8 @@ row_shown text runs widths r =
     let line = λ (k : ℕ). map (λ c. shown_cell text runs k c) (range_with_len 0 (get_or widths k 0)) in
     elim (cases_lt r (length widths)) [
       | inl within ↦ get_or-map-range_with_len line 0 (length widths) r r [] within (omega arith)
-      | inr past ↦ get_or_past (map line (range_with_len 0 (length widths))) r [] (omega (arith, length-map-range_with_len line 0 (length widths))) ∙ sym (ap (λ n. map (λ c. shown_cell text runs r c) (range_with_len 0 n)) (get_or_past widths r 0 past))
+      | inr past ↦ get_or_past (map line (range_with_len 0 (length widths))) r [] (omega (arith, length-map-range_with_len line 0 (length widths)))
+          ∙ sym (ap (λ n. map (λ c. shown_cell text runs r c) (range_with_len 0 n)) (get_or_past widths r 0 past))
     ]
 
 -- a row of a shown grid is as long as its width says
@@ -60,7 +62,8 @@ cell_shown text runs widths r c fit =
     let n = get_or widths r 0 in
     ap (λ (cells : List Cell). get_or cells c SPACE) (row_shown text runs widths r) ∙ elim (cases_lt c n) [
       | inl within ↦ get_or-map-range_with_len line 0 n c c SPACE within (omega arith)
-      | inr past ↦ get_or_past (map line (range_with_len 0 n)) c SPACE (omega (arith, length-map-range_with_len line 0 n)) ∙ sym (unheld text widths r c SPACE runs fit past)
+      | inr past ↦ get_or_past (map line (range_with_len 0 n)) c SPACE (omega (arith, length-map-range_with_len line 0 n))
+          ∙ sym (unheld text widths r c SPACE runs fit past)
     ]
 
 -- rows that show the same
@@ -70,9 +73,12 @@ same_row old new runs now w v r width same =
     let f = λ (c : ℕ). shown_cell new now r c in
     let g = λ (c : ℕ). shown_cell old runs r c in
     let n = get_or w r 0 in
-    row_shown new now v r ∙ ap (λ k. map f (range_with_len 0 k)) width ∙ same_lists (map f (range_with_len 0 n)) (map g (range_with_len 0 n)) (length-map-range_with_len f 0 n ∙ sym (length-map-range_with_len g 0 n)) (λ k d within.
+    row_shown new now v r ∙ ap (λ k. map f (range_with_len 0 k)) width
+    ∙ same_lists (map f (range_with_len 0 n)) (map g (range_with_len 0 n)) (length-map-range_with_len f 0 n ∙ sym (length-map-range_with_len g 0 n))
+    (λ k d within.
     let inside : k < n = omega (arith, length-map-range_with_len f 0 n) in
-    get_or-map-range_with_len f 0 n k k d inside (omega arith) ∙ same k ∙ sym (get_or-map-range_with_len g 0 n k k d inside (omega arith))) ∙ sym (row_shown old runs w r)
+    get_or-map-range_with_len f 0 n k k d inside (omega arith) ∙ same k ∙ sym (get_or-map-range_with_len g 0 n k k d inside (omega arith)))
+    ∙ sym (row_shown old runs w r)
 
 -- a grid whose runs show the same is the same
 pub grid_same : (old new : List ℕ) (runs now : List Run) (widths : List ℕ) → ((r c : ℕ) → shown_cell new now r c ≡ shown_cell old runs r c)
@@ -125,14 +131,17 @@ WritesCells-shown old mid new runs now w v run row at role word grows are fit_ol
       inside = λ k within.
           let yes = holds_inside run row (at + k) is.row_is (omega (arith, is.cell_is)) (omega (arith, is.cell_is, count, long)) in
           let index : (at + k) - run.cell ≡ k = omega (arith, is.cell_is) in
-          let ch : get_or (run_chars mid run) ((at + k) - run.cell) 32 ≡ get_or (chars word) k 0 = ap (λ (cs : List ℕ). get_or cs ((at + k) - run.cell) 32) is.chars_are ∙ ap (λ i. get_or (chars word) i 32) index ∙ get_or_default (chars word) k 32 0 (omega arith) in
+          let ch : get_or (run_chars mid run) ((at + k) - run.cell) 32 ≡ get_or (chars word) k 0 = ap
+          (λ (cs : List ℕ). get_or cs ((at + k) - run.cell) 32) is.chars_are ∙ ap (λ i. get_or (chars word) i 32) index
+          ∙ get_or_default (chars word) k 32 0 (omega arith) in
           cell_shown new now v row (at + k) fit_new ∙ shows row (at + k) ∙ pick (run_cell mid run (at + k)) (shown_cell mid runs row (at + k)) yes
           ∙ cell_same (run_cell mid run (at + k)) record { ch = get_or (chars word) k 0; role = role; link = None } ch is.role_is is.unlinked
           ∙ sym (slice_index_or-text_cells role (chars word) k SPACE (omega arith));
       before = λ c low. same_cell row c (holds_before run row c (omega (arith, is.cell_is)));
       after = λ c high. same_cell row c (holds-after run row c (omega (arith, is.cell_is, count, long)));
       others = λ r other. same_row old new runs now w v r (wide.others r other) (λ c. unchanged r c (holds_elsewhere run r c (λ h. other (sym h ∙ is.row_is))));
-      width = width_shown new now v row ∙ wide.here ∙ ap (λ n. max n (at + length (chars word))) (sym (width_shown old runs w row)) ∙ ap (λ n. max (length (row_at before row)) (at + n)) (sym long);
+      width = width_shown new now v row ∙ wide.here ∙ ap (λ n. max n (at + length (chars word))) (sym (width_shown old runs w row))
+          ∙ ap (λ n. max (length (row_at before row)) (at + n)) (sym long);
       count = count_shown new now v ∙ wide.count ∙ ap (λ n. max n (row + 1)) (sym (count_shown old runs w));
     }
 
@@ -153,7 +162,8 @@ pub IsWord-pushed : (old new word : List ℕ) (run : Run) (row at : ℕ) (role :
     → run.end ≡ length new → run.role ≡ role → option_copied run.link ≡ None → IsWord new row at role word run
 IsWord-pushed old new word run row at role utf8 utf8_new some fits pushed row_is cell_is count start end role_is unlinked =
     let grows : BeginsWith old new = subst (λ (t : List ℕ). BeginsWith old t) (sym pushed) (BeginsWith-append old word) in
-    let bytes : run_bytes new run ≡ word = ap (λ s. stretch new s run.end) start ∙ ap (λ e. stretch new (length old) e) end ∙ ap (λ (t : List ℕ). stretch t (length old) (length t)) pushed ∙ stretch_added old word in
+    let bytes : run_bytes new run ≡ word = ap (λ s. stretch new s run.end) start ∙ ap (λ e. stretch new (length old) e) end
+    ∙ ap (λ (t : List ℕ). stretch t (length old) (length t)) pushed ∙ stretch_added old word in
     record {
       is_run = record {
         ordered = omega (arith, start, end, BeginsWith-le old new grows);
@@ -194,14 +204,21 @@ IsWidened-to old was new row m n same end wide =
 -- a grid whose text grew is the same
 pub IsGrid-grown : (old new : List ℕ) (runs now : List Run) (w v : List ℕ) → BeginsWith old new → now ≡ runs → v ≡ w → IsGrid old runs w → IsGrid new now v
 IsGrid-grown old new runs now w v grows same widths grid =
-    let here : IsGrid new runs w = record { are_runs = All-IsRun-grown old new runs grows grid.are_runs; ordered = grid.ordered; apart = grid.apart; inside = grid.inside } in
+    let here : IsGrid new runs w = record {
+      are_runs = All-IsRun-grown old new runs grows grid.are_runs;
+      ordered = grid.ordered;
+      apart = grid.apart;
+      inside =
+          grid.inside;
+    } in
     subst (λ (l : List Run). IsGrid new l v) (sym same) (subst (λ (x : List ℕ). IsGrid new runs x) (sym widths) here)
 
 -- a text that has grown shows the same grid of the same runs
 pub grid_grown : (old new : List ℕ) (runs now : List Run) (w v : List ℕ) → BeginsWith old new → now ≡ runs → v ≡ w → IsGrid old runs w
     → grid_shown new now v ≡ grid_shown old runs w
 grid_grown old new runs now w v grows same widths grid =
-    ap (λ (l : List Run). grid_shown new l v) same ∙ ap (λ (x : List ℕ). grid_shown new runs x) widths ∙ grid_same old new runs runs w (λ r c. painted-grown old new r c SPACE runs grows grid.are_runs)
+    ap (λ (l : List Run). grid_shown new l v) same ∙ ap (λ (x : List ℕ). grid_shown new runs x) widths
+    ∙ grid_same old new runs runs w (λ r c. painted-grown old new r c SPACE runs grows grid.are_runs)
 
 -- a fact of what a refused call leaves
 pub on_err_from : {T E P : Type 0} (r : Result T E) → P → OnErr r P
@@ -228,7 +245,8 @@ chars_some text utf8 some =
 -- a grid that was read
 pub IsGrid-read : (t s : List ℕ) (runs now : List Run) (w v : List ℕ) → s ≡ t → now ≡ runs → v ≡ w → IsGrid t runs w → IsGrid s now v
 IsGrid-read t s runs now w v text same widths grid =
-    subst (λ (x : List ℕ). IsGrid x now v) (sym text) (subst (λ (l : List Run). IsGrid t l v) (sym same) (subst (λ (x : List ℕ). IsGrid t runs x) (sym widths) grid))
+    subst (λ (x : List ℕ). IsGrid x now v) (sym text) (subst (λ (l : List Run). IsGrid t l v) (sym same)
+    (subst (λ (x : List ℕ). IsGrid t runs x) (sym widths) grid))
 
 -- the same text, runs and widths show the same grid
 pub grid_read : (t s : List ℕ) (runs now : List Run) (w v : List ℕ) → s ≡ t → now ≡ runs → v ≡ w → grid_shown s now v ≡ grid_shown t runs w

@@ -35,7 +35,8 @@ part_shows text run part from to r c d cut low high same =
           ∙ get_or-drop (from - run.cell) cs (c - part.cell) 32 ∙ ap (λ k. get_or cs k 32) index in
           pick x d yes ∙ cell_same x y ch cut.role cut.link ∙ sym (pick y d (holds_inside run r c held.row_is held.low held.high))
       | inr free ↦ elim (cases_held part r c) [
-        | inl held ↦ absurd (true≢false (sym (holds_inside run r c (sym cut.row ∙ held.row_is) (omega (arith, cut.cell, held.low)) (omega (arith, cut.cell, cut.count, held.high))) ∙ free))
+        | inl held ↦ absurd (true≢false (sym (holds_inside run r c (sym cut.row ∙ held.row_is) (omega (arith, cut.cell, held.low))
+            (omega (arith, cut.cell, cut.count, held.high))) ∙ free))
         | inr none ↦ pick x d none ∙ sym (pick y d free)
       ]
     ]
@@ -104,7 +105,8 @@ pub end_before : (text : List ℕ) (run : Run) (runs : List Run) (n i : ℕ) (d 
     → (get_or runs i d).cell + (get_or runs i d).count ≤ n → All (λ x. x.cell + x.count ≤ n) runs
 end_before text run runs n i d is is_last last =
     λ k e within.
-    let high : (get_or runs i e).cell + (get_or runs i e).count ≤ n = subst (λ (x : Run). x.cell + x.count ≤ n) (get_or_default runs i d e (omega arith)) last in
+    let high : (get_or runs i e).cell + (get_or runs i e).count ≤ n = subst (λ (x : Run). x.cell + x.count ≤ n)
+    (get_or_default runs i d e (omega arith)) last in
     elim (cases_eq k i) [
       | inl same ↦ subst (λ j. (get_or runs j e).cell + (get_or runs j e).count ≤ n) (sym same) high
       | inr other ↦
@@ -124,12 +126,19 @@ front_first text first runs run left is before cut =
           let next = get_or runs k d in
           let one : first.row ≡ next.row = touch.row ∙ sym (is.is_row.in_row (suc k) d (omega arith)) in
           omega (arith, touch.reaches, (is.is_row.ordered 0 (suc k) d (omega arith) (omega arith)).cells one)) in
-          part_shows text first left first.cell run.cell r c SPACE cut (omega arith) touch.reaches (λ low high. (low, below)) ∙ sym (painted_unheld text r c (if holds first r c then run_cell text first c else SPACE) runs rest);
+          part_shows text first left first.cell run.cell r c SPACE cut (omega arith) touch.reaches (λ low high. (low, below))
+          ∙ sym (painted_unheld text r c (if holds first r c then run_cell text first c else SPACE) runs rest);
       ends = All-cons (λ x. x.cell + x.count ≤ run.cell) left [] (omega (arith, cut.cell, cut.count)) (All-nil _);
       follows = λ x all.
           let one : Precedes x first = all 0 first (omega arith) in
-          All-cons (λ y. Precedes x y) left [] record { rows = omega (arith, cut.row, one.rows); cells = λ h. omega (arith, cut.cell, one.cells (h ∙ cut.row)) } (All-nil _);
-      apart_follows = λ x all. All-cons (λ y. Differ x y) left [] (λ at. all 0 first (omega arith) record { row = at.row ∙ cut.row; touches = at.touches ∙ cut.cell; role = at.role ∙ cut.role; link = at.link ∙ cut.link }) (All-nil _);
+          All-cons (λ y. Precedes x y) left [] record {
+            rows = omega (arith, cut.row, one.rows);
+            cells = λ h.
+                omega (arith, cut.cell, one.cells (h ∙ cut.row));
+          } (All-nil _);
+      apart_follows = λ x all. All-cons (λ y. Differ x y) left [] (λ at.
+          all 0 first (omega arith) record { row = at.row ∙ cut.row; touches = at.touches ∙ cut.cell; role = at.role ∙ cut.role; link = at.link ∙ cut.link })
+          (All-nil _);
       few = omega arith;
       one = omega arith;
     }
@@ -161,7 +170,8 @@ pub IsBack-some : (text : List ℕ) (runs : List Run) (run last right : Run) (i 
     → IsBack text runs run (right ∷ [])
 IsBack-some text runs run last right i from to is is_last read is_from is_to past cut =
     let within : i < length runs = omega arith in
-    let split : runs ≡ take i runs ++ last ∷ [] = sym (take_all (i + 1) runs (omega arith)) ∙ take_more runs i last within ∙ ap (λ x. take i runs ++ x ∷ []) (sym read) in
+    let split : runs ≡ take i runs ++ last ∷ [] = sym (take_all (i + 1) runs (omega arith)) ∙ take_more runs i last within
+    ∙ ap (λ x. take i runs ++ x ∷ []) (sym read) in
     let touch = is.touch i last within in
     let row : last.row ≡ run.row = ap (λ (x : Run). x.row) read ∙ touch.row in
     let starts : last.cell ≤ from = omega (arith, is_from, touch.starts, ap (λ (x : Run). x.cell) read) in
@@ -173,7 +183,8 @@ IsBack-some text runs run last right i from to is is_last read is_from is_to pas
           let seen : get_or (take i runs) k d ≡ get_or runs k d = get_or-take i runs k d short in
           let one : (get_or runs k d).row ≡ (get_or runs i d).row = is.is_row.in_row k d (omega arith) ∙ sym (is.is_row.in_row i d within) in
           let last_d : get_or runs i d ≡ last = get_or_default runs i d last within ∙ sym read in
-          let end : (get_or runs k d).cell + (get_or runs k d).count ≤ last.cell = subst (λ (x : Run). (get_or runs k d).cell + (get_or runs k d).count ≤ x.cell) last_d ((is.is_row.ordered k i d short within).cells one) in
+          let end : (get_or runs k d).cell + (get_or runs k d).count ≤ last.cell = subst
+          (λ (x : Run). (get_or runs k d).cell + (get_or runs k d).count ≤ x.cell) last_d ((is.is_row.ordered k i d short within).cells one) in
           subst (λ (x : Run). x.cell + x.count ≤ c) (sym seen) (omega (arith, end, starts, is_from, after))) in
           part_shows text last right from to r c SPACE cut starts (omega (arith, is_to))
           (λ low high. (omega (arith, is_from, after), omega (arith, is_to, high)))
@@ -185,10 +196,21 @@ IsBack-some text runs run last right i from to is is_last read is_from is_to pas
           All-cons (λ x. x.cell + x.count ≤ n) right [] (omega (arith, cut.cell, cut.count, is_to, high)) (All-nil _);
       after = λ y all.
           let one : Precedes last y = subst (λ x. Precedes x y) (sym read) (all i last within) in
-          All-cons (λ x. Precedes x y) right [] record { rows = omega (arith, cut.row, one.rows); cells = λ h. omega (arith, cut.cell, cut.count, is_to, one.cells (sym cut.row ∙ h)) } (All-nil _);
+          All-cons (λ x. Precedes x y) right [] record {
+            rows = omega (arith, cut.row, one.rows);
+            cells = λ h.
+                omega (arith, cut.cell, cut.count, is_to, one.cells (sym cut.row ∙ h));
+          } (All-nil _);
       apart_after = λ y all.
           let one : Differ last y = subst (λ x. Differ x y) (sym read) (all i last within) in
-          All-cons (λ x. Differ x y) right [] (λ at. one record { row = sym cut.row ∙ at.row; touches = omega (arith, cut.cell, cut.count, is_to, at.touches); role = sym cut.role ∙ at.role; link = sym cut.link ∙ at.link }) (All-nil _);
+          All-cons (λ x. Differ x y) right [] (λ at. one record {
+            row = sym cut.row
+                ∙ at.row;
+            touches = omega (arith, cut.cell, cut.count, is_to, at.touches);
+            role = sym cut.role ∙ at.role;
+            link = sym cut.link ∙ at.link;
+          })
+          (All-nil _);
       few = omega arith;
       one = omega arith;
     }
@@ -215,10 +237,12 @@ begun_by old new runs front begun run is is_front shows are adds =
       apart_follows = λ x clear all. adds.apart_follows x all (λ at. absurd (omega (arith, clear.cells at.row, at.touches)));
       after = λ y clear. adds.after y (λ k d within.
           let here = is_front.is_row.in_row k d within in
-          record { rows = omega (arith, here, clear.rows); cells = λ h. omega (arith, is_front.ends k d within, clear.cells (sym here ∙ h)) }) record { rows = clear.rows; cells = λ h. omega (arith, clear.cells h) };
+          record { rows = omega (arith, here, clear.rows); cells = λ h. omega (arith, is_front.ends k d within, clear.cells (sym here ∙ h)) }) record
+          { rows = clear.rows; cells = λ h. omega (arith, clear.cells h) };
       apart_after = λ y clear. adds.apart_after y (λ k d within at.
           let here = is_front.is_row.in_row k d within in
-          absurd (omega (arith, is_front.ends k d within, at.touches, clear.cells (sym here ∙ at.row)))) (λ at. absurd (omega (arith, clear.cells at.row, at.touches)));
+          absurd (omega (arith, is_front.ends k d within, at.touches, clear.cells (sym here ∙ at.row)))) (λ at.
+          absurd (omega (arith, clear.cells at.row, at.touches)));
       few = adds.count;
     }
 
@@ -241,7 +265,8 @@ pieces_show t0 t1 t2 runs front begun pieces back run touched is_front is_back s
           elim (cases_lt c (run.cell + run.count)) [
             | inl high ↦
                 let no_back = unheld_before r c back (λ k d within here. omega (arith, is_back.starts k d within)) in
-                let same : shown_cell t2 pieces r c ≡ (if holds run r c then x else left) = over r c ∙ painted_unheld t0 r c (shown_cell t1 begun r c) back no_back ∙ shows r c in
+                let same : shown_cell t2 pieces r c ≡ (if holds run r c then x else left) = over r c
+                ∙ painted_unheld t0 r c (shown_cell t1 begun r c) back no_back ∙ shows r c in
                 elim (cases_eq run.row r) [
                   | inl here ↦
                       let yes = holds_inside run r c here low high in
@@ -288,10 +313,13 @@ ArePieces-three t0 t1 t2 runs front begun pieces run right touched is is_front i
     let same_cell : (c : ℕ) → run_cell t1 right c ≡ run_cell t0 right c = λ c. run_cell-grown t0 t1 right c grows is_right in
     record {
       is_row = IsRow-added t1 t2 run.row (run.cell + run.count) begun pieces right begins.is_row begins.ends starts row are_more adds_more;
-      shows = pieces_show t0 t1 t2 runs front begun pieces (right ∷ []) run touched is_front is_back shows (λ r c. shows_more r c ∙ ap (λ (d : Cell). if holds right r c then d else shown_cell t1 begun r c) (same_cell c));
+      shows = pieces_show t0 t1 t2 runs front begun pieces (right ∷ []) run touched is_front is_back shows (λ r c.
+          shows_more r c ∙ ap (λ (d : Cell). if holds right r c then d else shown_cell t1 begun r c) (same_cell c));
       ends = λ n all high. adds_more.ends n (λ k d within. omega (arith, begins.ends k d within)) (is_back.ends n all 0 right (omega arith));
-      follows = λ x clear all. adds_more.follows x (begins.follows x clear (is_front.follows x all)) record { rows = omega (arith, clear.rows, row); cells = λ h. omega (arith, clear.cells (h ∙ row), starts) };
-      apart_follows = λ x clear all. adds_more.apart_follows x (begins.apart_follows x clear (is_front.apart_follows x all)) (λ at. absurd (omega (arith, clear.cells (at.row ∙ row), at.touches, starts)));
+      follows = λ x clear all. adds_more.follows x (begins.follows x clear (is_front.follows x all)) record
+          { rows = omega (arith, clear.rows, row); cells = λ h. omega (arith, clear.cells (h ∙ row), starts) };
+      apart_follows = λ x clear all. adds_more.apart_follows x (begins.apart_follows x clear (is_front.apart_follows x all)) (λ at.
+          absurd (omega (arith, clear.cells (at.row ∙ row), at.touches, starts)));
       after = λ y clear all. adds_more.after y (begins.after y clear) (is_back.after y all 0 right (omega arith));
       apart_after = λ y clear all. adds_more.apart_after y (begins.apart_after y clear) (is_back.apart_after y all 0 right (omega arith));
       few = omega (arith, begins.few, is_front.one, is_back.few, adds_more.count);
@@ -319,11 +347,13 @@ ArePieces-one old new first run whole grows touched is goes joined =
     let within : EndsBy (run.cell + run.count) runs = λ k d inside. omega (arith, before k d inside) in
     let is_front = IsFront-all old runs run touched.is_row before (omega arith) in
     let shows = ShowsMore-joined old new runs 0 first run whole refl refl grows touched.is_row.are_runs is goes joined in
-    ArePieces-two old new runs runs (whole ∷ []) run touched is is_front (IsBack-none old runs run within) shows (All-cons (λ x. IsRun new x) whole [] joined.is_run (All-nil _)) (AddsRun-joined old new runs 0 first run whole refl refl goes joined)
+    ArePieces-two old new runs runs (whole ∷ []) run touched is is_front (IsBack-none old runs run within) shows
+    (All-cons (λ x. IsRun new x) whole [] joined.is_run (All-nil _)) (AddsRun-joined old new runs 0 first run whole refl refl goes joined)
 
 set_split : {X : Type 0} (xs : List X) (start end : ℕ) (y : X) → end ≡ start + 1 → end ≤ length xs → set xs start y ≡ take start xs ++ (y ∷ []) ++ drop end xs
 set_split xs start end y one within =
-    same_lists _ _ (grind (arith, places, length-set xs start y)) (λ k d h. grind (arith, places, length-set xs start y, cases_lt k start, cases_eq k start, get_or-set_other xs start k y d, get_or-set_same xs start y d))
+    same_lists _ _ (grind (arith, places, length-set xs start y)) (λ k d h.
+    grind (arith, places, length-set xs start y, cases_lt k start, cases_eq k start, get_or-set_other xs start k y d, get_or-set_same xs start y d))
 
 -- what is put where it makes a single run longer
 pub IsPut-one : (old new : List ℕ) (runs : List Run) (run first whole : Run) (start end : ℕ) → end - start ≡ 1 → end ≤ length runs
@@ -333,7 +363,12 @@ pub IsPut-one : (old new : List ℕ) (runs : List Run) (run first whole : Run) (
     → BeginsWith old new → IsRun old run → Continues first run → IsJoined old new first run whole → IsPut old new runs (set runs start whole) run
 IsPut-one old new runs run first whole start end one within read above touch below are ordered apart grows is goes joined =
     let low : start ≤ end = omega (arith, one) in
-    let only : stretch runs start end ≡ first ∷ [] = ap (λ n. take n (drop start runs)) one ∙ take_more (drop start runs) 0 first (omega (arith, length-drop start runs, one, within)) ∙ ap (λ x. x ∷ []) (get_or-drop start runs 0 first ∙ ap (λ k. get_or runs k first) (omega arith) ∙ sym read) in
-    let touched : AreTouchedRuns old run (first ∷ []) = subst (λ (l : List Run). AreTouchedRuns old run l) only (touched_stretch old runs run start end low within are ordered apart touch) in
-    let pieces = subst (λ (l : List Run). ArePieces old new l (whole ∷ []) run) (sym only) (ArePieces-one old new first run whole grows touched is goes joined) in
-    IsPut-touched old new runs (set runs start whole) (whole ∷ []) run start end low within above touch below are ordered apart grows pieces (set_split runs start end whole (omega (arith, one)) within)
+    let only : stretch runs start end ≡ first ∷ [] = ap (λ n. take n (drop start runs)) one
+    ∙ take_more (drop start runs) 0 first (omega (arith, length-drop start runs, one, within))
+    ∙ ap (λ x. x ∷ []) (get_or-drop start runs 0 first ∙ ap (λ k. get_or runs k first) (omega arith) ∙ sym read) in
+    let touched : AreTouchedRuns old run (first ∷ []) = subst (λ (l : List Run). AreTouchedRuns old run l) only
+    (touched_stretch old runs run start end low within are ordered apart touch) in
+    let pieces = subst (λ (l : List Run). ArePieces old new l (whole ∷ []) run) (sym only)
+    (ArePieces-one old new first run whole grows touched is goes joined) in
+    IsPut-touched old new runs (set runs start whole) (whole ∷ []) run start end low within above touch below are ordered apart grows pieces
+    (set_split runs start end whole (omega (arith, one)) within)

@@ -37,7 +37,8 @@ cells_once sheet level style link (Char ch ∷ ps) [] cells (_, _, a_cells_are, 
 cells_once sheet level style link (Char ch ∷ ps) (Char ch2 ∷ qs) cells (a, more, a_cells, a_is, _, _, a_rest) (b, others, b_cells, b_is, _, _, b_rest) =
     let both : a ∷ more ≡ b ∷ others = sym a_cells ∙ b_cells in
     let same : ch ≡ ch2 = a_is ∙ ap (λ (cell : Cell). cell.ch) (ap (first_or a) both) ∙ sym b_is in
-    let rest = cells_once sheet level style link ps qs more a_rest (subst (λ (cs : List Cell). PrintsCells sheet level style link qs cs) (sym (ap rest_of both)) b_rest) in
+    let rest = cells_once sheet level style link ps qs more a_rest (subst (λ (cs : List Cell). PrintsCells sheet level style link qs cs)
+    (sym (ap rest_of both)) b_rest) in
     ap (λ (c : ℕ). Char c ∷ ps) same ∙ ap (λ (ts : List Piece). Char ch2 ∷ ts) rest
 cells_once sheet level style link (Char ch ∷ ps) (Opening new2 ∷ qs) cells (_, _, _, _, a_style_is, _, _) (b_style_is, _, _) =
     absurd (none≢some (sym b_style_is ∙ a_style_is))
@@ -68,7 +69,8 @@ cells_once sheet level style link (Reset old ∷ ps) (Char ch2 ∷ qs) cells (a_
 cells_once sheet level style link (Reset old ∷ ps) (Opening new2 ∷ qs) cells (a_style_is, _, _, _) (b_style_is, _, _) =
     absurd (none≢some (sym b_style_is ∙ a_style_is))
 cells_once sheet level style link (Reset old ∷ ps) (Reset old2 ∷ qs) cells (a_style, _, _, a_rest) (b_style, _, _, b_rest) =
-    ap (λ (s : Style). Reset s ∷ ps) (some_same (sym a_style ∙ b_style)) ∙ ap (λ (ts : List Piece). Reset old2 ∷ ts) (cells_once sheet level None link ps qs cells a_rest b_rest)
+    ap (λ (s : Style). Reset s ∷ ps) (some_same (sym a_style ∙ b_style))
+    ∙ ap (λ (ts : List Piece). Reset old2 ∷ ts) (cells_once sheet level None link ps qs cells a_rest b_rest)
 cells_once sheet level style link (Reset old ∷ ps) (LinkTo url2 ∷ qs) cells (a_style_is, a_next, _, _) (_, _, b_style_is, _) =
     absurd (a_next (sym b_style_is ∙ a_style_is))
 cells_once sheet level style link (Reset old ∷ ps) (LinkEnd ∷ qs) cells (_, _, a_ended, _) (b_there, b_differs, _, _) =
@@ -109,7 +111,8 @@ further_once : (sheet : Stylesheet) (level : LevelInner) (ps qs : List Piece) (r
     → PrintsFurther sheet level qs rows → ps ≡ qs
 further_once sheet level ps qs [] a b = a ∙ sym b
 further_once sheet level ps qs (row ∷ rows) (first, others, a_is, a, a_below) (first2, others2, b_is, b, b_below) =
-    a_is ∙ ap (λ (ts : List Piece). Char 10 ∷ ts) (rows_once sheet level first first2 others others2 row a b (further_once sheet level others others2 rows a_below b_below)) ∙ sym b_is
+    a_is ∙ ap (λ (ts : List Piece). Char 10 ∷ ts) (rows_once sheet level first first2 others others2 row a b
+    (further_once sheet level others others2 rows a_below b_below)) ∙ sym b_is
 
 pieces_once : (sheet : Stylesheet) (level : LevelInner) (ps qs : List Piece) (rows : List (List Cell)) → PrintsRows sheet level ps rows
     → PrintsRows sheet level qs rows → ps ≡ qs

@@ -64,7 +64,8 @@ rows_above runs start end row d e ordered low high some other last =
     λ k f within.
     let first : (get_or runs k f).row ≤ (get_or runs (start - 1) f).row = rows_rise runs k (start - 1) f ordered (omega arith) (omega arith) in
     let second : (get_or runs (start - 1) f).row ≤ (get_or runs (end - 1) f).row = rows_rise runs (start - 1) (end - 1) f ordered (omega arith) (omega arith) in
-    let d_is : (get_or runs (start - 1) d).row ≡ (get_or runs (start - 1) f).row = ap (λ (x : Run). x.row) (get_or_default runs (start - 1) d f (omega arith)) in
+    let d_is : (get_or runs (start - 1) d).row ≡ (get_or runs (start - 1) f).row = ap (λ (x : Run). x.row)
+    (get_or_default runs (start - 1) d f (omega arith)) in
     let e_is : (get_or runs (end - 1) e).row ≡ (get_or runs (end - 1) f).row = ap (λ (x : Run). x.row) (get_or_default runs (end - 1) e f (omega arith)) in
     elim (cases_eq (get_or runs (start - 1) f).row row) [
       | inl same ↦ absurd (other (d_is ∙ same))
@@ -80,7 +81,8 @@ IsRow-grown old new row runs grows is =
 pub IsRow-added : (old new : List ℕ) (row n : ℕ) (runs now : List Run) (run : Run) → IsRow old row runs → EndsBy n runs → n ≤ run.cell → run.row ≡ row
     → All (λ x. IsRun new x) now → AddsRun runs now run → IsRow new row now
 IsRow-added old new row n runs now run is ends before in_row are adds =
-    let all_before : All (λ x. Precedes x run) runs = λ k d within. record { rows = omega (arith, is.in_row k d within, in_row); cells = λ same. omega (arith, ends k d within, before) } in
+    let all_before : All (λ x. Precedes x run) runs = λ k d within.
+    record { rows = omega (arith, is.in_row k d within, in_row); cells = λ same. omega (arith, ends k d within, before) } in
     record {
       are_runs = are;
       in_row = adds.rows row is.in_row in_row;
@@ -92,7 +94,8 @@ IsRow-added old new row n runs now run is ends before in_row are adds =
 pub painted_elsewhere : (text : List ℕ) (r c : ℕ) (d : Cell) (runs : List Run) → All (λ x. x.row ≡ r → ⊥) runs → painted_over text r c d runs ≡ d
 painted_elsewhere text r c d [] others = refl
 painted_elsewhere text r c d (run ∷ runs) others =
-    ap (λ (cell : Cell). painted_over text r c cell runs) (pick (run_cell text run c) d (holds_elsewhere run r c (others 0 run (omega arith)))) ∙ painted_elsewhere text r c d runs (All-tail (λ x. x.row ≡ r → ⊥) run runs others)
+    ap (λ (cell : Cell). painted_over text r c cell runs) (pick (run_cell text run c) d (holds_elsewhere run r c (others 0 run (omega arith))))
+    ∙ painted_elsewhere text r c d runs (All-tail (λ x. x.row ≡ r → ⊥) run runs others)
 
 -- a list in three parts
 pub split_three : {X : Type 0} (xs : List X) (i j : ℕ) → i ≤ j → j ≤ length xs → xs ≡ take i xs ++ stretch xs i j ++ drop j xs
@@ -103,13 +106,15 @@ split_three xs i j low high =
 pub painted_middle : (text : List ℕ) (r c : ℕ) (xs ys zs : List Run) → All (λ x. x.row ≡ r → ⊥) xs → All (λ x. x.row ≡ r → ⊥) zs
     → shown_cell text (xs ++ ys ++ zs) r c ≡ shown_cell text ys r c
 painted_middle text r c xs ys zs left right =
-    painted-append text r c SPACE (xs ++ ys) zs ∙ painted_elsewhere text r c (painted_over text r c SPACE (xs ++ ys)) zs right ∙ painted-append text r c SPACE xs ys ∙ ap (λ (d : Cell). painted_over text r c d ys) (painted_elsewhere text r c SPACE xs left)
+    painted-append text r c SPACE (xs ++ ys) zs ∙ painted_elsewhere text r c (painted_over text r c SPACE (xs ++ ys)) zs right
+    ∙ painted-append text r c SPACE xs ys ∙ ap (λ (d : Cell). painted_over text r c d ys) (painted_elsewhere text r c SPACE xs left)
 
 -- and where the middle holds nothing of the row
 pub painted_outer : (text : List ℕ) (r c : ℕ) (xs ys zs : List Run) → All (λ x. x.row ≡ r → ⊥) ys
     → shown_cell text (xs ++ ys ++ zs) r c ≡ painted_over text r c (shown_cell text xs r c) zs
 painted_outer text r c xs ys zs none =
-    painted-append text r c SPACE (xs ++ ys) zs ∙ ap (λ (d : Cell). painted_over text r c d zs) (painted-append text r c SPACE xs ys ∙ painted_elsewhere text r c (shown_cell text xs r c) ys none)
+    painted-append text r c SPACE (xs ++ ys) zs ∙ ap (λ (d : Cell). painted_over text r c d zs)
+    (painted-append text r c SPACE xs ys ∙ painted_elsewhere text r c (shown_cell text xs r c) ys none)
 
 -- what holds of the pairs of two lists and of each pair across holds of the pairs of both together
 pub AllPairs-append : {X : Type 0} (R : X → X → Type 0) (xs ys : List X) → AllPairs R xs → AllPairs R ys
@@ -117,13 +122,16 @@ pub AllPairs-append : {X : Type 0} (R : X → X → Type 0) (xs ys : List X) →
 AllPairs-append R xs ys left right across =
     λ i j d below within.
     elim (cases_lt j (length xs)) [
-      | inl j_left ↦ subst (λ b. R (get_or (xs ++ ys) i d) b) (sym (get_or_append_left xs ys d j j_left)) (subst (λ a. R a (get_or xs j d)) (sym (get_or_append_left xs ys d i (omega arith))) (left i j d below j_left))
+      | inl j_left ↦ subst (λ b. R (get_or (xs ++ ys) i d) b) (sym (get_or_append_left xs ys d j j_left))
+          (subst (λ a. R a (get_or xs j d)) (sym (get_or_append_left xs ys d i (omega arith))) (left i j d below j_left))
       | inr j_right ↦
           let j_is = get_or-append_right xs ys (length xs) j d refl j_right in
           let j_within : j - length xs < length ys = omega (arith, length-append xs ys) in
           subst (λ b. R (get_or (xs ++ ys) i d) b) (sym j_is) (elim (cases_lt i (length xs)) [
-            | inl i_left ↦ subst (λ a. R a (get_or ys (j - length xs) d)) (sym (get_or_append_left xs ys d i i_left)) (across i (j - length xs) d i_left j_within)
-            | inr i_right ↦ subst (λ a. R a (get_or ys (j - length xs) d)) (sym (get_or-append_right xs ys (length xs) i d refl i_right)) (right (i - length xs) (j - length xs) d (omega arith) j_within)
+            | inl i_left ↦ subst (λ a. R a (get_or ys (j - length xs) d)) (sym (get_or_append_left xs ys d i i_left))
+                (across i (j - length xs) d i_left j_within)
+            | inr i_right ↦ subst (λ a. R a (get_or ys (j - length xs) d)) (sym (get_or-append_right xs ys (length xs) i d refl i_right))
+                (right (i - length xs) (j - length xs) d (omega arith) j_within)
           ])
     ]
 
@@ -140,11 +148,13 @@ IsRow-stretch text row runs start end low high are ordered apart inside =
       ordered = λ i j d below within.
           let at_i = read i d (omega arith) in
           let at_j = read j d within in
-          subst (λ (z : Run). Precedes (get_or ys i d) z) (sym at_j.1) (subst (λ (z : Run). Precedes z (get_or runs (start + j) d)) (sym at_i.1) (ordered (start + i) (start + j) d (omega arith) (omega (arith, at_j.0))));
+          subst (λ (z : Run). Precedes (get_or ys i d) z) (sym at_j.1) (subst (λ (z : Run). Precedes z (get_or runs (start + j) d)) (sym at_i.1)
+          (ordered (start + i) (start + j) d (omega arith) (omega (arith, at_j.0))));
       apart = λ i j d below within.
           let at_i = read i d (omega arith) in
           let at_j = read j d within in
-          subst (λ (z : Run). Differ (get_or ys i d) z) (sym at_j.1) (subst (λ (z : Run). Differ z (get_or runs (start + j) d)) (sym at_i.1) (apart (start + i) (start + j) d (omega arith) (omega (arith, at_j.0))));
+          subst (λ (z : Run). Differ (get_or ys i d) z) (sym at_j.1) (subst (λ (z : Run). Differ z (get_or runs (start + j) d)) (sym at_i.1)
+          (apart (start + i) (start + j) d (omega arith) (omega (arith, at_j.0))));
     }
 
 -- the facts that stay when the runs of a row give their place to others
@@ -152,7 +162,9 @@ pub are_runs-put : (old new : List ℕ) (runs now fresh : List Run) (row start e
     → now ≡ take start runs ++ fresh ++ drop end runs → All (λ x. IsRun new x) now
 are_runs-put old new runs now fresh row start end grows are is_row is =
     let all : All (λ x. IsRun new x) runs = All-IsRun-grown old new runs grows are in
-    subst (λ (l : List Run). All (λ x. IsRun new x) l) (sym is) (All-append (λ x. IsRun new x) (take start runs ++ fresh) (drop end runs) (All-append (λ x. IsRun new x) (take start runs) fresh (All-take (λ x. IsRun new x) start runs all) is_row.are_runs) (All-drop (λ x. IsRun new x) end runs all))
+    subst (λ (l : List Run). All (λ x. IsRun new x) l) (sym is) (All-append (λ x.
+    IsRun new x) (take start runs ++ fresh) (drop end runs) (All-append (λ x.
+    IsRun new x) (take start runs) fresh (All-take (λ x. IsRun new x) start runs all) is_row.are_runs) (All-drop (λ x. IsRun new x) end runs all))
 
 -- runs with a row put in between lower and higher rows stand in order
 pub ordered-put : (new : List ℕ) (runs now fresh : List Run) (row start end : ℕ) → start ≤ end → end ≤ length runs
@@ -167,11 +179,15 @@ ordered-put new runs now fresh row start end low high above below ordered is_row
     let xs_ordered : AreOrdered xs = λ i j d before within.
     let at_i = left i d (omega arith) in
     let at_j = left j d within in
-    subst (λ (z : Run). Precedes (get_or xs i d) z) (sym at_j.1) (subst (λ (z : Run). Precedes z (get_or runs j d)) (sym at_i.1) (ordered i j d before (omega (arith, at_j.0)))) in
+    subst (λ (z : Run). Precedes (get_or xs i d) z) (sym at_j.1) (subst (λ (z : Run). Precedes z (get_or runs j d)) (sym at_i.1)
+    (ordered i j d before (omega (arith, at_j.0)))) in
     let zs_ordered : AreOrdered zs = λ i j d before within.
-    subst (λ (z : Run). Precedes (get_or zs i d) z) (sym (get_or-drop end runs j d)) (subst (λ (z : Run). Precedes z (get_or runs (end + j) d)) (sym (get_or-drop end runs i d)) (ordered (end + i) (end + j) d (omega arith) (omega (arith, length-drop end runs)))) in
+    subst (λ (z : Run). Precedes (get_or zs i d) z) (sym (get_or-drop end runs j d))
+    (subst (λ (z : Run). Precedes z (get_or runs (end + j) d)) (sym (get_or-drop end runs i d))
+    (ordered (end + i) (end + j) d (omega arith) (omega (arith, length-drop end runs)))) in
     let xs_rows : All (λ x. x.row < row) xs = λ k d within. let at = left k d within in subst (λ (z : Run). z.row < row) (sym at.1) (above k d at.0) in
-    let zs_rows : All (λ x. row < x.row) zs = λ k d within. subst (λ (z : Run). row < z.row) (sym (get_or-drop end runs k d)) (below (end + k) d (omega arith) (omega (arith, length-drop end runs))) in
+    let zs_rows : All (λ x. row < x.row) zs = λ k d within. subst (λ (z : Run). row < z.row) (sym (get_or-drop end runs k d))
+    (below (end + k) d (omega arith) (omega (arith, length-drop end runs))) in
     let front : AreOrdered (xs ++ fresh) = AllPairs-append (λ a b. Precedes a b)
     xs fresh xs_ordered is_row.ordered
     (λ i j d i_within j_within.
@@ -180,7 +196,8 @@ ordered-put new runs now fresh row start end low high above below ordered is_row
       cells =
           λ same. absurd (omega (arith, xs_rows i d i_within, is_row.in_row j d j_within, same));
     }) in
-    let front_rows : All (λ x. x.row ≤ row) (xs ++ fresh) = All-append (λ x. x.row ≤ row) xs fresh (λ k d within. omega (arith, xs_rows k d within)) (λ k d within. omega (arith, is_row.in_row k d within)) in
+    let front_rows : All (λ x. x.row ≤ row) (xs ++ fresh) = All-append (λ x. x.row ≤ row) xs fresh (λ k d within.
+    omega (arith, xs_rows k d within)) (λ k d within. omega (arith, is_row.in_row k d within)) in
     subst (λ (l : List Run). AreOrdered l) (sym is)
     (AllPairs-append (λ a b. Precedes a b) (xs ++ fresh)
     zs front zs_ordered (λ i j d i_within j_within.
@@ -196,13 +213,15 @@ AllPairs-take R n xs pairs =
     λ i j d before within.
     let short : j < n = below_take xs n j within in
     let long : j < length xs = omega (arith, within, length-take n xs) in
-    subst (λ z. R (get_or (take n xs) i d) z) (sym (get_or-take n xs j d short)) (subst (λ z. R z (get_or xs j d)) (sym (get_or-take n xs i d (omega arith))) (pairs i j d before long))
+    subst (λ z. R (get_or (take n xs) i d) z) (sym (get_or-take n xs j d short))
+    (subst (λ z. R z (get_or xs j d)) (sym (get_or-take n xs i d (omega arith))) (pairs i j d before long))
 
 -- what holds of the pairs of a list holds of those of its rest
 pub AllPairs-drop : {X : Type 0} (R : X → X → Type 0) (n : ℕ) (xs : List X) → AllPairs R xs → AllPairs R (drop n xs)
 AllPairs-drop R n xs pairs =
     λ i j d before within.
-    subst (λ z. R (get_or (drop n xs) i d) z) (sym (get_or-drop n xs j d)) (subst (λ z. R z (get_or xs (n + j) d)) (sym (get_or-drop n xs i d)) (pairs (n + i) (n + j) d (omega arith) (omega (arith, length-drop n xs))))
+    subst (λ z. R (get_or (drop n xs) i d) z) (sym (get_or-drop n xs j d))
+    (subst (λ z. R z (get_or xs (n + j) d)) (sym (get_or-drop n xs i d)) (pairs (n + i) (n + j) d (omega arith) (omega (arith, length-drop n xs))))
 
 -- runs that touch differ still
 pub apart-put : (new : List ℕ) (runs now fresh : List Run) (row start end : ℕ) → start ≤ end → end ≤ length runs
@@ -214,10 +233,15 @@ apart-put new runs now fresh row start end low high above below apart is_row is 
     let xs_rows : All (λ x. x.row < row) xs = λ k d within.
     let short : k < start = below_take runs start k within in
     subst (λ (z : Run). z.row < row) (sym (get_or-take start runs k d short)) (above k d short) in
-    let zs_rows : All (λ x. row < x.row) zs = λ k d within. subst (λ (z : Run). row < z.row) (sym (get_or-drop end runs k d)) (below (end + k) d (omega arith) (omega (arith, length-drop end runs))) in
-    let front : AreApart (xs ++ fresh) = AllPairs-append (λ a b. Differ a b) xs fresh (AllPairs-take (λ a b. Differ a b) start runs apart) is_row.apart (λ i j d i_within j_within goes. absurd (omega (arith, xs_rows i d i_within, is_row.in_row j d j_within, goes.row))) in
-    let front_rows : All (λ x. x.row ≤ row) (xs ++ fresh) = All-append (λ x. x.row ≤ row) xs fresh (λ k d within. omega (arith, xs_rows k d within)) (λ k d within. omega (arith, is_row.in_row k d within)) in
-    subst (λ (l : List Run). AreApart l) (sym is) (AllPairs-append (λ a b. Differ a b) (xs ++ fresh) zs front (AllPairs-drop (λ a b. Differ a b) end runs apart) (λ i j d i_within j_within goes. absurd (omega (arith, front_rows i d i_within, zs_rows j d j_within, goes.row))))
+    let zs_rows : All (λ x. row < x.row) zs = λ k d within. subst (λ (z : Run). row < z.row) (sym (get_or-drop end runs k d))
+    (below (end + k) d (omega arith) (omega (arith, length-drop end runs))) in
+    let front : AreApart (xs ++ fresh) = AllPairs-append (λ a b. Differ a b) xs fresh (AllPairs-take (λ a b. Differ a b) start runs apart) is_row.apart
+    (λ i j d i_within j_within goes. absurd (omega (arith, xs_rows i d i_within, is_row.in_row j d j_within, goes.row))) in
+    let front_rows : All (λ x. x.row ≤ row) (xs ++ fresh) = All-append (λ x. x.row ≤ row) xs fresh (λ k d within.
+    omega (arith, xs_rows k d within)) (λ k d within. omega (arith, is_row.in_row k d within)) in
+    subst (λ (l : List Run). AreApart l) (sym is) (AllPairs-append (λ a b.
+    Differ a b) (xs ++ fresh) zs front (AllPairs-drop (λ a b. Differ a b) end runs apart) (λ i j d i_within j_within goes.
+    absurd (omega (arith, front_rows i d i_within, zs_rows j d j_within, goes.row))))
 
 -- runs with a row put in fit the widths, where those before did
 pub inside-put : (widths : List ℕ) (new : List ℕ) (runs now fresh : List Run) (row start end : ℕ) → start ≤ end → end ≤ length runs
@@ -231,7 +255,10 @@ inside-put widths new runs now fresh row start end low high inside fit is_row en
     let short : k < end - start = below_take (drop start runs) (end - start) k within in
     let read : get_or ys k d ≡ get_or runs (start + k) d = get_or-stretch runs start end k d within in
     let row_is : (get_or runs (start + k) d).row ≡ row = inside (start + k) d (omega arith) (omega arith) in
-    subst (λ (z : Run). z.cell + z.count ≤ get_or widths row 0) (sym read) (subst (λ r. (get_or runs (start + k) d).cell + (get_or runs (start + k) d).count ≤ get_or widths r 0) row_is (fit (start + k) d (omega arith))) in
+    subst (λ (z : Run). z.cell + z.count ≤ get_or widths row 0) (sym read)
+    (subst (λ r. (get_or runs (start + k) d).cell + (get_or runs (start + k) d).count ≤ get_or widths r 0) row_is (fit (start + k) d (omega arith))) in
     let ends_new = ends ends_old in
-    let fresh_fit : FitIn widths fresh = λ k d within. subst (λ r. (get_or fresh k d).cell + (get_or fresh k d).count ≤ get_or widths r 0) (sym (is_row.in_row k d within)) (ends_new k d within) in
-    subst (λ (l : List Run). FitIn widths l) (sym is) (All-append P (take start runs ++ fresh) (drop end runs) (All-append P (take start runs) fresh (All-take P start runs fit) fresh_fit) (All-drop P end runs fit))
+    let fresh_fit : FitIn widths fresh = λ k d within. subst (λ r. (get_or fresh k d).cell + (get_or fresh k d).count ≤ get_or widths r 0)
+    (sym (is_row.in_row k d within)) (ends_new k d within) in
+    subst (λ (l : List Run). FitIn widths l) (sym is) (All-append P (take start runs ++ fresh) (drop end runs)
+    (All-append P (take start runs) fresh (All-take P start runs fit) fresh_fit) (All-drop P end runs fit))

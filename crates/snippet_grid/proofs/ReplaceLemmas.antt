@@ -103,9 +103,12 @@ ReplacesCells-cells_replaced rows row start end cells =
     let old = row_at rows row in
     let same = row_at-cells_replaced_same rows row start end cells in
     record {
-      inside = λ some within k h. ap (λ r. slice_index_or r (start + k) SPACE) (same ∙ replaced_there start end cells old some within) ∙ put_inside start end cells old k some within h;
-      after = λ some within k. ap (λ r. slice_index_or r (start + length cells + k) SPACE) (same ∙ replaced_there start end cells old some within) ∙ put_after start end cells old k some within;
-      width = λ some within. ap (λ (r : List Cell). length r + (end - start)) (same ∙ replaced_there start end cells old some within) ∙ put_length start end cells old some within;
+      inside = λ some within k h. ap (λ r. slice_index_or r (start + k) SPACE) (same ∙ replaced_there start end cells old some within)
+          ∙ put_inside start end cells old k some within h;
+      after = λ some within k. ap (λ r. slice_index_or r (start + length cells + k) SPACE) (same ∙ replaced_there start end cells old some within)
+          ∙ put_after start end cells old k some within;
+      width = λ some within. ap (λ (r : List Cell). length r + (end - start)) (same ∙ replaced_there start end cells old some within)
+          ∙ put_length start end cells old some within;
       before = λ c h. ap (λ r. slice_index_or r c SPACE) same ∙ replaced_before start end cells old c h;
       others = row_at-cells_replaced_other rows row start end cells;
       count = length-changed_within (replaced_within start end cells) row (row + 1) rows;

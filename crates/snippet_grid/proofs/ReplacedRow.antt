@@ -45,14 +45,20 @@ word_span t0 t1 t2 out now run row at role word grows are is shows =
     let stays : y ≡ shown_cell t0 out row c = painted-grown t0 t1 row c SPACE out grows are in
     let count : run.count ≡ length (chars word) = is.is_run.counted ∙ ap length is.chars_are in
     shows row c ∙ elim (cases_lt c at) [
-      | inl before ↦ pick x y (holds_before run row c (omega (arith, is.cell_is))) ∙ stays ∙ sym (pick g (shown_cell t0 out row c) (within_before at end c before))
+      | inl before ↦ pick x y (holds_before run row c (omega (arith, is.cell_is))) ∙ stays
+          ∙ sym (pick g (shown_cell t0 out row c) (within_before at end c before))
       | inr low ↦ elim (cases_lt c end) [
-        | inr after ↦ pick x y (holds-after run row c (omega (arith, is.cell_is))) ∙ stays ∙ sym (pick g (shown_cell t0 out row c) (within_after at end c after))
+        | inr after ↦ pick x y (holds-after run row c (omega (arith, is.cell_is))) ∙ stays
+            ∙ sym (pick g (shown_cell t0 out row c) (within_after at end c after))
         | inl high ↦
             let inside : c - at < length (chars word) = omega arith in
-            let ch : get_or (run_chars t1 run) (c - run.cell) 32 ≡ get_or (chars word) (c - at) 0 = ap (λ (cs : List ℕ). get_or cs (c - run.cell) 32) is.chars_are ∙ ap (λ i. get_or (chars word) (c - i) 32) is.cell_is ∙ get_or_default (chars word) (c - at) 32 0 inside in
+            let ch : get_or (run_chars t1 run) (c - run.cell) 32 ≡ get_or (chars word) (c - at) 0 = ap
+            (λ (cs : List ℕ). get_or cs (c - run.cell) 32) is.chars_are ∙ ap (λ i. get_or (chars word) (c - i) 32) is.cell_is
+            ∙ get_or_default (chars word) (c - at) 32 0 inside in
             let yes = holds_inside run row c is.row_is (omega (arith, is.cell_is)) (omega (arith, is.cell_is)) in
-            pick x y yes ∙ cell_same x record { ch = get_or (chars word) (c - at) 0; role = role; link = None } ch is.role_is is.unlinked ∙ sym (slice_index_or-text_cells role (chars word) (c - at) SPACE inside) ∙ sym (pick g (shown_cell t0 out row c) (within_yes at end c low high))
+            pick x y yes ∙ cell_same x record { ch = get_or (chars word) (c - at) 0; role = role; link = None } ch is.role_is is.unlinked
+            ∙ sym (slice_index_or-text_cells role (chars word) (c - at) SPACE inside)
+            ∙ sym (pick g (shown_cell t0 out row c) (within_yes at end c low high))
       ]
     ]
 
@@ -69,18 +75,22 @@ row_replaced t0 t1 t2 t3 runs f0 f1 f2 f3 row start end at top cells some is_at 
     record {
       before = λ c left.
           let front : Cell = shown_cell t0 runs row (0 + (c - 0)) in
-          up_to c (omega arith) ∙ second c ∙ pick (g c) (shown_cell t1 f1 row c) (within_before start at c left) ∙ first row c ∙ pick front (shown_cell t0 f0 row c) (copied_yes 0 start 0 c (omega arith) (omega arith)) ∙ ap (λ i. shown_cell t0 runs row i) (omega arith);
+          up_to c (omega arith) ∙ second c ∙ pick (g c) (shown_cell t1 f1 row c) (within_before start at c left) ∙ first row c
+          ∙ pick front (shown_cell t0 f0 row c) (copied_yes 0 start 0 c (omega arith) (omega arith)) ∙ ap (λ i. shown_cell t0 runs row i) (omega arith);
       inside = λ k within.
           let index : (start + k) - start ≡ k = omega arith in
-          up_to (start + k) (omega arith) ∙ second (start + k) ∙ pick (g (start + k)) (shown_cell t1 f1 row (start + k)) (within_yes start at (start + k) (omega arith) (omega arith)) ∙ ap (λ i. get_or cells i SPACE) index;
+          up_to (start + k) (omega arith) ∙ second (start + k) ∙ pick (g (start + k)) (shown_cell t1 f1 row (start + k))
+          (within_yes start at (start + k) (omega arith) (omega arith)) ∙ ap (λ i. get_or cells i SPACE) index;
       after = λ k.
           let c = start + length cells + k in
           let there : end + (c - at) ≡ end + k = omega arith in
           let outside = shown_cell t2 f2 row c in
           third row c ∙ elim (cases_lt c (at + (top - end))) [
-            | inl below ↦ pick (back c) outside (copied_yes end top at c (omega arith) below) ∙ ap (λ i. shown_cell t2 runs row i) there ∙ painted-grown t0 t2 row (end + k) SPACE runs (BeginsWith-trans t0 t1 t2 grows more) are.are_runs
+            | inl below ↦ pick (back c) outside (copied_yes end top at c (omega arith) below) ∙ ap (λ i. shown_cell t2 runs row i) there
+                ∙ painted-grown t0 t2 row (end + k) SPACE runs (BeginsWith-trans t0 t1 t2 grows more) are.are_runs
             | inr beyond ↦
-                let gone : shown_cell t0 runs row (end + k) ≡ SPACE = shown_past t0 row (end + k) top SPACE runs (λ i d within. omega (arith, (are.are_runs i d within).fits)) (omega arith) in
+                let gone : shown_cell t0 runs row (end + k) ≡ SPACE = shown_past t0 row (end + k) top SPACE runs (λ i d within.
+                omega (arith, (are.are_runs i d within).fits)) (omega arith) in
                 pick (back c) outside (copied_after end top at c beyond) ∙ shown_past t2 row c at SPACE f2 ends (omega arith) ∙ sym gone
           ];
     }
@@ -94,7 +104,8 @@ ReplacesCells-unique old a b row start end cells some within one two =
       | inr low ↦ elim (cases_lt c (start + length cells)) [
         | inl high ↦
             let place : start + (c - start) ≡ c = omega arith in
-            ap (cell_at a row) (sym place) ∙ one.inside some within (c - start) (omega arith) ∙ sym (two.inside some within (c - start) (omega arith)) ∙ ap (cell_at b row) place
+            ap (cell_at a row) (sym place) ∙ one.inside some within (c - start) (omega arith) ∙ sym (two.inside some within (c - start) (omega arith))
+            ∙ ap (cell_at b row) place
         | inr after ↦
             let k = c - (start + length cells) in
             let place : start + length cells + k ≡ c = omega arith in
@@ -112,8 +123,10 @@ grid_replaced old new runs now fresh w v row start end from to cells put some wi
     let before = grid_shown old runs w in
     let follows = grid_shown new now v in
     let width : length (row_at before row) ≡ get_or w row 0 = width_shown old runs w row in
-    let was : (c : ℕ) → shown_cell old (stretch runs from to) row c ≡ cell_at before row c = λ c. row_shows old runs row from to c put.at ∙ sym (cell_shown old runs w row c fit_old) in
-    let is : (c : ℕ) → cell_at follows row c ≡ shown_cell new fresh row c = λ c. cell_shown new now v row c fit_new ∙ put_shows new runs now fresh row from to c put.at put.is in
+    let was : (c : ℕ) → shown_cell old (stretch runs from to) row c ≡ cell_at before row c = λ c.
+    row_shows old runs row from to c put.at ∙ sym (cell_shown old runs w row c fit_old) in
+    let is : (c : ℕ) → cell_at follows row c ≡ shown_cell new fresh row c = λ c.
+    cell_shown new now v row c fit_new ∙ put_shows new runs now fresh row from to c put.at put.is in
     let reads : ReplacesCells before follows row start end cells = record {
       inside = λ _ _ k inside. is (start + k) ∙ shows.inside k inside;
       after = λ _ _ k. is (start + length cells + k) ∙ shows.after k ∙ was (end + k);
@@ -124,7 +137,8 @@ grid_replaced old new runs now fresh w v row start end from to cells put some wi
       empty = λ none. absurd (omega arith);
       past = λ none. absurd (omega arith);
     } in
-    ReplacesCells-unique before follows (cells_replaced before row start end cells) row start end cells some (omega arith) reads (ReplacesCells-cells_replaced before row start end cells)
+    ReplacesCells-unique before follows (cells_replaced before row start end cells) row start end cells some (omega arith) reads
+    (ReplacesCells-cells_replaced before row start end cells)
 
 -- the runs of the other rows fit as before, those of the row in its new length
 pub FitIn-replaced : (old new : List ℕ) (runs now fresh : List Run) (w v : List ℕ) (row start end : ℕ) → IsExchanged old new runs now fresh row start end
@@ -136,12 +150,18 @@ FitIn-replaced old new runs now fresh w v row start end put fit ends others =
     let left : All P xs = λ k d within.
     let short : k < start = below_take runs start k within in
     let x = get_or runs k d in
-    let here : P x = omega (arith, fit k d (omega (arith, put.at.ordered, put.at.within)), others x.row (λ same. omega (arith, put.at.above k d short, same))) in
+    let here : P x = omega (
+      arith,
+      fit k d (omega (arith, put.at.ordered, put.at.within)),
+      others x.row (λ same.
+          omega (arith, put.at.above k d short, same)),
+    ) in
     subst P (sym (get_or-take start runs k d short)) here in
     let right : All P zs = λ k d within.
     let inside : end + k < length runs = omega (arith, length-drop end runs) in
     let x = get_or runs (end + k) d in
     let here : P x = omega (arith, fit (end + k) d inside, others x.row (λ same. omega (arith, put.at.below (end + k) d (omega arith) inside, same))) in
     subst P (sym (get_or-drop end runs k d)) here in
-    let middle : All P fresh = λ k d within. subst (λ r. (get_or fresh k d).cell + (get_or fresh k d).count ≤ get_or v r 0) (sym (put.is_row.in_row k d within)) (ends k d within) in
+    let middle : All P fresh = λ k d within. subst (λ r. (get_or fresh k d).cell + (get_or fresh k d).count ≤ get_or v r 0)
+    (sym (put.is_row.in_row k d within)) (ends k d within) in
     subst (λ (l : List Run). FitIn v l) (sym put.is) (All-append P (xs ++ fresh) zs (All-append P xs fresh left middle) right)

@@ -30,13 +30,15 @@ no_middle runs row start end r at other =
 pub row_shows : (text : List ℕ) (runs : List Run) (row start end c : ℕ) → RowAt runs row start end
     → shown_cell text (stretch runs start end) row c ≡ shown_cell text runs row c
 row_shows text runs row start end c at =
-    sym (ap (λ (l : List Run). shown_cell text l row c) (split_three runs start end at.ordered at.within) ∙ painted_middle text row c (take start runs) (stretch runs start end) (drop end runs) (no_left runs row start end at) (no_right runs row start end at))
+    sym (ap (λ (l : List Run). shown_cell text l row c) (split_three runs start end at.ordered at.within)
+    ∙ painted_middle text row c (take start runs) (stretch runs start end) (drop end runs) (no_left runs row start end at) (no_right runs row start end at))
 
 -- and after others took their place, what these show
 pub put_shows : (text : List ℕ) (runs now fresh : List Run) (row start end c : ℕ) → RowAt runs row start end → now ≡ take start runs ++ fresh ++ drop end runs
     → shown_cell text now row c ≡ shown_cell text fresh row c
 put_shows text runs now fresh row start end c at is =
-    ap (λ (l : List Run). shown_cell text l row c) is ∙ painted_middle text row c (take start runs) fresh (drop end runs) (no_left runs row start end at) (no_right runs row start end at)
+    ap (λ (l : List Run). shown_cell text l row c) is ∙ painted_middle text row c (take start runs) fresh (drop end runs) (no_left runs row start end at)
+    (no_right runs row start end at)
 
 -- the other rows stay
 pub put_others : (text : List ℕ) (runs now fresh : List Run) (row start end r c : ℕ) → RowAt runs row start end → All (λ x. x.row ≡ row) fresh
@@ -51,7 +53,17 @@ put_others text runs now fresh row start end r c at in_row is other =
 pub put_length : (runs now fresh : List Run) (row start end : ℕ) → RowAt runs row start end → now ≡ take start runs ++ fresh ++ drop end runs
     → length now + (end - start) ≡ length runs + length fresh
 put_length runs now fresh row start end at is =
-    omega (arith, at.ordered, at.within, ap length is, length-append (take start runs ++ fresh) (drop end runs), length-append (take start runs) fresh, length-take start runs, length-drop end runs)
+    omega (
+      arith,
+      at.ordered,
+      at.within,
+      ap length is,
+      length-append (take start runs ++ fresh) (drop end runs),
+      length-append
+          (take start runs) fresh,
+      length-take start runs,
+      length-drop end runs,
+    )
 
 -- the bounds of a row hold of the same runs under another name
 pub RowAt-read : (runs was : List Run) (row start end : ℕ) → was ≡ runs → RowAt was row start end → RowAt runs row start end

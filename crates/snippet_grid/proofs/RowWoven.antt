@@ -23,7 +23,8 @@ use Rattle.snippet_style.specs.declared.stylesheet.Stylesheet.{Stylesheet}
 pub painted_unheld : (text : List ℕ) (r c : ℕ) (d : Cell) (runs : List Run) → All (λ x. holds x r c ≡ false) runs → painted_over text r c d runs ≡ d
 painted_unheld text r c d [] none = refl
 painted_unheld text r c d (run ∷ runs) none =
-    ap (λ (cell : Cell). painted_over text r c cell runs) (pick (run_cell text run c) d (none 0 run (omega arith))) ∙ painted_unheld text r c d runs (All-tail (λ x. holds x r c ≡ false) run runs none)
+    ap (λ (cell : Cell). painted_over text r c cell runs) (pick (run_cell text run c) d (none 0 run (omega arith)))
+    ∙ painted_unheld text r c d runs (All-tail (λ x. holds x r c ≡ false) run runs none)
 
 -- a run shows its own cells, whatever stands after it
 pub shown-in : (text : List ℕ) (row c n : ℕ) (runs : List Run) (d : Run) → IsRow text row runs → n < length runs
@@ -40,9 +41,12 @@ shown-in text row c n runs d is within =
     let precedes : Precedes (get_or runs n e) (get_or runs (n + 1 + k) e) = is.ordered n (n + 1 + k) e (omega arith) later in
     let first_is : get_or runs n e ≡ run = get_or_default runs n e d within in
     let rows : (get_or runs n e).row ≡ (get_or runs (n + 1 + k) e).row = is.in_row n e within ∙ sym (is.in_row (n + 1 + k) e later) in
-    let gap : run.cell + run.count ≤ (get_or runs (n + 1 + k) e).cell = subst (λ (x : Run). x.cell + x.count ≤ (get_or runs (n + 1 + k) e).cell) first_is (precedes.cells rows) in
+    let gap : run.cell + run.count ≤ (get_or runs (n + 1 + k) e).cell = subst (λ (x : Run). x.cell + x.count ≤ (get_or runs (n + 1 + k) e).cell) first_is
+    (precedes.cells rows) in
     subst (λ (x : Run). holds x row c ≡ false) (sym (get_or-drop (n + 1) runs k e)) (holds_before (get_or runs (n + 1 + k) e) row c (omega arith)) in
-    ap (λ (xs : List Run). shown_cell text xs row c) split ∙ painted-append text row c SPACE front (run ∷ back) ∙ painted_unheld text row c (if holds run row c then run_cell text run c else below) back none ∙ pick (run_cell text run c) below (holds_inside run row c (is.in_row n d within) low high)
+    ap (λ (xs : List Run). shown_cell text xs row c) split ∙ painted-append text row c SPACE front (run ∷ back)
+    ∙ painted_unheld text row c (if holds run row c then run_cell text run c else below) back none
+    ∙ pick (run_cell text run c) below (holds_inside run row c (is.in_row n d within) low high)
 
 -- nothing is shown between two runs
 pub shown_gap : (text : List ℕ) (row c n : ℕ) (runs : List Run)
@@ -71,7 +75,8 @@ cells_more text runs row a b more long same =
     ])
 
 -- the row is printed up to a cell, and so are the runs up to a place
-pub record WovenTo (sheet : Stylesheet) (level : LevelInner) (text : List ℕ) (runs : List Run) (row n col : ℕ) (style : Style) (link : Option Url) (old now : List ℕ) : Type 0 where
+pub record WovenTo (sheet : Stylesheet) (level : LevelInner) (text : List ℕ) (runs : List Run) (row n col : ℕ) (style : Style) (link : Option Url)
+    (old now : List ℕ) : Type 0 where
   pub goes : Goes sheet level (Some style) link (cells_to text runs row col) old now
   pub after : (k : ℕ) (d : Run) → k < n → k < length runs → (get_or runs k d).cell + (get_or runs k d).count ≤ col
   pub ahead : (k : ℕ) (d : Run) → n ≤ k → k < length runs → col ≤ (get_or runs k d).cell
@@ -80,7 +85,12 @@ pub record WovenTo (sheet : Stylesheet) (level : LevelInner) (text : List ℕ) (
 pub woven_start : (sheet : Stylesheet) (level : LevelInner) (text : List ℕ) (runs : List Run) (row : ℕ) (old : List ℕ)
     → WovenTo sheet level text runs row 0 0 sheet.none None old old
 woven_start sheet level text runs row old =
-    record { goes = λ rest more prints. record { pieces = rest; text_is = refl; prints = prints }; after = λ k d before within. absurd (omega arith); ahead = λ k d follows within. omega arith }
+    record {
+      goes = λ rest more prints. record { pieces = rest; text_is = refl; prints = prints };
+      after = λ k d before within.
+          absurd (omega arith);
+      ahead = λ k d follows within. omega arith;
+    }
 
 -- a gap was printed
 pub woven_gap : (sheet : Stylesheet) (level : LevelInner) (text : List ℕ) (runs : List Run) (row n col to count : ℕ) (style space : Style)
@@ -99,7 +109,8 @@ woven_gap sheet level text runs row n col to count style space link old now new 
     ∙ sym (shown_gap text row (col + k) n runs (λ j d first inside. omega (arith, woven.after j d first inside))
     (λ j d later inside. omega (arith, before j d later inside)))) in
     record {
-      goes = subst (λ (cs : List Cell). Goes sheet level (Some space) None cs old new) (sym cells) (stretch_printed sheet level style space NoStyle link None word (cells_to text runs row col) old now new (omega arith) is prints woven.goes);
+      goes = subst (λ (cs : List Cell). Goes sheet level (Some space) None cs old new) (sym cells)
+          (stretch_printed sheet level style space NoStyle link None word (cells_to text runs row col) old now new (omega arith) is prints woven.goes);
       after = λ k d first inside. omega (arith, woven.after k d first inside);
       ahead = before;
     }
@@ -118,9 +129,11 @@ woven_run sheet level text runs row n col d style next link old now new is_row w
     let as_cell = λ (ch : ℕ). (let cell : Cell = record { ch = ch; role = run.role; link = option_copied run.link } in cell) in
     let more : List Cell = alike run.role (option_copied run.link) word in
     let long_more : length more ≡ length word = length-map word as_cell in
-    let cells : cells_to text runs row (run.cell + run.count) ≡ cells_to text runs row col ++ more = cells_more text runs row col (run.cell + run.count) more (omega (arith, is_run.counted)) (λ k inside.
+    let cells : cells_to text runs row (run.cell + run.count) ≡ cells_to text runs row col
+    ++ more = cells_more text runs row col (run.cell + run.count) more (omega (arith, is_run.counted)) (λ k inside.
     let index : (col + k) - run.cell ≡ k = omega arith in
-    get_or-map as_cell word k 32 SPACE (omega arith) ∙ ap (λ i. as_cell (get_or word i 32)) (sym index) ∙ sym (shown-in text row (col + k) n runs d is_row within (omega arith) (omega (arith, is_run.counted)))) in
+    get_or-map as_cell word k 32 SPACE (omega arith) ∙ ap (λ i. as_cell (get_or word i 32)) (sym index)
+    ∙ sym (shown-in text row (col + k) n runs d is_row within (omega arith) (omega (arith, is_run.counted)))) in
     record {
       goes = subst (λ (cs : List Cell). Goes sheet level (Some next) (option_copied run.link) cs old new) (sym cells)
           (stretch_printed sheet level style next run.role link (option_copied run.link) word (cells_to text runs row col)

@@ -32,7 +32,14 @@ rows_more sheet level old now fed new [] row some broken above added = absurd (o
 rows_more sheet level old now fed new (head ∷ rows) row some broken above added =
     let more : List Piece = Char 10 ∷ added.pieces in
     let bytes : List ℕ = flat_map piece_text added.pieces in
-    let below : PrintsFurther sheet level more (row ∷ []) = (added.pieces, [], ap (λ (ps : List Piece). Char 10 ∷ ps) (sym (append-nil added.pieces)), added.are, refl) in
+    let below : PrintsFurther sheet level more (row ∷ []) = (
+      added.pieces,
+      [],
+      ap (λ (ps : List Piece). Char 10 ∷ ps)
+          (sym (append-nil added.pieces)),
+      added.are,
+      refl,
+    ) in
     let are = above.are in
     record {
       pieces = above.pieces ++ more;
@@ -40,7 +47,14 @@ rows_more sheet level old now fed new (head ∷ rows) row some broken above adde
           ∙ append_assoc (old ++ flat_map piece_text above.pieces) (encode_utf8 10) bytes
           ∙ append_assoc old (flat_map piece_text above.pieces) (encode_utf8 10 ++ bytes)
           ∙ ap (λ (t : List ℕ). old ++ t) (sym (flat_map-append piece_text above.pieces more));
-      are = (are.0, are.1 ++ more, ap (λ (ps : List Piece). ps ++ more) are.2 ∙ append_assoc are.0 are.1 more, are.3, further-append sheet level are.1 more rows (row ∷ []) are.4 below);
+      are = (
+        are.0,
+        are.1 ++ more,
+        ap (λ (ps : List Piece). ps ++ more) are.2
+            ∙ append_assoc are.0 are.1 more,
+        are.3,
+        further-append sheet level are.1 more rows (row ∷ []) are.4 below,
+      );
     }
 
 -- the rows so far are printed, and the runs so far are theirs
@@ -68,10 +82,13 @@ cells_of_row text runs widths r from to low high above below =
     let right : All (λ x. x.row ≡ r → ⊥) zs = λ k d within h.
     let later : to + k < length runs = omega (arith, within, length-drop to runs) in
     omega (arith, below (to + k) d (omega arith) later, ap (λ (x : Run). x.row) (get_or-drop to runs k d)) in
-    let same : (c : ℕ) → f c ≡ g c = λ c. sym (ap (λ (l : List Run). shown_cell text l r c) (split_three runs from to low high) ∙ painted_middle text r c xs ys zs left right) in
-    same_lists (map f (range_with_len 0 n)) (map g (range_with_len 0 n)) (length-map-range_with_len f 0 n ∙ sym (length-map-range_with_len g 0 n)) (λ k d within.
+    let same : (c : ℕ) → f c ≡ g c = λ c. sym (ap (λ (l : List Run). shown_cell text l r c) (split_three runs from to low high)
+    ∙ painted_middle text r c xs ys zs left right) in
+    same_lists (map f (range_with_len 0 n)) (map g (range_with_len 0 n)) (length-map-range_with_len f 0 n ∙ sym (length-map-range_with_len g 0 n))
+    (λ k d within.
     let inside : k < n = omega (arith, length-map-range_with_len f 0 n) in
-    get_or-map-range_with_len f 0 n k k d inside (omega arith) ∙ same k ∙ sym (get_or-map-range_with_len g 0 n k k d inside (omega arith))) ∙ sym (row_shown text runs widths r)
+    get_or-map-range_with_len f 0 n k k d inside (omega arith) ∙ same k ∙ sym (get_or-map-range_with_len g 0 n k k d inside (omega arith)))
+    ∙ sym (row_shown text runs widths r)
 
 -- one more row
 pub rows_next : (sheet : Stylesheet) (level : LevelInner) (text : List ℕ) (runs : List Run) (widths : List ℕ) (r from to : ℕ)
@@ -85,18 +102,21 @@ rows_next sheet level text runs widths r from to old now fed new within low high
     let row = row_at grid r in
     let r_in : r < length grid = omega (arith, count_shown text runs widths) in
     let one_more : take (r + 1) grid ≡ take r grid ++ row ∷ [] = take_more grid r [] r_in in
-    let added_row : WeavesRow sheet level row fed new = subst (λ (cs : List Cell). WeavesRow sheet level cs fed new) (cells_of_row text runs widths r from to low high so_far.above below) added in
+    let added_row : WeavesRow sheet level row fed new = subst (λ (cs : List Cell). WeavesRow sheet level cs fed new)
+    (cells_of_row text runs widths r from to low high so_far.above below) added in
     record {
       none = λ h. absurd (omega arith);
       some = λ _. elim (cases_lt 0 r) [
         | inl others ↦
             let long : 0 < length (take r grid) = omega (arith, length-take r grid) in
-            subst (λ (rs : List (List Cell)). WeavesRows sheet level rs old new) (sym one_more) (rows_more sheet level old now fed new (take r grid) row long (further others) (so_far.some others) added_row)
+            subst (λ (rs : List (List Cell)). WeavesRows sheet level rs old new) (sym one_more)
+            (rows_more sheet level old now fed new (take r grid) row long (further others) (so_far.some others) added_row)
         | inr start ↦
             let zero_is : r ≡ 0 = omega arith in
             let text_is : fed ≡ old = first zero_is ∙ so_far.none zero_is in
             let alone : take (r + 1) grid ≡ row ∷ [] = one_more ∙ ap (λ n. take n grid ++ row ∷ []) zero_is in
-            subst (λ (rs : List (List Cell)). WeavesRows sheet level rs old new) (sym alone) (subst (λ (t : List ℕ). WeavesRows sheet level (row ∷ []) t new) text_is (rows_one sheet level fed new row added_row))
+            subst (λ (rs : List (List Cell)). WeavesRows sheet level rs old new) (sym alone)
+            (subst (λ (t : List ℕ). WeavesRows sheet level (row ∷ []) t new) text_is (rows_one sheet level fed new row added_row))
       ];
       within = high;
       above = λ k d before. elim (cases_lt k from) [
@@ -112,10 +132,12 @@ pub rows_all : (sheet : Stylesheet) (level : LevelInner) (text : List ℕ) (runs
 rows_all sheet level text runs widths r from old now all so_far =
     let grid = grid_shown text runs widths in
     elim (cases_lt 0 r) [
-      | inl some ↦ subst (λ (rs : List (List Cell)). WeavesRows sheet level rs old now) (take_all r grid (omega (arith, count_shown text runs widths))) (so_far.some some)
+      | inl some ↦ subst (λ (rs : List (List Cell)). WeavesRows sheet level rs old now) (take_all r grid (omega (arith, count_shown text runs widths)))
+          (so_far.some some)
       | inr none ↦
           let empty : grid ≡ [] = sym (take_all 0 grid (omega (arith, count_shown text runs widths))) in
-          subst (λ (rs : List (List Cell)). WeavesRows sheet level rs old now) (sym empty) record { pieces = []; text_is = so_far.none (omega arith) ∙ sym (append-nil old); are = refl }
+          subst (λ (rs : List (List Cell)). WeavesRows sheet level rs old now) (sym empty) record
+          { pieces = []; text_is = so_far.none (omega arith) ∙ sym (append-nil old); are = refl }
     ]
 
 -- after the last run of a row come those of later rows

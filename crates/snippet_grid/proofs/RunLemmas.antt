@@ -55,9 +55,21 @@ IsJoined-here text first second whole utf8 one two goes there row cell count sta
     let stands : stretch text first.end whole.end ≡ run_bytes text second =
     ap (λ n. take n (drop first.end text)) (omega (arith, end)) ∙ there in
     let within : whole.end ≤ length text =
-    omega (arith, end, one.within, two.ordered, two.within, length-take (second.end - second.start) (drop first.end text), length-drop first.end text, ap length there, length-stretch_of text second.start second.end two.within) in
+    omega (
+      arith,
+      end,
+      one.within,
+      two.ordered,
+      two.within,
+      length-take (second.end - second.start)
+          (drop first.end text),
+      length-drop first.end text,
+      ap length there,
+      length-stretch_of text second.start second.end two.within,
+    ) in
     let bytes : run_bytes text whole ≡ run_bytes text first ++ run_bytes text second =
-    ap (λ s. stretch text s whole.end) start ∙ sym (stretch_joined text first.start first.end whole.end one.ordered ordered within) ∙ ap (λ (t : List ℕ). run_bytes text first ++ t) stands in
+    ap (λ s. stretch text s whole.end) start ∙ sym (stretch_joined text first.start first.end whole.end one.ordered ordered within)
+    ∙ ap (λ (t : List ℕ). run_bytes text first ++ t) stands in
     let characters : run_chars text whole ≡ run_chars text first ++ run_chars text second =
     ap chars bytes ∙ chars-append (run_bytes text first) (run_bytes text second) (IsUtf8-run_bytes text first utf8 one) in
     record {
@@ -66,7 +78,8 @@ IsJoined-here text first second whole utf8 one two goes there row cell count sta
         within = within;
         starts = ap (λ s. is_utf8 (take s text)) start ∙ one.starts;
         ends = is_utf8-to text first.end whole.end utf8 ordered one.ends (subst IsUtf8 (sym stands) (IsUtf8-run_bytes text second utf8 two));
-        counted = count ∙ ap (λ n. n + second.count) one.counted ∙ ap (λ n. length (run_chars text first) + n) two.counted ∙ sym (length-append (run_chars text first) (run_chars text second)) ∙ sym (ap length characters);
+        counted = count ∙ ap (λ n. n + second.count) one.counted ∙ ap (λ n. length (run_chars text first) + n) two.counted
+            ∙ sym (length-append (run_chars text first) (run_chars text second)) ∙ sym (ap length characters);
         some = omega (arith, count, one.some);
         fits = omega (arith, count, cell, goes.touches, two.fits);
       };
@@ -85,7 +98,8 @@ pub IsMoved-here : (old new : List ℕ) (run moved : Run) → IsUtf8 old → IsU
 IsMoved-here old new run moved utf8 utf8_new is grown row cell count start end role link =
     let grows : BeginsWith old new = subst (λ (t : List ℕ). BeginsWith old t) (sym grown) (BeginsWith-append old (run_bytes old run)) in
     let bytes : run_bytes new moved ≡ run_bytes old run =
-    ap (λ s. stretch new s moved.end) start ∙ ap (λ e. stretch new (length old) e) end ∙ ap (λ (t : List ℕ). stretch t (length old) (length t)) grown ∙ stretch_added old (run_bytes old run) in
+    ap (λ s. stretch new s moved.end) start ∙ ap (λ e. stretch new (length old) e) end ∙ ap (λ (t : List ℕ). stretch t (length old) (length t)) grown
+    ∙ stretch_added old (run_bytes old run) in
     record {
       is_run = record {
         ordered = omega (arith, start, end, BeginsWith-le old new grows);
@@ -120,7 +134,8 @@ IsJoined-after old mid new first second front after whole utf8 is_second goes gr
     } in
     let there : take (after.end - after.start) (drop front.end new) ≡ run_bytes new after =
     ap (λ n. take (after.end - after.start) (drop n new)) (moved.end ∙ sym begins) in
-    let here = IsJoined-here new front after whole utf8 (IsRun-grown mid new front more moved.is_run) copied.is_run both there row cell counts start (omega (arith, end, moved.end, begins, copied.is_run.ordered)) role link in
+    let here = IsJoined-here new front after whole utf8 (IsRun-grown mid new front more moved.is_run) copied.is_run both there row cell counts start
+    (omega (arith, end, moved.end, begins, copied.is_run.ordered)) role link in
     let front_bytes : run_bytes new front ≡ run_bytes old first = run_bytes-grown mid new front more moved.is_run ∙ moved.bytes in
     let after_bytes : run_bytes new after ≡ run_bytes old second = copied.bytes ∙ run_bytes-grown old mid second grows is_second in
     record {
@@ -130,5 +145,6 @@ IsJoined-after old mid new first second front after whole utf8 is_second goes gr
       count = count;
       role = here.role ∙ moved.role;
       link = here.link ∙ moved.link;
-      chars_are = here.chars_are ∙ ap (λ (t : List ℕ). chars t ++ run_chars new after) front_bytes ∙ ap (λ (t : List ℕ). run_chars old first ++ chars t) after_bytes;
+      chars_are = here.chars_are ∙ ap (λ (t : List ℕ). chars t ++ run_chars new after) front_bytes
+          ∙ ap (λ (t : List ℕ). run_chars old first ++ chars t) after_bytes;
     }

@@ -11,11 +11,13 @@ use Rattle.std.specs.Option.{option_copied}
 use Rattle.std.specs.Str.{chars}
 use Rattle.snippet_grid.proofs.RunLemmas.{run_bytes-grown, IsRun-grown}
 use Rattle.snippet_style.specs.Cell.{Cell, SPACE}
-use Rattle.snippet_grid.specs.Runs.{IsRun, IsJoined, Continues, BeginsWith, ShowsMore, run_chars, run_cell, holds, painted_over, shown_cell, Precedes, Differ, AddsRun}
+use Rattle.snippet_grid.specs.Runs.{IsRun, IsJoined, Continues, BeginsWith, ShowsMore, run_chars, run_cell, holds, painted_over, shown_cell, Precedes, Differ}
+use Rattle.snippet_grid.specs.Runs.{AddsRun}
 use Rattle.snippet_grid.specs.declared.runs.Run.{Run}
 
 -- painting two lists of runs is painting one after the other
-pub painted-append : (text : List ℕ) (r c : ℕ) (d : Cell) (xs ys : List Run) → painted_over text r c d (xs ++ ys) ≡ painted_over text r c (painted_over text r c d xs) ys
+pub painted-append : (text : List ℕ) (r c : ℕ) (d : Cell) (xs ys : List Run) → painted_over text r c d (xs ++ ys)
+    ≡ painted_over text r c (painted_over text r c d xs) ys
 painted-append text r c d [] ys = refl
 painted-append text r c d (run ∷ xs) ys =
     painted-append text r c (if holds run r c then run_cell text run c else d) xs ys
@@ -23,7 +25,8 @@ painted-append text r c d (run ∷ xs) ys =
 -- a run shows the same cells once the text has grown
 pub run_cell-grown : (old new : List ℕ) (run : Run) (c : ℕ) → BeginsWith old new → IsRun old run → run_cell new run c ≡ run_cell old run c
 run_cell-grown old new run c grows is =
-    ap (λ (bytes : List ℕ). (let cell : Cell = record { ch = get_or (chars bytes) (c - run.cell) 32; role = run.role; link = option_copied run.link } in cell)) (run_bytes-grown old new run grows is)
+    ap (λ (bytes : List ℕ). (let cell : Cell = record { ch = get_or (chars bytes) (c - run.cell) 32; role = run.role; link = option_copied run.link } in cell))
+    (run_bytes-grown old new run grows is)
 
 -- what holds of each of a list holds of each after the first
 pub All-tail : {X : Type 0} (P : X → Type 0) (x : X) (xs : List X) → All P (x ∷ xs) → All P xs
@@ -34,7 +37,8 @@ pub painted-grown : (old new : List ℕ) (r c : ℕ) (d : Cell) (runs : List Run
     → painted_over new r c d runs ≡ painted_over old r c d runs
 painted-grown old new r c d [] grows are = refl
 painted-grown old new r c d (run ∷ runs) grows are =
-    ap (λ (cell : Cell). painted_over new r c (if holds run r c then cell else d) runs) (run_cell-grown old new run c grows (are 0 run (omega arith))) ∙ painted-grown old new r c (if holds run r c then run_cell old run c else d) runs grows (All-tail (λ x. IsRun old x) run runs are)
+    ap (λ (cell : Cell). painted_over new r c (if holds run r c then cell else d) runs) (run_cell-grown old new run c grows (are 0 run (omega arith)))
+    ∙ painted-grown old new r c (if holds run r c then run_cell old run c else d) runs grows (All-tail (λ x. IsRun old x) run runs are)
 
 -- runs of a text are runs of it also once it has grown
 pub All-IsRun-grown : (old new : List ℕ) (runs : List Run) → BeginsWith old new → All (λ run. IsRun old run) runs → All (λ run. IsRun new run) runs
@@ -64,7 +68,9 @@ pick x y is = ap (λ (t : Bool). if t then x else y) is
 -- cells with the same character, role and link are the same
 pub cell_same : (a b : Cell) → a.ch ≡ b.ch → a.role ≡ b.role → a.link ≡ b.link → a ≡ b
 cell_same a b ch role link =
-    ap (λ (x : ℕ). (let cell : Cell = record { ch = x; role = a.role; link = a.link } in cell)) ch ∙ ap (λ x. (let cell : Cell = record { ch = b.ch; role = x; link = a.link } in cell)) role ∙ ap (λ (x : Option (List ℕ)). (let cell : Cell = record { ch = b.ch; role = b.role; link = x } in cell)) link
+    ap (λ (x : ℕ). (let cell : Cell = record { ch = x; role = a.role; link = a.link } in cell)) ch
+    ∙ ap (λ x. (let cell : Cell = record { ch = b.ch; role = x; link = a.link } in cell)) role
+    ∙ ap (λ (x : Option (List ℕ)). (let cell : Cell = record { ch = b.ch; role = b.role; link = x } in cell)) link
 
 -- two runs made one show what both show
 joined_cell : (old new : List ℕ) (first second whole : Run) (r c : ℕ) (d : Cell) → IsRun old first → IsRun old second → Continues first second
@@ -95,11 +101,13 @@ joined_cell old new first second whole r c d one two goes joined =
                       let ch : x.ch ≡ z.ch = ap (λ (cs : List ℕ). get_or cs (c - whole.cell) 32) joined.chars_are
                       ∙ ap (λ k. get_or (run_chars old first ++ run_chars old second) (c - k) 32) joined.cell
                       ∙ get_or_append_left (run_chars old first) (run_chars old second) 32 (c - first.cell) (omega arith) in
-                      pick x d whole_yes ∙ cell_same x z ch joined.role joined.link ∙ sym (pick y rest second_no ∙ pick z d (holds_inside first r c row low in_first))
+                      pick x d whole_yes ∙ cell_same x z ch joined.role joined.link
+                      ∙ sym (pick y rest second_no ∙ pick z d (holds_inside first r c row low in_first))
                   | inr after_first ↦
                       elim (cases_lt c (second.cell + second.count)) [
                         | inl in_second ↦
-                            let whole_yes = holds_inside whole r c (joined.row ∙ row) (omega (arith, joined.cell)) (omega (arith, joined.cell, joined.count, goes.touches)) in
+                            let whole_yes = holds_inside whole r c (joined.row ∙ row) (omega (arith, joined.cell))
+                            (omega (arith, joined.cell, joined.count, goes.touches)) in
                             let second_yes = holds_inside second r c (sym goes.row ∙ row) (omega (arith, goes.touches)) in_second in
                             let index : c - first.cell - first.count ≡ c - second.cell = omega (arith, goes.touches) in
                             let ch : x.ch ≡ y.ch = ap (λ (cs : List ℕ). get_or cs (c - whole.cell) 32) joined.chars_are
@@ -125,7 +133,8 @@ ShowsMore-joined old new runs i last run whole is_last read grows are is goes jo
     let front = take i runs in
     let within : i < length runs = omega arith in
     let split : runs ≡ front ++ last ∷ [] = sym (take_all (i + 1) runs (omega arith)) ∙ take_more runs i last within ∙ ap (λ x. front ++ x ∷ []) (sym read) in
-    let now : set runs i whole ≡ front ++ whole ∷ [] = sym (take_all (i + 1) (set runs i whole) (omega (arith, length-set runs i whole))) ∙ take_more_set runs i whole within in
+    let now : set runs i whole ≡ front ++ whole ∷ [] = sym (take_all (i + 1) (set runs i whole) (omega (arith, length-set runs i whole)))
+    ∙ take_more_set runs i whole within in
     let is_run : IsRun old last = subst (λ x. IsRun old x) (sym read) (are i last within) in
     let below = shown_cell new front r c in
     let stays : below ≡ shown_cell old front r c = painted-grown old new r c SPACE front grows (All-take (λ x. IsRun old x) i runs are) in
@@ -145,7 +154,8 @@ AllPairs-push R xs y pairs all =
     λ i j d below within.
     let first : get_or (xs ++ y ∷ []) i d ≡ get_or xs i d = get_or_append_left xs (y ∷ []) d i (omega (arith, length_push xs y)) in
     elim (cases_lt j (length xs)) [
-      | inl inside ↦ subst (λ b. R (get_or (xs ++ y ∷ []) i d) b) (sym (get_or_append_left xs (y ∷ []) d j inside)) (subst (λ a. R a (get_or xs j d)) (sym first) (pairs i j d below inside))
+      | inl inside ↦ subst (λ b. R (get_or (xs ++ y ∷ []) i d) b) (sym (get_or_append_left xs (y ∷ []) d j inside))
+          (subst (λ a. R a (get_or xs j d)) (sym first) (pairs i j d below inside))
       | inr last ↦
           let is_last : length xs ≡ j = omega (arith, length_push xs y) in
           subst (λ b. R (get_or (xs ++ y ∷ []) i d) b) (sym (get_or_push xs y d j is_last)) (subst (λ a. R a y) (sym first) (all i d (omega arith)))
@@ -162,8 +172,10 @@ AllPairs-set_last R xs i last y is_last read pairs goes =
           let last_is : get_or xs b last ≡ last = ap (λ k. get_or xs k last) same ∙ sym read in
           let old : R (get_or xs a last) last = subst (λ z. R (get_or xs a last) z) last_is (pairs a b last below within_old) in
           let moved : R (get_or xs a d) last = subst (λ z. R z last) (get_or_default xs a last d (omega arith)) old in
-          subst (λ z. R (get_or (set xs i y) a d) z) (sym (ap (λ k. get_or (set xs i y) k d) same ∙ get_or-set_same xs i y d (omega arith))) (subst (λ z. R z y) (sym first) (goes (get_or xs a d) moved))
-      | inr other ↦ subst (λ z. R (get_or (set xs i y) a d) z) (sym (get_or-set_other xs i b y d other)) (subst (λ z. R z (get_or xs b d)) (sym first) (pairs a b d below within_old))
+          subst (λ z. R (get_or (set xs i y) a d) z) (sym (ap (λ k. get_or (set xs i y) k d) same ∙ get_or-set_same xs i y d (omega arith)))
+          (subst (λ z. R z y) (sym first) (goes (get_or xs a d) moved))
+      | inr other ↦ subst (λ z. R (get_or (set xs i y) a d) z) (sym (get_or-set_other xs i b y d other))
+          (subst (λ z. R z (get_or xs b d)) (sym first) (pairs a b d below within_old))
     ]
 
 -- where the last run differs from a run after them all, each does: no other one touches it
@@ -208,10 +220,18 @@ AddsRun-joined old new runs i last run whole is_last read goes joined =
     record {
       rows = λ n all is. All-set (λ x. x.row ≡ n) runs i whole (joined.row ∙ goes.row ∙ is) all;
       ends = λ n all is. All-set (λ x. x.cell + x.count ≤ n) runs i whole (omega (arith, joined.cell, joined.count, goes.touches)) all;
-      inside = λ widths all is. All-set (λ x. x.cell + x.count ≤ get_or widths x.row 0) runs i whole (subst (λ r. whole.cell + whole.count ≤ get_or widths r 0) (sym (joined.row ∙ goes.row)) (omega (arith, joined.cell, joined.count, goes.touches))) all;
-      after = λ y all is. All-set (λ x. Precedes x y) runs i whole record { rows = omega (arith, joined.row, goes.row, is.rows); cells = λ h. omega (arith, joined.cell, joined.count, goes.touches, is.cells (sym goes.row ∙ sym joined.row ∙ h)) } all;
-      order = λ pairs all. AllPairs-set_last (λ a b. Precedes a b) runs i last whole is_last read pairs (λ x before. record { rows = omega (arith, joined.row, before.rows); cells = λ h. omega (arith, joined.cell, before.cells (h ∙ joined.row)) });
-      apart = λ ordered before pairs. AllPairs-set_last (λ a b. Differ a b) runs i last whole is_last read pairs (λ x differs at. differs record { row = at.row ∙ joined.row; touches = at.touches ∙ joined.cell; role = at.role ∙ joined.role; link = at.link ∙ joined.link });
+      inside = λ widths all is. All-set (λ x. x.cell + x.count ≤ get_or widths x.row 0) runs i whole
+          (subst (λ r. whole.cell + whole.count ≤ get_or widths r 0) (sym (joined.row ∙ goes.row))
+          (omega (arith, joined.cell, joined.count, goes.touches))) all;
+      after = λ y all is. All-set (λ x. Precedes x y) runs i whole record {
+        rows = omega (arith, joined.row, goes.row, is.rows);
+        cells = λ h.
+            omega (arith, joined.cell, joined.count, goes.touches, is.cells (sym goes.row ∙ sym joined.row ∙ h));
+      } all;
+      order = λ pairs all. AllPairs-set_last (λ a b. Precedes a b) runs i last whole is_last read pairs (λ x before.
+          record { rows = omega (arith, joined.row, before.rows); cells = λ h. omega (arith, joined.cell, before.cells (h ∙ joined.row)) });
+      apart = λ ordered before pairs. AllPairs-set_last (λ a b. Differ a b) runs i last whole is_last read pairs (λ x differs at.
+          differs record { row = at.row ∙ joined.row; touches = at.touches ∙ joined.cell; role = at.role ∙ joined.role; link = at.link ∙ joined.link });
       apart_after = λ y all is. All-set (λ x. Differ x y)
           runs i whole (λ at. is record {
             row = sym goes.row ∙ sym joined.row ∙ at.row;
@@ -223,9 +243,19 @@ AddsRun-joined old new runs i last run whole is_last read goes joined =
           }) all;
       follows = λ x all is.
           let before : Precedes x last = subst (λ y. Precedes x y) (sym read) (all i last within) in
-          All-set (λ y. Precedes x y) runs i whole record { rows = omega (arith, joined.row, before.rows); cells = λ h. omega (arith, joined.cell, before.cells (h ∙ joined.row)) } all;
+          All-set (λ y. Precedes x y) runs i whole record {
+            rows = omega (arith, joined.row, before.rows);
+            cells = λ h.
+                omega (arith, joined.cell, before.cells (h ∙ joined.row));
+          } all;
       apart_follows = λ x all is.
           let differs : Differ x last = subst (λ y. Differ x y) (sym read) (all i last within) in
-          All-set (λ y. Differ x y) runs i whole (λ at. differs record { row = at.row ∙ joined.row; touches = at.touches ∙ joined.cell; role = at.role ∙ joined.role; link = at.link ∙ joined.link }) all;
+          All-set (λ y. Differ x y) runs i whole (λ at. differs record {
+            row = at.row ∙ joined.row;
+            touches = at.touches ∙ joined.cell;
+            role = at.role
+                ∙ joined.role;
+            link = at.link ∙ joined.link;
+          }) all;
       count = omega (arith, length-set runs i whole);
     }

@@ -34,12 +34,15 @@ span_joined t0 t1 t2 o0 o1 o2 row from mid to g h k first_le second_le first_is 
     let s0 = shown_cell t0 o0 row c in
     let s1 = shown_cell t1 o1 row c in
     elim (cases_lt c from) [
-      | inl before ↦ second c ∙ pick (h c) s1 (within_before mid to c (omega arith)) ∙ first c ∙ pick (g c) s0 (within_before from mid c before) ∙ sym (pick (k c) s0 (within_before from to c before))
+      | inl before ↦ second c ∙ pick (h c) s1 (within_before mid to c (omega arith)) ∙ first c ∙ pick (g c) s0 (within_before from mid c before)
+          ∙ sym (pick (k c) s0 (within_before from to c before))
       | inr low ↦ elim (cases_lt c mid) [
-        | inl left ↦ second c ∙ pick (h c) s1 (within_before mid to c left) ∙ first c ∙ pick (g c) s0 (within_yes from mid c low left) ∙ first_is c low left ∙ sym (pick (k c) s0 (within_yes from to c low (omega arith)))
+        | inl left ↦ second c ∙ pick (h c) s1 (within_before mid to c left) ∙ first c ∙ pick (g c) s0 (within_yes from mid c low left) ∙ first_is c low left
+            ∙ sym (pick (k c) s0 (within_yes from to c low (omega arith)))
         | inr right ↦ elim (cases_lt c to) [
           | inl high ↦ second c ∙ pick (h c) s1 (within_yes mid to c right high) ∙ second_is c right high ∙ sym (pick (k c) s0 (within_yes from to c low high))
-          | inr after ↦ second c ∙ pick (h c) s1 (within_after mid to c after) ∙ first c ∙ pick (g c) s0 (within_after from mid c right) ∙ sym (pick (k c) s0 (within_after from to c after))
+          | inr after ↦ second c ∙ pick (h c) s1 (within_after mid to c after) ∙ first c ∙ pick (g c) s0 (within_after from mid c right)
+              ∙ sym (pick (k c) s0 (within_after from to c after))
         ]
       ]
     ]
@@ -63,11 +66,13 @@ IsGap-pushed old new run row from to n utf8 utf8_new some fits is_n pushed row_i
       | inr past ↦ omega (arith, get_or_past word i 0 (omega (arith, length-replicate {A = ℕ} n 32)))
     ]) in
     let long : length (chars word) ≡ n = ap length spelled ∙ length-replicate {A = ℕ} n 32 in
-    let is = IsWord-pushed old new word run row from NoStyle utf8 utf8_new (omega arith) (omega arith) pushed row_is cell_is (count ∙ sym long) start end role link in
+    let is = IsWord-pushed old new word run row from NoStyle utf8 utf8_new (omega arith) (omega arith) pushed row_is cell_is
+    (count ∙ sym long) start end role link in
     record {
       is_run = is.is_run;
       row_is = row_is;
       cell_is = cell_is;
       count_is = omega arith;
-      cells = λ c. cell_same (run_cell new run c) SPACE (ap (λ (cs : List ℕ). get_or cs (c - run.cell) 32) (is.chars_are ∙ spelled) ∙ spaces_at n (c - run.cell)) role link;
+      cells = λ c. cell_same (run_cell new run c) SPACE (ap (λ (cs : List ℕ). get_or cs (c - run.cell) 32) (is.chars_are ∙ spelled)
+          ∙ spaces_at n (c - run.cell)) role link;
     }

@@ -92,4 +92,5 @@ pub is_utf8-to : (text : List ℕ) (s e : ℕ) → IsUtf8 text → s ≤ e → i
 is_utf8-to text s e whole ordered starts rest =
     let split : take e text ≡ take s text ++ stretch text s e =
     same_lists _ _ (grind (arith, places)) (λ k d h. grind (arith, places, cases_lt k s)) in
-    ap is_utf8 split ∙ is_utf8-from_IsUtf8 (take s text ++ stretch text s e) (IsUtf8-append (take s text) (stretch text s e) (IsUtf8-from_is_utf8 (take s text) starts) rest)
+    ap is_utf8 split ∙ is_utf8-from_IsUtf8 (take s text ++ stretch text s e)
+    (IsUtf8-append (take s text) (stretch text s e) (IsUtf8-from_is_utf8 (take s text) starts) rest)

@@ -24,19 +24,22 @@ pub codes_added : (last next : Style) (old mid new code : List ℕ) → code ≡
 codes_added last next old mid new code is reset_added opened =
     let before = encode_utf8_all (reset last) in
     let after = encode_utf8_all (opening next) in
-    opened ∙ ap (λ (t : List ℕ). t ++ after) (reset_added ∙ ap (λ (t : List ℕ). old ++ t) is) ∙ append_assoc old before after ∙ ap (λ (t : List ℕ). old ++ (before ++ t)) (sym (append-nil after))
+    opened ∙ ap (λ (t : List ℕ). t ++ after) (reset_added ∙ ap (λ (t : List ℕ). old ++ t) is) ∙ append_assoc old before after
+    ∙ ap (λ (t : List ℕ). old ++ (before ++ t)) (sym (append-nil after))
 
 -- spaces after spaces
 pub more_spaces : (old mid new : List ℕ) (a b n : ℕ) → a + b ≡ n → mid ≡ old ++ replicate a 32 → new ≡ mid ++ replicate b 32 → new ≡ old ++ replicate n 32
 more_spaces old mid new a b n sum first second =
-    second ∙ ap (λ (t : List ℕ). t ++ replicate b 32) first ∙ append_assoc old (replicate a 32) (replicate b 32) ∙ ap (λ (t : List ℕ). old ++ t) (replicate-append-replicate a b 32 ∙ ap (λ k. replicate k 32) sum)
+    second ∙ ap (λ (t : List ℕ). t ++ replicate b 32) first ∙ append_assoc old (replicate a 32) (replicate b 32)
+    ∙ ap (λ (t : List ℕ). old ++ t) (replicate-append-replicate a b 32 ∙ ap (λ k. replicate k 32) sum)
 
 -- after a cell of the same style and link the text is enough
 pub more_printed : (sheet : Stylesheet) (level : LevelInner) (style : Style) (role : ElementStyle) (link : Option Url) (word : List ℕ)
     (done : List Cell) (old now : List ℕ) → style ≡ style_of sheet level role → Goes sheet level (Some style) link done old now
     → Goes sheet level (Some style) link (done ++ alike role link word) old (now ++ encode_utf8_all word)
 more_printed sheet level style role link [] done old now is goes =
-    subst (λ (cells : List Cell). Goes sheet level (Some style) link cells old (now ++ [])) (sym (append-nil done)) (subst (λ (t : List ℕ). Goes sheet level (Some style) link done old t) (sym (append-nil now)) goes)
+    subst (λ (cells : List Cell). Goes sheet level (Some style) link cells old (now ++ [])) (sym (append-nil done))
+    (subst (λ (t : List ℕ). Goes sheet level (Some style) link done old t) (sym (append-nil now)) goes)
 more_printed sheet level style role link (ch ∷ word) done old now is goes =
     let cell : Cell = record { ch = ch; role = role; link = link } in
     let one : Goes sheet level (Some style) link (done ++ cell ∷ []) old (now ++ encode_utf8 ch) =
@@ -64,7 +67,8 @@ stretch_printed sheet level last next role last_link next_link (ch ∷ word) don
     goes in
     let rest = more_printed sheet level next role next_link word (done ++ cell ∷ []) old first is one in
     let bytes : first ++ encode_utf8_all word ≡ new = append_assoc prints.begun (encode_utf8 ch) (encode_utf8_all word) ∙ sym prints.text_is in
-    subst (λ (cells : List Cell). Goes sheet level (Some next) next_link cells old new) (append_assoc done (cell ∷ []) (alike role next_link word)) (subst (λ (t : List ℕ). Goes sheet level (Some next) next_link ((done ++ cell ∷ []) ++ alike role next_link word) old t) bytes rest)
+    subst (λ (cells : List Cell). Goes sheet level (Some next) next_link cells old new) (append_assoc done (cell ∷ []) (alike role next_link word))
+    (subst (λ (t : List ℕ). Goes sheet level (Some next) next_link ((done ++ cell ∷ []) ++ alike role next_link word) old t) bytes rest)
 
 -- the bytes of spaces
 pub space_bytes : (n : ℕ) → encode_utf8_all (replicate n 32) ≡ replicate n 32

@@ -64,7 +64,8 @@ ShowsMore-touch old new xs ys zs fresh run grows are are_xs are_zs before after 
     painted-append new r c SPACE (xs ++ fresh) zs ∙ painted-grown old new r c (painted_over new r c SPACE (xs ++ fresh)) zs grows are_zs
     ∙ ap (λ (d : Cell). painted_over old r c d zs)
     (painted-append new r c SPACE xs fresh ∙ ap (λ (d : Cell). painted_over new r c d fresh) (painted-grown old new r c SPACE xs grows are_xs)) in
-    let old_is : shown_cell old (xs ++ ys ++ zs) r c ≡ painted_over old r c (painted_over old r c (shown_cell old xs r c) ys) zs = painted-append old r c SPACE (xs ++ ys) zs ∙ ap (λ (d : Cell). painted_over old r c d zs) (painted-append old r c SPACE xs ys) in
+    let old_is : shown_cell old (xs ++ ys ++ zs) r c ≡ painted_over old r c (painted_over old r c (shown_cell old xs r c) ys) zs = painted-append old r c SPACE
+    (xs ++ ys) zs ∙ ap (λ (d : Cell). painted_over old r c d zs) (painted-append old r c SPACE xs ys) in
     let was = shown_cell old (xs ++ ys ++ zs) r c in
     elim (cases_some xs r c) [
       | inl some ↦
@@ -77,11 +78,14 @@ ShowsMore-touch old new xs ys zs fresh run grows are are_xs are_zs before after 
           let no_fresh : All (λ z. holds z r c ≡ false) fresh = λ k d within. past (get_or fresh k d) d (order_new some.place k d some.within within) in
           let no_ys : All (λ z. holds z r c ≡ false) ys = λ k d within. past (get_or ys k d) d (order_old some.place k d some.within within) in
           let no_run = past run run (before some.place run some.within) in
-          new_is ∙ ap (λ (d : Cell). painted_over old r c d zs) (painted_unheld new r c (shown_cell old xs r c) fresh no_fresh ∙ sym (painted_unheld old r c (shown_cell old xs r c) ys no_ys)) ∙ sym old_is ∙ sym (pick x was no_run)
+          new_is ∙ ap (λ (d : Cell). painted_over old r c d zs) (painted_unheld new r c (shown_cell old xs r c) fresh no_fresh
+          ∙ sym (painted_unheld old r c (shown_cell old xs r c) ys no_ys)) ∙ sym old_is ∙ sym (pick x was no_run)
       | inr none ↦
           let blank : shown_cell old xs r c ≡ SPACE = painted_unheld old r c SPACE xs none in
-          let new_there : shown_cell new (xs ++ fresh ++ zs) r c ≡ painted_over old r c (if holds run r c then x else shown_cell old ys r c) zs = new_is ∙ ap (λ (d : Cell). painted_over old r c (painted_over new r c d fresh) zs) blank ∙ ap (λ (d : Cell). painted_over old r c d zs) (shows r c) in
-          let old_there : was ≡ painted_over old r c (shown_cell old ys r c) zs = old_is ∙ ap (λ (d : Cell). painted_over old r c (painted_over old r c d ys) zs) blank in
+          let new_there : shown_cell new (xs ++ fresh ++ zs) r c ≡ painted_over old r c (if holds run r c then x else shown_cell old ys r c) zs = new_is
+          ∙ ap (λ (d : Cell). painted_over old r c (painted_over new r c d fresh) zs) blank ∙ ap (λ (d : Cell). painted_over old r c d zs) (shows r c) in
+          let old_there : was ≡ painted_over old r c (shown_cell old ys r c) zs = old_is
+          ∙ ap (λ (d : Cell). painted_over old r c (painted_over old r c d ys) zs) blank in
           elim (cases_held run r c) [
             | inl held ↦
                 let yes : holds run r c ≡ true = holds_inside run r c held.row_is held.low held.high in
@@ -90,7 +94,8 @@ ShowsMore-touch old new xs ys zs fresh run grows are are_xs are_zs before after 
                   | inl here ↦ holds_before (get_or zs k d) r c (omega (arith, held.high, (after k d within).cells (held.row_is ∙ sym here)))
                   | inr other ↦ holds_elsewhere (get_or zs k d) r c other
                 ] in
-                new_there ∙ ap (λ (d : Cell). painted_over old r c d zs) (pick x (shown_cell old ys r c) yes) ∙ painted_unheld old r c x zs no_zs ∙ sym (pick x was yes)
+                new_there ∙ ap (λ (d : Cell). painted_over old r c d zs) (pick x (shown_cell old ys r c) yes) ∙ painted_unheld old r c x zs no_zs
+                ∙ sym (pick x was yes)
             | inr free ↦ new_there ∙ ap (λ (d : Cell). painted_over old r c d zs) (pick x (shown_cell old ys r c) free) ∙ sym old_there ∙ sym (pick x was free)
           ]
     ]
@@ -186,7 +191,8 @@ AllPairs-put R runs fresh run start end low high above below pairs middle first 
     let all : All (λ x. R x z) ys = λ k e within.
     let same : get_or ys k e ≡ get_or runs (start + k) d = get_or_default ys k e d within ∙ read_y k d within in
     subst (λ x. R x z) (sym same) (pairs (start + k) (end + j) d (omega (arith, in_ys k within)) (in_zs j j_within)) in
-    subst (λ z. R (get_or (xs ++ fresh) i d) z) (sym (read_z j d)) (All-append (λ x. R x z) xs fresh left (second z (below (end + j) d (omega arith) (in_zs j j_within)) all) i d i_within) in
+    subst (λ z. R (get_or (xs ++ fresh) i d) z) (sym (read_z j d)) (All-append (λ x.
+    R x z) xs fresh left (second z (below (end + j) d (omega arith) (in_zs j j_within)) all) i d i_within) in
     AllPairs-append R (xs ++ fresh) zs (AllPairs-append R xs fresh (AllPairs-take R start runs pairs) middle across) (AllPairs-drop R end runs pairs) after
 
 -- the runs that a run touches
@@ -221,22 +227,32 @@ IsPut-touched old new runs now fresh run start end low high above touch below ar
     let short : k < start = below_take runs start k within in
     subst (λ x. Precedes x run) (sym (get_or-take start runs k d short)) (Precedes-clear (get_or runs k d) run (above k d short)) in
     let clear_z : All (λ z. Precedes run z) zs = λ k d within.
-    subst (λ z. Precedes run z) (sym (get_or-drop end runs k d)) (Precedes-clear run (get_or runs (end + k) d) (below (end + k) d (omega arith) (omega (arith, length-drop end runs)))) in
+    subst (λ z. Precedes run z) (sym (get_or-drop end runs k d)) (Precedes-clear run (get_or runs (end + k) d)
+    (below (end + k) d (omega arith) (omega (arith, length-drop end runs)))) in
     let before : (i j : ℕ) (d : Run) → i < length xs → j < length ys → Precedes (get_or xs i d) (get_or ys j d) = λ i j d i_within j_within.
     let i_short : i < start = below_take runs start i i_within in
     let j_short : j < end - start = below_take (drop start runs) (end - start) j j_within in
-    subst (λ y. Precedes (get_or xs i d) y) (sym (get_or-stretch runs start end j d j_within)) (subst (λ x. Precedes x (get_or runs (start + j) d)) (sym (get_or-take start runs i d i_short)) (ordered i (start + j) d (omega arith) (omega arith))) in
-    let all_ordered = AllPairs-put (λ a b. Precedes a b) runs fresh run start end low high above below ordered pieces.is_row.ordered pieces.follows pieces.after in
-    let all_apart = AllPairs-put (λ a b. Differ a b) runs fresh run start end low high above below apart pieces.is_row.apart pieces.apart_follows pieces.apart_after in
+    subst (λ y. Precedes (get_or xs i d) y) (sym (get_or-stretch runs start end j d j_within))
+    (subst (λ x. Precedes x (get_or runs (start + j) d)) (sym (get_or-take start runs i d i_short))
+    (ordered i (start + j) d (omega arith) (omega arith))) in
+    let all_ordered = AllPairs-put (λ a b. Precedes a b) runs fresh run start end low high above below ordered pieces.is_row.ordered pieces.follows
+    pieces.after in
+    let all_apart = AllPairs-put (λ a b. Differ a b) runs fresh run start end low high above below apart pieces.is_row.apart pieces.apart_follows
+    pieces.apart_after in
     let follows : (i j : ℕ) (d : Run) → i < length xs → j < length fresh → Precedes (get_or xs i d) (get_or fresh j d) = λ i j d i_within j_within.
     let x = get_or xs i d in
     let i_short : i < start = below_take runs start i i_within in
-    pieces.follows x (subst (λ x. IsClear x run) (sym (get_or-take start runs i d i_short)) (above i d i_short)) (λ k e within. subst (λ x. Precedes x (get_or ys k e)) (get_or_default xs i e d i_within) (before i k e i_within within)) j d j_within in
+    pieces.follows x (subst (λ x. IsClear x run) (sym (get_or-take start runs i d i_short)) (above i d i_short)) (λ k e within.
+    subst (λ x. Precedes x (get_or ys k e)) (get_or_default xs i e d i_within) (before i k e i_within within)) j d j_within in
     let all : All (λ x. IsRun new x) runs = All-IsRun-grown old new runs grows are in
-    let shows = ShowsMore-touch old new xs ys zs fresh run grows (subst (λ (l : List Run). All (λ x. IsRun old x) l) split are) (All-take (λ x. IsRun old x) start runs are) (All-drop (λ x. IsRun old x) end runs are) clear_x clear_z before follows pieces.shows in
+    let shows = ShowsMore-touch old new xs ys zs fresh run grows (subst (λ (l : List Run). All (λ x. IsRun old x) l) split are)
+    (All-take (λ x. IsRun old x) start runs are) (All-drop (λ x. IsRun old x) end runs are) clear_x clear_z before follows pieces.shows in
     record {
-      shows = subst (λ (l : List Run). ShowsMore old new runs l run) (sym is) (subst (λ (l : List Run). ShowsMore old new l (xs ++ fresh ++ zs) run) (sym split) shows);
-      are_runs = subst (λ (l : List Run). All (λ x. IsRun new x) l) (sym is) (All-append (λ x. IsRun new x) (xs ++ fresh) zs (All-append (λ x. IsRun new x) xs fresh (All-take (λ x. IsRun new x) start runs all) pieces.is_row.are_runs) (All-drop (λ x. IsRun new x) end runs all));
+      shows = subst (λ (l : List Run). ShowsMore old new runs l run) (sym is)
+          (subst (λ (l : List Run). ShowsMore old new l (xs ++ fresh ++ zs) run) (sym split) shows);
+      are_runs = subst (λ (l : List Run). All (λ x. IsRun new x) l) (sym is)
+          (All-append (λ x. IsRun new x) (xs ++ fresh) zs (All-append (λ x.
+          IsRun new x) xs fresh (All-take (λ x. IsRun new x) start runs all) pieces.is_row.are_runs) (All-drop (λ x. IsRun new x) end runs all));
       ordered = subst AreOrdered (sym is) all_ordered;
       apart = subst AreApart (sym is) all_apart;
       in_row = λ n all here. subst (λ (l : List Run). All (λ x. x.row ≡ n) l) (sym is)
@@ -248,10 +264,13 @@ IsPut-touched old new runs now fresh run start end low high above touch below ar
           zs (All-append (λ x. x.cell + x.count ≤ n) xs fresh (All-take (λ x. x.cell + x.count ≤ n) start runs all)
           (pieces.ends n (All-take (λ x. x.cell + x.count ≤ n) (end - start) (drop start runs) (All-drop (λ x. x.cell + x.count ≤ n) start runs all))
           within)) (All-drop (λ x. x.cell + x.count ≤ n) end runs all));
-      inside = λ widths fit within. inside-put widths new runs now fresh run.row start end low high (λ k d first last. (touch k d first last).row) fit pieces.is_row (λ ends. pieces.ends (get_or widths run.row 0) ends within) is;
+      inside = λ widths fit within. inside-put widths new runs now fresh run.row start end low high (λ k d first last.
+          (touch k d first last).row) fit pieces.is_row (λ ends. pieces.ends (get_or widths run.row 0) ends within) is;
       few =
-          let count : length now ≡ length xs + length fresh + length zs = ap length is ∙ length-append (xs ++ fresh) zs ∙ ap (λ n. n + length zs) (length-append xs fresh) in
-          let old_count : length runs ≡ length xs + length ys + length zs = ap length split ∙ length-append (xs ++ ys) zs ∙ ap (λ n. n + length zs) (length-append xs ys) in
+          let count : length now ≡ length xs + length fresh + length zs = ap length is ∙ length-append (xs ++ fresh) zs
+          ∙ ap (λ n. n + length zs) (length-append xs fresh) in
+          let old_count : length runs ≡ length xs + length ys + length zs = ap length split ∙ length-append (xs ++ ys) zs
+          ∙ ap (λ n. n + length zs) (length-append xs ys) in
           omega (arith, count, old_count, pieces.few);
     }
 

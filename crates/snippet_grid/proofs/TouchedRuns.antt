@@ -19,7 +19,12 @@ none_touched : (from to : ℕ) (runs : List Run) → All (λ x. to ≤ x.cell) r
 none_touched from to [] all = refl
 none_touched from to (run ∷ runs) all =
     let past : to ≤ run.cell = all 0 run (omega arith) in
-    omega (arith, none_touched from to runs (All-tail (λ x. to ≤ x.cell) run runs all), pick {X = ℕ} 1 0 (le-ltb (max run.cell from) (min (run.cell + run.count) to) (omega arith)))
+    omega (
+      arith,
+      none_touched from to runs (All-tail (λ x. to ≤ x.cell) run runs all),
+      pick {X = ℕ} 1 0
+          (le-ltb (max run.cell from) (min (run.cell + run.count) to) (omega arith)),
+    )
 
 -- of the runs of a row, one at most is touched before a cell and after a later one
 pub touched_outer : (text : List ℕ) (row a b top : ℕ) (runs : List Run) → a ≤ b → IsRow text row runs
@@ -40,11 +45,37 @@ touched_outer text row a b top (run ∷ runs) low is =
           omega arith in
           let none : num_touched 0 a runs ≡ 0 = none_touched 0 a runs beyond in
           elim (cases_lt (max run.cell 0) (min (run.cell + run.count) a)) [
-            | inl left ↦ omega (arith, none, num_touched-le b top runs, pick {X = ℕ} 1 0 (lt-ltb (max run.cell 0) (min (run.cell + run.count) a) left), pick {X = ℕ} 1 0 (lt-ltb (max run.cell b) (min (run.cell + run.count) top) right))
-            | inr free ↦ omega (arith, none, num_touched-le b top runs, pick {X = ℕ} 1 0 (le-ltb (max run.cell 0) (min (run.cell + run.count) a) free), pick {X = ℕ} 1 0 (lt-ltb (max run.cell b) (min (run.cell + run.count) top) right))
+            | inl left ↦ omega (
+              arith,
+              none,
+              num_touched-le b top runs,
+              pick {X = ℕ} 1 0 (lt-ltb (max run.cell 0) (min (run.cell + run.count) a) left),
+              pick
+                  {X = ℕ} 1 0 (lt-ltb (max run.cell b) (min (run.cell + run.count) top) right),
+            )
+            | inr free ↦ omega (
+              arith,
+              none,
+              num_touched-le b top runs,
+              pick {X = ℕ} 1 0 (le-ltb (max run.cell 0) (min (run.cell + run.count) a) free),
+              pick
+                  {X = ℕ} 1 0 (lt-ltb (max run.cell b) (min (run.cell + run.count) top) right),
+            )
           ]
       | inr free ↦ elim (cases_lt (max run.cell 0) (min (run.cell + run.count) a)) [
-        | inl left ↦ omega (arith, touched_outer text row a b top runs low rest, pick {X = ℕ} 1 0 (lt-ltb (max run.cell 0) (min (run.cell + run.count) a) left), pick {X = ℕ} 1 0 (le-ltb (max run.cell b) (min (run.cell + run.count) top) free))
-        | inr none ↦ omega (arith, touched_outer text row a b top runs low rest, pick {X = ℕ} 1 0 (le-ltb (max run.cell 0) (min (run.cell + run.count) a) none), pick {X = ℕ} 1 0 (le-ltb (max run.cell b) (min (run.cell + run.count) top) free))
+        | inl left ↦ omega (
+          arith,
+          touched_outer text row a b top runs low rest,
+          pick {X = ℕ} 1 0
+              (lt-ltb (max run.cell 0) (min (run.cell + run.count) a) left),
+          pick {X = ℕ} 1 0 (le-ltb (max run.cell b) (min (run.cell + run.count) top) free),
+        )
+        | inr none ↦ omega (
+          arith,
+          touched_outer text row a b top runs low rest,
+          pick {X = ℕ} 1 0
+              (le-ltb (max run.cell 0) (min (run.cell + run.count) a) none),
+          pick {X = ℕ} 1 0 (le-ltb (max run.cell b) (min (run.cell + run.count) top) free),
+        )
       ]
     ]

@@ -71,7 +71,8 @@ grown : (sheet : Stylesheet) (level : LevelInner) (done : List Cell) (old now ne
 grown sheet level done old now new codes rest more is completes =
     record {
       pieces = completes.pieces;
-      text_is = ap (λ (t : List ℕ). t ++ flat_map piece_text rest) is ∙ append_assoc now (flat_map piece_text codes) (flat_map piece_text rest) ∙ ap (λ (t : List ℕ). now ++ t) (sym (flat_map-append piece_text codes rest)) ∙ completes.text_is;
+      text_is = ap (λ (t : List ℕ). t ++ flat_map piece_text rest) is ∙ append_assoc now (flat_map piece_text codes) (flat_map piece_text rest)
+          ∙ ap (λ (t : List ℕ). now ++ t) (sym (flat_map-append piece_text codes rest)) ∙ completes.text_is;
       prints = completes.prints;
     }
 
@@ -87,8 +88,10 @@ link_ended : (sheet : Stylesheet) (level : LevelInner) (style : Style) (link : O
     → GoesTo sheet level (Some style) link done old now cell → GoesTo sheet level (Some style) None done old new cell
 link_ended sheet level style link done old now new cell differs none ended goes =
     elim (cases_link link None) [
-      | inl absent ↦ kept sheet level (Some style) None done old now new cell (none absent) (subst (λ l. GoesTo sheet level (Some style) l done old now cell) absent goes)
-      | inr there ↦ λ rest more prints. grown sheet level done old now new (LinkEnd ∷ []) rest (cell ∷ more) (ended there differs) (goes (LinkEnd ∷ rest) more (there, differs, (λ h. none≢some (sym h)), prints))
+      | inl absent ↦ kept sheet level (Some style) None done old now new cell (none absent)
+          (subst (λ l. GoesTo sheet level (Some style) l done old now cell) absent goes)
+      | inr there ↦ λ rest more prints. grown sheet level done old now new (LinkEnd ∷ []) rest (cell ∷ more) (ended there differs)
+          (goes (LinkEnd ∷ rest) more (there, differs, (λ h. none≢some (sym h)), prints))
     ]
 
 -- a style gave way to the next one, or went on
@@ -98,8 +101,10 @@ style_changed : (sheet : Stylesheet) (level : LevelInner) (style next : Style) (
     → GoesTo sheet level (Some next) link done old new cell
 style_changed sheet level style next link done old now new cell is link_is continues changed goes =
     elim (cases_style style next) [
-      | inl same ↦ kept sheet level (Some next) link done old now new cell (continues same) (subst (λ s. GoesTo sheet level (Some s) link done old now cell) same goes)
-      | inr other ↦ λ rest more prints. grown sheet level done old now new (Reset style ∷ Opening next ∷ []) rest (cell ∷ more) (changed other) (goes (Reset style ∷ Opening next ∷ rest) more (refl, (λ h. other (sym (some_same h) ∙ sym is)), link_is, (refl, ap Some (sym is), prints)))
+      | inl same ↦ kept sheet level (Some next) link done old now new cell (continues same)
+          (subst (λ s. GoesTo sheet level (Some s) link done old now cell) same goes)
+      | inr other ↦ λ rest more prints. grown sheet level done old now new (Reset style ∷ Opening next ∷ []) rest (cell ∷ more) (changed other)
+          (goes (Reset style ∷ Opening next ∷ rest) more (refl, (λ h. other (sym (some_same h) ∙ sym is)), link_is, (refl, ap Some (sym is), prints)))
     ]
 
 -- the next link began, if there is one
@@ -110,7 +115,8 @@ link_began : (sheet : Stylesheet) (level : LevelInner) (style : Style) (link nex
 link_began sheet level style link None done old now new cell style_is is differs none begun goes =
     kept sheet level (Some style) None done old now new cell (none refl) goes
 link_began sheet level style link (Some url) done old now new cell style_is is differs none begun goes =
-    λ rest more prints. grown sheet level done old now new (LinkTo url ∷ []) rest (cell ∷ more) (begun url refl differs) (goes (LinkTo url ∷ rest) more (refl, is, ap Some style_is, prints))
+    λ rest more prints. grown sheet level done old now new (LinkTo url ∷ []) rest (cell ∷ more) (begun url refl differs)
+    (goes (LinkTo url ∷ rest) more (refl, is, ap Some style_is, prints))
 
 -- the next character was printed
 char_printed : (sheet : Stylesheet) (level : LevelInner) (style : Style) (done : List Cell) (old now new : List ℕ) (cell : Cell)
@@ -119,7 +125,8 @@ char_printed : (sheet : Stylesheet) (level : LevelInner) (style : Style) (done :
 char_printed sheet level style done old now new cell is pushed goes =
     λ rest more prints.
     let bytes : new ≡ now ++ flat_map piece_text (Char cell.ch ∷ []) = pushed ∙ ap (λ (t : List ℕ). now ++ t) (sym (append-nil (encode_utf8 cell.ch))) in
-    let completes = grown sheet level done old now new (Char cell.ch ∷ []) rest (cell ∷ more) bytes (goes (Char cell.ch ∷ rest) more (cell, more, refl, refl, ap Some is, refl, prints)) in
+    let completes = grown sheet level done old now new (Char cell.ch ∷ []) rest (cell ∷ more) bytes
+    (goes (Char cell.ch ∷ rest) more (cell, more, refl, refl, ap Some is, refl, prints)) in
     record {
       pieces = completes.pieces;
       text_is = completes.text_is;
@@ -135,13 +142,15 @@ pub cell_printed : (sheet : Stylesheet) (level : LevelInner) (style next : Style
     → ((url : Url) → cell.link ≡ Some url → link ≢ Some url → begun ≡ changed ++ flat_map piece_text (LinkTo url ∷ []))
     → new ≡ begun ++ encode_utf8 cell.ch → Goes sheet level (Some style) link done old now
     → Goes sheet level (Some next) cell.link (done ++ cell ∷ []) old new
-cell_printed sheet level style next link done old now ended changed begun new cell is continues absent ends style_continues style_changes link_continues link_absent begins pushed goes =
+cell_printed sheet level style next link done old now ended changed begun new cell is continues absent ends style_continues style_changes link_continues
+    link_absent begins pushed goes =
     let before : GoesTo sheet level (Some style) link done old now cell = λ rest more prints. goes rest (cell ∷ more) prints in
     let ready : GoesTo sheet level (Some next) cell.link done old begun cell = elim (cases_link link cell.link) [
       | inl same ↦
           let first = kept sheet level (Some style) link done old now ended cell (continues same) before in
           let second = style_changed sheet level style next link done old ended changed cell is (inr same) style_continues style_changes first in
-          kept sheet level (Some next) cell.link done old changed begun cell (link_continues same) (subst (λ l. GoesTo sheet level (Some next) l done old changed cell) same second)
+          kept sheet level (Some next) cell.link done old changed begun cell (link_continues same)
+          (subst (λ l. GoesTo sheet level (Some next) l done old changed cell) same second)
       | inr differs ↦
           let first = link_ended sheet level style link done old now ended cell differs absent ends before in
           let second = style_changed sheet level style next None done old ended changed cell is (inl refl) style_continues style_changes first in
@@ -167,7 +176,9 @@ row_closed sheet level style link row old now ended new absent ends closed goes 
     let code : List ℕ = encode_utf8_all (reset style) in
     let close : flat_map piece_text (Reset style ∷ []) ≡ code = append-nil code in
     elim (cases_link link None) [
-      | inl none ↦ whole sheet level row old now new (Reset style ∷ []) (closed ∙ ap (λ (t : List ℕ). t ++ code) (absent none) ∙ ap (λ (t : List ℕ). now ++ t) (sym close)) (goes (Reset style ∷ []) [] (refl, none≢some, inl none, (refl, refl, none)))
+      | inl none ↦ whole sheet level row old now new (Reset style ∷ [])
+          (closed ∙ ap (λ (t : List ℕ). t ++ code) (absent none) ∙ ap (λ (t : List ℕ). now ++ t) (sym close))
+          (goes (Reset style ∷ []) [] (refl, none≢some, inl none, (refl, refl, none)))
       | inr there ↦ whole sheet level row old now new (LinkEnd ∷ Reset style ∷ [])
           (closed ∙ ap (λ (t : List ℕ). t ++ code) (ends there there) ∙ append_assoc now (flat_map piece_text
           (LinkEnd ∷ [])) code ∙ ap (λ (t : List ℕ). now ++ (flat_map piece_text (LinkEnd ∷ []) ++ t)) (sym close))
@@ -179,5 +190,12 @@ pub further-append : (sheet : Stylesheet) (level : LevelInner) (ps qs : List Pie
     → PrintsFurther sheet level qs more → PrintsFurther sheet level (ps ++ qs) (rows ++ more)
 further-append sheet level ps qs [] more none prints =
     subst (λ (pieces : List Piece). PrintsFurther sheet level (pieces ++ qs) more) (sym none) prints
-further-append sheet level ps qs (row ∷ rows) more (first, others, split, prints, below) prints_more =
-    (first, others ++ qs, ap (λ (pieces : List Piece). pieces ++ qs) split ∙ ap (λ (pieces : List Piece). Char 10 ∷ pieces) (append_assoc first others qs), prints, further-append sheet level others qs rows more below prints_more)
+further-append sheet level ps qs (row ∷ rows) more (first, others, split, prints, below) prints_more = (
+  first,
+  others ++ qs,
+  ap (λ (pieces : List Piece). pieces ++ qs) split
+      ∙ ap (λ (pieces : List Piece). Char 10 ∷ pieces) (append_assoc first others qs),
+  prints,
+  further-append sheet level others qs rows more below
+      prints_more,
+)

@@ -82,13 +82,15 @@ cells_links : (sheet : Stylesheet) (level : LevelInner) (style : Option Style) (
     → PrintsCells sheet level style link ps cells → flat_map piece_link ps ≡ links_after link cells
 cells_links sheet level style link [] cells (none, _, _) = ap (links_after link) (sym none)
 cells_links sheet level style link (Char ch ∷ ps) cells (cell, rest, split, _, _, same, prints) =
-    cells_links sheet level style link ps rest prints ∙ ap (λ (l : Option Url). links_after l rest) same ∙ ap (λ (urls : List Url). urls ++ links_after cell.link rest) (sym (link_begun_same link cell.link same)) ∙ ap (links_after link) (sym split)
+    cells_links sheet level style link ps rest prints ∙ ap (λ (l : Option Url). links_after l rest) same
+    ∙ ap (λ (urls : List Url). urls ++ links_after cell.link rest) (sym (link_begun_same link cell.link same)) ∙ ap (links_after link) (sym split)
 cells_links sheet level style link (Opening new ∷ ps) cells (_, _, prints) =
     cells_links sheet level (Some new) link ps cells prints
 cells_links sheet level style link (Reset old ∷ ps) cells (_, _, _, prints) =
     cells_links sheet level None link ps cells prints
 cells_links sheet level style link (LinkTo url ∷ ps) cells (none, next, _, prints) =
-    ap (λ (urls : List Url). url ∷ urls) (cells_links sheet level style (Some url) ps cells prints) ∙ links_begun url cells next ∙ ap (λ (l : Option Url). links_after l cells) (sym none)
+    ap (λ (urls : List Url). url ∷ urls) (cells_links sheet level style (Some url) ps cells prints) ∙ links_begun url cells next
+    ∙ ap (λ (l : Option Url). links_after l cells) (sym none)
 cells_links sheet level style link (LinkEnd ∷ ps) cells (_, differs, _, prints) =
     cells_links sheet level style None ps cells prints ∙ links_ended link cells differs
 
@@ -107,7 +109,8 @@ cells_of_sheet sheet level style link (Opening new ∷ ps) cells of (_, next, pr
     let new_of = next_is_of sheet level cells new next in
     All-cons (λ p. IsOfSheet sheet p) (Opening new) ps new_of (cells_of_sheet sheet level (Some new) link ps cells new_of prints)
 cells_of_sheet sheet level style link (Reset old ∷ ps) cells of (was, _, _, prints) =
-    All-cons (λ p. IsOfSheet sheet p) (Reset old) ps (subst (λ (s : Option Style). IfSome s (λ t. IsStyleOf sheet t)) was of) (cells_of_sheet sheet level None link ps cells tt prints)
+    All-cons (λ p. IsOfSheet sheet p) (Reset old) ps (subst (λ (s : Option Style). IfSome s (λ t. IsStyleOf sheet t)) was of)
+    (cells_of_sheet sheet level None link ps cells tt prints)
 cells_of_sheet sheet level style link (LinkTo url ∷ ps) cells of (_, _, _, prints) =
     All-cons (λ p. IsOfSheet sheet p) (LinkTo url) ps tt (cells_of_sheet sheet level style (Some url) ps cells of prints)
 cells_of_sheet sheet level style link (LinkEnd ∷ ps) cells of (_, _, _, prints) =
@@ -164,14 +167,17 @@ row_woven sheet level ps row prints =
 
 none_woven : (sheet : Stylesheet) (ps : List Piece) → ps ≡ [] → AreWoven sheet ps [] []
 none_woven sheet ps none =
-    subst (λ (qs : List Piece). AreWoven sheet qs [] []) (sym none) record { plain_is = refl; links_are = refl; of_sheet = All-nil (λ p. IsOfSheet sheet p); ended = refl }
+    subst (λ (qs : List Piece). AreWoven sheet qs [] []) (sym none) record
+    { plain_is = refl; links_are = refl; of_sheet = All-nil (λ p. IsOfSheet sheet p); ended = refl }
 
 woven-append : (sheet : Stylesheet) (ps qs : List Piece) (plain more : List ℕ) (links others : List Url) → AreWoven sheet ps plain links
     → AreWoven sheet qs more others → AreWoven sheet (ps ++ qs) (plain ++ more) (links ++ others)
 woven-append sheet ps qs plain more links others first second =
     record {
-      plain_is = ap (λ (t : List ℕ). t ++ more) first.plain_is ∙ ap (λ (t : List ℕ). flat_map plain_piece ps ++ t) second.plain_is ∙ sym (flat_map-append plain_piece ps qs);
-      links_are = ap (λ (t : List Url). t ++ others) first.links_are ∙ ap (λ (t : List Url). flat_map piece_link ps ++ t) second.links_are ∙ sym (flat_map-append piece_link ps qs);
+      plain_is = ap (λ (t : List ℕ). t ++ more) first.plain_is ∙ ap (λ (t : List ℕ). flat_map plain_piece ps ++ t) second.plain_is
+          ∙ sym (flat_map-append plain_piece ps qs);
+      links_are = ap (λ (t : List Url). t ++ others) first.links_are ∙ ap (λ (t : List Url). flat_map piece_link ps ++ t) second.links_are
+          ∙ sym (flat_map-append piece_link ps qs);
       of_sheet = All-append (λ p. IsOfSheet sheet p) ps qs first.of_sheet second.of_sheet;
       ended = ended-append false ps qs first.ended second.ended;
     }
@@ -260,7 +266,20 @@ are_plain s h =
     let h3 = and_parts _ _ h4.0 in
     let h2 = and_parts _ _ h3.0 in
     let h1 = and_parts _ _ h2.0 in
-    record { error = h1.0; warning = h1.1; info = h2.1; note = h3.1; help = h4.1; line_num = h5.1; emphasis = h6.1; none = h7.1; context = h8.1; addition = h9.1; removal = h10.1 }
+    record {
+      error = h1.0;
+      warning = h1.1;
+      info = h2.1;
+      note = h3.1;
+      help = h4.1;
+      line_num = h5.1;
+      emphasis = h6.1;
+      none = h7.1;
+      context = h8.1;
+      addition =
+          h9.1;
+      removal = h10.1;
+    }
 
 plain_level : (sheet : Stylesheet) (level : LevelInner) → ArePlain sheet → is_plain_style (level_style sheet level) ≡ true
 plain_level sheet Error plain = plain.error
@@ -304,10 +323,12 @@ unstyled sheet (Char ch ∷ ps) plain of ended none =
     ap (λ (t : List ℕ). encode_utf8 ch ++ t) (unstyled sheet ps plain (All-tail (λ p. IsOfSheet sheet p) (Char ch) ps of) ended none)
 unstyled sheet (Opening s ∷ ps) plain of ended none =
     let here = plain_of sheet s plain (All-head (λ p. IsOfSheet sheet p) (Opening s) ps of) in
-    ap (λ (style : Style). encode_utf8_all (opening style) ++ flat_map piece_text ps) (plain_is_plain s here) ∙ unstyled sheet ps plain (All-tail (λ p. IsOfSheet sheet p) (Opening s) ps of) ended none
+    ap (λ (style : Style). encode_utf8_all (opening style) ++ flat_map piece_text ps) (plain_is_plain s here)
+    ∙ unstyled sheet ps plain (All-tail (λ p. IsOfSheet sheet p) (Opening s) ps of) ended none
 unstyled sheet (Reset s ∷ ps) plain of ended none =
     let here = plain_of sheet s plain (All-head (λ p. IsOfSheet sheet p) (Reset s) ps of) in
-    ap (λ (style : Style). encode_utf8_all (reset style) ++ flat_map piece_text ps) (plain_is_plain s here) ∙ unstyled sheet ps plain (All-tail (λ p. IsOfSheet sheet p) (Reset s) ps of) ended none
+    ap (λ (style : Style). encode_utf8_all (reset style) ++ flat_map piece_text ps) (plain_is_plain s here)
+    ∙ unstyled sheet ps plain (All-tail (λ p. IsOfSheet sheet p) (Reset s) ps of) ended none
 unstyled sheet (LinkTo url ∷ ps) plain of ended none = absurd (nil≢cons none)
 unstyled sheet (LinkEnd ∷ ps) plain of (ended, _) none = absurd (false≢true ended)
 

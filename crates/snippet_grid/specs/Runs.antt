@@ -94,7 +94,8 @@ ShowsMore old new runs_old runs_new run =
 -- the runs show from `at` on what others show from `from` to before `to`, and elsewhere what a third list shows
 abbrev pub ShowsCopy : List ℕ → List ℕ → List Run → List Run → List Run → ℕ → ℕ → ℕ → Type 0
 ShowsCopy old new out_old out_new runs from to at =
-    (r c : ℕ) → shown_cell new out_new r c ≡ (if nat_le at c && nat_lt c (at + (to - from)) then shown_cell old runs r (from + (c - at)) else shown_cell old out_old r c)
+    (r c : ℕ) → shown_cell new out_new r c ≡ (if nat_le at c && nat_lt c (at + (to - from)) then shown_cell old runs r
+    (from + (c - at)) else shown_cell old out_old r c)
 
 -- nothing is shown from this cell on
 abbrev pub IsClearFrom : List ℕ → List Run → ℕ → Type 0

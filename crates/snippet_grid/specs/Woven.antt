@@ -63,7 +63,8 @@ abbrev pub PrintsCells : Stylesheet → LevelInner → Option Style → Option (
 PrintsCells sheet level style link [] cells = (cells ≡ []) × (style ≡ None) × (link ≡ None)
 -- a character is that of the next cell, whose style and link are open
 PrintsCells sheet level style link (Char ch ∷ ps) cells =
-    (cell : Cell) × (rest : List Cell) × (cells ≡ cell ∷ rest) × (ch ≡ cell.ch) × (style ≡ Some (style_of sheet level cell.role)) × (link ≡ cell.link) × PrintsCells sheet level style link ps rest
+    (cell : Cell) × (rest : List Cell) × (cells ≡ cell ∷ rest) × (ch ≡ cell.ch) × (style ≡ Some (style_of sheet level cell.role)) × (link ≡ cell.link)
+    × PrintsCells sheet level style link ps rest
 -- a style opens where none is open, for the next cell
 PrintsCells sheet level style link (Opening new ∷ ps) cells =
     (style ≡ None) × (next_style sheet level cells ≡ Some new) × PrintsCells sheet level (Some new) link ps cells
@@ -85,7 +86,8 @@ PrintsRow sheet level pieces row = PrintsCells sheet level (Some sheet.none) Non
 abbrev pub PrintsFurther : Stylesheet → LevelInner → List Piece → List (List Cell) → Type 0
 PrintsFurther sheet level pieces [] = pieces ≡ []
 PrintsFurther sheet level pieces (row ∷ rows) =
-    (first : List Piece) × (others : List Piece) × (pieces ≡ Char 10 ∷ first ++ others) × PrintsRow sheet level first row × PrintsFurther sheet level others rows
+    (first : List Piece) × (others : List Piece) × (pieces ≡ Char 10 ∷ first ++ others) × PrintsRow sheet level first row
+    × PrintsFurther sheet level others rows
 
 -- these pieces print some rows, joined by line feeds
 abbrev pub PrintsRows : Stylesheet → LevelInner → List Piece → List (List Cell) → Type 0

@@ -89,7 +89,8 @@ fn part_at<'a>(
     requires runs { IsRow (string_bytes text.old) row runs.now }
     requires some { from < to }
     ensures text { BeginsWith (string_bytes text.old) (string_bytes text.new) }
-    ensures ok { IfOk result (λ part. IsPartOfRow (string_bytes text.new) row from to (λ c. shown_cell (string_bytes text.old) runs.now row c) part) }
+    ensures ok { IfOk result (λ part. IsPartOfRow (string_bytes text.new) row from to (λ c.
+        shown_cell (string_bytes text.old) runs.now row c) part) }
 {
     let next = begun_by(runs, row, from);
     if next > 0 {
@@ -115,7 +116,9 @@ fn change_row<'a>(
     requires runs { IsRow (string_bytes text.old) row runs.old.items }
     requires some { start ≤ end }
     ensures text { BeginsWith (string_bytes text.old) (string_bytes text.new) }
-    ensures ok { OnOk result (ShowsSpan (string_bytes text.old) (string_bytes text.new) runs.old.items runs.new.items row start end (λ c. changed_by change.entry (shown_cell (string_bytes text.old) runs.old.items row c))) }
+    ensures ok { OnOk result (ShowsSpan (string_bytes text.old)
+        (string_bytes text.new) runs.old.items runs.new.items row start end (λ c.
+        changed_by change.entry (shown_cell (string_bytes text.old) runs.old.items row c))) }
     ensures row { OnOk result (IsRow (string_bytes text.new) row runs.new.items) }
     ensures ends { (n : ℕ) → EndsBy n runs.old.items → end ≤ n → OnOk result (EndsBy n runs.new.items) }
     ensures count { OnOk result (length runs.new.items ≤ length runs.old.items + 2 * (end - start)) }
@@ -129,8 +132,8 @@ fn change_row<'a>(
     Ok(())
 }
 
-/// Changes the cells of a row from `start` to before `end`, as far as they are there, whatever runs they are part of: the row
-/// is changed in a copy, for which `fresh` has room, and then put in its place at once.
+/// Changes the cells of a row from `start` to before `end`, as far as they are there, whatever runs they are part of:
+/// the row is changed in a copy, for which `fresh` has room, and then put in its place at once.
 fn change_copied<'a>(
     text: &mut String,
     spare: &mut Spare<'a>,
@@ -143,10 +146,13 @@ fn change_copied<'a>(
     change: Change<'a>,
 ) -> Result<(), AllocError>
     requires grid { IsGrid (string_bytes text.old) runs.old.items widths.now }
-    ensures ok { OnOk result (grid_shown (string_bytes text.new) runs.new.items widths.now ≡ cells_changed (changed_by change.entry) (grid_shown (string_bytes text.old) runs.old.items widths.now) row start end) }
+    ensures ok { OnOk result (grid_shown (string_bytes text.new) runs.new.items widths.now
+        ≡ cells_changed (changed_by change.entry) (grid_shown
+        (string_bytes text.old) runs.old.items widths.now) row start end) }
     ensures grid { IsGrid (string_bytes text.new) runs.new.items widths.now }
     ensures runs_added { length runs.new.items ≤ length runs.old.items + 2 * (end - start) }
-    ensures err { OnErr result (grid_shown (string_bytes text.new) runs.new.items widths.now ≡ grid_shown (string_bytes text.old) runs.old.items widths.now) }
+    ensures err { OnErr result (grid_shown (string_bytes text.new) runs.new.items widths.now
+        ≡ grid_shown (string_bytes text.old) runs.old.items widths.now) }
 {
     let last = end.min(width_of(widths, row));
     if last <= start {
@@ -173,10 +179,13 @@ pub(crate) fn change_cells<'a>(
     change: Change<'a>,
 ) -> Result<(), AllocError>
     requires grid { IsGrid (string_bytes text.old) runs.old.items widths.now }
-    ensures ok { OnOk result (grid_shown (string_bytes text.new) runs.new.items widths.now ≡ cells_changed (changed_by change.entry) (grid_shown (string_bytes text.old) runs.old.items widths.now) row start end) }
+    ensures ok { OnOk result (grid_shown (string_bytes text.new) runs.new.items widths.now
+        ≡ cells_changed (changed_by change.entry) (grid_shown
+        (string_bytes text.old) runs.old.items widths.now) row start end) }
     ensures grid { IsGrid (string_bytes text.new) runs.new.items widths.now }
     ensures runs_added { length runs.new.items ≤ length runs.old.items + 2 * (end - start) }
-    ensures err { OnErr result (grid_shown (string_bytes text.new) runs.new.items widths.now ≡ grid_shown (string_bytes text.old) runs.old.items widths.now) }
+    ensures err { OnErr result (grid_shown (string_bytes text.new) runs.new.items widths.now
+        ≡ grid_shown (string_bytes text.old) runs.old.items widths.now) }
 {
     let last = end.min(width_of(widths, row));
     if last <= start {

@@ -71,7 +71,8 @@ impl SheetCodes {
     pub(crate) fn push_opening(&mut self, out: &mut String, place: usize) -> Result<(), AllocError>
         requires within { place < 11 }
         ensures sheet { self.new ≡ self.old }
-        ensures text { OnOk result (string_bytes out.new ≡ string_bytes out.old ++ opening_bytes (style_at self.old place)) }
+        ensures text { OnOk result (string_bytes out.new ≡ string_bytes out.old
+            ++ opening_bytes (style_at self.old place)) }
     {
         if let Some(code) = &self.codes[place] {
             return out.push_str(code.as_str());
@@ -120,7 +121,8 @@ pub(crate) const NONE: usize = 7;
 
 /// The place of the style of a cell of this role, in a group of this level.
 pub(crate) fn place_of(level: LevelInner, role: ElementStyle) -> usize
-    ensures place { (sheet : Stylesheet) (d : Style) → slice_index_or (styles_in sheet) result d ≡ spec.style_of sheet level role }
+    ensures place { (sheet : Stylesheet) (d : Style) → slice_index_or (styles_in sheet) result d
+        ≡ spec.style_of sheet level role }
     ensures within { result < 11 }
 {
     match role {
@@ -140,7 +142,8 @@ pub(crate) fn place_of(level: LevelInner, role: ElementStyle) -> usize
 
 /// Where the style of a level stands among them.
 fn level_place(level: LevelInner) -> usize
-    ensures place { (sheet : Stylesheet) (d : Style) → slice_index_or (styles_in sheet) result d ≡ spec.level_style sheet level }
+    ensures place { (sheet : Stylesheet) (d : Style) → slice_index_or (styles_in sheet) result d
+        ≡ spec.level_style sheet level }
     ensures within { result < 11 }
 {
     match level {

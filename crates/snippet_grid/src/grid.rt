@@ -56,7 +56,8 @@ impl<'a> Model for StyledBuffer<'a> {
 
     ghost view = { λ b. grid_shown (string_bytes b.text) b.runs.items b.widths.items };
 
-    ghost invariant = { λ b. IsGrid (string_bytes b.text) b.runs.items b.widths.items × IsRowNumber (length b.widths.items) };
+    ghost invariant = { λ b. IsGrid (string_bytes b.text) b.runs.items b.widths.items
+        × IsRowNumber (length b.widths.items) };
 }
 
 impl<'a> StyledBuffer<'a> {
@@ -338,7 +339,8 @@ impl<'a> StyledBuffer<'a> {
         codes: &mut SheetCodes,
     ) -> Result<String, AllocError>
         ensures sheet { codes.new ≡ codes.old }
-        ensures added { IfOk result (λ text. WeavesRows codes.old level self.now (string_bytes before) (string_bytes text)) }
+        ensures added { IfOk result (λ text. WeavesRows codes.old level self.now (string_bytes before)
+            (string_bytes text)) }
     {
         let mut text = before;
         // Codes take about as much as the text itself.

@@ -4,7 +4,8 @@
 //! stays. All other runs keep their places.
 ghost use Rattle.std.specs.Prelude.{◌≡◌, ◌+◌, ◌-◌, ◌<◌, ◌≤◌, ◌++◌, ℕ, List, [], true, false, length, take, drop};
 ghost use Rattle.std.specs.Prelude.{All, OnOk, OnErr, string_bytes, option_to_list};
-ghost use Rattle.snippet_grid.specs.Runs.{IsRun, BeginsWith, Precedes, Differ, IsClear, ReachesTo, Touches, AreTouchedRuns};
+ghost use Rattle.snippet_grid.specs.Runs.{IsRun, BeginsWith, Precedes, Differ, IsClear, ReachesTo, Touches};
+ghost use Rattle.snippet_grid.specs.Runs.{AreTouchedRuns};
 ghost use Rattle.snippet_grid.specs.Runs.{IsFront, IsBack, ArePieces, IsPut};
 ghost use Rattle.snippet_grid.specs.declared.runs.Run.{Run};
 ghost use Rattle.std.specs.List.{AllPairs, slice_index_or};
@@ -100,7 +101,8 @@ fn add_pieces<'a>(
     requires touched { AreTouchedRuns (string_bytes text.old) run.now touched.now }
     requires run { IsRun (string_bytes text.old) run.now }
     ensures text { BeginsWith (string_bytes text.old) (string_bytes text.new) }
-    ensures pieces { OnOk result (ArePieces (string_bytes text.old) (string_bytes text.new) touched.now pieces.new.items run.now) }
+    ensures pieces { OnOk result (ArePieces (string_bytes text.old)
+        (string_bytes text.new) touched.now pieces.new.items run.now) }
 {
     let front = front_of(text.as_str(), touched, run);
     let back = back_of(text.as_str(), touched, run);
@@ -142,7 +144,8 @@ pub(crate) fn exchange<'a>(
 ) -> Result<(), AllocError>
     requires ordered { start ≤ end }
     requires within { end ≤ length runs.old.items }
-    ensures ok { OnOk result (runs.new.items ≡ take start runs.old.items ++ fresh.old.items ++ drop end runs.old.items) }
+    ensures ok { OnOk result (runs.new.items ≡ take start runs.old.items ++ fresh.old.items
+        ++ drop end runs.old.items) }
     ensures err { OnErr result (runs.new.items ≡ runs.old.items) }
 {
     let count = end - start;
@@ -178,7 +181,8 @@ pub(crate) fn put_run<'a>(
     requires apart { AllPairs (λ a b. Differ a b) runs.old.items }
     requires run { IsRun (string_bytes text.old) run.now }
     ensures text { BeginsWith (string_bytes text.old) (string_bytes text.new) }
-    ensures ok { OnOk result (IsPut (string_bytes text.old) (string_bytes text.new) runs.old.items runs.new.items run.now) }
+    ensures ok { OnOk result (IsPut (string_bytes text.old)
+        (string_bytes text.new) runs.old.items runs.new.items run.now) }
     ensures err { OnErr result (runs.new.items ≡ runs.old.items) }
 {
     let old = runs.as_slice();

@@ -29,7 +29,9 @@ fn add_word<'a>(
     requires before { EndsBy at out.old.items }
     requires fits { IsUsize (at + length (chars word.now)) }
     ensures text { BeginsWith (string_bytes text.old) (string_bytes text.new) }
-    ensures ok { OnOk result (ShowsSpan (string_bytes text.old) (string_bytes text.new) out.old.items out.new.items row at (at + length (chars word.now)) (λ c. slice_index_or (text_cells role (chars word.now)) (c - at) SPACE)) }
+    ensures ok { OnOk result (ShowsSpan (string_bytes text.old)
+        (string_bytes text.new) out.old.items out.new.items row at (at + length (chars word.now)) (λ c.
+        slice_index_or (text_cells role (chars word.now)) (c - at) SPACE)) }
     ensures row { OnOk result (IsRow (string_bytes text.new) row out.new.items) }
     ensures ends { OnOk result (EndsBy (at + length (chars word.now)) out.new.items) }
     ensures count { OnOk result (length out.new.items ≤ length out.old.items + 1) }
@@ -57,9 +59,11 @@ fn replaced_row<'a>(
     requires fits { IsUsize (start + length (chars word.now)) }
     requires moved { All (λ x. FitsMoved end (start + length (chars word.now)) x) runs.now }
     ensures text { BeginsWith (string_bytes text.old) (string_bytes text.new) }
-    ensures ok { OnOk result (ShowsReplaced (string_bytes text.old) (string_bytes text.new) runs.now spare.new.runs.items row start end (text_cells role (chars word.now))) }
+    ensures ok { OnOk result (ShowsReplaced (string_bytes text.old)
+        (string_bytes text.new) runs.now spare.new.runs.items row start end (text_cells role (chars word.now))) }
     ensures row { OnOk result (IsRow (string_bytes text.new) row spare.new.runs.items) }
-    ensures ends { (n : ℕ) → EndsBy n runs.now → OnOk result (EndsBy (start + length (chars word.now) + (n - end)) spare.new.runs.items) }
+    ensures ends { (n : ℕ) → EndsBy n runs.now → OnOk result
+        (EndsBy (start + length (chars word.now) + (n - end)) spare.new.runs.items) }
     ensures count { OnOk result (length spare.new.runs.items ≤ length runs.now + 2) }
 {
     let copy = &mut spare.text;
@@ -84,13 +88,16 @@ pub(crate) fn replace_cells<'a>(
     role: ElementStyle,
 ) -> Result<(), AllocError>
     requires grid { IsGrid (string_bytes text.old) runs.old.items widths.old.items }
-    ensures ok { OnOk result (grid_shown (string_bytes text.new) runs.new.items widths.new.items ≡ cells_replaced (grid_shown (string_bytes text.old) runs.old.items widths.old.items) row start end (text_cells role (chars word.now))) }
+    ensures ok { OnOk result (grid_shown (string_bytes text.new) runs.new.items widths.new.items
+        ≡ cells_replaced (grid_shown (string_bytes text.old) runs.old.items widths.old.items) row start end
+        (text_cells role (chars word.now))) }
     ensures grid { IsGrid (string_bytes text.new) runs.new.items widths.new.items }
     ensures runs_added { length runs.new.items ≤ length runs.old.items + 2 }
     ensures rows { length widths.new.items ≡ length widths.old.items }
     ensures empty_succeeds { end ≤ start → IsOk result }
     ensures past_succeeds { slice_index_or widths.old.items row 0 < end → IsOk result }
-    ensures err { OnErr result (grid_shown (string_bytes text.new) runs.new.items widths.new.items ≡ grid_shown (string_bytes text.old) runs.old.items widths.old.items) }
+    ensures err { OnErr result (grid_shown (string_bytes text.new) runs.new.items widths.new.items
+        ≡ grid_shown (string_bytes text.old) runs.old.items widths.old.items) }
 {
     let width = width_of(widths, row);
     if end <= start || width < end {

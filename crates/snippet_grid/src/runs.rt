@@ -88,8 +88,8 @@ fn stands_at(text: &str, at: usize, run: &Run<'_>) -> bool
     bytes[at..at + len] == bytes[run.start..run.end]
 }
 
-/// Adds to a run another one, which goes on where it ends. Where the text goes on with the second's characters, nothing is
-/// copied.
+/// Adds to a run another one, which goes on where it ends. Where the text goes on with the second's characters, nothing
+/// is copied.
 pub(crate) fn join<'a>(
     text: &mut String,
     copy: &mut String,
@@ -128,7 +128,8 @@ pub(crate) fn add_run<'a>(
     requires runs { All (λ old. IsRun (string_bytes text.old) old) runs.old.items }
     requires run { IsRun (string_bytes text.old) run.now }
     ensures text { BeginsWith (string_bytes text.old) (string_bytes text.new) }
-    ensures ok { OnOk result (ShowsMore (string_bytes text.old) (string_bytes text.new) runs.old.items runs.new.items run.now) }
+    ensures ok { OnOk result (ShowsMore (string_bytes text.old)
+        (string_bytes text.new) runs.old.items runs.new.items run.now) }
     ensures are_runs { OnOk result (All (λ new. IsRun (string_bytes text.new) new) runs.new.items) }
     ensures adds { OnOk result (AddsRun runs.old.items runs.new.items run.now) }
     ensures err { OnErr result (runs.new.items ≡ runs.old.items) }
@@ -214,7 +215,8 @@ pub(crate) fn copy_cells<'a>(
     requires runs { IsRow (string_bytes text.old) row runs.now }
     requires fits { All (λ x. FitsMoved from at x) runs.now }
     ensures text { BeginsWith (string_bytes text.old) (string_bytes text.new) }
-    ensures ok { OnOk result (ShowsCopy (string_bytes text.old) (string_bytes text.new) out.old.items out.new.items runs.now from to at) }
+    ensures ok { OnOk result (ShowsCopy (string_bytes text.old)
+        (string_bytes text.new) out.old.items out.new.items runs.now from to at) }
     ensures row { OnOk result (IsRow (string_bytes text.new) row out.new.items) }
     ensures ends { OnOk result (EndsBy (at + (to - from)) out.new.items) }
     ensures tight { (n : ℕ) → EndsBy n runs.now → OnOk result (EndsBy (at + (min n to - from)) out.new.items) }
@@ -244,13 +246,14 @@ fn begins_after(run: &Run<'_>, row: usize, cell: usize) -> bool
     row < run.row || row == run.row && cell < run.cell
 }
 
-/// A stretch of places in which the number of the runs that begin by a cell lies. It is looked for from the last run on, in
-/// steps that double, since most of what is drawn stands near what was drawn last.
+/// A stretch of places in which the number of the runs that begin by a cell lies. It is looked for from the last run
+/// on, in steps that double, since most of what is drawn stands near what was drawn last.
 fn begun_between(runs: &[Run<'_>], row: usize, cell: usize) -> (usize, usize)
     requires ordered { AllPairs (λ a b. Precedes a b) runs.now }
     ensures bounds { result.0 ≤ result.1 × (result.1 ≤ length runs.now) }
     ensures begun { (k : ℕ) (d : Run) → k < result.0 → BeginsBy row cell (slice_index_or runs.now k d) }
-    ensures later { (k : ℕ) (d : Run) → result.1 ≤ k → k < length runs.now → BeginsAfter row cell (slice_index_or runs.now k d) }
+    ensures later { (k : ℕ) (d : Run) → result.1 ≤ k → k < length runs.now
+        → BeginsAfter row cell (slice_index_or runs.now k d) }
 {
     let mut high = runs.len();
     let mut step = 1;
@@ -270,7 +273,8 @@ pub(crate) fn begun_by(runs: &[Run<'_>], row: usize, cell: usize) -> usize
     requires ordered { AllPairs (λ a b. Precedes a b) runs.now }
     ensures within { result ≤ length runs.now }
     ensures begun { (k : ℕ) (d : Run) → k < result → BeginsBy row cell (slice_index_or runs.now k d) }
-    ensures later { (k : ℕ) (d : Run) → result ≤ k → k < length runs.now → BeginsAfter row cell (slice_index_or runs.now k d) }
+    ensures later { (k : ℕ) (d : Run) → result ≤ k → k < length runs.now
+        → BeginsAfter row cell (slice_index_or runs.now k d) }
 {
     let (mut low, mut high) = begun_between(runs, row, cell);
     while low < high {

@@ -47,7 +47,8 @@ pub(crate) fn weave_rows(
 ) -> Result<(), AllocError>
     requires grid { IsGrid text.now runs.now widths.now }
     ensures sheet { codes.new ≡ codes.old }
-    ensures text { OnOk result (WeavesRows codes.old level (grid_shown text.now runs.now widths.now) (string_bytes out.old) (string_bytes out.new)) }
+    ensures text { OnOk result (WeavesRows codes.old level (grid_shown text.now runs.now widths.now)
+        (string_bytes out.old) (string_bytes out.new)) }
 {
     let mut from = 0;
     for row in 0..widths.len() {
@@ -90,7 +91,8 @@ fn weave_row(
     requires runs { IsRow text.now row runs.now }
     requires ends { EndsBy width runs.now }
     ensures sheet { codes.new ≡ codes.old }
-    ensures text { OnOk result (WeavesRow codes.old level (cells_to text.now runs.now row width) (string_bytes out.old) (string_bytes out.new)) }
+    ensures text { OnOk result (WeavesRow codes.old level (cells_to text.now runs.now row width) (string_bytes out.old)
+        (string_bytes out.new)) }
 {
     let mut last = SPACE;
     let mut col = 0;
@@ -126,7 +128,9 @@ fn weave_stretch(
     requires some { 0 < length (chars word.now) }
     requires within { last.place < 11 × (next.place < 11) }
     ensures sheet { codes.new ≡ codes.old }
-    ensures text { OnOk result (PrintsStretch (chars word.now) (style_at codes.old last.entry.place) (style_at codes.old next.entry.place) (option_copied last.entry.link) (option_copied next.entry.link) (string_bytes out.old) (string_bytes out.new)) }
+    ensures text { OnOk result (PrintsStretch (chars word.now) (style_at codes.old last.entry.place)
+        (style_at codes.old next.entry.place) (option_copied last.entry.link) (option_copied next.entry.link)
+        (string_bytes out.old) (string_bytes out.new)) }
 {
     end_link(out, last.link, next.link)?;
     change_style(out, codes, last.place, next.place)?;
@@ -143,7 +147,8 @@ fn weave_gap(
 ) -> Result<(), AllocError>
     requires within { last.place < 11 }
     ensures sheet { codes.new ≡ codes.old }
-    ensures text { OnOk result (PrintsStretch (replicate count 32) (style_at codes.old last.entry.place) codes.old.none (option_copied last.entry.link) None (string_bytes out.old) (string_bytes out.new)) }
+    ensures text { OnOk result (PrintsStretch (replicate count 32) (style_at codes.old last.entry.place) codes.old.none
+        (option_copied last.entry.link) None (string_bytes out.old) (string_bytes out.new)) }
 {
     end_link(out, last.link, None)?;
     change_style(out, codes, last.place, NONE)?;
@@ -152,9 +157,11 @@ fn weave_gap(
 
 /// Ends the link that is open, unless it goes on.
 fn end_link(out: &mut String, last: Option<&str>, next: Option<&str>) -> Result<(), AllocError>
-    ensures kept { OnOk result (option_copied last.entry ≡ option_copied next.entry → string_bytes out.new ≡ string_bytes out.old) }
+    ensures kept { OnOk result (option_copied last.entry ≡ option_copied next.entry → string_bytes out.new
+        ≡ string_bytes out.old) }
     ensures none { OnOk result (option_copied last.entry ≡ None → string_bytes out.new ≡ string_bytes out.old) }
-    ensures ended { OnOk result (option_copied last.entry ≢ None → option_copied last.entry ≢ option_copied next.entry → string_bytes out.new ≡ string_bytes out.old ++ flat_map piece_text (LinkEnd ∷ [])) }
+    ensures ended { OnOk result (option_copied last.entry ≢ None → option_copied last.entry ≢ option_copied next.entry
+        → string_bytes out.new ≡ string_bytes out.old ++ flat_map piece_text (LinkEnd ∷ [])) }
 {
     if last.is_some() && last != next {
         out.push_str("\u{1b}]8;;\u{1b}\\")?;
@@ -171,9 +178,11 @@ fn change_style(
 ) -> Result<(), AllocError>
     requires within { last < 11 × (next < 11) }
     ensures sheet { codes.new ≡ codes.old }
-    ensures kept { OnOk result (style_at codes.old last ≡ style_at codes.old next → string_bytes out.new ≡ string_bytes out.old) }
+    ensures kept { OnOk result (style_at codes.old last ≡ style_at codes.old next → string_bytes out.new
+        ≡ string_bytes out.old) }
     ensures changed { OnOk result (style_at codes.old last ≢ style_at codes.old next
-        → string_bytes out.new ≡ string_bytes out.old ++ flat_map piece_text (Reset (style_at codes.old last) ∷ Opening (style_at codes.old next) ∷ [])) }
+        → string_bytes out.new ≡ string_bytes out.old
+        ++ flat_map piece_text (Reset (style_at codes.old last) ∷ Opening (style_at codes.old next) ∷ [])) }
 {
     if codes.differ(last, next) {
         out.push_str(reset_code(codes.style_at(last)))?;
@@ -184,9 +193,12 @@ fn change_style(
 
 /// Begins the next link, if there is one, unless it was open before.
 fn begin_link(out: &mut String, last: Option<&str>, next: Option<&str>) -> Result<(), AllocError>
-    ensures kept { OnOk result (option_copied last.entry ≡ option_copied next.entry → string_bytes out.new ≡ string_bytes out.old) }
+    ensures kept { OnOk result (option_copied last.entry ≡ option_copied next.entry → string_bytes out.new
+        ≡ string_bytes out.old) }
     ensures none { OnOk result (option_copied next.entry ≡ None → string_bytes out.new ≡ string_bytes out.old) }
-    ensures begun { OnOk result ((url : List ℕ) → option_copied next.entry ≡ Some url → option_copied last.entry ≢ Some url → string_bytes out.new ≡ string_bytes out.old ++ flat_map piece_text (LinkTo url ∷ [])) }
+    ensures begun { OnOk result ((url : List ℕ) → option_copied next.entry ≡ Some url
+        → option_copied last.entry ≢ Some url → string_bytes out.new ≡ string_bytes out.old
+        ++ flat_map piece_text (LinkTo url ∷ [])) }
 {
     if last == next {
         return Ok(());

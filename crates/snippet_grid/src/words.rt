@@ -65,7 +65,8 @@ fn make_room(widths: &mut Vec<usize>, row: usize) -> Result<(), AllocError>
     requires row { HasNext row }
     ensures items { widths.new.items ≡ widths.old.items }
     ensures room { OnOk result (row + 1 ≤ vec_capacity widths.new) }
-    ensures few { OnOk result (IsRowNumber (length widths.old.items) → IsRowNumber (max (length widths.old.items) (row + 1))) }
+    ensures few { OnOk result (IsRowNumber (length widths.old.items)
+        → IsRowNumber (max (length widths.old.items) (row + 1))) }
 {
     let len = widths.len();
     if row < len {
@@ -136,11 +137,14 @@ fn place_run<'a>(
     requires run { IsRun (string_bytes text.old) run.now }
     requires unlinked { option_copied run.now.link ≡ None }
     requires row { HasNext run.now.row }
-    ensures ok { OnOk result (grid_shown (string_bytes text.new) runs.new.items widths.new.items ≡ cells_written (grid_shown (string_bytes text.old) runs.old.items widths.old.items) run.now.row run.now.cell (text_cells run.now.role (run_chars (string_bytes text.old) run.now))) }
+    ensures ok { OnOk result (grid_shown (string_bytes text.new) runs.new.items widths.new.items
+        ≡ cells_written (grid_shown (string_bytes text.old) runs.old.items widths.old.items) run.now.row run.now.cell
+        (text_cells run.now.role (run_chars (string_bytes text.old) run.now))) }
     ensures grid { IsGrid (string_bytes text.new) runs.new.items widths.new.items }
     ensures runs_added { length runs.new.items ≤ length runs.old.items + 2 }
     ensures rows { IsRowNumber (length widths.old.items) → IsRowNumber (length widths.new.items) }
-    ensures err { OnErr result (grid_shown (string_bytes text.new) runs.new.items widths.new.items ≡ grid_shown (string_bytes text.old) runs.old.items widths.old.items) }
+    ensures err { OnErr result (grid_shown (string_bytes text.new) runs.new.items widths.new.items
+        ≡ grid_shown (string_bytes text.old) runs.old.items widths.old.items) }
 {
     make_room(widths, run.row)?;
     put_run(text, spare, runs, run)?;
@@ -163,11 +167,14 @@ pub(crate) fn write_word<'a>(
     requires row { HasNext row }
     requires end { IsUsize (at + length (chars word.now)) }
     requires some { 0 < length (chars word.now) }
-    ensures ok { OnOk result (grid_shown (string_bytes text.new) runs.new.items widths.new.items ≡ cells_written (grid_shown (string_bytes text.old) runs.old.items widths.old.items) row at (text_cells role (chars word.now))) }
+    ensures ok { OnOk result (grid_shown (string_bytes text.new) runs.new.items widths.new.items
+        ≡ cells_written (grid_shown (string_bytes text.old) runs.old.items widths.old.items) row at
+        (text_cells role (chars word.now))) }
     ensures grid { IsGrid (string_bytes text.new) runs.new.items widths.new.items }
     ensures runs_added { length runs.new.items ≤ length runs.old.items + 2 }
     ensures rows { IsRowNumber (length widths.old.items) → IsRowNumber (length widths.new.items) }
-    ensures err { OnErr result (grid_shown (string_bytes text.new) runs.new.items widths.new.items ≡ grid_shown (string_bytes text.old) runs.old.items widths.old.items) }
+    ensures err { OnErr result (grid_shown (string_bytes text.new) runs.new.items widths.new.items
+        ≡ grid_shown (string_bytes text.old) runs.old.items widths.old.items) }
 {
     make_first_room(text, runs, widths)?;
     let run = push_word(text, row, at, word, role)?;

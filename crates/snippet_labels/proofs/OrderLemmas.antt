@@ -26,7 +26,8 @@ from_neighbours R same trans es next i (suc j) d before within =
     let one : j + 1 ≡ suc j = omega arith in
     elim (cases_lt i (suc j)) [
       | inl less ↦
-          trans _ (get_or es j d) _ (from_neighbours R same trans es next i j d (omega arith) (omega arith)) (subst (λ n. R (get_or es j d) (get_or es n d)) one (next j d (omega arith)))
+          trans _ (get_or es j d) _ (from_neighbours R same trans es next i j d (omega arith) (omega arith))
+          (subst (λ n. R (get_or es j d) (get_or es n d)) one (next j d (omega arith)))
       | inr more ↦
           let here : i ≡ suc j = omega arith in
           subst (λ n. R (get_or es i d) (get_or es n d)) here (same (get_or es i d))
@@ -40,7 +41,8 @@ entries_next : (R : LineAnnotation → LineAnnotation → Type 0) (first : Place
 entries_next R first ps next k d within =
     let f : PlacedEntry → LineAnnotation = λ e. e.entry in
     let fits : k + 1 < length ps = omega (arith, within, length-map ps f) in
-    subst (λ e. R e (get_or (map f ps) (k + 1) d)) (sym (get_or-map f ps k first d (omega arith))) (subst (R (get_or ps k first).entry) (sym (get_or-map f ps (k + 1) first d fits)) (next k fits))
+    subst (λ e. R e (get_or (map f ps) (k + 1) d)) (sym (get_or-map f ps k first d (omega arith)))
+    (subst (R (get_or ps k first).entry) (sym (get_or-map f ps (k + 1) first d fits)) (next k fits))
 
 -- the key that entries are placed by
 abbrev pub place_key : PlacedEntry → Reverse (ℕ × ℕ)
@@ -57,7 +59,12 @@ StandsLeft-trans : (a b c : LineAnnotation) → StandsLeft a b → StandsLeft b 
 StandsLeft-trans a b c first second =
     record {
       column = omega (arith, first.column, second.column);
-      character = λ same. omega (arith, first.character (omega (arith, first.column, second.column, same)), second.character (omega (arith, first.column, second.column, same)));
+      character = λ same. omega (
+        arith,
+        first.character (omega (arith, first.column, second.column, same)),
+        second.character
+            (omega (arith, first.column, second.column, same)),
+      );
     }
 
 -- entries that are sorted by that key stand from right to left
@@ -100,7 +107,8 @@ place_order : IsStrictWeakOrder placed_before
 unfolding placed_before
 place_order = record {
   one_way = λ x y h. place_one_way x.entry.start.display x.entry.start.char y.entry.start.display y.entry.start.char h;
-  chain = λ x y z g h. place_chain x.entry.start.display x.entry.start.char y.entry.start.display y.entry.start.char z.entry.start.display z.entry.start.char g h;
+  chain = λ x y z g h. place_chain x.entry.start.display x.entry.start.char y.entry.start.display y.entry.start.char z.entry.start.display
+      z.entry.start.char g h;
 }
 
 -- a stable sort by one test is one by a test that answers the same
@@ -122,7 +130,9 @@ pub order_of_sort : (given sorted : List PlacedEntry) → IsSortedBy place_less 
 unfolding placed_before
 order_of_sort given sorted up stable =
     let f : PlacedEntry → LineAnnotation = λ e. e.entry in
-    let same : (x y : PlacedEntry) → place_less x y ≡ placed_before x y = λ x y. place_tells x.entry.start.display x.entry.start.char y.entry.start.display y.entry.start.char in
-    ap (map f) (sorted-only placed_before place_order given sorted (sorted_same place_less placed_before same sorted up) (stable_same place_less placed_before same given sorted stable)) ∙ map-ordered_by f is_placed_before given
+    let same : (x y : PlacedEntry) → place_less x y ≡ placed_before x y = λ x y.
+    place_tells x.entry.start.display x.entry.start.char y.entry.start.display y.entry.start.char in
+    ap (map f) (sorted-only placed_before place_order given sorted (sorted_same place_less placed_before same sorted up)
+    (stable_same place_less placed_before same given sorted stable)) ∙ map-ordered_by f is_placed_before given
 
 -- ---- the order of painting

@@ -27,7 +27,8 @@ pub positions_more : (ps : List ℕ) (es : List PlacedEntry) (all : List ℕ) (i
 positions_more ps es all i reached d within so_far =
     let e = get_or es i d in
     let others = drop (i + 1) es in
-    append_assoc ps (position_at reached e others ∷ []) (positions (position_after (position_at reached e others) e others) others) ∙ sym (ap (λ xs. ps ++ positions reached xs) (drop_more es i d within)) ∙ so_far
+    append_assoc ps (position_at reached e others ∷ []) (positions (position_after (position_at reached e others) e others) others)
+    ∙ sym (ap (λ xs. ps ++ positions reached xs) (drop_more es i d within)) ∙ so_far
 
 -- the position reached grows by one at most, from 1 on
 pub reached_low : (reached i : ℕ) (e : PlacedEntry) (others : List PlacedEntry) → reached ≤ i + 1
@@ -40,7 +41,8 @@ pub placed_more : (es first : List PlacedEntry) (ps : List ℕ) (i : ℕ) (e : P
     → map (λ (x : PlacedEntry). x.position) (take i es) ≡ take i ps → e.position ≡ get_or ps i 0
     → map (λ (x : PlacedEntry). x.position) (take (i + 1) (set es i e)) ≡ take (i + 1) ps
 placed_more es first ps i e within within_ps so_far is =
-    ap (map (λ (x : PlacedEntry). x.position)) (take_more_set es i e within) ∙ map-push (take i es) e ∙ ap (λ xs. xs ++ e.position ∷ []) so_far ∙ ap (λ p. take i ps ++ p ∷ []) is ∙ sym (take_more ps i 0 within_ps)
+    ap (map (λ (x : PlacedEntry). x.position)) (take_more_set es i e within) ∙ map-push (take i es) e ∙ ap (λ xs. xs ++ e.position ∷ []) so_far
+    ∙ ap (λ p. take i ps ++ p ∷ []) is ∙ sym (take_more ps i 0 within_ps)
   where
     map-push : (xs : List PlacedEntry) (x : PlacedEntry)
         → map (λ (y : PlacedEntry). y.position) (xs ++ x ∷ []) ≡ map (λ (y : PlacedEntry). y.position) xs ++ x.position ∷ []
@@ -88,7 +90,8 @@ module _ (f : PlacedEntry → PlacedEntry)
 
   pub line_positions-changed : (es : List PlacedEntry) → line_positions (map f es) ≡ line_positions es
   line_positions-changed es =
-      ap (λ b. cond b (flipped (positions 0 (map f es))) (positions 0 (map f es))) (are_starts-changed es) ∙ ap (λ ps. cond (are_starts es) (flipped ps) ps) (positions-changed 0 es)
+      ap (λ b. cond b (flipped (positions 0 (map f es))) (positions 0 (map f es))) (are_starts-changed es)
+      ∙ ap (λ ps. cond (are_starts es) (flipped ps) ps) (positions-changed 0 es)
 
 -- what doesn't look at positions is kept where nothing else changes
 pub all_kept : (P : PlacedEntry → Type 0) (es fs : List PlacedEntry) → ((e : PlacedEntry) → P (unplaced e) → P e) → ((e : PlacedEntry) → P e → P (unplaced e))
@@ -96,7 +99,8 @@ pub all_kept : (P : PlacedEntry → Type 0) (es fs : List PlacedEntry) → ((e :
 all_kept P es fs back forth kept all k d within =
     let long : length es ≡ length fs = sym (length-map es unplaced) ∙ ap length kept ∙ length-map fs unplaced in
     let inside : k < length fs = omega (arith, long, within) in
-    let same : unplaced (get_or es k d) ≡ unplaced (get_or fs k d) = sym (get_or-map unplaced es k d (unplaced d) within) ∙ ap (λ xs. get_or xs k (unplaced d)) kept ∙ get_or-map unplaced fs k d (unplaced d) inside in
+    let same : unplaced (get_or es k d) ≡ unplaced (get_or fs k d) = sym (get_or-map unplaced es k d (unplaced d) within)
+    ∙ ap (λ xs. get_or xs k (unplaced d)) kept ∙ get_or-map unplaced fs k d (unplaced d) inside in
     back (get_or es k d) (subst P (sym same) (forth (get_or fs k d) (all k d inside)))
 
 pub entries_kept : (es fs : List PlacedEntry) → map unplaced es ≡ map unplaced fs
@@ -124,7 +128,8 @@ line_positions_kept es fs kept = sym (line_positions-unplaced es) ∙ ap line_po
 pub written_back : (xs ys : List PlacedEntry) (len : ℕ) → len ≡ length ys → map unplaced xs ≡ map unplaced ys → take len (xs ++ drop (length xs) ys) ≡ xs
 written_back xs ys len is kept =
     let long : length xs ≡ length ys = sym (length-map xs unplaced) ∙ ap length kept ∙ length-map ys unplaced in
-    ap (λ rest. take len (xs ++ rest)) (drop_all (length xs) ys (omega (arith, long))) ∙ ap (take len) (append-nil xs) ∙ take_all len xs (omega (arith, is, long))
+    ap (λ rest. take len (xs ++ rest)) (drop_all (length xs) ys (omega (arith, long))) ∙ ap (take len) (append-nil xs)
+    ∙ take_all len xs (omega (arith, is, long))
 
 -- entries that were put in an order and got the positions of it are placed
 pub ArePlaced-from : (es : List LineAnnotation) (labelled sorted placed : List PlacedEntry) (ps : List ℕ)
@@ -136,7 +141,8 @@ ArePlaced-from es labelled sorted placed ps entries labels bytes same order orde
     let f : PlacedEntry → LineAnnotation = λ e. e.entry in
     record {
       order = entries_kept placed sorted kept ∙ order ∙ ap (ordered_by is_placed_before) entries;
-      same = subst (IsPermutation es) (sym (entries_kept placed sorted kept)) (subst (λ xs. IsPermutation xs (map f sorted)) entries (IsPermutation-map f labelled sorted same));
+      same = subst (IsPermutation es) (sym (entries_kept placed sorted kept))
+          (subst (λ xs. IsPermutation xs (map f sorted)) entries (IsPermutation-map f labelled sorted same));
       from_right = subst IsFromRight (sym (entries_kept placed sorted kept)) ordered;
       labels = all_kept HasItsLabel placed sorted (λ e has. has) (λ e has. has) kept (All-permutation HasItsLabel labelled sorted same labels);
       bytes = all_kept HasItsBytes placed sorted (λ e has. has) (λ e has. has) kept (All-permutation HasItsBytes labelled sorted same bytes);
@@ -160,7 +166,8 @@ any_front q (suc n) (x ∷ xs) none =
 -- an entry that asks for no row crowds no other
 uncrowding : (p : ℕ) (e other : PlacedEntry) → asks other ≡ false → crowds p e other ≡ false
 uncrowding p e other none =
-    by_tests (takes_space e) (has_label e) (has_label other) (takes_space other) (do_overlap other (length (cow_str_bytes other.label) + 2) e) (has_label e || (p == 0 && ends_no_later other e)) none
+    by_tests (takes_space e) (has_label e) (has_label other) (takes_space other) (do_overlap other (length (cow_str_bytes other.label) + 2) e)
+    (has_label e || (p == 0 && ends_no_later other e)) none
   where
     by_tests : (own_space own_label label space overlap wide : Bool) → (label || space) ≡ false
         → (((own_space && (label || space)) || (own_label && space)) || (label && overlap && wide)) ≡ false

@@ -35,12 +35,14 @@ has_stem e = nat_lt 0 e.position && (has_label e || takes_space e)
 -- whether one of two entries starts in the columns of the other, those of the first being `more` more
 abbrev pub do_overlap : PlacedEntry → ℕ → PlacedEntry → Bool
 do_overlap e more f =
-    (nat_le f.entry.start.display e.entry.start.display && nat_lt e.entry.start.display f.entry.end.display) || (nat_le e.entry.start.display f.entry.start.display && nat_lt f.entry.start.display (e.entry.end.display + more))
+    (nat_le f.entry.start.display e.entry.start.display && nat_lt e.entry.start.display f.entry.end.display)
+    || (nat_le e.entry.start.display f.entry.start.display && nat_lt f.entry.start.display (e.entry.end.display + more))
 
 -- whether two entries have the same start and the same end, in columns and in characters
 abbrev pub is_same_place : PlacedEntry → PlacedEntry → Bool
 is_same_place e f =
-    e.entry.start.display == f.entry.start.display && e.entry.start.char == f.entry.start.char && e.entry.end.display == f.entry.end.display && e.entry.end.char == f.entry.end.char
+    e.entry.start.display == f.entry.start.display && e.entry.start.char == f.entry.start.char && e.entry.end.display == f.entry.end.display
+    && e.entry.end.char == f.entry.end.char
 
 -- whether an entry ends no later than another: at a lesser column, or at the same one and no greater character
 abbrev pub ends_no_later : PlacedEntry → PlacedEntry → Bool

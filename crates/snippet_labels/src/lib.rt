@@ -1,4 +1,5 @@
-//! Where labels stand: how many rows below its line each label of a line is drawn, so that none stands in another's way.
+//! Where labels stand: how many rows below its line each label of a line is drawn, so that none stands in another's
+//! way.
 #![tactic(auto)]
 
 pub mod positions;

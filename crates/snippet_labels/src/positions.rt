@@ -25,8 +25,8 @@ pub struct PlacedEntry<'a> {
     pub entry: LineAnnotation<'a>,
     /// Its label, normalised; empty where it has none to show.
     pub label: CowStr<'a>,
-    /// At 0 the label stands after its mark; at n it hangs from it, in the row n + 1 below the row of the marks. The line
-    /// from the mark of a start or an end to its bar stands in the row n below that of the marks.
+    /// At 0 the label stands after its mark; at n it hangs from it, in the row n + 1 below the row of the marks. The
+    /// line from the mark of a start or an end to its bar stands in the row n below that of the marks.
     pub position: usize,
 }
 
@@ -38,7 +38,8 @@ impl<'a> PlacedEntry<'a> {
         !self.label.as_str().is_empty()
     }
 
-    /// Whether it is the start or the end of a span of several lines, so that a line leads from its mark to the span's bar.
+    /// Whether it is the start or the end of a span of several lines, so that a line leads from its mark to the span's
+    /// bar.
     pub fn takes_space(&self) -> bool
         ensures value { result ≡ spec.takes_space self.now }
     {
@@ -311,8 +312,8 @@ fn is_crowded(position: usize, entry: &PlacedEntry, others: &[PlacedEntry]) -> b
     others.iter().any(|other| crowds(position, entry, other))
 }
 
-/// Whether an entry farther left needs a row of its own: one of the two is a start or an end and the other is too, or has
-/// a label; or its label would reach into this entry, which has a label too, or stands in the first row and ends no
+/// Whether an entry farther left needs a row of its own: one of the two is a start or an end and the other is too, or
+/// has a label; or its label would reach into this entry, which has a label too, or stands in the first row and ends no
 /// earlier.
 fn crowds(position: usize, entry: &PlacedEntry, other: &PlacedEntry) -> bool
     requires columns { IsColumn other.now.entry.end.display }
@@ -329,8 +330,8 @@ fn blocks(entry: &PlacedEntry, other: &PlacedEntry) -> bool
         || (entry.has_label() && other.takes_space())
 }
 
-/// Whether the label of an entry farther left would reach into this entry, which has a label too, or stands in the first
-/// row and ends no earlier.
+/// Whether the label of an entry farther left would reach into this entry, which has a label too, or stands in the
+/// first row and ends no earlier.
 fn reaches(position: usize, entry: &PlacedEntry, other: &PlacedEntry) -> bool
     requires columns { IsColumn other.now.entry.end.display }
     ensures value { result ≡ spec.reaches position entry.now other.now }

@@ -37,8 +37,10 @@ length-one (b ∷ bs) some one =
     let front : List ℕ = take (length line - 1) line in
     let none : count_by is_lf front ≡ 0 = count_by-none is_lf front (λ k within is. one k 0 within (eqb-true (get_or front k 0) 10 is)) in
     let split : line ≡ front ++ last_byte line ∷ [] = split_last line some in
-    let count : count_by is_lf line ≡ count_by is_lf front + count_by is_lf (last_byte line ∷ []) = ap (count_by is_lf) split ∙ sum_by-append (λ c. cond (is_lf c) 1 0) front (last_byte line ∷ []) in
-    let last : count_by is_lf (last_byte line ∷ []) ≡ cond (is_lf (last_byte line)) 1 0 = (let e : 0 + cond {A = ℕ} (is_lf (last_byte line)) 1 0 ≡ cond (is_lf (last_byte line)) 1 0 = omega arith in e) in
+    let count : count_by is_lf line ≡ count_by is_lf front + count_by is_lf (last_byte line ∷ []) = ap (count_by is_lf) split
+    ∙ sum_by-append (λ c. cond (is_lf c) 1 0) front (last_byte line ∷ []) in
+    let last : count_by is_lf (last_byte line ∷ []) ≡ cond (is_lf (last_byte line)) 1 0 =
+    (let e : 0 + cond {A = ℕ} (is_lf (last_byte line)) 1 0 ≡ cond (is_lf (last_byte line)) 1 0 = omega arith in e) in
     omega (arith, length-lines_of b bs)
 
 module _ (source : List ℕ) (at start end : ℕ) (around : IsLineAround source at start end) where
@@ -64,7 +66,8 @@ module _ (source : List ℕ) (at start end : ℕ) (around : IsLineAround source 
   three_parts =
       let n : start + (end - start) ≡ end = omega (arith, around.before, around.after) in
       let back : drop (end - start) (drop start source) ≡ drop end source = drop-drop (end - start) start source ∙ ap (λ m. drop m source) n in
-      sym (take-append-drop start source) ∙ ap (λ bs. take start source ++ bs) (sym (take-append-drop (end - start) (drop start source)) ∙ ap (λ bs. take (end - start) (drop start source) ++ bs) back)
+      sym (take-append-drop start source) ∙ ap (λ bs. take start source ++ bs)
+      (sym (take-append-drop (end - start) (drop start source)) ∙ ap (λ bs. take (end - start) (drop start source) ++ bs) back)
 
   opens_after_lf : 0 < length before_it → last_byte before_it ≡ 10
   unfolding before_it
@@ -80,9 +83,11 @@ module _ (source : List ℕ) (at start end : ℕ) (around : IsLineAround source 
   line_is_one = λ k d within is.
       let n : length the_line ≡ end - start = length-the_line in
       let m : length (take (length the_line - 1) the_line) ≡ length the_line - 1 = length-take-le (length the_line - 1) the_line (omega arith) in
-      let same : get_or the_line k 0 ≡ 10 = get_or_default the_line k 0 d (omega arith) ∙ sym (get_or-take (length the_line - 1) the_line k d (omega arith)) ∙ is in
+      let same : get_or the_line k 0 ≡ 10 = get_or_default the_line k 0 d (omega arith)
+      ∙ sym (get_or-take (length the_line - 1) the_line k d (omega arith)) ∙ is in
       let lf : get_or source (start + k) 0 ≡ 10 = sym (read k (omega arith)) ∙ same in
-      ⊎_elim (λ early. around.none_before (start + k) (omega arith) early lf) (λ late. around.none_after (start + k) late (omega arith) lf) (cases_lt (start + k) at)
+      ⊎_elim (λ early. around.none_before (start + k) (omega arith) early lf) (λ late.
+      around.none_after (start + k) late (omega arith) lf) (cases_lt (start + k) at)
 
   closes_with_lf : (last_byte the_line ≡ 10) ⊎ (after_it ≡ [])
   unfolding after_it
@@ -99,12 +104,14 @@ module _ (source : List ℕ) (at start end : ℕ) (around : IsLineAround source 
   tail_lines : lines_of (the_line ++ after_it) ≡ lines_of the_line ++ lines_of after_it
   tail_lines =
       ⊎_elim (λ lf. lines_of-append the_line after_it (λ _. lf))
-      (λ none. ap (λ bs. lines_of (the_line ++ bs)) none ∙ ap lines_of (append-nil the_line) ∙ sym (append-nil (lines_of the_line)) ∙ ap (λ bs. lines_of the_line ++ lines_of bs) (sym none))
+      (λ none. ap (λ bs. lines_of (the_line ++ bs)) none ∙ ap lines_of (append-nil the_line) ∙ sym (append-nil (lines_of the_line))
+      ∙ ap (λ bs. lines_of the_line ++ lines_of bs) (sym none))
       closes_with_lf
 
   all_lines : source_lines source ≡ lines_of before_it ++ (lines_of the_line ++ lines_of after_it)
   all_lines =
-      source_lines-some source (omega (arith, around.after, around.within)) ∙ ap lines_of three_parts ∙ lines_of-append before_it (the_line ++ after_it) opens_after_lf ∙ ap (λ ls. lines_of before_it ++ ls) tail_lines
+      source_lines-some source (omega (arith, around.after, around.within)) ∙ ap lines_of three_parts
+      ∙ lines_of-append before_it (the_line ++ after_it) opens_after_lf ∙ ap (λ ls. lines_of before_it ++ ls) tail_lines
 
   -- which line it is
   index_of_it : ℕ
@@ -113,14 +120,18 @@ module _ (source : List ℕ) (at start end : ℕ) (around : IsLineAround source 
   start_is : start_of (source_lines source) index_of_it ≡ start
   unfolding start_of index_of_it
   start_is =
-      ap (λ ls. length (joined (take (length (lines_of before_it)) ls))) all_lines ∙ ap (λ ls. length (joined ls)) (take_at (lines_of before_it) (lines_of the_line ++ lines_of after_it) (length (lines_of before_it)) refl) ∙ ap length (joined-lines_of before_it) ∙ length-before_it
+      ap (λ ls. length (joined (take (length (lines_of before_it)) ls))) all_lines
+      ∙ ap (λ ls. length (joined ls)) (take_at (lines_of before_it) (lines_of the_line ++ lines_of after_it) (length (lines_of before_it)) refl)
+      ∙ ap length (joined-lines_of before_it) ∙ length-before_it
 
   end_is : start_of (source_lines source) (index_of_it + 1) ≡ end
   unfolding start_of index_of_it
   end_is =
       let one : length (lines_of the_line) ≡ 1 = length-one the_line some_line line_is_one in
-      let n : length (lines_of before_it ++ lines_of the_line) ≡ length (lines_of before_it) + 1 = omega (arith, length-append (lines_of before_it) (lines_of the_line)) in
-      let split : source_lines source ≡ (lines_of before_it ++ lines_of the_line) ++ lines_of after_it = all_lines ∙ sym (append_assoc (lines_of before_it) (lines_of the_line) (lines_of after_it)) in
+      let n : length (lines_of before_it ++ lines_of the_line) ≡ length (lines_of before_it) + 1 = omega
+      (arith, length-append (lines_of before_it) (lines_of the_line)) in
+      let split : source_lines source ≡ (lines_of before_it ++ lines_of the_line) ++ lines_of after_it = all_lines
+      ∙ sym (append_assoc (lines_of before_it) (lines_of the_line) (lines_of after_it)) in
       ap (λ ls. length (joined (take (length (lines_of before_it) + 1) ls))) split
       ∙ ap (λ ls. length (joined ls)) (take_at (lines_of before_it ++ lines_of the_line) (lines_of after_it) (length (lines_of before_it) + 1) n)
       ∙ ap length (flat_map-append line_bytes (lines_of before_it) (lines_of the_line))
@@ -139,7 +150,13 @@ module _ (source : List ℕ) (at start end : ℕ) (around : IsLineAround source 
   unfolding index_of_it
   index_within =
       let one : length (lines_of the_line) ≡ 1 = length-one the_line some_line line_is_one in
-      omega (arith, ap length all_lines, length-append (lines_of before_it) (lines_of the_line ++ lines_of after_it), length-append (lines_of the_line) (lines_of after_it))
+      omega (
+        arith,
+        ap length all_lines,
+        length-append (lines_of before_it) (lines_of the_line ++ lines_of after_it),
+        length-append (lines_of the_line)
+            (lines_of after_it),
+      )
 
   -- it holds each byte in it, and each after its start if it ends where the source does
   holds : (b : ℕ) → start ≤ b → (b < end) ⊎ (end ≡ length source) → HoldsByte (source_lines source) b index_of_it
@@ -169,8 +186,11 @@ same_line source byte start end start_is end_is b =
     let k : ℕ = line_of ls byte in
     let within : k < length ls = line_of-within source byte in (
       λ same.
-          let there : HoldsByte ls b k = subst (HoldsByte ls b) same (HoldsByte-source source b) in
-          (omega (arith, there.from), ⊎_elim (λ more. inl (omega (arith, there.to more))) (λ last. inr (end_is ∙ start_of-end ls (k + 1) last ∙ ap length (joined-source_lines source))) (cases_lt (k + 1) (length ls))),
+          let there : HoldsByte ls b k = subst (HoldsByte ls b) same (HoldsByte-source source b) in (
+            omega (arith, there.from),
+            ⊎_elim (λ more. inl (omega (arith, there.to more))) (λ last.
+                inr (end_is ∙ start_of-end ls (k + 1) last ∙ ap length (joined-source_lines source))) (cases_lt (k + 1) (length ls)),
+          ),
       λ (from, to).
           line_of-is ls b k (record {
             within = within;
@@ -204,7 +224,8 @@ bounds-around source byte at start end at_is before opens none_before within aft
       none_before = none_before;
       none_after = none_after;
     } in
-    let to : (byte < end) ⊎ (end ≡ length source) = ⊎_elim (λ inside. inl (omega (arith, after (omega arith)))) (λ last. inr (omega (arith, after (omega arith)))) (cases_lt byte (length source)) in
+    let to : (byte < end) ⊎ (end ≡ length source) = ⊎_elim (λ inside. inl (omega (arith, after (omega arith)))) (λ last.
+    inr (omega (arith, after (omega arith)))) (cases_lt byte (length source)) in
     (start-around source at start end around byte (omega arith) to, end-around source at start end around byte (omega arith) to))
     (λ empty.
     let none : length source ≡ 0 = omega arith in
@@ -217,11 +238,13 @@ bounds-around source byte at start end at_is before opens none_before within aft
 drop_lines : (ls : List Line) (k : ℕ) → drop (start_of ls k) (joined ls) ≡ joined (drop k ls)
 unfolding start_of
 drop_lines ls k =
-    ap (drop (length (joined (take k ls)))) (ap joined (sym (take-append-drop k ls)) ∙ flat_map-append line_bytes (take k ls) (drop k ls)) ∙ drop_at (joined (take k ls)) (joined (drop k ls)) (length (joined (take k ls))) refl
+    ap (drop (length (joined (take k ls)))) (ap joined (sym (take-append-drop k ls)) ∙ flat_map-append line_bytes (take k ls) (drop k ls))
+    ∙ drop_at (joined (take k ls)) (joined (drop k ls)) (length (joined (take k ls))) refl
 
 -- a line's bytes stand from its start to the next line's
 pub line_bytes-slice : (source : List ℕ) (k : ℕ) → k < length (source_lines source)
-    → take (start_of (source_lines source) (k + 1) - start_of (source_lines source) k) (drop (start_of (source_lines source) k) source) ≡ line_bytes (get_or (source_lines source) k ([], Eof))
+    → take (start_of (source_lines source) (k + 1) - start_of (source_lines source) k) (drop (start_of (source_lines source) k) source)
+    ≡ line_bytes (get_or (source_lines source) k ([], Eof))
 line_bytes-slice source k within =
     let ls : List Line = source_lines source in
     let l : Line = get_or ls k ([], Eof) in
@@ -240,11 +263,18 @@ pub IsCharBoundary-start_of : (source : List ℕ) (k : ℕ) → IsUtf8 source �
 IsCharBoundary-start_of source k utf8 =
     let ls : List Line = source_lines source in
     let are : AreLinesOf source ls = AreLinesOf-source_lines source in
-    let inside : start_of ls k ≤ length source = omega (arith, start_of-le ls k (k + length ls) (omega arith), start_of-end ls (k + length ls) (omega arith), ap length are.whole) in
+    let inside : start_of ls k ≤ length source = omega (
+      arith,
+      start_of-le ls k (k + length ls) (omega arith),
+      start_of-end ls (k + length ls)
+          (omega arith),
+      ap length are.whole,
+    ) in
     ⊎_elim (λ one.
     let none : length source ≡ 0 = omega (arith, ap (λ ms. length (joined ms)) one, ap length are.whole) in
     (inside, λ before high. absurd (omega arith)))
-    (λ (some, lines). IsCharBoundary-from_drop source (start_of ls k) inside (subst IsUtf8 (sym (ap (drop (start_of ls k)) (sym are.whole) ∙ drop_lines ls k)) (IsUtf8-from_line ls k lines (subst IsUtf8 (sym are.whole) utf8))))
+    (λ (some, lines). IsCharBoundary-from_drop source (start_of ls k) inside
+    (subst IsUtf8 (sym (ap (drop (start_of ls k)) (sym are.whole) ∙ drop_lines ls k)) (IsUtf8-from_line ls k lines (subst IsUtf8 (sym are.whole) utf8))))
     are.lines
 
 IsLine-each : (ls : List Line) → AreLines ls → All IsLine ls
@@ -267,7 +297,8 @@ IsOneLine-bytes text Lf none =
 IsOneLine-bytes text Crlf none =
     let n : length (text ++ 13 ∷ []) ≡ length (text ++ 13 ∷ 10 ∷ []) - 1 = omega (arith, length-append text (13 ∷ 10 ∷ []), length-append text (13 ∷ [])) in
     let split : text ++ 13 ∷ 10 ∷ [] ≡ (text ++ 13 ∷ []) ++ 10 ∷ [] = sym (append_assoc text (13 ∷ []) (10 ∷ [])) in
-    let front : take (length (text ++ 13 ∷ 10 ∷ []) - 1) (text ++ 13 ∷ 10 ∷ []) ≡ text ++ 13 ∷ [] = ap (take (length (text ++ 13 ∷ 10 ∷ []) - 1)) split ∙ take_at (text ++ 13 ∷ []) (10 ∷ []) (length (text ++ 13 ∷ 10 ∷ []) - 1) n in
+    let front : take (length (text ++ 13 ∷ 10 ∷ []) - 1) (text ++ 13 ∷ 10 ∷ []) ≡ text ++ 13 ∷ [] = ap (take (length (text ++ 13 ∷ 10 ∷ []) - 1)) split
+    ∙ take_at (text ++ 13 ∷ []) (10 ∷ []) (length (text ++ 13 ∷ 10 ∷ []) - 1) n in
     subst (All (λ b. b ≢ 10)) (sym front) (All-push (λ b. b ≢ 10) text 13 none (λ e. absurd (omega arith)))
 
 -- a line's bytes are one line

@@ -17,7 +17,8 @@ pub newline_count-cut : (text bytes : List ℕ) (end cut count : ℕ) (ended : B
 unfolding newline_count
 newline_count-cut text bytes end cut count ended one rest same at counted last is less =
     let front : take cut bytes ≡ take end text = ap (λ n. take n bytes) at ∙ ap (λ (bs : List ℕ). take (min end (length bs)) bs) same ∙ take_min end text in
-    less ∙ ap (λ n. n - one) (counted ∙ ap (count_by is_lf) front) ∙ ap (λ n. count_by is_lf (take end text) - n) (is ∙ bool_byte-cond ended ∙ ap (λ b. cond b 1 0) (last ∙ ap (λ bs. last_byte bs == 10) front))
+    less ∙ ap (λ n. n - one) (counted ∙ ap (count_by is_lf) front) ∙ ap (λ n.
+    count_by is_lf (take end text) - n) (is ∙ bool_byte-cond ended ∙ ap (λ b. cond b 1 0) (last ∙ ap (λ bs. last_byte bs == 10) front))
 
 -- a front of a text holds at most one line feed more than is counted in the text
 pub newline_count-take : (text : List ℕ) (end : ℕ) → newline_count (take end text) ≤ newline_count text + 1

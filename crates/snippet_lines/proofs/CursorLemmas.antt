@@ -14,9 +14,12 @@ use Rattle.snippet_lines.proofs.LinesLemmas.{split_last, lines_of-line, newline_
 pub IsOneLine-cut : (text : List ℕ) (at : ℕ) → at < length text → ((k : ℕ) → k < at → get_or text k 0 ≢ 10) → IsLineWithEnd (take (at + 1) text)
 IsOneLine-cut text at inside none = λ k d within is.
     let n : length (take (at + 1) text) ≡ at + 1 = length-take-le (at + 1) text (omega arith) in
-    let m : length (take (length (take (at + 1) text) - 1) (take (at + 1) text)) ≡ length (take (at + 1) text) - 1 = length-take-le (length (take (at + 1) text) - 1) (take (at + 1) text) (omega arith) in
+    let m : length (take (length (take (at + 1) text) - 1) (take (at + 1) text))
+    ≡ length (take (at + 1) text) - 1 = length-take-le (length (take (at + 1) text) - 1) (take (at + 1) text) (omega arith) in
     let before : k < at = omega arith in
-    let read : get_or (take (length (take (at + 1) text) - 1) (take (at + 1) text)) k d ≡ get_or text k d = get_or-take (length (take (at + 1) text) - 1) (take (at + 1) text) k d (omega arith) ∙ get_or-take (at + 1) text k d (omega arith) in
+    let read : get_or (take (length (take (at + 1) text) - 1) (take (at + 1) text)) k d
+    ≡ get_or text k d = get_or-take (length (take (at + 1) text) - 1) (take (at + 1) text) k d (omega arith)
+    ∙ get_or-take (at + 1) text k d (omega arith) in
     none k before (get_or_default text k 0 d (omega arith) ∙ sym read ∙ is)
 
 -- a text that has no LF
@@ -33,7 +36,8 @@ last_byte-not (c ∷ text) b some open_end = λ is.
 pub no_lf-open : (line : List ℕ) → IsLineWithEnd line → last_byte line ≢ 10 → All (λ b. b ≢ 10) line
 no_lf-open [] one last = All-nil (λ b. b ≢ 10)
 no_lf-open (c ∷ line) one last =
-    subst (All (λ b. b ≢ 10)) (sym (split_last (c ∷ line) (omega arith))) (All-push (λ b. b ≢ 10) (take (length (c ∷ line) - 1) (c ∷ line)) (last_byte (c ∷ line)) one last)
+    subst (All (λ b. b ≢ 10)) (sym (split_last (c ∷ line) (omega arith)))
+    (All-push (λ b. b ≢ 10) (take (length (c ∷ line) - 1) (c ∷ line)) (last_byte (c ∷ line)) one last)
 
 -- nor has what stands before an LF that ends it
 pub no_lf-closed : (line text : List ℕ) (b : ℕ) → line ≡ text ++ b ∷ [] → IsLineWithEnd line → All (λ b. b ≢ 10) text

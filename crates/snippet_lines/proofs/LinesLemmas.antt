@@ -48,7 +48,8 @@ line_with_byte-fits b (c ∷ text) ending no_cr = refl
 lines_of-longer : (b : ℕ) (bs text : List ℕ) (ending : EndLine) (ls : List Line) → b ≢ 10 → (ending ≡ Lf → last_byte (b ∷ text) ≢ 13)
     → lines_of bs ≡ (text, ending) ∷ ls → lines_of (b ∷ bs) ≡ (b ∷ text, ending) ∷ ls
 lines_of-longer b bs text ending ls no_lf no_cr is =
-    cond-false (eqb b 10) (([], Lf) ∷ lines_of bs) (with_first_byte b (lines_of bs)) (ne_eqb b 10 no_lf) ∙ ap (with_first_byte b) is ∙ ap (λ l. l ∷ ls) (line_with_byte-fits b text ending no_cr)
+    cond-false (eqb b 10) (([], Lf) ∷ lines_of bs) (with_first_byte b (lines_of bs)) (ne_eqb b 10 no_lf) ∙ ap (with_first_byte b) is
+    ∙ ap (λ l. l ∷ ls) (line_with_byte-fits b text ending no_cr)
 
 -- a line and the lines of what follows it are the lines of the two together
 pub lines_of-line : (text : List ℕ) (ending : EndLine) (rest : List ℕ) → All (λ b. b ≢ 10) text → (ending ≡ Lf → last_byte text ≢ 13)
@@ -75,7 +76,8 @@ lines_of-line (b ∷ c ∷ text) ending rest no_lf no_cr last =
 
 -- the bytes of a line with a byte put before it are that byte and the line's bytes
 pub line_bytes-line_with_byte : (b : ℕ) (text : List ℕ) (ending : EndLine) → line_bytes (line_with_byte b text ending) ≡ b ∷ line_bytes (text, ending)
-line_bytes-line_with_byte b [] Lf = cond_both (eqb b 13) ([], Crlf) (b ∷ [], Lf) (λ l. line_bytes l ≡ b ∷ 10 ∷ []) (λ is. ap (λ c. c ∷ 10 ∷ []) (sym (eqb-true b 13 is))) (λ _. refl)
+line_bytes-line_with_byte b [] Lf = cond_both (eqb b 13) ([], Crlf) (b ∷ [], Lf) (λ l. line_bytes l ≡ b ∷ 10 ∷ []) (λ is.
+    ap (λ c. c ∷ 10 ∷ []) (sym (eqb-true b 13 is))) (λ _. refl)
 line_bytes-line_with_byte b [] Eof = refl
 line_bytes-line_with_byte b [] Crlf = refl
 line_bytes-line_with_byte b (c ∷ text) ending = refl
@@ -135,7 +137,8 @@ joined-none ls none = ap joined none
 pub lines_of-joined : (ls : List Line) → AreLines ls → lines_of (joined ls) ≡ ls
 lines_of-joined [] lines = refl
 lines_of-joined (l ∷ ls) lines =
-    lines_of-line l.0 l.1 (joined ls) lines.0.no_lf lines.0.no_cr (λ is. ((lines.1 is).0, joined-none ls (lines.1 is).1)) ∙ ap (λ ms. l ∷ ms) (lines_of-joined ls lines.2)
+    lines_of-line l.0 l.1 (joined ls) lines.0.no_lf lines.0.no_cr (λ is. ((lines.1 is).0, joined-none ls (lines.1 is).1))
+    ∙ ap (λ ms. l ∷ ms) (lines_of-joined ls lines.2)
 
 -- each text has its cut
 pub IsCutOf-lines_of : (text : List ℕ) → IsCutOf text (lines_of text)
@@ -153,7 +156,8 @@ length-with_first_byte b (l ∷ ls) = omega arith
 pub length-lines_of-pos : (text : List ℕ) → 0 < length text → 0 < length (lines_of text)
 length-lines_of-pos [] some = absurd (omega arith)
 length-lines_of-pos (b ∷ bs) some =
-    cond_both (eqb b 10) (([], Lf) ∷ lines_of bs) (with_first_byte b (lines_of bs)) (λ ls. 0 < length ls) (λ _. omega arith) (λ _. length-with_first_byte b (lines_of bs))
+    cond_both (eqb b 10) (([], Lf) ∷ lines_of bs) (with_first_byte b (lines_of bs)) (λ ls. 0 < length ls) (λ _. omega arith) (λ _.
+    length-with_first_byte b (lines_of bs))
 
 -- each source has its lines
 pub AreLinesOf-source_lines : (source : List ℕ) → AreLinesOf source (source_lines source)
@@ -183,15 +187,19 @@ pub lines_of-append : (xs ys : List ℕ) → (0 < length xs → last_byte xs ≡
 lines_of-append [] ys ends = refl
 lines_of-append (b ∷ []) ys ends =
     let is : eqb b 10 ≡ true = eq-eqb b 10 (ends (omega arith)) in
-    cond-true (eqb b 10) (([], Lf) ∷ lines_of ys) (with_first_byte b (lines_of ys)) is ∙ sym (ap (λ ls. ls ++ lines_of ys) (cond-true (eqb b 10) (([], Lf) ∷ []) (with_first_byte b []) is))
+    cond-true (eqb b 10) (([], Lf) ∷ lines_of ys) (with_first_byte b (lines_of ys)) is
+    ∙ sym (ap (λ ls. ls ++ lines_of ys) (cond-true (eqb b 10) (([], Lf) ∷ []) (with_first_byte b []) is))
 lines_of-append (b ∷ c ∷ xs) ys ends =
-    let rest : lines_of ((c ∷ xs) ++ ys) ≡ lines_of (c ∷ xs) ++ lines_of ys = lines_of-append (c ∷ xs) ys (λ _. sym (last_byte-cons b c xs) ∙ ends (omega arith)) in
-    ap (λ ls. cond (eqb b 10) (([], Lf) ∷ ls) (with_first_byte b ls)) rest ∙ put-append b (lines_of (c ∷ xs)) (lines_of ys) (length-lines_of-pos (c ∷ xs) (omega arith))
+    let rest : lines_of ((c ∷ xs) ++ ys) ≡ lines_of (c ∷ xs) ++ lines_of ys = lines_of-append (c ∷ xs) ys (λ _.
+    sym (last_byte-cons b c xs) ∙ ends (omega arith)) in
+    ap (λ ls. cond (eqb b 10) (([], Lf) ∷ ls) (with_first_byte b ls)) rest
+    ∙ put-append b (lines_of (c ∷ xs)) (lines_of ys) (length-lines_of-pos (c ∷ xs) (omega arith))
   where
     put-append : (b : ℕ) (ls ms : List Line) → 0 < length ls
         → cond (eqb b 10) (([], Lf) ∷ (ls ++ ms)) (with_first_byte b (ls ++ ms)) ≡ cond (eqb b 10) (([], Lf) ∷ ls) (with_first_byte b ls) ++ ms
     put-append b [] ms some = absurd (omega arith)
-    put-append b (l ∷ ls) ms some = elim (eqb b 10) as (λ t. cond t (([], Lf) ∷ ((l ∷ ls) ++ ms)) (with_first_byte b ((l ∷ ls) ++ ms)) ≡ cond t (([], Lf) ∷ l ∷ ls) (with_first_byte b (l ∷ ls)) ++ ms) [ true ↦ refl | false ↦ refl ]
+    put-append b (l ∷ ls) ms some = elim (eqb b 10) as (λ t. cond t (([], Lf) ∷ ((l ∷ ls) ++ ms)) (with_first_byte b ((l ∷ ls) ++ ms))
+        ≡ cond t (([], Lf) ∷ l ∷ ls) (with_first_byte b (l ∷ ls)) ++ ms) [ true ↦ refl | false ↦ refl ]
 
 -- ---- how many lines
 
@@ -205,7 +213,8 @@ one_line b = cond_both (eqb b 10) (([], Lf) ∷ []) ((b ∷ [], Eof) ∷ []) (λ
 one_more_line : (b : ℕ) (ls : List Line) → 0 < length ls → length (cond (eqb b 10) (([], Lf) ∷ ls) (with_first_byte b ls)) ≡ cond (is_lf b) 1 0 + length ls
 one_more_line b [] some = absurd (omega arith)
 one_more_line b (l ∷ ls) some =
-    elim (eqb b 10) as (λ t. length (cond t (([], Lf) ∷ l ∷ ls) (with_first_byte b (l ∷ ls))) ≡ cond t 1 0 + length (l ∷ ls)) [ true ↦ omega arith | false ↦ omega arith ]
+    elim (eqb b 10) as (λ t. length (cond t (([], Lf) ∷ l ∷ ls) (with_first_byte b (l ∷ ls)))
+    ≡ cond t 1 0 + length (l ∷ ls)) [ true ↦ omega arith | false ↦ omega arith ]
 
 -- a line for each LF, and one more where the text goes on after the last of them
 pub length-lines_of : (b : ℕ) (bs : List ℕ) → length (lines_of (b ∷ bs)) + ending_newlines (b ∷ bs) ≡ count_by is_lf (b ∷ bs) + 1
@@ -218,7 +227,8 @@ length-lines_of b (c ∷ bs) =
     let rest : length (lines_of (c ∷ bs)) + ending_newlines (c ∷ bs) ≡ count_by is_lf (c ∷ bs) + 1 = length-lines_of c bs in
     let count : count_by is_lf (b ∷ c ∷ bs) ≡ cond (is_lf b) 1 0 + count_by is_lf (c ∷ bs) = sum_by-cons (λ d. cond (is_lf d) 1 0) b (c ∷ bs) in
     let ending : ending_newlines (b ∷ c ∷ bs) ≡ ending_newlines (c ∷ bs) = ap (λ d. cond (is_lf d) 1 0) (last_byte-cons b c bs) in
-    let more : length (lines_of (b ∷ c ∷ bs)) ≡ cond (is_lf b) 1 0 + length (lines_of (c ∷ bs)) = one_more_line b (lines_of (c ∷ bs)) (length-lines_of-pos (c ∷ bs) (omega arith)) in
+    let more : length (lines_of (b ∷ c ∷ bs)) ≡ cond (is_lf b) 1 0 + length (lines_of (c ∷ bs)) = one_more_line b (lines_of (c ∷ bs))
+    (length-lines_of-pos (c ∷ bs) (omega arith)) in
     omega arith
 
 newline_count-is : (text : List ℕ) → newline_count text ≡ count_by is_lf text - ending_newlines text
@@ -243,7 +253,8 @@ ending_newlines-open text is_not = ap (λ t. cond t 1 0) (ne_eqb (last_byte text
 pub newline_count-closed : (text front : List ℕ) → text ≡ front ++ 10 ∷ [] → newline_count text ≡ count_by is_lf front
 newline_count-closed text front is =
     let last : ending_newlines text ≡ 1 = ending_newlines-closed text (ap last_byte is ∙ last_byte-push front 10) in
-    let count : count_by is_lf text ≡ count_by is_lf front + count_by is_lf (10 ∷ []) = ap (count_by is_lf) is ∙ sum_by-append (λ b. cond (is_lf b) 1 0) front (10 ∷ []) in
+    let count : count_by is_lf text ≡ count_by is_lf front + count_by is_lf (10 ∷ []) = ap (count_by is_lf) is
+    ∙ sum_by-append (λ b. cond (is_lf b) 1 0) front (10 ∷ []) in
     let one : count_by is_lf (10 ∷ []) ≡ 1 = refl in
     omega (arith, newline_count-is text)
 
@@ -251,7 +262,8 @@ newline_count-closed text front is =
 pub newline_count-open : (text : List ℕ) → ((front : List ℕ) → text ≢ front ++ 10 ∷ []) → newline_count text ≡ count_by is_lf text
 newline_count-open [] open_end = newline_count-is []
 newline_count-open (b ∷ bs) open_end =
-    let none : ending_newlines (b ∷ bs) ≡ 0 = ending_newlines-open (b ∷ bs) (λ is. open_end (take (length (b ∷ bs) - 1) (b ∷ bs)) (split_last (b ∷ bs) (omega arith) ∙ ap (λ c. take (length (b ∷ bs) - 1) (b ∷ bs) ++ c ∷ []) is)) in
+    let none : ending_newlines (b ∷ bs) ≡ 0 = ending_newlines-open (b ∷ bs) (λ is.
+    open_end (take (length (b ∷ bs) - 1) (b ∷ bs)) (split_last (b ∷ bs) (omega arith) ∙ ap (λ c. take (length (b ∷ bs) - 1) (b ∷ bs) ++ c ∷ []) is)) in
     omega (arith, newline_count-is (b ∷ bs))
 
 -- ---- where lines begin
@@ -275,11 +287,14 @@ start_of-end ls k after = ap (λ ms. length (joined ms)) (take_all k ls after)
 pub start_of-next : (ls : List Line) (k : ℕ) (d : Line) → k < length ls → start_of ls (k + 1) ≡ start_of ls k + length (line_bytes (get_or ls k d))
 unfolding start_of
 start_of-next ls k d within =
-    ap (λ ms. length (joined ms)) (take_more ls k d within) ∙ ap length (flat_map-append line_bytes (take k ls) (get_or ls k d ∷ [])) ∙ length-append (joined (take k ls)) (joined (get_or ls k d ∷ [])) ∙ ap (λ bs. length (joined (take k ls)) + length bs) (append-nil (line_bytes (get_or ls k d)))
+    ap (λ ms. length (joined ms)) (take_more ls k d within) ∙ ap length (flat_map-append line_bytes (take k ls) (get_or ls k d ∷ []))
+    ∙ length-append (joined (take k ls)) (joined (get_or ls k d ∷ []))
+    ∙ ap (λ bs. length (joined (take k ls)) + length bs) (append-nil (line_bytes (get_or ls k d)))
 
 start_of-step : (ls : List Line) (k : ℕ) → start_of ls k ≤ start_of ls (k + 1)
 start_of-step ls k =
-    ⊎_elim (λ within. omega (arith, start_of-next ls k ([], Eof) within)) (λ after. omega (arith, start_of-end ls k after, start_of-end ls (k + 1) (omega arith))) (cases_lt k (length ls))
+    ⊎_elim (λ within. omega (arith, start_of-next ls k ([], Eof) within)) (λ after.
+    omega (arith, start_of-end ls k after, start_of-end ls (k + 1) (omega arith))) (cases_lt k (length ls))
 
 -- later lines begin later
 pub start_of-mono : (ls : List Line) (j n : ℕ) → start_of ls j ≤ start_of ls (j + n)
@@ -301,7 +316,8 @@ start_of-le ls j k le =
 pub split_at_line : (ls : List Line) (k : ℕ) (d : Line) → k < length ls
     → joined ls ≡ joined (take k ls) ++ (line_bytes (get_or ls k d) ++ joined (drop (k + 1) ls))
 split_at_line ls k d within =
-    ap joined (sym (take-append-drop k ls)) ∙ flat_map-append line_bytes (take k ls) (drop k ls) ∙ ap (λ ms. joined (take k ls) ++ joined ms) (drop_more ls k d within)
+    ap joined (sym (take-append-drop k ls)) ∙ flat_map-append line_bytes (take k ls) (drop k ls)
+    ∙ ap (λ ms. joined (take k ls) ++ joined ms) (drop_more ls k d within)
 
 -- the text of line k stands in the source where the line begins
 pub text_at-slice : (ls : List Line) (k : ℕ) → k < length ls → StandsAt (joined ls) (text_at ls k) (start_of ls k)
@@ -309,7 +325,9 @@ unfolding start_of
 text_at-slice ls k within =
     let l : Line = get_or ls k ([], Eof) in
     let rest : List ℕ = joined (drop (k + 1) ls) in
-    let dropped : drop (length (joined (take k ls))) (joined ls) ≡ (l.0 ++ end_bytes l.1) ++ rest = ap (drop (length (joined (take k ls)))) (split_at_line ls k ([], Eof) within) ∙ drop_at (joined (take k ls)) (line_bytes l ++ rest) (length (joined (take k ls))) refl in
+    let dropped : drop (length (joined (take k ls))) (joined ls) ≡ (l.0 ++ end_bytes l.1)
+    ++ rest = ap (drop (length (joined (take k ls)))) (split_at_line ls k ([], Eof) within)
+    ∙ drop_at (joined (take k ls)) (line_bytes l ++ rest) (length (joined (take k ls))) refl in
     sym (ap (take (length l.0)) (dropped ∙ append_assoc l.0 (end_bytes l.1) rest) ∙ take_at l.0 (end_bytes l.1 ++ rest) (length l.0) refl)
 
 -- a line's text ends before the next line begins
@@ -321,7 +339,13 @@ text_at-within ls k within =
 -- no text is longer than the source
 pub length-text_at : (ls : List Line) (k : ℕ) → length (text_at ls k) ≤ length (joined ls)
 length-text_at ls k =
-    ⊎_elim (λ within. omega (arith, text_at-within ls k within, start_of-le ls (k + 1) (k + 1 + length ls) (omega arith), start_of-end ls (k + 1 + length ls) (omega arith)))
+    ⊎_elim (λ within. omega (
+      arith,
+      text_at-within ls k within,
+      start_of-le ls (k + 1) (k + 1 + length ls) (omega arith),
+      start_of-end ls (k + 1 + length ls)
+          (omega arith),
+    ))
     (λ after. let none : text_at ls k ≡ [] = ap (λ (l : Line). l.0) (get_or_past ls k ([], Eof) after) in omega (arith, ap length none))
     (cases_lt k (length ls))
 
@@ -333,8 +357,10 @@ IsUtf8-around xs ys b ascii utf8 =
     let at : get_or (xs ++ b ∷ ys) (length xs) 0 ≡ b = get_or_at xs b ys 0 (length xs) refl in
     let inside : length xs < length (xs ++ b ∷ ys) = omega (arith, length-append xs (b ∷ ys)) in
     let low : get_or (xs ++ b ∷ ys) (length xs) 0 < 128 = omega (arith, at) in
-    let before : IsUtf8 (take (length xs) (xs ++ b ∷ ys)) = IsUtf8-take (xs ++ b ∷ ys) (length xs) utf8 (IsCharBoundary-before_ascii (xs ++ b ∷ ys) (length xs) inside low) in
-    let after : IsUtf8 (drop (length xs + 1) (xs ++ b ∷ ys)) = IsUtf8-drop (xs ++ b ∷ ys) (length xs + 1) utf8 (IsCharBoundary-after_ascii (xs ++ b ∷ ys) (length xs) utf8 inside low) in
+    let before : IsUtf8 (take (length xs) (xs ++ b ∷ ys)) = IsUtf8-take (xs ++ b ∷ ys) (length xs) utf8
+    (IsCharBoundary-before_ascii (xs ++ b ∷ ys) (length xs) inside low) in
+    let after : IsUtf8 (drop (length xs + 1) (xs ++ b ∷ ys)) = IsUtf8-drop (xs ++ b ∷ ys) (length xs + 1) utf8
+    (IsCharBoundary-after_ascii (xs ++ b ∷ ys) (length xs) utf8 inside low) in
     let back : drop (length xs + 1) (xs ++ b ∷ ys) ≡ ys = sym (drop-drop 1 (length xs) (xs ++ b ∷ ys)) ∙ ap (drop 1) (drop_at xs (b ∷ ys) (length xs) refl) in
     (subst IsUtf8 (take_at xs (b ∷ ys) (length xs) refl) before, subst IsUtf8 back after)
 
@@ -362,7 +388,8 @@ IsUtf8-text_at source k utf8 =
     let ls : List Line = source_lines source in
     let are : AreLinesOf source ls = AreLinesOf-source_lines source in
     let each : All (λ (l : Line). IsUtf8 l.0) ls =
-    ⊎_elim (λ one. All-same (λ (l : Line). IsUtf8 l.0) ls (([], Eof) ∷ []) one (All-cons (λ (l : Line). IsUtf8 l.0) ([], Eof) [] IsUtf8-nil (All-nil (λ (l : Line). IsUtf8 l.0))))
+    ⊎_elim (λ one. All-same (λ (l : Line). IsUtf8 l.0) ls (([], Eof) ∷ []) one
+    (All-cons (λ (l : Line). IsUtf8 l.0) ([], Eof) [] IsUtf8-nil (All-nil (λ (l : Line). IsUtf8 l.0))))
     (λ (some, lines). IsUtf8-lines ls lines (subst IsUtf8 (sym are.whole) utf8)) are.lines in
     ⊎_elim (λ within. each k ([], Eof) within)
     (λ after. subst IsUtf8 (sym (ap (λ (l : Line). l.0) (get_or_past ls k ([], Eof) after))) IsUtf8-nil)
@@ -382,7 +409,8 @@ source_lines-some (b ∷ bs) some = refl
 pub text_at-stands : (source : List ℕ) (k : ℕ) → k < length (source_lines source)
     → StandsAt source (text_at (source_lines source) k) (start_of (source_lines source) k)
 text_at-stands source k within =
-    subst (λ s. StandsAt s (text_at (source_lines source) k) (start_of (source_lines source) k)) (joined-source_lines source) (text_at-slice (source_lines source) k within)
+    subst (λ s. StandsAt s (text_at (source_lines source) k) (start_of (source_lines source) k)) (joined-source_lines source)
+    (text_at-slice (source_lines source) k within)
 
 -- no text is longer than the source
 pub length-text_at-source : (source : List ℕ) (k : ℕ) → length (text_at (source_lines source) k) ≤ length source

@@ -55,16 +55,19 @@ digit_unlisted d small = grind (arith, nat_tests)
 decimal_unlisted : (n : ℕ) → n < 2 ^ 64 → All (λ c. is_listed c ≡ false) (decimal n)
 decimal_unlisted n fits =
     let P : ℕ → Type 0 = λ c. is_listed c ≡ false in
-    decimal_by_steps (λ _ ds. All P ds) (λ m one. All-cons P (48 + m) [] (digit_unlisted m one) (All-nil P)) (λ m ds more so_far. All-push P ds (48 + m % 10) so_far (digit_unlisted (m % 10) (omega arith))) n fits
+    decimal_by_steps (λ _ ds. All P ds) (λ m one. All-cons P (48 + m) [] (digit_unlisted m one) (All-nil P)) (λ m ds more so_far.
+    All-push P ds (48 + m % 10) so_far (digit_unlisted (m % 10) (omega arith))) n fits
 
 -- what the gutter shows holds no listed character
 pub shown_number_unlisted : (numbers : LineNumbers) (gutter number : ℕ) → number < 2 ^ 64 → All (λ c. is_listed c ≡ false) (shown_number numbers gutter number)
 shown_number_unlisted Shown gutter number fits =
     let P : ℕ → Type 0 = λ c. is_listed c ≡ false in
-    All-append P (replicate (gutter - length (decimal number)) 32) (decimal number) (All-replicate P (gutter - length (decimal number)) 32 refl) (decimal_unlisted number fits)
+    All-append P (replicate (gutter - length (decimal number)) 32) (decimal number) (All-replicate P (gutter - length (decimal number)) 32 refl)
+    (decimal_unlisted number fits)
 shown_number_unlisted Anonymized gutter number fits =
     let P : ℕ → Type 0 = λ c. is_listed c ≡ false in
-    All-append P (replicate (gutter - 2) 32) (76 ∷ 76 ∷ []) (All-replicate P (gutter - 2) 32 refl) (All-cons P 76 (76 ∷ []) refl (All-cons P 76 [] refl (All-nil P)))
+    All-append P (replicate (gutter - 2) 32) (76 ∷ 76 ∷ []) (All-replicate P (gutter - 2) 32 refl)
+    (All-cons P 76 (76 ∷ []) refl (All-cons P 76 [] refl (All-nil P)))
 shown_number_unlisted Hidden gutter number fits =
     let P : ℕ → Type 0 = λ c. is_listed c ≡ false in
     All-replicate P gutter 32 refl
@@ -75,10 +78,12 @@ spaces_ascii n = let P : ℕ → Type 0 = λ b. b < 128 in IsAscii-from_all (rep
 -- its bytes are its characters
 shown_number_ascii : (numbers : LineNumbers) (gutter number : ℕ) → number < 2 ^ 64 → IsAscii (shown_number numbers gutter number)
 shown_number_ascii Shown gutter number fits =
-    IsAscii-append (replicate (gutter - length (decimal number)) 32) (decimal number) (spaces_ascii (gutter - length (decimal number))) (IsAscii-decimal number fits)
+    IsAscii-append (replicate (gutter - length (decimal number)) 32) (decimal number) (spaces_ascii (gutter - length (decimal number)))
+    (IsAscii-decimal number fits)
 shown_number_ascii Anonymized gutter number fits =
     let P : ℕ → Type 0 = λ b. b < 128 in
-    IsAscii-append (replicate (gutter - 2) 32) (76 ∷ 76 ∷ []) (spaces_ascii (gutter - 2)) (IsAscii-from_all (76 ∷ 76 ∷ []) (All-cons P 76 (76 ∷ []) (omega arith) (All-cons P 76 [] (omega arith) (All-nil P))))
+    IsAscii-append (replicate (gutter - 2) 32) (76 ∷ 76 ∷ []) (spaces_ascii (gutter - 2))
+    (IsAscii-from_all (76 ∷ 76 ∷ []) (All-cons P 76 (76 ∷ []) (omega arith) (All-cons P 76 [] (omega arith) (All-nil P))))
 shown_number_ascii Hidden gutter number fits = spaces_ascii gutter
 
 -- the characters of a shown number are its bytes
@@ -91,8 +96,10 @@ chars-shown_number numbers gutter number fits =
 pub length-decimal_monotone : (m n : ℕ) → m ≤ n → n < 2 ^ 64 → length (decimal m) ≤ length (decimal n)
 length-decimal_monotone m n less fits =
     let P : ℕ → List ℕ → Type 0 = λ large ds. large < 2 ^ 64 → (small : ℕ) → small ≤ large → length (decimal small) ≤ length ds in
-    let last : (large : ℕ) → large < 10 → P large ((48 + large) ∷ []) = λ large one _ small below. omega (arith, length-decimal_last small (omega arith) (omega arith)) in
-    let more : (large : ℕ) (ds : List ℕ) → 10 ≤ large → P (large / 10) ds → P large (ds ++ ((48 + large % 10) ∷ [])) = λ large ds many shorter large_fits small below.
+    let last : (large : ℕ) → large < 10 → P large ((48 + large) ∷ []) = λ large one _ small below.
+    omega (arith, length-decimal_last small (omega arith) (omega arith)) in
+    let more : (large : ℕ) (ds : List ℕ) → 10 ≤ large → P (large / 10) ds
+    → P large (ds ++ ((48 + large % 10) ∷ [])) = λ large ds many shorter large_fits small below.
     let long : length (ds ++ ((48 + large % 10) ∷ [])) ≡ length ds + 1 = length_push ds (48 + large % 10) in
     elim (cases_lt small 10) [
       | inl one ↦ omega (arith, length-decimal_last small one (omega arith))
@@ -104,7 +111,12 @@ length-decimal_monotone m n less fits =
 pub length-shown_number : (numbers : LineNumbers) (gutter number : ℕ) → number_width numbers number ≤ gutter
     → length (shown_number numbers gutter number) ≡ gutter
 length-shown_number Shown gutter number fits =
-    omega (arith, length-append (replicate (gutter - length (decimal number)) 32) (decimal number), length-replicate {A = ℕ} (gutter - length (decimal number)) 32)
+    omega (
+      arith,
+      length-append (replicate (gutter - length (decimal number)) 32) (decimal number),
+      length-replicate {A = ℕ}
+          (gutter - length (decimal number)) 32,
+    )
 length-shown_number Anonymized gutter number fits =
     let letters : List ℕ = 76 ∷ 76 ∷ [] in
     omega (arith, length-append {A = ℕ} (replicate (gutter - 2) 32) letters, length-replicate {A = ℕ} (gutter - 2) 32)

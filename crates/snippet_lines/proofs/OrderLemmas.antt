@@ -34,8 +34,10 @@ never-itself lt o x = ⊎_elim (λ t. o.one_way x x t) (λ f. f) (cases_Bool (lt
 before-all : {X : Type 0} (lt : X → X → Bool) → IsStrictWeakOrder lt → (y x : X) (xs : List X) → Rises lt (x ∷ xs) → lt y x ≡ true
     → filter (ties lt y) (x ∷ xs) ≡ []
 before-all {X} lt o y x xs rises before =
-    let apart : (z : X) → lt z x ≡ false → ties lt y z ≡ false = λ z above. false_from_ne_true (ties lt y z) (λ t. both_ways (lt y x) (o.chain y z x (ties-parts lt y z t).0 above) before) in
-    filter-none (ties lt y) (x ∷ xs) (All-cons (λ z. ties lt y z ≡ false) x xs (apart x (never-itself lt o x)) (λ k d within. apart (get_or xs k d) (rises.0 k d within)))
+    let apart : (z : X) → lt z x ≡ false → ties lt y z ≡ false = λ z above.
+    false_from_ne_true (ties lt y z) (λ t. both_ways (lt y x) (o.chain y z x (ties-parts lt y z t).0 above) before) in
+    filter-none (ties lt y) (x ∷ xs) (All-cons (λ z. ties lt y z ≡ false) x xs (apart x (never-itself lt o x)) (λ k d within.
+    apart (get_or xs k d) (rises.0 k d within)))
 
 finds-itself : {X : Type 0} (lt : X → X → Bool) → IsStrictWeakOrder lt → (y : X) (ys : List X) → filter (ties lt y) (y ∷ ys) ≡ y ∷ filter (ties lt y) ys
 finds-itself lt o y ys =
@@ -45,7 +47,8 @@ finds-itself lt o y ys =
 first-ties : {X : Type 0} (lt : X → X → Bool) → IsStrictWeakOrder lt → (y x : X) (ys xs : List X) → Rises lt (x ∷ xs)
     → filter (ties lt y) (y ∷ ys) ≡ filter (ties lt y) (x ∷ xs) → lt y x ≡ false
 first-ties lt o y x ys xs rises same =
-    false_from_ne_true (lt y x) (λ t. let e : y ∷ filter (ties lt y) ys ≡ [] = sym (finds-itself lt o y ys) ∙ same ∙ before-all lt o y x xs rises t in absurd (cc))
+    false_from_ne_true (lt y x) (λ t. let e : y ∷ filter (ties lt y) ys ≡ [] = sym (finds-itself lt o y ys) ∙ same
+    ∙ before-all lt o y x xs rises t in absurd (cc))
 
 -- two lists in order are the same if the elements that tie with each are
 same_rise : {X : Type 0} (lt : X → X → Bool) → IsStrictWeakOrder lt → (xs ys : List X) → Rises lt xs → Rises lt ys
@@ -58,11 +61,14 @@ same_rise lt o (x ∷ xs) [] a b same =
 same_rise {X} lt o (x ∷ xs) (y ∷ ys) a b same =
     let up : lt y x ≡ false = first-ties lt o y x ys xs a (sym (same y)) in
     let down : lt x y ≡ false = first-ties lt o x y xs ys b (same x) in
-    let found : x ∷ filter (ties lt x) xs ≡ y ∷ filter (ties lt x) ys = sym (finds-itself lt o x xs) ∙ same x ∙ cond-true (ties lt x y) (y ∷ filter (ties lt x) ys) (filter (ties lt x) ys) (ties-from lt x y down up) in
+    let found : x ∷ filter (ties lt x) xs ≡ y ∷ filter (ties lt x) ys = sym (finds-itself lt o x xs) ∙ same x
+    ∙ cond-true (ties lt x y) (y ∷ filter (ties lt x) ys) (filter (ties lt x) ys) (ties-from lt x y down up) in
     let head : x ≡ y = cc in
     let rest : (w : X) → filter (ties lt w) xs ≡ filter (ties lt w) ys = λ w. ⊎_elim
-    (λ t. let e : x ∷ filter (ties lt w) xs ≡ y ∷ filter (ties lt w) ys = sym (cond-true (ties lt w x) (x ∷ filter (ties lt w) xs) (filter (ties lt w) xs) t) ∙ same w ∙ cond-true (ties lt w y) (y ∷ filter (ties lt w) ys) (filter (ties lt w) ys) (subst (λ z. ties lt w z ≡ true) head t) in cc)
-    (λ f. sym (cond-false (ties lt w x) (x ∷ filter (ties lt w) xs) (filter (ties lt w) xs) f) ∙ same w ∙ cond-false (ties lt w y) (y ∷ filter (ties lt w) ys) (filter (ties lt w) ys) (subst (λ z. ties lt w z ≡ false) head f))
+    (λ t. let e : x ∷ filter (ties lt w) xs ≡ y ∷ filter (ties lt w) ys = sym (cond-true (ties lt w x) (x ∷ filter (ties lt w) xs) (filter (ties lt w) xs) t)
+    ∙ same w ∙ cond-true (ties lt w y) (y ∷ filter (ties lt w) ys) (filter (ties lt w) ys) (subst (λ z. ties lt w z ≡ true) head t) in cc)
+    (λ f. sym (cond-false (ties lt w x) (x ∷ filter (ties lt w) xs) (filter (ties lt w) xs) f) ∙ same w
+    ∙ cond-false (ties lt w y) (y ∷ filter (ties lt w) ys) (filter (ties lt w) ys) (subst (λ z. ties lt w z ≡ false) head f))
     (cases_Bool (ties lt w x)) in
     let tail : xs ≡ ys = same_rise lt o xs ys a.1 b.1 rest in
     cc
@@ -73,14 +79,17 @@ same_rise {X} lt o (x ∷ xs) (y ∷ ys) a b same =
 pub All-put_in : {X : Type 0} (lt : X → X → Bool) (P : X → Type 0) (x : X) (ys : List X) → P x → All P ys → All P (put_in lt x ys)
 All-put_in lt P x [] here all = All-cons P x [] here all
 All-put_in lt P x (y ∷ ys) here all =
-    ⊎_elim (λ t. subst (All P) (sym (cond-true (lt y x) (y ∷ put_in lt x ys) (x ∷ y ∷ ys) t)) (All-cons P y (put_in lt x ys) (All-head P y ys all) (All-put_in lt P x ys here (All-tail P y ys all))))
+    ⊎_elim (λ t. subst (All P) (sym (cond-true (lt y x) (y ∷ put_in lt x ys) (x ∷ y ∷ ys) t))
+    (All-cons P y (put_in lt x ys) (All-head P y ys all) (All-put_in lt P x ys here (All-tail P y ys all))))
     (λ f. subst (All P) (sym (cond-false (lt y x) (y ∷ put_in lt x ys) (x ∷ y ∷ ys) f)) (All-cons P x (y ∷ ys) here all)) (cases_Bool (lt y x))
 
 Rises-put_in : {X : Type 0} (lt : X → X → Bool) → IsStrictWeakOrder lt → (x : X) (ys : List X) → Rises lt ys → Rises lt (put_in lt x ys)
 Rises-put_in lt o x [] up = (All-nil (λ y. lt y x ≡ false), tt)
 Rises-put_in {X} lt o x (y ∷ ys) up =
-    ⊎_elim (λ t. subst (Rises lt) (sym (cond-true (lt y x) (y ∷ put_in lt x ys) (x ∷ y ∷ ys) t)) (All-put_in lt (λ z. lt z y ≡ false) x ys (o.one_way y x t) up.0, Rises-put_in lt o x ys up.1))
-    (λ f. subst (Rises lt) (sym (cond-false (lt y x) (y ∷ put_in lt x ys) (x ∷ y ∷ ys) f)) (All-cons (λ z. lt z x ≡ false) y ys f (λ k d within. o.chain (get_or ys k d) y x (up.0 k d within) f), up)) (cases_Bool (lt y x))
+    ⊎_elim (λ t. subst (Rises lt) (sym (cond-true (lt y x) (y ∷ put_in lt x ys) (x ∷ y ∷ ys) t))
+    (All-put_in lt (λ z. lt z y ≡ false) x ys (o.one_way y x t) up.0, Rises-put_in lt o x ys up.1))
+    (λ f. subst (Rises lt) (sym (cond-false (lt y x) (y ∷ put_in lt x ys) (x ∷ y ∷ ys) f))
+    (All-cons (λ z. lt z x ≡ false) y ys f (λ k d within. o.chain (get_or ys k d) y x (up.0 k d within) f), up)) (cases_Bool (lt y x))
 
 Rises-ordered_by : {X : Type 0} (lt : X → X → Bool) → IsStrictWeakOrder lt → (xs : List X) → Rises lt (ordered_by lt xs)
 Rises-ordered_by lt o [] = tt
@@ -94,11 +103,13 @@ filter-put_in {X} lt o w x (y ∷ ys) =
     let p : X → Bool = ties lt w in
     let kept : List X = filter p ys in
     ⊎_elim
-    (λ t. let step : filter p (put_in lt x (y ∷ ys)) ≡ cond (p y) (y ∷ filter p (put_in lt x ys)) (filter p (put_in lt x ys)) = ap (filter p) (cond-true (lt y x) (y ∷ put_in lt x ys) (x ∷ y ∷ ys) t) in
+    (λ t. let step : filter p (put_in lt x (y ∷ ys)) ≡ cond (p y) (y ∷ filter p (put_in lt x ys)) (filter p (put_in lt x ys)) = ap (filter p)
+    (cond-true (lt y x) (y ∷ put_in lt x ys) (x ∷ y ∷ ys) t) in
     let in_rest : filter p (put_in lt x ys) ≡ cond (p x) (x ∷ kept) kept = filter-put_in lt o w x ys in
     step ∙ ⊎_elim
     (λ ty. let not_x : p x ≡ false = false_from_ne_true (p x) (λ tx. both_ways (lt y x) (o.chain y w x (ties-parts lt w y ty).1 (ties-parts lt w x tx).0) t) in
-    cond-true (p y) (y ∷ filter p (put_in lt x ys)) (filter p (put_in lt x ys)) ty ∙ ap (λ l. y ∷ l) (in_rest ∙ cond-false (p x) (x ∷ kept) kept not_x) ∙ sym (cond-true (p y) (y ∷ kept) kept ty) ∙ sym (cond-false (p x) (x ∷ cond (p y) (y ∷ kept) kept) (cond (p y) (y ∷ kept) kept) not_x))
+    cond-true (p y) (y ∷ filter p (put_in lt x ys)) (filter p (put_in lt x ys)) ty ∙ ap (λ l. y ∷ l) (in_rest ∙ cond-false (p x) (x ∷ kept) kept not_x)
+    ∙ sym (cond-true (p y) (y ∷ kept) kept ty) ∙ sym (cond-false (p x) (x ∷ cond (p y) (y ∷ kept) kept) (cond (p y) (y ∷ kept) kept) not_x))
     (λ fy. let same : cond (p y) (y ∷ kept) kept ≡ kept = cond-false (p y) (y ∷ kept) kept fy in
     cond-false (p y) (y ∷ filter p (put_in lt x ys)) (filter p (put_in lt x ys)) fy ∙ in_rest ∙ ap (λ l. cond (p x) (x ∷ l) l) (sym same))
     (cases_Bool (p y)))
@@ -115,7 +126,8 @@ Rises-from_sorted : {X : Type 0} (lt : X → X → Bool) → IsStrictWeakOrder l
 Rises-from_sorted lt o [] up = tt
 Rises-from_sorted {X} lt o (x ∷ xs) up = (
   λ k d within. sorted_far lt o (x ∷ xs) up 0 (suc k) d (omega arith) (omega arith),
-  Rises-from_sorted lt o xs (λ k d low high. let e : suc k + 1 ≡ suc (k + 1) = omega arith in subst (λ n. lt (get_or (x ∷ xs) n d) (get_or xs k d) ≡ false) e (up (suc k) d (omega arith) (omega arith))),
+  Rises-from_sorted lt o xs (λ k d low high. let e : suc k + 1 ≡ suc (k + 1) = omega arith in subst (λ n.
+      lt (get_or (x ∷ xs) n d) (get_or xs k d) ≡ false) e (up (suc k) d (omega arith) (omega arith))),
 )
 
 -- what a stable sort makes of a list is the list put in order
@@ -126,8 +138,10 @@ sorted-only lt o xs ys up stable =
 map-put_in : {X Y : Type 0} (f : X → Y) (lt : Y → Y → Bool) (x : X) (ys : List X) → map f (put_in (λ a b. lt (f a) (f b)) x ys) ≡ put_in lt (f x) (map f ys)
 map-put_in f lt x [] = refl
 map-put_in f lt x (y ∷ ys) =
-    ⊎_elim (λ t. ap (map f) (cond-true (lt (f y) (f x)) (y ∷ put_in (λ a b. lt (f a) (f b)) x ys) (x ∷ y ∷ ys) t) ∙ ap (λ l. f y ∷ l) (map-put_in f lt x ys) ∙ sym (cond-true (lt (f y) (f x)) (f y ∷ put_in lt (f x) (map f ys)) (f x ∷ f y ∷ map f ys) t))
-    (λ e. ap (map f) (cond-false (lt (f y) (f x)) (y ∷ put_in (λ a b. lt (f a) (f b)) x ys) (x ∷ y ∷ ys) e) ∙ sym (cond-false (lt (f y) (f x)) (f y ∷ put_in lt (f x) (map f ys)) (f x ∷ f y ∷ map f ys) e)) (cases_Bool (lt (f y) (f x)))
+    ⊎_elim (λ t. ap (map f) (cond-true (lt (f y) (f x)) (y ∷ put_in (λ a b. lt (f a) (f b)) x ys) (x ∷ y ∷ ys) t) ∙ ap (λ l. f y ∷ l) (map-put_in f lt x ys)
+    ∙ sym (cond-true (lt (f y) (f x)) (f y ∷ put_in lt (f x) (map f ys)) (f x ∷ f y ∷ map f ys) t))
+    (λ e. ap (map f) (cond-false (lt (f y) (f x)) (y ∷ put_in (λ a b. lt (f a) (f b)) x ys) (x ∷ y ∷ ys) e)
+    ∙ sym (cond-false (lt (f y) (f x)) (f y ∷ put_in lt (f x) (map f ys)) (f x ∷ f y ∷ map f ys) e)) (cases_Bool (lt (f y) (f x)))
 
 -- putting in order by what a function gives, and taking that, is one
 pub map-ordered_by : {X Y : Type 0} (f : X → Y) (lt : Y → Y → Bool) (xs : List X) → map f (ordered_by (λ a b. lt (f a) (f b)) xs) ≡ ordered_by lt (map f xs)

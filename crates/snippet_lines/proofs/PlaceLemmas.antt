@@ -29,7 +29,8 @@ HoldsByte-line_of (l ∷ m ∷ ls) b some =
     (λ is. record {
       within = omega arith;
       from = omega (arith, start_of-zero (l ∷ m ∷ ls));
-      to = λ _. let first : start_of (l ∷ m ∷ ls) (0 + 1) ≡ n + start_of (m ∷ ls) 0 = start_of-cons l (m ∷ ls) 0 in omega (arith, start_of-zero (m ∷ ls), ltb-true b n is);
+      to = λ _. let first : start_of (l ∷ m ∷ ls) (0 + 1) ≡ n + start_of (m ∷ ls) 0 = start_of-cons l (m ∷ ls) 0 in omega
+          (arith, start_of-zero (m ∷ ls), ltb-true b n is);
     })
     (λ is_not. record {
       within = omega (arith, rest.within);
@@ -85,7 +86,15 @@ start_of-inside source k more =
     let ls : List Line = source_lines source in
     let are : AreLinesOf source ls = AreLinesOf-source_lines source in
     ⊎_elim (λ one. absurd (omega (arith, ap length one)))
-    (λ (some, lines). omega (arith, start_of-next ls (k + 1) ([], Eof) more, line_bytes-some ls (k + 1) lines more, start_of-le ls (k + 1 + 1) (k + 1 + 1 + length ls) (omega arith), start_of-end ls (k + 1 + 1 + length ls) (omega arith), ap length are.whole))
+    (λ (some, lines). omega (
+      arith,
+      start_of-next ls (k + 1) ([], Eof) more,
+      line_bytes-some ls (k + 1) lines more,
+      start_of-le ls (k + 1 + 1)
+          (k + 1 + 1 + length ls) (omega arith),
+      start_of-end ls (k + 1 + 1 + length ls) (omega arith),
+      ap length are.whole,
+    ))
     are.lines
 
 -- ---- the place of a byte
@@ -103,7 +112,14 @@ pub text_at-end : (source : List ℕ) (k : ℕ) → k < length (source_lines sou
     → start_of (source_lines source) k + length (text_at (source_lines source) k) ≤ length source
 text_at-end source k within =
     let ls : List Line = source_lines source in
-    omega (arith, text_at-within ls k within, start_of-le ls (k + 1) (k + 1 + length ls) (omega arith), start_of-end ls (k + 1 + length ls) (omega arith), ap length (joined-source_lines source))
+    omega (
+      arith,
+      text_at-within ls k within,
+      start_of-le ls (k + 1) (k + 1 + length ls) (omega arith),
+      start_of-end ls (k + 1 + length ls)
+          (omega arith),
+      ap length (joined-source_lines source),
+    )
 
 -- what stands before a byte on its line ends where a character does, if a span may start or end at the byte
 pub IsCharBoundary-prefix : (source : List ℕ) (b : ℕ) → IsSpanBorder source b
@@ -122,7 +138,8 @@ IsCharBoundary-prefix source b border =
           let i : ℕ = min (b - start_of ls k) (length text) in
           let at : start_of ls k + i ≡ b = omega arith in
           let same : get_or text i 0 ≡ get_or source b 0 = text_at-byte source k i holds.within inside ∙ ap (λ n. get_or source n 0) at in
-          ⊎_elim (λ boundary. let lead : 192 ≤ get_or source b 0 = boundary.1 (omega arith) (omega arith) in omega arith) (λ after. absurd (omega arith)) border,
+          ⊎_elim (λ boundary. let lead : 192 ≤ get_or source b 0 = boundary.1 (omega arith) (omega arith) in omega arith) (λ after.
+          absurd (omega arith)) border,
     )
 
 pub place_of-line : (source : List ℕ) (b : ℕ) → (place_of source b).line ≡ line_of (source_lines source) b
@@ -179,9 +196,11 @@ pub end_location_column : (s : Source) (start end : ℕ) → line_of (source_lin
     → (end_location s start end).display ≡ (place_of s.text end).column
 unfolding end_location location_of place_of
 end_location_column s start end same =
-    let one : eqb (s.first + line_of (source_lines s.text) start) (s.first + line_of (source_lines s.text) end) ≡ true = eq-eqb (s.first + line_of (source_lines s.text) start) (s.first + line_of (source_lines s.text) end) (ap (λ k. s.first + k) same) in
+    let one : eqb (s.first + line_of (source_lines s.text) start) (s.first + line_of (source_lines s.text) end)
+    ≡ true = eq-eqb (s.first + line_of (source_lines s.text) start) (s.first + line_of (source_lines s.text) end) (ap (λ k. s.first + k) same) in
     let column : ℕ = width_of (chars (prefix_at (source_lines s.text) (line_of (source_lines s.text) end) end)) in
-    ap (λ n. column + n) (cond-true (eqb (s.first + line_of (source_lines s.text) start) (s.first + line_of (source_lines s.text) end)) 0 (steps_after_text s.text end) one) ∙ add-zero column
+    ap (λ n. column + n) (cond-true (eqb (s.first + line_of (source_lines s.text) start) (s.first + line_of (source_lines s.text) end)) 0
+    (steps_after_text s.text end) one) ∙ add-zero column
 
 -- ---- worked
 
@@ -196,7 +215,8 @@ unfolding start_location location_of steps_after_text place_of line_of start_of 
 worked-start = refl
 
 -- of a span over two lines the end after the source is one character and one column further
-worked-span : locations_of (record { text = 9 ∷ 13 ∷ 10 ∷ 9 ∷ []; first = 7 }) 0 5 ≡ (record { line = 7; char = 0; display = 0; byte = 0 }, record { line = 8; char = 2; display = 5; byte = 5 })
+worked-span : locations_of (record { text = 9 ∷ 13 ∷ 10 ∷ 9 ∷ []; first = 7 }) 0 5
+    ≡ (record { line = 7; char = 0; display = 0; byte = 0 }, record { line = 8; char = 2; display = 5; byte = 5 })
 unfolding locations_of start_location end_location location_of steps_after_text place_of line_of start_of chars char_width
 worked-span = refl
 

@@ -33,7 +33,8 @@ free_written row at cells free_row free_cells =
     let P : Cell → Type 0 = IsFreeCell in
     let pad = replicate (at - length row) SPACE in
     let begun = All-take P at (row ++ pad) (All-append P row pad free_row (All-replicate P (at - length row) SPACE (refl, refl))) in
-    All-append P (take at (row ++ pad) ++ cells) (drop (at + length cells) row) (All-append P (take at (row ++ pad)) cells begun free_cells) (All-drop P (at + length cells) row free_row)
+    All-append P (take at (row ++ pad) ++ cells) (drop (at + length cells) row) (All-append P (take at (row ++ pad)) cells begun free_cells)
+    (All-drop P (at + length cells) row free_row)
 
 -- a row of spaces and some free cells after them
 pub free_led : (n : ℕ) (cells : List Cell) → IsFree cells → IsFree (replicate n SPACE ++ cells)

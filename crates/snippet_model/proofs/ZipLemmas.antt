@@ -17,7 +17,8 @@ pub all_zip_more : {X : Type 0} (P : X → X → Type 0) (xs : List X) (i : ℕ)
     → AllZip P (take i xs) ys → x ≡ get_or xs i x → P x y → AllZip P (take (i + 1) xs) new
 all_zip_more P xs i ys new x y within pushed before is last =
     let more : take (i + 1) xs ≡ take i xs ++ get_or xs i x ∷ [] = ap (λ n. take n xs) (let e : i + 1 ≡ suc i = omega arith in e) ∙ take-suc xs i x within in
-    subst (λ zs. AllZip P zs new) (sym more) (subst (λ zs. AllZip P (take i xs ++ get_or xs i x ∷ []) zs) (sym pushed) (AllZip-push P (take i xs) ys (get_or xs i x) y before (subst (λ z. P z y) is last)))
+    subst (λ zs. AllZip P zs new) (sym more) (subst (λ zs. AllZip P (take i xs ++ get_or xs i x ∷ []) zs) (sym pushed)
+    (AllZip-push P (take i xs) ys (get_or xs i x) y before (subst (λ z. P z y) is last)))
 
 -- one more item on each side
 pub AllZip-last : {A B : Type 0} (P : A → B → Type 0) (xs : List A) (ys : List B) (x : A) (y : B) → AllZip P xs ys → P x y

@@ -113,7 +113,8 @@ impl Ord for LevelName<'_> {
 impl PartialOrd for LevelName<'_> {
     ghost partial_cmp = { as_partial_cmp name_cmp };
 
-    ghost laws = { partial_order_from_agreeing_total name_cmp (Prim.search (comparing, rules)) (λ x y. refl) name_ties };
+    ghost laws = { partial_order_from_agreeing_total name_cmp (Prim.search (comparing, rules)) (λ x y.
+        refl) name_ties };
 
     fn partial_cmp(&self, other: &Self) -> Option<Ordering> {
         Some(self.cmp(other))
@@ -137,7 +138,8 @@ impl Ord for Level<'_> {
 impl PartialOrd for Level<'_> {
     ghost partial_cmp = { as_partial_cmp level_cmp };
 
-    ghost laws = { partial_order_from_agreeing_total level_cmp (Prim.search (comparing, rules)) (λ x y. refl) level_ties };
+    ghost laws = { partial_order_from_agreeing_total level_cmp (Prim.search (comparing, rules)) (λ x y.
+        refl) level_ties };
 
     fn partial_cmp(&self, other: &Self) -> Option<Ordering> {
         Some(self.cmp(other))
@@ -157,9 +159,9 @@ fn standard_name(kind: LevelInner) -> &'static str
     }
 }
 
-/// Proves, and does nothing else, that each constant of this module, and each constant of [`Level`], is the level of the kind
-/// that its name says, shown by the name of the kind. A clause can't name constants of a type that may own text, so this
-/// stands in place of one.
+/// Proves, and does nothing else, that each constant of this module, and each constant of [`Level`], is the level of
+/// the kind that its name says, shown by the name of the kind. A clause can't name constants of a type that may own
+/// text, so this stands in place of one.
 fn prove_constants() {
     prove!(is_standard(&ERROR, LevelInner::Error));
     prove!(is_standard(&WARNING, LevelInner::Warning));

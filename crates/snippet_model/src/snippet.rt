@@ -169,8 +169,8 @@ impl<'a, T> Snippet<'a, T> {
         }
     }
 
-    /// The path of the file that the source is of, or none where there is none. The path isn't trusted: it is normalised
-    /// where it is drawn.
+    /// The path of the file that the source is of, or none where there is none. The path isn't trusted: it is
+    /// normalised where it is drawn.
     pub fn path(mut self, path: OptionCow<'a>) -> Snippet<'a, T>
         ensures changed { result ≡ record self.entry { path = path.entry.0 } }
     {

@@ -68,7 +68,8 @@ filter_cases p [] x here = absurd here
 filter_cases p (z ∷ zs) x here =
     elim (cases_Bool (p z)) [
       | inl taken ↦ split taken (filter_cases p zs x) (subst (λ ys. Among ys x) (cond-true (p z) (z ∷ filter p zs) (filter p zs) taken) here)
-      | inr left ↦ (let more = filter_cases p zs x (subst (λ ys. Among ys x) (cond-false (p z) (z ∷ filter p zs) (filter p zs) left) here) in (inr more.0, more.1))
+      | inr left ↦ (let more = filter_cases p zs x (subst (λ ys. Among ys x) (cond-false (p z) (z ∷ filter p zs) (filter p zs) left) here) in
+          (inr more.0, more.1))
     ]
   where
     split : p z ≡ true → (Among (filter p zs) x → Among zs x × (p x ≡ true)) → Among (z ∷ filter p zs) x → Among (z ∷ zs) x × (p x ≡ true)

@@ -25,7 +25,8 @@ any-fewer p i k m le none =
     found p from (suc n) some =
         elim (cases_Bool (p from)) [
           | inl here ↦ (from, (omega arith, omega arith, here))
-          | inr past ↦ let more = found p (from + 1) n (there (p from) (list_any p (range_with_len (from + 1) n)) some past) in (more.0, (omega (arith, more.1.0), omega (arith, more.1.1), more.1.2))
+          | inr past ↦ let more = found p (from + 1) n (there (p from) (list_any p (range_with_len (from + 1) n)) some past) in
+              (more.0, (omega (arith, more.1.0), omega (arith, more.1.1), more.1.2))
         ]
       where
         there : (a b : Bool) → (a || b) ≡ true → a ≡ false → b ≡ true
@@ -52,7 +53,8 @@ bars_none p i first m k is past none = lt-leb k first past ∙ sym (any-fewer p 
 pub bars_more : (p : ℕ → Bool) (i at m : ℕ) → i ≡ at + 1 → at < m → list_any p (range_with_len i (m - i)) ≡ false → p at ≡ false
     → list_any p (range_with_len at (m - at)) ≡ false
 bars_more p i at m is within none trivial =
-    ap (λ n. list_any p (range_with_len at n)) len ∙ ap (λ b. b || list_any p (range_with_len (at + 1) (m - i))) trivial ∙ ap (λ n. list_any p (range_with_len n (m - i))) (sym is) ∙ none
+    ap (λ n. list_any p (range_with_len at n)) len ∙ ap (λ b. b || list_any p (range_with_len (at + 1) (m - i))) trivial
+    ∙ ap (λ n. list_any p (range_with_len n (m - i))) (sym is) ∙ none
   where
     len : m - at ≡ suc (m - i)
     len = omega arith

@@ -33,7 +33,9 @@ best-kept source marks k p a best wide wider before =
         among = Contains-append_left marks (a ∷ []) m.span m.among;
         covers = m.covers;
         is = m.is;
-        least = λ other found at. ⊎_elim (λ old. m.least other old at) (λ same. subst (λ (o : Annotation). IsMarkedAt source k p o → span_width source m.span ≤ span_width source o) same (λ now. omega (arith, before.width, wide now)) at) (Contains-push_cases marks a other found);
+        least = λ other found at. ⊎_elim (λ old. m.least other old at) (λ same.
+            subst (λ (o : Annotation). IsMarkedAt source k p o → span_width source m.span ≤ span_width source o) same (λ now.
+            omega (arith, before.width, wide now)) at) (Contains-push_cases marks a other found);
         primary_wins = λ context other found at primary. ⊎_elim (λ old. m.primary_wins context other old at primary)
             (λ same. subst (λ (o : Annotation). IsMarkedAt source k p o → o.kind ≡ Primary → span_width source m.span < span_width source o)
             same (λ now is. omega (arith, before.width, wider now is)) at primary) (Contains-push_cases marks a other found);
@@ -51,15 +53,18 @@ best-unmarked source marks k p a (Some best) off before = best-kept source marks
 best-new : (source : List ℕ) (marks : List Annotation) (k p : ℕ) (a : Annotation) (new : Mark) → IsMarkedAt source k p a
     → new.width ≡ span_width source a → new.kind ≡ a.kind
     → ((other : Annotation) → Contains marks other → IsMarkedAt source k p other → new.width ≤ span_width source other)
-    → (new.kind ≡ Context → (other : Annotation) → Contains marks other → IsMarkedAt source k p other → other.kind ≡ Primary → new.width < span_width source other) → IsBest source (marks ++ a ∷ []) k p new
+    → (new.kind ≡ Context → (other : Annotation) → Contains marks other → IsMarkedAt source k p other → other.kind ≡ Primary
+    → new.width < span_width source other) → IsBest source (marks ++ a ∷ []) k p new
 best-new source marks k p a new at width kind least wins = record {
   mark = record {
     span = a;
     among = Contains-push marks a;
     covers = at;
     is = sym kind;
-    least = λ other found there. ⊎_elim (λ old. omega (arith, width, least other old there)) (λ same. subst (λ (o : Annotation). span_width source a ≤ span_width source o) same (omega arith)) (Contains-push_cases marks a other found);
-    primary_wins = λ context other found there primary. ⊎_elim (λ old. omega (arith, width, wins context other old there primary)) (λ same. absurd (two_kinds a.kind (sym kind ∙ context) (ap (λ (o : Annotation). o.kind) same ∙ primary))) (Contains-push_cases marks a other found);
+    least = λ other found there. ⊎_elim (λ old. omega (arith, width, least other old there)) (λ same.
+        subst (λ (o : Annotation). span_width source a ≤ span_width source o) same (omega arith)) (Contains-push_cases marks a other found);
+    primary_wins = λ context other found there primary. ⊎_elim (λ old. omega (arith, width, wins context other old there primary)) (λ same.
+        absurd (two_kinds a.kind (sym kind ∙ context) (ap (λ (o : Annotation). o.kind) same ∙ primary))) (Contains-push_cases marks a other found);
   };
   width = width;
 }
@@ -71,15 +76,19 @@ best-new source marks k p a new at width kind least wins = record {
 pub best-first : (source : List ℕ) (marks : List Annotation) (k p : ℕ) (a : Annotation) (new : Mark) → IsMarkedAt source k p a → new.width ≡ span_width source a
     → new.kind ≡ a.kind → All (λ a. IsMarkedAt source k p a → ⊥) marks → IsBest source (marks ++ a ∷ []) k p new
 best-first source marks k p a new at width kind none =
-    let not : (other : Annotation) → Contains marks other → IsMarkedAt source k p other → ⊥ = λ other found. All-contains (λ a. IsMarkedAt source k p a → ⊥) marks other none found in
-    best-new source marks k p a new at width kind (λ other found there. absurd (not other found there)) (λ _ other found there _. absurd (not other found there))
+    let not : (other : Annotation) → Contains marks other → IsMarkedAt source k p other → ⊥ = λ other found.
+    All-contains (λ a. IsMarkedAt source k p a → ⊥) marks other none found in
+    best-new source marks k p a new at width kind (λ other found there. absurd (not other found there)) (λ _ other found there _.
+    absurd (not other found there))
 
 -- a span that is narrower than the best before it, or primary and as wide
 pub best-narrower : (source : List ℕ) (marks : List Annotation) (k p : ℕ) (a : Annotation) (new best : Mark) → IsMarkedAt source k p a
     → new.width ≡ span_width source a → new.kind ≡ a.kind → new.width ≤ best.width → (new.kind ≡ Context → new.width < best.width)
     → IsBest source marks k p best → IsBest source (marks ++ a ∷ []) k p new
 best-narrower source marks k p a new best at width kind narrow narrower before =
-    best-new source marks k p a new at width kind (λ other found there. omega (arith, narrow, before.width, before.mark.least other found there)) (λ context other found there _. omega (arith, narrower context, before.width, before.mark.least other found there))
+    best-new source marks k p a new at width kind (λ other found there.
+    omega (arith, narrow, before.width, before.mark.least other found there)) (λ context other found there _.
+    omega (arith, narrower context, before.width, before.mark.least other found there))
 
 -- one more turn
 pub best-turn : (source : List ℕ) (marks : List Annotation) (i k p : ℕ) (a : Annotation) (best : Option Mark) → i < length marks → a ≡ get_or marks i a

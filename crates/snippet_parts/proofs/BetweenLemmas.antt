@@ -44,15 +44,18 @@ text-there s number k is within =
     and_from (leb s.first number) (ltb (number - s.first) (length (source_lines s.text))) (le-leb s.first number (omega arith))
     (lt-ltb (number - s.first) (length (source_lines s.text)) (omega arith)) in
     let at : number - s.first ≡ k = omega arith in
-    cond-true (leb s.first number && ltb (number - s.first) (length (source_lines s.text))) (Some (text_at (source_lines s.text) (number - s.first))) None there ∙ ap (λ i. Some (text_at (source_lines s.text) i)) at
+    cond-true (leb s.first number && ltb (number - s.first) (length (source_lines s.text)))
+    (Some (text_at (source_lines s.text) (number - s.first))) None there ∙ ap (λ i. Some (text_at (source_lines s.text) i)) at
 
 single-line : (s : Source) (marks : List Annotation) (j k : ℕ) → k ≡ j + 2 → k < length (source_lines s.text) → IsPlain s marks (j + 1)
     → lines_between s (Some (s.first + j)) (s.first + k) ≡ kept_line s marks (j + 1) ∷ []
 single-line s marks j k next within plain =
     let at : s.first + j + 1 ≡ s.first + (j + 1) = omega arith in
     let line = λ (text : List ℕ). (let l : KeptLine = record { number = s.first + j + 1; text = text; parts = []; keep = false } in l) in
-    ap option_to_list (cond-true (eqb (s.first + k) (s.first + j + 2)) (option_map line (line_at s (s.first + j + 1))) None (eq-eqb (s.first + k) (s.first + j + 2) (omega arith)) ∙ ap (option_map line) (text-there s (s.first + j + 1) (j + 1) at (omega arith)))
-    ∙ ap (λ l. l ∷ []) (same-kept (s.first + j + 1) (s.first + (j + 1)) (text_at (source_lines s.text) (j + 1)) (text_at (source_lines s.text) (j + 1)) [] (parts_on s marks (j + 1)) false (list_any (λ a. not (is_marking a.kind) && touches s.text a (j + 1)) marks) at refl (sym plain.0) (sym plain.1))
+    ap option_to_list (cond-true (eqb (s.first + k) (s.first + j + 2)) (option_map line (line_at s (s.first + j + 1))) None
+    (eq-eqb (s.first + k) (s.first + j + 2) (omega arith)) ∙ ap (option_map line) (text-there s (s.first + j + 1) (j + 1) at (omega arith)))
+    ∙ ap (λ l. l ∷ []) (same-kept (s.first + j + 1) (s.first + (j + 1)) (text_at (source_lines s.text) (j + 1)) (text_at (source_lines s.text) (j + 1)) []
+    (parts_on s marks (j + 1)) false (list_any (λ a. not (is_marking a.kind) && touches s.text a (j + 1)) marks) at refl (sym plain.0) (sym plain.1))
 
 no_line : (s : Source) (j k : ℕ) → (k ≡ j + 2 → ⊥) → lines_between s (Some (s.first + j)) (s.first + k) ≡ []
 no_line s j k apart =
@@ -71,16 +74,19 @@ rest_is s marks p plain j a (suc n) before none within =
     let Goal = λ (xs : List ℕ). filled s (Some (s.first + j)) (map f xs) ≡ map f (rest_between j xs) in
     elim (cases_Bool (p a)) [
       | inl here ↦
-          let rest : filled s (Some (s.first + a)) (map f ks) ≡ map f (rest_between a ks) = rest_is s marks p plain a (a + 1) n (omega arith) (λ i from to. absurd (omega arith)) (omega arith) in
+          let rest : filled s (Some (s.first + a)) (map f ks) ≡ map f (rest_between a ks) = rest_is s marks p plain a (a + 1) n (omega arith) (λ i from to.
+          absurd (omega arith)) (omega arith) in
           let goal : Goal (a ∷ ks) = elim (cases_eq a (j + 2)) [
             | inl next ↦ ap (λ ls. ls ++ f a ∷ filled s (Some (s.first + a)) (map f ks))
                 (single-line s marks j a next (omega arith) (plain (j + 1) (none (j + 1) (omega arith) (omega arith))))
                 ∙ ap (λ ls. f (j + 1) ∷ f a ∷ ls) rest ∙ ap (map f)
                 (sym (cond-true (eqb a (j + 2)) ((j + 1) ∷ a ∷ rest_between a ks) (a ∷ rest_between a ks) (eq-eqb a (j + 2) next)))
-            | inr apart ↦ ap (λ ls. ls ++ f a ∷ filled s (Some (s.first + a)) (map f ks)) (no_line s j a apart) ∙ ap (λ ls. f a ∷ ls) rest ∙ ap (map f) (sym (cond-false (eqb a (j + 2)) ((j + 1) ∷ a ∷ rest_between a ks) (a ∷ rest_between a ks) (ne_eqb a (j + 2) apart)))
+            | inr apart ↦ ap (λ ls. ls ++ f a ∷ filled s (Some (s.first + a)) (map f ks)) (no_line s j a apart) ∙ ap (λ ls. f a ∷ ls) rest
+                ∙ ap (map f) (sym (cond-false (eqb a (j + 2)) ((j + 1) ∷ a ∷ rest_between a ks) (a ∷ rest_between a ks) (ne_eqb a (j + 2) apart)))
           ] in
           subst Goal (sym (cond-true (p a) (a ∷ ks) ks here)) goal
-      | inr gone ↦ subst Goal (sym (cond-false (p a) (a ∷ ks) ks gone)) (rest_is s marks p plain j (a + 1) n (omega arith) (λ i from to. one_more i from to gone) (omega arith))
+      | inr gone ↦ subst Goal (sym (cond-false (p a) (a ∷ ks) ks gone))
+          (rest_is s marks p plain j (a + 1) n (omega arith) (λ i from to. one_more i from to gone) (omega arith))
     ]
   where
     one_more : (i : ℕ) → j < i → i < a + 1 → p a ≡ false → p i ≡ false
@@ -102,7 +108,8 @@ all-is s marks p plain a (suc n) within =
     let Goal = λ (xs : List ℕ). filled s None (map f xs) ≡ map f (with_between xs) in
     elim (cases_Bool (p a)) [
       | inl here ↦
-          let rest : filled s (Some (s.first + a)) (map f ks) ≡ map f (rest_between a ks) = rest_is s marks p plain a (a + 1) n (omega arith) (λ i from to. absurd (omega arith)) (omega arith) in
+          let rest : filled s (Some (s.first + a)) (map f ks) ≡ map f (rest_between a ks) = rest_is s marks p plain a (a + 1) n (omega arith) (λ i from to.
+          absurd (omega arith)) (omega arith) in
           subst Goal (sym (cond-true (p a) (a ∷ ks) ks here)) (ap (λ ls. f a ∷ ls) rest ∙ ap (map f) (sym (between-rest a ks)))
       | inr gone ↦ subst Goal (sym (cond-false (p a) (a ∷ ks) ks gone)) (all-is s marks p plain (a + 1) n (omega arith))
     ]

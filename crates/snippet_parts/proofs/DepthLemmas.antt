@@ -17,7 +17,8 @@ use Rattle.std.proofs.lemmas.Simd.{map-map}
 
 -- depths that are counted from the greatest raw one are those of the places
 pub depths-are : (ps : List LongExtent) → map (λ raw. greatest_depth ps - raw + 1) (raw_depths ps) ≡ map (depth_among ps) ps
-depths-are ps = ap (map (λ raw. greatest_depth ps - raw + 1)) (raw_depths-are ps) ∙ map-map (λ raw. greatest_depth ps - raw + 1) (raw_depth_among (places_of ps)) ps
+depths-are ps = ap (map (λ raw. greatest_depth ps - raw + 1)) (raw_depths-are ps)
+    ∙ map-map (λ raw. greatest_depth ps - raw + 1) (raw_depth_among (places_of ps)) ps
 
 -- the greatest depth is at most the count of places
 pub greatest-depth-bound : (ps : List LongExtent) → greatest_depth ps ≤ length ps
@@ -34,7 +35,8 @@ among-some (q ∷ ps) p stands =
       | inl again ↦ omega (arith, among_after q p ps again, among-some ps p again)
       | inr fails ↦
           let same : p ≡ q = same-true p q (here (same_place p q) (list_any (same_place p) ps) stands fails) in
-          let e : raw_depth_among (places_of (q ∷ ps)) p ≡ raw_depth p (places_of ps) = ap (λ x. raw_depth_among (places_of (x ∷ ps)) p) (sym same) ∙ among-new p ps fails in
+          let e : raw_depth_among (places_of (q ∷ ps)) p ≡ raw_depth p (places_of ps) = ap (λ x. raw_depth_among (places_of (x ∷ ps)) p) (sym same)
+          ∙ among-new p ps fails in
           omega (arith, raw_depth-some p (places_of ps))
     ]
   where
@@ -65,12 +67,14 @@ raw-apart (r ∷ ps) p q in-p in-q share same =
         | inl q-again ↦ raw-apart ps p q p-again q-again share (sym (among_after r p ps p-again) ∙ same ∙ among_after r q ps q-again)
         | inr q-new ↦
             let is : q ≡ r = same-true q r (here (same_place q r) (list_any (same_place q) ps) in-q q-new) in
-            let e : raw_depth_among (places_of (r ∷ ps)) q ≡ raw_depth q (places_of ps) = ap (λ x. raw_depth_among (places_of (x ∷ ps)) q) (sym is) ∙ among-new q ps q-new in
+            let e : raw_depth_among (places_of (r ∷ ps)) q ≡ raw_depth q (places_of ps) = ap (λ x. raw_depth_among (places_of (x ∷ ps)) q) (sym is)
+            ∙ among-new q ps q-new in
             absurd (omega (arith, e, same, among_after r p ps p-again, raw_depth-near q ps, near_max-after q p ps (share-swap p q share) p-again))
       ]
       | inr p-new ↦
           let is : p ≡ r = same-true p r (here (same_place p r) (list_any (same_place p) ps) in-p p-new) in
-          let e : raw_depth_among (places_of (r ∷ ps)) p ≡ raw_depth p (places_of ps) = ap (λ x. raw_depth_among (places_of (x ∷ ps)) p) (sym is) ∙ among-new p ps p-new in
+          let e : raw_depth_among (places_of (r ∷ ps)) p ≡ raw_depth p (places_of ps) = ap (λ x. raw_depth_among (places_of (x ∷ ps)) p) (sym is)
+          ∙ among-new p ps p-new in
           elim (cases_Bool (list_any (same_place q) ps)) [
             | inl q-again ↦ absurd (omega (arith, e, same, among_after r q ps q-again, raw_depth-near p ps, near_max-after p q ps share q-again))
             | inr q-new ↦ is ∙ sym (same-true q r (here (same_place q r) (list_any (same_place q) ps) in-q q-new))
@@ -93,7 +97,8 @@ distinct-places ps p q in-p in-q share same = raw-apart ps p q in-p in-q share (
 pub depths-distinct : (ps : List LongExtent) (p q : LongExtent) → Contains ps p → Contains ps q → share_line p q ≡ true → depth_among ps p ≡ depth_among ps q
     → p ≡ q
 depths-distinct ps p q among-p among-q share same =
-    raw-apart ps p q (any-contains ps p among-p) (any-contains ps q among-q) share (omega (arith, same, among-most (places_of ps) p, among-most (places_of ps) q))
+    raw-apart ps p q (any-contains ps p among-p) (any-contains ps q among-q) share
+    (omega (arith, same, among-most (places_of ps) p, among-most (places_of ps) q))
 
 -- ---- chains
 
@@ -128,7 +133,13 @@ rest_of p (q ∷ ps) =
           let e : cond (share_line p q) (raw_depth q ps + 1) 1 ≡ raw_depth q ps + 1 = cond-true (share_line p q) (raw_depth q ps + 1) 1 share in
           elim (cases_lt (raw_depth q ps) (raw_depth p ps)) [
             | inl less ↦ record { chain = here.chain; is = inl here.is; linked = here.linked; long = omega (arith, here.long) }
-            | inr more ↦ record { chain = q ∷ there.chain; is = inr (there.chain, refl, there.linked, there.is); linked = share; long = omega (arith, there.long) }
+            | inr more ↦ record {
+              chain = q ∷ there.chain;
+              is = inr (there.chain, refl, there.linked, there.is);
+              linked = share;
+              long = omega
+                  (arith, there.long);
+            }
           ]
       | inr apart ↦
           let e : cond (share_line p q) (raw_depth q ps + 1) 1 ≡ 1 = cond-false (share_line p q) (raw_depth q ps + 1) 1 apart in
@@ -143,7 +154,13 @@ longest-chain (p ∷ ps) =
     let there : IsLongestChain ps (greatest_raw_depth ps) = longest-chain ps in
     elim (cases_lt (raw_depth p ps) (greatest_raw_depth ps)) [
       | inl less ↦ record { chain = there.chain; is_chain = inl there.is_chain; long = omega (arith, there.long); longest = any-chain-short (p ∷ ps) }
-      | inr more ↦ record { chain = p ∷ here.chain; is_chain = inr (here.chain, refl, here.linked, here.is); long = omega (arith, here.long); longest = any-chain-short (p ∷ ps) }
+      | inr more ↦ record {
+        chain = p ∷ here.chain;
+        is_chain = inr (here.chain, refl, here.linked, here.is);
+        long = omega
+            (arith, here.long);
+        longest = any-chain-short (p ∷ ps);
+      }
     ]
 
 -- ---- a list that is mapped in place
@@ -167,7 +184,8 @@ turn-read f old now i is within = ap (λ xs. get_or xs i 0) is ∙ turn-at f old
 pub turn-more : (f : ℕ → ℕ) (old now : List ℕ) (i : ℕ) → now ≡ map f (take i old) ++ drop i old → i < length old
     → set now i (f (get_or now i 0)) ≡ map f (take (i + 1) old) ++ drop (i + 1) old
 turn-more f old now i is within =
-    ap (λ n. set now i (f n)) (turn-read f old now i is within) ∙ ap (λ xs. set xs i (f (get_or old i 0))) is ∙ turn-step f old i within ∙ ap (λ n. map f (take n old) ++ drop n old) (sym (add-one i))
+    ap (λ n. set now i (f n)) (turn-read f old now i is within) ∙ ap (λ xs. set xs i (f (get_or old i 0))) is ∙ turn-step f old i within
+    ∙ ap (λ n. map f (take n old) ++ drop n old) (sym (add-one i))
 
 -- a list that was mapped through a borrow of it
 pub mapped : (f : ℕ → ℕ) (xs lent now : List ℕ) (n : ℕ) → lent ≡ xs → now ≡ map f lent → n ≡ length xs → take n (now ++ drop (length now) xs) ≡ map f xs
@@ -179,5 +197,6 @@ mapped f xs lent now n is value len =
 pub raw-most : (ps : List LongExtent) → All (λ raw. raw ≤ greatest_depth ps) (raw_depths ps)
 raw-most ps k d below =
     let len : length (raw_depths ps) ≡ length ps = length-raw_depths ps in
-    let e : get_or (raw_depths ps) k d ≡ raw_depth_among (places_of ps) (get_or ps k no_place) = ap (λ ns. get_or ns k d) (raw_depths-are ps) ∙ get_or-map (raw_depth_among (places_of ps)) ps k no_place d (omega arith) in
+    let e : get_or (raw_depths ps) k d ≡ raw_depth_among (places_of ps) (get_or ps k no_place) = ap (λ ns. get_or ns k d) (raw_depths-are ps)
+    ∙ get_or-map (raw_depth_among (places_of ps)) ps k no_place d (omega arith) in
     omega (arith, e, among-most (places_of ps) (get_or ps k no_place))

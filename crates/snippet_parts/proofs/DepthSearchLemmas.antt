@@ -36,7 +36,9 @@ near_max-after p q (r ∷ ps) share again =
           omega arith
       | inr fails ↦
           let same : q ≡ r = same-true q r (here (same_place q r) (list_any (same_place q) ps) again fails) in
-          let e : cond (share_line p r) (raw_depth_among (places_of (r ∷ ps)) r) 0 ≡ raw_depth_among (places_of (r ∷ ps)) r = cond-true (share_line p r) (raw_depth_among (places_of (r ∷ ps)) r) 0 (subst (λ (x : LongExtent). share_line p x ≡ true) same share) in
+          let e : cond (share_line p r) (raw_depth_among (places_of (r ∷ ps)) r) 0
+          ≡ raw_depth_among (places_of (r ∷ ps)) r = cond-true (share_line p r) (raw_depth_among (places_of (r ∷ ps)) r) 0
+          (subst (λ (x : LongExtent). share_line p x ≡ true) same share) in
           let f : raw_depth_among (places_of (r ∷ ps)) q ≡ raw_depth_among (places_of (r ∷ ps)) r = ap (λ x. raw_depth_among (places_of (r ∷ ps)) x) same in
           omega arith
     ]
@@ -61,20 +63,26 @@ raw_depth-near p (q ∷ ps) =
           ap (raw_depth p) (places-again q ps holds) ∙ h ∙ elim (cases_Bool (share_line p q)) [
             | inl share ↦
                 let le : raw_depth_among (places_of ps) q ≤ near_max p ps = near_max-after p q ps share holds in
-                let e : cond (share_line p q) (raw_depth_among (places_of (q ∷ ps)) q) 0 ≡ raw_depth_among (places_of ps) q = cond-true (share_line p q) (raw_depth_among (places_of (q ∷ ps)) q) 0 share ∙ among_after q q ps holds in
+                let e : cond (share_line p q) (raw_depth_among (places_of (q ∷ ps)) q) 0
+                ≡ raw_depth_among (places_of ps) q = cond-true (share_line p q) (raw_depth_among (places_of (q ∷ ps)) q) 0 share
+                ∙ among_after q q ps holds in
                 omega arith
             | inr apart ↦
-                let e : cond (share_line p q) (raw_depth_among (places_of (q ∷ ps)) q) 0 ≡ 0 = cond-false (share_line p q) (raw_depth_among (places_of (q ∷ ps)) q) 0 apart in
+                let e : cond (share_line p q) (raw_depth_among (places_of (q ∷ ps)) q) 0
+                ≡ 0 = cond-false (share_line p q) (raw_depth_among (places_of (q ∷ ps)) q) 0 apart in
                 omega arith
           ]
       | inr fails ↦
           ap (raw_depth p) (places-new q ps fails) ∙ elim (cases_Bool (share_line p q)) [
             | inl share ↦
-                let e : cond (share_line p q) (raw_depth_among (places_of (q ∷ ps)) q) 0 ≡ raw_depth q (places_of ps) = cond-true (share_line p q) (raw_depth_among (places_of (q ∷ ps)) q) 0 share ∙ among-new q ps fails in
-                let f : cond (share_line p q) (raw_depth q (places_of ps) + 1) 1 ≡ raw_depth q (places_of ps) + 1 = cond-true (share_line p q) (raw_depth q (places_of ps) + 1) 1 share in
+                let e : cond (share_line p q) (raw_depth_among (places_of (q ∷ ps)) q) 0
+                ≡ raw_depth q (places_of ps) = cond-true (share_line p q) (raw_depth_among (places_of (q ∷ ps)) q) 0 share ∙ among-new q ps fails in
+                let f : cond (share_line p q) (raw_depth q (places_of ps) + 1) 1
+                ≡ raw_depth q (places_of ps) + 1 = cond-true (share_line p q) (raw_depth q (places_of ps) + 1) 1 share in
                 omega arith
             | inr apart ↦
-                let e : cond (share_line p q) (raw_depth_among (places_of (q ∷ ps)) q) 0 ≡ 0 = cond-false (share_line p q) (raw_depth_among (places_of (q ∷ ps)) q) 0 apart in
+                let e : cond (share_line p q) (raw_depth_among (places_of (q ∷ ps)) q) 0
+                ≡ 0 = cond-false (share_line p q) (raw_depth_among (places_of (q ∷ ps)) q) 0 apart in
                 let f : cond (share_line p q) (raw_depth q (places_of ps) + 1) 1 ≡ 1 = cond-false (share_line p q) (raw_depth q (places_of ps) + 1) 1 apart in
                 omega arith
           ]
@@ -86,7 +94,8 @@ unfolding near_max
 near_max-none p [] none = refl
 near_max-none p (q ∷ ps) none =
     let parts : (share_line p q ≡ false) × (list_any (share_line p) ps ≡ false) = neither (share_line p q) (list_any (share_line p) ps) none in
-    let e : cond (share_line p q) (raw_depth_among (places_of (q ∷ ps)) q) 0 ≡ 0 = cond-false (share_line p q) (raw_depth_among (places_of (q ∷ ps)) q) 0 parts.0 in
+    let e : cond (share_line p q) (raw_depth_among (places_of (q ∷ ps)) q) 0
+    ≡ 0 = cond-false (share_line p q) (raw_depth_among (places_of (q ∷ ps)) q) 0 parts.0 in
     let h : near_max p ps ≡ 0 = near_max-none p ps parts.1 in
     omega arith
   where
@@ -109,13 +118,17 @@ search-same p zero deepest ps own near again = absurd (none ps near again)
     none [] near again = cc
     none (q ∷ ps) near again =
         elim (or_cases (same_place p q) (list_any (same_place p) ps) again) [
-          | inl same ↦ both_ways (list_any (share_line p) (q ∷ ps)) near (or_left (share_line p q) (list_any (share_line p) ps) (subst (λ (x : LongExtent). share_line p x ≡ true) (same-true p q same) own))
-          | inr more ↦ none ps (false_from_ne_true (list_any (share_line p) ps) (λ holds. both_ways (list_any (share_line p) (q ∷ ps)) near (or_right (share_line p q) (list_any (share_line p) ps) holds))) more
+          | inl same ↦ both_ways (list_any (share_line p) (q ∷ ps)) near
+              (or_left (share_line p q) (list_any (share_line p) ps) (subst (λ (x : LongExtent). share_line p x ≡ true) (same-true p q same) own))
+          | inr more ↦ none ps (false_from_ne_true (list_any (share_line p) ps) (λ holds.
+              both_ways (list_any (share_line p) (q ∷ ps)) near (or_right (share_line p q) (list_any (share_line p) ps) holds))) more
         ]
 search-same p (suc k) deepest [] own near again = absurd near
 search-same p (suc k) deepest (q ∷ ps) own near again =
     elim (cases_Bool (same_place p q)) [
-      | inl same ↦ cond-true (same_place p q) (raw_depth_among (places_of (q ∷ ps)) q) (search_from (max (raw_depth_among (places_of (q ∷ ps)) q) deepest) p (take k ps) (raw_depths ps)) same ∙ ap (raw_depth_among (places_of (q ∷ ps))) (sym (same-true p q same))
+      | inl same ↦ cond-true (same_place p q) (raw_depth_among (places_of (q ∷ ps)) q)
+          (search_from (max (raw_depth_among (places_of (q ∷ ps)) q) deepest) p (take k ps) (raw_depths ps)) same
+          ∙ ap (raw_depth_among (places_of (q ∷ ps))) (sym (same-true p q same))
       | inr other ↦
           let after : list_any (same_place p) ps ≡ true = there (same_place p q) (list_any (same_place p) ps) again other in
           cond-false (same_place p q) (raw_depth_among (places_of (q ∷ ps)) q)
@@ -135,9 +148,11 @@ search-new p (suc k) deepest [] near new = absurd near
 search-new p (suc k) deepest (q ∷ ps) near new =
     let n : ℕ = raw_depth_among (places_of (q ∷ ps)) q in
     let parts : (same_place p q ≡ false) × (list_any (same_place p) ps ≡ false) = neither (same_place p q) (list_any (same_place p) ps) new in
-    let h : search_from (max n deepest) p (take k ps) (raw_depths ps) ≡ max (max n deepest) (near_max p ps) + 1 = search-new p k (max n deepest) ps near.1 parts.1 in
+    let h : search_from (max n deepest) p (take k ps) (raw_depths ps)
+    ≡ max (max n deepest) (near_max p ps) + 1 = search-new p k (max n deepest) ps near.1 parts.1 in
     let e : cond (share_line p q) n 0 ≡ n = cond-true (share_line p q) n 0 near.0 in
-    cond-false (same_place p q) n (search_from (max n deepest) p (take k ps) (raw_depths ps)) parts.0 ∙ h ∙ regroup n deepest (cond (share_line p q) n 0) (near_max p ps) e
+    cond-false (same_place p q) n (search_from (max n deepest) p (take k ps) (raw_depths ps)) parts.0 ∙ h
+    ∙ regroup n deepest (cond (share_line p q) n 0) (near_max p ps) e
   where
     neither : (a b : Bool) → (a || b) ≡ false → (a ≡ false) × (b ≡ false)
     neither true b none = cc
@@ -151,7 +166,8 @@ pub search-is : (p : LongExtent) (k : ℕ) (ps : List LongExtent) → p.first �
     → search_from 0 p (take k ps) (raw_depths ps) ≡ raw_depth_among (places_of (p ∷ ps)) p
 search-is p k ps own near =
     elim (cases_Bool (list_any (same_place p) ps)) [
-      | inl again ↦ search-same p k 0 ps (and_from (leb p.first p.last) (leb p.first p.last) (le-leb p.first p.last own) (le-leb p.first p.last own)) near again ∙ sym (among_after p p ps again)
+      | inl again ↦ search-same p k 0 ps (and_from (leb p.first p.last) (leb p.first p.last) (le-leb p.first p.last own)
+          (le-leb p.first p.last own)) near again ∙ sym (among_after p p ps again)
       | inr new ↦ search-new p k 0 ps near new ∙ omega (arith, raw_depth-near p ps) ∙ sym (among-new p ps new)
     ]
 
@@ -164,7 +180,8 @@ near_up_to p zero [] within near far after lines = refl
 near_up_to p zero (q ∷ ps) within near far after lines =
     let b : p.last < q.first = far 0 q (omega arith) (omega arith) in
     let apart : share_line p q ≡ false = and_right (leb p.first q.last) (leb q.first p.last) (lt-leb q.first p.last b) in
-    let rest : list_any (share_line p) ps ≡ false = near_up_to p zero ps (omega arith) (λ j d below. absurd (omega arith)) (λ j d from to. far (suc j) d (omega arith) (omega arith)) (λ j d in'. after (suc j) d (omega arith)) (λ j d in'. lines (suc j) d (omega arith)) in
+    let rest : list_any (share_line p) ps ≡ false = near_up_to p zero ps (omega arith) (λ j d below. absurd (omega arith)) (λ j d from to.
+    far (suc j) d (omega arith) (omega arith)) (λ j d in'. after (suc j) d (omega arith)) (λ j d in'. lines (suc j) d (omega arith)) in
     either (share_line p q) (list_any (share_line p) ps) apart rest
   where
     either : (a b : Bool) → a ≡ false → b ≡ false → (a || b) ≡ false
@@ -217,7 +234,8 @@ pub found_at : (p : LongExtent) (later : List LongExtent) (raws : List ℕ) (nea
     → same_place p (get_or later i no_place) ≡ true → get_or raws i 0 ≡ raw_depth_among (places_of (p ∷ later)) p
 found_at p later raws near i deepest is within below own up_to before same =
     let e : length raws ≡ length later = ap length is ∙ length-raw_depths later in
-    sym (search-found deepest p (take near later) raws i no_place (get_or raws i 0) (omega (arith, length-take-le near later within)) (omega arith) (get_or_default raws i 0 (get_or raws i 0) (omega arith)) (ap (same_place p) (get_or-take near later i no_place below) ∙ same))
+    sym (search-found deepest p (take near later) raws i no_place (get_or raws i 0) (omega (arith, length-take-le near later within)) (omega arith)
+    (get_or_default raws i 0 (get_or raws i 0) (omega arith)) (ap (same_place p) (get_or-take near later i no_place below) ∙ same))
     ∙ before ∙ ap (search_from 0 p (take near later)) is ∙ search-is p near later own up_to
 
 -- another place is passed, with its raw depth where it is deeper
@@ -227,7 +245,8 @@ pub passed_at : (p : LongExtent) (later : List LongExtent) (raws : List ℕ) (ne
     → search_from (max (get_or raws i 0) deepest) p (drop (i + 1) (take near later)) (drop (i + 1) raws) ≡ search_from 0 p (take near later) raws
 passed_at p later raws near i deepest is within below before other =
     let e : length raws ≡ length later = ap length is ∙ length-raw_depths later in
-    sym (search-more deepest p (take near later) raws i no_place (get_or raws i 0) (omega (arith, length-take-le near later within)) (omega arith) (get_or_default raws i 0 (get_or raws i 0) (omega arith)) (ap (same_place p) (get_or-take near later i no_place below) ∙ other))
+    sym (search-more deepest p (take near later) raws i no_place (get_or raws i 0) (omega (arith, length-take-le near later within)) (omega arith)
+    (get_or_default raws i 0 (get_or raws i 0) (omega arith)) (ap (same_place p) (get_or-take near later i no_place below) ∙ other))
     ∙ before
 
 -- a place that doesn't stand again is one deeper than the deepest passed
@@ -236,7 +255,8 @@ pub found_none : (p : LongExtent) (later : List LongExtent) (raws : List ℕ) (n
     → search_from deepest p (drop i (take near later)) (drop i raws) ≡ search_from 0 p (take near later) raws
     → deepest + 1 ≡ raw_depth_among (places_of (p ∷ later)) p
 found_none p later raws near i deepest is within all own up_to before =
-    sym (ap (λ qs. search_from deepest p qs (drop i raws)) (drop_all i (take near later) (omega (arith, length-take-le near later within))) ∙ search-done deepest p (drop i raws))
+    sym (ap (λ qs. search_from deepest p qs (drop i raws)) (drop_all i (take near later) (omega (arith, length-take-le near later within)))
+    ∙ search-done deepest p (drop i raws))
     ∙ before ∙ ap (search_from 0 p (take near later)) is ∙ search-is p near later own up_to
 
 -- ---- all raw depths, from the last on

@@ -67,7 +67,8 @@ pub each-entry : (P : PartEntry → Type 0) (s : Source) (marks : List Annotatio
 each-entry P s marks ks infos same all =
     each-line (λ info. All (λ e. P (seen_part e)) info.annotations.items) s marks ks infos same (λ i d within info seen. let k : ℕ = get_or ks i d in
     let on : All P (parts_on s marks k) = All-filter (λ (p : PartEntry). eqb p.entry.start.line (s.first + k)) P (made_parts s marks) all in
-    All-unmapped P seen_part info.annotations.items (All-same P (map seen_part info.annotations.items) (parts_on s marks k) (entries-on s marks k info seen) on))
+    All-unmapped P seen_part info.annotations.items (All-same P (map seen_part info.annotations.items) (parts_on s marks k)
+    (entries-on s marks k info seen) on))
 
 -- ---- places
 
@@ -95,7 +96,8 @@ places-fit s marks ks infos same fits =
 pub characters-fit : (s : Source) (marks : List Annotation) (ks : List ℕ) (infos : List AnnotatedLineInfo) → map seen_kept infos ≡ map (kept_line s marks) ks
     → length s.text < 2 ^ 56 → AllEntries HasCharacterRoom infos
 characters-fit s marks ks infos same fits =
-    each-entry Room s marks ks infos same (made-all Room s marks (λ a among is. omega (arith, start-character-bound s a.span.start a.span.end)) (λ a among is kind. long a kind))
+    each-entry Room s marks ks infos same (made-all Room s marks (λ a among is.
+    omega (arith, start-character-bound s a.span.start a.span.end)) (λ a among is kind. long a kind))
   where
     Room : PartEntry → Type 0
     Room p = p.entry.start.char < 2 ^ 60
@@ -114,13 +116,15 @@ characters-fit s marks ks infos same fits =
 pub texts-fit : (s : Source) (marks : List Annotation) (ks : List ℕ) (infos : List AnnotatedLineInfo) → map seen_kept infos ≡ map (kept_line s marks) ks
     → length s.text < 2 ^ 56 → All (λ info. length info.line.now < 2 ^ 56) infos
 texts-fit s marks ks infos same fits =
-    each-line (λ info. length info.line.now < 2 ^ 56) s marks ks infos same (λ i d within info seen. omega (arith, ap (λ (l : KeptLine). length l.text) seen, length-text_at-source s.text (get_or ks i d)))
+    each-line (λ info. length info.line.now < 2 ^ 56) s marks ks infos same (λ i d within info seen.
+    omega (arith, ap (λ (l : KeptLine). length l.text) seen, length-text_at-source s.text (get_or ks i d)))
 
 pub numbers-within : (s : Source) (marks : List Annotation) (ks : List ℕ) (infos : List AnnotatedLineInfo)
     → map seen_kept infos ≡ map (kept_line s marks) ks → All (λ k. k < length (source_lines s.text)) ks
     → All (λ info. (s.first ≤ info.line_index) × (info.line_index < s.first + length (source_lines s.text))) infos
 numbers-within s marks ks infos same all =
-    each-line (λ info. (s.first ≤ info.line_index) × (info.line_index < s.first + length (source_lines s.text))) s marks ks infos same (λ i d within info seen. let at : info.line_index ≡ s.first + get_or ks i d = ap (λ (l : KeptLine). l.number) seen in
+    each-line (λ info. (s.first ≤ info.line_index) × (info.line_index < s.first + length (source_lines s.text))) s marks ks infos same (λ i d within info seen.
+    let at : info.line_index ≡ s.first + get_or ks i d = ap (λ (l : KeptLine). l.number) seen in
     let below : get_or ks i d < length (source_lines s.text) = all i d within in (omega arith, omega arith))
 
 -- ---- labels
@@ -129,7 +133,8 @@ numbers-within s marks ks infos same all =
 pub labels-fit : (s : Source) (marks : List Annotation) (ks : List ℕ) (infos : List AnnotatedLineInfo) → map seen_kept infos ≡ map (kept_line s marks) ks
     → All AnnotationFits marks → AllEntries HasShortLabel infos
 labels-fit s marks ks infos same fit =
-    All-weaker (λ info. All (λ e. Short (seen_part e)) info.annotations.items) (λ info. All HasShortLabel info.annotations.items) (λ info all. All-weaker (λ e. Short (seen_part e)) HasShortLabel (λ e short. copied e.label short) info.annotations.items all) infos
+    All-weaker (λ info. All (λ e. Short (seen_part e)) info.annotations.items) (λ info. All HasShortLabel info.annotations.items) (λ info all.
+    All-weaker (λ e. Short (seen_part e)) HasShortLabel (λ e short. copied e.label short) info.annotations.items all) infos
     (each-entry Short s marks ks infos same (made-all Short s marks (λ a among is. mapped a among) (λ a among is kind. long a among kind)))
   where
     Short : PartEntry → Type 0
@@ -163,13 +168,15 @@ place-holds f P p (q ∷ ps) among all =
 pub depth-within : (s : Source) (marks : List Annotation) (a : Annotation) → Contains marks a → is_long s.text a ≡ true
     → (0 < depth_of s marks a) × (depth_of s marks a ≤ deepest s marks)
 depth-within s marks a among long =
-    place-holds (depth_among (long_places s marks)) (λ n. (1 ≤ n) × (n ≤ greatest_depth (long_places s marks))) (long_place (long_entry s a)) (long_places s marks) (place-among s marks a among long) (depths-within (long_places s marks))
+    place-holds (depth_among (long_places s marks)) (λ n. (1 ≤ n) × (n ≤ greatest_depth (long_places s marks))) (long_place (long_entry s a))
+    (long_places s marks) (place-among s marks a among long) (depths-within (long_places s marks))
 
 -- no entry of a kept line stands deeper than the deepest span
 pub depths-fit : (s : Source) (marks : List Annotation) (ks : List ℕ) (infos : List AnnotatedLineInfo) → map seen_kept infos ≡ map (kept_line s marks) ks
     → AllEntries (λ e. HasDepthWithin (deepest s marks) e.annotation_type) infos
 depths-fit s marks ks infos same =
-    each-entry (λ p. HasDepthWithin (deepest s marks) p.part) s marks ks infos same (made-all (λ p. HasDepthWithin (deepest s marks) p.part) s marks (λ a among is. tt) (λ a among is kind. long a among is kind))
+    each-entry (λ p. HasDepthWithin (deepest s marks) p.part) s marks ks infos same
+    (made-all (λ p. HasDepthWithin (deepest s marks) p.part) s marks (λ a among is. tt) (λ a among is kind. long a among is kind))
   where
     long : (a : Annotation) → Contains marks a → is_long s.text a ≡ true → (kind : AnnotationKind)
         → HoldsOfSpan (λ p. HasDepthWithin (deepest s marks) p.part) s (depth_of s marks a) (record (long_entry s a) { kind = kind })
@@ -184,8 +191,10 @@ pub filter-filter : {X : Type 0} (q p : X → Bool) (xs : List X) → filter q (
 filter-filter q p [] = refl
 filter-filter q p (x ∷ xs) =
     elim (cases_Bool (p x)) [
-      | inl t ↦ ap (filter q) (cond-true (p x) (x ∷ filter p xs) (filter p xs) t) ∙ ap (λ ys. cond (q x) (x ∷ ys) ys) (filter-filter q p xs) ∙ sym (ap (λ b. cond (b && q x) (x ∷ filter (λ x. p x && q x) xs) (filter (λ x. p x && q x) xs)) t)
-      | inr f ↦ ap (filter q) (cond-false (p x) (x ∷ filter p xs) (filter p xs) f) ∙ filter-filter q p xs ∙ sym (ap (λ b. cond (b && q x) (x ∷ filter (λ x. p x && q x) xs) (filter (λ x. p x && q x) xs)) f)
+      | inl t ↦ ap (filter q) (cond-true (p x) (x ∷ filter p xs) (filter p xs) t) ∙ ap (λ ys. cond (q x) (x ∷ ys) ys) (filter-filter q p xs)
+          ∙ sym (ap (λ b. cond (b && q x) (x ∷ filter (λ x. p x && q x) xs) (filter (λ x. p x && q x) xs)) t)
+      | inr f ↦ ap (filter q) (cond-false (p x) (x ∷ filter p xs) (filter p xs) f) ∙ filter-filter q p xs
+          ∙ sym (ap (λ b. cond (b && q x) (x ∷ filter (λ x. p x && q x) xs) (filter (λ x. p x && q x) xs)) f)
     ]
 
 all-member : {X : Type 0} (p : X → Bool) (xs : List X) (x : X) → list_all p xs ≡ true → Contains xs x → p x ≡ true
@@ -197,7 +206,8 @@ all-member p xs x all among =
 
 -- the entries on line k of spans on one line are those of the spans that are marked there
 pub singles-on : (s : Source) (marks : List Annotation) (k : ℕ)
-    → filter (λ (p : PartEntry). eqb p.entry.start.line (s.first + k)) (map (single_part s) (filter (is_short s.text) marks)) ≡ map (single_part s) (filter (is_marked_on s.text k) marks)
+    → filter (λ (p : PartEntry). eqb p.entry.start.line (s.first + k)) (map (single_part s) (filter (is_short s.text) marks))
+    ≡ map (single_part s) (filter (is_marked_on s.text k) marks)
 singles-on s marks k =
     filter-map (λ (p : PartEntry). eqb p.entry.start.line (s.first + k)) (single_part s) (filter (is_short s.text) marks)
     ∙ ap (map (single_part s))
@@ -209,7 +219,8 @@ singles-on s marks k =
 pub longs-off : (s : Source) (marks : List Annotation) (k : ℕ) → All (λ a. IsSpan s.text a.span.start a.span.end) marks → is_untouched s.text marks k ≡ true
     → filter (λ (p : PartEntry). eqb p.entry.start.line (s.first + k)) (long_parts s (long_places s marks) [] (long_spans s marks)) ≡ []
 longs-off s marks k spans untouched =
-    filter-none (λ (p : PartEntry). eqb p.entry.start.line (s.first + k)) (long_parts s (long_places s marks) [] (long_spans s marks)) (longs-all Off s marks long)
+    filter-none (λ (p : PartEntry). eqb p.entry.start.line (s.first + k)) (long_parts s (long_places s marks) [] (long_spans s marks))
+    (longs-all Off s marks long)
   where
     Off : PartEntry → Type 0
     Off p = eqb p.entry.start.line (s.first + k) ≡ false
@@ -217,8 +228,11 @@ longs-off s marks k spans untouched =
     away : (a : Annotation) → Contains marks a → is_long s.text a ≡ true → first_line s.text a ≤ k → k ≤ last_line s.text a → ⊥
     away a among long from to =
         let parts = and_parts (is_marking a.kind) (not (is_single_line s.text a)) long in
-        let there : touches s.text a k ≡ true = and_from (leb (first_line s.text a) k) (leb k (last_line s.text a)) (le-leb (first_line s.text a) k from) (le-leb k (last_line s.text a) to) in
-        let touched : (is_marking a.kind && touches s.text a k && not (is_single_line s.text a)) ≡ true = and_from (is_marking a.kind && touches s.text a k) (not (is_single_line s.text a)) (and_from (is_marking a.kind) (touches s.text a k) parts.0 there) parts.1 in
+        let there : touches s.text a k ≡ true = and_from (leb (first_line s.text a) k) (leb k (last_line s.text a)) (le-leb (first_line s.text a) k from)
+        (le-leb k (last_line s.text a) to) in
+        let touched : (is_marking a.kind && touches s.text a k && not (is_single_line s.text a))
+        ≡ true = and_from (is_marking a.kind && touches s.text a k) (not (is_single_line s.text a))
+        (and_from (is_marking a.kind) (touches s.text a k) parts.0 there) parts.1 in
         both_ways (is_marking a.kind && touches s.text a k && not (is_single_line s.text a))
         (not-true (is_marking a.kind && touches s.text a k && not
         (is_single_line s.text a))
@@ -234,13 +248,15 @@ longs-off s marks k spans untouched =
     long a among is kind =
         let first : (long_entry s a).start.line ≡ s.first + first_line s.text a = start-line s a.span.start a.span.end in
         let last : (long_entry s a).end.line ≡ s.first + last_line s.text a = end-line s a.span.start a.span.end in
-        let up : first_line s.text a ≤ last_line s.text a = lines_ordered s.text a (All-contains (λ a. IsSpan s.text a.span.start a.span.end) marks a spans among) in
+        let up : first_line s.text a ≤ last_line s.text a = lines_ordered s.text a
+        (All-contains (λ a. IsSpan s.text a.span.start a.span.end) marks a spans among) in
         let from : ℕ = (long_entry s a).start.line - s.first in
         let to : ℕ = (long_entry s a).end.line - s.first in
         let end : eqb (long_entry s a).end.line (s.first + k) ≡ false = off a among is (long_entry s a).end.line (last_line s.text a) last up (omega arith) in
         record {
           start = off a among is (long_entry s a).start.line (first_line s.text a) first (omega arith) up;
-          bars = All-weaker (IsBarLine s.text from to) (λ m. eqb (s.first + m) (s.first + k) ≡ false) (λ m bar. off a among is (s.first + m) m refl (omega (arith, bar.from)) (omega (arith, bar.to))) (bar_lines s.text from to) (bar-lines s.text from to);
+          bars = All-weaker (IsBarLine s.text from to) (λ m. eqb (s.first + m) (s.first + k) ≡ false) (λ m bar.
+              off a among is (s.first + m) m refl (omega (arith, bar.from)) (omega (arith, bar.to))) (bar_lines s.text from to) (bar-lines s.text from to);
           end = end;
           again = end;
         }
@@ -249,8 +265,10 @@ longs-off s marks k spans untouched =
 pub untouched-parts : (s : Source) (marks : List Annotation) (k : ℕ) → All (λ a. IsSpan s.text a.span.start a.span.end) marks
     → is_untouched s.text marks k ≡ true → parts_on s marks k ≡ map (single_part s) (filter (is_marked_on s.text k) marks)
 untouched-parts s marks k spans untouched =
-    filter-append (λ (p : PartEntry). eqb p.entry.start.line (s.first + k)) (map (single_part s) (filter (is_short s.text) marks)) (long_parts s (long_places s marks) [] (long_spans s marks))
-    ∙ ap (λ ps. filter (λ (p : PartEntry). eqb p.entry.start.line (s.first + k)) (map (single_part s) (filter (is_short s.text) marks)) ++ ps) (longs-off s marks k spans untouched)
+    filter-append (λ (p : PartEntry). eqb p.entry.start.line (s.first + k)) (map (single_part s) (filter (is_short s.text) marks))
+    (long_parts s (long_places s marks) [] (long_spans s marks))
+    ∙ ap (λ ps. filter (λ (p : PartEntry). eqb p.entry.start.line (s.first + k)) (map (single_part s) (filter (is_short s.text) marks)) ++ ps)
+    (longs-off s marks k spans untouched)
     ∙ append-nil (filter (λ (p : PartEntry). eqb p.entry.start.line (s.first + k)) (map (single_part s) (filter (is_short s.text) marks)))
     ∙ singles-on s marks k
 
@@ -274,18 +292,22 @@ count-filter q p (x ∷ xs) =
       | inl t ↦ ap (count_by q) (cond-true (p x) (x ∷ filter p xs) (filter p xs) t) ∙ sum_by-cons (λ y. cond (q y) 1 0) x (filter p xs)
           ∙ ap (λ n. cond (q x) 1 0 + n) (count-filter q p xs)
           ∙ sym (sum_by-cons (λ y. cond (p y && q y) 1 0) x xs ∙ ap (λ b. cond (b && q x) 1 0 + count_by (λ y. p y && q y) xs) t)
-      | inr f ↦ ap (count_by q) (cond-false (p x) (x ∷ filter p xs) (filter p xs) f) ∙ count-filter q p xs ∙ sym (sum_by-cons (λ y. cond (p y && q y) 1 0) x xs ∙ ap (λ b. cond (b && q x) 1 0 + count_by (λ y. p y && q y) xs) f ∙ zero-add (count_by (λ y. p y && q y) xs))
+      | inr f ↦ ap (count_by q) (cond-false (p x) (x ∷ filter p xs) (filter p xs) f) ∙ count-filter q p xs
+          ∙ sym (sum_by-cons (λ y. cond (p y && q y) 1 0) x xs ∙ ap (λ b. cond (b && q x) 1 0 + count_by (λ y. p y && q y) xs) f
+          ∙ zero-add (count_by (λ y. p y && q y) xs))
     ]
 
 count-agree : {X : Type 0} (p q : X → Bool) → ((x : X) → p x ≡ q x) → (xs : List X) → count_by p xs ≡ count_by q xs
 count-agree p q same [] = refl
 count-agree p q same (x ∷ xs) =
-    sum_by-cons (λ y. cond (p y) 1 0) x xs ∙ ap (λ b. cond b 1 0 + count_by p xs) (same x) ∙ ap (λ n. cond (q x) 1 0 + n) (count-agree p q same xs) ∙ sym (sum_by-cons (λ y. cond (q y) 1 0) x xs)
+    sum_by-cons (λ y. cond (p y) 1 0) x xs ∙ ap (λ b. cond b 1 0 + count_by p xs) (same x) ∙ ap (λ n. cond (q x) 1 0 + n) (count-agree p q same xs)
+    ∙ sym (sum_by-cons (λ y. cond (q y) 1 0) x xs)
 
 count-none : {X : Type 0} (p : X → Bool) (xs : List X) → All (λ x. p x ≡ false) xs → count_by p xs ≡ 0
 count-none p [] all = refl
 count-none p (x ∷ xs) all =
-    sum_by-cons (λ y. cond (p y) 1 0) x xs ∙ ap (λ b. cond b 1 0 + count_by p xs) (All-head (λ x. p x ≡ false) x xs all) ∙ zero-add (count_by p xs) ∙ count-none p xs (All-tail (λ x. p x ≡ false) x xs all)
+    sum_by-cons (λ y. cond (p y) 1 0) x xs ∙ ap (λ b. cond b 1 0 + count_by p xs) (All-head (λ x. p x ≡ false) x xs all) ∙ zero-add (count_by p xs)
+    ∙ count-none p xs (All-tail (λ x. p x ≡ false) x xs all)
 
 -- whether an entry that is made stands for a whole span that is wide
 is_wide_part : ℕ → ℕ → PartEntry → Bool
@@ -322,10 +344,12 @@ wide-long : (room placeholder_width : ℕ) (s : Source) (marks : List Annotation
     → All (λ p. is_wide_part room placeholder_width p ≡ false) (long_parts s (long_places s marks) [] (long_spans s marks))
 unfolding is_wide_part
 wide-long room placeholder_width s marks =
-    longs-all (λ p. is_wide_part room placeholder_width p ≡ false) s marks (λ a among is kind. record { start = refl; bars = λ k d within. refl; end = refl; again = narrow (long_entry s a).end.display })
+    longs-all (λ p. is_wide_part room placeholder_width p ≡ false) s marks (λ a among is kind.
+    record { start = refl; bars = λ k d within. refl; end = refl; again = narrow (long_entry s a).end.display })
   where
     narrow : (n : ℕ) → (ltb (2 * room) (n - (n - 1)) && ltb (10 + placeholder_width) (n - (n - 1))) ≡ false
-    narrow n = and_right (ltb (2 * room) (n - (n - 1))) (ltb (10 + placeholder_width) (n - (n - 1))) (le-ltb (10 + placeholder_width) (n - (n - 1)) (omega arith))
+    narrow n = and_right (ltb (2 * room) (n - (n - 1))) (ltb (10 + placeholder_width) (n - (n - 1)))
+        (le-ltb (10 + placeholder_width) (n - (n - 1)) (omega arith))
 
 -- the wide entries of a line are as many as the wide spans that are marked there
 pub wide-count : (room placeholder_width : ℕ) (s : Source) (marks : List Annotation) (k : ℕ) (info : AnnotatedLineInfo)
@@ -339,7 +363,10 @@ wide-count room placeholder_width s marks k info seen =
     let longs : List PartEntry = long_parts s (long_places s marks) [] (long_spans s marks) in
     sym (count-map wide seen_part info.annotations.items) ∙ ap (count_by wide) (entries-on s marks k info seen ∙ filter-append on singles longs)
     ∙ sum_by-append (λ p. cond (wide p) 1 0) (filter on singles) (filter on longs)
-    ∙ ap (λ n. count_by wide (filter on singles) + n) (count-none wide (filter on longs) (All-filter on (λ p. wide p ≡ false) longs (wide-long room placeholder_width s marks)))
+    ∙ ap (λ n. count_by wide (filter on singles) + n) (count-none wide (filter on longs)
+    (All-filter on (λ p. wide p ≡ false) longs (wide-long room placeholder_width s marks)))
     ∙ add-zero (count_by wide (filter on singles))
-    ∙ ap (count_by wide) (singles-on s marks k) ∙ count-map wide (single_part s) (filter (is_marked_on s.text k) marks) ∙ count-filter (λ a. wide (single_part s a)) (is_marked_on s.text k) marks
-    ∙ count-agree (λ a. is_marked_on s.text k a && wide (single_part s a)) (λ a. is_marked_on s.text k a && is_wide room placeholder_width s.text a) (wide-marked room placeholder_width s k) marks
+    ∙ ap (count_by wide) (singles-on s marks k) ∙ count-map wide (single_part s) (filter (is_marked_on s.text k) marks)
+    ∙ count-filter (λ a. wide (single_part s a)) (is_marked_on s.text k) marks
+    ∙ count-agree (λ a. is_marked_on s.text k a && wide (single_part s a)) (λ a.
+    is_marked_on s.text k a && is_wide room placeholder_width s.text a) (wide-marked room placeholder_width s k) marks

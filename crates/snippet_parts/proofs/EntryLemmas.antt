@@ -27,7 +27,8 @@ use Rattle.snippet_parts.proofs.PartLemmas.{list_any-map}
 filter-after : (p : ℕ → Bool) (u from n : ℕ) → ((k : ℕ) → from ≤ k → leb k u ≡ p k) → u < from → filter p (range_with_len from n) ≡ []
 filter-after p u from zero same past = refl
 filter-after p u from (suc n) same past =
-    cond-false (p from) (from ∷ filter p (range_with_len (from + 1) n)) (filter p (range_with_len (from + 1) n)) (sym (same from (omega arith)) ∙ lt-leb from u past) ∙ filter-after p u (from + 1) n (λ k le. same k (omega arith)) (omega arith)
+    cond-false (p from) (from ∷ filter p (range_with_len (from + 1) n)) (filter p (range_with_len (from + 1) n))
+    (sym (same from (omega arith)) ∙ lt-leb from u past) ∙ filter-after p u (from + 1) n (λ k le. same k (omega arith)) (omega arith)
 
 -- of some lines those up to a last one
 filter-upto : (p : ℕ → Bool) (u from n m : ℕ) → ((k : ℕ) → from ≤ k → leb k u ≡ p k) → u < from + n → m ≡ (u + 1) - from
@@ -37,7 +38,8 @@ filter-upto p u from (suc n) m same within is =
     elim (cases_lt u from) [
       | inl past ↦ filter-after p u from (suc n) same past ∙ sym (none m (omega arith))
       | inr upto ↦
-          cond-true (p from) (from ∷ filter p (range_with_len (from + 1) n)) (filter p (range_with_len (from + 1) n)) (sym (same from (omega arith)) ∙ le-leb from u upto)
+          cond-true (p from) (from ∷ filter p (range_with_len (from + 1) n)) (filter p (range_with_len (from + 1) n))
+          (sym (same from (omega arith)) ∙ le-leb from u upto)
           ∙ ap (λ xs. from ∷ xs) (filter-upto p u (from + 1) n ((u + 1) - (from + 1)) (λ k le. same k (omega arith)) (omega arith) refl)
           ∙ sym (some m (omega arith))
     ]
@@ -67,7 +69,8 @@ pub bars_more : (f : ℕ → PartEntry) (old now new : List LineAnnotation) (e :
     → map seen_part new ≡ map seen_part old ++ map f (range_with_len a ((line + 1) - a))
 bars_more f old now new e a line le pushed is before =
     let count : (line + 1) - a ≡ (line - a) + 1 = omega arith in
-    ap (map seen_part) pushed ∙ map_push seen_part now e ∙ ap (λ ps. ps ++ seen_part e ∷ []) before ∙ ap (λ p. (map seen_part old ++ map f (range_with_len a (line - a))) ++ p ∷ []) is
+    ap (map seen_part) pushed ∙ map_push seen_part now e ∙ ap (λ ps. ps ++ seen_part e ∷ []) before
+    ∙ ap (λ p. (map seen_part old ++ map f (range_with_len a (line - a))) ++ p ∷ []) is
     ∙ append_assoc (map seen_part old) (map f (range_with_len a (line - a))) (f line ∷ [])
     ∙ ap (λ ps. map seen_part old ++ ps) (sym (map-range_with_len_more f a (line - a) line (omega arith)))
     ∙ ap (λ n. map seen_part old ++ map f (range_with_len a n)) (sym count)
@@ -80,10 +83,14 @@ pub bars-closed : (f : ℕ → PartEntry) (old now new : List LineAnnotation) (e
     → closing ≡ (ltb (min (first + 4) last) (last - 1) && not (is_trivial_line source (last - 1)))
     → map seen_part new ≡ map seen_part old ++ map f (bar_lines source first last)
 bars-closed f old now new e source first last u a n closing there pushed is before at count from to bars close =
-    let all : range_with_len (first + 1) n ++ cond closing ((last - 1) ∷ []) [] ≡ bar_lines source first last = bars-are source first last u n closing from to bars close count in
-    ap (map seen_part) pushed ∙ map_push seen_part now e ∙ ap (λ ps. ps ++ seen_part e ∷ []) before ∙ ap (λ p. (map seen_part old ++ map f (range_with_len a n)) ++ p ∷ []) is
+    let all : range_with_len (first + 1) n ++ cond closing ((last - 1) ∷ []) []
+    ≡ bar_lines source first last = bars-are source first last u n closing from to bars close count in
+    ap (map seen_part) pushed ∙ map_push seen_part now e ∙ ap (λ ps. ps ++ seen_part e ∷ []) before
+    ∙ ap (λ p. (map seen_part old ++ map f (range_with_len a n)) ++ p ∷ []) is
     ∙ append_assoc (map seen_part old) (map f (range_with_len a n)) (f (last - 1) ∷ [])
-    ∙ ap (λ ps. map seen_part old ++ ps) (ap (λ x. map f (range_with_len x n) ++ f (last - 1) ∷ []) at ∙ sym (map-append f (range_with_len (first + 1) n) ((last - 1) ∷ [])) ∙ ap (λ b. map f (range_with_len (first + 1) n ++ cond b ((last - 1) ∷ []) [])) (sym there) ∙ ap (map f) all)
+    ∙ ap (λ ps. map seen_part old ++ ps) (ap (λ x. map f (range_with_len x n) ++ f (last - 1) ∷ []) at
+    ∙ sym (map-append f (range_with_len (first + 1) n) ((last - 1) ∷ []))
+    ∙ ap (λ b. map f (range_with_len (first + 1) n ++ cond b ((last - 1) ∷ []) [])) (sym there) ∙ ap (map f) all)
 
 -- all bars, without it
 pub bars-open : (f : ℕ → PartEntry) (old now : List LineAnnotation) (source : List ℕ) (first last u a n : ℕ) (closing : Bool) → closing ≡ false
@@ -92,8 +99,10 @@ pub bars-open : (f : ℕ → PartEntry) (old now : List LineAnnotation) (source 
     → closing ≡ (ltb (min (first + 4) last) (last - 1) && not (is_trivial_line source (last - 1)))
     → map seen_part now ≡ map seen_part old ++ map f (bar_lines source first last)
 bars-open f old now source first last u a n closing none before at count from to bars close =
-    let all : range_with_len (first + 1) n ++ cond closing ((last - 1) ∷ []) [] ≡ bar_lines source first last = bars-are source first last u n closing from to bars close count in
-    before ∙ ap (λ ps. map seen_part old ++ ps) (ap (λ x. map f (range_with_len x n)) at ∙ ap (map f) (sym (append-nil (range_with_len (first + 1) n)) ∙ ap (λ b. range_with_len (first + 1) n ++ cond b ((last - 1) ∷ []) []) (sym none) ∙ all))
+    let all : range_with_len (first + 1) n ++ cond closing ((last - 1) ∷ []) []
+    ≡ bar_lines source first last = bars-are source first last u n closing from to bars close count in
+    before ∙ ap (λ ps. map seen_part old ++ ps) (ap (λ x. map f (range_with_len x n)) at
+    ∙ ap (map f) (sym (append-nil (range_with_len (first + 1) n)) ∙ ap (λ b. range_with_len (first + 1) n ++ cond b ((last - 1) ∷ []) []) (sym none) ∙ all))
 
 -- bars by equal lines
 pub same-bars : (f : ℕ → PartEntry) (old : List PartEntry) (source : List ℕ) (first last first' last' : ℕ) → first ≡ first' → last ≡ last'
@@ -150,19 +159,24 @@ pub parts-more : (s : Source) (places : List LongExtent) (spans : List LongSpan)
 parts-more s places spans i x now new all depth again e within is pushed deep among draw before =
     let later : List Entry = map seen_long (drop (i + 1) spans) in
     let earlier : List Entry = map seen_long (take i spans) in
-    let e1 : drop i (map seen_long spans) ≡ seen_long x ∷ later = drop-map seen_long i spans ∙ ap (map seen_long) (drop_more spans i x within) ∙ ap (λ y. seen_long y ∷ later) (sym is) in
+    let e1 : drop i (map seen_long spans) ≡ seen_long x ∷ later = drop-map seen_long i spans ∙ ap (map seen_long) (drop_more spans i x within)
+    ∙ ap (λ y. seen_long y ∷ later) (sym is) in
     let e2 : drop (i + 1) (map seen_long spans) ≡ later = drop-map seen_long (i + 1) spans in
     let e3 : take i (map seen_long spans) ≡ earlier = take-map seen_long i spans in
-    let e4 : take (i + 1) (map seen_long spans) ≡ earlier ++ seen_long x ∷ [] = take-map seen_long (i + 1) spans ∙ map_more seen_long spans i x within ∙ ap (λ y. earlier ++ seen_long y ∷ []) (sym is) in
+    let e4 : take (i + 1) (map seen_long spans) ≡ earlier ++ seen_long x ∷ [] = take-map seen_long (i + 1) spans ∙ map_more seen_long spans i x within
+    ∙ ap (λ y. earlier ++ seen_long y ∷ []) (sym is) in
     let same : span_parts s depth again e ≡ span_parts s (depth_among places (long_place (seen_long x))) (stands_among (seen_long x) later)
     (promoted earlier (seen_long x)) = ap (λ n. span_parts s n again e) deep
     ∙ ap (λ b. span_parts s (depth_among places (long_place (seen_long x))) b e)
     (among ∙ sym (list_any-map (λ (d : Entry). same_place (long_place (seen_long x)) (long_place d)) seen_long (drop (i + 1) spans)))
     ∙ ap (λ d. span_parts s (depth_among places (long_place (seen_long x))) (stands_among (seen_long x) later) d) draw in
     ap (λ ps. ps ++ long_parts s places (take (i + 1) (map seen_long spans)) (drop (i + 1) (map seen_long spans))) (pushed ∙ ap (λ ps. now ++ ps) same)
-    ∙ ap (λ es. (now ++ span_parts s (depth_among places (long_place (seen_long x))) (stands_among (seen_long x) later) (promoted earlier (seen_long x))) ++ long_parts s places es (drop (i + 1) (map seen_long spans))) e4
-    ∙ ap (λ es. (now ++ span_parts s (depth_among places (long_place (seen_long x))) (stands_among (seen_long x) later) (promoted earlier (seen_long x))) ++ long_parts s places (earlier ++ seen_long x ∷ []) es) e2
-    ∙ append_assoc now (span_parts s (depth_among places (long_place (seen_long x))) (stands_among (seen_long x) later) (promoted earlier (seen_long x))) (long_parts s places (earlier ++ seen_long x ∷ []) later)
+    ∙ ap (λ es. (now ++ span_parts s (depth_among places (long_place (seen_long x))) (stands_among (seen_long x) later) (promoted earlier (seen_long x)))
+    ++ long_parts s places es (drop (i + 1) (map seen_long spans))) e4
+    ∙ ap (λ es. (now ++ span_parts s (depth_among places (long_place (seen_long x))) (stands_among (seen_long x) later) (promoted earlier (seen_long x)))
+    ++ long_parts s places (earlier ++ seen_long x ∷ []) es) e2
+    ∙ append_assoc now (span_parts s (depth_among places (long_place (seen_long x))) (stands_among (seen_long x) later) (promoted earlier (seen_long x)))
+    (long_parts s places (earlier ++ seen_long x ∷ []) later)
     ∙ sym (ap (λ es. now ++ long_parts s places es (drop i (map seen_long spans))) e3 ∙ ap (λ es. now ++ long_parts s places earlier es) e1)
     ∙ before
 
@@ -176,22 +190,31 @@ pub depths-of : (places : List LongExtent) (spans : List LongSpan) (depths : Lis
     → depths ≡ map (depth_among places) places
     → depths ≡ map (λ (l : LongSpan). depth_among (map long_place (map seen_long spans)) (long_place (seen_long l))) spans
 depths-of places spans depths is value =
-    value ∙ ap (map (depth_among places)) is ∙ map-map (depth_among places) (λ (l : LongSpan). long_place (seen_long l)) spans ∙ ap (λ ps. map (λ (l : LongSpan). depth_among ps (long_place (seen_long l))) spans) (places-are places spans is)
+    value ∙ ap (map (depth_among places)) is ∙ map-map (depth_among places) (λ (l : LongSpan). long_place (seen_long l)) spans
+    ∙ ap (λ ps. map (λ (l : LongSpan). depth_among ps (long_place (seen_long l))) spans) (places-are places spans is)
 
 -- the places of spans that are ordered by their first lines are ordered by theirs
 pub places-ordered : (places : List LongExtent) (spans : List LongSpan) (none : LongSpan) → places ≡ map (λ (l : LongSpan). long_place (seen_long l)) spans
     → IsNonDecreasingBy (λ (l : LongSpan). l.start.line) spans → IsNonDecreasingBy (λ (p : LongExtent). p.first) places
 places-ordered places spans none is ordered i j d le within =
     let len : length places ≡ length spans = ap length is ∙ length-map spans (λ (l : LongSpan). long_place (seen_long l)) in
-    let at : (k : ℕ) → k < length spans → get_or places k d ≡ long_place (seen_long (get_or spans k none)) = λ k below. ap (λ ps. get_or ps k d) is ∙ get_or-map (λ (l : LongSpan). long_place (seen_long l)) spans k none d below in
-    omega (arith, ap (λ (p : LongExtent). p.first) (at i (omega arith)), ap (λ (p : LongExtent). p.first) (at j (omega arith)), ordered i j none le (omega arith))
+    let at : (k : ℕ) → k < length spans → get_or places k d ≡ long_place (seen_long (get_or spans k none)) = λ k below.
+    ap (λ ps. get_or ps k d) is ∙ get_or-map (λ (l : LongSpan). long_place (seen_long l)) spans k none d below in
+    omega (
+      arith,
+      ap (λ (p : LongExtent). p.first) (at i (omega arith)),
+      ap (λ (p : LongExtent). p.first) (at j (omega arith)),
+      ordered i j none le
+          (omega arith),
+    )
 
 -- no place ends above the line on which it starts
 pub places-lines : (s : Source) (places : List LongExtent) (spans : List LongSpan) (none : LongSpan)
     → places ≡ map (λ (l : LongSpan). long_place (seen_long l)) spans → All (HasFit s) spans → All (λ (p : LongExtent). p.first ≤ p.last) places
 places-lines s places spans none is fit k d within =
     let len : length places ≡ length spans = ap length is ∙ length-map spans (λ (l : LongSpan). long_place (seen_long l)) in
-    let at : get_or places k d ≡ long_place (seen_long (get_or spans k none)) = ap (λ ps. get_or ps k d) is ∙ get_or-map (λ (l : LongSpan). long_place (seen_long l)) spans k none d (omega arith) in
+    let at : get_or places k d ≡ long_place (seen_long (get_or spans k none)) = ap (λ ps. get_or ps k d) is
+    ∙ get_or-map (λ (l : LongSpan). long_place (seen_long l)) spans k none d (omega arith) in
     omega (arith, ap (λ (p : LongExtent). p.first) at, ap (λ (p : LongExtent). p.last) at, (fit k none (omega arith)).lines)
 
 abbrev pub no_loc : Loc
@@ -208,18 +231,22 @@ any-filtered q p implied [] = refl
 any-filtered q p implied (x ∷ xs) =
     elim (cases_Bool (p x)) [
       | inl t ↦ ap (list_any q) (cond-true (p x) (x ∷ filter p xs) (filter p xs) t) ∙ ap (λ b. q x || b) (any-filtered q p implied xs)
-      | inr f ↦ ap (list_any q) (cond-false (p x) (x ∷ filter p xs) (filter p xs) f) ∙ any-filtered q p implied xs ∙ ap (λ b. b || list_any q xs) (sym (false_from_ne_true (q x) (λ t. both_ways (p x) f (implied x t))))
+      | inr f ↦ ap (list_any q) (cond-false (p x) (x ∷ filter p xs) (filter p xs) f) ∙ any-filtered q p implied xs
+          ∙ ap (λ b. b || list_any q xs) (sym (false_from_ne_true (q x) (λ t. both_ways (p x) f (implied x t))))
     ]
 
 same_line : (x o : LongSpan) → same_place (long_place (seen_long x)) (long_place (seen_long o)) ≡ true → eqb o.start.line x.start.line ≡ true
-same_line x o same = eq-eqb o.start.line x.start.line (sym (ap (λ (p : LongExtent). p.first) (same-true (long_place (seen_long x)) (long_place (seen_long o)) same)))
+same_line x o same = eq-eqb o.start.line x.start.line (sym (ap (λ (p : LongExtent). p.first)
+    (same-true (long_place (seen_long x)) (long_place (seen_long o)) same)))
 
 -- whether a place stands again is told by the spans that are near
 pub place-near : (x : LongSpan) (others near : List LongSpan) (b : Bool) → near ≡ filter (λ (o : LongSpan). eqb o.start.line x.start.line) others
     → b ≡ list_any (λ (o : LongSpan). same_place (long_place (seen_long x)) (long_place (seen_long o))) near
     → b ≡ list_any (λ (o : LongSpan). same_place (long_place (seen_long x)) (long_place (seen_long o))) others
 place-near x others near b is found =
-    found ∙ ap (list_any (λ (o : LongSpan). same_place (long_place (seen_long x)) (long_place (seen_long o)))) is ∙ any-filtered (λ (o : LongSpan). same_place (long_place (seen_long x)) (long_place (seen_long o))) (λ (o : LongSpan). eqb o.start.line x.start.line) (same_line x) others
+    found ∙ ap (list_any (λ (o : LongSpan). same_place (long_place (seen_long x)) (long_place (seen_long o)))) is
+    ∙ any-filtered (λ (o : LongSpan). same_place (long_place (seen_long x)) (long_place (seen_long o))) (λ (o : LongSpan). eqb o.start.line x.start.line)
+    (same_line x) others
 
 kind-other : (kind : AnnotationKind) → (kind ≡ Primary → ⊥) → is_primary kind ≡ false
 kind-other Primary other = absurd (other refl)
@@ -237,4 +264,5 @@ primary-near x others near b is found other =
     ∙ any-filtered (λ (o : LongSpan). is_primary o.kind && same_place (long_place (seen_long x)) (long_place (seen_long o)))
     (λ (o : LongSpan). eqb o.start.line x.start.line)
     (λ o both. same_line x o (and_parts (is_primary o.kind) (same_place (long_place (seen_long x)) (long_place (seen_long o))) both).1) others
-    ∙ ap (λ p. p || list_any (λ (o : LongSpan). is_primary o.kind && same_place (long_place (seen_long x)) (long_place (seen_long o))) others) (sym (kind-other x.kind other))
+    ∙ ap (λ p. p || list_any (λ (o : LongSpan). is_primary o.kind && same_place (long_place (seen_long x)) (long_place (seen_long o))) others)
+    (sym (kind-other x.kind other))

@@ -33,9 +33,11 @@ pub covered-set : (reach : List ℕ) (s : Stretch) (k v : ℕ) → s.first < len
 covered-set reach s k v within is =
     elim (cases_lt k s.first) [
       | inl before ↦
-          ap (λ xs. ltb k (greatest xs)) (take-set-le (k + 1) reach s.first v (omega arith)) ∙ sym (ap (λ b. is_covered reach k || (b && leb k s.last)) (lt-leb s.first k before) ∙ plain (is_covered reach k))
+          ap (λ xs. ltb k (greatest xs)) (take-set-le (k + 1) reach s.first v (omega arith))
+          ∙ sym (ap (λ b. is_covered reach k || (b && leb k s.last)) (lt-leb s.first k before) ∙ plain (is_covered reach k))
       | inr after ↦
-          ap (λ n. ltb k n) (reach-below reach s.first (k + 1) v within (omega arith) (omega arith) ∙ old after) ∙ both (greatest (take (k + 1) reach)) k s.last ∙ sym (ap (λ b. is_covered reach k || (b && leb k s.last)) (le-leb s.first k after))
+          ap (λ n. ltb k n) (reach-below reach s.first (k + 1) v within (omega arith) (omega arith) ∙ old after)
+          ∙ both (greatest (take (k + 1) reach)) k s.last ∙ sym (ap (λ b. is_covered reach k || (b && leb k s.last)) (le-leb s.first k after))
     ]
   where
     plain : (b : Bool) → (b || false) ≡ b
@@ -81,7 +83,8 @@ covered-none reach n k is = le-ltb k (greatest (take (k + 1) reach)) (omega (ari
 -- two tests that agree on lines
 pub map-range-agree : {X : Type 0} (f g : ℕ → X) (from n : ℕ) → ((k : ℕ) → f k ≡ g k) → map f (range_with_len from n) ≡ map g (range_with_len from n)
 map-range-agree f g from zero same = refl
-map-range-agree f g from (suc n) same = let h = same from in let t = map-range-agree f g (from + 1) n same in ap (λ x. x ∷ map f (range_with_len (from + 1) n)) h ∙ ap (λ xs. g from ∷ xs) t
+map-range-agree f g from (suc n) same = let h = same from in let t = map-range-agree f g (from + 1) n same in ap (λ x.
+    x ∷ map f (range_with_len (from + 1) n)) h ∙ ap (λ xs. g from ∷ xs) t
 
 -- ---- which lines a span keeps
 
@@ -95,7 +98,8 @@ pub keeps-all : (f l k : ℕ) (marked bar : Bool) → (f ≡ l) ⊎ (marked ≡ 
 keeps-all f l k marked bar why = or-same (leb f k && leb k l) ∙ sym (elim (cases_lt k f) [
   | inl before ↦ ap (λ b. b && leb k l && (eqb k f || eqb k l || not marked || bar)) (lt-leb f k before) ∙ sym (ap (λ b. b && leb k l) (lt-leb f k before))
   | inr from ↦ elim (cases_lt l k) [
-    | inl after ↦ ap (λ b. leb f k && b && (eqb k f || eqb k l || not marked || bar)) (lt-leb k l after) ∙ none (leb f k) (eqb k f || eqb k l || not marked || bar) ∙ sym (ap (λ b. leb f k && b) (lt-leb k l after) ∙ none' (leb f k))
+    | inl after ↦ ap (λ b. leb f k && b && (eqb k f || eqb k l || not marked || bar)) (lt-leb k l after)
+        ∙ none (leb f k) (eqb k f || eqb k l || not marked || bar) ∙ sym (ap (λ b. leb f k && b) (lt-leb k l after) ∙ none' (leb f k))
     | inr to ↦ ap (λ b. leb f k && leb k l && b) (why-kept why from to) ∙ all (leb f k && leb k l)
   ]
 ])
@@ -127,17 +131,22 @@ pub keeps-ends : (f l u t k : ℕ) (marked shown last_bar : Bool) → f < l → 
     → ((leb f k && leb k u) || (leb t k && leb k l)) ≡ (leb f k && leb k l && (eqb k f || eqb k l || not marked || (ltb f k && (shown || last_bar))))
 keeps-ends f l u t k marked shown last_bar ordered from to is bars ends apart tl tail =
     elim (cases_lt k f) [
-      | inl before ↦ outside (leb f k) (leb k u) (leb t k) (leb k l) (eqb k f || eqb k l || not marked || (ltb f k && (shown || last_bar))) (inl (lt-leb f k before, lt-leb t k (omega arith)))
+      | inl before ↦ outside (leb f k) (leb k u) (leb t k) (leb k l) (eqb k f || eqb k l || not marked || (ltb f k && (shown || last_bar)))
+          (inl (lt-leb f k before, lt-leb t k (omega arith)))
       | inr after ↦ elim (cases_lt f k) [
         | inr first ↦
             let same : k ≡ f = omega arith in
-            kept-first (leb f k) (leb k u) (leb t k && leb k l) (leb k l) (eqb k f) (eqb k l) (not marked) (ltb f k && (shown || last_bar)) (le-leb f k after) (le-leb k u (omega arith)) (le-leb k l (omega arith)) (eq-eqb k f same)
+            kept-first (leb f k) (leb k u) (leb t k && leb k l) (leb k l) (eqb k f) (eqb k l) (not marked) (ltb f k && (shown || last_bar)) (le-leb f k after)
+            (le-leb k u (omega arith)) (le-leb k l (omega arith)) (eq-eqb k f same)
         | inl past ↦ elim (cases_lt l k) [
-          | inl over ↦ outside (leb f k) (leb k u) (leb t k) (leb k l) (eqb k f || eqb k l || not marked || (ltb f k && (shown || last_bar))) (inr (lt-leb k u (omega arith), lt-leb k l over))
+          | inl over ↦ outside (leb f k) (leb k u) (leb t k) (leb k l) (eqb k f || eqb k l || not marked || (ltb f k && (shown || last_bar)))
+              (inr (lt-leb k u (omega arith), lt-leb k l over))
           | inr upto ↦ elim (cases_lt k l) [
-            | inr end ↦ kept-last (leb f k && leb k u) (leb t k) (leb f k) (leb k l) (eqb k f) (eqb k l) (not marked) (ltb f k && (shown || last_bar)) (le-leb t k (omega arith)) (le-leb f k after) (le-leb k l upto) (eq-eqb k l (omega arith))
+            | inr end ↦ kept-last (leb f k && leb k u) (leb t k) (leb f k) (leb k l) (eqb k f) (eqb k l) (not marked) (ltb f k && (shown || last_bar))
+                (le-leb t k (omega arith)) (le-leb f k after) (le-leb k l upto) (eq-eqb k l (omega arith))
             | inl inner ↦
-                between (leb f k) (leb k u) (leb t k) (leb k l) (eqb k f) (eqb k l) marked (ltb f k) shown last_bar (le-leb f k after) (le-leb k l upto) (ne_eqb k f (λ e. omega arith)) (ne_eqb k l (λ e. omega arith)) is (lt-ltb f k past) (bars past) (elim (cases_eq (k + 1) l) [
+                between (leb f k) (leb k u) (leb t k) (leb k l) (eqb k f) (eqb k l) marked (ltb f k) shown last_bar (le-leb f k after) (le-leb k l upto)
+                (ne_eqb k f (λ e. omega arith)) (ne_eqb k l (λ e. omega arith)) is (lt-ltb f k past) (bars past) (elim (cases_eq (k + 1) l) [
                   | inl next ↦ ends next
                   | inr far ↦ lt-leb t k (omega arith) ∙ sym (apart far)
                 ])
@@ -158,10 +167,12 @@ keeps-ends f l u t k marked shown last_bar ordered from to is bars ends apart tl
     outside false false false false r (inr out) = refl
 
     kept-first : (a b x d e g m y : Bool) → a ≡ true → b ≡ true → d ≡ true → e ≡ true → ((a && b) || x) ≡ (a && d && (e || g || m || y))
-    kept-first a b x d e g m y p q r t = ap (λ z. (z && b) || x) p ∙ ap (λ z. z || x) q ∙ sym (ap (λ z. z && d && (e || g || m || y)) p ∙ ap (λ z. z && (e || g || m || y)) r ∙ ap (λ z. z || g || m || y) t)
+    kept-first a b x d e g m y p q r t = ap (λ z. (z && b) || x) p ∙ ap (λ z. z || x) q
+        ∙ sym (ap (λ z. z && d && (e || g || m || y)) p ∙ ap (λ z. z && (e || g || m || y)) r ∙ ap (λ z. z || g || m || y) t)
 
     kept-last : (x c a d e g m y : Bool) → c ≡ true → a ≡ true → d ≡ true → g ≡ true → (x || (c && d)) ≡ (a && d && (e || g || m || y))
-    kept-last x c a d e g m y p q r t = ap (λ z. x || (z && d)) p ∙ ap (λ z. x || z) r ∙ last x ∙ sym (ap (λ z. z && d && (e || g || m || y)) q ∙ ap (λ z. z && (e || g || m || y)) r ∙ ap (λ z. e || z || m || y) t ∙ ap (λ z. z || m || y) (last e))
+    kept-last x c a d e g m y p q r t = ap (λ z. x || (z && d)) p ∙ ap (λ z. x || z) r ∙ last x
+        ∙ sym (ap (λ z. z && d && (e || g || m || y)) q ∙ ap (λ z. z && (e || g || m || y)) r ∙ ap (λ z. e || z || m || y) t ∙ ap (λ z. z || m || y) (last e))
       where
         last : (z : Bool) → (z || true) ≡ true
         last true = refl
@@ -171,7 +182,9 @@ keeps-ends f l u t k marked shown last_bar ordered from to is bars ends apart tl
         → ((a && b) || (c && d)) ≡ (a && d && (e || g || not m || (x && (s || q))))
     between a b c d e g m x s q pa pd pe pg pm px pb pc =
         ap (λ z. (z && b) || (c && d)) pa ∙ ap (λ z. b || (c && z)) pd ∙ ap (λ z. b || z) (unit c) ∙ ap (λ z. z || c) pb ∙ ap (λ z. s || z) pc
-        ∙ sym (ap (λ z. z && d && (e || g || not m || (x && (s || q)))) pa ∙ ap (λ z. z && (e || g || not m || (x && (s || q)))) pd ∙ ap (λ z. z || g || not m || (x && (s || q))) pe ∙ ap (λ z. z || not m || (x && (s || q))) pg ∙ ap (λ z. not z || (x && (s || q))) pm ∙ ap (λ z. z && (s || q)) px)
+        ∙ sym (ap (λ z. z && d && (e || g || not m || (x && (s || q)))) pa ∙ ap (λ z. z && (e || g || not m || (x && (s || q)))) pd
+        ∙ ap (λ z. z || g || not m || (x && (s || q))) pe ∙ ap (λ z. z || not m || (x && (s || q))) pg ∙ ap (λ z. not z || (x && (s || q))) pm
+        ∙ ap (λ z. z && (s || q)) px)
       where
         unit : (z : Bool) → (z && true) ≡ z
         unit true = refl
@@ -184,8 +197,10 @@ last_bar-is l k m trivial closing b some is one none' next =
     let at : l - 1 ≡ k = omega arith in
     let rest : b ≡ (ltb m k && not (trivial k)) = is ∙ ap (λ n. ltb m n && not (trivial n)) at in
     elim (cases_Bool b) [
-      | inl there ↦ le-leb (l - closing) k (omega (arith, one there)) ∙ sym there ∙ rest ∙ sym (ap (λ z. z && ltb m k && not (trivial k)) (eq-eqb (k + 1) l next))
-      | inr none ↦ lt-leb (l - closing) k (omega (arith, none' none)) ∙ sym none ∙ rest ∙ sym (ap (λ z. z && ltb m k && not (trivial k)) (eq-eqb (k + 1) l next))
+      | inl there ↦ le-leb (l - closing) k (omega (arith, one there)) ∙ sym there ∙ rest
+          ∙ sym (ap (λ z. z && ltb m k && not (trivial k)) (eq-eqb (k + 1) l next))
+      | inr none ↦ lt-leb (l - closing) k (omega (arith, none' none)) ∙ sym none ∙ rest
+          ∙ sym (ap (λ z. z && ltb m k && not (trivial k)) (eq-eqb (k + 1) l next))
     ]
 
 -- only the line right above the last one can have the last bar
@@ -201,14 +216,16 @@ or-assoc false b c = refl
 pub covered-more : {A : Type 0} (p : ℕ → A → Bool) (marks : List A) (i : ℕ) (d : A) (before after : List ℕ) → i < length marks
     → ((k : ℕ) → is_covered after k ≡ (is_covered before k || p k (get_or marks i d)))
     → ((k : ℕ) → is_covered before k ≡ list_any (p k) (take i marks)) → (k : ℕ) → is_covered after k ≡ list_any (p k) (take (i + 1) marks)
-covered-more p marks i d before after within more so_far k = more k ∙ ap (λ b. b || p k (get_or marks i d)) (so_far k) ∙ sym (list_any_more (p k) marks i d within)
+covered-more p marks i d before after within more so_far k = more k ∙ ap (λ b. b || p k (get_or marks i d)) (so_far k)
+    ∙ sym (list_any_more (p k) marks i d within)
 
 -- all spans
 pub covered-all : {A : Type 0} (p : ℕ → A → Bool) (marks : List A) (i n : ℕ) (reach : List ℕ) (lent : List ℕ) → length marks ≤ i
     → length reach ≡ n → lent ≡ reach → ((k : ℕ) → is_covered reach k ≡ list_any (p k) (take i marks))
     → map (is_covered lent) (range_with_len 0 (length lent)) ≡ map (λ k. list_any (p k) marks) (range_with_len 0 n)
 covered-all p marks i n reach lent all len is so_far =
-    ap (λ xs. map (is_covered xs) (range_with_len 0 (length xs))) is ∙ ap (λ m. map (is_covered reach) (range_with_len 0 m)) len ∙ map-range-agree (is_covered reach) (λ k. list_any (p k) marks) 0 n (λ k. so_far k ∙ ap (list_any (p k)) (take_all i marks all))
+    ap (λ xs. map (is_covered xs) (range_with_len 0 (length xs))) is ∙ ap (λ m. map (is_covered reach) (range_with_len 0 m)) len
+    ∙ map-range-agree (is_covered reach) (λ k. list_any (p k) marks) 0 n (λ k. so_far k ∙ ap (list_any (p k)) (take_all i marks all))
 
 -- where all spans are marked, none that isn't touches a line
 pub unseen : (text : List ℕ) (k : ℕ) (marks : List Annotation) → list_any (λ (a : Annotation). not (is_marking a.kind)) marks ≡ false
@@ -247,4 +264,5 @@ kept-all p marks fold i n reach lent all len is so_far =
 
 -- each line that is kept is one of the lines
 pub kept-within : (p : ℕ → Bool) (n : ℕ) → All (λ k. k < n) (filter p (range_with_len 0 n))
-kept-within p n = All-filter p (λ k. k < n) (range_with_len 0 n) (All-weaker (λ k. (0 ≤ k) × (k < 0 + n)) (λ k. k < n) (λ k within. omega (arith, within.1)) (range_with_len 0 n) (All-range 0 n))
+kept-within p n = All-filter p (λ k. k < n) (range_with_len 0 n)
+    (All-weaker (λ k. (0 ≤ k) × (k < 0 + n)) (λ k. k < n) (λ k within. omega (arith, within.1)) (range_with_len 0 n) (All-range 0 n))

@@ -53,17 +53,20 @@ fourth-of-four a b c false e t u = cc
 fourth-of-four a b c d false t u = cc
 
 touched : (source : List ℕ) (a : Annotation) (k : ℕ) → first_line source a ≤ k → k ≤ last_line source a → touches source a k ≡ true
-touched source a k from to = and_from (leb (first_line source a) k) (leb k (last_line source a)) (le-leb (first_line source a) k from) (le-leb k (last_line source a) to)
+touched source a k from to = and_from (leb (first_line source a) k) (leb k (last_line source a)) (le-leb (first_line source a) k from)
+    (le-leb k (last_line source a) to)
 
 -- the line on which a span starts is kept
 pub keeps-first : (source : List ℕ) (a : Annotation) (k : ℕ) → IsSpan source a.span.start a.span.end → k ≡ first_line source a → keeps source k a ≡ true
 keeps-first source a k span is =
-    first-of-four (eqb k (first_line source a)) (eqb k (last_line source a)) (not (is_marking a.kind)) (has_bar source a k) (touches source a k) (touched source a k (omega arith) (omega (arith, lines_ordered source a span))) (eq-eqb k (first_line source a) is)
+    first-of-four (eqb k (first_line source a)) (eqb k (last_line source a)) (not (is_marking a.kind)) (has_bar source a k) (touches source a k)
+    (touched source a k (omega arith) (omega (arith, lines_ordered source a span))) (eq-eqb k (first_line source a) is)
 
 -- the line on which a span ends is kept
 pub keeps-last : (source : List ℕ) (a : Annotation) (k : ℕ) → IsSpan source a.span.start a.span.end → k ≡ last_line source a → keeps source k a ≡ true
 keeps-last source a k span is =
-    second-of-four (eqb k (first_line source a)) (eqb k (last_line source a)) (not (is_marking a.kind)) (has_bar source a k) (touches source a k) (touched source a k (omega (arith, lines_ordered source a span)) (omega arith)) (eq-eqb k (last_line source a) is)
+    second-of-four (eqb k (first_line source a)) (eqb k (last_line source a)) (not (is_marking a.kind)) (has_bar source a k) (touches source a k)
+    (touched source a k (omega (arith, lines_ordered source a span)) (omega arith)) (eq-eqb k (last_line source a) is)
 
 -- an annotation that isn't marked keeps each line that it touches
 pub keeps-unmarked : (source : List ℕ) (a : Annotation) (k : ℕ) → not (is_marking a.kind) ≡ true → touches source a k ≡ true → keeps source k a ≡ true
@@ -74,11 +77,14 @@ keeps-bar : (source : List ℕ) (a : Annotation) (k : ℕ) → IsBarLine source 
 keeps-bar source a k bar =
     let shown : Bool = list_any (λ j. not (is_trivial_line source j)) (range_with_len k (beginning source a - k)) in
     let closing : Bool = eqb (k + 1) (last_line source a) && ltb (beginning source a) k && not (is_trivial_line source k) in
-    let there : has_bar source a k ≡ true = and_from (ltb (first_line source a) k) (shown || closing) (lt-ltb (first_line source a) k bar.from) (elim bar.shown [
+    let there : has_bar source a k ≡ true = and_from (ltb (first_line source a) k) (shown || closing) (lt-ltb (first_line source a) k bar.from)
+    (elim bar.shown [
       | inl t ↦ or_left shown closing t
-      | inr t ↦ or_right shown closing (and_from (eqb (k + 1) (last_line source a) && ltb (beginning source a) k) (not (is_trivial_line source k)) (and_from (eqb (k + 1) (last_line source a)) (ltb (beginning source a) k) (eq-eqb (k + 1) (last_line source a) t.0) t.1) t.2)
+      | inr t ↦ or_right shown closing (and_from (eqb (k + 1) (last_line source a) && ltb (beginning source a) k) (not (is_trivial_line source k))
+          (and_from (eqb (k + 1) (last_line source a)) (ltb (beginning source a) k) (eq-eqb (k + 1) (last_line source a) t.0) t.1) t.2)
     ]) in
-    fourth-of-four (eqb k (first_line source a)) (eqb k (last_line source a)) (not (is_marking a.kind)) (has_bar source a k) (touches source a k) (touched source a k (omega (arith, bar.from)) bar.to) there
+    fourth-of-four (eqb k (first_line source a)) (eqb k (last_line source a)) (not (is_marking a.kind)) (has_bar source a k) (touches source a k)
+    (touched source a k (omega (arith, bar.from)) bar.to) there
 
 -- ---- the line of an entry
 
@@ -111,7 +117,9 @@ made-kept s marks spans = made-all (StandsOnKept s marks) s marks short long
         let from : (long_entry s a).start.line - s.first ≡ first_line s.text a = omega (arith, first a) in
         let to : (long_entry s a).end.line - s.first ≡ last_line s.text a = omega (arith, last a) in
         let here : k ≡ n = omega arith in
-        any-member (keeps s.text n) marks a among (keeps-bar s.text a n (subst (λ m. IsBarLine s.text (first_line s.text a) (last_line s.text a) m) here (subst (λ m. IsBarLine s.text (first_line s.text a) m k) to (subst (λ m. IsBarLine s.text m ((long_entry s a).end.line - s.first) k) from is))))
+        any-member (keeps s.text n) marks a among (keeps-bar s.text a n
+        (subst (λ m. IsBarLine s.text (first_line s.text a) (last_line s.text a) m) here
+        (subst (λ m. IsBarLine s.text (first_line s.text a) m k) to (subst (λ m. IsBarLine s.text m ((long_entry s a).end.line - s.first) k) from is))))
 
     long : (a : Annotation) → Contains marks a → is_long s.text a ≡ true → (kind : AnnotationKind)
         → HoldsOfSpan (StandsOnKept s marks) s (depth_of s marks a) (record (long_entry s a) { kind = kind })
@@ -138,6 +146,9 @@ none-unkept s marks k spans none =
 pub unseen-unkept : (s : Source) (marks : List Annotation) (k : ℕ) → list_any (keeps s.text k) marks ≡ false
     → list_any (λ a. not (is_marking a.kind) && touches s.text a k) marks ≡ false
 unseen-unkept s marks k none =
-    list_any_none (λ (a : Annotation). not (is_marking a.kind) && touches s.text a k) marks (All-weaker (Contains marks) (λ a. (not (is_marking a.kind) && touches s.text a k) ≡ false) (λ a among. false_from_ne_true (not (is_marking a.kind) && touches s.text a k) (λ t.
+    list_any_none (λ (a : Annotation). not (is_marking a.kind) && touches s.text a k) marks
+    (All-weaker (Contains marks) (λ a. (not (is_marking a.kind) && touches s.text a k) ≡ false) (λ a among.
+    false_from_ne_true (not (is_marking a.kind) && touches s.text a k) (λ t.
     let parts = and_parts (not (is_marking a.kind)) (touches s.text a k) t in
-    both_ways (list_any (keeps s.text k) marks) none (any-member (keeps s.text k) marks a among (keeps-unmarked s.text a k parts.0 parts.1)))) marks (All-contains_itself marks))
+    both_ways (list_any (keeps s.text k) marks) none (any-member (keeps s.text k) marks a among (keeps-unmarked s.text a k parts.0 parts.1)))) marks
+    (All-contains_itself marks))

@@ -21,7 +21,8 @@ greatest-push ns n = fold_push (λ m k. max m k) 0 ns n
 pub least-push_two : (ns : List ℕ) (n m : ℕ)
     → least (ns ++ n ∷ m ∷ []) ≡ Some (option_map_or (λ k. min k m) (Some (option_map_or (λ k. min k n) (least ns) n)) m)
 least-push_two ns n m =
-    ap least (sym (append_assoc ns (n ∷ []) (m ∷ []))) ∙ least-push (ns ++ n ∷ []) m ∙ ap (λ (o : Option ℕ). Some (option_map_or (λ k. min k m) o m)) (least-push ns n)
+    ap least (sym (append_assoc ns (n ∷ []) (m ∷ []))) ∙ least-push (ns ++ n ∷ []) m
+    ∙ ap (λ (o : Option ℕ). Some (option_map_or (λ k. min k m) o m)) (least-push ns n)
 
 pub greatest-push_two : (ns : List ℕ) (n m : ℕ) → greatest (ns ++ n ∷ m ∷ []) ≡ max (max (greatest ns) n) m
 greatest-push_two ns n m =

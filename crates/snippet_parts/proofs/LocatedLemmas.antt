@@ -23,10 +23,12 @@ use Rattle.snippet_parts.proofs.LongLemmas.{fit-long}
 -- ---- one span
 
 short-is : (s : Source) (l : LocatedSpan) → IsLocated s l → is_short_span l ≡ is_short s.text l.annotation.now
-short-is s l at = ap (λ n. is_marking l.annotation.now.kind && eqb n l.first) at.last ∙ ap (λ n. is_marking l.annotation.now.kind && eqb (last_line s.text l.annotation.now) n) at.first
+short-is s l at = ap (λ n. is_marking l.annotation.now.kind && eqb n l.first) at.last
+    ∙ ap (λ n. is_marking l.annotation.now.kind && eqb (last_line s.text l.annotation.now) n) at.first
 
 long-is : (s : Source) (l : LocatedSpan) → IsLocated s l → is_long_span l ≡ is_long s.text l.annotation.now
-long-is s l at = ap (λ n. is_marking l.annotation.now.kind && not (eqb n l.first)) at.last ∙ ap (λ n. is_marking l.annotation.now.kind && not (eqb (last_line s.text l.annotation.now) n)) at.first
+long-is s l at = ap (λ n. is_marking l.annotation.now.kind && not (eqb n l.first)) at.last
+    ∙ ap (λ n. is_marking l.annotation.now.kind && not (eqb (last_line s.text l.annotation.now) n)) at.first
 
 -- its lines are in order, and lines of the source
 pub located-ordered : (s : Source) (l : LocatedSpan) → IsLocated s l → l.first ≤ l.last
@@ -63,7 +65,8 @@ chosen : {A B C : Type 0} (P : A → Type 0) (g : A → B) (p : A → Bool) (q :
     → ((x : A) → P x → f x ≡ h (g x)) → (xs : List A) → All P xs → map f (filter p xs) ≡ map h (filter q (map g xs))
 chosen P g p q f h same is [] all = refl
 chosen P g p q f h same is (x ∷ xs) all =
-    ap (λ b. map f (cond b (x ∷ filter p xs) (filter p xs))) (same x (All-head P x xs all)) ∙ pick (q (g x)) (chosen P g p q f h same is xs (All-tail P x xs all))
+    ap (λ b. map f (cond b (x ∷ filter p xs) (filter p xs))) (same x (All-head P x xs all))
+    ∙ pick (q (g x)) (chosen P g p q f h same is xs (All-tail P x xs all))
   where
     pick : (b : Bool) → map f (filter p xs) ≡ map h (filter q (map g xs))
         → map f (cond b (x ∷ filter p xs) (filter p xs)) ≡ map h (cond b (g x ∷ filter q (map g xs)) (filter q (map g xs)))
@@ -73,12 +76,14 @@ chosen P g p q f h same is (x ∷ xs) all =
 -- the entries of spans on one line
 pub short-parts : (s : Source) (ls : List LocatedSpan) → All (IsLocated s) ls
     → map short_part (filter is_short_span ls) ≡ map (single_part s) (filter (is_short s.text) (annotations_of ls))
-short-parts s ls all = chosen (IsLocated s) (λ (l : LocatedSpan). l.annotation.now) is_short_span (is_short s.text) short_part (single_part s) (short-is s) (part-is s) ls all
+short-parts s ls all = chosen (IsLocated s) (λ (l : LocatedSpan). l.annotation.now) is_short_span (is_short s.text) short_part (single_part s) (short-is s)
+    (part-is s) ls all
 
 -- spans of several lines, in their order
 pub long-are : (s : Source) (ls : List LocatedSpan) → All (IsLocated s) ls
     → ordered_by stands_before (map span_entry (filter is_long_span ls)) ≡ long_spans s (annotations_of ls)
-long-are s ls all = ap (ordered_by stands_before) (chosen (IsLocated s) (λ (l : LocatedSpan). l.annotation.now) is_long_span (is_long s.text) span_entry (long_entry s) (long-is s) (entry_is s) ls all)
+long-are s ls all = ap (ordered_by stands_before) (chosen (IsLocated s) (λ (l : LocatedSpan). l.annotation.now) is_long_span (is_long s.text) span_entry
+    (long_entry s) (long-is s) (entry_is s) ls all)
 
 -- a span of several lines has room where what is seen of it has
 abbrev Fits : Source → Entry → Type 0
@@ -103,4 +108,5 @@ all-fit s (x ∷ ls) all = pick (is_long_span x) refl (all-fit s ls (All-tail (I
 -- spans of several lines, as they are given to the bars, fit their source
 pub given-fit : (s : Source) (ls : List LocatedSpan) (spans : List LongSpan) → map seen_long spans ≡ map span_entry (filter is_long_span ls)
     → All (IsLocated s) ls → All (HasFit s) spans
-given-fit s ls spans is all = All-weaker (λ (l : LongSpan). Fits s (seen_long l)) (HasFit s) (λ l fit. fit l refl) spans (All-unmapped (Fits s) seen_long spans (subst (All (Fits s)) (sym is) (all-fit s ls all)))
+given-fit s ls spans is all = All-weaker (λ (l : LongSpan). Fits s (seen_long l)) (HasFit s) (λ l fit.
+    fit l refl) spans (All-unmapped (Fits s) seen_long spans (subst (All (Fits s)) (sym is) (all-fit s ls all)))

@@ -51,7 +51,15 @@ least-first f x (z ∷ zs) =
       | inr later ↦ omega (arith, rest.1.lowest y later)
     ] in
     elim (cases_lt m (f x)) [
-      | inl below ↦ (rest.0, record { among = contains-there rest.0 x (z ∷ zs) rest.1.among; is = is ∙ ap Some (omega arith); lowest = λ y found. omega (arith, lower y found) })
+      | inl below ↦ (
+        rest.0,
+        record {
+          among = contains-there rest.0 x (z ∷ zs) rest.1.among;
+          is = is ∙ ap Some (omega arith);
+          lowest = λ y found.
+              omega (arith, lower y found);
+        },
+      )
       | inr upto ↦ (x, record { among = contains-here x x (z ∷ zs) refl; is = is ∙ ap Some (omega arith); lowest = λ y found. omega (arith, lower y found) })
     ]
 
@@ -62,8 +70,11 @@ least-among f (z ∷ zs) x among = least-first f z zs
 
 -- those that pass a test are among the others
 passing : {X : Type 0} (p : X → Bool) (xs : List X) (x : X) → Contains (filter p xs) x → Contains xs x × (p x ≡ true)
-passing p xs x found =
-    (All-contains (Contains xs) (filter p xs) x (All-filter p (Contains xs) xs (All-contains_itself xs)) found, All-contains (λ y. p y ≡ true) (filter p xs) x (filter_passes p xs) found)
+passing p xs x found = (
+  All-contains (Contains xs) (filter p xs) x (All-filter p (Contains xs) xs (All-contains_itself xs)) found,
+  All-contains (λ y.
+      p y ≡ true) (filter p xs) x (filter_passes p xs) found,
+)
 
 -- a test that one of some passes, and one that none passes
 member-passing : {X : Type 0} (p : X → Bool) (xs : List X) → list_any p xs ≡ true → (x : X) × Contains xs x × (p x ≡ true)
@@ -80,7 +91,8 @@ none-member p xs x among none = false_from_ne_true (p x) (λ t. both_ways (list_
 filter-agree : {X : Type 0} (p q : X → Bool) (xs : List X) → All (λ x. p x ≡ q x) xs → filter p xs ≡ filter q xs
 filter-agree p q [] same = refl
 filter-agree p q (x ∷ xs) same =
-    ap (λ b. cond b (x ∷ filter p xs) (filter p xs)) (All-head (λ x. p x ≡ q x) x xs same) ∙ ap (λ ys. cond (q x) (x ∷ ys) ys) (filter-agree p q xs (All-tail (λ x. p x ≡ q x) x xs same))
+    ap (λ b. cond b (x ∷ filter p xs) (filter p xs)) (All-head (λ x. p x ≡ q x) x xs same)
+    ∙ ap (λ ys. cond (q x) (x ∷ ys) ys) (filter-agree p q xs (All-tail (λ x. p x ≡ q x) x xs same))
 
 -- ---- the first line that has a place
 
@@ -106,7 +118,11 @@ first-here place_on line_at k ks place rises has = record {
   among = contains-here k k ks refl;
   has = has;
   is = ap (λ o. option_or o (first_place place_on (map line_at ks))) has;
-  none = λ j found less. elim (contains-cases j k ks found) [ inl same ↦ absurd (omega arith) | inr later ↦ absurd (omega (arith, ascends-head k ks j rises later)) ];
+  none = λ j found less. elim (contains-cases j k ks found) [
+    | inl same ↦ absurd (omega arith)
+    | inr later ↦ absurd
+        (omega (arith, ascends-head k ks j rises later))
+  ];
 }
 
 -- it has none
@@ -116,14 +132,18 @@ first-there place_on line_at k ks n place missing first = record {
   among = contains-there n k ks first.among;
   has = first.has;
   is = ap (λ o. option_or o (first_place place_on (map line_at ks))) missing ∙ first.is;
-  none = λ j found less. elim (contains-cases j k ks found) [ inl same ↦ ap (λ n. place_on (line_at n)) (sym same) ∙ missing | inr later ↦ first.none j later less ];
+  none = λ j found less. elim (contains-cases j k ks found) [
+    | inl same ↦ ap (λ n. place_on (line_at n)) (sym same)
+        ∙ missing
+    | inr later ↦ first.none j later less
+  ];
 }
 
-first_of : (place_on : KeptLine → Option Location) (line_at : ℕ → KeptLine) (ks : List ℕ) (some : ℕ) → Ascends ks → Contains ks some
+first-of : (place_on : KeptLine → Option Location) (line_at : ℕ → KeptLine) (ks : List ℕ) (some : ℕ) → Ascends ks → Contains ks some
     → is_some (place_on (line_at some)) ≡ true → (k : ℕ) × (place : Location) × IsFirst place_on line_at ks k place
-first_of place_on line_at [] some rises among has = absurd (omega (arith, among.1))
-first_of place_on line_at (k ∷ ks) some rises among has =
-    by (place_on (line_at k)) refl (λ later. first_of place_on line_at ks some (ascends-tail k ks rises) later has)
+first-of place_on line_at [] some rises among has = absurd (omega (arith, among.1))
+first-of place_on line_at (k ∷ ks) some rises among has =
+    by (place_on (line_at k)) refl (λ later. first-of place_on line_at ks some (ascends-tail k ks rises) later has)
   where
     later-ones : place_on (line_at k) ≡ None → Contains ks some
     later-ones missing =
@@ -159,7 +179,8 @@ starts-there : (test : Annotation → Bool) (s : Source) (marks : List Annotatio
     → first_line s.text a ≡ k → Contains (starting test s marks k) a
 unfolding starting
 starts-there test s marks k a among passes on =
-    contains-filter (λ (a : Annotation). test a && eqb (first_line s.text a) k) a marks (and_from (test a) (eqb (first_line s.text a) k) passes (eq-eqb (first_line s.text a) k on)) among
+    contains-filter (λ (a : Annotation). test a && eqb (first_line s.text a) k) a marks
+    (and_from (test a) (eqb (first_line s.text a) k) passes (eq-eqb (first_line s.text a) k on)) among
 
 start_at-single : (s : Source) (spans : List Annotation) → start_columns (map (single_part s) spans) ≡ map (start_at s) spans
 unfolding locations_of
@@ -170,7 +191,8 @@ place-on : (choice : List PartEntry → List PartEntry) (test : Annotation → B
     → Chooses choice test s marks → least_place choice (kept_line s marks k)
     ≡ option_map (λ column. record { line = s.first + k; column = Some column }) (least (map (start_at s) (starting test s marks k)))
 place-on choice test s marks k chooses =
-    ap (λ ns. option_map (λ column. record { line = s.first + k; column = Some column }) (least ns)) (ap start_columns (chooses.parts k) ∙ start_at-single s (starting test s marks k))
+    ap (λ ns. option_map (λ column. record { line = s.first + k; column = Some column }) (least ns))
+    (ap start_columns (chooses.parts k) ∙ start_at-single s (starting test s marks k))
 
 -- ---- the first line with such a span
 
@@ -221,9 +243,13 @@ named-by : (choice : List PartEntry → List PartEntry) (test : Annotation → B
 unfolding at-column starting
 named-by choice test fold s marks a spans chooses among passes =
     let ks : List ℕ = kept_lines fold s.text marks in
-    let kept-first : (b : Annotation) → Contains marks b → Contains ks (first_line s.text b) = λ b found. first_kept fold s.text marks b found (All-contains (λ a. IsSpan s.text a.span.start a.span.end) marks b spans found) in
-    let has : (b : Annotation) → Contains marks b → test b ≡ true → is_some (least_place choice (kept_line s marks (first_line s.text b))) ≡ true = λ b found passed. has-place choice test s marks (first_line s.text b) b chooses (starts-there test s marks (first_line s.text b) b found passed refl) in
-    let first = first_of (least_place choice) (kept_line s marks) ks (first_line s.text a) (kept-ascends fold s.text marks) (kept-first a among) (has a among passes) in
+    let kept-first : (b : Annotation) → Contains marks b → Contains ks (first_line s.text b) = λ b found.
+    first_kept fold s.text marks b found (All-contains (λ a. IsSpan s.text a.span.start a.span.end) marks b spans found) in
+    let has : (b : Annotation) → Contains marks b → test b ≡ true → is_some (least_place choice (kept_line s marks (first_line s.text b)))
+    ≡ true = λ b found passed. has-place choice test s marks (first_line s.text b) b chooses
+    (starts-there test s marks (first_line s.text b) b found passed refl) in
+    let first = first-of (least_place choice) (kept_line s marks) ks (first_line s.text a) (kept-ascends fold s.text marks) (kept-first a among)
+    (has a among passes) in
     let k : ℕ = first.0 in
     let lowest = place-is choice test s marks k first.1 chooses first.2.has in
     let span : Annotation = lowest.0 in
@@ -239,7 +265,8 @@ named-by choice test fold s marks a spans chooses among passes =
         line = ap (λ (p : Location). p.line) lowest.2 ∙ ap (λ n. s.first + n) (sym on);
         column = ap (λ (p : Location). p.column) lowest.2;
         first = λ other found passed. elim (cases_lt (first_line s.text other) k) [
-          | inl above ↦ absurd (both_ways (is_some (least_place choice (kept_line s marks (first_line s.text other)))) (ap is_some (first.2.none (first_line s.text other) (kept-first other found) above)) (has other found passed))
+          | inl above ↦ absurd (both_ways (is_some (least_place choice (kept_line s marks (first_line s.text other))))
+              (ap is_some (first.2.none (first_line s.text other) (kept-first other found) above)) (has other found passed))
           | inr below ↦ omega arith
         ];
         lowest = λ other found passed beside. lowest.1.lowest other (starts-there test s marks k other found passed (beside ∙ on));
@@ -279,7 +306,8 @@ parts-marked : (s : Source) (marks : List Annotation) (k : ℕ) → All (λ a. I
 unfolding starting
 parts-marked s marks k spans none =
     untouched-parts s marks k spans (untouched s marks k none)
-    ∙ ap (map (single_part s)) (filter-agree (is_marked_on s.text k) (λ (a : Annotation). is_marking a.kind && eqb (first_line s.text a) k) marks (λ i d within. marked-there s k (get_or marks i d) (none i d within)))
+    ∙ ap (map (single_part s)) (filter-agree (is_marked_on s.text k) (λ (a : Annotation). is_marking a.kind && eqb (first_line s.text a) k) marks
+    (λ i d within. marked-there s k (get_or marks i d) (none i d within)))
 
 -- the entries are those of the spans that are marked
 chooses-all : (s : Source) (marks : List Annotation) → All (λ a. IsSpan s.text a.span.start a.span.end) marks → NoneLong s marks
@@ -374,11 +402,14 @@ place-named fold s marks lines spans are some none =
       | inl primary ↦
           let a = member-passing (λ a. is_primary a.kind) marks primary in
           let named = named-by primary_parts (λ a. is_primary a.kind) fold s marks a.0 spans (chooses-primary s marks spans none) a.1 a.2 in
-          known (primary_place (annotated_lines fold s marks)) named.0 (ap (λ o. option_or o (first_place (least_place all_parts) (annotated_lines fold s marks))) named.1) (named-primary s marks named.0 primary named.2)
+          known (primary_place (annotated_lines fold s marks)) named.0 (ap (λ o.
+          option_or o (first_place (least_place all_parts) (annotated_lines fold s marks))) named.1) (named-primary s marks named.0 primary named.2)
       | inr other ↦
           let a = member-passing (λ a. is_marking a.kind) marks some in
           let named = named-by all_parts (λ a. is_marking a.kind) fold s marks a.0 spans (chooses-all s marks spans none) a.1 a.2 in
-          known (primary_place (annotated_lines fold s marks)) named.0 (ap (λ o. option_or o (first_place (least_place all_parts) (annotated_lines fold s marks))) (no-primary s marks fold spans none other) ∙ named.1) (named-context s marks named.0 other named.2)
+          known (primary_place (annotated_lines fold s marks)) named.0 (ap (λ o.
+          option_or o (first_place (least_place all_parts) (annotated_lines fold s marks))) (no-primary s marks fold spans none other) ∙ named.1)
+          (named-context s marks named.0 other named.2)
     ])
   where
     known : (o : Option Location) (place : Location) → o ≡ Some place → IsLocation s marks place → IsSomeAnd o (IsLocation s marks)

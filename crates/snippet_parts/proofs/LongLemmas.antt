@@ -42,9 +42,16 @@ long_before-order = record {
 -- a span of several lines starts on an earlier line than it ends on
 pub long-lines : (s : Source) (a : Annotation) → a.span.start ≤ a.span.end → is_long s.text a ≡ true → (long_entry s a).start.line < (long_entry s a).end.line
 long-lines s a ordered long =
-    let other : last_line s.text a ≡ first_line s.text a → ⊥ = eqb-false (last_line s.text a) (first_line s.text a) (not-true (eqb (last_line s.text a) (first_line s.text a)) (and_parts (is_marking a.kind) (not (eqb (last_line s.text a) (first_line s.text a))) long).1) in
-    let up : first_line s.text a ≤ last_line s.text a = line_of-mono (source_lines s.text) a.span.start a.span.end (omega (arith, line_of-within s.text 0)) ordered in
-    let less : first_line s.text a < last_line s.text a = elim (cases_eq (last_line s.text a) (first_line s.text a)) [ inl same ↦ absurd (other same) | inr apart ↦ below (first_line s.text a) (last_line s.text a) up apart ] in
+    let other : last_line s.text a ≡ first_line s.text a → ⊥ = eqb-false (last_line s.text a) (first_line s.text a)
+    (not-true (eqb (last_line s.text a) (first_line s.text a)) (and_parts (is_marking a.kind)
+    (not (eqb (last_line s.text a) (first_line s.text a))) long).1) in
+    let up : first_line s.text a ≤ last_line s.text a = line_of-mono (source_lines s.text) a.span.start a.span.end
+    (omega (arith, line_of-within s.text 0)) ordered in
+    let less : first_line s.text a < last_line s.text a = elim (cases_eq (last_line s.text a) (first_line s.text a)) [
+      | inl same ↦ absurd
+          (other same)
+      | inr apart ↦ below (first_line s.text a) (last_line s.text a) up apart
+    ] in
     omega (arith, start-line s a.span.start a.span.end, end-line s a.span.start a.span.end)
   where
     below : (m n : ℕ) → m ≤ n → (n ≡ m → ⊥) → m < n
@@ -74,7 +81,8 @@ long_spans-is given sorted es is seen = ap (map seen_long) is ∙ map-ordered_by
 -- spans in their order are ordered by the lines on which they start
 pub long-ordered : (xs : List LongSpan) → IsSortedBy long_before xs → IsNonDecreasingBy (λ (l : LongSpan). l.start.line) xs
 long-ordered xs sorted i j d le within =
-    no_less (get_or xs j d).start.line (get_or xs i d).start.line (eqb (get_or xs j d).start.line (get_or xs i d).start.line && ltb (get_or xs i d).end.line (get_or xs j d).end.line) (sorted_far long_before long_before-order xs sorted i j d le within)
+    no_less (get_or xs j d).start.line (get_or xs i d).start.line (eqb (get_or xs j d).start.line (get_or xs i d).start.line
+    && ltb (get_or xs i d).end.line (get_or xs j d).end.line) (sorted_far long_before long_before-order xs sorted i j d le within)
   where
     no_less : (m n : ℕ) (b : Bool) → (ltb m n || b) ≡ false → n ≤ m
     no_less m n b none = ltb-false m n (or_parts (ltb m n) b none).0

@@ -110,7 +110,13 @@ later-started t first parts e later place rest =
       span = rest.span;
       among = inr rest.among;
       same = rest.same;
-      stands = record { part = rest.stands.part; among = among_right first parts rest.stands.part rest.stands.among; passes = rest.stands.passes; at_is = rest.stands.at_is };
+      stands = record {
+        part = rest.stands.part;
+        among = among_right first parts rest.stands.part rest.stands.among;
+        passes = rest.stands.passes;
+        at_is =
+            rest.stands.at_is;
+      };
     }
 
 -- the last span of its place has an entry where it starts
@@ -126,7 +132,8 @@ last-started t choice s depth before e later others place last why at =
       same = at;
       stands = record {
         part = start_part drawn depth;
-        among = among_left (span_parts s depth (stands_among e later) drawn) others (start_part drawn depth) (subst (λ b. Among (span_parts s depth b drawn) (start_part drawn depth)) (sym last) (inl refl));
+        among = among_left (span_parts s depth (stands_among e later) drawn) others (start_part drawn depth)
+            (subst (λ b. Among (span_parts s depth b drawn) (start_part drawn depth)) (sym last) (inl refl));
         passes = promoted-kind t choice before e place why at;
         at_is = promoted-start before e;
       };
@@ -138,7 +145,8 @@ pub started : (t : AnnotationKind → Bool) → IsChoice t
     → (t e.kind ≡ true) ⊎ HasPrimary before place → IsStarted t (long_parts s places before later) later place
 started t choice s places before [] place e here at why = absurd here
 started t choice s places before (f ∷ later) place e (inr among) at why =
-    later-started t (span_parts s (depth_among places (long_place f)) (stands_among f later) (promoted before f)) (long_parts s places (before ++ f ∷ []) later) f later place (started t choice s places (before ++ f ∷ []) later place e among at (elim why [
+    later-started t (span_parts s (depth_among places (long_place f)) (stands_among f later) (promoted before f))
+    (long_parts s places (before ++ f ∷ []) later) f later place (started t choice s places (before ++ f ∷ []) later place e among at (elim why [
       | inl own ↦ inl own
       | inr other ↦ inr (more-primary before f place other)
     ]))
@@ -192,10 +200,23 @@ drawn-as t choice s before e later seen here passes =
       | inl primary ↦ record { span = e; among = inr (inl refl); passes = primary-passes t choice e.kind primary; start = refl }
       | inr other ↦ elim (cases_Bool (is_promoted before e)) [
         | inl so ↦
-            let d = any_cases (λ (d : Entry). is_primary d.kind && same_place (long_place e) (long_place d)) before (ap (λ b. b || list_any (λ (d : Entry). is_primary d.kind && same_place (long_place e) (long_place d)) before) (sym other) ∙ so) in
+            let d = any_cases (λ (d : Entry). is_primary d.kind && same_place (long_place e) (long_place d)) before
+            (ap (λ b. b || list_any (λ (d : Entry). is_primary d.kind && same_place (long_place e) (long_place d)) before) (sym other) ∙ so) in
             let parts = and_parts (is_primary d.0.kind) (same_place (long_place e) (long_place d.0)) d.2 in
-            record { span = d.0; among = inl d.1; passes = primary-passes t choice d.0.kind parts.0; start = sym (same_start s e d.0 here (seen d.0 d.1) (same-true (long_place e) (long_place d.0) parts.1)) }
-        | inr own ↦ record { span = e; among = inr (inl refl); passes = ap (λ (d : Entry). t d.kind) (sym (cond-false (is_promoted before e) (record e { kind = Primary }) e own)) ∙ passes; start = refl }
+            record {
+              span = d.0;
+              among = inl d.1;
+              passes = primary-passes t choice d.0.kind parts.0;
+              start = sym
+                  (same_start s e d.0 here (seen d.0 d.1) (same-true (long_place e) (long_place d.0) parts.1));
+            }
+        | inr own ↦ record {
+          span = e;
+          among = inr (inl refl);
+          passes = ap (λ (d : Entry). t d.kind)
+              (sym (cond-false (is_promoted before e) (record e { kind = Primary }) e own)) ∙ passes;
+          start = refl;
+        }
       ]
     ]
 
@@ -204,15 +225,18 @@ span-reached : (t : AnnotationKind → Bool) → IsChoice t → (s : Source) (de
     → HoldsOfSpan (λ p. t p.entry.kind ≡ true → IsReached t before (e ∷ later) p) s depth (promoted before e)
 span-reached t choice s depth before e later seen here =
     record {
-      start = λ passes. reach passes (start_part (promoted before e) depth) (λ from. by-same from.span.start (promoted before e).start (from.start ∙ sym (promoted-start before e)));
+      start = λ passes. reach passes (start_part (promoted before e) depth) (λ from.
+          by-same from.span.start (promoted before e).start (from.start ∙ sym (promoted-start before e)));
       bars = All-weaker (IsBarLine s.text ((promoted before e).start.line - s.first) ((promoted before e).end.line - s.first))
           (λ k. t (promoted before e).kind ≡ true → IsReached t before (e ∷ later) (bar_part (promoted before e) depth (s.first + k)))
           (λ k bar passes. reach passes (bar_part (promoted before e) depth (s.first + k))
           (λ from. by-above from.span.start (bar_part (promoted before e) depth (s.first + k)).entry.start (omega (arith, bar.from, line from))))
           (bar_lines s.text ((promoted before e).start.line - s.first) ((promoted before e).end.line - s.first))
           (bar-lines s.text ((promoted before e).start.line - s.first) ((promoted before e).end.line - s.first));
-      end = λ passes. reach passes (end_part (promoted before e) (MultilineEnd depth)) (λ from. by-above from.span.start (end_part (promoted before e) (MultilineEnd depth)).entry.start (omega (arith, line from, below)));
-      again = λ passes. reach passes (end_part (promoted before e) Singleline) (λ from. by-above from.span.start (end_part (promoted before e) Singleline).entry.start (omega (arith, line from, below)));
+      end = λ passes. reach passes (end_part (promoted before e) (MultilineEnd depth)) (λ from.
+          by-above from.span.start (end_part (promoted before e) (MultilineEnd depth)).entry.start (omega (arith, line from, below)));
+      again = λ passes. reach passes (end_part (promoted before e) Singleline) (λ from.
+          by-above from.span.start (end_part (promoted before e) Singleline).entry.start (omega (arith, line from, below)));
     }
   where
     below : (promoted before e).start.line < (promoted before e).end.line
@@ -237,8 +261,10 @@ reached t choice s places before (e ∷ later) seen to-come =
     let first : List PartEntry = span_parts s (depth_among places (long_place e)) (stands_among e later) (promoted before e) in
     let others : List PartEntry = long_parts s places (before ++ e ∷ []) later in
     All-append P first others
-    (span-all P s (depth_among places (long_place e)) (stands_among e later) (promoted before e) (span-reached t choice s (depth_among places (long_place e)) before e later seen (to-come e (inl refl))))
-    (All-weaker (λ p. t p.entry.kind ≡ true → IsReached t (before ++ e ∷ []) later p) P (λ p given passes. moved p (given passes)) others (reached t choice s places (before ++ e ∷ []) later seen-more (λ d among. to-come d (inr among))))
+    (span-all P s (depth_among places (long_place e)) (stands_among e later) (promoted before e)
+    (span-reached t choice s (depth_among places (long_place e)) before e later seen (to-come e (inl refl))))
+    (All-weaker (λ p. t p.entry.kind ≡ true → IsReached t (before ++ e ∷ []) later p) P (λ p given passes.
+    moved p (given passes)) others (reached t choice s places (before ++ e ∷ []) later seen-more (λ d among. to-come d (inr among))))
   where
     seen-more : (d : Entry) → Among (before ++ e ∷ []) d → IsSeen s d
     seen-more d among =

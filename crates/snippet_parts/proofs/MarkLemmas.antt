@@ -82,7 +82,8 @@ pub marked-from : (s : Source) (a : Annotation) (at : Loc × Loc) (line k : ℕ)
 marked-from s a at line k is here on =
     let single = eq-eqb (last_line s.text a) (first_line s.text a) (omega (arith, on.first, on.last, first-from s a at is, last-from s a at is)) in
     let there = eq-eqb (first_line s.text a) k (omega (arith, on.first, first-from s a at is)) in
-    and_from (is_marking a.kind && eqb (last_line s.text a) (first_line s.text a)) (eqb (first_line s.text a) k) (and_from (is_marking a.kind) (eqb (last_line s.text a) (first_line s.text a)) on.marking single) there
+    and_from (is_marking a.kind && eqb (last_line s.text a) (first_line s.text a)) (eqb (first_line s.text a) k)
+    (and_from (is_marking a.kind) (eqb (last_line s.text a) (first_line s.text a)) on.marking single) there
 
 -- an annotation whose locations don't put it on a line isn't marked on that line
 pub unmarked-from : (s : Source) (a : Annotation) (at : Loc × Loc) (line k : ℕ) → at ≡ locations_of s a.span.start a.span.end → line ≡ s.first + k
@@ -93,4 +94,9 @@ unmarked-from s a at line k is here off =
     let front = and_parts (is_marking a.kind) (eqb (last_line s.text a) (first_line s.text a)) parts.0 in
     let single = eqb-true (last_line s.text a) (first_line s.text a) front.1 in
     let there = eqb-true (first_line s.text a) k parts.1 in
-    off (record { marking = front.0; first = omega (arith, here, there, first-from s a at is); last = omega (arith, here, single, there, last-from s a at is) }))
+    off (record {
+      marking = front.0;
+      first = omega (arith, here, there, first-from s a at is);
+      last = omega
+          (arith, here, single, there, last-from s a at is);
+    }))

@@ -68,7 +68,8 @@ first_is place_on line_at [] k place rises among has none = absurd (omega (arith
 first_is place_on line_at (j ∷ ks) k place rises among has none =
     elim (contains-cases k j ks among) [
       | inl same ↦ ap (λ o. option_or o (first_place place_on (map line_at ks))) (ap (λ n. place_on (line_at n)) same ∙ has)
-      | inr later ↦ ap (λ o. option_or o (first_place place_on (map line_at ks))) (none j (ascends-head j ks k rises later)) ∙ first_is place_on line_at ks k place (ascends-tail j ks rises) later has none
+      | inr later ↦ ap (λ o. option_or o (first_place place_on (map line_at ks))) (none j (ascends-head j ks k rises later))
+          ∙ first_is place_on line_at ks k place (ascends-tail j ks rises) later has none
     ]
 
 -- ---- the places of bytes
@@ -108,8 +109,11 @@ steps-are source b k on = ap (λ n. step (ltb (start_of (source_lines source) n 
 
 -- a span that starts at an earlier byte starts at an earlier place, or at the same
 pub place-by : (s : Source) (a b : ℕ) → IsUtf8 s.text → IsSpanBorder s.text a → a ≤ b → IsBy (start_location s a) (start_location s b)
-place-by s a b utf8 border upto =
-    (omega (arith, start_location-line s a, start_location-line s b, line_of-mono ls a b (omega (arith, line_of-within s.text 0)) upto), λ same. on_line (omega (arith, same, start_location-line s a, start_location-line s b)))
+place-by s a b utf8 border upto = (
+  omega (arith, start_location-line s a, start_location-line s b, line_of-mono ls a b (omega (arith, line_of-within s.text 0)) upto),
+  λ same.
+      on_line (omega (arith, same, start_location-line s a, start_location-line s b)),
+)
   where
     ls : List Line
     ls = source_lines s.text
@@ -119,10 +123,23 @@ place-by s a b utf8 border upto =
         let ls : List Line = source_lines s.text in
         let k : ℕ = line_of ls a in
         let text : List ℕ = text_at ls k in
-        let cut : IsUtf8 (take (a - start_of ls k) text) = prefix-utf8 text (a - start_of ls k) (IsUtf8-text_at s.text k utf8) (IsUtf8-take text (min (a - start_of ls k) (length text)) (IsUtf8-text_at s.text k utf8) (IsCharBoundary-prefix s.text a border)) in
+        let cut : IsUtf8 (take (a - start_of ls k) text) = prefix-utf8 text (a - start_of ls k) (IsUtf8-text_at s.text k utf8)
+        (IsUtf8-take text (min (a - start_of ls k) (length text)) (IsUtf8-text_at s.text k utf8) (IsCharBoundary-prefix s.text a border)) in
         let more = chars-more text (a - start_of ls k) (b - start_of ls k) cut (omega arith) in
-        let later : (place_of s.text b).character ≡ length (chars (take (b - start_of ls k) text)) = place_of-character s.text b ∙ ap (λ n. length (chars (prefix_at ls n b))) (sym one) in
-        omega (arith, start-char s a, start-char s b, place_of-character s.text a, later, more, steps-are s.text a k refl, steps-are s.text b k (sym one), steps-more (start_of ls k + length text) a b upto)
+        let later : (place_of s.text b).character ≡ length (chars (take (b - start_of ls k) text)) = place_of-character s.text b
+        ∙ ap (λ n. length (chars (prefix_at ls n b))) (sym one) in
+        omega (
+          arith,
+          start-char s a,
+          start-char s b,
+          place_of-character s.text a,
+          later,
+          more,
+          steps-are s.text a k refl,
+          steps-are s.text b k
+              (sym one),
+          steps-more (start_of ls k + length text) a b upto,
+        )
 
 -- ---- the entries of spans
 
@@ -139,7 +156,13 @@ long-seen : (s : Source) (a : Annotation) → IsSpan s.text a.span.start a.span.
 long-seen s a span long =
     record {
       start = start-of-span s a ∙ ap (start_location s) (sym (ap (λ (l : Loc). l.byte) (start-of-span s a) ∙ start_byte s a.span.start));
-      later = omega (arith, start-line s a.span.start a.span.end, end-line s a.span.start a.span.end, apart (cases_eq (last_line s.text a) (first_line s.text a)));
+      later = omega (
+        arith,
+        start-line s a.span.start a.span.end,
+        end-line s a.span.start a.span.end,
+        apart
+            (cases_eq (last_line s.text a) (first_line s.text a)),
+      );
     }
   where
     other : (b : Bool) → not b ≡ true → b ≡ true → ⊥
@@ -147,7 +170,8 @@ long-seen s a span long =
     other false is also = cc
 
     apart : (last_line s.text a ≡ first_line s.text a) ⊎ (last_line s.text a ≡ first_line s.text a → ⊥) → first_line s.text a < last_line s.text a
-    apart (inl same) = absurd (other (is_single_line s.text a) (and_parts (is_marking a.kind) (not (is_single_line s.text a)) long).1 (eq-eqb (last_line s.text a) (first_line s.text a) same))
+    apart (inl same) = absurd (other (is_single_line s.text a) (and_parts (is_marking a.kind) (not (is_single_line s.text a)) long).1
+        (eq-eqb (last_line s.text a) (first_line s.text a) same))
     apart (inr differ) = elim (cases_lt (first_line s.text a) (last_line s.text a)) [
       | inl less ↦ less
       | inr upto ↦ absurd (differ (omega (arith, lines_ordered s.text a span, upto)))
@@ -162,7 +186,8 @@ record IsOfSpan (s : Source) (marks : List Annotation) (e : Entry) : Type 0 wher
 
 of-span : (s : Source) (marks : List Annotation) (e : Entry) → Among (long_spans s marks) e → IsOfSpan s marks e
 of-span s marks e among =
-    let given = map_cases (long_entry s) (filter (is_long s.text) marks) e (in_order_cases stands_before (map (long_entry s) (filter (is_long s.text) marks)) e among) in
+    let given = map_cases (long_entry s) (filter (is_long s.text) marks) e
+    (in_order_cases stands_before (map (long_entry s) (filter (is_long s.text) marks)) e among) in
     let span = filter_cases (is_long s.text) marks given.0 given.1 in
     record { span = given.0; among = span.0; long = span.1; is = given.2 }
 
@@ -180,20 +205,23 @@ marked-started t choice s marks spans a among marked passes =
     elim (cases_Bool (is_single_line s.text a)) [
       | inl single ↦ record {
         part = single_part s a;
-        among = among_left singles longs (single_part s a) (among_map (single_part s) (filter (is_short s.text) marks) a (among_filter (is_short s.text) marks a among (and_from (is_marking a.kind) (is_single_line s.text a) marked single)));
+        among = among_left singles longs (single_part s a) (among_map (single_part s) (filter (is_short s.text) marks) a
+            (among_filter (is_short s.text) marks a among (and_from (is_marking a.kind) (is_single_line s.text a) marked single)));
         passes = passes;
         at_is = start-of-span s a;
       }
       | inr several ↦
           let long : is_long s.text a ≡ true = and_from (is_marking a.kind) (not (is_single_line s.text a)) marked (ap not several) in
           let e : Entry = long_entry s a in
-          let there : Among (long_spans s marks) e = among_in_order stands_before (map (long_entry s) (filter (is_long s.text) marks)) e (among_map (long_entry s) (filter (is_long s.text) marks) a (among_filter (is_long s.text) marks a among long)) in
+          let there : Among (long_spans s marks) e = among_in_order stands_before (map (long_entry s) (filter (is_long s.text) marks)) e
+          (among_map (long_entry s) (filter (is_long s.text) marks) a (among_filter (is_long s.text) marks a among long)) in
           let one = started t choice s (long_places s marks) [] (long_spans s marks) (long_place e) e there refl (inl passes) in
           record {
             part = one.stands.part;
             among = among_right singles longs one.stands.part one.stands.among;
             passes = one.stands.passes;
-            at_is = one.stands.at_is ∙ same_start s one.span e (all_seen s marks spans one.span one.among) (all_seen s marks spans e there) one.same ∙ start-of-span s a;
+            at_is = one.stands.at_is ∙ same_start s one.span e (all_seen s marks spans one.span one.among) (all_seen s marks spans e there) one.same
+                ∙ start-of-span s a;
           }
     ]
   where
@@ -293,12 +321,15 @@ least-there t choice s marks spans a least-start =
     there : Among (start_columns (chosen t (parts_on s marks (first_line s.text a)))) ((start_location s a.span.start).char + 1)
     there =
         let one = marked-started t choice s marks spans a least-start.among least-start.marked least-start.passes in
-        let on : eqb one.part.entry.start.line (s.first + first_line s.text a) ≡ true = eq-eqb one.part.entry.start.line (s.first + first_line s.text a) (ap (λ (l : Loc). l.line) one.at_is ∙ start_location-line s a.span.start) in
+        let on : eqb one.part.entry.start.line (s.first + first_line s.text a)
+        ≡ true = eq-eqb one.part.entry.start.line (s.first + first_line s.text a)
+        (ap (λ (l : Loc). l.line) one.at_is ∙ start_location-line s a.span.start) in
         let part : Among (chosen t (parts_on s marks (first_line s.text a))) one.part =
         among_filter (λ (q : PartEntry). t q.entry.kind) (parts_on s marks (first_line s.text a))
         one.part (among_filter (λ (q : PartEntry). eqb q.entry.start.line (s.first + first_line s.text a)) (made_parts s
         marks) one.part one.among on) one.passes in
-        subst (Among (start_columns (chosen t (parts_on s marks (first_line s.text a))))) (ap (λ (l : Loc). l.char + 1) one.at_is) (among_map (λ (q : PartEntry). q.entry.start.char + 1) (chosen t (parts_on s marks (first_line s.text a))) one.part part)
+        subst (Among (start_columns (chosen t (parts_on s marks (first_line s.text a))))) (ap (λ (l : Loc). l.char + 1) one.at_is)
+        (among_map (λ (q : PartEntry). q.entry.start.char + 1) (chosen t (parts_on s marks (first_line s.text a))) one.part part)
 
     low : (m : ℕ) → Among (start_columns (chosen t (parts_on s marks (first_line s.text a)))) m → (start_location s a.span.start).char + 1 ≤ m
     low m among =
@@ -316,9 +347,12 @@ first-start : (t : AnnotationKind → Bool) → IsChoice t → (fold : Bool) (s 
     → ((a : Annotation) → Among marks a → IsSpan s.text a.span.start a.span.end) → (a : Annotation) → IsFirstStart t s marks a
     → first_place (least_place (chosen t)) (annotated_lines fold s marks) ≡ Some (place_at s a.span.start)
 first-start t choice fold s marks spans a first =
-    first_is (least_place (chosen t)) (kept_line s marks) (kept_lines fold s.text marks) (first_line s.text a) (place_at s a.span.start) (kept-ascends fold s.text marks) (first_kept fold s.text marks a (among_contains marks a first.among) (spans a first.among))
-    (ap (option_map (λ column. record { line = s.first + first_line s.text a; column = Some column })) (least-there t choice s marks spans a first) ∙ ap (λ n. Some (record { line = n; column = Some ((start_location s a.span.start).char + 1) })) (sym (start_location-line s a.span.start)))
-    (λ j above. ap (λ ps. option_map (λ column. record { line = s.first + j; column = Some column }) (least (start_columns ps))) (none-above t choice s marks spans a first j above))
+    first_is (least_place (chosen t)) (kept_line s marks) (kept_lines fold s.text marks) (first_line s.text a) (place_at s a.span.start)
+    (kept-ascends fold s.text marks) (first_kept fold s.text marks a (among_contains marks a first.among) (spans a first.among))
+    (ap (option_map (λ column. record { line = s.first + first_line s.text a; column = Some column })) (least-there t choice s marks spans a first)
+    ∙ ap (λ n. Some (record { line = n; column = Some ((start_location s a.span.start).char + 1) })) (sym (start_location-line s a.span.start)))
+    (λ j above. ap (λ ps. option_map (λ column. record { line = s.first + j; column = Some column }) (least (start_columns ps)))
+    (none-above t choice s marks spans a first j above))
 
 -- where no span of the choice is marked, no line has a place
 no_start : (t : AnnotationKind → Bool) → IsChoice t → (fold : Bool) (s : Source) (marks : List Annotation)
@@ -326,7 +360,9 @@ no_start : (t : AnnotationKind → Bool) → IsChoice t → (fold : Bool) (s : S
     → ((a : Annotation) → Among marks a → is_marking a.kind ≡ true → t a.kind ≡ true → ⊥)
     → first_place (least_place (chosen t)) (annotated_lines fold s marks) ≡ None
 no_start t choice fold s marks spans none =
-    first-none (least_place (chosen t)) (kept_line s marks) (kept_lines fold s.text marks) (λ k. ap (λ ps. option_map (λ column. record { line = s.first + k; column = Some column }) (least (start_columns ps))) (none-among (chosen t (parts_on s marks k)) (λ p among.
+    first-none (least_place (chosen t)) (kept_line s marks) (kept_lines fold s.text marks) (λ k.
+    ap (λ ps. option_map (λ column. record { line = s.first + k; column = Some column }) (least (start_columns ps)))
+    (none-among (chosen t (parts_on s marks k)) (λ p among.
     let on = on_line t s marks k p among in
     let after = part-after t choice s marks spans p on.0 on.2 in
     none after.span after.among after.marked after.passes)))
@@ -351,7 +387,8 @@ start-named test t is choice fold s marks utf8 spans = by (filter test marks) re
     start a = a.span.start
 
     found : (a : Annotation) (others : List Annotation) → filter test marks ≡ a ∷ others
-        → first_place (least_place (chosen t)) (annotated_lines fold s marks) ≡ option_map (place_at s) (least (map (λ (a : Annotation). a.span.start) (filter test marks)))
+        → first_place (least_place (chosen t)) (annotated_lines fold s marks)
+        ≡ option_map (place_at s) (least (map (λ (a : Annotation). a.span.start) (filter test marks)))
     found a others are =
         let low = least-first (λ (a : Annotation). a.span.start) a others in
         let given = filter_cases test marks low.0 (subst (λ xs. Among xs low.0) (sym are) (contains_among (a ∷ others) low.0 low.1.among)) in
@@ -359,13 +396,15 @@ start-named test t is choice fold s marks utf8 spans = by (filter test marks) re
           among = given.0;
           marked = is.marked low.0 given.1;
           passes = is.passes low.0 given.1;
-          first = λ b among marked passes. place-by s low.0.span.start b.span.start utf8 (spans low.0 given.0).from (low.1.lowest b (among_contains (a ∷ others) b (subst (λ xs. Among xs b) are (among_filter test marks b among (is.all b marked passes)))));
+          first = λ b among marked passes. place-by s low.0.span.start b.span.start utf8 (spans low.0 given.0).from
+              (low.1.lowest b (among_contains (a ∷ others) b (subst (λ xs. Among xs b) are (among_filter test marks b among (is.all b marked passes)))));
         } in
         first-start t choice fold s marks spans low.0 first
         ∙ sym (ap (λ xs. option_map (place_at s) (least (map (λ (a : Annotation). a.span.start) xs))) are ∙ ap (option_map (place_at s)) low.1.is)
 
     by : (xs : List Annotation) → filter test marks ≡ xs
-        → first_place (least_place (chosen t)) (annotated_lines fold s marks) ≡ option_map (place_at s) (least (map (λ (a : Annotation). a.span.start) (filter test marks)))
+        → first_place (least_place (chosen t)) (annotated_lines fold s marks)
+        ≡ option_map (place_at s) (least (map (λ (a : Annotation). a.span.start) (filter test marks)))
     by [] are =
         no_start t choice fold s marks spans (λ a among marked passes. subst (λ xs. Among xs a) are (among_filter test marks a among (is.all a marked passes)))
         ∙ sym (ap (λ xs. option_map (place_at s) (least (map (λ (a : Annotation). a.span.start) xs))) are)
@@ -395,14 +434,17 @@ all-chosen (p ∷ parts) = ap (λ ps. p ∷ ps) (all-chosen parts)
 all-places : (lines : List KeptLine) → first_place (least_place all_parts) lines ≡ first_place (least_place (chosen (λ k. true))) lines
 all-places [] = refl
 all-places (line ∷ lines) =
-    ap (λ ps. option_or (option_map (λ column. record { line = line.number; column = Some column }) (least (start_columns ps))) (first_place (least_place all_parts) lines)) (sym (all-chosen line.parts)) ∙ ap (option_or (least_place (chosen (λ k. true)) line)) (all-places lines)
+    ap (λ ps. option_or (option_map (λ column. record { line = line.number; column = Some column }) (least (start_columns ps)))
+    (first_place (least_place all_parts) lines)) (sym (all-chosen line.parts)) ∙ ap (option_or (least_place (chosen (λ k. true)) line)) (all-places lines)
 
 -- the place that the head of a primary snippet names is that of the first byte at which a span starts that names it
 pub naming-place : (marks : List Annotation) (start : Option ℕ) → start ≡ naming_start marks → (fold : Bool) (s : Source) → IsUtf8 s.text
     → All (λ a. IsSpan s.text a.span.start a.span.end) marks → primary_place (annotated_lines fold s marks) ≡ option_map (place_at s) start
 naming-place marks start is fold s utf8 all =
-    ap (λ o. option_or o (first_place (least_place all_parts) (annotated_lines fold s marks))) (start-named (λ a. is_primary a.kind) is_primary primary-test primary-choice fold s marks utf8 spans)
-    ∙ ap (option_or (option_map (place_at s) (least (primary_starts marks)))) (all-places (annotated_lines fold s marks) ∙ start-named (λ a. is_marking a.kind) (λ k. true) any-test any-choice fold s marks utf8 spans)
+    ap (λ o. option_or o (first_place (least_place all_parts) (annotated_lines fold s marks)))
+    (start-named (λ a. is_primary a.kind) is_primary primary-test primary-choice fold s marks utf8 spans)
+    ∙ ap (option_or (option_map (place_at s) (least (primary_starts marks))))
+    (all-places (annotated_lines fold s marks) ∙ start-named (λ a. is_marking a.kind) (λ k. true) any-test any-choice fold s marks utf8 spans)
     ∙ either (least (primary_starts marks)) (least (marked_starts marks))
     ∙ ap (option_map (place_at s)) (sym is)
   where
@@ -428,13 +470,15 @@ start-border test source marks spans = by (filter test marks) refl
     by (a ∷ others) are =
         let low = least-first (λ (b : Annotation). b.span.start) a others in
         let given = filter_cases test marks low.0 (subst (λ xs. Among xs low.0) (sym are) (contains_among (a ∷ others) low.0 low.1.among)) in
-        subst (λ xs. IfSome (least (map (λ (b : Annotation). b.span.start) xs)) (λ b. IsSpan source b b)) (sym are) (subst (λ o. IfSome o (λ b. IsSpan source b b)) (sym low.1.is) (empty low.0 (spans low.0 given.0)))
+        subst (λ xs. IfSome (least (map (λ (b : Annotation). b.span.start) xs)) (λ b. IsSpan source b b)) (sym are)
+        (subst (λ o. IfSome o (λ b. IsSpan source b b)) (sym low.1.is) (empty low.0 (spans low.0 given.0)))
 
 -- the start that names a snippet is a border of characters
 pub naming-border : (marks : List Annotation) (start : Option ℕ) → start ≡ naming_start marks → (source : List ℕ)
     → All (λ a. IsSpan source a.span.start a.span.end) marks → IfSome start (λ b. IsSpan source b b)
 naming-border marks start is source all =
-    subst (λ o. IfSome o (λ b. IsSpan source b b)) (sym is) (either (least (primary_starts marks)) (least (marked_starts marks)) (start-border (λ a. is_primary a.kind) source marks spans) (start-border (λ a. is_marking a.kind) source marks spans))
+    subst (λ o. IfSome o (λ b. IsSpan source b b)) (sym is) (either (least (primary_starts marks)) (least (marked_starts marks))
+    (start-border (λ a. is_primary a.kind) source marks spans) (start-border (λ a. is_marking a.kind) source marks spans))
   where
     spans : (a : Annotation) → Among marks a → IsSpan source a.span.start a.span.end
     spans a among = all_among (λ a. IsSpan source a.span.start a.span.end) marks a all among

@@ -50,7 +50,8 @@ contains-map f x (y ∷ xs) among =
 contains-put-new : {X : Type 0} (before : X → X → Bool) (x : X) (ys : List X) → Contains (put_in before x ys) x
 contains-put-new before x [] = contains-here x x [] refl
 contains-put-new before x (y ∷ ys) =
-    cond_both (before y x) (y ∷ put_in before x ys) (x ∷ y ∷ ys) (λ zs. Contains zs x) (λ _. contains-there x y (put_in before x ys) (contains-put-new before x ys)) (λ _. contains-here x x (y ∷ ys) refl)
+    cond_both (before y x) (y ∷ put_in before x ys) (x ∷ y ∷ ys) (λ zs. Contains zs x) (λ _.
+    contains-there x y (put_in before x ys) (contains-put-new before x ys)) (λ _. contains-here x x (y ∷ ys) refl)
 
 contains-put-old : {X : Type 0} (before : X → X → Bool) (x z : X) (ys : List X) → Contains ys z → Contains (put_in before x ys) z
 contains-put-old before x z [] among = absurd (omega (arith, among.1))
@@ -74,7 +75,8 @@ contains-order before z (x ∷ xs) among =
 long_among : (s : Source) (marks : List Annotation) (a : Annotation) → Contains marks a → is_long s.text a ≡ true
     → Contains (long_spans s marks) (long_entry s a)
 long_among s marks a among long =
-    contains-order stands_before (long_entry s a) (map (long_entry s) (filter (is_long s.text) marks)) (contains-map (long_entry s) a (filter (is_long s.text) marks) (contains-filter (is_long s.text) a marks long among))
+    contains-order stands_before (long_entry s a) (map (long_entry s) (filter (is_long s.text) marks))
+    (contains-map (long_entry s) a (filter (is_long s.text) marks) (contains-filter (is_long s.text) a marks long among))
 
 -- ---- places
 
@@ -86,7 +88,8 @@ record IsPlaced (s : Source) (e : Entry) : Type 0 where
 end-byte : (s : Source) (a : Annotation) → (long_entry s a).end.byte ≡ a.span.end
 unfolding locations_of start_location end_location location_of
 end-byte s a =
-    cond_both (eqb a.span.start a.span.end) (start_location s a.span.start) (end_location s a.span.start a.span.end) (λ (l : Loc). l.byte ≡ a.span.end) (λ same. eqb-true a.span.start a.span.end same) (λ _. refl)
+    cond_both (eqb a.span.start a.span.end) (start_location s a.span.start) (end_location s a.span.start a.span.end) (λ (l : Loc). l.byte ≡ a.span.end)
+    (λ same. eqb-true a.span.start a.span.end same) (λ _. refl)
 
 long-placed : (s : Source) (a : Annotation) → IsPlaced s (long_entry s a)
 long-placed s a = record {
@@ -147,8 +150,12 @@ span-bounds s depth false e last = record {
 }
 
 span-says : (s : Source) (depth : ℕ) (again : Bool) (e : Entry) → (p : PartEntry) × Contains (span_parts s depth again e) p × SaysOf e depth p
-span-says s depth true e =
-    (end_part e Singleline, contains-here (end_part e Singleline) (end_part e Singleline) [] refl, record { line = refl; end_is = refl; label = refl; part = inr refl })
+span-says s depth true e = (
+  end_part e Singleline,
+  contains-here (end_part e Singleline) (end_part e Singleline) [] refl,
+  record
+      { line = refl; end_is = refl; label = refl; part = inr refl },
+)
 span-says s depth false e = (
   end_part e (MultilineEnd depth),
   contains-there (end_part e (MultilineEnd depth)) (start_part e depth)
@@ -171,13 +178,15 @@ bounds-among s places before (d ∷ later) e all placed among =
     let rest : List PartEntry = long_parts s places (before ++ d ∷ []) later in
     elim (cases_Bool (stands_among e later)) [
       | inl t ↦
-          let bounds : HasBounds e.start e.end (depth_among places (long_place e)) rest = bounds-among s places (before ++ d ∷ []) later e (All-tail (IsPlaced s) d later all) placed t in
+          let bounds : HasBounds e.start e.end (depth_among places (long_place e)) rest = bounds-among s places (before ++ d ∷ []) later e
+          (All-tail (IsPlaced s) d later all) placed t in
           record {
             begun = (bounds.begun.0, Contains-append_right own rest bounds.begun.0 bounds.begun.1, bounds.begun.2);
             closed = (bounds.closed.0, Contains-append_right own rest bounds.closed.0 bounds.closed.1, bounds.closed.2);
           }
       | inr f ↦
-          let same : long_place e ≡ long_place d = same-true (long_place e) (long_place d) (or_not (same_place (long_place e) (long_place d)) (stands_among e later) among f) in
+          let same : long_place e ≡ long_place d = same-true (long_place e) (long_place d)
+          (or_not (same_place (long_place e) (long_place d)) (stands_among e later) among f) in
           let last : again ≡ false = ap (λ p. list_any (λ c. same_place p (long_place c)) later) (sym same) ∙ f in
           let here : HasBounds (promoted before d).start (promoted before d).end depth own = span-bounds s depth again (promoted before d) last in
           let d-placed : IsPlaced s d = All-head (IsPlaced s) d later all in
@@ -185,8 +194,22 @@ bounds-among s places before (d ∷ later) e all placed among =
           let end : (promoted before d).end ≡ e.end = promoted-end before d ∙ same_end s d e d-placed placed (sym same) in
           let deep : depth ≡ depth_among places (long_place e) = ap (depth_among places) (sym same) in
           record {
-            begun = (here.begun.0, Contains-append_left own rest here.begun.0 here.begun.1, record { start_is = here.begun.2.start_is ∙ start; part = here.begun.2.part ∙ ap MultilineStart deep });
-            closed = (here.closed.0, Contains-append_left own rest here.closed.0 here.closed.1, record { line = here.closed.2.line ∙ ap (λ (l : Loc). l.line) end; end_is = here.closed.2.end_is ∙ end; part = here.closed.2.part ∙ ap MultilineEnd deep });
+            begun = (
+              here.begun.0,
+              Contains-append_left own rest here.begun.0 here.begun.1,
+              record
+                  { start_is = here.begun.2.start_is ∙ start; part = here.begun.2.part ∙ ap MultilineStart deep },
+            );
+            closed = (
+              here.closed.0,
+              Contains-append_left own rest here.closed.0 here.closed.1,
+              record {
+                line = here.closed.2.line ∙ ap (λ (l : Loc). l.line) end;
+                end_is = here.closed.2.end_is ∙ end;
+                part = here.closed.2.part
+                    ∙ ap MultilineEnd deep;
+              },
+            );
           }
     ]
   where
@@ -203,11 +226,19 @@ says-among s places before (d ∷ later) e among =
     let rest : List PartEntry = long_parts s places (before ++ d ∷ []) later in
     elim (contains-cases e d later among) [
       | inl same ↦
-          let here : (p : PartEntry) × Contains own p × SaysOf (promoted before d) (depth_among places (long_place d)) p = span-says s (depth_among places (long_place d)) (stands_among d later) (promoted before d) in
-          let says : SaysOf d (depth_among places (long_place d)) here.0 = record { line = here.2.line ∙ ap (λ (l : Loc). l.line) (promoted-end before d); end_is = here.2.end_is ∙ promoted-end before d; label = here.2.label ∙ drawn-label before d; part = here.2.part } in
+          let here : (p : PartEntry) × Contains own p × SaysOf (promoted before d) (depth_among places (long_place d)) p = span-says s
+          (depth_among places (long_place d)) (stands_among d later) (promoted before d) in
+          let says : SaysOf d (depth_among places (long_place d)) here.0 = record {
+            line = here.2.line ∙ ap (λ (l : Loc). l.line) (promoted-end before d);
+            end_is = here.2.end_is ∙ promoted-end before d;
+            label = here.2.label
+                ∙ drawn-label before d;
+            part = here.2.part;
+          } in
           (here.0, Contains-append_left own rest here.0 here.1, subst (λ (c : Entry). SaysOf c (depth_among places (long_place c)) here.0) same says)
       | inr further ↦
-          let found : (p : PartEntry) × Contains rest p × SaysOf e (depth_among places (long_place e)) p = says-among s places (before ++ d ∷ []) later e further in
+          let found : (p : PartEntry) × Contains rest p × SaysOf e (depth_among places (long_place e)) p = says-among s places
+          (before ++ d ∷ []) later e further in
           (found.0, Contains-append_right own rest found.0 found.1, found.2)
     ]
 
@@ -232,28 +263,45 @@ pub parts-on-line : (s : Source) (marks : List Annotation) (k : ℕ) → All (λ
 unfolding all-longs on_line
 parts-on-line s marks k spans = record {
   others = filter (on_line s k) (all-longs s marks);
-  singles_first = filter-append (on_line s k) (map (single_part s) (filter (is_short s.text) marks)) (all-longs s marks) ∙ ap (λ ps. ps ++ filter (on_line s k) (all-longs s marks)) (singles-on s marks k);
+  singles_first = filter-append (on_line s k) (map (single_part s) (filter (is_short s.text) marks)) (all-longs s marks)
+      ∙ ap (λ ps. ps ++ filter (on_line s k) (all-longs s marks)) (singles-on s marks k);
   none_untouched = longs-off s marks k spans;
   begun = λ a among long here.
-      let found : HasBounds (long_entry s a).start (long_entry s a).end (depth_of s marks a) (all-longs s marks) = bounds a among long in
-      (found.begun.0, others-among s marks k (first_line s.text a) found.begun.0 found.begun.1 (ap (λ (l : Loc). l.line) found.begun.2.start_is ∙ start-line s a.span.start a.span.end) here, record { start = found.begun.2.start_is; part = found.begun.2.part });
+      let found : HasBounds (long_entry s a).start (long_entry s a).end (depth_of s marks a) (all-longs s marks) = bounds a among long in (
+        found.begun.0,
+        others-among s marks k (first_line s.text a) found.begun.0 found.begun.1
+            (ap (λ (l : Loc). l.line) found.begun.2.start_is ∙ start-line s a.span.start a.span.end) here,
+        record
+            { start = found.begun.2.start_is; part = found.begun.2.part },
+      );
   closed = λ a among long here.
-      let found : HasBounds (long_entry s a).start (long_entry s a).end (depth_of s marks a) (all-longs s marks) = bounds a among long in
-      (found.closed.0, others-among s marks k (last_line s.text a) found.closed.0 found.closed.1 (found.closed.2.line ∙ end-line s a.span.start a.span.end) here, record { end = found.closed.2.end_is; part = found.closed.2.part });
+      let found : HasBounds (long_entry s a).start (long_entry s a).end (depth_of s marks a) (all-longs s marks) = bounds a among long in (
+        found.closed.0,
+        others-among s marks k (last_line s.text a) found.closed.0 found.closed.1
+            (found.closed.2.line ∙ end-line s a.span.start a.span.end) here,
+        record { end = found.closed.2.end_is; part = found.closed.2.part },
+      );
   labelled = λ a among long here.
-      let found : (p : PartEntry) × Contains (all-longs s marks) p × SaysOf (long_entry s a) (depth_of s marks a) p = says-among s (long_places s marks) [] (long_spans s marks) (long_entry s a) (long_among s marks a among long) in
-      (found.0, others-among s marks k (last_line s.text a) found.0 found.1 (found.2.line ∙ end-line s a.span.start a.span.end) here, record { end = found.2.end_is; label = found.2.label; part = found.2.part });
+      let found : (p : PartEntry) × Contains (all-longs s marks) p × SaysOf (long_entry s a) (depth_of s marks a) p = says-among s (long_places s marks) []
+      (long_spans s marks) (long_entry s a) (long_among s marks a among long) in (
+        found.0,
+        others-among s marks k (last_line s.text a) found.0 found.1 (found.2.line ∙ end-line s a.span.start a.span.end) here,
+        record
+            { end = found.2.end_is; label = found.2.label; part = found.2.part },
+      );
 }
   where
     all-placed : All (IsPlaced s) (long_spans s marks)
     all-placed =
-        All-order stands_before (IsPlaced s) (map (long_entry s) (filter (is_long s.text) marks)) (All-map (IsPlaced s) (long_entry s) (filter (is_long s.text) marks) (λ i d within. long-placed s (get_or (filter (is_long s.text) marks) i d)))
+        All-order stands_before (IsPlaced s) (map (long_entry s) (filter (is_long s.text) marks))
+        (All-map (IsPlaced s) (long_entry s) (filter (is_long s.text) marks) (λ i d within. long-placed s (get_or (filter (is_long s.text) marks) i d)))
 
     bounds : (a : Annotation) → Contains marks a → is_long s.text a ≡ true
         → HasBounds (long_entry s a).start (long_entry s a).end (depth_of s marks a) (all-longs s marks)
     bounds a among long =
         let e : Entry = long_entry s a in
-        bounds-among s (long_places s marks) [] (long_spans s marks) e all-placed (long-placed s a) (any-member (λ d. same_place (long_place e) (long_place d)) (long_spans s marks) e (long_among s marks a among long) (same-refl (long_place e)))
+        bounds-among s (long_places s marks) [] (long_spans s marks) e all-placed (long-placed s a)
+        (any-member (λ d. same_place (long_place e) (long_place d)) (long_spans s marks) e (long_among s marks a among long) (same-refl (long_place e)))
 
 -- ---- the lines by what is seen of them
 
@@ -262,11 +310,13 @@ ascends-from first ks ascends i j d less within =
     let n : length (map (λ k. first + k) ks) ≡ length ks = length-map ks (λ k. first + k) in
     omega (arith, get_or-map (λ k. first + k) ks i d d (omega arith), get_or-map (λ k. first + k) ks j d d (omega arith), ascends i j d less (omega arith))
 
-module _ (fold : Bool) (s : Source) (marks : List Annotation) (infos : List AnnotatedLineInfo) (lines : map seen_kept infos ≡ annotated_lines fold s marks) where
+module _ (fold : Bool) (s : Source) (marks : List Annotation) (infos : List AnnotatedLineInfo)
+    (lines : map seen_kept infos ≡ annotated_lines fold s marks) where
   -- the numbers are those of the lines that are kept
   numbers : numbers_of_lines infos ≡ map (λ k. s.first + k) (kept_lines fold s.text marks)
   numbers =
-      sym (map-map (λ (l : KeptLine). l.number) seen_kept infos) ∙ ap (map (λ (l : KeptLine). l.number)) lines ∙ map-map (λ (l : KeptLine). l.number) (kept_line s marks) (kept_lines fold s.text marks)
+      sym (map-map (λ (l : KeptLine). l.number) seen_kept infos) ∙ ap (map (λ (l : KeptLine). l.number)) lines
+      ∙ map-map (λ (l : KeptLine). l.number) (kept_line s marks) (kept_lines fold s.text marks)
 
   -- the numbers of the lines ascend
   pub lines-ascend : Ascends (numbers_of_lines infos)
@@ -280,7 +330,8 @@ module _ (fold : Bool) (s : Source) (marks : List Annotation) (infos : List Anno
   -- a line says that it is kept where a span that isn't marked touches it
   pub lines-kept : All (λ info. info.keep ≡ list_any (is_seen s.text (info.line_index - s.first)) marks) infos
   lines-kept =
-      each-line (λ info. info.keep ≡ list_any (is_seen s.text (info.line_index - s.first)) marks) s marks (kept_lines fold s.text marks) infos lines (λ i d within info seen. let k : ℕ = get_or (kept_lines fold s.text marks) i d in
+      each-line (λ info. info.keep ≡ list_any (is_seen s.text (info.line_index - s.first)) marks) s marks (kept_lines fold s.text marks) infos lines
+      (λ i d within info seen. let k : ℕ = get_or (kept_lines fold s.text marks) i d in
       ap (λ (l : KeptLine). l.keep) seen ∙ ap (λ n. list_any (is_seen s.text n) marks) (sym (index-of k info seen)))
     where
       index-of : (k : ℕ) (info : AnnotatedLineInfo) → seen_kept info ≡ kept_line s marks k → info.line_index - s.first ≡ k
@@ -290,7 +341,8 @@ module _ (fold : Bool) (s : Source) (marks : List Annotation) (infos : List Anno
     -- the line on which a span begins is kept,
     pub first-line-among : (a : Annotation) → Contains marks a → Contains (numbers_of_lines infos) (s.first + first_line s.text a)
     first-line-among a among =
-        number-among (first_line s.text a) (first_kept fold s.text marks a among (All-contains (λ a. IsSpan s.text a.span.start a.span.end) marks a spans among))
+        number-among (first_line s.text a) (first_kept fold s.text marks a among
+        (All-contains (λ a. IsSpan s.text a.span.start a.span.end) marks a spans among))
 
     -- the one on which it ends,
     pub last-line-among : (a : Annotation) → Contains marks a → Contains (numbers_of_lines infos) (s.first + last_line s.text a)
@@ -302,16 +354,19 @@ module _ (fold : Bool) (s : Source) (marks : List Annotation) (infos : List Anno
     seen-line-among a among k seen =
         let parts = and_parts (not (is_marking a.kind)) (touches s.text a k) seen in
         let there = and_parts (leb (first_line s.text a) k) (leb k (last_line s.text a)) parts.1 in
-        number-among k (span-kept fold s.text marks a k among (omega (arith, leb-true k (last_line s.text a) there.1, line_of-within s.text a.span.end)) (keeps-unmarked s.text a k parts.0 parts.1))
+        number-among k (span-kept fold s.text marks a k among (omega (arith, leb-true k (last_line s.text a) there.1, line_of-within s.text a.span.end))
+        (keeps-unmarked s.text a k parts.0 parts.1))
 
     -- the entries of each kept line are those of the spans on it
     pub lines-entries : All (λ info. AreEntriesOn s marks (info.line_index - s.first) (map seen_part info.annotations.items)) infos
     lines-entries =
-        each-line (λ info. AreEntriesOn s marks (info.line_index - s.first) (map seen_part info.annotations.items)) s marks (kept_lines fold s.text marks) infos lines (λ i d within info seen. on (get_or (kept_lines fold s.text marks) i d) info seen)
+        each-line (λ info. AreEntriesOn s marks (info.line_index - s.first) (map seen_part info.annotations.items)) s marks
+        (kept_lines fold s.text marks) infos lines (λ i d within info seen. on (get_or (kept_lines fold s.text marks) i d) info seen)
       where
         on : (k : ℕ) (info : AnnotatedLineInfo) → seen_kept info ≡ kept_line s marks k
             → AreEntriesOn s marks (info.line_index - s.first) (map seen_part info.annotations.items)
         on k info seen =
             let at : info.line_index ≡ s.first + k = ap (λ (l : KeptLine). l.number) seen in
             let is : k ≡ info.line_index - s.first = omega arith in
-            subst (λ n. AreEntriesOn s marks n (map seen_part info.annotations.items)) is (subst (AreEntriesOn s marks k) (sym (entries-on s marks k info seen)) (parts-on-line s marks k spans))
+            subst (λ n. AreEntriesOn s marks n (map seen_part info.annotations.items)) is
+            (subst (AreEntriesOn s marks k) (sym (entries-on s marks k info seen)) (parts-on-line s marks k spans))

@@ -51,7 +51,8 @@ All-unmapped P f (x ∷ xs) all = All-cons (λ x. P (f x)) x xs (All-head P (f x
 pub record IsBarLine (source : List ℕ) (first last k : ℕ) : Type 0 where
   pub from : first < k
   pub to : k ≤ last
-  pub shown : (list_any (λ j. not (is_trivial_line source j)) (range_with_len k (min (first + 4) last - k)) ≡ true) ⊎ ((k + 1 ≡ last) × (ltb (min (first + 4) last) k ≡ true) × (not (is_trivial_line source k) ≡ true))
+  pub shown : (list_any (λ j. not (is_trivial_line source j)) (range_with_len k (min (first + 4) last - k)) ≡ true)
+      ⊎ ((k + 1 ≡ last) × (ltb (min (first + 4) last) k ≡ true) × (not (is_trivial_line source k) ≡ true))
 
 -- each line of a bar lies where the span's bars may stand
 pub bar-lines : (source : List ℕ) (first last : ℕ) → All (IsBarLine source first last) (bar_lines source first last)
@@ -64,7 +65,9 @@ bar-lines source first last =
     (All-weaker (λ k. (first + 1 ≤ k) × (k < first + 1 + (beginning - first))) (λ k. test k ≡ true → IsBarLine source first last k)
     (λ k within passes. record { from = omega (arith, within.0); to = omega (arith, within.1); shown = inl passes })
     (range_with_len (first + 1) (beginning - first)) (All-range (first + 1) (beginning - first))))
-    (cond_both closing ((last - 1) ∷ []) [] (All (IsBarLine source first last)) (λ there. All-cons (IsBarLine source first last) (last - 1) [] (last-bar there) (All-nil (IsBarLine source first last))) (λ _. All-nil (IsBarLine source first last)))
+    (cond_both closing ((last - 1) ∷ []) [] (All (IsBarLine source first last)) (λ there.
+    All-cons (IsBarLine source first last) (last - 1) [] (last-bar there) (All-nil (IsBarLine source first last))) (λ _.
+    All-nil (IsBarLine source first last)))
   where
     last-bar : (ltb (min (first + 4) last) (last - 1) && not (is_trivial_line source (last - 1))) ≡ true → IsBarLine source first last (last - 1)
     last-bar there =
@@ -131,7 +134,8 @@ made-all P s marks short long =
     All-map P (single_part s) (filter (is_short s.text) marks)
     (All-filtered (is_short s.text) (λ a. P (single_part s a))
     marks (All-weaker (Contains marks) (λ a. is_short s.text a ≡ true → P (single_part s a)) short marks (All-contains_itself marks))) in
-    All-append P (map (single_part s) (filter (is_short s.text) marks)) (long_parts s (long_places s marks) [] (long_spans s marks)) singles (longs-all P s marks long)
+    All-append P (map (single_part s) (filter (is_short s.text) marks)) (long_parts s (long_places s marks) [] (long_spans s marks)) singles
+    (longs-all P s marks long)
 
 -- a test of elements that were made from others, by those
 pub list_any-map : {X Y : Type 0} (p : Y → Bool) (f : X → Y) (xs : List X) → list_any p (map f xs) ≡ list_any (λ x. p (f x)) xs

@@ -14,7 +14,14 @@ use Rattle.snippet_lines.proofs.PlaceLemmas.{start_location-column, place_of-col
 place-column : (source : List ℕ) (b : ℕ) → (place_of source b).column ≤ 4 * length source
 place-column source b =
     let k : ℕ = line_of (source_lines source) b in
-    omega (arith, place_of-column source b, width_of-chars (prefix_at (source_lines source) k b), length-take (b - start_of (source_lines source) k) (text_at (source_lines source) k), length-text_at-source source k)
+    omega (
+      arith,
+      place_of-column source b,
+      width_of-chars (prefix_at (source_lines source) k b),
+      length-take (b - start_of (source_lines source) k)
+          (text_at (source_lines source) k),
+      length-text_at-source source k,
+    )
 
 steps-bound : (source : List ℕ) (b : ℕ) → steps_after_text source b ≤ 1
 unfolding steps_after_text
@@ -30,7 +37,8 @@ end_location_column : (s : Source) (start end : ℕ) → (end_location s start e
 unfolding end_location
 end_location_column s start end =
     let more : ℕ = cond (eqb (location_of s start).line (location_of s end).line) 0 (steps_after_text s.text end) in
-    let one : more ≤ 1 = cond_both (eqb (location_of s start).line (location_of s end).line) 0 (steps_after_text s.text end) (λ n. n ≤ 1) (λ _. omega arith) (λ _. steps-bound s.text end) in
+    let one : more ≤ 1 = cond_both (eqb (location_of s start).line (location_of s end).line) 0 (steps_after_text s.text end) (λ n. n ≤ 1) (λ _.
+    omega arith) (λ _. steps-bound s.text end) in
     omega (arith, location-column s end, one)
 
 -- the column of a start is at most four times the source's length
@@ -42,7 +50,8 @@ start-column-bound s start end = omega (arith, start_location-column s start, pl
 pub end-column-bound : (s : Source) (start end : ℕ) → (locations_of s start end).1.display ≤ 4 * length s.text + 1
 unfolding locations_of
 end-column-bound s start end =
-    cond_both (eqb start end) (start_location s start) (end_location s start end) (λ (l : Loc). l.display ≤ 4 * length s.text + 1) (λ _. omega (arith, start_location-column s start, place-column s.text start)) (λ _. end_location_column s start end)
+    cond_both (eqb start end) (start_location s start) (end_location s start end) (λ (l : Loc). l.display ≤ 4 * length s.text + 1) (λ _.
+    omega (arith, start_location-column s start, place-column s.text start)) (λ _. end_location_column s start end)
 
 -- ---- characters
 
@@ -50,7 +59,13 @@ place-character : (source : List ℕ) (b : ℕ) → (place_of source b).characte
 unfolding place_of
 place-character source b =
     let k : ℕ = line_of (source_lines source) b in
-    omega (arith, length-chars_le (prefix_at (source_lines source) k b), length-take (b - start_of (source_lines source) k) (text_at (source_lines source) k), length-text_at-source source k)
+    omega (
+      arith,
+      length-chars_le (prefix_at (source_lines source) k b),
+      length-take (b - start_of (source_lines source) k)
+          (text_at (source_lines source) k),
+      length-text_at-source source k,
+    )
 
 start-location-character : (s : Source) (start : ℕ) → (start_location s start).char ≤ length s.text + 1
 unfolding start_location location_of
@@ -60,7 +75,8 @@ end-location-character : (s : Source) (start end : ℕ) → (end_location s star
 unfolding end_location location_of
 end-location-character s start end =
     let more : ℕ = cond (eqb (location_of s start).line (location_of s end).line) 0 (steps_after_text s.text end) in
-    let one : more ≤ 1 = cond_both (eqb (location_of s start).line (location_of s end).line) 0 (steps_after_text s.text end) (λ n. n ≤ 1) (λ _. omega arith) (λ _. steps-bound s.text end) in
+    let one : more ≤ 1 = cond_both (eqb (location_of s start).line (location_of s end).line) 0 (steps_after_text s.text end) (λ n. n ≤ 1) (λ _.
+    omega arith) (λ _. steps-bound s.text end) in
     omega (arith, place-character s.text end, one)
 
 -- the character of a start is at most one more than the source's length
@@ -72,4 +88,5 @@ start-character-bound s start end = start-location-character s start
 pub end-character-bound : (s : Source) (start end : ℕ) → (locations_of s start end).1.char ≤ length s.text + 1
 unfolding locations_of
 end-character-bound s start end =
-    cond_both (eqb start end) (start_location s start) (end_location s start end) (λ (l : Loc). l.char ≤ length s.text + 1) (λ _. start-location-character s start) (λ _. end-location-character s start end)
+    cond_both (eqb start end) (start_location s start) (end_location s start end) (λ (l : Loc). l.char ≤ length s.text + 1) (λ _.
+    start-location-character s start) (λ _. end-location-character s start end)

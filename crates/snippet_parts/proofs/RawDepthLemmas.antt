@@ -19,7 +19,8 @@ same-true p q same =
     let abcd = and_parts (eqb p.from q.from) (eqb p.to q.to && (eqb p.first q.first && eqb p.last q.last)) same in
     let bcd = and_parts (eqb p.to q.to) (eqb p.first q.first && eqb p.last q.last) abcd.1 in
     let cd = and_parts (eqb p.first q.first) (eqb p.last q.last) bcd.1 in
-    same_fields p.from p.to p.first p.last q.from q.to q.first q.last (eqb-true p.from q.from abcd.0) (eqb-true p.to q.to bcd.0) (eqb-true p.first q.first cd.0) (eqb-true p.last q.last cd.1)
+    same_fields p.from p.to p.first p.last q.from q.to q.first q.last (eqb-true p.from q.from abcd.0) (eqb-true p.to q.to bcd.0)
+    (eqb-true p.first q.first cd.0) (eqb-true p.last q.last cd.1)
 
 -- the test calls a place the same as itself
 pub same-refl : (p : LongExtent) → same_place p p ≡ true
@@ -48,7 +49,9 @@ pub among_after : (q p : LongExtent) (ps : List LongExtent) → list_any (same_p
 among_after q p ps again =
     elim (cases_Bool (list_any (same_place q) ps)) [
       | inl holds ↦ ap (λ qs. raw_depth_among qs p) (places-again q ps holds)
-      | inr fails ↦ ap (λ qs. raw_depth_among qs p) (places-new q ps fails) ∙ among-past p q (places_of ps) (false_from_ne_true (same_place p q) (λ same. both_ways (list_any (same_place q) ps) fails (subst (λ (r : LongExtent). list_any (same_place r) ps ≡ true) (same-true p q same) again)))
+      | inr fails ↦ ap (λ qs. raw_depth_among qs p) (places-new q ps fails)
+          ∙ among-past p q (places_of ps) (false_from_ne_true (same_place p q) (λ same.
+          both_ways (list_any (same_place q) ps) fails (subst (λ (r : LongExtent). list_any (same_place r) ps ≡ true) (same-true p q same) again)))
     ]
 
 -- a place that doesn't stand again has the raw depth that the later places give it
@@ -94,7 +97,8 @@ greatest-is (p ∷ ps) =
           e ∙ join (greatest_depth ps) own (greatest (raw_depths ps)) h (omega arith) ∙ sym (greatest-cons own (raw_depths ps))
       | inr fails ↦
           let e : greatest_depth (p ∷ ps) ≡ max (raw_depth p (places_of ps)) (greatest_depth ps) = ap greatest_raw_depth (places-new p ps fails) in
-          e ∙ both (raw_depth p (places_of ps)) (raw_depth_among (places_of (p ∷ ps)) p) (greatest_depth ps) (greatest (raw_depths ps)) (sym (among-new p ps fails)) h ∙ sym (greatest-cons own (raw_depths ps))
+          e ∙ both (raw_depth p (places_of ps)) (raw_depth_among (places_of (p ∷ ps)) p) (greatest_depth ps) (greatest (raw_depths ps))
+          (sym (among-new p ps fails)) h ∙ sym (greatest-cons own (raw_depths ps))
     ]
   where
     join : (a b c : ℕ) → a ≡ c → b ≤ a → a ≡ max b c
@@ -121,7 +125,9 @@ any-at (p ∷ ps) (suc k) d within = or_right (same_place (get_or ps k d) p) (li
 pub raw_depths-are : (ps : List LongExtent) → raw_depths ps ≡ map (raw_depth_among (places_of ps)) ps
 raw_depths-are [] = refl
 raw_depths-are (p ∷ ps) =
-    ap (λ ns. raw_depth_among (places_of (p ∷ ps)) p ∷ ns) (raw_depths-are ps ∙ map-agree (raw_depth_among (places_of ps)) (raw_depth_among (places_of (p ∷ ps))) ps (λ k d within. sym (among_after p (get_or ps k d) ps (any-at ps k d within))))
+    ap (λ ns. raw_depth_among (places_of (p ∷ ps)) p ∷ ns) (raw_depths-are ps
+    ∙ map-agree (raw_depth_among (places_of ps)) (raw_depth_among (places_of (p ∷ ps))) ps (λ k d within.
+    sym (among_after p (get_or ps k d) ps (any-at ps k d within))))
 
 -- each place has a raw depth
 pub length-raw_depths : (ps : List LongExtent) → length (raw_depths ps) ≡ length ps
@@ -141,7 +147,8 @@ raw_depth-bound p (q ∷ qs) =
     let a : raw_depth p qs ≤ length qs + 1 = raw_depth-bound p qs in
     let b : raw_depth q qs ≤ length qs + 1 = raw_depth-bound q qs in
     elim (cases_Bool (share_line p q)) [
-      | inl holds ↦ let e : cond (share_line p q) (raw_depth q qs + 1) 1 ≡ raw_depth q qs + 1 = cond-true (share_line p q) (raw_depth q qs + 1) 1 holds in omega arith
+      | inl holds ↦ let e : cond (share_line p q) (raw_depth q qs + 1) 1
+          ≡ raw_depth q qs + 1 = cond-true (share_line p q) (raw_depth q qs + 1) 1 holds in omega arith
       | inr fails ↦ let e : cond (share_line p q) (raw_depth q qs + 1) 1 ≡ 1 = cond-false (share_line p q) (raw_depth q qs + 1) 1 fails in omega arith
     ]
 

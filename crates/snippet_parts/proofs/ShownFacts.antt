@@ -31,14 +31,16 @@ unfolding Rises
 rises-filter p a zero to within = tt
 rises-filter p a (suc n) to within =
     let rest : Rises (a + 1) to (filter p (range_with_len (a + 1) n)) = rises-filter p (a + 1) n to (omega arith) in
-    cond_both (p a) (a ∷ filter p (range_with_len (a + 1) n)) (filter p (range_with_len (a + 1) n)) (Rises a to) (λ _. (omega arith, omega arith, rest)) (λ _. rises-lower (a + 1) a to (filter p (range_with_len (a + 1) n)) (omega arith) rest)
+    cond_both (p a) (a ∷ filter p (range_with_len (a + 1) n)) (filter p (range_with_len (a + 1) n)) (Rises a to) (λ _. (omega arith, omega arith, rest)) (λ _.
+    rises-lower (a + 1) a to (filter p (range_with_len (a + 1) n)) (omega arith) rest)
 
 rises-rest : (j to : ℕ) (ks : List ℕ) → Rises (j + 1) to ks → Rises (j + 1) to (rest_between j ks)
 unfolding Rises
 rises-rest j to [] rises = tt
 rises-rest j to (k ∷ ks) rises =
     let rest : Rises (k + 1) to (rest_between k ks) = rises-rest k to ks rises.2 in
-    cond_both (eqb k (j + 2)) ((j + 1) ∷ k ∷ rest_between k ks) (k ∷ rest_between k ks) (Rises (j + 1) to) (λ next. (omega arith, omega (arith, rises.0, rises.1), (omega (arith, eqb-true k (j + 2) next), rises.1, rest))) (λ _. (rises.0, rises.1, rest))
+    cond_both (eqb k (j + 2)) ((j + 1) ∷ k ∷ rest_between k ks) (k ∷ rest_between k ks) (Rises (j + 1) to) (λ next.
+    (omega arith, omega (arith, rises.0, rises.1), (omega (arith, eqb-true k (j + 2) next), rises.1, rest))) (λ _. (rises.0, rises.1, rest))
 
 rises-between : (from to : ℕ) (ks : List ℕ) → Rises from to ks → Rises from to (with_between ks)
 unfolding Rises
@@ -73,7 +75,8 @@ pub kept-ascends : (fold : Bool) (source : List ℕ) (marks : List Annotation) �
 kept-ascends fold source marks = rises-pairs 0 (length (source_lines source)) (kept_lines fold source marks) (kept-rises fold source marks)
 
 pub kept-within : (fold : Bool) (source : List ℕ) (marks : List Annotation) → All (λ k. k < length (source_lines source)) (kept_lines fold source marks)
-kept-within fold source marks i d within = (rises-at 0 (length (source_lines source)) (kept_lines fold source marks) i d (kept-rises fold source marks) within).1
+kept-within fold source marks i d within = (rises-at 0 (length (source_lines source)) (kept_lines fold source marks) i d
+    (kept-rises fold source marks) within).1
 
 -- and so are those that are shown
 pub shown-ascends : (fold : Bool) (source : List ℕ) (marks : List Annotation) → Ascends (shown_lines fold source marks)
@@ -81,7 +84,8 @@ shown-ascends fold source marks = rises-pairs 0 (length (source_lines source)) (
 
 -- each line that is shown is a line of the source
 pub shown-within : (fold : Bool) (source : List ℕ) (marks : List Annotation) → All (λ k. k < length (source_lines source)) (shown_lines fold source marks)
-shown-within fold source marks i d within = (rises-at 0 (length (source_lines source)) (shown_lines fold source marks) i d (shown-rises fold source marks) within).1
+shown-within fold source marks i d within = (rises-at 0 (length (source_lines source)) (shown_lines fold source marks) i d
+    (shown-rises fold source marks) within).1
 
 -- ---- which lines are among them
 
@@ -106,13 +110,16 @@ pub contains-filter : {X : Type 0} (p : X → Bool) (x : X) (xs : List X) → p 
 contains-filter p x [] passes among = absurd (omega (arith, among.1))
 contains-filter p x (y ∷ xs) passes among =
     elim (contains-cases x y xs among) [
-      | inl same ↦ subst (λ ys. Contains ys x) (sym (cond-true (p y) (y ∷ filter p xs) (filter p xs) (ap p same ∙ passes))) (contains-here x y (filter p xs) same)
-      | inr later ↦ let rest = contains-filter p x xs passes later in cond_both (p y) (y ∷ filter p xs) (filter p xs) (λ ys. Contains ys x) (λ _. contains-there x y (filter p xs) rest) (λ _. rest)
+      | inl same ↦ subst (λ ys. Contains ys x) (sym (cond-true (p y) (y ∷ filter p xs) (filter p xs) (ap p same ∙ passes)))
+          (contains-here x y (filter p xs) same)
+      | inr later ↦ let rest = contains-filter p x xs passes later in cond_both (p y) (y ∷ filter p xs) (filter p xs) (λ ys. Contains ys x) (λ _.
+          contains-there x y (filter p xs) rest) (λ _. rest)
     ]
 
 contains-range : (a n x : ℕ) → a ≤ x → x < a + n → Contains (range_with_len a n) x
 contains-range a n x from to =
-    let at : get_or (range_with_len a n) (x - a) x ≡ a + (x - a) = get_or-range_with_len a n (x - a) x (omega arith) in (x - a, omega (arith, length-range_with_len a n), omega arith)
+    let at : get_or (range_with_len a n) (x - a) x ≡ a + (x - a) = get_or-range_with_len a n (x - a) x (omega arith) in
+    (x - a, omega (arith, length-range_with_len a n), omega arith)
 
 contains-rest : (j x : ℕ) (ks : List ℕ) → Contains ks x → Contains (rest_between j ks) x
 contains-rest j x [] among = absurd (omega (arith, among.1))
@@ -121,7 +128,8 @@ contains-rest j x (k ∷ ks) among =
       | inl same ↦ contains-here x k (rest_between k ks) same
       | inr later ↦ contains-there x k (rest_between k ks) (contains-rest k x ks later)
     ] in
-    cond_both (eqb k (j + 2)) ((j + 1) ∷ k ∷ rest_between k ks) (k ∷ rest_between k ks) (λ ys. Contains ys x) (λ _. contains-there x (j + 1) (k ∷ rest_between k ks) rest) (λ _. rest)
+    cond_both (eqb k (j + 2)) ((j + 1) ∷ k ∷ rest_between k ks) (k ∷ rest_between k ks) (λ ys. Contains ys x) (λ _.
+    contains-there x (j + 1) (k ∷ rest_between k ks) rest) (λ _. rest)
 
 contains-between : (x : ℕ) (ks : List ℕ) → Contains ks x → Contains (with_between ks) x
 contains-between x [] among = among

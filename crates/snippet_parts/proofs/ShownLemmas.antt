@@ -28,8 +28,10 @@ pub filter-map : {X Y : Type 0} (p : Y → Bool) (f : X → Y) (xs : List X) →
 filter-map p f [] = refl
 filter-map p f (x ∷ xs) =
     elim (cases_Bool (p (f x))) [
-      | inl t ↦ cond-true (p (f x)) (f x ∷ filter p (map f xs)) (filter p (map f xs)) t ∙ ap (λ ys. f x ∷ ys) (filter-map p f xs) ∙ ap (map f) (sym (cond-true (p (f x)) (x ∷ filter (λ x. p (f x)) xs) (filter (λ x. p (f x)) xs) t))
-      | inr e ↦ cond-false (p (f x)) (f x ∷ filter p (map f xs)) (filter p (map f xs)) e ∙ filter-map p f xs ∙ ap (map f) (sym (cond-false (p (f x)) (x ∷ filter (λ x. p (f x)) xs) (filter (λ x. p (f x)) xs) e))
+      | inl t ↦ cond-true (p (f x)) (f x ∷ filter p (map f xs)) (filter p (map f xs)) t ∙ ap (λ ys. f x ∷ ys) (filter-map p f xs)
+          ∙ ap (map f) (sym (cond-true (p (f x)) (x ∷ filter (λ x. p (f x)) xs) (filter (λ x. p (f x)) xs) t))
+      | inr e ↦ cond-false (p (f x)) (f x ∷ filter p (map f xs)) (filter p (map f xs)) e ∙ filter-map p f xs
+          ∙ ap (map f) (sym (cond-false (p (f x)) (x ∷ filter (λ x. p (f x)) xs) (filter (λ x. p (f x)) xs) e))
     ]
 
 -- ---- entries of a line in a sorted list
@@ -44,14 +46,22 @@ on_line line [] n zero to (suc m) is below from' upto after = refl
 on_line line [] n (suc from) to zero is below from' upto after = refl
 on_line line [] n (suc from) to (suc m) is below from' upto after = refl
 on_line line (x ∷ xs) n (suc from) to m is below from' upto after =
-    on_line line xs n from (to - 1) m (omega arith) (λ j d a b. below (suc j) d (omega arith) (omega arith)) (λ j d a b. from' (suc j) d (omega arith) (omega arith)) (λ j d a b. upto (suc j) d (omega arith) (omega arith)) (λ j d a b. after (suc j) d (omega arith) (omega arith))
-    ∙ sym (cond-false (eqb (line x) n) (x ∷ filter (λ e. eqb (line e) n) xs) (filter (λ e. eqb (line e) n) xs) (ne_eqb (line x) n (λ same. absurd (omega (arith, same, below 0 x (omega arith) (omega arith))))))
+    on_line line xs n from (to - 1) m (omega arith) (λ j d a b. below (suc j) d (omega arith) (omega arith)) (λ j d a b.
+    from' (suc j) d (omega arith) (omega arith)) (λ j d a b. upto (suc j) d (omega arith) (omega arith)) (λ j d a b.
+    after (suc j) d (omega arith) (omega arith))
+    ∙ sym (cond-false (eqb (line x) n) (x ∷ filter (λ e. eqb (line e) n) xs) (filter (λ e. eqb (line e) n) xs)
+    (ne_eqb (line x) n (λ same. absurd (omega (arith, same, below 0 x (omega arith) (omega arith))))))
 on_line line (x ∷ xs) n zero to (suc m) is below from' upto after =
-    ap (λ ys. x ∷ ys) (on_line line xs n zero (to - 1) m (omega arith) (λ j d a b. absurd (omega arith)) (λ j d a b. from' (suc j) d (omega arith) (omega arith)) (λ j d a b. upto (suc j) d (omega arith) (omega arith)) (λ j d a b. after (suc j) d (omega arith) (omega arith)))
-    ∙ sym (cond-true (eqb (line x) n) (x ∷ filter (λ e. eqb (line e) n) xs) (filter (λ e. eqb (line e) n) xs) (eq-eqb (line x) n (omega (arith, from' 0 x (omega arith) (omega arith), upto 0 x (omega arith) (omega arith)))))
+    ap (λ ys. x ∷ ys) (on_line line xs n zero (to - 1) m (omega arith) (λ j d a b. absurd (omega arith)) (λ j d a b.
+    from' (suc j) d (omega arith) (omega arith)) (λ j d a b. upto (suc j) d (omega arith) (omega arith)) (λ j d a b.
+    after (suc j) d (omega arith) (omega arith)))
+    ∙ sym (cond-true (eqb (line x) n) (x ∷ filter (λ e. eqb (line e) n) xs) (filter (λ e. eqb (line e) n) xs)
+    (eq-eqb (line x) n (omega (arith, from' 0 x (omega arith) (omega arith), upto 0 x (omega arith) (omega arith)))))
 on_line line (x ∷ xs) n zero to zero is below from' upto after =
-    on_line line xs n zero zero zero (omega arith) (λ j d a b. absurd (omega arith)) (λ j d a b. from' (suc j) d (omega arith) (omega arith)) (λ j d a b. absurd (omega arith)) (λ j d a b. after (suc j) d (omega arith) (omega arith))
-    ∙ sym (cond-false (eqb (line x) n) (x ∷ filter (λ e. eqb (line e) n) xs) (filter (λ e. eqb (line e) n) xs) (ne_eqb (line x) n (λ same. absurd (omega (arith, same, after 0 x (omega arith) (omega arith))))))
+    on_line line xs n zero zero zero (omega arith) (λ j d a b. absurd (omega arith)) (λ j d a b. from' (suc j) d (omega arith) (omega arith)) (λ j d a b.
+    absurd (omega arith)) (λ j d a b. after (suc j) d (omega arith) (omega arith))
+    ∙ sym (cond-false (eqb (line x) n) (x ∷ filter (λ e. eqb (line e) n) xs) (filter (λ e. eqb (line e) n) xs)
+    (ne_eqb (line x) n (λ same. absurd (omega (arith, same, after 0 x (omega arith) (omega arith))))))
 
 -- ---- a stable sort by lines
 
@@ -60,7 +70,15 @@ ties-line n m = grind (arith, nat_tests)
 
 -- an entry at the start of a line
 pub at-line : ℕ → LineAnnotation
-at-line n = record { start = record { line = n; char = 0; display = 0; byte = 0 }; end = record { line = n; char = 0; display = 0; byte = 0 }; kind = Primary; label = None; annotation_type = Singleline; highlight_source = false }
+at-line n = record {
+  start = record { line = n; char = 0; display = 0; byte = 0 };
+  end = record
+      { line = n; char = 0; display = 0; byte = 0 };
+  kind = Primary;
+  label = None;
+  annotation_type = Singleline;
+  highlight_source = false;
+}
 
 -- a stable sort by lines leaves the entries of one line in the order in which they were made
 pub stable-on-line : (made sorted : List LineAnnotation) (n : ℕ) → IsStableByKey (λ (e : LineAnnotation). e.start.line) nat_cmp made sorted
@@ -78,19 +96,25 @@ stable-on-line made sorted n stable =
 
 -- a range with one number more ends in that number
 pub range-more : (i : ℕ) → range_with_len 0 (i + 1) ≡ range_with_len 0 i ++ i ∷ []
-range-more i = sym (map-id (range_with_len 0 (i + 1))) ∙ map-range_with_len_more (λ (k : ℕ). k) 0 i i (omega arith) ∙ ap (λ ks. ks ++ i ∷ []) (map-id (range_with_len 0 i))
+range-more i = sym (map-id (range_with_len 0 (i + 1))) ∙ map-range_with_len_more (λ (k : ℕ). k) 0 i i (omega arith)
+    ∙ ap (λ ks. ks ++ i ∷ []) (map-id (range_with_len 0 i))
 
 pub lines-shown : (p : ℕ → Bool) (f : ℕ → KeptLine) (i : ℕ) (now new : List AnnotatedLineInfo) (info : AnnotatedLineInfo) → p i ≡ true
     → new ≡ now ++ info ∷ [] → seen_kept info ≡ f i → map seen_kept now ≡ map f (filter p (range_with_len 0 i))
     → map seen_kept new ≡ map f (filter p (range_with_len 0 (i + 1)))
 lines-shown p f i now new info there pushed is before =
-    ap (map seen_kept) pushed ∙ map_push seen_kept now info ∙ ap (λ ls. ls ++ seen_kept info ∷ []) before ∙ ap (λ l. map f (filter p (range_with_len 0 i)) ++ l ∷ []) is
-    ∙ sym (ap (λ ks. map f (filter p ks)) (range-more i) ∙ ap (map f) (filter-append p (range_with_len 0 i) (i ∷ []) ∙ ap (λ b. filter p (range_with_len 0 i) ++ cond b (i ∷ []) []) there) ∙ map-append f (filter p (range_with_len 0 i)) (i ∷ []))
+    ap (map seen_kept) pushed ∙ map_push seen_kept now info ∙ ap (λ ls. ls ++ seen_kept info ∷ []) before
+    ∙ ap (λ l. map f (filter p (range_with_len 0 i)) ++ l ∷ []) is
+    ∙ sym (ap (λ ks. map f (filter p ks)) (range-more i) ∙ ap (map f)
+    (filter-append p (range_with_len 0 i) (i ∷ []) ∙ ap (λ b. filter p (range_with_len 0 i) ++ cond b (i ∷ []) []) there)
+    ∙ map-append f (filter p (range_with_len 0 i)) (i ∷ []))
 
 pub lines-left : (p : ℕ → Bool) (f : ℕ → KeptLine) (i : ℕ) (now : List AnnotatedLineInfo) → p i ≡ false
     → map seen_kept now ≡ map f (filter p (range_with_len 0 i)) → map seen_kept now ≡ map f (filter p (range_with_len 0 (i + 1)))
 lines-left p f i now none before =
-    before ∙ sym (ap (λ ks. map f (filter p ks)) (range-more i) ∙ ap (map f) (filter-append p (range_with_len 0 i) (i ∷ []) ∙ ap (λ b. filter p (range_with_len 0 i) ++ cond b (i ∷ []) []) none ∙ append-nil (filter p (range_with_len 0 i))))
+    before ∙ sym (ap (λ ks. map f (filter p ks)) (range-more i) ∙ ap (map f)
+    (filter-append p (range_with_len 0 i) (i ∷ []) ∙ ap (λ b. filter p (range_with_len 0 i) ++ cond b (i ∷ []) []) none
+    ∙ append-nil (filter p (range_with_len 0 i))))
 
 -- two lines that are seen alike
 pub same-kept : (number number' : ℕ) (text text' : List ℕ) (parts parts' : List PartEntry) (keep keep' : Bool) → number ≡ number' → text ≡ text'
@@ -114,7 +138,8 @@ any-put : {X : Type 0} (before : X → X → Bool) (q : X → Bool) (x : X) (ys 
 any-put before q x [] = refl
 any-put before q x (y ∷ ys) =
     elim (cases_Bool (before y x)) [
-      | inl t ↦ ap (list_any q) (cond-true (before y x) (y ∷ put_in before x ys) (x ∷ y ∷ ys) t) ∙ ap (λ b. q y || b) (any-put before q x ys) ∙ swapped (q y) (q x) (list_any q ys)
+      | inl t ↦ ap (list_any q) (cond-true (before y x) (y ∷ put_in before x ys) (x ∷ y ∷ ys) t) ∙ ap (λ b. q y || b) (any-put before q x ys)
+          ∙ swapped (q y) (q x) (list_any q ys)
       | inr f ↦ ap (list_any q) (cond-false (before y x) (y ∷ put_in before x ys) (x ∷ y ∷ ys) f)
     ]
   where
@@ -131,10 +156,12 @@ any-order before q (x ∷ xs) = any-put before q x (ordered_by before xs) ∙ ap
 any-filter : {X : Type 0} (q p : X → Bool) (xs : List X) (k : ℕ) (d : X) → k < length xs → p (get_or xs k d) ≡ true → q (get_or xs k d) ≡ true
     → list_any q (filter p xs) ≡ true
 any-filter q p [] k d within pass hit = absurd (omega arith)
-any-filter q p (x ∷ xs) zero d within pass hit = ap (list_any q) (cond-true (p x) (x ∷ filter p xs) (filter p xs) pass) ∙ or_left (q x) (list_any q (filter p xs)) hit
+any-filter q p (x ∷ xs) zero d within pass hit = ap (list_any q) (cond-true (p x) (x ∷ filter p xs) (filter p xs) pass)
+    ∙ or_left (q x) (list_any q (filter p xs)) hit
 any-filter q p (x ∷ xs) (suc k) d within pass hit =
     elim (cases_Bool (p x)) [
-      | inl t ↦ ap (list_any q) (cond-true (p x) (x ∷ filter p xs) (filter p xs) t) ∙ or_right (q x) (list_any q (filter p xs)) (any-filter q p xs k d (omega arith) pass hit)
+      | inl t ↦ ap (list_any q) (cond-true (p x) (x ∷ filter p xs) (filter p xs) t)
+          ∙ or_right (q x) (list_any q (filter p xs)) (any-filter q p xs k d (omega arith) pass hit)
       | inr f ↦ ap (list_any q) (cond-false (p x) (x ∷ filter p xs) (filter p xs) f) ∙ any-filter q p xs k d (omega arith) pass hit
     ]
 
@@ -154,4 +181,5 @@ pub annotations-distinct : (s : Source) (marks : List Annotation) (a b : Annotat
     → is_long s.text b ≡ true → share_line (long_place (long_entry s a)) (long_place (long_entry s b)) ≡ true
     → depth_of s marks a ≡ depth_of s marks b → long_place (long_entry s a) ≡ long_place (long_entry s b)
 annotations-distinct s marks a b among-a among-b long-a long-b share same =
-    distinct-places (long_places s marks) (long_place (long_entry s a)) (long_place (long_entry s b)) (place-among s marks a among-a long-a) (place-among s marks b among-b long-b) share same
+    distinct-places (long_places s marks) (long_place (long_entry s a)) (long_place (long_entry s b)) (place-among s marks a among-a long-a)
+    (place-among s marks b among-b long-b) share same

@@ -15,7 +15,8 @@ kept_of-either : (lines : List ShownLine) (line : ShownLine) (between : Bool) �
     → kept_of (lines ++ line ∷ []) ≡ kept_of lines ++ infos_of (cond (not between) (line ∷ []) [])
 kept_of-either lines line between is =
     let test : ShownLine → Bool = λ l. not l.between in
-    ap infos_of (filter-append test lines (line ∷ [])) ∙ map-append (λ (l : ShownLine). l.info) (filter test lines) (filter test (line ∷ [])) ∙ ap (λ b. kept_of lines ++ infos_of (cond (not b) (line ∷ []) [])) is
+    ap infos_of (filter-append test lines (line ∷ [])) ∙ map-append (λ (l : ShownLine). l.info) (filter test lines) (filter test (line ∷ []))
+    ∙ ap (λ b. kept_of lines ++ infos_of (cond (not b) (line ∷ []) [])) is
 
 -- one more line that is kept
 pub kept_of-kept : (lines : List ShownLine) (line : ShownLine) → line.between ≡ false → kept_of (lines ++ line ∷ []) ≡ kept_of lines ++ line.info ∷ []
@@ -46,7 +47,8 @@ kept_of-past lines i line within is between =
 pub infos_all : (P : AnnotatedLineInfo → Type 0) (lines : List ShownLine) → All P (infos_of lines) → All (λ line. P line.info) lines
 infos_all P [] all = All-nil (λ (l : ShownLine). P l.info)
 infos_all P (line ∷ lines) all =
-    All-cons (λ (l : ShownLine). P l.info) line lines (All-head P line.info (infos_of lines) all) (infos_all P lines (All-tail P line.info (infos_of lines) all))
+    All-cons (λ (l : ShownLine). P l.info) line lines (All-head P line.info (infos_of lines) all)
+    (infos_all P lines (All-tail P line.info (infos_of lines) all))
 
 -- the line at a place
 pub infos_of-at : (lines : List ShownLine) (i : ℕ) (line : ShownLine) → i < length lines → line ≡ get_or lines i line

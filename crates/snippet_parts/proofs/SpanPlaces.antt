@@ -17,7 +17,8 @@ no_further : (l : Loc) → next_column l 0 ≡ l
 no_further l = same l.line l.char (l.char + 0) l.display (l.display + 0) l.byte (omega arith) (omega arith)
   where
     same : (line char char' display display' byte : ℕ) → char' ≡ char → display' ≡ display
-        → ◌≡◌ {A = Loc} (record { line = line; char = char'; display = display'; byte = byte }) (record { line = line; char = char; display = display; byte = byte })
+        → ◌≡◌ {A = Loc} (record { line = line; char = char'; display = display'; byte = byte })
+        (record { line = line; char = char; display = display; byte = byte })
     same line char char' display display' byte a b = cc
 
 -- what is known of a span that isn't empty: the locations of its two bytes, and how far its start lies after its line's text
@@ -30,7 +31,8 @@ module _ (s : Source) (start end steps : ℕ) (at last : Loc) (some : (start == 
   both : (to : Loc) → to ≡ end_location s start end → ◌≡◌ {A = Loc × Loc} (next_char at steps, to) (locations_of s start end)
   unfolding locations_of
   both to is =
-      let whole : cond (start == end) (start_location s start) (end_location s start end) ≡ end_location s start end = cond-false (start == end) (start_location s start) (end_location s start end) some in
+      let whole : cond (start == end) (start_location s start) (end_location s start end)
+      ≡ end_location s start end = cond-false (start == end) (start_location s start) (end_location s start end) some in
       ap (λ (l : Loc). (l, to)) start_is ∙ ap (λ (l : Loc). (start_location s start, l)) (is ∙ sym whole)
 
   -- it ends on the line on which it starts
@@ -38,7 +40,8 @@ module _ (s : Source) (start end steps : ℕ) (at last : Loc) (some : (start == 
   unfolding end_location
   span_on_line same =
       let lines : (location_of s start).line ≡ (location_of s end).line = sym (ap (λ (l : Loc). l.line) at_is) ∙ sym same ∙ ap (λ (l : Loc). l.line) last_is in
-      let none = cond-true {A = ℕ} ((location_of s start).line == (location_of s end).line) 0 (steps_after_text s.text end) (eq-eqb (location_of s start).line (location_of s end).line lines) in
+      let none = cond-true {A = ℕ} ((location_of s start).line == (location_of s end).line) 0 (steps_after_text s.text end)
+      (eq-eqb (location_of s start).line (location_of s end).line lines) in
       both last (last_is ∙ sym (no_further (location_of s end)) ∙ ap (next_column (location_of s end)) (sym none))
 
   -- it ends on another line, so far after that line's text
@@ -46,7 +49,8 @@ module _ (s : Source) (start end steps : ℕ) (at last : Loc) (some : (start == 
       → ◌≡◌ {A = Loc × Loc} (next_char at steps, next_column last further) (locations_of s start end)
   unfolding end_location
   span_below further further_is other =
-      let lines : ((location_of s start).line == (location_of s end).line) ≡ false = ap (λ (l : Loc). (l.line == (location_of s end).line)) (sym at_is) ∙ ap (λ (l : Loc). (at.line == l.line)) (sym last_is) ∙ other in
+      let lines : ((location_of s start).line == (location_of s end).line) ≡ false = ap (λ (l : Loc). (l.line == (location_of s end).line)) (sym at_is)
+      ∙ ap (λ (l : Loc). (at.line == l.line)) (sym last_is) ∙ other in
       let more = cond-false {A = ℕ} ((location_of s start).line == (location_of s end).line) 0 (steps_after_text s.text end) lines in
       both (next_column last further) (ap (λ l. next_column l further) last_is ∙ ap (next_column (location_of s end)) (further_is ∙ sym more))
 
@@ -56,5 +60,6 @@ pub span_empty : (s : Source) (start end steps : ℕ) (at : Loc) → start ≡ e
 unfolding locations_of start_location
 span_empty s start end steps at empty at_is steps_is =
     let here : next_char at steps ≡ start_location s start = ap (λ l. next_char l steps) at_is ∙ ap (next_char (location_of s start)) steps_is in
-    let whole : cond (start == end) (start_location s start) (end_location s start end) ≡ start_location s start = cond-true (start == end) (start_location s start) (end_location s start end) (eq-eqb start end empty) in
+    let whole : cond (start == end) (start_location s start) (end_location s start end)
+    ≡ start_location s start = cond-true (start == end) (start_location s start) (end_location s start end) (eq-eqb start end empty) in
     ap (λ (l : Loc). (l, next_char at steps)) here ∙ ap (λ (l : Loc). (start_location s start, l)) (here ∙ sym whole)

@@ -41,17 +41,20 @@ starts_from-feeds : (i b : ℕ) (bs : List ℕ) → starts_from i (lines_of (b �
 starts_from-feeds i b [] =
     let P : List Line → List ℕ → Type 0 = λ ls ps. starts_from i ls ≡ i ∷ starts_after (i + 1) ps in
     cond_both (eqb b 10) (([], Lf) ∷ []) ((b ∷ [], Eof) ∷ []) (λ ls. P ls (cond (eqb b 10) (i ∷ []) []))
-    (λ is. subst (P (([], Lf) ∷ [])) (sym (cond-true (eqb b 10) (i ∷ []) [] is)) (sym (ap (λ ss. i ∷ ss) (cond-false (ltb (i + 1) (i + 1)) ((i + 1) ∷ []) [] (le-ltb (i + 1) (i + 1) (omega arith))))))
+    (λ is. subst (P (([], Lf) ∷ [])) (sym (cond-true (eqb b 10) (i ∷ []) [] is))
+    (sym (ap (λ ss. i ∷ ss) (cond-false (ltb (i + 1) (i + 1)) ((i + 1) ∷ []) [] (le-ltb (i + 1) (i + 1) (omega arith))))))
     (λ no. subst (P ((b ∷ [], Eof) ∷ [])) (sym (cond-false (eqb b 10) (i ∷ []) [] no)) refl)
 starts_from-feeds i b (c ∷ cs) =
     let bs : List ℕ = c ∷ cs in
     let end : ℕ = i + length (b ∷ bs) in
     let same : i + 1 + length bs ≡ end = omega arith in
-    let rest : starts_from (i + 1) (lines_of bs) ≡ (i + 1) ∷ starts_after end (feeds (i + 1) bs) = starts_from-feeds (i + 1) c cs ∙ ap (λ n. (i + 1) ∷ starts_after n (feeds (i + 1) bs)) same in
+    let rest : starts_from (i + 1) (lines_of bs) ≡ (i + 1) ∷ starts_after end (feeds (i + 1) bs) = starts_from-feeds (i + 1) c cs
+    ∙ ap (λ n. (i + 1) ∷ starts_after n (feeds (i + 1) bs)) same in
     let P : List Line → List ℕ → Type 0 = λ ls ps. starts_from i ls ≡ i ∷ starts_after end ps in
     cond_both (eqb b 10) (([], Lf) ∷ lines_of bs) (with_first_byte b (lines_of bs)) (λ ls. P ls (cond (eqb b 10) (i ∷ feeds (i + 1) bs) (feeds (i + 1) bs)))
     (λ is. subst (P (([], Lf) ∷ lines_of bs)) (sym (cond-true (eqb b 10) (i ∷ feeds (i + 1) bs) (feeds (i + 1) bs) is))
-    (ap (λ ss. i ∷ ss) (rest ∙ sym (cond-true (ltb (i + 1) end) ((i + 1) ∷ starts_after end (feeds (i + 1) bs)) (starts_after end (feeds (i + 1) bs)) (lt-ltb (i + 1) end (omega arith))))))
+    (ap (λ ss. i ∷ ss) (rest ∙ sym (cond-true (ltb (i + 1) end) ((i + 1) ∷ starts_after end (feeds (i + 1) bs)) (starts_after end (feeds (i + 1) bs))
+    (lt-ltb (i + 1) end (omega arith))))))
     (λ no. subst (P (with_first_byte b (lines_of bs))) (sym (cond-false (eqb b 10) (i ∷ feeds (i + 1) bs) (feeds (i + 1) bs) no))
     (starts_from-longer i b (lines_of bs) (starts_after end (feeds (i + 1) bs)) rest))
 
@@ -68,14 +71,16 @@ starts_from-source (b ∷ bs) =
 pub starts_after-some : (end p : ℕ) (rest starts more left all : List ℕ) → left ≡ p ∷ rest → p + 1 < end → more ≡ starts ++ (p + 1) ∷ []
     → starts ++ starts_after end left ≡ all → more ++ starts_after end rest ≡ all
 starts_after-some end p rest starts more left all left_is inside more_is before =
-    let here : starts_after end left ≡ (p + 1) ∷ starts_after end rest = ap (starts_after end) left_is ∙ cond-true (ltb (p + 1) end) ((p + 1) ∷ starts_after end rest) (starts_after end rest) (lt-ltb (p + 1) end inside) in
+    let here : starts_after end left ≡ (p + 1) ∷ starts_after end rest = ap (starts_after end) left_is
+    ∙ cond-true (ltb (p + 1) end) ((p + 1) ∷ starts_after end rest) (starts_after end rest) (lt-ltb (p + 1) end inside) in
     ap (λ ss. ss ++ starts_after end rest) more_is ∙ append_assoc starts ((p + 1) ∷ []) (starts_after end rest) ∙ sym (ap (λ ss. starts ++ ss) here) ∙ before
 
 -- a line feed that ends the source starts no line after it
 pub starts_after-none : (end p : ℕ) (rest starts left all : List ℕ) → left ≡ p ∷ rest → end ≤ p + 1 → starts ++ starts_after end left ≡ all
     → starts ++ starts_after end rest ≡ all
 starts_after-none end p rest starts left all left_is outside before =
-    let here : starts_after end left ≡ starts_after end rest = ap (starts_after end) left_is ∙ cond-false (ltb (p + 1) end) ((p + 1) ∷ starts_after end rest) (starts_after end rest) (le-ltb (p + 1) end outside) in
+    let here : starts_after end left ≡ starts_after end rest = ap (starts_after end) left_is
+    ∙ cond-false (ltb (p + 1) end) ((p + 1) ∷ starts_after end rest) (starts_after end rest) (le-ltb (p + 1) end outside) in
     sym (ap (λ ss. starts ++ ss) here) ∙ before
 
 -- ---- the bytes of a line
@@ -94,7 +99,12 @@ text-only l text ending line other same =
     let theirs : length (line_bytes (text, ending)) ≡ length text + length (end_bytes ending) = length-append text (end_bytes ending) in
     ⊎_elim (λ (some : 0 < length (line_bytes l)).
     let cut : lines_of (joined (l ∷ [])) ≡ l ∷ [] = lines_of-joined (l ∷ []) (line, λ is. (open_some l some is, refl), tt) in
-    let cut_too : lines_of (joined ((text, ending) ∷ [])) ≡ (text, ending) ∷ [] = lines_of-joined ((text, ending) ∷ []) (other, λ is. (open_some (text, ending) (omega arith) is, refl), tt) in
+    let cut_too : lines_of (joined ((text, ending) ∷ [])) ≡ (text, ending) ∷ [] = lines_of-joined ((text, ending) ∷ []) (
+      other,
+      λ is.
+          (open_some (text, ending) (omega arith) is, refl),
+      tt,
+    ) in
     let one : (text, ending) ∷ [] ≡ l ∷ [] = sym cut_too ∙ sym (ap (λ bs. lines_of (bs ++ [])) same) ∙ cut in
     ap (λ (ls : List Line). text_at ls 0) one)
     (λ (none : length (line_bytes l) ≤ 0). nil_from_length text (omega arith) ∙ sym (nil_from_length l.0 (omega arith)))

@@ -18,7 +18,8 @@ use Rattle.snippet_lines.proofs.LinesLemmas.{start_of-zero, start_of-cons, start
 use Rattle.snippet_lines.proofs.PlaceLemmas.{line_of-is, line_of-within, HoldsByte-source, text_at-end, IsCharBoundary-prefix}
 
 same_entry : (text : List ℕ) (number start next number' start' next' : ℕ) → number ≡ number' → start ≡ start' → next ≡ next'
-    → ◌≡◌ {A = LineEntry} (record { text = text; number = number; start = start; next = next }) (record { text = text; number = number'; start = start'; next = next' })
+    → ◌≡◌ {A = LineEntry} (record { text = text; number = number; start = start; next = next })
+    (record { text = text; number = number'; start = start'; next = next' })
 same_entry text number start next number' start' next' a b c = cc
 
 -- where the k-th line starts
@@ -52,7 +53,8 @@ module _ (source starts : List ℕ) (table : starts ≡ starts_from 0 (source_li
 pub entry_at-is : (info : LineInfo) (first : ℕ) (ls : List Line) (k : ℕ) → info.line.now ≡ text_at ls k → info.line_index ≡ first + k
     → info.start_byte ≡ start_of ls k → info.end_byte ≡ start_of ls (k + 1) → table_entry info ≡ entry_at first ls k
 entry_at-is info first ls k text number start next =
-    ap (λ t. record { text = t; number = info.line_index; start = info.start_byte; next = info.end_byte }) text ∙ same_entry (text_at ls k) info.line_index info.start_byte info.end_byte (first + k) (start_of ls k) (start_of ls (k + 1)) number start next
+    ap (λ t. record { text = t; number = info.line_index; start = info.start_byte; next = info.end_byte }) text
+    ∙ same_entry (text_at ls k) info.line_index info.start_byte info.end_byte (first + k) (start_of ls k) (start_of ls (k + 1)) number start next
 
 -- one more entry of the lines from number i on: that of line k
 pub entries-more : (first : ℕ) (ls : List Line) (infos more : List LineInfo) (info : LineInfo) (i k : ℕ) → i ≤ k → more ≡ infos ++ info ∷ []
@@ -119,8 +121,11 @@ line_at-some s number index text ge index_is within is =
     let ls : List Line = source_lines s.text in
     let inside : number - s.first < length ls = omega arith in
     let same : text ≡ text_at ls (number - s.first) = is ∙ ap (text_at ls) index_is in
-    let there : (leb s.first number && ltb (number - s.first) (length ls)) ≡ true = and_from (leb s.first number) (ltb (number - s.first) (length ls)) (le-leb s.first number ge) (lt-ltb (number - s.first) (length ls) inside) in (
-      sym (cond-true (leb s.first number && ltb (number - s.first) (length ls)) (Some (text_at ls (number - s.first))) None there ∙ ap (λ t. Some t) (sym same)),
+    let there : (leb s.first number && ltb (number - s.first) (length ls))
+    ≡ true = and_from (leb s.first number) (ltb (number - s.first) (length ls)) (le-leb s.first number ge)
+    (lt-ltb (number - s.first) (length ls) inside) in (
+      sym (cond-true (leb s.first number && ltb (number - s.first) (length ls)) (Some (text_at ls (number - s.first))) None there
+          ∙ ap (λ t. Some t) (sym same)),
       subst (λ t. StandsAt s.text t (start_of ls (number - s.first))) (sym same) (text_at-stands s.text (number - s.first) inside),
     )
 
@@ -128,13 +133,15 @@ line_at-some s number index text ge index_is within is =
 pub line_at-none : (s : Source) (number index : ℕ) → index ≡ number - s.first → length (source_lines s.text) ≤ index → None ≡ line_at s number
 line_at-none s number index index_is after =
     let ls : List Line = source_lines s.text in
-    let out : (leb s.first number && ltb (number - s.first) (length ls)) ≡ false = and_right (leb s.first number) (ltb (number - s.first) (length ls)) (le-ltb (number - s.first) (length ls) (omega arith)) in
+    let out : (leb s.first number && ltb (number - s.first) (length ls))
+    ≡ false = and_right (leb s.first number) (ltb (number - s.first) (length ls)) (le-ltb (number - s.first) (length ls) (omega arith)) in
     sym (cond-false (leb s.first number && ltb (number - s.first) (length ls)) (Some (text_at ls (number - s.first))) None out)
 
 -- ---- the location of a byte, by the entry of its line
 
 same_parts : (line char display byte line' char' display' byte' : ℕ) → line ≡ line' → char ≡ char' → display ≡ display' → byte ≡ byte'
-    → ◌≡◌ {A = Loc} (record { line = line; char = char; display = display; byte = byte }) (record { line = line'; char = char'; display = display'; byte = byte' })
+    → ◌≡◌ {A = Loc} (record { line = line; char = char; display = display; byte = byte })
+    (record { line = line'; char = char'; display = display'; byte = byte' })
 same_parts line char display byte line' char' display' byte' a b c d = cc
 
 same_location : (location : Loc) (line char display byte : ℕ) → location.line ≡ line → location.char ≡ char → location.display ≡ display → location.byte ≡ byte
@@ -142,7 +149,8 @@ same_location : (location : Loc) (line char display byte : ℕ) → location.lin
 same_location location line char display byte a b c d =
     same_parts location.line location.char location.display location.byte line char display byte a b c d
 
-module _ (s : Source) (byte : ℕ) (info : LineInfo) (entry : table_entry info ≡ entry_at s.first (source_lines s.text) (line_of (source_lines s.text) byte)) where
+module _ (s : Source) (byte : ℕ) (info : LineInfo) (entry : table_entry info
+    ≡ entry_at s.first (source_lines s.text) (line_of (source_lines s.text) byte)) where
   located-text : info.line.now ≡ text_at (source_lines s.text) (line_of (source_lines s.text) byte)
   located-text = ap (λ (e : LineEntry). e.text) entry
 
@@ -165,7 +173,8 @@ module _ (s : Source) (byte : ℕ) (info : LineInfo) (entry : table_entry info �
   located-border border =
       let P : List ℕ → ℕ → Type 0 = λ text start. IsCharBoundary text (min (byte - start) (length text)) in
       let k : ℕ = line_of (source_lines s.text) byte in
-      subst (λ text. P text info.start_byte) (sym located-text) (subst (λ start. P (text_at (source_lines s.text) k) start) (sym located-start) (IsCharBoundary-prefix s.text byte border))
+      subst (λ text. P text info.start_byte) (sym located-text) (subst (λ start.
+      P (text_at (source_lines s.text) k) start) (sym located-start) (IsCharBoundary-prefix s.text byte border))
 
   -- what stands before the byte in its line
   before-byte : take (byte - info.start_byte) info.line.now ≡ prefix_at (source_lines s.text) (line_of (source_lines s.text) byte) byte
@@ -205,5 +214,6 @@ module _ (s : Source) (byte : ℕ) (info : LineInfo) (entry : table_entry info �
   pub located-steps : (steps : ℕ) → steps ≡ cond (ltb (info.start_byte + length info.line.now) byte) 1 0 → steps ≡ steps_after_text s.text byte
   unfolding steps_after_text
   located-steps steps is =
-      let end : info.start_byte + length info.line.now ≡ start_of (source_lines s.text) (line_of (source_lines s.text) byte) + length (text_at (source_lines s.text) (line_of (source_lines s.text) byte)) = omega (arith, located-start, ap length located-text) in
+      let end : info.start_byte + length info.line.now ≡ start_of (source_lines s.text) (line_of (source_lines s.text) byte) + length
+      (text_at (source_lines s.text) (line_of (source_lines s.text) byte)) = omega (arith, located-start, ap length located-text) in
       is ∙ ap (λ n. cond {A = ℕ} (ltb n byte) 1 0) end

@@ -57,7 +57,8 @@ tail-more c cs =
     ∙ parts (is_blank cs)
   where
     parts : (b : Bool)
-        → reverse (cond b (without_indent (c ∷ [])) (without_indent (reverse cs) ++ c ∷ [])) ≡ cond b (reverse (without_indent (c ∷ []))) (c ∷ reverse (without_indent (reverse cs)))
+        → reverse (cond b (without_indent (c ∷ [])) (without_indent (reverse cs) ++ c ∷ []))
+        ≡ cond b (reverse (without_indent (c ∷ []))) (c ∷ reverse (without_indent (reverse cs)))
     parts true = refl
     parts false = reverse-append (without_indent (reverse cs)) (c ∷ [])
 
@@ -66,7 +67,8 @@ unfolding is_blank without_tail
 tail-blank [] blank = refl
 tail-blank (c ∷ cs) blank =
     elim (cases_Bool (is_whitespace c)) [
-      | inl white ↦ tail-more c cs ∙ cond-true (is_blank cs) (reverse (without_indent (c ∷ []))) (c ∷ without_tail cs) (second (is_whitespace c) (is_blank cs) blank) ∙ ap reverse (cond-true (is_whitespace c) [] (c ∷ []) white)
+      | inl white ↦ tail-more c cs ∙ cond-true (is_blank cs) (reverse (without_indent (c ∷ []))) (c ∷ without_tail cs)
+          (second (is_whitespace c) (is_blank cs) blank) ∙ ap reverse (cond-true (is_whitespace c) [] (c ∷ []) white)
       | inr other ↦ cc
     ]
   where
@@ -78,7 +80,8 @@ tail-blank (c ∷ cs) blank =
 tail-other : (c : ℕ) (cs : List ℕ) → is_whitespace c ≡ false → without_tail (c ∷ cs) ≡ c ∷ without_tail cs
 tail-other c cs other =
     elim (cases_Bool (is_blank cs)) [
-      | inl blank ↦ tail-more c cs ∙ cond-true (is_blank cs) (reverse (without_indent (c ∷ []))) (c ∷ without_tail cs) blank ∙ ap reverse (cond-false (is_whitespace c) [] (c ∷ []) other) ∙ ap (λ xs. c ∷ xs) (sym (tail-blank cs blank))
+      | inl blank ↦ tail-more c cs ∙ cond-true (is_blank cs) (reverse (without_indent (c ∷ []))) (c ∷ without_tail cs) blank
+          ∙ ap reverse (cond-false (is_whitespace c) [] (c ∷ []) other) ∙ ap (λ xs. c ∷ xs) (sym (tail-blank cs blank))
       | inr some ↦ tail-more c cs ∙ cond-false (is_blank cs) (reverse (without_indent (c ∷ []))) (c ∷ without_tail cs) some
     ]
 
@@ -87,7 +90,8 @@ tail-cases : (c : ℕ) (cs : List ℕ) → (without_tail (c ∷ cs) ≡ []) ⊎ 
 tail-cases c cs =
     elim (cases_Bool (is_whitespace c)) [
       | inl white ↦ elim (cases_Bool (is_blank cs)) [
-        | inl blank ↦ inl (tail-more c cs ∙ cond-true (is_blank cs) (reverse (without_indent (c ∷ []))) (c ∷ without_tail cs) blank ∙ ap reverse (cond-true (is_whitespace c) [] (c ∷ []) white))
+        | inl blank ↦ inl (tail-more c cs ∙ cond-true (is_blank cs) (reverse (without_indent (c ∷ []))) (c ∷ without_tail cs) blank
+            ∙ ap reverse (cond-true (is_whitespace c) [] (c ∷ []) white))
         | inr some ↦ inr (tail-more c cs ∙ cond-false (is_blank cs) (reverse (without_indent (c ∷ []))) (c ∷ without_tail cs) some)
       ]
       | inr other ↦ inr (tail-other c cs other)
@@ -98,7 +102,8 @@ trimmed-white c cs white = ap (λ xs. reverse (without_indent (reverse xs))) (co
 
 trimmed-other : (c : ℕ) (cs : List ℕ) → is_whitespace c ≡ false → trimmed (c ∷ cs) ≡ c ∷ without_tail cs
 unfolding without_tail
-trimmed-other c cs other = ap (λ xs. reverse (without_indent (reverse xs))) (cond-false (is_whitespace c) (without_indent cs) (c ∷ cs) other) ∙ tail-other c cs other
+trimmed-other c cs other = ap (λ xs. reverse (without_indent (reverse xs))) (cond-false (is_whitespace c) (without_indent cs) (c ∷ cs) other)
+    ∙ tail-other c cs other
 
 -- ---- what is left to be read
 
@@ -135,11 +140,13 @@ tail-length (c ∷ cs) =
       | inl blank ↦
           ap (λ xs. eqb (length xs) 0) (tail-more c cs ∙ cond-true (is_blank cs) (reverse (without_indent (c ∷ []))) (c ∷ without_tail cs) blank)
           ∙ elim (cases_Bool (is_whitespace c)) [
-            | inl white ↦ ap (λ xs. eqb (length (reverse xs)) 0) (cond-true (is_whitespace c) [] (c ∷ []) white) ∙ sym (ap (λ b. b && is_blank cs) white ∙ blank)
+            | inl white ↦ ap (λ xs. eqb (length (reverse xs)) 0) (cond-true (is_whitespace c) [] (c ∷ []) white)
+                ∙ sym (ap (λ b. b && is_blank cs) white ∙ blank)
             | inr other ↦ ap (λ xs. eqb (length (reverse xs)) 0) (cond-false (is_whitespace c) [] (c ∷ []) other) ∙ sym (ap (λ b. b && is_blank cs) other)
           ]
       | inr some ↦
-          ap (λ xs. eqb (length xs) 0) (tail-more c cs ∙ cond-false (is_blank cs) (reverse (without_indent (c ∷ []))) (c ∷ without_tail cs) some) ∙ some-length (length (without_tail cs)) ∙ sym (ap (λ b. is_whitespace c && b) some ∙ nothing (is_whitespace c))
+          ap (λ xs. eqb (length xs) 0) (tail-more c cs ∙ cond-false (is_blank cs) (reverse (without_indent (c ∷ []))) (c ∷ without_tail cs) some)
+          ∙ some-length (length (without_tail cs)) ∙ sym (ap (λ b. is_whitespace c && b) some ∙ nothing (is_whitespace c))
     ]
   where
     nothing : (b : Bool) → (b && false) ≡ false
@@ -182,17 +189,23 @@ step-nothing : (c : ℕ) (cs : List ℕ) → is_trivial (c ∷ cs) ≡ trivial_a
 unfolding trivial_after
 step-nothing c cs =
     elim (cases_Bool (is_whitespace c)) [
-      | inl white ↦ trivial-is (c ∷ cs) (trimmed cs) (trimmed-white c cs white) ∙ sym (trivial-is cs (trimmed cs) refl) ∙ ap (λ s. trivial_after s cs) (sym (cond-true (is_whitespace c) Nothing (cond (is_bracket (c ∷ [])) Bracket (cond (eqb c 47) Slash Telling)) white))
+      | inl white ↦ trivial-is (c ∷ cs) (trimmed cs) (trimmed-white c cs white) ∙ sym (trivial-is cs (trimmed cs) refl)
+          ∙ ap (λ s. trivial_after s cs) (sym (cond-true (is_whitespace c) Nothing (cond (is_bracket (c ∷ [])) Bracket (cond (eqb c 47) Slash Telling)) white))
       | inr other ↦
-          let past : step Nothing c ≡ cond (is_bracket (c ∷ [])) Bracket (cond (eqb c 47) Slash Telling) = cond-false (is_whitespace c) Nothing (cond (is_bracket (c ∷ [])) Bracket (cond (eqb c 47) Slash Telling)) other in
+          let past : step Nothing c ≡ cond (is_bracket (c ∷ [])) Bracket (cond (eqb c 47) Slash Telling) = cond-false (is_whitespace c) Nothing
+          (cond (is_bracket (c ∷ [])) Bracket (cond (eqb c 47) Slash Telling)) other in
           let text : is_trivial (c ∷ cs) ≡ trivial_trimmed (c ∷ without_tail cs) = trivial-is (c ∷ cs) (c ∷ without_tail cs) (trimmed-other c cs other) in
           elim (cases_Bool (is_bracket (c ∷ []))) [
-            | inl bracket ↦ text ∙ trivial-bracket c (without_tail cs) (bracket-no-slash c bracket) bracket ∙ tail-length cs ∙ ap (λ s. trivial_after s cs) (sym (past ∙ cond-true (is_bracket (c ∷ [])) Bracket (cond (eqb c 47) Slash Telling) bracket))
+            | inl bracket ↦ text ∙ trivial-bracket c (without_tail cs) (bracket-no-slash c bracket) bracket ∙ tail-length cs
+                ∙ ap (λ s. trivial_after s cs) (sym (past ∙ cond-true (is_bracket (c ∷ [])) Bracket (cond (eqb c 47) Slash Telling) bracket))
             | inr plain ↦
-                let more : step Nothing c ≡ cond (eqb c 47) Slash Telling = past ∙ cond-false (is_bracket (c ∷ [])) Bracket (cond (eqb c 47) Slash Telling) plain in
+                let more : step Nothing c ≡ cond (eqb c 47) Slash Telling = past
+                ∙ cond-false (is_bracket (c ∷ [])) Bracket (cond (eqb c 47) Slash Telling) plain in
                 elim (cases_Bool (eqb c 47)) [
-                  | inl slash ↦ ap (λ x. is_trivial (x ∷ cs)) (eqb-true c 47 slash) ∙ ap (λ s. trivial_after s cs) (sym (more ∙ cond-true (eqb c 47) Slash Telling slash))
-                  | inr strong ↦ text ∙ trivial-strong c (without_tail cs) strong plain ∙ ap (λ s. trivial_after s cs) (sym (more ∙ cond-false (eqb c 47) Slash Telling strong))
+                  | inl slash ↦ ap (λ x. is_trivial (x ∷ cs)) (eqb-true c 47 slash)
+                      ∙ ap (λ s. trivial_after s cs) (sym (more ∙ cond-true (eqb c 47) Slash Telling slash))
+                  | inr strong ↦ text ∙ trivial-strong c (without_tail cs) strong plain
+                      ∙ ap (λ s. trivial_after s cs) (sym (more ∙ cond-false (eqb c 47) Slash Telling strong))
                 ]
           ]
     ]
@@ -214,9 +227,11 @@ step-slash c cs =
 step-slashes : (c : ℕ) (cs : List ℕ) → is_trivial (47 ∷ 47 ∷ c ∷ cs) ≡ trivial_after (step Slashes c) cs
 unfolding trivial_after trivial_trimmed
 step-slashes c cs =
-    let text : is_trivial (47 ∷ 47 ∷ c ∷ cs) ≡ trivial_trimmed (47 ∷ 47 ∷ without_tail (c ∷ cs)) = trivial-is (47 ∷ 47 ∷ c ∷ cs) (47 ∷ 47 ∷ without_tail (c ∷ cs)) (trimmed-other 47 (47 ∷ c ∷ cs) refl ∙ ap (λ ts. 47 ∷ ts) (tail-other 47 (c ∷ cs) refl)) in
+    let text : is_trivial (47 ∷ 47 ∷ c ∷ cs) ≡ trivial_trimmed (47 ∷ 47 ∷ without_tail (c ∷ cs)) = trivial-is (47 ∷ 47 ∷ c ∷ cs)
+    (47 ∷ 47 ∷ without_tail (c ∷ cs)) (trimmed-other 47 (47 ∷ c ∷ cs) refl ∙ ap (λ ts. 47 ∷ ts) (tail-other 47 (c ∷ cs) refl)) in
     elim (cases_Bool (eqb c 47 || eqb c 33)) [
-      | inl third ↦ text ∙ ap (λ ts. trivial_trimmed (47 ∷ 47 ∷ ts)) (tail-other c cs (black c third)) ∙ slashes-third c (without_tail cs) true third ∙ ap (λ s. trivial_after s cs) (sym (cond-true (eqb c 47 || eqb c 33) Telling Comment third))
+      | inl third ↦ text ∙ ap (λ ts. trivial_trimmed (47 ∷ 47 ∷ ts)) (tail-other c cs (black c third)) ∙ slashes-third c (without_tail cs) true third
+          ∙ ap (λ s. trivial_after s cs) (sym (cond-true (eqb c 47 || eqb c 33) Telling Comment third))
       | inr other ↦
           text ∙ elim (tail-cases c cs) [
             | inl none ↦ ap (λ ts. trivial_trimmed (47 ∷ 47 ∷ ts)) none
@@ -261,7 +276,10 @@ read-none cs = record { after = refl }
 -- with one more character read the characters so far are read
 pub read-more : (cs : List ℕ) (n m c : ℕ) (s t : Seen) → (n < length cs) × (c ≡ get_or cs n c) → m ≡ n + 1 → t ≡ step s c → IsReadTo cs n s → IsReadTo cs m t
 read-more cs n m c s t at is stepped before =
-    record { after = ap (λ k. trivial_after t (drop k cs)) is ∙ ap (λ x. trivial_after x (drop (n + 1) cs)) stepped ∙ sym (after-step s c (drop (n + 1) cs)) ∙ ap (λ x. trivial_after s (x ∷ drop (n + 1) cs)) at.1 ∙ ap (trivial_after s) (sym (drop_more cs n c at.0)) ∙ before.after }
+    record {
+      after = ap (λ k. trivial_after t (drop k cs)) is ∙ ap (λ x. trivial_after x (drop (n + 1) cs)) stepped ∙ sym (after-step s c (drop (n + 1) cs))
+          ∙ ap (λ x. trivial_after s (x ∷ drop (n + 1) cs)) at.1 ∙ ap (trivial_after s) (sym (drop_more cs n c at.0)) ∙ before.after;
+    }
 
 -- a text in which a comment has begun is trivial
 pub read-comment : (cs : List ℕ) (n : ℕ) → IsReadTo cs n Comment → true ≡ is_trivial cs

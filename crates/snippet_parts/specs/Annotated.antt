@@ -70,7 +70,8 @@ deepest s marks = greatest_depth (long_places s marks)
 abbrev pub bar_lines : List ℕ → ℕ → ℕ → List ℕ
 bar_lines source first last =
     let beginning = min (first + 4) last in
-    filter (λ k. list_any (λ j. not (is_trivial_line source j)) (range_with_len k (beginning - k))) (range_with_len (first + 1) (beginning - first)) ++ (if nat_lt beginning (last - 1) && not (is_trivial_line source (last - 1)) then (last - 1) ∷ [] else [])
+    filter (λ k. list_any (λ j. not (is_trivial_line source j)) (range_with_len k (beginning - k))) (range_with_len (first + 1) (beginning - first))
+    ++ (if nat_lt beginning (last - 1) && not (is_trivial_line source (last - 1)) then (last - 1) ∷ [] else [])
 
 -- the entry of a span on one line
 abbrev pub single_part : Source → Annotation → PartEntry
@@ -79,7 +80,13 @@ single_part s a = record { entry = entry_of s a; part = Singleline }
 -- the entry on the first line of a span of several lines: one column and one character wide, without the label
 abbrev pub start_part : Entry → ℕ → PartEntry
 start_part e depth =
-    record { entry = record e { end = record { line = e.start.line; char = e.start.char + 1; display = e.start.display + 1; byte = e.start.byte }; label = None }; part = MultilineStart depth }
+    record {
+      entry = record e {
+        end = record { line = e.start.line; char = e.start.char + 1; display = e.start.display + 1; byte = e.start.byte };
+        label = None;
+      };
+      part = MultilineStart depth;
+    }
 
 -- a bar beside the line of a number: no columns, and no label
 abbrev pub bar_part : Entry → ℕ → ℕ → PartEntry
@@ -96,7 +103,8 @@ end_part e part =
 abbrev pub span_parts : Source → ℕ → Bool → Entry → List PartEntry
 span_parts s depth again e =
     if again then end_part e Singleline ∷ []
-    else start_part e depth ∷ (map (λ k. bar_part e depth (s.first + k)) (bar_lines s.text (e.start.line - s.first) (e.end.line - s.first)) ++ end_part e (MultilineEnd depth) ∷ [])
+    else start_part e depth ∷ (map (λ k. bar_part e depth (s.first + k)) (bar_lines s.text (e.start.line - s.first) (e.end.line - s.first))
+    ++ end_part e (MultilineEnd depth) ∷ [])
 
 -- whether a span has the place of one of some others
 abbrev pub stands_among : Entry → List Entry → Bool
@@ -144,7 +152,13 @@ seen_kept info = record { number = info.line_index; text = info.line.now; parts 
 
 abbrev pub kept_line : Source → List Annotation → ℕ → KeptLine
 kept_line s marks k =
-    record { number = s.first + k; text = text_at (source_lines s.text) k; parts = parts_on s marks k; keep = list_any (λ a. not (is_marking a.kind) && touches s.text a k) marks }
+    record {
+      number = s.first + k;
+      text = text_at (source_lines s.text) k;
+      parts = parts_on s marks k;
+      keep = list_any (λ a.
+          not (is_marking a.kind) && touches s.text a k) marks;
+    }
 
 -- the lines that are kept, each with its entries
 abbrev pub annotated_lines : Bool → Source → List Annotation → List KeptLine

@@ -42,7 +42,8 @@ beginning source a = min (first_line source a + 4) (last_line source a)
 -- last line that isn't trivial, and beside the line before its last, if that isn't trivial
 abbrev pub has_bar : List ℕ → Annotation → ℕ → Bool
 has_bar source a k =
-    nat_lt (first_line source a) k && (list_any (λ j. not (is_trivial_line source j)) (range_with_len k (beginning source a - k)) || (k + 1 == last_line source a && nat_lt (beginning source a) k && not (is_trivial_line source k)))
+    nat_lt (first_line source a) k && (list_any (λ j. not (is_trivial_line source j)) (range_with_len k (beginning source a - k))
+    || (k + 1 == last_line source a && nat_lt (beginning source a) k && not (is_trivial_line source k)))
 
 -- whether a span keeps line k: its first and its last line, each line of a `Visible` span, and else those with a bar
 abbrev pub keeps : List ℕ → ℕ → Annotation → Bool

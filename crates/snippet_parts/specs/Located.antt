@@ -39,7 +39,14 @@ is_long_span l = is_marking l.annotation.now.kind && not (l.last == l.first)
 -- such a span as it is seen: from its start to its end
 abbrev pub span_entry : LocatedSpan → Entry
 span_entry l =
-    record { start = l.start; end = l.end; kind = l.annotation.now.kind; label = option_map cow_str_bytes l.annotation.now.label; highlight_source = l.annotation.now.highlight_source }
+    record {
+      start = l.start;
+      end = l.end;
+      kind = l.annotation.now.kind;
+      label = option_map cow_str_bytes l.annotation.now.label;
+      highlight_source =
+          l.annotation.now.highlight_source;
+    }
 
 -- the entry of one that stands on one line
 abbrev pub short_part : LocatedSpan → PartEntry

@@ -51,7 +51,8 @@ is_marked_on source k a = is_marking a.kind && is_single_line source a && first_
 -- several lines and of a kind that is marked touches it
 abbrev pub qualifies_for_marks : ℕ → ℕ → List ℕ → List Annotation → ℕ → Bool
 qualifies_for_marks room placeholder_width source marks k =
-    list_any (is_marked_on source k) marks && list_all (λ a. not (is_marked_on source k a && is_wide room placeholder_width source a)) marks && list_all (λ a. not (is_marking a.kind && touches source a k && not (is_single_line source a))) marks
+    list_any (is_marked_on source k) marks && list_all (λ a. not (is_marked_on source k a && is_wide room placeholder_width source a)) marks
+    && list_all (λ a. not (is_marking a.kind && touches source a k && not (is_single_line source a))) marks
 
 -- the span is marked below column p of line k
 abbrev pub IsMarkedAt : List ℕ → ℕ → ℕ → Annotation → Type 0

@@ -27,7 +27,8 @@ pub(crate) fn annotated_lines<'a>(
 ) -> Result<(usize, Vec<AnnotatedLineInfo<'a>>), AllocError>
     requires spans { All (λ a. IsSpan source.now.text a.span.start a.span.end) annotations.now }
     ensures deepest { IfOk result (λ drawn. drawn.0 ≡ spec.deepest source.now annotations.now) }
-    ensures lines { IfOk result (λ drawn. map seen_kept drawn.1.items ≡ spec.annotated_lines fold source.now annotations.now) }
+    ensures lines { IfOk result (λ drawn. map seen_kept drawn.1.items
+        ≡ spec.annotated_lines fold source.now annotations.now) }
 {
     let located = located_spans(alloc, source, annotations)?;
     located_lines(alloc, source, &located, fold)
@@ -42,7 +43,8 @@ fn located_lines<'a>(
 ) -> Result<(usize, Vec<AnnotatedLineInfo<'a>>), AllocError>
     requires located { All (IsLocated source.now) located.now }
     ensures deepest { IfOk result (λ drawn. drawn.0 ≡ spec.deepest source.now (annotations_of located.now)) }
-    ensures lines { IfOk result (λ drawn. map seen_kept drawn.1.items ≡ spec.annotated_lines fold source.now (annotations_of located.now)) }
+    ensures lines { IfOk result (λ drawn. map seen_kept drawn.1.items
+        ≡ spec.annotated_lines fold source.now (annotations_of located.now)) }
 {
     let (greatest, entries) = sorted_entries(alloc, source, located)?;
     let kept = kept_lines(alloc, source, located, fold)?;
@@ -74,7 +76,8 @@ fn sorted_entries<'a>(
     requires located { All (IsLocated source.now) located.now }
     ensures deepest { IfOk result (λ made. made.0 ≡ spec.deepest source.now (annotations_of located.now)) }
     ensures sorted { IfOk result (λ made. IsNonDecreasingBy (λ e. e.start.line) made.1.items) }
-    ensures value { IfOk result (λ made. (k : ℕ) → filter (λ p. p.entry.start.line == source.now.first + k) (map seen_part made.1.items)
+    ensures value { IfOk result (λ made. (k : ℕ) → filter (λ p.
+        p.entry.start.line == source.now.first + k) (map seen_part made.1.items)
         ≡ spec.parts_on source.now (annotations_of located.now) k) }
 {
     let (greatest, mut entries) = made_entries(alloc, source, located)?;
@@ -126,7 +129,8 @@ fn range_on(entries: &[LineAnnotation<'_>], number: usize) -> (usize, usize)
     requires sorted { IsNonDecreasingBy (λ e. e.start.line) entries.now }
     ensures ordered { result.0 ≤ result.1 }
     ensures within { result.1 ≤ length entries.now }
-    ensures value { take (result.1 - result.0) (drop result.0 entries.now) ≡ filter (λ e. e.start.line == number) entries.now }
+    ensures value { take (result.1 - result.0) (drop result.0 entries.now)
+        ≡ filter (λ e. e.start.line == number) entries.now }
 {
     let from = entries.partition_point(|entry| entry.start.line < number);
     let to = entries.partition_point(|entry| entry.start.line <= number);

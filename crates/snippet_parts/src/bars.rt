@@ -31,12 +31,14 @@ pub(crate) fn bars_end(source: &SourceMap<'_>, first: usize, last: usize) -> usi
 pub(crate) fn has_closing_bar(source: &SourceMap<'_>, first: usize, last: usize) -> bool
     requires ordered { first < last }
     requires within { last < length (source_lines source.now.text) }
-    ensures value { result ≡ (nat_lt (min (first + 4) last) (last - 1) && not (spec.is_trivial_line source.now.text (last - 1))) }
+    ensures value { result ≡ (nat_lt (min (first + 4) last) (last - 1)
+        && not (spec.is_trivial_line source.now.text (last - 1))) }
 {
     beginning(first, last) < last - 1 && !is_trivial_line(source, last - 1)
 }
 
-/// The line before which the beginning of a span ends: the fourth after the first, or the last one if that comes sooner.
+/// The line before which the beginning of a span ends: the fourth after the first, or the last one if that comes
+/// sooner.
 fn beginning(first: usize, last: usize) -> usize
     requires ordered { first ≤ last }
     ensures value { result ≡ min (first + 4) last }

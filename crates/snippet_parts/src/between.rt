@@ -27,9 +27,11 @@ pub fn with_lines_between<'a>(
     requires texts { All (λ info. TextFits info.line.now) kept.items }
     ensures kept_are { IfOk result (λ shown. kept_of shown.items ≡ kept.entry.items) }
     // No entry stands on a line that isn't kept, and no span keeps it.
-    ensures value { IfOk result (λ shown. (fold : Bool) (marks : List Annotation) → All (λ a. IsSpan source.now.text a.span.start a.span.end) marks
+    ensures value { IfOk result (λ shown. (fold : Bool) (marks : List Annotation)
+        → All (λ a. IsSpan source.now.text a.span.start a.span.end) marks
         → map seen_kept kept.entry.items ≡ annotated_lines fold source.now marks
-        → map seen_kept (infos_of shown.items) ≡ map (kept_line source.now marks) (shown_lines fold source.now.text marks)) }
+        → map seen_kept (infos_of shown.items) ≡ map (kept_line source.now marks)
+        (shown_lines fold source.now.text marks)) }
 {
     let mut shown = Vec::new(alloc);
     let mut before = None;
@@ -52,7 +54,8 @@ fn push_between<'a>(
 ) -> Result<(), AllocError>
     requires fits { TextFits source.now.text }
     ensures kept_are { OnOk result (kept_of shown.new.items ≡ kept_of shown.old.items) }
-    ensures value { OnOk result (map seen_kept (infos_of shown.new.items) ≡ map seen_kept (infos_of shown.old.items) ++ spec.lines_between source.now before after) }
+    ensures value { OnOk result (map seen_kept (infos_of shown.new.items) ≡ map seen_kept (infos_of shown.old.items)
+        ++ spec.lines_between source.now before after) }
 {
     if let Some(before) = before {
         if let Some(line) = line_between(alloc, source, before, after) {

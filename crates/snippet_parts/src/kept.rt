@@ -33,7 +33,8 @@ pub(crate) fn kept_lines(
     fold: bool,
 ) -> Result<Vec<usize>, AllocError>
     requires located { All (IsLocated source.now) located.now }
-    ensures value { IfOk result (λ lines. lines.items ≡ kept.kept_lines fold source.now.text (annotations_of located.now)) }
+    ensures value { IfOk result (λ lines. lines.items ≡ kept.kept_lines fold source.now.text
+        (annotations_of located.now)) }
     ensures within { IfOk result (λ lines. All (λ k. k < length (source_lines source.now.text)) lines.items) }
 {
     let mut reach = vec![in alloc; 0; source.line_count()]?;
@@ -79,7 +80,8 @@ fn touched_lines(
 ) -> Result<Vec<bool>, AllocError>
     requires located { All (IsLocated source.now) located.now }
     ensures value { IfOk result (λ seen. seen.items ≡ map
-        (λ k. list_any (λ l. is_seen source.now.text k l.annotation.now) located.now) (range_with_len 0 (length (source_lines source.now.text)))) }
+        (λ k. list_any (λ l. is_seen source.now.text k l.annotation.now) located.now)
+        (range_with_len 0 (length (source_lines source.now.text)))) }
 {
     let mut reach = vec![in alloc; 0; source.line_count()]?;
     for span in located {
@@ -92,7 +94,8 @@ fn touched_lines(
 fn reach_over_kept(reach: &mut [usize], source: &SourceMap<'_>, span: &LocatedSpan<'_>)
     requires located { IsLocated source.now span.now }
     requires lines { length reach.old ≡ length (source_lines source.now.text) }
-    ensures covered { (k : ℕ) → is_covered reach.new k ≡ (is_covered reach.old k || keeps source.now.text k span.now.annotation.now) }
+    ensures covered { (k : ℕ) → is_covered reach.new k ≡ (is_covered reach.old k
+        || keeps source.now.text k span.now.annotation.now) }
 {
     let (head, tail) = kept_stretches(source, span);
     reach_over(reach, head);
@@ -103,7 +106,8 @@ fn reach_over_kept(reach: &mut [usize], source: &SourceMap<'_>, span: &LocatedSp
 fn reach_over_seen(reach: &mut [usize], source: &SourceMap<'_>, span: &LocatedSpan<'_>)
     requires located { IsLocated source.now span.now }
     requires lines { length reach.old ≡ length (source_lines source.now.text) }
-    ensures covered { (k : ℕ) → is_covered reach.new k ≡ (is_covered reach.old k || is_seen source.now.text k span.now.annotation.now) }
+    ensures covered { (k : ℕ) → is_covered reach.new k ≡ (is_covered reach.old k
+        || is_seen source.now.text k span.now.annotation.now) }
 {
     if !is_marking(span.annotation.kind) {
         reach_over(reach, touched(span));
@@ -113,7 +117,8 @@ fn reach_over_seen(reach: &mut [usize], source: &SourceMap<'_>, span: &LocatedSp
 /// The lines that a span keeps: those of its beginning, and those of its end.
 fn kept_stretches(source: &SourceMap<'_>, span: &LocatedSpan<'_>) -> (Stretch, Stretch)
     requires located { IsLocated source.now span.now }
-    ensures value { (k : ℕ) → (holds_line result.0 k || holds_line result.1 k) ≡ keeps source.now.text k span.now.annotation.now }
+    ensures value { (k : ℕ) → (holds_line result.0 k || holds_line result.1 k)
+        ≡ keeps source.now.text k span.now.annotation.now }
     ensures head { result.0.first < length (source_lines source.now.text) }
     ensures tail { result.1.first < length (source_lines source.now.text) }
     ensures head_last { result.0.last < length (source_lines source.now.text) }
@@ -180,7 +185,8 @@ fn is_shown(fold: bool, line: usize, end: usize) -> bool
 
 /// Of each line, whether it is covered.
 fn covered(alloc: Global, reach: &[usize]) -> Result<Vec<bool>, AllocError>
-    ensures value { IfOk result (λ covered. covered.items ≡ map (is_covered reach.now) (range_with_len 0 (length reach.now))) }
+    ensures value { IfOk result (λ covered. covered.items
+        ≡ map (is_covered reach.now) (range_with_len 0 (length reach.now))) }
 {
     let mut covered = Vec::new(alloc);
     let mut end = 0;

@@ -28,13 +28,14 @@ pub struct Location {
 
 /// The place that the head of a primary snippet names, given the lines that are kept.
 ///
-/// It is on the first line with a primary entry, at the least column of a primary one; where no entry is primary, on the
-/// first line with an entry, at the least column there. `None` where no line has an entry.
+/// It is on the first line with a primary entry, at the least column of a primary one; where no entry is primary, on
+/// the first line with an entry, at the least column there. `None` where no line has an entry.
 pub fn primary_place(lines: &[AnnotatedLineInfo<'_>]) -> Option<Location>
     requires room { AllEntries HasCharacterRoom lines.now }
     ensures value { result ≡ spec.primary_place (map seen_kept lines.now) }
     // Of a snippet that has a span that is marked, and none of several lines: the place where one of its spans starts.
-    ensures named { (fold : Bool) (s : Source) (marks : List Annotation) → All (λ a. IsSpan s.text a.span.start a.span.end) marks
+    ensures named { (fold : Bool) (s : Source) (marks : List Annotation)
+        → All (λ a. IsSpan s.text a.span.start a.span.end) marks
         → map seen_kept lines.now ≡ annotated_lines fold s marks
         → list_any (λ a. is_marking a.kind) marks ≡ true → All (λ a. is_long s.text a ≡ false) marks
         → IsSomeAnd result (IsLocation s marks) }
@@ -77,8 +78,8 @@ pub fn secondary_place(lines: &[AnnotatedLineInfo<'_>]) -> Option<Location>
     })
 }
 
-/// The byte at which the first primary span starts; where none is primary, the first span that is marked. `None` where none
-/// is.
+/// The byte at which the first primary span starts; where none is primary, the first span that is marked. `None` where
+/// none is.
 ///
 /// The place of this byte is the one that `primary_place` finds among the lines that are kept.
 pub fn naming_start(annotations: &[Annotation<'_>]) -> Option<usize>
@@ -86,7 +87,8 @@ pub fn naming_start(annotations: &[Annotation<'_>]) -> Option<usize>
     // A span of no bytes may stand there.
     ensures border { (source : List ℕ) → All (λ a. IsSpan source a.span.start a.span.end) annotations.now
         → IfSome result (λ start. IsSpan source start start) }
-    ensures named { (fold : Bool) (s : Source) → IsUtf8 s.text → All (λ a. IsSpan s.text a.span.start a.span.end) annotations.now
+    ensures named { (fold : Bool) (s : Source) → IsUtf8 s.text
+        → All (λ a. IsSpan s.text a.span.start a.span.end) annotations.now
         → spec.primary_place (annotated_lines fold s annotations.now) ≡ option_map (place_at s) result }
 {
     match first_primary(annotations) {

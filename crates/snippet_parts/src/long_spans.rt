@@ -67,7 +67,8 @@ fn given_long_spans<'a>(
     alloc: Global,
     located: &[LocatedSpan<'a>],
 ) -> Result<Vec<LongSpan<'a>>, AllocError>
-    ensures value { IfOk result (λ spans. map seen_long spans.items ≡ map span_entry (filter is_long_span located.now)) }
+    ensures value { IfOk result (λ spans. map seen_long spans.items
+        ≡ map span_entry (filter is_long_span located.now)) }
 {
     let mut spans = Vec::new(alloc);
     for span in located {
@@ -123,7 +124,8 @@ fn range_on(spans: &[LongSpan<'_>], line: usize) -> (usize, usize)
     requires ordered { IsNonDecreasingBy (λ l. l.start.line) spans.now }
     ensures ordered { result.0 ≤ result.1 }
     ensures within { result.1 ≤ length spans.now }
-    ensures value { take (result.1 - result.0) (drop result.0 spans.now) ≡ filter (λ l. l.start.line == line) spans.now }
+    ensures value { take (result.1 - result.0) (drop result.0 spans.now)
+        ≡ filter (λ l. l.start.line == line) spans.now }
 {
     let from = spans.partition_point(|span| span.start.line < line);
     let to = spans.partition_point(|span| span.start.line <= line);

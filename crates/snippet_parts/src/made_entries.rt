@@ -18,8 +18,8 @@ use crate::span_entries::{push_span_entries, single_entries};
 use snippet_model::snippet::AnnotationKind;
 use std::alloc::{AllocError, Global};
 
-/// The greatest depth of spans of several lines, and the entries of all spans: those of spans on one line as given, then
-/// those of each span of several lines.
+/// The greatest depth of spans of several lines, and the entries of all spans: those of spans on one line as given,
+/// then those of each span of several lines.
 ///
 /// The one error is that memory ran out.
 pub(crate) fn made_entries<'a>(
@@ -29,7 +29,8 @@ pub(crate) fn made_entries<'a>(
 ) -> Result<(usize, Vec<LineAnnotation<'a>>), AllocError>
     requires located { All (IsLocated source.now) located.now }
     ensures deepest { IfOk result (λ made. made.0 ≡ spec.deepest source.now (annotations_of located.now)) }
-    ensures value { IfOk result (λ made. map seen_part made.1.items ≡ spec.made_parts source.now (annotations_of located.now)) }
+    ensures value { IfOk result (λ made. map seen_part made.1.items
+        ≡ spec.made_parts source.now (annotations_of located.now)) }
 {
     let mut entries = single_entries(alloc, located)?;
     let spans = long_spans(alloc, located)?;
@@ -48,7 +49,8 @@ fn push_long_entries<'a>(
 ) -> Result<(), AllocError>
     requires fit { All (HasFit source.now) spans.now }
     requires ordered { IsNonDecreasingBy (λ l. l.start.line) spans.now }
-    requires depths { depths.now ≡ map (λ span. depth_among (map spec.long_place (map seen_long spans.now)) (spec.long_place (seen_long span))) spans.now }
+    requires depths { depths.now ≡ map (λ span. depth_among (map spec.long_place (map seen_long spans.now))
+        (spec.long_place (seen_long span))) spans.now }
     ensures value { OnOk result (map seen_part entries.new.items ≡ map seen_part entries.old.items
         ++ spec.long_parts source.now (map spec.long_place (map seen_long spans.now)) [] (map seen_long spans.now)) }
 {
@@ -63,7 +65,8 @@ fn push_long_entries<'a>(
 /// Whether a span has the place of one of some others, which are ordered by their first lines.
 fn stands_among(span: LongSpan<'_>, others: &[LongSpan<'_>]) -> bool
     requires ordered { IsNonDecreasingBy (λ l. l.start.line) others.now }
-    ensures value { result ≡ list_any (λ other. same_place (spec.long_place (seen_long span.entry)) (spec.long_place (seen_long other))) others.now }
+    ensures value { result ≡ list_any (λ other. same_place (spec.long_place (seen_long span.entry))
+        (spec.long_place (seen_long other))) others.now }
 {
     // The others start on another line.
     is_place_of_any(span, starting_on(others, span.start.line))
@@ -71,7 +74,8 @@ fn stands_among(span: LongSpan<'_>, others: &[LongSpan<'_>]) -> bool
 
 /// Whether a span has the place of one of some others.
 fn is_place_of_any(span: LongSpan<'_>, others: &[LongSpan<'_>]) -> bool
-    ensures value { result ≡ list_any (λ other. same_place (spec.long_place (seen_long span.entry)) (spec.long_place (seen_long other))) others.now }
+    ensures value { result ≡ list_any (λ other. same_place (spec.long_place (seen_long span.entry))
+        (spec.long_place (seen_long other))) others.now }
 {
     for other in others {
         if span.place() == other.place() {
@@ -98,7 +102,9 @@ fn promoted<'a>(before: &[LongSpan<'a>], span: LongSpan<'a>) -> LongSpan<'a>
 /// Whether a span is primary, or one of those before it that has its place, which are ordered by their first lines.
 fn is_primary(before: &[LongSpan<'_>], span: LongSpan<'_>) -> bool
     requires ordered { IsNonDecreasingBy (λ l. l.start.line) before.now }
-    ensures value { result ≡ (kinds.is_primary span.entry.kind || list_any (λ other. kinds.is_primary other.kind && same_place (spec.long_place (seen_long span.entry)) (spec.long_place (seen_long other))) before.now) }
+    ensures value { result ≡ (kinds.is_primary span.entry.kind
+        || list_any (λ other. kinds.is_primary other.kind
+        && same_place (spec.long_place (seen_long span.entry)) (spec.long_place (seen_long other))) before.now) }
 {
     span.kind == AnnotationKind::Primary
         || is_place_of_primary(span, starting_on(before, span.start.line))
@@ -106,7 +112,8 @@ fn is_primary(before: &[LongSpan<'_>], span: LongSpan<'_>) -> bool
 
 /// Whether a span has the place of a primary one of some others.
 fn is_place_of_primary(span: LongSpan<'_>, others: &[LongSpan<'_>]) -> bool
-    ensures value { result ≡ list_any (λ other. kinds.is_primary other.kind && same_place (spec.long_place (seen_long span.entry)) (spec.long_place (seen_long other))) others.now }
+    ensures value { result ≡ list_any (λ other. kinds.is_primary other.kind
+        && same_place (spec.long_place (seen_long span.entry)) (spec.long_place (seen_long other))) others.now }
 {
     for other in others {
         if other.kind == AnnotationKind::Primary && span.place() == other.place() {

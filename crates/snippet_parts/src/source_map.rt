@@ -138,9 +138,10 @@ impl<'a> SourceMap<'a> {
     where
         'a: 'b,
         requires spans { All (λ a. IsSpan self.now.text a.span.start a.span.end) annotations.now }
-        // The lines that are kept, ascending, each with its number, its text, its entries in the order made, and whether
-        // a span keeps it without marking it.
-        ensures lines { IfOk result (λ drawn. map seen_kept drawn.1.items ≡ spec.annotated_lines fold self.now annotations.now) }
+        // The lines that are kept, ascending, each with its number, its text, its entries in the order made, and
+        // whether a span keeps it without marking it.
+        ensures lines { IfOk result (λ drawn. map seen_kept drawn.1.items
+            ≡ spec.annotated_lines fold self.now annotations.now) }
         // Their numbers ascend, and the first and the last line of each span are among them.
         ensures ascending { IfOk result (λ drawn. Ascends (numbers_of_lines drawn.1.items)) }
         ensures first_lines { IfOk result (λ drawn. (a : Annotation) → Contains annotations.now a
@@ -149,7 +150,8 @@ impl<'a> SourceMap<'a> {
             → Contains (numbers_of_lines drawn.1.items) (self.now.first + last_line self.now.text a)) }
         // So is each line of a span that isn't marked. `keep` is set on these lines and no others.
         ensures seen_lines { IfOk result (λ drawn. (a : Annotation) → Contains annotations.now a
-            → (k : ℕ) → is_seen self.now.text k a ≡ true → Contains (numbers_of_lines drawn.1.items) (self.now.first + k)) }
+            → (k : ℕ) → is_seen self.now.text k a ≡ true
+            → Contains (numbers_of_lines drawn.1.items) (self.now.first + k)) }
         ensures keep { IfOk result (λ drawn. All (λ info. info.keep
             ≡ list_any (is_seen self.now.text (info.line_index - self.now.first)) annotations.now) drawn.1.items) }
         // The entries of each line.
@@ -157,11 +159,13 @@ impl<'a> SourceMap<'a> {
             (info.line_index - self.now.first) (map seen_part info.annotations.items)) drawn.1.items) }
         ensures deepest { IfOk result (λ drawn. drawn.0 ≡ spec.deepest self.now annotations.now) }
         // The greatest depth is the length of a longest list of places, each of which shares a line with the next.
-        ensures longest { IfOk result (λ drawn. IsLongestChain (places_of (spec.long_places self.now annotations.now)) drawn.0) }
+        ensures longest { IfOk result (λ drawn. IsLongestChain
+            (places_of (spec.long_places self.now annotations.now)) drawn.0) }
         // Two spans of several lines that share a line and have one depth start and end at the same bytes.
         ensures distinct { (a b : Annotation) → Contains annotations.now a → Contains annotations.now b
             → spec.is_long self.now.text a ≡ true → spec.is_long self.now.text b ≡ true
-            → share_line (spec.long_place (spec.long_entry self.now a)) (spec.long_place (spec.long_entry self.now b)) ≡ true
+            → share_line (spec.long_place (spec.long_entry self.now a))
+            (spec.long_place (spec.long_entry self.now b)) ≡ true
             → spec.depth_of self.now annotations.now a ≡ spec.depth_of self.now annotations.now b
             → spec.long_place (spec.long_entry self.now a) ≡ spec.long_place (spec.long_entry self.now b) }
     {
@@ -204,7 +208,8 @@ impl<'a> SourceMap<'a> {
         (start, end)
     }
 
-    /// The lines that a span of bytes touches, in order: from the one that holds its start to the one that holds its end.
+    /// The lines that a span of bytes touches, in order: from the one that holds its start to the one that holds its
+    /// end.
     ///
     /// The last line holds each byte after it too. The one error is that memory ran out.
     pub fn span_to_lines(&self, span: Range<usize>) -> Result<Vec<LineInfo<'a>>, AllocError>
@@ -223,9 +228,10 @@ impl<'a> SourceMap<'a> {
 
     /// The part of the source that is shown with these patches applied; `None` exactly where there are none.
     ///
-    /// Folded it goes from the line on which the first patch starts to the end of the line on which the last one ends, or
-    /// to the end of the last trimmed replacement, if that ends with a line feed. Unfolded it is the whole patched source.
-    /// Line ends that are copied before the last patch are written as line feeds. The one error is that memory ran out.
+    /// Folded it goes from the line on which the first patch starts to the end of the line on which the last one ends,
+    /// or to the end of the last trimmed replacement, if that ends with a line feed. Unfolded it is the whole patched
+    /// source. Line ends that are copied before the last patch are written as line feeds. The one error is that memory
+    /// ran out.
     pub fn splice_lines<'b>(
         &self,
         patches: &'b [Patch<'_>],

@@ -21,7 +21,8 @@ pub(crate) fn single_entries<'a>(
     located: &[LocatedSpan<'a>],
 ) -> Result<Vec<LineAnnotation<'a>>, AllocError>
     requires display { All (λ l. IsSourceColumn l.start.display) located.now }
-    ensures value { IfOk result (λ entries. map seen_part entries.items ≡ map short_part (filter is_short_span located.now)) }
+    ensures value { IfOk result (λ entries. map seen_part entries.items
+        ≡ map short_part (filter is_short_span located.now)) }
 {
     let mut entries = Vec::with_capacity(alloc, located.len())?;
     for span in located {
@@ -88,7 +89,8 @@ fn push_bars<'a>(
     requires fit { HasFit source.now span }
     ensures value { OnOk result (map seen_part entries.new.items ≡ map seen_part entries.old.items
         ++ map (λ k. spec.bar_part (seen_long span.entry) depth (source.now.first + k))
-        (spec.bar_lines source.now.text (span.entry.start.line - source.now.first) (span.entry.end.line - source.now.first))) }
+        (spec.bar_lines source.now.text (span.entry.start.line - source.now.first)
+        (span.entry.end.line - source.now.first))) }
 {
     let first = span.start.line - source.line_start();
     let last = span.end.line - source.line_start();

@@ -13,10 +13,12 @@ use Rattle.snippet_splice.proofs.TrimLemmas.{sandwich-sandwiched}
 -- a part is the part up to a place in it and the part from there on
 pub slice_split : (s : List ℕ) (a b c : ℕ) → a ≤ b → b ≤ c → slice_range s a c ≡ slice_range s a b ++ slice_range s b c
 slice_split s a b c low high =
-    let rest : take (c - a) (drop a s) ≡ take (b - a) (take (c - a) (drop a s)) ++ drop (b - a) (take (c - a) (drop a s)) = sym (take-append-drop (b - a) (take (c - a) (drop a s))) in
+    let rest : take (c - a) (drop a s) ≡ take (b - a) (take (c - a) (drop a s))
+    ++ drop (b - a) (take (c - a) (drop a s)) = sym (take-append-drop (b - a) (take (c - a) (drop a s))) in
     let front : take (b - a) (take (c - a) (drop a s)) ≡ slice_range s a b = take-take (b - a) (c - a) (drop a s) (omega arith) in
     let n : c - a ≡ (b - a) + (c - b) = omega arith in
-    let back : drop (b - a) (take (c - a) (drop a s)) ≡ slice_range s b c = ap (λ k. drop (b - a) (take k (drop a s))) n ∙ drop-take (b - a) (c - b) (drop a s) ∙ ap (take (c - b)) (drop-drop (b - a) a s ∙ ap (λ k. drop k s) (omega arith)) in
+    let back : drop (b - a) (take (c - a) (drop a s)) ≡ slice_range s b c = ap (λ k. drop (b - a) (take k (drop a s))) n ∙ drop-take (b - a) (c - b) (drop a s)
+    ∙ ap (take (c - b)) (drop-drop (b - a) a s ∙ ap (λ k. drop k s) (omega arith)) in
     rest ∙ ap (λ l. l ++ drop (b - a) (take (c - a) (drop a s))) front ∙ ap (λ l. slice_range s a b ++ l) back
 
 -- the rest of a list is the part up to a place and the rest from there on
@@ -54,14 +56,17 @@ shrunk-by source e a m b ordered within h =
     let o : List ℕ = slice_range source e.start e.end in
     let size : length o ≡ e.end - e.start = length-take-le (e.end - e.start) (drop e.start source) (omega (arith, length-drop e.start source)) in
     let parts : a + b ≡ e.end - e.start = h.parts ∙ size in
-    let before : take a o ≡ slice_range source e.start (e.start + a) = take-take a (e.end - e.start) (drop e.start source) (omega arith) ∙ ap (λ k. take k (drop e.start source)) (omega arith) in
+    let before : take a o ≡ slice_range source e.start (e.start + a) = take-take a (e.end - e.start) (drop e.start source) (omega arith)
+    ∙ ap (λ k. take k (drop e.start source)) (omega arith) in
     let n : e.end - e.start ≡ a + b = sym parts in
-    let back : drop a o ≡ slice_range source (e.end - b) e.end = ap (λ k. drop a (take k (drop e.start source))) n ∙ drop-take a b (drop e.start source) ∙ ap (take b) (drop-drop a e.start source ∙ ap (λ k. drop k source) (omega arith)) ∙ ap (λ k. take k (drop (e.end - b) source)) (omega arith) in
+    let back : drop a o ≡ slice_range source (e.end - b) e.end = ap (λ k. drop a (take k (drop e.start source))) n ∙ drop-take a b (drop e.start source)
+    ∙ ap (take b) (drop-drop a e.start source ∙ ap (λ k. drop k source) (omega arith)) ∙ ap (λ k. take k (drop (e.end - b) source)) (omega arith) in
     record {
       start = omega arith;
       ordered = omega arith;
       end = omega arith;
-      text = h.whole ∙ append_assoc (take a o) m (drop a o) ∙ ap (λ l. l ++ (m ++ drop a o)) before ∙ ap (λ l. slice_range source e.start (e.start + a) ++ (m ++ l)) back;
+      text = h.whole ∙ append_assoc (take a o) m (drop a o) ∙ ap (λ l. l ++ (m ++ drop a o)) before
+          ∙ ap (λ l. slice_range source e.start (e.start + a) ++ (m ++ l)) back;
     }
 
 -- a trimmed edit is the edit made smaller, where that doesn't end before it starts
@@ -69,7 +74,8 @@ pub trimmed_edit-shrunk : (source : List ℕ) (e : Edit) → e.start ≤ e.end �
 unfolding trimmed_edit
 trimmed_edit-shrunk source e ordered =
     cond_both (ltb 0 (length e.text) && leb e.end (length source)) (shrunk e (sandwich (slice_range source e.start e.end) e.text)) e (IsShrunk source e)
-    (λ t. kept (sandwich (slice_range source e.start e.end) e.text) (leb-true e.end (length source) (and_parts (ltb 0 (length e.text)) (leb e.end (length source)) t).1) refl)
+    (λ t. kept (sandwich (slice_range source e.start e.end) e.text)
+    (leb-true e.end (length source) (and_parts (ltb 0 (length e.text)) (leb e.end (length source)) t).1) refl)
     (λ f. unchanged source e ordered)
   where
     kept : (r : Option (ℕ × List ℕ × ℕ)) → e.end ≤ length source → sandwich (slice_range source e.start e.end) e.text ≡ r → IsShrunk source e (shrunk e r)
@@ -84,7 +90,8 @@ pub edited_from-earlier : (source : List ℕ) (a b : ℕ) (es : List Edit) → a
     → edited_from source a es ≡ slice_range source a b ++ edited_from source b es
 edited_from-earlier source a b [] low apart = drop_split source a b low
 edited_from-earlier source a b (e ∷ es) low apart =
-    ap (λ l. l ++ (e.text ++ edited_from source e.end es)) (slice_split source a b e.start low apart.0) ∙ append_assoc (slice_range source a b) (slice_range source b e.start) (e.text ++ edited_from source e.end es)
+    ap (λ l. l ++ (e.text ++ edited_from source e.end es)) (slice_split source a b e.start low apart.0)
+    ∙ append_assoc (slice_range source a b) (slice_range source b e.start) (e.text ++ edited_from source e.end es)
 
 -- edits that stand apart from a place on stand apart from an earlier one on
 pub AreApart-earlier : (a b : ℕ) (es : List Edit) → a ≤ b → AreApart b es → AreApart a es
@@ -95,8 +102,12 @@ AreApart-earlier a b (e ∷ es) low apart = (omega (arith, apart.0), apart.1, ap
 pub trimmed-apart : (source : List ℕ) (at : ℕ) (es : List Edit) → AreApart at es → AreApart at (map (trimmed_edit source) es)
 trimmed-apart source at [] apart = tt
 trimmed-apart source at (e ∷ es) apart =
-    let h : IsShrunk source e (trimmed_edit source e) = trimmed_edit-shrunk source e apart.1 in
-    (omega (arith, h.start, apart.0), h.ordered, AreApart-earlier (trimmed_edit source e).end e.end (map (trimmed_edit source) es) h.end (trimmed-apart source e.end es apart.2))
+    let h : IsShrunk source e (trimmed_edit source e) = trimmed_edit-shrunk source e apart.1 in (
+      omega (arith, h.start, apart.0),
+      h.ordered,
+      AreApart-earlier (trimmed_edit source e).end e.end (map (trimmed_edit source) es) h.end
+          (trimmed-apart source e.end es apart.2),
+    )
 
 -- trimmed edits give what the untrimmed ones do
 pub edited_from-trimmed : (source : List ℕ) (at : ℕ) (es : List Edit) → AreApart at es
@@ -112,7 +123,9 @@ edited_from-trimmed source at (e ∷ es) apart =
     let x : List ℕ = slice_range source at e.start in
     let y : List ℕ = slice_range source e.start t.start in
     let z : List ℕ = slice_range source t.end e.end in
-    ap (λ l. slice_range source at t.start ++ (t.text ++ l)) later ∙ ap (λ l. l ++ (t.text ++ (z ++ rest))) (slice_split source at e.start t.start apart.0 h.start) ∙ regroup x y t.text z rest ∙ ap (λ l. x ++ (l ++ rest)) (sym h.text)
+    ap (λ l. slice_range source at t.start ++ (t.text ++ l)) later ∙ ap (λ l.
+    l ++ (t.text ++ (z ++ rest))) (slice_split source at e.start t.start apart.0 h.start) ∙ regroup x y t.text z rest
+    ∙ ap (λ l. x ++ (l ++ rest)) (sym h.text)
   where
     regroup : (x y m z rest : List ℕ) → (x ++ y) ++ (m ++ (z ++ rest)) ≡ x ++ ((y ++ (m ++ z)) ++ rest)
     regroup x y m z rest = simp append_assoc

@@ -39,7 +39,8 @@ insertion_first : patched (97 ∷ []) (edit 0 1 (98 ∷ []) ∷ edit 0 0 (120 �
 insertion_first = refl
 
 -- trimmed edits keep the order of the untrimmed ones, here 0..3 before 3..3
-untrimmed_order : trimmed_edits (97 ∷ 98 ∷ 99 ∷ []) (edit 3 3 (121 ∷ []) ∷ edit 0 3 (97 ∷ 98 ∷ 99 ∷ 120 ∷ []) ∷ []) ≡ edit 3 3 (120 ∷ []) ∷ edit 3 3 (121 ∷ []) ∷ []
+untrimmed_order : trimmed_edits (97 ∷ 98 ∷ 99 ∷ []) (edit 3 3 (121 ∷ []) ∷ edit 0 3 (97 ∷ 98 ∷ 99 ∷ 120 ∷ []) ∷ [])
+    ≡ edit 3 3 (120 ∷ []) ∷ edit 3 3 (121 ∷ []) ∷ []
 unfolding trimmed_edit sandwich kept_before
 untrimmed_order = refl
 

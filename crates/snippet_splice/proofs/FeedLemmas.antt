@@ -61,7 +61,8 @@ in_text-feeds source b inside =
     let next : at - 1 + 1 ≡ b = omega (arith, low, same) in
     let one : ℕ → ℕ = λ c. cond (is_lf c) 1 0 in
     let none : one (get_or source (at - 1) 0) ≡ 0 = ap one (eqb-true (get_or source (at - 1) 0) 13 cr.1) in
-    let more : feeds (take (at - 1 + 1) source) ≡ feeds (take (at - 1) source) + one (get_or source (at - 1) 0) = sum_by_more one source (at - 1) 0 (omega (arith, high)) in
+    let more : feeds (take (at - 1 + 1) source) ≡ feeds (take (at - 1) source) + one (get_or source (at - 1) 0) = sum_by_more one source (at - 1) 0
+    (omega (arith, high)) in
     omega (arith, ap (λ n. feeds (take n source)) next, more, none))
     (λ _. omega (arith, ap (λ n. feeds (take n source)) same))
 
@@ -71,12 +72,14 @@ start-inside source zero within = omega (arith, start_of-zero (source_lines sour
 start-inside source (suc k) within =
     let next : k + 1 ≡ suc k = omega arith in
     let short : start_of (source_lines source) (k + 1) < length source = start_of-inside source k (omega (arith, within)) in
-    let all : length source ≤ text_end source + 1 = cond_both (eqb (last_byte source) 10) (length source - 1) (length source) (λ n. length source ≤ n + 1) (λ _. omega arith) (λ _. omega arith) in
+    let all : length source ≤ text_end source + 1 = cond_both (eqb (last_byte source) 10) (length source - 1) (length source) (λ n.
+    length source ≤ n + 1) (λ _. omega arith) (λ _. omega arith) in
     omega (arith, ap (start_of (source_lines source)) next, short, all)
 
 shown_start-inside : (fold : Bool) (source : List ℕ) (first : ℕ) → shown_start fold source first ≤ text_end source
 shown_start-inside fold source first =
-    cond_both fold (start_of (source_lines source) (line_of (source_lines source) first)) 0 (λ n. n ≤ text_end source) (λ _. start-inside source (line_of (source_lines source) first) (line_of-within source first)) (λ _. omega arith)
+    cond_both fold (start_of (source_lines source) (line_of (source_lines source) first)) 0 (λ n. n ≤ text_end source) (λ _.
+    start-inside source (line_of (source_lines source) first) (line_of-within source first)) (λ _. omega arith)
 
 -- ---- the LF of the texts of edits
 abbrev pub text_feeds : List Edit → ℕ
@@ -90,8 +93,16 @@ text_feeds-trimmed source at (e ∷ es) apart =
     let h : IsShrunk source e t = trimmed_edit-shrunk source e apart.1 in
     let before : List ℕ = slice_range source e.start t.start in
     let after : List ℕ = slice_range source t.end e.end in
-    let size : feeds e.text ≡ feeds before + (feeds t.text + feeds after) = ap feeds h.text ∙ feeds-append before (t.text ++ after) ∙ ap (λ n. feeds before + n) (feeds-append t.text after) in
-    omega (arith, size, text_feeds-trimmed source e.end es apart.2, sum_by-cons (λ d. feeds d.text) e es, sum_by-cons (λ d. feeds d.text) t (map (trimmed_edit source) es))
+    let size : feeds e.text ≡ feeds before + (feeds t.text + feeds after) = ap feeds h.text ∙ feeds-append before (t.text ++ after)
+    ∙ ap (λ n. feeds before + n) (feeds-append t.text after) in
+    omega (
+      arith,
+      size,
+      text_feeds-trimmed source e.end es apart.2,
+      sum_by-cons (λ d. feeds d.text) e es,
+      sum_by-cons (λ d.
+          feeds d.text) t (map (trimmed_edit source) es),
+    )
 
 -- in order they have as many
 text_feeds-put_in : (e : Edit) (ds : List Edit) → text_feeds (put_in precedes e ds) ≡ feeds e.text + text_feeds ds
@@ -113,10 +124,21 @@ written-feeds : (source : List ℕ) (at : ℕ) (ts : List Edit) → AreApart at 
 written-feeds source at [] apart = omega arith
 written-feeds source at (t ∷ ts) apart =
     let rest : List ℕ = written source t.end ts in
-    let between : feeds (copied source at t.start) ≡ feeds (slice_range source (in_text source at) (in_text source t.start)) = count-with_line_feeds (slice_range source (in_text source at) (in_text source t.start)) in
+    let between : feeds (copied source at t.start) ≡ feeds (slice_range source (in_text source at) (in_text source t.start)) = count-with_line_feeds
+    (slice_range source (in_text source at) (in_text source t.start)) in
     let before = feeds-between source (in_text source at) (in_text source t.start) (in_text-mono source at t.start apart.0) in
     let under = feeds-between source (in_text source t.start) (in_text source t.end) (in_text-mono source t.start t.end apart.1) in
-    omega (arith, between, before, under, written-feeds source t.end ts apart.2, feeds-append (copied source at t.start) (t.text ++ rest), feeds-append t.text rest, sum_by-cons (λ d. feeds d.text) t ts)
+    omega (
+      arith,
+      between,
+      before,
+      under,
+      written-feeds source t.end ts apart.2,
+      feeds-append (copied source at t.start)
+          (t.text ++ rest),
+      feeds-append t.text rest,
+      sum_by-cons (λ d. feeds d.text) t ts,
+    )
 
 -- what is shown of the rest has no more than the rest
 rest-feeds : (fold closed : Bool) (rest : List ℕ) → feeds (shown_rest fold closed rest) ≤ feeds rest
@@ -144,9 +166,23 @@ shown-bound fold source es apart =
     let rest : List ℕ = shown_rest fold (closes_line ts) (drop end source) in
     let zero_less : s - 0 ≡ s = omega arith in
     let before : feeds (take s source) ≡ shown_line fold source es = ap (λ n. feeds (take n source)) (sym zero_less) ∙ feeds-shown fold source es in
-    let to : feeds (take end source) ≡ feeds (take (in_text source end) source) + feeds (slice_range source (in_text source end) end) = feeds-between source (in_text source end) end (in_text-le source end) in
+    let to : feeds (take end source) ≡ feeds (take (in_text source end) source) + feeds (slice_range source (in_text source end) end) = feeds-between source
+    (in_text source end) end (in_text-le source end) in
     let after : feeds (take end source) + feeds (drop end source) ≡ feeds source = feeds-after source end in
     let texts : text_feeds ts ≤ text_feeds es = omega (arith, text_feeds-trimmed source 0 (in_order es) apart, text_feeds-in_order es) in
-    let all : length (lines_of (without_final_line_feeds (w ++ rest))) ≤ feeds w + feeds rest + 1 = omega (arith, lines-feeds (without_final_line_feeds (w ++ rest)), final-feeds (w ++ rest), feeds-append w rest) in
+    let all : length (lines_of (without_final_line_feeds (w ++ rest))) ≤ feeds w + feeds rest + 1 = omega
+    (arith, lines-feeds (without_final_line_feeds (w ++ rest)), final-feeds (w ++ rest), feeds-append w rest) in
     let from : feeds (take s source) ≤ feeds (take (in_text source s) source) = in_text-feeds source s (shown_start-inside fold source first) in
-    omega (arith, before, from, written-feeds source s ts (shown-apart fold source es apart), to, after, texts, all, rest-feeds fold (closes_line ts) (drop end source), feeds-source source)
+    omega (
+      arith,
+      before,
+      from,
+      written-feeds source s ts (shown-apart fold source es apart),
+      to,
+      after,
+      texts,
+      all,
+      rest-feeds fold (closes_line ts)
+          (drop end source),
+      feeds-source source,
+    )

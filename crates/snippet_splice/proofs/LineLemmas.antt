@@ -36,8 +36,11 @@ texts-lines_of : (xs : List ℕ) → HasNoCr xs → texts_of (lines_of xs) ≡ t
 texts-lines_of [] none = refl
 texts-lines_of (b ∷ bs) none =
     let more : texts_of (lines_of bs) ≡ texts bs = texts-lines_of bs (All-tail (λ c. c ≢ 13) b bs none) in
-    ⊎_elim (λ t. ap texts_of (cond-true {A = List Line} (eqb b 10) (([], Lf) ∷ lines_of bs) (with_first_byte b (lines_of bs)) t) ∙ ap (λ ts. [] ∷ ts) more ∙ sym (cond-true (is_lf b) ([] ∷ texts bs) (in_first b (texts bs)) t))
-    (λ f. ap texts_of (cond-false {A = List Line} (eqb b 10) (([], Lf) ∷ lines_of bs) (with_first_byte b (lines_of bs)) f) ∙ first-texts b (lines_of bs) (none 0 0 (omega arith)) ∙ ap (in_first b) more ∙ sym (cond-false (is_lf b) ([] ∷ texts bs) (in_first b (texts bs)) f)) (cases_Bool (eqb b 10))
+    ⊎_elim (λ t. ap texts_of (cond-true {A = List Line} (eqb b 10) (([], Lf) ∷ lines_of bs) (with_first_byte b (lines_of bs)) t) ∙ ap (λ ts. [] ∷ ts) more
+    ∙ sym (cond-true (is_lf b) ([] ∷ texts bs) (in_first b (texts bs)) t))
+    (λ f. ap texts_of (cond-false {A = List Line} (eqb b 10) (([], Lf) ∷ lines_of bs) (with_first_byte b (lines_of bs)) f)
+    ∙ first-texts b (lines_of bs) (none 0 0 (omega arith)) ∙ ap (in_first b) more ∙ sym (cond-false (is_lf b) ([] ∷ texts bs) (in_first b (texts bs)) f))
+    (cases_Bool (eqb b 10))
 
 in_first-append : (b : ℕ) (xs ys : List (List ℕ)) → xs ≢ [] → in_first b (xs ++ ys) ≡ in_first b xs ++ ys
 in_first-append b [] ys some = absurd (some refl)
@@ -56,13 +59,16 @@ texts-some b bs = λ e. ⊎_elim
 texts-stop : (b : ℕ) (w y : List ℕ) → last_byte (b ∷ w) ≢ 10 → texts ((b ∷ w) ++ 10 ∷ y) ≡ texts (b ∷ w) ++ texts y
 texts-stop b [] y unclosed =
     let other : is_lf b ≡ false = ne_eqb b 10 unclosed in
-    cond-false (is_lf b) ([] ∷ ([] ∷ texts y)) (in_first b ([] ∷ texts y)) other ∙ ap (λ ts. ts ++ texts y) (sym (cond-false (is_lf b) ([] ∷ []) (in_first b []) other))
+    cond-false (is_lf b) ([] ∷ ([] ∷ texts y)) (in_first b ([] ∷ texts y)) other
+    ∙ ap (λ ts. ts ++ texts y) (sym (cond-false (is_lf b) ([] ∷ []) (in_first b []) other))
 texts-stop b (c ∷ w) y unclosed =
     let more : texts ((c ∷ w) ++ 10 ∷ y) ≡ texts (c ∷ w) ++ texts y = texts-stop c w y (λ e. unclosed (last_byte-cons b c w ∙ e)) in
     let joint : List (List ℕ) = texts (c ∷ w) ++ texts y in
     ap (λ ts. cond (is_lf b) ([] ∷ ts) (in_first b ts)) more ∙ ⊎_elim
-    (λ t. cond-true (is_lf b) ([] ∷ joint) (in_first b joint) t ∙ ap (λ ts. ts ++ texts y) (sym (cond-true (is_lf b) ([] ∷ texts (c ∷ w)) (in_first b (texts (c ∷ w))) t)))
-    (λ f. cond-false (is_lf b) ([] ∷ joint) (in_first b joint) f ∙ in_first-append b (texts (c ∷ w)) (texts y) (texts-some c w) ∙ ap (λ ts. ts ++ texts y) (sym (cond-false (is_lf b) ([] ∷ texts (c ∷ w)) (in_first b (texts (c ∷ w))) f))) (cases_Bool (is_lf b))
+    (λ t. cond-true (is_lf b) ([] ∷ joint) (in_first b joint) t ∙ ap (λ ts.
+    ts ++ texts y) (sym (cond-true (is_lf b) ([] ∷ texts (c ∷ w)) (in_first b (texts (c ∷ w))) t)))
+    (λ f. cond-false (is_lf b) ([] ∷ joint) (in_first b joint) f ∙ in_first-append b (texts (c ∷ w)) (texts y) (texts-some c w)
+    ∙ ap (λ ts. ts ++ texts y) (sym (cond-false (is_lf b) ([] ∷ texts (c ∷ w)) (in_first b (texts (c ∷ w))) f))) (cases_Bool (is_lf b))
 
 -- ---- a text without the LF that end it
 
@@ -85,7 +91,8 @@ Shortens-cons b bs [] h =
           All-cons (λ c. c ≡ 10) b bs (eqb-true b 10 t) (All-same (λ c. c ≡ 10) bs h.tail h.whole h.feeds);
       unclosed = inl refl;
     }))
-    (λ f. subst (Shortens (b ∷ bs)) (sym (cond-false (is_lf b) [] (b ∷ []) f)) (record { tail = h.tail; whole = ap (λ l. b ∷ l) h.whole; stops = h.stops; feeds = h.feeds; unclosed = inr (eqb-false b 10 f) })) (cases_Bool (is_lf b))
+    (λ f. subst (Shortens (b ∷ bs)) (sym (cond-false (is_lf b) [] (b ∷ []) f))
+    (record { tail = h.tail; whole = ap (λ l. b ∷ l) h.whole; stops = h.stops; feeds = h.feeds; unclosed = inr (eqb-false b 10 f) })) (cases_Bool (is_lf b))
 Shortens-cons b bs (c ∷ cs) h = record {
   tail = h.tail;
   whole = ap (λ l. b ∷ l) h.whole;
@@ -107,7 +114,8 @@ after-shown part ws rest h stops =
     (λ none. ⊎_elim
     (λ stop. (rest, joint ∙ ap (λ l. ws ++ (l ++ rest)) none, stop))
     (λ closed. let same : part ≡ ws = h.whole ∙ ap (λ l. ws ++ l) none ∙ append-nil ws in
-    absurd (⊎_elim (λ nil. let e : last_byte [] ≡ 10 = ap last_byte (sym (same ∙ nil)) ∙ closed in cc) (λ other. other (ap last_byte (sym same) ∙ closed)) h.unclosed)) stops)
+    absurd (⊎_elim (λ nil. let e : last_byte [] ≡ 10 = ap last_byte (sym (same ∙ nil)) ∙ closed in cc) (λ other.
+    other (ap last_byte (sym same) ∙ closed)) h.unclosed)) stops)
     (λ (y, e). (h.tail ++ rest, joint, inr (y ++ rest, ap (λ l. l ++ rest) e))) h.stops
 
 texts-front : (ws z : List ℕ) → Stops z → (ws ≡ []) ⊎ (last_byte ws ≢ 10) → (ts : List (List ℕ)) × (texts (ws ++ z) ≡ texts ws ++ ts)
@@ -156,7 +164,11 @@ lines-front source k within =
     subst (λ f. IsLinesFront f k) (sym (front-lines source k)) (⊎_elim
     (λ one. let e : k ≡ 0 = omega (arith, ap length one) in
     subst (λ n. IsLinesFront (joined (take n ls)) n) (sym e) (record { closed = λ some. absurd (omega arith); count = refl }))
-    (λ (some, are). record { closed = closed-joined ls k are within; count = ap length (lines_of-joined (take k ls) (AreLines-take ls k are)) ∙ length-take-le k ls (omega arith) })
+    (λ (some, are). record {
+      closed = closed-joined ls k are within;
+      count = ap length (lines_of-joined (take k ls) (AreLines-take ls k are))
+          ∙ length-take-le k ls (omega arith);
+    })
     (AreLinesOf-source_lines source).lines)
 
 -- what stands before the shown part is whole lines
@@ -189,7 +201,8 @@ edited_from-no_cr source at (e ∷ es) none texts =
 All-in_order : (es : List Edit) → All (λ e. HasNoCr e.text) es → All (λ e. HasNoCr e.text) (in_order es)
 All-in_order [] all = all
 All-in_order (e ∷ es) all =
-    All-put_in precedes (λ e. HasNoCr e.text) e (in_order es) (All-head (λ e. HasNoCr e.text) e es all) (All-in_order es (All-tail (λ e. HasNoCr e.text) e es all))
+    All-put_in precedes (λ e. HasNoCr e.text) e (in_order es) (All-head (λ e. HasNoCr e.text) e es all)
+    (All-in_order es (All-tail (λ e. HasNoCr e.text) e es all))
 
 -- ---- the lines that are shown
 
@@ -226,8 +239,10 @@ shown-lines fold source es none texts_none h =
     let (z, joint, stops) = after-shown h.part ws h.rest short h.stops in
     let clean_ws : HasNoCr ws = HasNoCr-left ws z (subst HasNoCr joint clean_back) in
     let (more, cut) = texts-front ws z stops short.unclosed in
-    let front : IsLinesFront h.front (shown_line fold source es) = subst (λ f. IsLinesFront f (shown_line fold source es)) (sym h.before) (shown-front fold source es) in
-    let back : texts_of (lines_of (h.part ++ h.rest)) ≡ texts_of (lines_of ws) ++ more = texts-lines_of (h.part ++ h.rest) clean_back ∙ ap texts joint ∙ cut ∙ ap (λ ts. ts ++ more) (sym (texts-lines_of ws clean_ws)) in
+    let front : IsLinesFront h.front (shown_line fold source es) = subst (λ f.
+    IsLinesFront f (shown_line fold source es)) (sym h.before) (shown-front fold source es) in
+    let back : texts_of (lines_of (h.part ++ h.rest)) ≡ texts_of (lines_of ws) ++ more = texts-lines_of (h.part ++ h.rest) clean_back ∙ ap texts joint ∙ cut
+    ∙ ap (λ ts. ts ++ more) (sym (texts-lines_of ws clean_ws)) in
     let all : texts_of (lines_of d) ≡ texts_of (lines_of h.front) ++ (texts_of (lines_of ws) ++ more) =
     ap (λ t. texts_of (lines_of t)) h.whole ∙ ap texts_of (lines_of-append h.front (h.part ++ h.rest) front.closed)
     ∙ map-append (λ l. l.0) (lines_of h.front) (lines_of (h.part ++ h.rest)) ∙ ap (λ ts. texts_of (lines_of h.front) ++ ts) back in

@@ -45,13 +45,15 @@ far es steps ordered m zero within =
     subst (λ n. (get_or es m no_edit).end ≤ (get_or es n no_edit).start) (sym e) (steps m (omega arith))
 far es steps ordered m (suc d) within =
     let e : m + d + 1 + 1 ≡ m + suc d + 1 = omega arith in
-    subst (λ n. (get_or es m no_edit).end ≤ (get_or es n no_edit).start) e (omega (arith, far es steps ordered m d (omega arith), ordered (m + d + 1) (omega arith), steps (m + d + 1) (omega arith)))
+    subst (λ n. (get_or es m no_edit).end ≤ (get_or es n no_edit).start) e
+    (omega (arith, far es steps ordered m d (omega arith), ordered (m + d + 1) (omega arith), steps (m + d + 1) (omega arith)))
 
 disjoint-in_order : (es : List Edit) → ((k : ℕ) → k + 1 < length es → (get_or es k no_edit).end ≤ (get_or es (k + 1) no_edit).start)
     → ((k : ℕ) → k < length es → (get_or es k no_edit).start ≤ (get_or es k no_edit).end) → AreDisjoint es
 disjoint-in_order es steps ordered m n low high =
     let e : m + (n - m - 1) + 1 ≡ n = omega arith in
-    overlap-after (get_or es m no_edit) (get_or es n no_edit) (ordered m (omega arith)) (ordered n high) (subst (λ k. (get_or es m no_edit).end ≤ (get_or es k no_edit).start) e (far es steps ordered m (n - m - 1) (omega arith)))
+    overlap-after (get_or es m no_edit) (get_or es n no_edit) (ordered m (omega arith)) (ordered n high)
+    (subst (λ k. (get_or es m no_edit).end ≤ (get_or es k no_edit).start) e (far es steps ordered m (n - m - 1) (omega arith)))
 
 -- patches of which each ends at the start of the next or before it don't overlap
 pub disjoint-apart : (source : List ℕ) (ps : List Patch) → All (λ p. IsSpan source p.span.start p.span.end) ps
@@ -72,7 +74,8 @@ put-apart at e (d ∷ ds) low ordered apart clear =
     let here : ClearOf e d = clear 0 d (omega arith) in
     ⊎_elim
     (λ t. let after : d.end ≤ e.start = ltb-false e.start d.end (sym (cond-true (precedes d e) (ltb e.start d.end) (ltb d.start e.end) t) ∙ here) in
-    subst (AreApart at) (sym (cond-true (precedes d e) (d ∷ put_in precedes e ds) (e ∷ d ∷ ds) t)) (apart.0, apart.1, put-apart d.end e ds after ordered apart.2 (λ k x within. clear (suc k) x (omega arith))))
+    subst (AreApart at) (sym (cond-true (precedes d e) (d ∷ put_in precedes e ds) (e ∷ d ∷ ds) t))
+    (apart.0, apart.1, put-apart d.end e ds after ordered apart.2 (λ k x within. clear (suc k) x (omega arith))))
     (λ f. let before : e.end ≤ d.start = ltb-false d.start e.end (sym (cond-false (precedes d e) (ltb e.start d.end) (ltb d.start e.end) f) ∙ here) in
     subst (AreApart at) (sym (cond-false (precedes d e) (d ∷ put_in precedes e ds) (e ∷ d ∷ ds) f)) (low, ordered, (before, apart.1, apart.2)))
     (cases_Bool (precedes d e))
@@ -81,14 +84,18 @@ put-apart at e (d ∷ ds) low ordered apart clear =
 pub apart-in_order : (es : List Edit) → All (λ e. e.start ≤ e.end) es → AreDisjoint es → AreApart 0 (in_order es)
 apart-in_order [] ordered disjoint = tt
 apart-in_order (e ∷ es) ordered disjoint =
-    let rest : AreApart 0 (in_order es) = apart-in_order es (λ k d within. ordered (suc k) d (omega arith)) (λ m n low high. disjoint (suc m) (suc n) (omega arith) (omega arith)) in
-    put-apart 0 e (in_order es) (omega arith) (ordered 0 e (omega arith)) rest (clear-in_order es (All-from_get_or (ClearOf e) es no_edit (λ k within. disjoint 0 (suc k) (omega arith) (omega arith))))
+    let rest : AreApart 0 (in_order es) = apart-in_order es (λ k d within. ordered (suc k) d (omega arith)) (λ m n low high.
+    disjoint (suc m) (suc n) (omega arith) (omega arith)) in
+    put-apart 0 e (in_order es) (omega arith) (ordered 0 e (omega arith)) rest
+    (clear-in_order es (All-from_get_or (ClearOf e) es no_edit (λ k within. disjoint 0 (suc k) (omega arith) (omega arith))))
   where
     clear-put : (d : Edit) (ds : List Edit) → ClearOf e d → All (ClearOf e) ds → All (ClearOf e) (put_in precedes d ds)
     clear-put d [] here all = All-cons (ClearOf e) d [] here all
     clear-put d (c ∷ ds) here all =
-        ⊎_elim (λ t. subst (All (ClearOf e)) (sym (cond-true (precedes c d) (c ∷ put_in precedes d ds) (d ∷ c ∷ ds) t)) (All-cons (ClearOf e) c (put_in precedes d ds) (All-head (ClearOf e) c ds all) (clear-put d ds here (All-tail (ClearOf e) c ds all))))
-        (λ f. subst (All (ClearOf e)) (sym (cond-false (precedes c d) (c ∷ put_in precedes d ds) (d ∷ c ∷ ds) f)) (All-cons (ClearOf e) d (c ∷ ds) here all)) (cases_Bool (precedes c d))
+        ⊎_elim (λ t. subst (All (ClearOf e)) (sym (cond-true (precedes c d) (c ∷ put_in precedes d ds) (d ∷ c ∷ ds) t))
+        (All-cons (ClearOf e) c (put_in precedes d ds) (All-head (ClearOf e) c ds all) (clear-put d ds here (All-tail (ClearOf e) c ds all))))
+        (λ f. subst (All (ClearOf e)) (sym (cond-false (precedes c d) (c ∷ put_in precedes d ds) (d ∷ c ∷ ds) f)) (All-cons (ClearOf e) d (c ∷ ds) here all))
+        (cases_Bool (precedes c d))
 
     clear-in_order : (ds : List Edit) → All (ClearOf e) ds → All (ClearOf e) (in_order ds)
     clear-in_order [] all = all
@@ -114,7 +121,8 @@ position-found test i (e ∷ es) zero within passes before =
     cond-true (test e) (Some i) (position_from test (i + 1) es) passes ∙ ap (λ n. Some n) same
 position-found test i (e ∷ es) (suc k) within passes before =
     let same : i + 1 + k ≡ i + suc k = omega arith in
-    cond-false (test e) (Some i) (position_from test (i + 1) es) (before 0 (omega arith)) ∙ position-found test (i + 1) es k (omega arith) passes (λ j low. before (suc j) (omega arith)) ∙ ap (λ n. Some n) same
+    cond-false (test e) (Some i) (position_from test (i + 1) es) (before 0 (omega arith))
+    ∙ position-found test (i + 1) es k (omega arith) passes (λ j low. before (suc j) (omega arith)) ∙ ap (λ n. Some n) same
 
 position-none : (test : Edit → Bool) (i : ℕ) (es : List Edit) → ((j : ℕ) → j < length es → test (get_or es j no_edit) ≡ false) → position_from test i es ≡ None
 position-none test i [] none = refl
@@ -144,18 +152,35 @@ overlap_from-some : (n : ℕ) (es : List Edit) (a b : ℕ) → IsFirstOverlap es
 overlap_from-some n [] a b first = absurd (omega (arith, first.is.within))
 overlap_from-some n (e ∷ es) a zero first = absurd (omega (arith, first.is.before))
 overlap_from-some n (e ∷ es) zero (suc b) first =
-    let found : position_from (overlap e) (n + 1) es ≡ Some (n + 1 + b) = position-found (overlap e) (n + 1) es b (omega (arith, first.is.within)) first.is.overlapping
-    (λ j low. false_from_ne_true (overlap e (get_or es j no_edit)) (λ t. absurd (omega (arith, low, first.least_second (suc j) (record { before = omega arith; within = omega (arith, low, first.is.within); overlapping = t }))))) in
-    ap (λ p. option_or (option_map (λ k. (n, k)) p) (first_overlap_from (n + 1) es)) found ∙ same_pair n (n + 1 + b) (n + 0) (n + suc b) (omega arith) (omega arith)
+    let found : position_from (overlap e) (n + 1) es ≡ Some (n + 1 + b) = position-found (overlap e) (n + 1) es b
+    (omega (arith, first.is.within)) first.is.overlapping
+    (λ j low. false_from_ne_true (overlap e (get_or es j no_edit)) (λ t.
+    absurd (omega (
+      arith,
+      low,
+      first.least_second (suc j) (record {
+        before = omega arith;
+        within = omega
+            (arith, low, first.is.within);
+        overlapping = t;
+      }),
+    )))) in
+    ap (λ p. option_or (option_map (λ k. (n, k)) p) (first_overlap_from (n + 1) es)) found
+    ∙ same_pair n (n + 1 + b) (n + 0) (n + suc b) (omega arith) (omega arith)
 overlap_from-some n (e ∷ es) (suc a) (suc b) first =
     let none : position_from (overlap e) (n + 1) es ≡ None = position-none (overlap e) (n + 1) es
-    (λ j low. false_from_ne_true (overlap e (get_or es j no_edit)) (λ t. absurd (omega (arith, first.least_first 0 (suc j) (record { before = omega arith; within = omega (arith, low); overlapping = t }))))) in
-    ap (λ p. option_or (option_map (λ k. (n, k)) p) (first_overlap_from (n + 1) es)) none ∙ overlap_from-some (n + 1) es a b (first_overlap-tail e es a b first) ∙ same_pair (n + 1 + a) (n + 1 + b) (n + suc a) (n + suc b) (omega arith) (omega arith)
+    (λ j low. false_from_ne_true (overlap e (get_or es j no_edit)) (λ t.
+    absurd (omega (arith, first.least_first 0 (suc j) (record { before = omega arith; within = omega (arith, low); overlapping = t }))))) in
+    ap (λ p. option_or (option_map (λ k. (n, k)) p) (first_overlap_from (n + 1) es)) none
+    ∙ overlap_from-some (n + 1) es a b (first_overlap-tail e es a b first)
+    ∙ same_pair (n + 1 + a) (n + 1 + b) (n + suc a) (n + suc b) (omega arith) (omega arith)
 
 overlap_from-none : (n : ℕ) (es : List Edit) → AreDisjoint es → first_overlap_from n es ≡ None
 overlap_from-none n [] disjoint = refl
 overlap_from-none n (e ∷ es) disjoint =
-    ap (λ p. option_or (option_map (λ k. (n, k)) p) (first_overlap_from (n + 1) es)) (position-none (overlap e) (n + 1) es (λ j low. disjoint 0 (suc j) (omega arith) (omega arith))) ∙ overlap_from-none (n + 1) es (λ a b low high. disjoint (suc a) (suc b) (omega arith) (omega arith))
+    ap (λ p. option_or (option_map (λ k. (n, k)) p) (first_overlap_from (n + 1) es))
+    (position-none (overlap e) (n + 1) es (λ j low. disjoint 0 (suc j) (omega arith) (omega arith)))
+    ∙ overlap_from-none (n + 1) es (λ a b low high. disjoint (suc a) (suc b) (omega arith) (omega arith))
 
 first_overlap-some : (es : List Edit) (a b : ℕ) → IsFirstOverlap es a b → first_overlap es ≡ Some (a, b)
 unfolding first_overlap

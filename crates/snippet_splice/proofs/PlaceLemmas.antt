@@ -54,7 +54,8 @@ between_more source from at to low high =
 pub utf8_more : (source part : List ℕ) (from at to : ℕ) → from ≤ at → at ≤ to → part ≡ between source at to → IsUtf8 (between source from at) → IsUtf8 part
     → IsUtf8 (between source from to)
 utf8_more source part from at to low high is front utf8 =
-    subst IsUtf8 (ap (λ t. between source from at ++ t) is ∙ sym (between_more source from at to low high)) (IsUtf8-append (between source from at) part front utf8)
+    subst IsUtf8 (ap (λ t. between source from at ++ t) is ∙ sym (between_more source from at to low high))
+    (IsUtf8-append (between source from at) part front utf8)
 
 -- counting goes on over a part: from the characters of a text's last line to those of the last line of both
 abbrev pub CountsOn : List ℕ → ℕ → ℕ → Type 0
@@ -65,20 +66,23 @@ CountsOn part before after =
 pub counted_more : (source part : List ℕ) (from at to before after : ℕ) → from ≤ at → at ≤ to → part ≡ between source at to → IsUtf8 (between source from at)
     → before ≡ characters_before source from at → CountsOn part before after → after ≡ characters_before source from to
 counted_more source part from at to before after low high is front counted counts =
-    counts (between source from at) front counted ∙ ap (λ t. capped (length (chars (after_last_lf t)))) (ap (λ t. between source from at ++ t) is ∙ sym (between_more source from at to low high))
+    counts (between source from at) front counted ∙ ap (λ t. capped (length (chars (after_last_lf t))))
+    (ap (λ t. between source from at ++ t) is ∙ sym (between_more source from at to low high))
 
 -- where an edit stands
 pub extent_is : (x : Extent) (feeds before start end : ℕ) (under : List ℕ) → feeds ≡ x.feeds → before ≡ x.before → start ≡ x.start → end ≡ x.end
     → under ≡ x.under → record { feeds = feeds; before = before; start = start; end = end; under = under; text = x.text } ≡ x
 extent_is x feeds before start end under f b s e u =
     let of : ℕ → ℕ → ℕ → ℕ → List ℕ → Extent = λ n m i j t. record { feeds = n; before = m; start = i; end = j; under = t; text = x.text } in
-    ap (λ n. of n before start end under) f ∙ ap (λ n. of x.feeds n start end under) b ∙ ap (λ n. of x.feeds x.before n end under) s ∙ ap (λ n. of x.feeds x.before x.start n under) e ∙ ap (of x.feeds x.before x.start x.end) u
+    ap (λ n. of n before start end under) f ∙ ap (λ n. of x.feeds n start end under) b ∙ ap (λ n. of x.feeds x.before n end under) s
+    ∙ ap (λ n. of x.feeds x.before x.start n under) e ∙ ap (of x.feeds x.before x.start x.end) u
 
 -- one more place, and those that are left
 pub places_more : (x : Extent) (left : List Extent) (places now : List PatchExtent) (place : PatchExtent) (all : List Extent) → now ≡ places ++ place ∷ []
     → extent_of place ≡ x → map extent_of places ++ (x ∷ left) ≡ all → map extent_of now ++ left ≡ all
 places_more x left places now place all pushed is whole =
-    ap (λ ps. map extent_of ps ++ left) pushed ∙ ap (λ xs. xs ++ left) (map-append extent_of places (place ∷ [])) ∙ append_assoc (map extent_of places) (extent_of place ∷ []) left ∙ ap (λ y. map extent_of places ++ (y ∷ left)) is ∙ whole
+    ap (λ ps. map extent_of ps ++ left) pushed ∙ ap (λ xs. xs ++ left) (map-append extent_of places (place ∷ []))
+    ∙ append_assoc (map extent_of places) (extent_of place ∷ []) left ∙ ap (λ y. map extent_of places ++ (y ∷ left)) is ∙ whole
 
 -- so the stretches are those of the edits
 pub stretches_are : (fold : Bool) (source : List ℕ) (es ts : List Edit) (from k : ℕ) (xs : List Extent)
@@ -86,7 +90,8 @@ pub stretches_are : (fold : Bool) (source : List ℕ) (es ts : List Edit) (from 
     → stretches_on k 0 0 0 xs ≡ new_stretches fold source es k
 unfolding new_stretches
 stretches_are fold source es ts from k xs starts edits is =
-    ap (stretches_on k 0 0 0) (is ∙ ap (λ n. extents_from source n n ts) starts ∙ ap (extents_from source (shown_start fold source (first_start (in_order es))) (shown_start fold source (first_start (in_order es)))) edits)
+    ap (stretches_on k 0 0 0) (is ∙ ap (λ n. extents_from source n n ts) starts
+    ∙ ap (extents_from source (shown_start fold source (first_start (in_order es))) (shown_start fold source (first_start (in_order es)))) edits)
 
 -- the stretches that are replaced on a line are those of the edits' extents
 pub replaced_are : (fold : Bool) (source : List ℕ) (es ts : List Edit) (from k : ℕ) (xs : List Extent)
@@ -94,4 +99,5 @@ pub replaced_are : (fold : Bool) (source : List ℕ) (es ts : List Edit) (from k
     → replaced_on k 0 xs ≡ replaced_stretches fold source es k
 unfolding replaced_stretches
 replaced_are fold source es ts from k xs starts edits is =
-    ap (replaced_on k 0) (is ∙ ap (λ n. extents_from source n n ts) starts ∙ ap (extents_from source (shown_start fold source (first_start (in_order es))) (shown_start fold source (first_start (in_order es)))) edits)
+    ap (replaced_on k 0) (is ∙ ap (λ n. extents_from source n n ts) starts
+    ∙ ap (extents_from source (shown_start fold source (first_start (in_order es))) (shown_start fold source (first_start (in_order es)))) edits)

@@ -61,7 +61,8 @@ pub front-lines : (source : List ℕ) (k : ℕ) → take (start_of (source_lines
 unfolding start_of
 front-lines source k =
     let ls : List Line = source_lines source in
-    let whole : source ≡ joined (take k ls) ++ joined (drop k ls) = sym (joined-source_lines source) ∙ ap joined (sym (take-append-drop k ls)) ∙ flat_map-append line_bytes (take k ls) (drop k ls) in
+    let whole : source ≡ joined (take k ls) ++ joined (drop k ls) = sym (joined-source_lines source) ∙ ap joined (sym (take-append-drop k ls))
+    ∙ flat_map-append line_bytes (take k ls) (drop k ls) in
     ap (take (length (joined (take k ls)))) whole ∙ take_at (joined (take k ls)) (joined (drop k ls)) (length (joined (take k ls))) refl
 
 -- as many line feeds stand before a line as lines do
@@ -100,11 +101,18 @@ ranges-stands source d front at now count (t ∷ ts) none before apart whole siz
     let parts2 : d ≡ ((front ++ between) ++ t.text) ++ rest = parts ∙ sym (append_assoc (front ++ between) t.text rest) in
     let size1 : length (front ++ between) ≡ from = omega (arith, length-append front between, size) in
     let size2 : length ((front ++ between) ++ t.text) ≡ to = omega (arith, length-append (front ++ between) t.text, size1) in
-    let begins : feeds (take from d) ≡ first = ap feeds (ap (take from) parts ∙ take_at (front ++ between) (t.text ++ rest) from size1) ∙ feeds-append front between ∙ omega (arith, counted, ap feeds here) in
-    let ends : feeds (take to d) ≡ last = ap feeds (ap (take to) parts2 ∙ take_at ((front ++ between) ++ t.text) rest to size2) ∙ feeds-append (front ++ between) t.text ∙ omega (arith, feeds-append front between, counted, ap feeds here) in
-    let counted2 : last ≡ feeds ((front ++ between) ++ t.text) = sym (feeds-append (front ++ between) t.text ∙ omega (arith, feeds-append front between, counted, ap feeds here)) in
-    let more : map (lines_of_stand d) (stands_from source t.end to ts) ≡ written_ranges source last t.end ts = ranges-stands source d ((front ++ between) ++ t.text) t.end to last ts none (All-tail (λ t. IsBeforeFinalLf source t.start) t ts before) apart.2 parts2 (sym size2) counted2 in
-    ap (λ n. record { first = n; last = feeds (take to d) } ∷ map (lines_of_stand d) (stands_from source t.end to ts)) begins ∙ ap (λ n. record { first = first; last = n } ∷ map (lines_of_stand d) (stands_from source t.end to ts)) ends ∙ ap (λ rs. record { first = first; last = last } ∷ rs) more
+    let begins : feeds (take from d) ≡ first = ap feeds (ap (take from) parts ∙ take_at (front ++ between) (t.text ++ rest) from size1)
+    ∙ feeds-append front between ∙ omega (arith, counted, ap feeds here) in
+    let ends : feeds (take to d) ≡ last = ap feeds (ap (take to) parts2 ∙ take_at ((front ++ between) ++ t.text) rest to size2)
+    ∙ feeds-append (front ++ between) t.text ∙ omega (arith, feeds-append front between, counted, ap feeds here) in
+    let counted2 : last ≡ feeds ((front ++ between) ++ t.text) = sym
+    (feeds-append (front ++ between) t.text ∙ omega (arith, feeds-append front between, counted, ap feeds here)) in
+    let more : map (lines_of_stand d) (stands_from source t.end to ts)
+    ≡ written_ranges source last t.end ts = ranges-stands source d ((front ++ between) ++ t.text) t.end to last ts none
+    (All-tail (λ t. IsBeforeFinalLf source t.start) t ts before) apart.2 parts2 (sym size2) counted2 in
+    ap (λ n. record { first = n; last = feeds (take to d) } ∷ map (lines_of_stand d) (stands_from source t.end to ts)) begins
+    ∙ ap (λ n. record { first = first; last = n } ∷ map (lines_of_stand d) (stands_from source t.end to ts)) ends
+    ∙ ap (λ rs. record { first = first; last = last } ∷ rs) more
 
 -- ranges counted from a later line on
 ranges-shift : (source : List ℕ) (base n at : ℕ) (ts : List Edit) → ranges_from base (written_ranges source n at ts) ≡ written_ranges source (base + n) at ts
@@ -128,7 +136,8 @@ written-ranges fold source es none before apart =
     let f : List ℕ = slice_range source 0 s in
     let after : AreApart s ts = shown-apart fold source es apart in
     let size : length f ≡ s = front-size fold source (first_start (in_order es)) in
-    let whole : patched source es ≡ f ++ edited_from source s ts = sym (edited_from-trimmed source 0 (in_order es) apart) ∙ edited_from-earlier source 0 s ts (omega arith) after in
+    let whole : patched source es ≡ f ++ edited_from source s ts = sym (edited_from-trimmed source 0 (in_order es) apart)
+    ∙ edited_from-earlier source 0 s ts (omega arith) after in
     let e : shown_line fold source es + 0 ≡ shown_line fold source es = omega arith in
     ranges-shift source (shown_line fold source es) 0 s ts ∙ ap (λ n. written_ranges source n s ts) e
     ∙ sym (ranges-stands source (patched source es) f s s (shown_line fold source es) ts none before after whole (sym size)

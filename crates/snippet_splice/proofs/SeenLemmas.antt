@@ -57,7 +57,8 @@ seen_before a b = pair_lt a.1 a.2 b.1 b.2
 pub sorted-seen : (source : List ℕ) (patches : List Patch) (trimmed sorted : List TrimmedPatch) → AreTrimmed source patches trimmed → IsSortedBy before sorted
     → IsStableBy before trimmed sorted → map seen sorted ≡ map (seen_edit source) (in_order (map edit_of patches))
 sorted-seen source patches trimmed sorted h up stable =
-    let only : sorted ≡ ordered_by before trimmed = sorted-only before (pair-order (λ t. t.original_span.start) (λ t. t.original_span.end)) trimmed sorted up stable in
+    let only : sorted ≡ ordered_by before trimmed = sorted-only before
+    (pair-order (λ t. t.original_span.start) (λ t. t.original_span.end)) trimmed sorted up stable in
     let es : List Edit = map edit_of patches in
     ap (map seen) only ∙ map-ordered_by seen seen_before trimmed ∙ ap (ordered_by seen_before) h.are ∙ sym (map-ordered_by (seen_edit source) seen_before es)
 
@@ -74,7 +75,8 @@ sorted-edits source patches sorted h =
 
 -- trimmed patches that are seen as the edits in order have these edits' bounds
 pub sorted-bounds : (source : List ℕ) (patches : List Patch) (sorted : List TrimmedPatch)
-    → map seen sorted ≡ map (seen_edit source) (in_order (map edit_of patches)) → map original_bounds_of sorted ≡ map edit_bounds (in_order (map edit_of patches))
+    → map seen sorted ≡ map (seen_edit source) (in_order (map edit_of patches)) → map original_bounds_of sorted
+    ≡ map edit_bounds (in_order (map edit_of patches))
 sorted-bounds source patches sorted h =
     let rest : Seen → ℕ × ℕ = λ s. (s.1, s.2) in
     sym (map-map seen rest sorted) ∙ ap (map rest) h ∙ map-map (seen_edit source) rest (in_order (map edit_of patches))

@@ -11,7 +11,8 @@ use Rattle.snippet_lines.specs.Place.{line_of}
 use Rattle.snippet_lines.proofs.PlaceLemmas.{HoldsByte-source}
 use Rattle.snippet_lines.proofs.BoundsLemmas.{IsCharBoundary-start_of}
 use Rattle.snippet_splice.specs.declared.patches.TrimmedPatch.{TrimmedPatch}
-use Rattle.snippet_splice.specs.Edits.{Edit, edit_of, trimmed_edit_of, trimmed_edit, trimmed_edits, in_order, precedes, edit_bounds, original_bounds_of, AreApart}
+use Rattle.snippet_splice.specs.Edits.{Edit, edit_of, trimmed_edit_of, trimmed_edit, trimmed_edits, in_order, precedes, edit_bounds, original_bounds_of}
+use Rattle.snippet_splice.specs.Edits.{AreApart}
 use Rattle.snippet_lines.specs.Order.{put_in}
 use Rattle.snippet_splice.specs.Shown.{first_start, closes_line, shown_start, shown_rest, without_final_line_feeds, shown_text}
 use Rattle.snippet_splice.specs.Copied.{written, end_from}
@@ -59,11 +60,13 @@ first-given (s ∷ ts) (o ∷ os) t same some =
 -- the text that is shown begins where a character does, and by the start of the first edit
 pub shown_start-border : (fold : Bool) (source : List ℕ) (first : ℕ) → IsUtf8 source → IsCharBoundary source (shown_start fold source first)
 shown_start-border fold source first utf8 =
-    cond_both fold (start_of (source_lines source) (line_of (source_lines source) first)) 0 (IsCharBoundary source) (λ _. IsCharBoundary-start_of source (line_of (source_lines source) first) utf8) (λ _. IsCharBoundary-start source utf8)
+    cond_both fold (start_of (source_lines source) (line_of (source_lines source) first)) 0 (IsCharBoundary source) (λ _.
+    IsCharBoundary-start_of source (line_of (source_lines source) first) utf8) (λ _. IsCharBoundary-start source utf8)
 
 pub shown_start-le : (fold : Bool) (source : List ℕ) (first : ℕ) → shown_start fold source first ≤ first
 shown_start-le fold source first =
-    cond_both fold (start_of (source_lines source) (line_of (source_lines source) first)) 0 (λ n. n ≤ first) (λ _. (HoldsByte-source source first).from) (λ _. omega arith)
+    cond_both fold (start_of (source_lines source) (line_of (source_lines source) first)) 0 (λ n. n ≤ first) (λ _. (HoldsByte-source source first).from) (λ _.
+    omega arith)
 
 apart-first : (es : List Edit) → AreApart 0 es → AreApart (first_start es) es
 apart-first [] apart = tt
@@ -74,7 +77,8 @@ pub shown-apart : (fold : Bool) (source : List ℕ) (es : List Edit) → AreApar
     → AreApart (shown_start fold source (first_start (in_order es))) (trimmed_edits source es)
 shown-apart fold source es apart =
     let first : ℕ = first_start (in_order es) in
-    AreApart-earlier (shown_start fold source first) first (trimmed_edits source es) (shown_start-le fold source first) (trimmed-apart source first (in_order es) (apart-first (in_order es) apart))
+    AreApart-earlier (shown_start fold source first) first (trimmed_edits source es) (shown_start-le fold source first)
+    (trimmed-apart source first (in_order es) (apart-first (in_order es) apart))
 
 -- what is written is the text that is shown
 pub shown-value : (fold : Bool) (source : List ℕ) (es ts : List Edit) (first start end : ℕ) (closed : Bool) (text rest : List ℕ)
@@ -89,7 +93,9 @@ shown-value fold source es ts first start end closed text rest of_ts of_first of
     let front : text ≡ written source s0 ts0 = of_text ∙ ap (λ n. written source n ts) begin ∙ ap (written source s0) of_ts in
     let after : end ≡ end_from s0 ts0 = of_end ∙ ap (λ n. end_from n ts) begin ∙ ap (end_from s0) of_ts in
     let left : drop (min end (length source)) source ≡ drop (end_from s0 ts0) source = drop_min end source ∙ ap (λ n. drop n source) after in
-    let back : rest ≡ shown_rest fold (closes_line ts0) (drop (end_from s0 ts0) source) = of_rest ∙ ap (λ b. shown_rest fold b (drop (min end (length source)) source)) (of_closed ∙ ap closes_line of_ts) ∙ ap (shown_rest fold (closes_line ts0)) left in
+    let back : rest ≡ shown_rest fold (closes_line ts0) (drop (end_from s0 ts0) source) = of_rest
+    ∙ ap (λ b. shown_rest fold b (drop (min end (length source)) source)) (of_closed ∙ ap closes_line of_ts)
+    ∙ ap (shown_rest fold (closes_line ts0)) left in
     ap (λ t. without_final_line_feeds (t ++ rest)) front ∙ ap (λ t. without_final_line_feeds (written source s0 ts0 ++ t)) back
 
 -- where a patch was given an edit is left

@@ -29,7 +29,8 @@ no-cr-at source i none =
 in_text-same : (source : List ℕ) (b : ℕ) → HasNoCr source → IsBeforeFinalLf source b → in_text source b ≡ min b (length source)
 in_text-same source b none before =
     let at : ℕ = min b (text_end source) in
-    let outside : is_inside_line_end source at ≡ false = and_right (ltb 0 at && ltb at (length source) && eqb (get_or source at 0) 10) (eqb (get_or source (at - 1) 0) 13) (ne_eqb (get_or source (at - 1) 0) 13 (no-cr-at source (at - 1) none)) in
+    let outside : is_inside_line_end source at ≡ false = and_right (ltb 0 at && ltb at (length source) && eqb (get_or source at 0) 10)
+    (eqb (get_or source (at - 1) 0) 13) (ne_eqb (get_or source (at - 1) 0) 13 (no-cr-at source (at - 1) none)) in
     cond-false (is_inside_line_end source at) (at - 1) at outside ∙ ⊎_elim
     (λ t. let e : text_end source ≡ length source - 1 = cond-true (eqb (last_byte source) 10) (length source - 1) (length source) t in
     let short : b < length source = before (eqb-true (last_byte source) 10 t) in omega (arith, e))
@@ -40,14 +41,16 @@ slice-min s a b low =
     let n : ℕ = length s in
     ap (take (min b n - min a n)) (drop_min a s) ∙ ⊎_elim
     (λ inside. let e : min b n - min a n ≡ b - a = omega arith in ap (λ k. take k (drop a s)) e)
-    (λ past. take_all (min b n - min a n) (drop a s) (omega (arith, length-drop a s)) ∙ sym (take_all (b - a) (drop a s) (omega (arith, length-drop a s)))) (cases_lt b n)
+    (λ past. take_all (min b n - min a n) (drop a s) (omega (arith, length-drop a s)) ∙ sym (take_all (b - a) (drop a s) (omega (arith, length-drop a s))))
+    (cases_lt b n)
 
 -- a stretch without carriage returns is copied as it is
 pub copied-same : (source : List ℕ) (a b : ℕ) → HasNoCr source → a ≤ b → IsBeforeFinalLf source b → copied source a b ≡ slice_range source a b
 copied-same source a b none low before =
     let from : in_text source a ≡ min a (length source) = in_text-same source a none (λ e. omega (arith, before e)) in
     let to : in_text source b ≡ min b (length source) = in_text-same source b none before in
-    let part : slice_range source (in_text source a) (in_text source b) ≡ slice_range source a b = ap (λ n. slice_range source n (in_text source b)) from ∙ ap (slice_range source (min a (length source))) to ∙ slice-min source a b low in
+    let part : slice_range source (in_text source a) (in_text source b) ≡ slice_range source a b = ap (λ n. slice_range source n (in_text source b)) from
+    ∙ ap (slice_range source (min a (length source))) to ∙ slice-min source a b low in
     let clean : All (λ c. c ≢ 13) (slice_range source a b) = All-take (λ c. c ≢ 13) (b - a) (drop a source) (All-drop (λ c. c ≢ 13) a source none) in
     ap with_line_feeds part ∙ with_line_feeds-none (slice_range source a b) (λ i within. clean i 0 within)
 
@@ -60,8 +63,10 @@ pub edited_from-written : (source : List ℕ) (at : ℕ) (ts : List Edit) → Ha
     → edited_from source at ts ≡ written source at ts ++ drop (end_from at ts) source
 edited_from-written source at [] none before apart = refl
 edited_from-written source at (t ∷ ts) none before apart =
-    let here : slice_range source at t.start ≡ copied source at t.start = sym (copied-same source at t.start none apart.0 (All-head (λ t. IsBeforeFinalLf source t.start) t ts before)) in
-    let rest : edited_from source t.end ts ≡ written source t.end ts ++ drop (end_from t.end ts) source = edited_from-written source t.end ts none (All-tail (λ t. IsBeforeFinalLf source t.start) t ts before) apart.2 in
+    let here : slice_range source at t.start ≡ copied source at t.start = sym
+    (copied-same source at t.start none apart.0 (All-head (λ t. IsBeforeFinalLf source t.start) t ts before)) in
+    let rest : edited_from source t.end ts ≡ written source t.end ts
+    ++ drop (end_from t.end ts) source = edited_from-written source t.end ts none (All-tail (λ t. IsBeforeFinalLf source t.start) t ts before) apart.2 in
     let after : List ℕ = drop (end_from t.end ts) source in
     ap (λ l. l ++ (t.text ++ edited_from source t.end ts)) here ∙ ap (λ l. copied source at t.start ++ (t.text ++ l)) rest
     ∙ ap (λ l. copied source at t.start ++ l) (sym (append_assoc t.text (written source t.end ts) after))
@@ -73,15 +78,24 @@ last_end-written : (source : List ℕ) (at now : ℕ) (ts : List Edit) → HasNo
     → last_end now (stands_from source at now ts) ≡ now + length (written source at ts)
 last_end-written source at now [] none before apart = omega arith
 last_end-written source at now (t ∷ ts) none before apart =
-    let here : slice_range source at t.start ≡ copied source at t.start = sym (copied-same source at t.start none apart.0 (All-head (λ t. IsBeforeFinalLf source t.start) t ts before)) in
+    let here : slice_range source at t.start ≡ copied source at t.start = sym
+    (copied-same source at t.start none apart.0 (All-head (λ t. IsBeforeFinalLf source t.start) t ts before)) in
     let from : ℕ = now + length (slice_range source at t.start) in
-    last_end-written source t.end (from + length t.text) ts none (All-tail (λ t. IsBeforeFinalLf source t.start) t ts before) apart.2 ∙ omega (arith, ap length here, length-append (copied source at t.start) (t.text ++ written source t.end ts), length-append t.text (written source t.end ts))
+    last_end-written source t.end (from + length t.text) ts none (All-tail (λ t. IsBeforeFinalLf source t.start) t ts before) apart.2
+    ∙ omega (
+      arith,
+      ap length here,
+      length-append (copied source at t.start) (t.text ++ written source t.end ts),
+      length-append t.text
+          (written source t.end ts),
+    )
 
 -- texts stand where they do when the source before them is given first
 pub stands_from-earlier : (source : List ℕ) (a b now : ℕ) (t : Edit) (ts : List Edit) → a ≤ b → b ≤ t.start
     → stands_from source a now (t ∷ ts) ≡ stands_from source b (now + length (slice_range source a b)) (t ∷ ts)
 stands_from-earlier source a b now t ts low high =
-    let n : length (slice_range source a t.start) ≡ length (slice_range source a b) + length (slice_range source b t.start) = ap length (slice_split source a b t.start low high) ∙ length-append (slice_range source a b) (slice_range source b t.start) in
+    let n : length (slice_range source a t.start) ≡ length (slice_range source a b) + length (slice_range source b t.start) = ap length
+    (slice_split source a b t.start low high) ∙ length-append (slice_range source a b) (slice_range source b t.start) in
     let e : now + length (slice_range source a t.start) ≡ now + length (slice_range source a b) + length (slice_range source b t.start) = omega (arith, n) in
     ap (λ k. record { from = k; to = k + length t.text } ∷ stands_from source t.end (k + length t.text) ts) e
 
@@ -114,7 +128,8 @@ first_text b (l ∷ ls) other = line_with_byte-other b l.0 l.1 other
 first-line-of : (xs : List ℕ) → HasNoCr xs → text_at (lines_of xs) 0 ≡ before_first is_lf xs
 first-line-of [] none = refl
 first-line-of (b ∷ bs) none =
-    ⊎_elim (λ t. ap (λ (ls : List Line). text_at ls 0) (cond-true {A = List Line} (eqb b 10) (([], Lf) ∷ lines_of bs) (with_first_byte b (lines_of bs)) t) ∙ sym (prefix-none b bs t))
+    ⊎_elim (λ t. ap (λ (ls : List Line). text_at ls 0) (cond-true {A = List Line} (eqb b 10) (([], Lf) ∷ lines_of bs) (with_first_byte b (lines_of bs)) t)
+    ∙ sym (prefix-none b bs t))
     (λ f. ap (λ (ls : List Line). text_at ls 0) (cond-false {A = List Line} (eqb b 10) (([], Lf) ∷ lines_of bs) (with_first_byte b (lines_of bs)) f)
     ∙ first_text b (lines_of bs) (none 0 0 (omega arith)) ∙ ap (λ l. b ∷ l) (first-line-of bs (All-tail (λ c. c ≢ 13) b bs none))
     ∙ sym (prefix-first b bs f)) (cases_Bool (eqb b 10))
@@ -145,7 +160,8 @@ pub record IsShownPart (fold : Bool) (source : List ℕ) (es : List Edit) : Type
 
 start-within : (fold : Bool) (source : List ℕ) (first : ℕ) → shown_start fold source first ≤ length source
 start-within fold source first =
-    cond_both fold (start_of (source_lines source) (line_of (source_lines source) first)) 0 (λ n. n ≤ length source) (λ _. omega (arith, text_at-end source (line_of (source_lines source) first) (line_of-within source first))) (λ _. omega arith)
+    cond_both fold (start_of (source_lines source) (line_of (source_lines source) first)) 0 (λ n. n ≤ length source) (λ _.
+    omega (arith, text_at-end source (line_of (source_lines source) first) (line_of-within source first))) (λ _. omega arith)
 
 pub shown-whole : (fold : Bool) (source : List ℕ) (es : List Edit) → HasNoCr source → AreBeforeFinalLf source (trimmed_edits source es)
     → AreApart 0 (in_order es) → let s = shown_start fold source (first_start (in_order es)) in let ts = trimmed_edits source es in
@@ -154,7 +170,8 @@ shown-whole fold source es none before apart =
     let s : ℕ = shown_start fold source (first_start (in_order es)) in
     let ts : List Edit = trimmed_edits source es in
     let after : AreApart s ts = shown-apart fold source es apart in
-    sym (edited_from-trimmed source 0 (in_order es) apart) ∙ edited_from-earlier source 0 s ts (omega arith) after ∙ ap (λ l. slice_range source 0 s ++ l) (edited_from-written source s ts none before after)
+    sym (edited_from-trimmed source 0 (in_order es) apart) ∙ edited_from-earlier source 0 s ts (omega arith) after
+    ∙ ap (λ l. slice_range source 0 s ++ l) (edited_from-written source s ts none before after)
 
 -- what stands before the shown part is as long as where that starts
 pub front-size : (fold : Bool) (source : List ℕ) (first : ℕ) → length (slice_range source 0 (shown_start fold source first)) ≡ shown_start fold source first
@@ -182,7 +199,8 @@ last-written source at [] e = absurd (cc)
 last-written source at (t ∷ []) e =
     last_byte-append (copied source at t.start) (t.text ++ []) (ap last_byte (append-nil t.text) ∙ e)
 last-written source at (t ∷ u ∷ ts) e =
-    last_byte-append (copied source at t.start) (t.text ++ written source t.end (u ∷ ts)) (last_byte-append t.text (written source t.end (u ∷ ts)) (last-written source t.end (u ∷ ts) e))
+    last_byte-append (copied source at t.start) (t.text ++ written source t.end (u ∷ ts))
+    (last_byte-append t.text (written source t.end (u ∷ ts)) (last-written source t.end (u ∷ ts) e))
 
 -- after the first line of a text stands its LF, or nothing
 first_stops : (xs : List ℕ) → Stops (drop (length (before_first is_lf xs)) xs)
@@ -203,7 +221,8 @@ first-split xs =
 pub last-end : (source : List ℕ) (s : ℕ) (t : Edit) (ts : List Edit) → HasNoCr source → AreBeforeFinalLf source (t ∷ ts) → AreApart s (t ∷ ts)
     → length (slice_range source 0 s) ≡ s → last_end 0 (stands source (t ∷ ts)) ≡ s + length (written source s (t ∷ ts))
 last-end source s t ts none before apart size =
-    ap (last_end 0) (stands_from-earlier source 0 s 0 t ts (omega arith) apart.0) ∙ last_end-written source s (0 + length (slice_range source 0 s)) (t ∷ ts) none before apart ∙ omega (arith, size)
+    ap (last_end 0) (stands_from-earlier source 0 s 0 t ts (omega arith) apart.0)
+    ∙ last_end-written source s (0 + length (slice_range source 0 s)) (t ∷ ts) none before apart ∙ omega (arith, size)
 
 cut-part : (f w r : List ℕ) (s n : ℕ) → length f ≡ s → slice_range (f ++ (w ++ r)) s (s + length w + n) ≡ w ++ take n r
 cut-part f w r s n size =
@@ -247,9 +266,11 @@ shown-part true source es none before apart some =
     let whole : patched source es ≡ f ++ (w ++ r) = shown-whole true source es none before apart in
     let same : edited_from source 0 ts ≡ f ++ (w ++ r) = edited_from-trimmed source 0 (in_order es) apart ∙ whole in
     let to : last_end 0 (stands source ts) ≡ s + length w = last_of ts some before after size in
-    let left : drop (last_end 0 (stands source ts)) (edited_from source 0 ts) ≡ r = ap (λ n. drop n (edited_from source 0 ts)) to ∙ ap (drop (s + length w)) same ∙ drop-part f w r s size in
+    let left : drop (last_end 0 (stands source ts)) (edited_from source 0 ts) ≡ r = ap (λ n. drop n (edited_from source 0 ts)) to
+    ∙ ap (drop (s + length w)) same ∙ drop-part f w r s size in
     ⊎_elim
-    (λ t. let end : spliced_end source ts ≡ s + length w + 0 = cond-true (closes_line ts) (last_end 0 (stands source ts)) (last_end 0 (stands source ts) + length (before_first is_lf (drop (last_end 0 (stands source ts)) (edited_from source 0 ts)))) t ∙ to ∙ omega arith in
+    (λ t. let end : spliced_end source ts ≡ s + length w + 0 = cond-true (closes_line ts) (last_end 0 (stands source ts))
+    (last_end 0 (stands source ts) + length (before_first is_lf (drop (last_end 0 (stands source ts)) (edited_from source 0 ts)))) t ∙ to ∙ omega arith in
     record {
       front = f;
       part = w;
@@ -260,8 +281,10 @@ shown-part true source es none before apart some =
       stops = inr (last-written source s ts (eqb-true (last_byte (last_text ts)) 10 t));
       closes = inr (some_bytes (last_text ts) (eqb-true (last_byte (last_text ts)) 10 t));
       ends = omega arith;
-      text = ap (λ l. without_final_line_feeds (w ++ l)) (cond-true (closes_line ts) [] (text_at (source_lines r) 0) t) ∙ ap without_final_line_feeds (append-nil w);
-      spliced = ap without_final_line_feeds (ap (slice_range (patched source es) s) end ∙ ap (λ d. slice_range d s (s + length w + 0)) whole ∙ cut-part f w r s 0 size ∙ append-nil w);
+      text = ap (λ l. without_final_line_feeds (w ++ l)) (cond-true (closes_line ts) [] (text_at (source_lines r) 0) t)
+          ∙ ap without_final_line_feeds (append-nil w);
+      spliced = ap without_final_line_feeds (ap (slice_range (patched source es) s) end ∙ ap (λ d. slice_range d s (s + length w + 0)) whole
+          ∙ cut-part f w r s 0 size ∙ append-nil w);
     })
     (λ t. let l : List ℕ = before_first is_lf r in
     let clean : HasNoCr r = All-drop (λ c. c ≢ 13) (end_from s ts) source none in
@@ -282,7 +305,8 @@ shown-part true source es none before apart some =
       closes = inl (first_stops r);
       ends = omega (arith, length-append w l);
       text = ap (λ x. without_final_line_feeds (w ++ x)) (cond-false (closes_line ts) [] (text_at (source_lines r) 0) t ∙ first-line r clean);
-      spliced = ap without_final_line_feeds (ap (slice_range (patched source es) s) end ∙ ap (λ d. slice_range d s (s + length w + length l)) whole ∙ cut-part f w r s (length l) size ∙ ap (λ x. w ++ x) front_of);
+      spliced = ap without_final_line_feeds (ap (slice_range (patched source es) s) end ∙ ap (λ d. slice_range d s (s + length w + length l)) whole
+          ∙ cut-part f w r s (length l) size ∙ ap (λ x. w ++ x) front_of);
     })
     (cases_Bool (closes_line ts))
   where

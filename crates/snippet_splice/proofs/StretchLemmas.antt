@@ -40,11 +40,14 @@ line_set lines i was now x k within is more =
     let before : get_or (map f lines) i [] ≡ f was = get_or-map f lines i was [] within ∙ ap f (sym is) in
     elim (cases_eq i k) [
       | inl same ↦
-          let here : get_or (set (map f lines) i (f now)) k [] ≡ f now = ap (λ n. get_or (set (map f lines) i (f now)) n []) (sym same) ∙ get_or-set_same (map f lines) i (f now) [] inside in
-          all ∙ here ∙ more ∙ ap (λ ys. ys ++ x ∷ []) (sym before ∙ ap (λ n. get_or (map f lines) n []) same) ∙ ap (λ ys. line_stretches lines k ++ ys) (sym (cond-true (eqb i k) (x ∷ []) [] (eq-eqb i k same)))
+          let here : get_or (set (map f lines) i (f now)) k [] ≡ f now = ap (λ n. get_or (set (map f lines) i (f now)) n []) (sym same)
+          ∙ get_or-set_same (map f lines) i (f now) [] inside in
+          all ∙ here ∙ more ∙ ap (λ ys. ys ++ x ∷ []) (sym before ∙ ap (λ n. get_or (map f lines) n []) same)
+          ∙ ap (λ ys. line_stretches lines k ++ ys) (sym (cond-true (eqb i k) (x ∷ []) [] (eq-eqb i k same)))
       | inr other ↦
           let there : get_or (set (map f lines) i (f now)) k [] ≡ line_stretches lines k = get_or-set_other (map f lines) i k (f now) [] (λ e. other (sym e)) in
-          all ∙ there ∙ sym (append-nil (line_stretches lines k)) ∙ ap (λ ys. line_stretches lines k ++ ys) (sym (cond-false (eqb i k) (x ∷ []) [] (false_from_ne_true _ (λ t. other (eqb-true i k t)))))
+          all ∙ there ∙ sym (append-nil (line_stretches lines k)) ∙ ap (λ ys.
+          line_stretches lines k ++ ys) (sym (cond-false (eqb i k) (x ∷ []) [] (false_from_ne_true _ (λ t. other (eqb-true i k t)))))
     ]
 
 -- ---- pieces
@@ -56,7 +59,8 @@ HoldsNoLf text = (i : ℕ) → i < length text → get_or text i 0 ≢ 10
 -- a piece and its line feed come off the front of a text that is split
 pub pieces_cut : (text piece after : List ℕ) → text ≡ piece ++ 10 ∷ after → HoldsNoLf piece → slice_split is_lf text ≡ piece ∷ slice_split is_lf after
 pieces_cut text piece after is none =
-    ap (slice_split is_lf) is ∙ slice_split_at is_lf piece 10 after (λ i d within. false_from_ne_true _ (λ t. none i within (get_or_default piece i 0 d within ∙ eqb-true _ 10 t))) refl
+    ap (slice_split is_lf) is ∙ slice_split_at is_lf piece 10 after (λ i d within.
+    false_from_ne_true _ (λ t. none i within (get_or_default piece i 0 d within ∙ eqb-true _ 10 t))) refl
 
 -- a text without line feeds is one piece
 pub pieces_whole : (text : List ℕ) → HoldsNoLf text → slice_split is_lf text ≡ text ∷ []
@@ -89,7 +93,8 @@ after_none (b ∷ bs) none = cond-true (eqb (count_by is_lf (b ∷ bs)) 0) (b �
 
 after_some : (b : ℕ) (bs : List ℕ) → 0 < count_by is_lf (b ∷ bs) → after_last_lf (b ∷ bs) ≡ after_last_lf bs
 after_some b bs some =
-    cond-false (eqb (count_by is_lf (b ∷ bs)) 0) (b ∷ bs) (after_last_lf bs) (false_from_ne_true _ (λ t. let none : count_by is_lf (b ∷ bs) ≡ 0 = eqb-true _ 0 t in omega (arith, none, some)))
+    cond-false (eqb (count_by is_lf (b ∷ bs)) 0) (b ∷ bs) (after_last_lf bs)
+    (false_from_ne_true _ (λ t. let none : count_by is_lf (b ∷ bs) ≡ 0 = eqb-true _ 0 t in omega (arith, none, some)))
 
 after_append : (front text : List ℕ) → count_by is_lf text ≡ 0 → after_last_lf (front ++ text) ≡ after_last_lf front ++ text
 after_append [] text none = after_none text none
@@ -97,7 +102,8 @@ after_append (b ∷ front) text none =
     let total : count_by is_lf (b ∷ front ++ text) ≡ count_by is_lf (b ∷ front) = feeds-append (b ∷ front) text ∙ omega (arith, none) in
     elim (zero_or (count_by is_lf (b ∷ front))) [
       | inl zeros ↦ after_none (b ∷ front ++ text) (total ∙ zeros) ∙ ap (λ ys. ys ++ text) (sym (after_none (b ∷ front) zeros))
-      | inr some ↦ after_some b (front ++ text) (omega (arith, total, some)) ∙ after_append front text none ∙ ap (λ ys. ys ++ text) (sym (after_some b front some))
+      | inr some ↦ after_some b (front ++ text) (omega (arith, total, some)) ∙ after_append front text none
+          ∙ ap (λ ys. ys ++ text) (sym (after_some b front some))
     ]
 
 after_other : (front text : List ℕ) → 0 < count_by is_lf text → after_last_lf (front ++ text) ≡ after_last_lf text
@@ -160,13 +166,18 @@ chars_on front text before utf8 is =
     elim (zero_or (count_by is_lf text)) [
       | inl zeros ↦
           let adds : (if count_by is_lf text == 0 then before else 0) ≡ before = cond-true (eqb (count_by is_lf text) 0) before 0 (eq-eqb _ 0 zeros) in
-          let all : after_last_lf (front ++ text) ≡ after_last_lf front ++ after_last_lf text = after_append front text zeros ∙ ap (λ ys. after_last_lf front ++ ys) (sym (after_none text zeros)) in
-          let joined : chars (after_last_lf (front ++ text)) ≡ chars (after_last_lf front) ++ chars (after_last_lf text) = ap chars all ∙ chars-append (after_last_lf front) (after_last_lf text) (after_utf8 front utf8) in
-          let total : length (chars (after_last_lf (front ++ text))) ≡ length (chars (after_last_lf front)) + length (chars (after_last_lf text)) = ap length joined ∙ length-append (chars (after_last_lf front)) (chars (after_last_lf text)) in
+          let all : after_last_lf (front ++ text) ≡ after_last_lf front ++ after_last_lf text = after_append front text zeros
+          ∙ ap (λ ys. after_last_lf front ++ ys) (sym (after_none text zeros)) in
+          let joined : chars (after_last_lf (front ++ text)) ≡ chars (after_last_lf front) ++ chars (after_last_lf text) = ap chars all
+          ∙ chars-append (after_last_lf front) (after_last_lf text) (after_utf8 front utf8) in
+          let total : length (chars (after_last_lf (front ++ text))) ≡ length (chars (after_last_lf front)) + length
+          (chars (after_last_lf text)) = ap length joined ∙ length-append (chars (after_last_lf front)) (chars (after_last_lf text)) in
           omega (arith, adds, is, total)
       | inr some ↦
-          let adds : (if count_by is_lf text == 0 then before else 0) ≡ 0 = cond-false (eqb (count_by is_lf text) 0) before 0 (false_from_ne_true _ (λ t. let none : count_by is_lf text ≡ 0 = eqb-true _ 0 t in omega (arith, none, some))) in
-          let total : length (chars (after_last_lf (front ++ text))) ≡ length (chars (after_last_lf text)) = ap (λ t. length (chars t)) (after_other front text some) in
+          let adds : (if count_by is_lf text == 0 then before else 0) ≡ 0 = cond-false (eqb (count_by is_lf text) 0) before 0
+          (false_from_ne_true _ (λ t. let none : count_by is_lf text ≡ 0 = eqb-true _ 0 t in omega (arith, none, some))) in
+          let total : length (chars (after_last_lf (front ++ text))) ≡ length (chars (after_last_lf text)) = ap (λ t.
+          length (chars t)) (after_other front text some) in
           omega (arith, adds, total)
     ]
 
@@ -211,9 +222,11 @@ without_cr-push text front is = ap without_cr is ∙ pushed front
         let whole : List ℕ = front ++ 13 ∷ [] in
         let long : length whole ≡ length front + 1 = length-append front (13 ∷ []) in
         let last : last_byte whole ≡ 13 = grind (arith, places) in
-        cond-true (eqb (last_byte whole) 13) (take (length whole - 1) whole) whole (eq-eqb _ 13 last) ∙ same_lists _ _ (grind (arith, places)) (λ k d h. grind (arith, places))
+        cond-true (eqb (last_byte whole) 13) (take (length whole - 1) whole) whole (eq-eqb _ 13 last)
+        ∙ same_lists _ _ (grind (arith, places)) (λ k d h. grind (arith, places))
 
 -- a text that doesn't end in a carriage return stays
 pub without_cr-stays : (text : List ℕ) → ((front : List ℕ) → text ≢ front ++ 13 ∷ []) → without_cr text ≡ text
 without_cr-stays text open_end =
-    cond-false (eqb (last_byte text) 13) (take (length text - 1) text) text (false_from_ne_true _ (λ t. last_byte-not text 13 (lit< tt) open_end (eqb-true _ 13 t)))
+    cond-false (eqb (last_byte text) 13) (take (length text - 1) text) text
+    (false_from_ne_true _ (λ t. last_byte-not text 13 (lit< tt) open_end (eqb-true _ 13 t)))

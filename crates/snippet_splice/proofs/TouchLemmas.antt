@@ -38,7 +38,8 @@ line-empty d j within at =
     let stands : t ≡ take (length t) (drop b d) = text_at-stands d j within in
     ⊎_elim
     (λ some. let inside : b < length d = omega (arith, text_at-end d j within) in
-    let first : get_or t 0 0 ≡ get_or d b 0 = ap (λ l. get_or l 0 0) stands ∙ get_or-take (length t) (drop b d) 0 0 some ∙ get_or-drop b d 0 0 ∙ (let e : b + 0 ≡ b = omega arith in ap (λ n. get_or d n 0) e) in
+    let first : get_or t 0 0 ≡ get_or d b 0 = ap (λ l. get_or l 0 0) stands ∙ get_or-take (length t) (drop b d) 0 0 some ∙ get_or-drop b d 0 0
+    ∙ (let e : b + 0 ≡ b = omega arith in ap (λ n. get_or d n 0) e) in
     absurd ((IsLine-at d j within).no_lf 0 0 some (first ∙ at inside)))
     (λ none. nil_from_length t (omega (arith, none))) (cases_lt 0 (length t))
 
@@ -49,10 +50,11 @@ last_byte-drop b d inside =
     let e : b + (length (drop b d) - 1) ≡ length d - 1 = omega (arith, length-drop b d) in
     get_or-drop b d (length (drop b d) - 1) 0 ∙ ap (λ n. get_or d n 0) e
 
-no_feeds : (l : List ℕ) → IsLineWithEnd l → (0 < length l → last_byte l ≢ 10) → All (λ c. c ≢ 10) l
-no_feeds [] one last = All-nil (λ c. c ≢ 10)
-no_feeds (c ∷ cs) one last =
-    All-same (λ c. c ≢ 10) (c ∷ cs) (take (length (c ∷ cs) - 1) (c ∷ cs) ++ last_byte (c ∷ cs) ∷ []) (split_last (c ∷ cs) (omega arith)) (All-push (λ c. c ≢ 10) (take (length (c ∷ cs) - 1) (c ∷ cs)) (last_byte (c ∷ cs)) one (last (omega arith)))
+no-feeds : (l : List ℕ) → IsLineWithEnd l → (0 < length l → last_byte l ≢ 10) → All (λ c. c ≢ 10) l
+no-feeds [] one last = All-nil (λ c. c ≢ 10)
+no-feeds (c ∷ cs) one last =
+    All-same (λ c. c ≢ 10) (c ∷ cs) (take (length (c ∷ cs) - 1) (c ∷ cs) ++ last_byte (c ∷ cs) ∷ []) (split_last (c ∷ cs) (omega arith))
+    (All-push (λ c. c ≢ 10) (take (length (c ∷ cs) - 1) (c ∷ cs)) (last_byte (c ∷ cs)) one (last (omega arith)))
 
 in-line-feeds : (d : List ℕ) (j p : ℕ) → IsInLine d j p → feeds (take p d) ≡ j
 in-line-feeds d j p h =
@@ -65,13 +67,15 @@ in-line-feeds d j p h =
     let one : IsLineWithEnd l = IsOneLine-line (get_or ls j ([], Eof)) (IsLine-at d j h.within) in
     let none : All (λ c. c ≢ 10) (slice_range d b p) = ⊎_elim
     (λ before. let short : p - b ≤ length l - 1 = omega (arith, h.from) in
-    let part : slice_range d b p ≡ take (p - b) (take (length l - 1) l) = sym (take-take (p - b) (length l) (drop b d) (omega arith)) ∙ ap (take (p - b)) line ∙ sym (take-take (p - b) (length l - 1) l short) in
+    let part : slice_range d b p ≡ take (p - b) (take (length l - 1) l) = sym (take-take (p - b) (length l) (drop b d) (omega arith)) ∙ ap (take (p - b)) line
+    ∙ sym (take-take (p - b) (length l - 1) l short) in
     All-same (λ c. c ≢ 10) (slice_range d b p) (take (p - b) (take (length l - 1) l)) part (All-take (λ c. c ≢ 10) (p - b) (take (length l - 1) l) one))
     (λ (final, at_end, open_end). let whole : start_of ls (j + 1) ≡ length d = start_of-end ls (j + 1) (omega arith) ∙ ap length (joined-source_lines d) in
     let size : p - b ≡ length l = omega arith in
     let part : slice_range d b p ≡ l = ap (λ k. take k (drop b d)) size ∙ line in
     let tail : drop b d ≡ l = sym (take_all (length l) (drop b d) (omega (arith, length-drop b d))) ∙ line in
-    All-same (λ c. c ≢ 10) (slice_range d b p) l part (no_feeds l one (λ some e. open_end (sym (last_byte-drop b d (omega (arith, some))) ∙ ap last_byte tail ∙ e))))
+    All-same (λ c. c ≢ 10) (slice_range d b p) l part (no-feeds l one (λ some e.
+    open_end (sym (last_byte-drop b d (omega (arith, some))) ∙ ap last_byte tail ∙ e))))
     h.to in
     let split : take p d ≡ take b d ++ slice_range d b p = front-split d b p h.from in
     ap feeds split ∙ feeds-append (take b d) (slice_range d b p) ∙ omega (arith, feeds-front d j h.within, feeds-none (slice_range d b p) none)
@@ -106,8 +110,10 @@ stands-within source at now (t ∷ ts) =
     let from : ℕ = now + length (slice_range source at t.start) in
     let to : ℕ = from + length t.text in
     let high : ℕ = last_end to (stands_from source t.end to ts) in
-    All-cons (IsWithin now high) (record { from = from; to = to }) (stands_from source t.end to ts) (record { from = omega arith; to = last_end-le source t.end to ts })
-    (All-weaker (IsWithin to high) (IsWithin now high) (λ s h. record { from = omega (arith, h.from); to = h.to }) (stands_from source t.end to ts) (stands-within source t.end to ts))
+    All-cons (IsWithin now high) (record { from = from; to = to }) (stands_from source t.end to ts)
+    (record { from = omega arith; to = last_end-le source t.end to ts })
+    (All-weaker (IsWithin to high) (IsWithin now high) (λ s h. record { from = omega (arith, h.from); to = h.to }) (stands_from source t.end to ts)
+    (stands-within source t.end to ts))
 
 -- where the last text isn't empty each empty one stands before its end
 abbrev pub EndsBefore : ℕ → Stand → Type 0
@@ -118,19 +124,22 @@ stands-before : (source : List ℕ) (at now : ℕ) (ts : List Edit) → 0 < leng
 stands-before source at now [] some = absurd (omega arith)
 stands-before source at now (t ∷ []) some =
     let from : ℕ = now + length (slice_range source at t.start) in
-    All-cons (EndsBefore (from + length t.text)) (record { from = from; to = from + length t.text }) [] (λ e. absurd (omega (arith, some, e))) (All-nil (EndsBefore (from + length t.text)))
+    All-cons (EndsBefore (from + length t.text)) (record { from = from; to = from + length t.text }) [] (λ e.
+    absurd (omega (arith, some, e))) (All-nil (EndsBefore (from + length t.text)))
 stands-before source at now (t ∷ u ∷ ts) some =
     let from : ℕ = now + length (slice_range source at t.start) in
     let to : ℕ = from + length t.text in
     let high : ℕ = last_end to (stands_from source t.end to (u ∷ ts)) in
-    All-cons (EndsBefore high) (record { from = from; to = to }) (stands_from source t.end to (u ∷ ts)) (λ e. last_end-lt source t.end to (u ∷ ts) some) (stands-before source t.end to (u ∷ ts) some)
+    All-cons (EndsBefore high) (record { from = from; to = to }) (stands_from source t.end to (u ∷ ts)) (λ e.
+    last_end-lt source t.end to (u ∷ ts) some) (stands-before source t.end to (u ∷ ts) some)
 
 -- ---- the lines that are touched
 
 -- the number of lines of a text that no LF ends
 count-open : (ws : List ℕ) → (ws ≡ []) ⊎ (last_byte ws ≢ 10) → 0 < length ws → length (lines_of ws) ≡ feeds ws + 1
 count-open ws unclosed some =
-    let other : (front : List ℕ) → ws ≢ front ++ 10 ∷ [] = λ front e. ⊎_elim (λ nil. absurd (omega (arith, ap length nil))) (λ last. last (ap last_byte e ∙ last_byte-push front 10)) unclosed in
+    let other : (front : List ℕ) → ws ≢ front ++ 10 ∷ [] = λ front e.
+    ⊎_elim (λ nil. absurd (omega (arith, ap length nil))) (λ last. last (ap last_byte e ∙ last_byte-push front 10)) unclosed in
     ap length (sym (source_lines-some ws some)) ∙ length-source_lines ws ∙ ap (λ n. n + 1) (newline_count-open ws other)
 
 -- a front of a text that an LF ends has fewer LF
@@ -138,9 +147,18 @@ fewer-feeds : (f : List ℕ) (x : ℕ) → last_byte f ≡ 10 → x < length f �
 fewer-feeds f x closed short =
     let rest : List ℕ = drop x f in
     let some : 0 < length rest = omega (arith, length-drop x f) in
-    let split : rest ≡ take (length rest - 1) rest ++ 10 ∷ [] = split_last rest some ∙ ap (λ c. take (length rest - 1) rest ++ c ∷ []) (last_byte-drop x f short ∙ closed) in
+    let split : rest ≡ take (length rest - 1) rest ++ 10 ∷ [] = split_last rest some
+    ∙ ap (λ c. take (length rest - 1) rest ++ c ∷ []) (last_byte-drop x f short ∙ closed) in
     let one : feeds (10 ∷ []) ≡ 1 = refl in
-    omega (arith, ap feeds (sym (take-append-drop x f)), feeds-append (take x f) rest, ap feeds split, feeds-append (take (length rest - 1) rest) (10 ∷ []), one)
+    omega (
+      arith,
+      ap feeds (sym (take-append-drop x f)),
+      feeds-append (take x f) rest,
+      ap feeds split,
+      feeds-append (take (length rest - 1) rest)
+          (10 ∷ []),
+      one,
+    )
 
 -- a cut of a text, of which the middle is shown without the LF that end it
 pub touched-in : (d f part rest ws : List ℕ) (k j : ℕ) (s : Stand) → d ≡ f ++ (part ++ rest) → Shortens part ws → (0 < length f → last_byte f ≡ 10)
@@ -155,8 +173,16 @@ touched-in d f part rest ws k j s whole short closed counted stops within touche
     let line : IsInLine d j p = touched.in_line in
     let here : feeds (take p d) ≡ j = in-line-feeds d j p line in
     let front : take (length f) d ≡ f = ap (take (length f)) whole ∙ take_at f (part ++ rest) (length f) refl in
-    let low : k ≤ j = omega (arith, feeds-take (length f) (take p d), ap feeds (take-take (length f) p d (omega (arith, within.from, touched.from)) ∙ front), here, counted) in
-    let parts : d ≡ g ++ (short.tail ++ rest) = whole ∙ ap (λ l. f ++ (l ++ rest)) short.whole ∙ ap (λ l. f ++ l) (append_assoc ws short.tail rest) ∙ sym (append_assoc f ws (short.tail ++ rest)) in
+    let low : k ≤ j = omega (
+      arith,
+      feeds-take (length f) (take p d),
+      ap feeds
+          (take-take (length f) p d (omega (arith, within.from, touched.from)) ∙ front),
+      here,
+      counted,
+    ) in
+    let parts : d ≡ g ++ (short.tail ++ rest) = whole ∙ ap (λ l. f ++ (l ++ rest)) short.whole ∙ ap (λ l. f ++ l) (append_assoc ws short.tail rest)
+    ∙ sym (append_assoc f ws (short.tail ++ rest)) in
     let size : length part ≡ length ws + length short.tail = ap length short.whole ∙ length-append ws short.tail in
     let size_g : length g ≡ length f + length ws = length-append f ws in
     let empty_line : (x < length d → get_or d x 0 ≡ 10) → ⊥ = λ at. some (line-empty d j line.within at) in
@@ -165,7 +191,8 @@ touched-in d f part rest ws k j s whole short closed counted stops within touche
     let many : feeds (take x g) ≡ j = ap feeds (sym same) ∙ feeds-front d j line.within in
     few ws f x k j counted closed short.unclosed inside past many)
     (λ after. ⊎_elim
-    (λ inside. empty_line (λ _. let e : get_or d x 0 ≡ get_or (short.tail ++ rest) (x - length g) 0 = ap (λ l. get_or l x 0) parts ∙ get_or-append_right g (short.tail ++ rest) (length g) x 0 refl after in
+    (λ inside. empty_line (λ _. let e : get_or d x 0 ≡ get_or (short.tail ++ rest) (x - length g) 0 = ap (λ l. get_or l x 0) parts
+    ∙ get_or-append_right g (short.tail ++ rest) (length g) x 0 refl after in
     let low_tail : x - length g < length short.tail = omega (arith, inside, after, size, size_g) in
     e ∙ get_or_append_left short.tail rest 0 (x - length g) low_tail ∙ short.feeds (x - length g) 0 low_tail))
     (λ past_part. ⊎_elim (λ before. absurd (omega (arith, before, line.from, past_part, within.to)))
@@ -175,7 +202,8 @@ touched-in d f part rest ws k j s whole short closed counted stops within touche
     ap (λ l. get_or l x 0) (whole ∙ sym (append_assoc f part rest))
     ∙ get_or-append_right (f ++ part) rest (length f + length part) x 0 (length-append f part) (omega (arith, at_end))
     ∙ (let z : x - (length f + length part) ≡ 0 = omega (arith, at_end) in ap (λ n. get_or rest n 0) z) in
-    ⊎_elim (λ nil. absurd (omega (arith, inside, at_end, ap length whole, length-append f (part ++ rest), length-append part rest, ap length nil))) (λ (y, lf). e ∙ ap (λ l. get_or l 0 0) lf) stop))
+    ⊎_elim (λ nil. absurd (omega (arith, inside, at_end, ap length whole, length-append f (part ++ rest), length-append part rest, ap length nil)))
+    (λ (y, lf). e ∙ ap (λ l. get_or l 0 0) lf) stop))
     (λ ends. absurd (omega (arith, ends same, at, line.from, past_part))) stops)
     touched.to)
     (cases_lt x (length f + length part)))
@@ -198,10 +226,12 @@ pub shown-touched : (fold : Bool) (source : List ℕ) (es : List Edit) → HasNo
 shown-touched fold source es none before apart h j touched some =
     let first : ℕ = shown_start fold source (first_start (in_order es)) in
     let ts : List Edit = trimmed_edits source es in
-    let front : IsLinesFront h.front (shown_line fold source es) = subst (λ f. IsLinesFront f (shown_line fold source es)) (sym h.before) (shown-front fold source es) in
+    let front : IsLinesFront h.front (shown_line fold source es) = subst (λ f.
+    IsLinesFront f (shown_line fold source es)) (sym h.before) (shown-front fold source es) in
     let counted : feeds h.front ≡ shown_line fold source es = ap feeds h.before ∙ feeds-shown fold source es in
     let facts = placed ts (shown-apart fold source es apart) before touched.stand touched.among in
-    touched-in (patched source es) h.front h.part h.rest (without_final_line_feeds h.part) (shown_line fold source es) j touched.stand h.whole (Shortens-final h.part) front.closed counted
+    touched-in (patched source es) h.front h.part h.rest (without_final_line_feeds h.part) (shown_line fold source es) j touched.stand h.whole
+    (Shortens-final h.part) front.closed counted
     (⊎_elim (λ stop. inl stop) (λ more. inr (λ e. omega (arith, facts.1 more e, h.ends, h.size))) h.closes)
     (record { from = omega (arith, facts.0.from, h.size); to = omega (arith, facts.0.to, h.ends, h.size) }) touched.by some
   where
@@ -214,11 +244,15 @@ shown-touched fold source es none before apart h j touched some =
     placed (t ∷ ts) after before s among =
         let first : ℕ = shown_start fold source (first_start (in_order es)) in
         let size : length (slice_range source 0 first) ≡ first = front-size fold source (first_start (in_order es)) in
-        let same : stands source (t ∷ ts) ≡ stands_from source first first (t ∷ ts) = stands_from-earlier source 0 first 0 t ts (omega arith) after.0 ∙ (let e : 0 + length (slice_range source 0 first) ≡ first = omega (arith, size) in ap (λ n. stands_from source first n (t ∷ ts)) e) in
-        let end : last_end first (stands_from source first first (t ∷ ts)) ≡ first + length (written source first (t ∷ ts)) = sym (ap (last_end 0) same) ∙ last-end source first t ts none before after size in
+        let same : stands source (t ∷ ts) ≡ stands_from source first first (t ∷ ts) = stands_from-earlier source 0 first 0 t ts (omega arith) after.0
+        ∙ (let e : 0 + length (slice_range source 0 first) ≡ first = omega (arith, size) in ap (λ n. stands_from source first n (t ∷ ts)) e) in
+        let end : last_end first (stands_from source first first (t ∷ ts)) ≡ first + length (written source first (t ∷ ts)) = sym (ap (last_end 0) same)
+        ∙ last-end source first t ts none before after size in
         let there : Contains (stands_from source first first (t ∷ ts)) s = subst (λ l. Contains l s) same among in (
-          All-contains (IsWithin first (first + length (written source first (t ∷ ts)))) (stands_from source first first (t ∷ ts)) s (subst (λ n. All (IsWithin first n) (stands_from source first first (t ∷ ts))) end (stands-within source first first (t ∷ ts))) there,
-          λ more. All-contains (EndsBefore (first + length (written source first (t ∷ ts)))) (stands_from source first first (t ∷ ts)) s (subst (λ n. All (EndsBefore n) (stands_from source first first (t ∷ ts))) end (stands-before source first first (t ∷ ts) more)) there,
+          All-contains (IsWithin first (first + length (written source first (t ∷ ts)))) (stands_from source first first (t ∷ ts)) s
+              (subst (λ n. All (IsWithin first n) (stands_from source first first (t ∷ ts))) end (stands-within source first first (t ∷ ts))) there,
+          λ more. All-contains (EndsBefore (first + length (written source first (t ∷ ts)))) (stands_from source first first (t ∷ ts)) s
+              (subst (λ n. All (EndsBefore n) (stands_from source first first (t ∷ ts))) end (stands-before source first first (t ∷ ts) more)) there,
         )
 
 -- ---- touched lines by ranges, for what is drawn of them

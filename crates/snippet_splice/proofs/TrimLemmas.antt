@@ -28,7 +28,16 @@ ends-with o r m b h = h.whole
 
 lengths : (o r : List ℕ) (a : ℕ) (m : List ℕ) (b : ℕ) → IsSandwiched o r a m b → length r ≡ length m + length o
 lengths o r a m b h =
-    omega (arith, ap length h.whole, length-append (take a o ++ m) (drop a o), length-append (take a o) m, length-take-le a o h.border.0, length-drop a o, h.border.0)
+    omega (
+      arith,
+      ap length h.whole,
+      length-append (take a o ++ m) (drop a o),
+      length-append
+          (take a o) m,
+      length-take-le a o h.border.0,
+      length-drop a o,
+      h.border.0,
+    )
 
 same_front : (o r : List ℕ) (a : ℕ) (m : List ℕ) (b : ℕ) → IsSandwiched o r a m b → take a r ≡ take a o
 same_front o r a m b h =
@@ -36,13 +45,15 @@ same_front o r a m b h =
 
 middle_is : (o r : List ℕ) (a : ℕ) (m : List ℕ) (b : ℕ) → IsSandwiched o r a m b → m ≡ slice_range r a (length r - (length o - a))
 middle_is o r a m b h =
-    let e : drop a r ≡ m ++ drop a o = ap (drop a) (h.whole ∙ regroup (take a o) m (drop a o)) ∙ drop_at (take a o) (m ++ drop a o) a (length-take-le a o h.border.0) in
+    let e : drop a r ≡ m ++ drop a o = ap (drop a) (h.whole ∙ regroup (take a o) m (drop a o))
+    ∙ drop_at (take a o) (m ++ drop a o) a (length-take-le a o h.border.0) in
     let n : length r - (length o - a) - a ≡ length m = omega (arith, lengths o r a m b h, h.border.0) in
     sym (ap (λ l. take (length r - (length o - a) - a) l) e ∙ ap (λ k. take k (m ++ drop a o)) n ∙ take_at m (drop a o) (length m) refl)
 
 same_end : (o r : List ℕ) (a : ℕ) (m : List ℕ) (b : ℕ) → IsSandwiched o r a m b → drop (length r - (length o - a)) r ≡ drop a o
 same_end o r a m b h =
-    let n : length (take a o ++ m) ≡ length r - (length o - a) = omega (arith, lengths o r a m b h, h.border.0, length-append (take a o) m, length-take-le a o h.border.0) in
+    let n : length (take a o ++ m) ≡ length r - (length o - a) = omega
+    (arith, lengths o r a m b h, h.border.0, length-append (take a o) m, length-take-le a o h.border.0) in
     ap (drop (length r - (length o - a))) h.whole ∙ drop_at (take a o ++ m) (drop a o) (length r - (length o - a)) n
 
 -- ---- the three ways
@@ -50,7 +61,8 @@ same_end o r a m b h =
 -- a replacement that begins with the original keeps all of it in front
 pub IsSandwich-begins : (o r rest : List ℕ) → r ≡ o ++ rest → IsSandwich o r (length o) rest 0
 IsSandwich-begins o r rest e =
-    let whole : o ++ rest ≡ take (length o) o ++ rest ++ drop (length o) o = rw (take_all (length o) o (le_refl (length o)), drop_all (length o) o (le_refl (length o)), append-nil) refl in
+    let whole : o ++ rest ≡ take (length o) o ++ rest ++ drop (length o) o = rw
+    (take_all (length o) o (le_refl (length o)), drop_all (length o) o (le_refl (length o)), append-nil) refl in
     record {
       is = record { border = IsCharBoundary-end o; parts = omega arith; whole = e ∙ whole };
       all_before = λ m _. refl;
@@ -82,7 +94,8 @@ at_most_common o r n a m b common h =
 IsSandwich-inside : (o r : List ℕ) (n : ℕ) (m : List ℕ) → IsCommonPrefix o r n → ((rest : List ℕ) → r ≢ o ++ rest) → ((front : List ℕ) → r ≢ front ++ o)
     → drop n r ≡ m ++ drop n o → IsSandwich o r n m (length (drop n o))
 IsSandwich-inside o r n m common begins ends e =
-    let whole : r ≡ take n o ++ m ++ drop n o = sym (take-append-drop n r) ∙ ap (λ l. l ++ drop n r) (sym common.same) ∙ ap (λ l. take n o ++ l) e ∙ sym (regroup (take n o) m (drop n o)) in
+    let whole : r ≡ take n o ++ m ++ drop n o = sym (take-append-drop n r) ∙ ap (λ l. l ++ drop n r) (sym common.same) ∙ ap (λ l. take n o ++ l) e
+    ∙ sym (regroup (take n o) m (drop n o)) in
     record {
       is = record { border = common.border; parts = omega (arith, length-drop n o, common.border.0); whole = whole };
       all_before = λ m h. absurd (begins m (begins-with o r m 0 h));
@@ -95,7 +108,8 @@ sandwiched-inside : (o r : List ℕ) (n : ℕ) → IsCommonPrefix o r n → ((fr
 sandwiched-inside o r n common none a m b h =
     let at : a ≤ n = at_most_common o r n a m b common h in
     let x : List ℕ = take a o ++ m ++ take (n - a) (drop a o) in
-    let rest : drop a o ≡ take (n - a) (drop a o) ++ drop n o = sym (take-append-drop (n - a) (drop a o)) ∙ ap (λ l. take (n - a) (drop a o) ++ l) (drop-drop (n - a) a o ∙ ap (λ k. drop k o) (omega arith)) in
+    let rest : drop a o ≡ take (n - a) (drop a o) ++ drop n o = sym (take-append-drop (n - a) (drop a o))
+    ∙ ap (λ l. take (n - a) (drop a o) ++ l) (drop-drop (n - a) a o ∙ ap (λ k. drop k o) (omega arith)) in
     let whole : r ≡ x ++ drop n o = h.whole ∙ ap (λ l. take a o ++ m ++ l) rest ∙ sym (regroup (take a o ++ m) (take (n - a) (drop a o)) (drop n o)) in
     let long : n ≤ length x = omega (arith, ap length whole, length-append x (drop n o), length-drop n o, lengths o r a m b h, common.border.0) in
     none (drop n x) (ap (drop n) whole ∙ drop-append-le n x (drop n o) long)
@@ -116,8 +130,11 @@ sandwiched-parts o r n rest tail common of_o of_r none =
 
 border-test : (o : List ℕ) (a : ℕ) → Decides (is_character_border o a) (IsCharBoundary o a)
 border-test o a = (
-  λ t. let p = and_parts (leb a (length o)) (ltb (get_or o a 0) 128 || leb 192 (get_or o a 0)) t in
-      (leb-true a (length o) p.0, λ inside high. ⊎_elim (λ low. absurd (omega (arith, ltb-true (get_or o a 0) 128 low))) (λ lead. leb-true 192 (get_or o a 0) lead) (or_cases (ltb (get_or o a 0) 128) (leb 192 (get_or o a 0)) p.1)),
+  λ t. let p = and_parts (leb a (length o)) (ltb (get_or o a 0) 128 || leb 192 (get_or o a 0)) t in (
+    leb-true a (length o) p.0,
+    λ inside high. ⊎_elim (λ low. absurd (omega (arith, ltb-true (get_or o a 0) 128 low))) (λ lead.
+        leb-true 192 (get_or o a 0) lead) (or_cases (ltb (get_or o a 0) 128) (leb 192 (get_or o a 0)) p.1),
+  ),
   λ h. and_from (leb a (length o)) (ltb (get_or o a 0) 128 || leb 192 (get_or o a 0)) (le-leb a (length o) h.0)
       (⊎_elim (λ low. or_left (ltb (get_or o a 0) 128) (leb 192 (get_or o a 0)) (lt-ltb (get_or o a 0) 128 low))
       (λ high. ⊎_elim (λ inside. or_right (ltb (get_or o a 0) 128) (leb 192 (get_or o a 0)) (le-leb 192 (get_or o a 0) (h.1 inside high)))
@@ -134,11 +151,13 @@ test-true o r a t =
     let front : take a r ≡ take a o = (bytes_eq-Decides (take a r) (take a o)).0 q.1 in
     let end : drop (length r - (length o - a)) r ≡ drop a o = (bytes_eq-Decides (drop (length r - (length o - a)) r) (drop a o)).0 p.1 in
     let k : ℕ = length r - (length o - a) in
-    let rest : drop a r ≡ slice_range r a k ++ drop k r = sym (take-append-drop (k - a) (drop a r)) ∙ ap (λ l. slice_range r a k ++ l) (drop-drop (k - a) a r ∙ ap (λ n. drop n r) (omega (arith, border.0))) in
+    let rest : drop a r ≡ slice_range r a k ++ drop k r = sym (take-append-drop (k - a) (drop a r))
+    ∙ ap (λ l. slice_range r a k ++ l) (drop-drop (k - a) a r ∙ ap (λ n. drop n r) (omega (arith, border.0))) in
     record {
       border = border;
       parts = omega (arith, border.0);
-      whole = sym (take-append-drop a r) ∙ ap (λ l. l ++ drop a r) front ∙ ap (λ l. take a o ++ l) (rest ∙ ap (λ l. slice_range r a k ++ l) end) ∙ sym (regroup (take a o) (slice_range r a k) (drop a o));
+      whole = sym (take-append-drop a r) ∙ ap (λ l. l ++ drop a r) front ∙ ap (λ l. take a o ++ l) (rest ∙ ap (λ l. slice_range r a k ++ l) end)
+          ∙ sym (regroup (take a o) (slice_range r a k) (drop a o));
     }
 
 test-from : (o r : List ℕ) (a : ℕ) (m : List ℕ) (b : ℕ) → IsSandwiched o r a m b → is_sandwiched o r a ≡ true
@@ -155,7 +174,8 @@ greatest-is p zero a within yes_it above =
     cond-true (p 0) (Some 0) None (subst (λ k. p k ≡ true) e yes_it) ∙ ap Some (sym e)
 greatest-is p (suc n) a within yes_it above =
     ⊎_elim (λ e. cond-true (p (suc n)) (Some (suc n)) (greatest_passing p n) (subst (λ k. p k ≡ true) e yes_it) ∙ ap Some (sym e))
-    (λ other. cond-false (p (suc n)) (Some (suc n)) (greatest_passing p n) (above (suc n) (omega arith) (omega arith)) ∙ greatest-is p n a (omega arith) yes_it (λ k low high. above k low (omega arith)))
+    (λ other. cond-false (p (suc n)) (Some (suc n)) (greatest_passing p n) (above (suc n) (omega arith) (omega arith))
+    ∙ greatest-is p n a (omega arith) yes_it (λ k low high. above k low (omega arith)))
     (cases_eq a (suc n))
 
 greatest-none : (p : ℕ → Bool) (n : ℕ) → ((k : ℕ) → p k ≡ false) → greatest_passing p n ≡ None
@@ -167,7 +187,8 @@ greatest-passes p zero a e =
     ⊎_elim (λ t. let same : Some 0 ≡ Some a = sym (cond-true (p 0) (Some 0) None t) ∙ e in let at : 0 ≡ a = cc in subst (λ k. p k ≡ true) at t)
     (λ f. let same : None ≡ Some a = sym (cond-false (p 0) (Some 0) None f) ∙ e in absurd (cc)) (cases_Bool (p 0))
 greatest-passes p (suc n) a e =
-    ⊎_elim (λ t. let same : Some (suc n) ≡ Some a = sym (cond-true (p (suc n)) (Some (suc n)) (greatest_passing p n) t) ∙ e in let at : suc n ≡ a = cc in subst (λ k. p k ≡ true) at t)
+    ⊎_elim (λ t. let same : Some (suc n) ≡ Some a = sym (cond-true (p (suc n)) (Some (suc n)) (greatest_passing p n) t) ∙ e in let at : suc n
+    ≡ a = cc in subst (λ k. p k ≡ true) at t)
     (λ f. greatest-passes p n a (sym (cond-false (p (suc n)) (Some (suc n)) (greatest_passing p n) f) ∙ e)) (cases_Bool (p (suc n)))
 
 -- ---- the way that is taken, computed
@@ -180,15 +201,18 @@ kept_before-is o r a m b h =
     let rest : Option ℕ = cond (p 0) (Some 0) (greatest_passing p (length o)) in
     ⊎_elim
     (λ t. let parts : length o - length o ≡ 0 = omega arith in
-    let at : a ≡ length o = h.all_before _ (subst (λ n. IsSandwiched o r (length o) (slice_range r (length o) (length r - (length o - length o))) n) parts (test-true o r (length o) t)) in
+    let at : a ≡ length o = h.all_before _ (subst (λ n. IsSandwiched o r (length o) (slice_range r (length o) (length r - (length o - length o))) n) parts
+    (test-true o r (length o) t)) in
     cond-true (p (length o)) (Some (length o)) rest t ∙ ap Some (sym at))
-    (λ f. let below : a < length o = ⊎_elim (λ at. absurd (both_ways (p a) (ap p at ∙ f) here)) (λ other. omega (arith, h.is.border.0)) (cases_eq a (length o)) in
+    (λ f. let below : a < length o = ⊎_elim (λ at. absurd (both_ways (p a) (ap p at ∙ f) here)) (λ other.
+    omega (arith, h.is.border.0)) (cases_eq a (length o)) in
     cond-false (p (length o)) (Some (length o)) rest f ∙ ⊎_elim
     (λ t. let parts : length o - 0 ≡ length o = omega arith in
     let at : a ≡ 0 = h.all_after below _ (subst (λ n. IsSandwiched o r 0 (slice_range r 0 (length r - (length o - 0))) n) parts (test-true o r 0 t)) in
     cond-true (p 0) (Some 0) (greatest_passing p (length o)) t ∙ ap Some (sym at))
     (λ g. let some : 0 < a = ⊎_elim (λ at. absurd (both_ways (p a) (ap p at ∙ g) here)) (λ other. omega arith) (cases_eq a 0) in
-    cond-false (p 0) (Some 0) (greatest_passing p (length o)) g ∙ greatest-is p (length o) a h.is.border.0 here (λ k low high. false_from_ne_true (p k) (λ t. absurd (omega (arith, h.longest some k _ _ (test-true o r k t))))))
+    cond-false (p 0) (Some 0) (greatest_passing p (length o)) g ∙ greatest-is p (length o) a h.is.border.0 here (λ k low high.
+    false_from_ne_true (p k) (λ t. absurd (omega (arith, h.longest some k _ _ (test-true o r k t))))))
     (cases_Bool (p 0)))
     (cases_Bool (p (length o)))
 
@@ -204,7 +228,8 @@ sandwich-is o r a m b h =
 kept_before-none : (o r : List ℕ) → ((k : ℕ) → is_sandwiched o r k ≡ false) → kept_before o r ≡ None
 unfolding kept_before
 kept_before-none o r none =
-    cond-false (is_sandwiched o r (length o)) _ _ (none (length o)) ∙ cond-false (is_sandwiched o r 0) _ _ (none 0) ∙ greatest-none (is_sandwiched o r) (length o) none
+    cond-false (is_sandwiched o r (length o)) _ _ (none (length o)) ∙ cond-false (is_sandwiched o r 0) _ _ (none 0)
+    ∙ greatest-none (is_sandwiched o r) (length o) none
 
 -- where there is no way none is computed
 pub sandwich-none : (o r : List ℕ) → ((a : ℕ) (m : List ℕ) (b : ℕ) → IsSandwiched o r a m b → ⊥) → sandwich o r ≡ None
@@ -217,9 +242,11 @@ unfolding kept_before
 kept_before-passes o r a e =
     let p : ℕ → Bool = is_sandwiched o r in
     let rest : Option ℕ = cond (p 0) (Some 0) (greatest_passing p (length o)) in
-    ⊎_elim (λ t. let same : Some (length o) ≡ Some a = sym (cond-true (p (length o)) (Some (length o)) rest t) ∙ e in let at : length o ≡ a = cc in subst (λ k. p k ≡ true) at t)
+    ⊎_elim (λ t. let same : Some (length o) ≡ Some a = sym (cond-true (p (length o)) (Some (length o)) rest t) ∙ e in let at : length o
+    ≡ a = cc in subst (λ k. p k ≡ true) at t)
     (λ f. let e2 : rest ≡ Some a = sym (cond-false (p (length o)) (Some (length o)) rest f) ∙ e in
-    ⊎_elim (λ t. let same : Some 0 ≡ Some a = sym (cond-true (p 0) (Some 0) (greatest_passing p (length o)) t) ∙ e2 in let at : 0 ≡ a = cc in subst (λ k. p k ≡ true) at t)
+    ⊎_elim (λ t. let same : Some 0 ≡ Some a = sym (cond-true (p 0) (Some 0) (greatest_passing p (length o)) t) ∙ e2 in let at : 0
+    ≡ a = cc in subst (λ k. p k ≡ true) at t)
     (λ g. greatest-passes p (length o) a (sym (cond-false (p 0) (Some 0) (greatest_passing p (length o)) g) ∙ e2)) (cases_Bool (p 0)))
     (cases_Bool (p (length o)))
 
@@ -237,4 +264,5 @@ sandwich-sandwiched o r a m b e = of_kept (kept_before o r) refl e
         let e2 : slice_range r n (length r - (length o - n)) ≡ m = ap (λ p. p.1) t in
         let e3 : length o - n ≡ b = ap (λ p. p.2) t in
         let here : IsSandwiched o r n (slice_range r n (length r - (length o - n))) (length o - n) = test-true o r n (kept_before-passes o r n is) in
-        subst (λ k. IsSandwiched o r k m b) e1 (subst (λ l. IsSandwiched o r n l b) e2 (subst (λ k. IsSandwiched o r n (slice_range r n (length r - (length o - n))) k) e3 here))
+        subst (λ k. IsSandwiched o r k m b) e1 (subst (λ l. IsSandwiched o r n l b) e2
+        (subst (λ k. IsSandwiched o r n (slice_range r n (length r - (length o - n))) k) e3 here))

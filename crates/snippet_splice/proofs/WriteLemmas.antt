@@ -21,15 +21,18 @@ pub with_line_feeds-split : (xs ys : List ℕ) → ((i : ℕ) → i < length xs 
     → with_line_feeds (xs ++ 13 ∷ ys) ≡ xs ++ cond (eqb (get_or ys 0 0) 10) (with_line_feeds ys) (13 ∷ with_line_feeds ys)
 with_line_feeds-split [] ys none = refl
 with_line_feeds-split (x ∷ xs) ys none =
-    let other : (eqb x 13 && eqb (get_or (xs ++ 13 ∷ ys) 0 0) 10) ≡ false = and_left (eqb x 13) (eqb (get_or (xs ++ 13 ∷ ys) 0 0) 10) (ne_eqb x 13 (none 0 (omega arith))) in
-    cond-false (eqb x 13 && eqb (get_or (xs ++ 13 ∷ ys) 0 0) 10) (with_line_feeds (xs ++ 13 ∷ ys)) (x ∷ with_line_feeds (xs ++ 13 ∷ ys)) other ∙ ap (λ l. x ∷ l) (with_line_feeds-split xs ys (λ i within. none (suc i) (omega arith)))
+    let other : (eqb x 13 && eqb (get_or (xs ++ 13 ∷ ys) 0 0) 10) ≡ false = and_left (eqb x 13) (eqb (get_or (xs ++ 13 ∷ ys) 0 0) 10)
+    (ne_eqb x 13 (none 0 (omega arith))) in
+    cond-false (eqb x 13 && eqb (get_or (xs ++ 13 ∷ ys) 0 0) 10) (with_line_feeds (xs ++ 13 ∷ ys)) (x ∷ with_line_feeds (xs ++ 13 ∷ ys)) other
+    ∙ ap (λ l. x ∷ l) (with_line_feeds-split xs ys (λ i within. none (suc i) (omega arith)))
 
 -- a text without carriage returns stays
 pub with_line_feeds-none : (xs : List ℕ) → ((i : ℕ) → i < length xs → get_or xs i 0 ≢ 13) → with_line_feeds xs ≡ xs
 with_line_feeds-none [] none = refl
 with_line_feeds-none (x ∷ xs) none =
     let other : (eqb x 13 && eqb (get_or xs 0 0) 10) ≡ false = and_left (eqb x 13) (eqb (get_or xs 0 0) 10) (ne_eqb x 13 (none 0 (omega arith))) in
-    cond-false (eqb x 13 && eqb (get_or xs 0 0) 10) (with_line_feeds xs) (x ∷ with_line_feeds xs) other ∙ ap (λ l. x ∷ l) (with_line_feeds-none xs (λ i within. none (suc i) (omega arith)))
+    cond-false (eqb x 13 && eqb (get_or xs 0 0) 10) (with_line_feeds xs) (x ∷ with_line_feeds xs) other
+    ∙ ap (λ l. x ∷ l) (with_line_feeds-none xs (λ i within. none (suc i) (omega arith)))
 
 -- a step of the loop that adds a text: the front up to a CR was added, and the CR where no LF follows
 pub with_line_feeds-step : (old rest front after more : List ℕ) → rest ≡ front ++ 13 ∷ after → ((i : ℕ) → i < length front → get_or front i 0 ≢ 13)
@@ -37,16 +40,20 @@ pub with_line_feeds-step : (old rest front after more : List ℕ) → rest ≡ f
 with_line_feeds-step old rest front after more e none added =
     let t : Bool = eqb (get_or after 0 0) 10 in
     let tail : more ++ with_line_feeds after ≡ cond t (with_line_feeds after) (13 ∷ with_line_feeds after) = ⊎_elim
-    (λ yes_it. ap (λ l. l ++ with_line_feeds after) (added ∙ cond-true t [] (13 ∷ []) yes_it) ∙ sym (cond-true t (with_line_feeds after) (13 ∷ with_line_feeds after) yes_it))
-    (λ no_it. ap (λ l. l ++ with_line_feeds after) (added ∙ cond-false t [] (13 ∷ []) no_it) ∙ sym (cond-false t (with_line_feeds after) (13 ∷ with_line_feeds after) no_it)) (cases_Bool t) in
-    append_assoc (old ++ front) more (with_line_feeds after) ∙ append_assoc old front (more ++ with_line_feeds after) ∙ ap (λ l. old ++ (front ++ l)) tail ∙ ap (λ l. old ++ l) (sym (ap with_line_feeds e ∙ with_line_feeds-split front after none))
+    (λ yes_it. ap (λ l. l ++ with_line_feeds after) (added ∙ cond-true t [] (13 ∷ []) yes_it)
+    ∙ sym (cond-true t (with_line_feeds after) (13 ∷ with_line_feeds after) yes_it))
+    (λ no_it. ap (λ l. l ++ with_line_feeds after) (added ∙ cond-false t [] (13 ∷ []) no_it)
+    ∙ sym (cond-false t (with_line_feeds after) (13 ∷ with_line_feeds after) no_it)) (cases_Bool t) in
+    append_assoc (old ++ front) more (with_line_feeds after) ∙ append_assoc old front (more ++ with_line_feeds after) ∙ ap (λ l. old ++ (front ++ l)) tail
+    ∙ ap (λ l. old ++ l) (sym (ap with_line_feeds e ∙ with_line_feeds-split front after none))
 
 -- what stands before and after an ASCII character is text
 pub utf8-after : (rest front after : List ℕ) (b : ℕ) → IsUtf8 rest → b < 128 → rest ≡ front ++ b ∷ after → IsUtf8 after
 utf8-after rest front after b utf8 ascii e =
     let at : get_or rest (length front) 0 ≡ b = ap (λ l. get_or l (length front) 0) e ∙ get_or_at front b after 0 (length front) refl in
     let within : length front < length rest = omega (arith, ap length e, length-append front (b ∷ after)) in
-    let cut : drop (length front + 1) rest ≡ after = ap (drop (length front + 1)) (e ∙ sym (append_assoc front (b ∷ []) after)) ∙ drop_at (front ++ b ∷ []) after (length front + 1) (length_push front b) in
+    let cut : drop (length front + 1) rest ≡ after = ap (drop (length front + 1)) (e ∙ sym (append_assoc front (b ∷ []) after))
+    ∙ drop_at (front ++ b ∷ []) after (length front + 1) (length_push front b) in
     subst IsUtf8 cut (IsUtf8-drop rest (length front + 1) utf8 (IsCharBoundary-after_ascii rest (length front) utf8 within (omega (arith, at))))
 
 -- what stands before an ASCII byte in UTF-8 is UTF-8
@@ -54,7 +61,8 @@ pub utf8-front : (rest front after : List ℕ) (b : ℕ) → IsUtf8 rest → b <
 utf8-front rest front after b utf8 ascii e =
     let at : get_or rest (length front) 0 ≡ b = ap (λ l. get_or l (length front) 0) e ∙ get_or_at front b after 0 (length front) refl in
     let within : length front < length rest = omega (arith, ap length e, length-append front (b ∷ after)) in
-    subst IsUtf8 (ap (take (length front)) e ∙ take_at front (b ∷ after) (length front) refl) (IsUtf8-take rest (length front) utf8 (IsCharBoundary-before_ascii rest (length front) within (omega (arith, at))))
+    subst IsUtf8 (ap (take (length front)) e ∙ take_at front (b ∷ after) (length front) refl)
+    (IsUtf8-take rest (length front) utf8 (IsCharBoundary-before_ascii rest (length front) within (omega (arith, at))))
 
 -- it keeps the number of LF
 pub count-with_line_feeds : (xs : List ℕ) → count_by is_lf (with_line_feeds xs) ≡ count_by is_lf xs
@@ -65,8 +73,10 @@ count-with_line_feeds (x ∷ xs) =
     ⊎_elim
     (λ yes_it. let cr : x ≡ 13 = eqb-true x 13 (and_parts (eqb x 13) (eqb (get_or xs 0 0) 10) yes_it).0 in
     let none : one x ≡ 0 = ap one cr in
-    ap (count_by is_lf) (cond-true t (with_line_feeds xs) (x ∷ with_line_feeds xs) yes_it) ∙ count-with_line_feeds xs ∙ sym (sum_by-cons one x xs ∙ ap (λ n. n + count_by is_lf xs) none ∙ zero-add (count_by is_lf xs)))
-    (λ no_it. ap (count_by is_lf) (cond-false t (with_line_feeds xs) (x ∷ with_line_feeds xs) no_it) ∙ sum_by-cons one x (with_line_feeds xs) ∙ ap (λ n. one x + n) (count-with_line_feeds xs) ∙ sym (sum_by-cons one x xs)) (cases_Bool t)
+    ap (count_by is_lf) (cond-true t (with_line_feeds xs) (x ∷ with_line_feeds xs) yes_it) ∙ count-with_line_feeds xs
+    ∙ sym (sum_by-cons one x xs ∙ ap (λ n. n + count_by is_lf xs) none ∙ zero-add (count_by is_lf xs)))
+    (λ no_it. ap (count_by is_lf) (cond-false t (with_line_feeds xs) (x ∷ with_line_feeds xs) no_it) ∙ sum_by-cons one x (with_line_feeds xs)
+    ∙ ap (λ n. one x + n) (count-with_line_feeds xs) ∙ sym (sum_by-cons one x xs)) (cases_Bool t)
 
 -- ---- places of a text
 
@@ -106,11 +116,15 @@ Writes-more source from es out ranges feeds end e left out2 out3 between h one n
     let all : out3 ≡ (out ++ c) ++ e.text = two ∙ ap (λ l. l ++ e.text) one in
     let last : ℕ = feeds + between + count_by is_lf e.text in
     let r : LineRange = record { first = feeds + between; last = last } in
-    let lines : written_ranges source feeds end (e ∷ left) ≡ r ∷ written_ranges source last e.end left = ap (λ k. record { first = feeds + k; last = feeds + k + count_by is_lf e.text } ∷ written_ranges source (feeds + k + count_by is_lf e.text) e.end left) (sym n) in
+    let lines : written_ranges source feeds end (e ∷ left) ≡ r ∷ written_ranges source last e.end left = ap (λ k.
+    record { first = feeds + k; last = feeds + k + count_by is_lf e.text } ∷ written_ranges source (feeds + k + count_by is_lf e.text) e.end left)
+    (sym n) in
     record {
       bytes = ap (λ l. l ++ rest) all ∙ append_assoc (out ++ c) e.text rest ∙ append_assoc out c (e.text ++ rest) ∙ h.bytes;
       lines = append_assoc ranges (r ∷ []) (written_ranges source last e.end left) ∙ ap (λ l. ranges ++ l) (sym lines) ∙ h.lines;
-      counted = sym (ap (count_by is_lf) all ∙ sum_by-append (λ b. cond (is_lf b) 1 0) (out ++ c) e.text ∙ ap (λ k. k + count_by is_lf e.text) (sum_by-append (λ b. cond (is_lf b) 1 0) out c ∙ ap (λ k. count_by is_lf out + k) (sym n) ∙ ap (λ k. k + between) (sym h.counted)));
+      counted = sym (ap (count_by is_lf) all ∙ sum_by-append (λ b. cond (is_lf b) 1 0) (out ++ c) e.text
+          ∙ ap (λ k. k + count_by is_lf e.text) (sum_by-append (λ b. cond (is_lf b) 1 0) out c ∙ ap (λ k. count_by is_lf out + k) (sym n)
+          ∙ ap (λ k. k + between) (sym h.counted)));
       apart = h.apart.2;
       last = h.last;
       border = border;
@@ -156,4 +170,5 @@ without_final-twice (b ∷ bs) = without_lone-twice b (without_final_line_feeds 
 pub front-shorter : (rest text front : List ℕ) → rest ≡ take (length rest) text → rest ≡ front ++ 10 ∷ [] → front ≡ take (length front) text
 front-shorter rest text front is cut =
     let short : length front ≤ length rest = omega (arith, ap length cut, length-append front (10 ∷ [])) in
-    sym (ap (take (length front)) cut ∙ take_at front (10 ∷ []) (length front) refl) ∙ ap (take (length front)) is ∙ take-take (length front) (length rest) text short
+    sym (ap (take (length front)) cut ∙ take_at front (10 ∷ []) (length front) refl) ∙ ap (take (length front)) is
+    ∙ take-take (length front) (length rest) text short

@@ -23,7 +23,8 @@ pub record IsSandwich (original replacement : List ℕ) (before : ℕ) (middle :
 -- whether there is such a way with so many of the original's bytes before the middle
 abbrev pub is_sandwiched : List ℕ → List ℕ → ℕ → Bool
 is_sandwiched original replacement before =
-    is_character_border original before && nat_le (length original) (length replacement) && bytes_eq (take before replacement) (take before original) && bytes_eq (drop (length replacement - (length original - before)) replacement) (drop before original)
+    is_character_border original before && nat_le (length original) (length replacement) && bytes_eq (take before replacement) (take before original)
+    && bytes_eq (drop (length replacement - (length original - before)) replacement) (drop before original)
 
 -- the greatest number up to n that passes a test, if there is one
 abbrev pub greatest_passing : (ℕ → Bool) → ℕ → Option ℕ
@@ -40,4 +41,5 @@ kept_before original replacement =
 -- the way that is taken, computed
 unfoldable pub sandwich : List ℕ → List ℕ → Option (ℕ × List ℕ × ℕ)
 sandwich original replacement =
-    option_map (λ before. (before, slice_range replacement before (length replacement - (length original - before)), length original - before)) (kept_before original replacement)
+    option_map (λ before. (before, slice_range replacement before (length replacement - (length original - before)), length original - before))
+    (kept_before original replacement)

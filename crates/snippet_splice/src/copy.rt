@@ -10,7 +10,8 @@ use memchr::memchr;
 use snippet_lines::line_feed_count;
 use std::alloc::AllocError;
 
-/// Adds what stands from one byte of a source to another, with a line feed for each line end, and counts the line feeds.
+/// Adds what stands from one byte of a source to another, with a line feed for each line end, and counts the line
+/// feeds.
 ///
 /// A byte inside a line end counts as one before it, and one after a final line end too.
 pub(crate) fn push_copied(
@@ -62,7 +63,8 @@ fn is_inside_line_end(bytes: &[u8], at: usize) -> bool
     0 < at && at < bytes.len() && bytes[at] == b'\n' && bytes[at - 1] == b'\r'
 }
 
-/// Adds a text with a line feed in place of each carriage return and line feed. Most texts have none, and are copied whole.
+/// Adds a text with a line feed in place of each carriage return and line feed. Most texts have none, and are copied
+/// whole.
 fn push_with_line_feeds(out: &mut String, text: &str) -> Result<(), AllocError>
     ensures written { IfOk result (λ _. string_bytes out.new ≡ string_bytes out.old ++ with_line_feeds text.now) }
 {

@@ -1,4 +1,5 @@
-//! Suggested edits: patches trimmed to what they change, the source with them applied, and the part of it that is shown.
+//! Suggested edits: patches trimmed to what they change, the source with them applied, and the part of it that is
+//! shown.
 #![tactic(auto)]
 
 pub mod copy;

@@ -28,7 +28,8 @@ pub fn check_patches(source: &str, patches: &[Patch<'_>]) -> Option<(usize, usiz
 /// Whether each patch ends at the start of the next or before it.
 fn stand_apart(patches: &[Patch<'_>]) -> bool
     ensures apart { result ≡ true → (k : ℕ) → k + 1 < length patches.now →
-        (slice_index_or (map edit_of patches.now) k no_edit).end ≤ (slice_index_or (map edit_of patches.now) (k + 1) no_edit).start }
+        (slice_index_or (map edit_of patches.now) k no_edit).end ≤
+        (slice_index_or (map edit_of patches.now) (k + 1) no_edit).start }
 {
     for i in 1..patches.len() {
         if patches[i].span.start < patches[i - 1].span.end {

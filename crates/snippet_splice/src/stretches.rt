@@ -145,7 +145,8 @@ pub(crate) fn new_stretches(
     places: &[PatchExtent<'_, '_>],
     feeds: usize,
 ) -> Result<Vec<Vec<SubstitutionHighlight>>, AllocError>
-    ensures value { IfOk result (λ lines. (k : ℕ) → line_stretches lines.items k ≡ stretches_on k 0 0 0 (map extent_of places.now)) }
+    ensures value { IfOk result (λ lines. (k : ℕ) → line_stretches lines.items k
+        ≡ stretches_on k 0 0 0 (map extent_of places.now)) }
     ensures lines { IfOk result (λ lines.
         length lines.items ≡ capped (feeds_made (map extent_of places.now) + feeds + 1)) }
 {
@@ -169,8 +170,8 @@ pub(crate) fn new_stretches(
     Ok(lines)
 }
 
-/// The character at which the text of a patch begins, if character `end` of the source stands as character `shown` in its
-/// line: as in the source where it is the first on its line, else as far after the patch before it as there.
+/// The character at which the text of a patch begins, if character `end` of the source stands as character `shown` in
+/// its line: as in the source where it is the first on its line, else as far after the patch before it as there.
 fn text_start(shown: usize, end: usize, place: &PatchExtent<'_, '_>) -> usize
     ensures value { result ≡ spec.text_start shown end (extent_of place.now) }
 {
@@ -181,8 +182,8 @@ fn text_start(shown: usize, end: usize, place: &PatchExtent<'_, '_>) -> usize
     }
 }
 
-/// As which character the end of a patch stands, whose text begins at character `start`: after that, but where the text has
-/// several lines, as in the source.
+/// As which character the end of a patch stands, whose text begins at character `start`: after that, but where the text
+/// has several lines, as in the source.
 fn shown_end(start: usize, place: &PatchExtent<'_, '_>) -> usize
     ensures value { result ≡ spec.shown_end start (extent_of place.now) }
 {
@@ -193,8 +194,8 @@ fn shown_end(start: usize, place: &PatchExtent<'_, '_>) -> usize
     }
 }
 
-/// Adds a stretch for each piece of a replacement, cut at its line feeds: the first from character `from` on, on line `first`,
-/// each other from the beginning of the next line on.
+/// Adds a stretch for each piece of a replacement, cut at its line feeds: the first from character `from` on, on line
+/// `first`, each other from the beginning of the next line on.
 fn push_pieces(
     alloc: Global,
     lines: &mut Vec<Vec<SubstitutionHighlight>>,
@@ -269,7 +270,8 @@ pub(crate) fn replaced_stretches(
     places: &[PatchExtent<'_, '_>],
     count: usize,
 ) -> Result<Vec<Vec<SubstitutionHighlight>>, AllocError>
-    ensures value { IfOk result (λ lines. (k : ℕ) → line_stretches lines.items k ≡ replaced_on k 0 (map extent_of places.now)) }
+    ensures value { IfOk result (λ lines. (k : ℕ) → line_stretches lines.items k
+        ≡ replaced_on k 0 (map extent_of places.now)) }
     ensures lines { IfOk result (λ lines.
         length lines.items ≡ max (lines_over 0 (map extent_of places.now)) count) }
 {

@@ -55,11 +55,13 @@ module _ (layout : Layout) (stroke : BarStroke) (bar : OpenBar) where
   pub bar_stands : (bars : List OpenBar) (row : List Cell) → HasOwnDepth bar bars → Contains bars bar → there (with_bars layout stroke bars row) ≡ part bar
   bar_stands [] row alone (k, within, same) = absurd (omega arith)
   bar_stands (b ∷ bars) row alone (zero, within, same) =
-      stays bars (with_bar layout stroke row b) (All-tail (λ x. x.depth ≡ bar.depth → x ≡ bar) b bars alone) (ap (λ x. there (with_bar layout stroke row x)) same ∙ drawn_there row)
+      stays bars (with_bar layout stroke row b) (All-tail (λ x. x.depth ≡ bar.depth → x ≡ bar) b bars alone)
+      (ap (λ x. there (with_bar layout stroke row x)) same ∙ drawn_there row)
   bar_stands (b ∷ bars) row alone (suc k, within, same) =
       bar_stands bars (with_bar layout stroke row b) (All-tail (λ x. x.depth ≡ bar.depth → x ≡ bar) b bars alone) (k, omega arith, same)
 
-module _ (layout : Layout) (room : ℕ) (closes : Bool) (text : List ℕ) (dropped : ℕ) (open_bars : List OpenBar) (es : List LineAnnotation) (source : List Cell) (rows : List (List Cell)) where
+module _ (layout : Layout) (room : ℕ) (closes : Bool) (text : List ℕ) (dropped : ℕ) (open_bars : List OpenBar) (es : List LineAnnotation) (source : List Cell)
+    (rows : List (List Cell)) where
   -- the bars that are open above a line and go on past it
   abbrev past : List OpenBar
   past = bars_apart open_bars (ends_of_bars es)

@@ -98,7 +98,8 @@ pub beside_next : (bars : List OpenBar) (from to k : ℕ) (d e : OpenBar) → fr
 beside_next bars from to k d e ordered same within done next =
     let here : get_or bars to e ≡ get_or bars to d = get_or_default bars to e d within in
     let before : get_or bars (to - 1) e ≡ get_or bars (to - 1) d = get_or_default bars (to - 1) e d (omega (arith, within)) in
-    let more : StandsBeside (get_or bars (to - 1) d) 1 (get_or bars to d) = subst (λ (x : OpenBar). StandsBeside x 1 (get_or bars to d)) before (subst (λ (x : OpenBar). StandsBeside (get_or bars (to - 1) e) 1 x) here next) in
+    let more : StandsBeside (get_or bars (to - 1) d) 1 (get_or bars to d) = subst (λ (x : OpenBar). StandsBeside x 1 (get_or bars to d)) before
+    (subst (λ (x : OpenBar). StandsBeside (get_or bars (to - 1) e) 1 x) here next) in
     record {
       depth = ap (λ n. (get_or bars n d).depth) same ∙ omega (arith, more.depth, done.depth, same, ordered);
       primary = ap (λ n. (get_or bars n d).primary) same ∙ more.primary ∙ done.primary;
@@ -169,7 +170,8 @@ drawn_right : (layout : Layout) (old new : List Cell) → BarsDrawn layout old n
 drawn_right layout old new drawn c right =
     let k : ℕ = c - layout.code in
     let same : layout.code + k ≡ c = omega (arith, right) in
-    subst (λ n. get_or new n SPACE ≡ get_or old n SPACE) same (sym (get_or-drop layout.code new k SPACE) ∙ ap (λ cells. get_or cells k SPACE) drawn.code ∙ get_or-drop layout.code old k SPACE)
+    subst (λ n. get_or new n SPACE ≡ get_or old n SPACE) same (sym (get_or-drop layout.code new k SPACE) ∙ ap (λ cells. get_or cells k SPACE) drawn.code
+    ∙ get_or-drop layout.code old k SPACE)
 
 -- and so are those of the front
 drawn_front : (layout : Layout) (old new : List Cell) → BarsDrawn layout old new → layout.gutter + 2 ≤ length old
@@ -211,12 +213,14 @@ IsStrokeRow-drawn layout plain es closes old new is drawn =
 ShowsMarks-drawn : (layout : Layout) (es : List LineAnnotation) (old new : List Cell) → ShowsMarks layout.decor layout.code es old → BarsDrawn layout old new
     → ShowsMarks layout.decor layout.code es new
 ShowsMarks-drawn layout es old new shows drawn =
-    let same : (p : ℕ) → slice_index_or new (layout.code + p) SPACE ≡ slice_index_or old (layout.code + p) SPACE = λ p. drawn_right layout old new drawn (layout.code + p) (omega arith) in
+    let same : (p : ℕ) → slice_index_or new (layout.code + p) SPACE ≡ slice_index_or old (layout.code + p) SPACE = λ p.
+    drawn_right layout old new drawn (layout.code + p) (omega arith) in
     record {
       marks = λ p kind mark. subst (IsMarkCell layout.decor kind) (sym (same p)) (shows.marks p kind mark);
       unmarked = λ p none. ap has_mark_role (same p) ∙ shows.unmarked p none;
       spaces = λ bare p none. same p ∙ shows.spaces bare p none;
-      lone = λ e alone wide label. sym (drop-drop e.end.display layout.code new) ∙ ap (drop e.end.display) drawn.code ∙ drop-drop e.end.display layout.code old ∙ shows.lone e alone wide label;
+      lone = λ e alone wide label. sym (drop-drop e.end.display layout.code new) ∙ ap (drop e.end.display) drawn.code ∙ drop-drop e.end.display layout.code old
+          ∙ shows.lone e alone wide label;
     }
 
 AreStrokes-drawn : (layout : Layout) (room : ℕ) (es : List LineAnnotation) (closes : Bool) (old new : List (List Cell))
@@ -233,7 +237,8 @@ AreStrokes-drawn layout room es closes old new is count drawn =
       labels = λ uncut ends. LabelsStand-kept layout es old new (is.labels uncut ends) kept;
       are = λ k within.
           let inside : k < length old = omega (arith, within, count) in
-          subst (λ n. IsStrokeRow layout plain es (closes && k + 1 == n) (row_at new k)) (sym count) (IsStrokeRow-drawn layout plain es (closes && k + 1 == length old) (row_at old k) (row_at new k) (is.are k inside) (drawn k inside));
+          subst (λ n. IsStrokeRow layout plain es (closes && k + 1 == n) (row_at new k)) (sym count)
+          (IsStrokeRow-drawn layout plain es (closes && k + 1 == length old) (row_at old k) (row_at new k) (is.are k inside) (drawn k inside));
     }
   where
     kept : (r c : ℕ) → layout.code ≤ c → cell_at new r c ≡ cell_at old r c
@@ -270,14 +275,16 @@ AddsStrokes-drawn layout room es closes above plain old new row last long adds d
     let short : length (take row new) ≡ row = length-take-le row new (omega (arith, here)) in
     let top : take row new ≡ above = ext_get_or [] (take row new) above (short ∙ last) (λ k within.
     let inside : k < row = omega (arith, within, short) in
-    get_or-take row new k [] inside ∙ draws.above k inside ∙ ap (λ rs. get_or rs k []) adds.added ∙ get_or_append_left above (source ∷ rows) [] k (omega (arith, inside, last))) in
+    get_or-take row new k [] inside ∙ draws.above k inside ∙ ap (λ rs. get_or rs k []) adds.added
+    ∙ get_or_append_left above (source ∷ rows) [] k (omega (arith, inside, last))) in
     let first : row_at old row ≡ source = ap (λ rs. row_at rs row) adds.added ∙ get_or_at above source rows [] row (sym last) in
     let rest : drop (row + 1) old ≡ rows = ap (drop (row + 1)) adds.added ∙ after above source rows (row + 1) (omega (arith, last)) in
     record {
       source = row_at new row;
       rows = below;
       added = split new row ∙ ap (λ rs. rs ++ drop row new) top ∙ ap (λ rs. above ++ rs) (drop_more new row [] here);
-      beside = IsBeside-drawn layout (wide_entries room layout.decor es) plain source (row_at new row) long adds.beside (subst (λ cells. BarsDrawn layout cells (row_at new row)) first (draws.rows row));
+      beside = IsBeside-drawn layout (wide_entries room layout.decor es) plain source (row_at new row) long adds.beside
+          (subst (λ cells. BarsDrawn layout cells (row_at new row)) first (draws.rows row));
       are = AreStrokes-drawn layout room es closes rows below adds.are few
           (λ k within. subst (λ cells. BarsDrawn layout cells (row_at below k)) (sym (get_or-drop (row + 1) old k []) ∙ ap (λ rs. row_at rs k) rest)
           (subst (λ cells. BarsDrawn layout (row_at old (row + 1 + k)) cells) (sym (get_or-drop (row + 1) new k [])) (draws.rows (row + 1 + k))));

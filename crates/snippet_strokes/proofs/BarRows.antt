@@ -48,7 +48,8 @@ ChangesRows-next at cells row r old mid new low there done writes =
       ];
       before = λ n above. beside n (λ same. omega (arith, same, above, low)) ∙ done.before n above;
       after = λ n below. beside n (λ same. omega (arith, same, below)) ∙ done.after n (omega (arith, below));
-      count = ap length writes ∙ (let count = (WritesCells-cells_written mid r at cells).count in let long : length (cells_written mid r at cells) ≡ length old = omega (arith, count, done.count, there) in long);
+      count = ap length writes ∙ (let count = (WritesCells-cells_written mid r at cells).count in let long : length (cells_written mid r at cells)
+          ≡ length old = omega (arith, count, done.count, there) in long);
     }
   where
     beside : (n : ℕ) → (n ≡ r → ⊥) → row_at new n ≡ row_at mid n
@@ -61,9 +62,19 @@ changed-is rule row end old new all changes =
     elim (cases_lt row (length old)) [
       | inl inside ↦
           let short : length (take row old) ≡ row = length-take-le row old (omega (arith, inside)) in
-          ext_get_or [] new (changed_from rule row old) (omega (arith, changes.count, length-append (take row old) (map rule (drop row old)), length-map (drop row old) rule, length-drop row old, short, inside)) (λ r within. elim (cases_lt r row) [
+          ext_get_or [] new (changed_from rule row old) (omega (
+            arith,
+            changes.count,
+            length-append (take row old) (map rule (drop row old)),
+            length-map
+                (drop row old) rule,
+            length-drop row old,
+            short,
+            inside,
+          )) (λ r within. elim (cases_lt r row) [
             | inl above ↦
-                changes.before r above ∙ sym (get_or_append_left (take row old) (map rule (drop row old)) [] r (omega (arith, short, above)) ∙ get_or-take row old r [] above)
+                changes.before r above ∙ sym (get_or_append_left (take row old) (map rule (drop row old)) [] r (omega (arith, short, above))
+                ∙ get_or-take row old r [] above)
             | inr low ↦
                 let there : r < length old = omega (arith, within, changes.count) in
                 let place : row + (r - row) ≡ r = omega (arith, low) in
@@ -75,7 +86,8 @@ changed-is rule row end old new all changes =
       | inr past ↦
           let whole : take row old ≡ old = take_all row old (omega (arith, past)) in
           let none : drop row old ≡ [] = drop_all row old (omega (arith, past)) in
-          ext_get_or [] new old changes.count (λ r within. changes.before r (omega (arith, within, changes.count, past))) ∙ sym (ap (λ rows. take row old ++ map rule rows) none ∙ append_none (take row old) ∙ whole)
+          ext_get_or [] new old changes.count (λ r within. changes.before r (omega (arith, within, changes.count, past)))
+          ∙ sym (ap (λ rows. take row old ++ map rule rows) none ∙ append_none (take row old) ∙ whole)
     ]
   where
     append_none : (rows : List (List Cell)) → rows ++ [] ≡ rows
@@ -138,9 +150,12 @@ written-next row at n cell =
     let mid : List Cell = written SPACE row at few in
     let count : length few ≡ n = length-replicate n cell in
     let count_more : length more ≡ n + 1 = length-replicate (n + 1) cell in
-    ext_get_or SPACE (written SPACE mid (at + n) (cell ∷ [])) (written SPACE row at more) (omega (arith, length-written SPACE mid (at + n) (cell ∷ []), length-written SPACE row at few, length-written SPACE row at more, count, count_more)) (λ k within. elim (cases_lt k at) [
+    ext_get_or SPACE (written SPACE mid (at + n) (cell ∷ [])) (written SPACE row at more)
+    (omega (arith, length-written SPACE mid (at + n) (cell ∷ []), length-written SPACE row at few, length-written SPACE row at more, count, count_more))
+    (λ k within. elim (cases_lt k at) [
       | inl left ↦
-          slice_index_or-written_before SPACE mid (at + n) (cell ∷ []) k (omega (arith, left)) ∙ slice_index_or-written_before SPACE row at few k left ∙ sym (slice_index_or-written_before SPACE row at more k left)
+          slice_index_or-written_before SPACE mid (at + n) (cell ∷ []) k (omega (arith, left)) ∙ slice_index_or-written_before SPACE row at few k left
+          ∙ sym (slice_index_or-written_before SPACE row at more k left)
       | inr from ↦
           let j : ℕ = k - at in
           let place : at + j ≡ k = omega (arith, from) in
@@ -162,7 +177,9 @@ written-next row at n cell =
                   ∙ get_or-replicate (n + 1) j cell SPACE (omega (arith, here, from)))
               | inr after ↦
                   let beyond : at + n + 1 ≤ k = omega (arith, past, after) in
-                  slice_index_or-written_after SPACE mid (at + n) (cell ∷ []) k SPACE beyond ∙ slice_index_or-written_after SPACE row at few k SPACE (omega (arith, count, beyond)) ∙ sym (slice_index_or-written_after SPACE row at more k SPACE (omega (arith, count_more, beyond)))
+                  slice_index_or-written_after SPACE mid (at + n) (cell ∷ []) k SPACE beyond
+                  ∙ slice_index_or-written_after SPACE row at few k SPACE (omega (arith, count, beyond))
+                  ∙ sym (slice_index_or-written_after SPACE row at more k SPACE (omega (arith, count_more, beyond)))
             ]
           ]
     ])
@@ -173,7 +190,9 @@ module _ (layout : Layout) (stroke : BarStroke) where
       → with_bar layout stroke row bar ≡ written SPACE row (layout.gutter + 2 + first.depth + k) (bar_cell_part layout stroke first ∷ [])
   beside_part first bar k row beside =
       let place : layout.gutter + 2 + bar.depth ≡ layout.gutter + 2 + first.depth + k = omega (arith, beside.depth) in
-      ap (λ n. written SPACE row n (bar_cell_part layout stroke bar ∷ [])) place ∙ ap (λ p. written SPACE row (layout.gutter + 2 + first.depth + k) (unlinked_cell (underline_role p) (bar_glyph stroke layout.decor p) ∷ [])) beside.primary
+      ap (λ n. written SPACE row n (bar_cell_part layout stroke bar ∷ [])) place
+      ∙ ap (λ p. written SPACE row (layout.gutter + 2 + first.depth + k)
+      (unlinked_cell (underline_role p) (bar_glyph stroke layout.decor p) ∷ [])) beside.primary
 
   -- one bar more
   bars_more : (bars : List OpenBar) (i : ℕ) (d : OpenBar) (row : List Cell) → i < length bars
@@ -193,7 +212,8 @@ module _ (layout : Layout) (stroke : BarStroke) where
       let cells : List Cell = bar_cell_part layout stroke first ∷ [] in
       let before : List Cell = with_bars layout stroke (take from bars) row in
       let own : StandsBeside first 0 (get_or bars from first) = subst (λ i. StandsBeside first 0 (get_or bars i first)) here (beside 0 first (omega arith)) in
-      sym (bars_more bars from first row (omega (arith, within)) ∙ beside_part first (get_or bars from first) 0 before own ∙ ap (λ n. written SPACE before n cells) none)
+      sym (bars_more bars from first row (omega (arith, within)) ∙ beside_part first (get_or bars from first) 0 before own
+      ∙ ap (λ n. written SPACE before n cells) none)
   side_more bars from (suc m) first row within beside =
       let at : ℕ = layout.gutter + 2 + first.depth in
       let cell : Cell = bar_cell_part layout stroke first in

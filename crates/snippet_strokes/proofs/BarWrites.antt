@@ -81,7 +81,8 @@ connectors_within layout row count es rows =
       below = omega arith;
       there = (rows k d within).mark;
       right = omega arith;
-      free = All-replicate P (to - (layout.gutter + 3 + depth)) glyph (free_bar layout.decor (unlinked_cell (stroke_role e) glyph) (bar_horizontal layout.decor primary (stroke_role e) glyph refl)).0;
+      free = All-replicate P (to - (layout.gutter + 3 + depth)) glyph
+          (free_bar layout.decor (unlinked_cell (stroke_role e) glyph) (bar_horizontal layout.decor primary (stroke_role e) glyph refl)).0;
     })))
 
 -- each is a part of a bar
@@ -94,7 +95,8 @@ connectors_bar_cells layout row es =
     let glyph : ℕ = (strokes_of layout.decor primary).connector in
     let to = layout.code + e.entry.start.display in
     let P : ℕ → Type 0 = λ ch. IsBarCell layout.decor (unlinked_cell (stroke_role e) ch) in
-    All-connector_of R layout row e (λ depth. All-stretch_of R (row + e.position) (layout.gutter + 3 + depth) to glyph (stroke_role e) (All-replicate P (to - (layout.gutter + 3 + depth)) glyph (bar_horizontal layout.decor primary (stroke_role e) glyph refl))))
+    All-connector_of R layout row e (λ depth. All-stretch_of R (row + e.position) (layout.gutter + 3 + depth) to glyph (stroke_role e)
+    (All-replicate P (to - (layout.gutter + 3 + depth)) glyph (bar_horizontal layout.decor primary (stroke_role e) glyph refl))))
 
 -- so they are drawn right of the separator, and left of the code they are nothing but parts of bars
 pub DrawsFrom-connectors : (layout : Layout) (row : ℕ) (es : List PlacedEntry) (old : List (List Cell)) → All (HasRows row (length old)) es
@@ -126,7 +128,8 @@ pub line_painted : (layout : Layout) (row : ℕ) (e : PlacedEntry) (depth glyph 
 line_painted layout row e depth glyph role old new is_glyph is_role drawn_now =
     let from = layout.gutter + 3 + depth in
     let to = layout.code + e.entry.start.display in
-    drawn_now ∙ ap (λ g. painted (stretch_of (row + e.position) from to g role) old) is_glyph ∙ ap (λ r. painted (stretch_of (row + e.position) from to (strokes_of layout.decor (is_primary e.entry.kind)).connector r) old) is_role
+    drawn_now ∙ ap (λ g. painted (stretch_of (row + e.position) from to g role) old) is_glyph
+    ∙ ap (λ r. painted (stretch_of (row + e.position) from to (strokes_of layout.decor (is_primary e.entry.kind)).connector r) old) is_role
 
 -- ---- bars
 
@@ -169,7 +172,8 @@ All-column_of P start end cell glyph role holds =
 pub corners_bars : (layout : Layout) (row count : ℕ) (es : List PlacedEntry) → All (λ e. HasBarCell layout e.entry) es → All (HasRows (row + 1) count) es
     → All (IsBarWrite layout row count) (corners_of layout row count es)
 corners_bars layout row count es bar_cells rows =
-    All-flat_map (IsBarWrite layout row count) (corner_of layout row count) es (λ k d within. by_part (get_or es k d) (rows k d within) (get_or es k d).entry.annotation_type (bar_cells k d within))
+    All-flat_map (IsBarWrite layout row count) (corner_of layout row count) es (λ k d within.
+    by_part (get_or es k d) (rows k d within) (get_or es k d).entry.annotation_type (bar_cells k d within))
   where
     B : Write → Type 0
     B = IsBarWrite layout row count
@@ -246,7 +250,9 @@ pub bar_painted : (layout : Layout) (e : PlacedEntry) (depth start row glyph : �
 bar_painted layout e depth start row glyph role old mid new is_glyph is_role below so_far writes =
     let line : ℕ = (strokes_of layout.decor (is_primary e.entry.kind)).bar in
     let cell = layout.gutter + 2 + depth in
-    column_painted start row cell line (stroke_role e) old mid new below so_far (writes ∙ ap (λ g. cells_written mid row cell (text_cells role (g ∷ []))) is_glyph ∙ ap (λ r. cells_written mid row cell (text_cells r (line ∷ []))) is_role)
+    column_painted start row cell line (stroke_role e) old mid new below so_far
+    (writes ∙ ap (λ g. cells_written mid row cell (text_cells role (g ∷ []))) is_glyph
+    ∙ ap (λ r. cells_written mid row cell (text_cells r (line ∷ []))) is_role)
 
 -- a bar with no rows is no write
 pub bar_of-none : (layout : Layout) (e : PlacedEntry) (depth start : ℕ) → bar_writes layout e depth start start ≡ []
@@ -277,4 +283,6 @@ bottom_painted layout row e depth glyph role old mid new is_glyph is_role begins
     let cell = layout.gutter + 2 + depth in
     let last : ℕ = (strokes_of layout.decor (is_primary e.entry.kind)).bar_bottom in
     let w : Write = glyph_at corner cell last (stroke_role e) in
-    ends ∙ ap (λ g. cells_written mid corner cell (text_cells role (g ∷ []))) is_glyph ∙ ap (λ r. cells_written mid corner cell (text_cells r (last ∷ []))) is_role ∙ ap (λ rows. written_by rows w) begins ∙ sym (painted-append (bar_writes layout e depth row corner) (w ∷ []) old)
+    ends ∙ ap (λ g. cells_written mid corner cell (text_cells role (g ∷ []))) is_glyph
+    ∙ ap (λ r. cells_written mid corner cell (text_cells r (last ∷ []))) is_role ∙ ap (λ rows. written_by rows w) begins
+    ∙ sym (painted-append (bar_writes layout e depth row corner) (w ∷ []) old)

@@ -51,20 +51,24 @@ pub begun_row : (layout : Layout) (closes : Bool) (old begun : List (List Cell))
 begun_row layout closes old begun count k begins within =
     ap (λ rows. row_at rows (length old + k)) begins ∙ elim (cases_eq (k + 1) count) [
       | inl here ↦
-          last (bare_row layout.decor layout.gutter closes) (separator_row layout.decor layout.gutter) here ∙ ap (bare_row layout.decor layout.gutter) (sym (ap (λ b. closes && b) (is_last here) ∙ and_true closes))
+          last (bare_row layout.decor layout.gutter closes) (separator_row layout.decor layout.gutter) here
+          ∙ ap (bare_row layout.decor layout.gutter) (sym (ap (λ b. closes && b) (is_last here) ∙ and_true closes))
       | inr other ↦
-          after (bare_row layout.decor layout.gutter closes) (separator_row layout.decor layout.gutter) (omega (arith, within, other)) ∙ ap (bare_row layout.decor layout.gutter) (sym (ap (λ b. closes && b) (not_last other) ∙ and_false closes))
+          after (bare_row layout.decor layout.gutter closes) (separator_row layout.decor layout.gutter) (omega (arith, within, other))
+          ∙ ap (bare_row layout.decor layout.gutter) (sym (ap (λ b. closes && b) (not_last other) ∙ and_false closes))
     ]
   where
     last : (end sep : List Cell) → k + 1 ≡ count → row_at (old ++ replicate (count - 1) sep ++ end ∷ []) (length old + k) ≡ end
     last end sep here =
         let same : length old + (count - 1) ≡ length old + k = omega (arith, here) in
-        get_or_push (old ++ replicate (count - 1) sep) end [] (length old + k) (length-append old (replicate (count - 1) sep) ∙ ap (λ n. length old + n) (length-replicate (count - 1) sep) ∙ same)
+        get_or_push (old ++ replicate (count - 1) sep) end [] (length old + k)
+        (length-append old (replicate (count - 1) sep) ∙ ap (λ n. length old + n) (length-replicate (count - 1) sep) ∙ same)
 
     after : (end sep : List Cell) → k < count - 1 → row_at (old ++ replicate (count - 1) sep ++ end ∷ []) (length old + k) ≡ sep
     after end sep before =
         let inner : row_at (old ++ replicate (count - 1) sep) (length old + k) ≡ sep = grind (arith, places, get_or-replicate (count - 1) k sep [] before) in
-        get_or_append_left (old ++ replicate (count - 1) sep) (end ∷ []) [] (length old + k) (omega (arith, length-append old (replicate (count - 1) sep), length-replicate (count - 1) sep, before)) ∙ inner
+        get_or_append_left (old ++ replicate (count - 1) sep) (end ∷ []) [] (length old + k)
+        (omega (arith, length-append old (replicate (count - 1) sep), length-replicate (count - 1) sep, before)) ∙ inner
 
     is_last : k + 1 ≡ count → (k + 1 == count) ≡ true
     is_last here = grind (arith, nat_tests, here)
@@ -90,16 +94,20 @@ written_far row cells at short =
     take-written_past SPACE row (at + 1) cells (omega arith) ∙ ap (λ n. row ++ replicate n SPACE) one
     ∙ ap (λ xs. row ++ xs) (sym (replicate_more (at - length row) SPACE))
     ∙ sym (append_assoc row (replicate (at - length row) SPACE) (SPACE ∷ [])) in
-    let back : drop (at + 1) whole ≡ cells = drop-written SPACE row (at + 1) cells ∙ ap (λ xs. cells ++ xs) (drop_all (at + 1 + length cells) row (omega arith)) ∙ append-nil cells in
-    let all : whole ≡ pad ++ SPACE ∷ cells = sym (take-append-drop (at + 1) whole) ∙ ap (λ xs. xs ++ drop (at + 1) whole) front ∙ ap (λ xs. (pad ++ SPACE ∷ []) ++ xs) back ∙ append_assoc pad (SPACE ∷ []) cells in
-    let long : length pad ≡ at = length-append row (replicate (at - length row) SPACE) ∙ ap (λ n. length row + n) (length-replicate (at - length row) SPACE) ∙ let full : length row + (at - length row) ≡ at = omega arith in full in
+    let back : drop (at + 1) whole ≡ cells = drop-written SPACE row (at + 1) cells
+    ∙ ap (λ xs. cells ++ xs) (drop_all (at + 1 + length cells) row (omega arith)) ∙ append-nil cells in
+    let all : whole ≡ pad ++ SPACE ∷ cells = sym (take-append-drop (at + 1) whole) ∙ ap (λ xs. xs ++ drop (at + 1) whole) front
+    ∙ ap (λ xs. (pad ++ SPACE ∷ []) ++ xs) back ∙ append_assoc pad (SPACE ∷ []) cells in
+    let long : length pad ≡ at = length-append row (replicate (at - length row) SPACE) ∙ ap (λ n. length row + n) (length-replicate (at - length row) SPACE)
+    ∙ let full : length row + (at - length row) ≡ at = omega arith in full in
     ap (λ n. drop n whole) (sym long) ∙ ap (drop (length pad)) all ∙ drop-append_seam pad (SPACE ∷ cells)
 
 -- two rows that are as long and agree from a cell on
 pub same_after : (xs ys : List Cell) (at : ℕ) → length xs ≡ length ys → ((c : ℕ) → at ≤ c → slice_index_or xs c SPACE ≡ slice_index_or ys c SPACE)
     → drop at xs ≡ drop at ys
 same_after xs ys at long same =
-    ext_get_or SPACE (drop at xs) (drop at ys) (grind (arith, places)) (λ k within. get_or-drop at xs k SPACE ∙ same (at + k) (omega arith) ∙ sym (get_or-drop at ys k SPACE))
+    ext_get_or SPACE (drop at xs) (drop at ys) (grind (arith, places)) (λ k within.
+    get_or-drop at xs k SPACE ∙ same (at + k) (omega arith) ∙ sym (get_or-drop at ys k SPACE))
 
 -- a cell of a row that is free, and the space after it
 pub free_cell : (row : List Cell) → IsFree row → (c : ℕ) → IsFreeCell (slice_index_or row c SPACE)
@@ -157,7 +165,9 @@ pub wide_entries-order : (room : ℕ) (decor : DecorStyle) (es : List LineAnnota
     → wide_entries room decor (map (λ (e : PlacedEntry). e.entry) (painting_order placed)) ≡ wide_entries room decor es
 wide_entries-order room decor es placed are =
     let f : PlacedEntry → LineAnnotation = λ e. e.entry in
-    wide_entries-permutation room decor es (map f (painting_order placed)) (IsPermutation-trans es (map f placed) (map f (painting_order placed)) are.same (IsPermutation-map f placed (painting_order placed) (IsPermutation-painting_order placed)))
+    wide_entries-permutation room decor es (map f (painting_order placed))
+    (IsPermutation-trans es (map f placed) (map f (painting_order placed)) are.same
+    (IsPermutation-map f placed (painting_order placed) (IsPermutation-painting_order placed)))
 
 -- a row of which stretches gave their place to the placeholder: left of the code it stays
 pub cut_left : (layout : Layout) (wide : ℕ) (whole row : List Cell) → IsCut layout wide whole row → (c : ℕ) → c < layout.code

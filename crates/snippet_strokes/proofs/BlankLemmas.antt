@@ -102,7 +102,8 @@ blank_both text (suc a) zero =
 blank_both [] (suc a) (suc b) = nothing_blank (max (suc a) (suc b))
 blank_both (x ∷ xs) (suc a) (suc b) =
     let greater : max (suc a) (suc b) ≡ suc (max a b) = omega arith in
-    ap (begins_blank (x ∷ xs)) greater ∙ ap (λ rest. is_whitespace x && rest) (blank_both xs a b) ∙ both_ahead (is_whitespace x) (begins_blank xs a) (begins_blank xs b)
+    ap (begins_blank (x ∷ xs)) greater ∙ ap (λ rest. is_whitespace x && rest) (blank_both xs a b)
+    ∙ both_ahead (is_whitespace x) (begins_blank xs a) (begins_blank xs b)
 
 -- of some entries of a line those before this one stand beside it where it begins with so much whitespace
 abbrev pub PassedTo : List ℕ → List LineAnnotation → ℕ → ℕ → Type 0
@@ -122,7 +123,8 @@ pub bar_passed : (text : List ℕ) (es : List LineAnnotation) (i last next depth
 bar_passed text es i last next depth d within bar is =
     let e : LineAnnotation = get_or es i d in
     let beside : is_beside text e ≡ true = ap (λ (t : LineAnnotationType). is_bar t || is_start_part t && begins_blank text e.start.display) bar in
-    passed_more text es i last next d within (ap (begins_blank text) is ∙ true_last (begins_blank text last) ∙ ap (λ b. begins_blank text last && b) (sym beside))
+    passed_more text es i last next d within (ap (begins_blank text) is ∙ true_last (begins_blank text last)
+    ∙ ap (λ b. begins_blank text last && b) (sym beside))
 
 -- the greater of two numbers, as it is computed
 greater_is : (a b : ℕ) → ord_max nat_cmp a b ≡ max a b
@@ -134,5 +136,7 @@ pub start_passed : (text : List ℕ) (es : List LineAnnotation) (i last next dep
     → PassedTo text es i last → PassedTo text es (i + 1) next
 start_passed text es i last next depth d within starts is =
     let e : LineAnnotation = get_or es i d in
-    let beside : is_beside text e ≡ begins_blank text e.start.display = ap (λ (t : LineAnnotationType). is_bar t || is_start_part t && begins_blank text e.start.display) starts in
-    passed_more text es i last next d within (ap (begins_blank text) (is ∙ greater_is last e.start.display) ∙ blank_both text last e.start.display ∙ ap (λ b. begins_blank text last && b) (sym beside))
+    let beside : is_beside text e ≡ begins_blank text e.start.display = ap
+    (λ (t : LineAnnotationType). is_bar t || is_start_part t && begins_blank text e.start.display) starts in
+    passed_more text es i last next d within (ap (begins_blank text) (is ∙ greater_is last e.start.display) ∙ blank_both text last e.start.display
+    ∙ ap (λ b. begins_blank text last && b) (sym beside))

@@ -51,7 +51,8 @@ put_more : (code k : ℕ) (cells row : List Cell) (y : Cell) (ys : List Cell) �
 put_more code k [] row y ys ends =
     written_first code k row (y ∷ ys) ends ∙ sym (with_cells-some code (written SPACE [] k (y ∷ ys)) row (omega (arith, length-written SPACE [] k (y ∷ ys))))
 put_more code k (c ∷ cells) row y ys ends =
-    written_after code k (c ∷ cells) row (y ∷ ys) ends (omega arith) ∙ sym (with_cells-some code (written SPACE (c ∷ cells) k (y ∷ ys)) row (omega (arith, length-written SPACE (c ∷ cells) k (y ∷ ys))))
+    written_after code k (c ∷ cells) row (y ∷ ys) ends (omega arith)
+    ∙ sym (with_cells-some code (written SPACE (c ∷ cells) k (y ∷ ys)) row (omega (arith, length-written SPACE (c ∷ cells) k (y ∷ ys))))
 
 -- a text that is put after the cells of the last row
 pub put_text : (above mid new : List (List Cell)) (cells row : List Cell) (r code k : ℕ) (bytes : List ℕ) (role : ElementStyle) → IsUtf8 bytes
@@ -108,9 +109,11 @@ free_placeholder Unicode = free_drawn LineNumber (placeholder_of Unicode) (each_
 free_begun : (decor : DecorStyle) (start : Option ℕ) (text : List ℕ) → All (λ c. is_listed c ≡ false) text → IsFree (begun_cells decor start text)
 free_begun decor None text free = free_drawn Quotation text free
 free_begun decor (Some columns) text free =
-    elim (length text == 0) as (λ b. IsFree (cond b (text_cells LineNumber (placeholder_of decor)) (written SPACE (text_cells LineNumber (placeholder_of decor)) columns (text_cells Quotation text)))) [
+    elim (length text == 0) as (λ b. IsFree (cond b (text_cells LineNumber (placeholder_of decor))
+    (written SPACE (text_cells LineNumber (placeholder_of decor)) columns (text_cells Quotation text)))) [
       | true ↦ free_placeholder decor
-      | false ↦ free_written (text_cells LineNumber (placeholder_of decor)) columns (text_cells Quotation text) (free_placeholder decor) (free_drawn Quotation text free)
+      | false ↦ free_written (text_cells LineNumber (placeholder_of decor)) columns (text_cells Quotation text) (free_placeholder decor)
+          (free_drawn Quotation text free)
     ]
 
 -- the cells that show a text without listed characters are free
@@ -129,9 +132,18 @@ begun_short : (decor : DecorStyle) (start : Option ℕ) (text : List ℕ) → If
     → length (begun_cells decor start text) < 2 ^ 61
 begun_short decor None text few short = omega (arith, length-text_cells Quotation text)
 begun_short decor (Some columns) text few short =
-    elim (length text == 0) as (λ b. length (cond b (text_cells LineNumber (placeholder_of decor)) (written SPACE (text_cells LineNumber (placeholder_of decor)) columns (text_cells Quotation text))) < 2 ^ 61) [
+    elim (length text == 0) as (λ b. length (cond b (text_cells LineNumber (placeholder_of decor))
+    (written SPACE (text_cells LineNumber (placeholder_of decor)) columns (text_cells Quotation text))) < 2 ^ 61) [
       | true ↦ omega (arith, placeholder_short decor)
-      | false ↦ omega (arith, placeholder_short decor, length-written SPACE (text_cells LineNumber (placeholder_of decor)) columns (text_cells Quotation text), length-text_cells Quotation text, few, short)
+      | false ↦ omega (
+        arith,
+        placeholder_short decor,
+        length-written SPACE (text_cells LineNumber (placeholder_of decor)) columns
+            (text_cells Quotation text),
+        length-text_cells Quotation text,
+        few,
+        short,
+      )
     ]
 
 -- the cells that show a short text are few
@@ -139,7 +151,14 @@ pub shown_short : (decor : DecorStyle) (start : Option ℕ) (text : List ℕ) (e
     → IfSome end (λ at. at < 2 ^ 61) → length (shown_cells decor start text end) < 2 ^ 61 + 4
 shown_short decor start text None few short ends = omega (arith, begun_short decor start text few short)
 shown_short decor start text (Some at) few short ends =
-    omega (arith, begun_short decor start text few short, length-written SPACE (begun_cells decor start text) at (text_cells LineNumber (placeholder_of decor)), placeholder_short decor, ends)
+    omega (
+      arith,
+      begun_short decor start text few short,
+      length-written SPACE (begun_cells decor start text) at
+          (text_cells LineNumber (placeholder_of decor)),
+      placeholder_short decor,
+      ends,
+    )
 
 -- the text of a window holds no listed character
 pub unlisted_part : (left room from right : ℕ) (placeholder text : List ℕ) → All (λ c. is_listed c ≡ false) text
@@ -148,7 +167,8 @@ unlisted_part left room from right placeholder text free =
     let P : ℕ → Type 0 = λ c. is_listed c ≡ false in
     let rest = drop (reaching (window_left from text) text) text in
     let inner = inner_part room from right text in
-    let free_inner : All P inner = All-take P (fitting (window_right room from right text - window_left from text) rest) rest (All-drop P (reaching (window_left from text) text) text free) in
+    let free_inner : All P inner = All-take P (fitting (window_right room from right text - window_left from text) rest) rest
+    (All-drop P (reaching (window_left from text) text) text free) in
     elim (left == 0) as (λ b. All P (cond b inner (drop (reaching (width_of placeholder) inner) inner))) [
       | true ↦ free_inner
       | false ↦ All-drop P (reaching (width_of placeholder) inner) inner free_inner
@@ -171,7 +191,8 @@ pub begun_cut : (decor : DecorStyle) (start : Option ℕ) (columns : ℕ) (above
     → (0 < length text → new ≡ cells_written mid r (code + columns) (text_cells Quotation (chars text))) → (text ≡ [] → new ≡ mid) → r ≡ length above
     → length row ≤ code → old ≡ above ++ row ∷ [] → new ≡ above ++ with_cells code (begun_cells decor start (chars text)) row ∷ []
 begun_cut decor start columns above old mid new row r code placeholder text some utf8_placeholder utf8 is first first_stays writes stays last ends before =
-    let placed = put_text above old mid [] row r code 0 placeholder LineNumber utf8_placeholder ends before last (λ more. first more ∙ ap (λ k. cells_written old r k (text_cells LineNumber (chars placeholder))) (sym (add-zero code))) first_stays in
+    let placed = put_text above old mid [] row r code 0 placeholder LineNumber utf8_placeholder ends before last (λ more.
+    first more ∙ ap (λ k. cells_written old r k (text_cells LineNumber (chars placeholder))) (sym (add-zero code))) first_stays in
     put_text above mid new (put 0 [] (text_cells LineNumber (chars placeholder))) row r code columns text Quotation utf8 ends placed last writes stays
     ∙ ap (λ (cs : List ℕ). above ++ with_cells code (put columns (put 0 [] (text_cells LineNumber cs)) (text_cells Quotation (chars text)))
     row ∷ []) is ∙ ap (λ cells. above ++ with_cells code cells row ∷ []) (put_begun decor columns (chars text))
@@ -216,4 +237,5 @@ cells_are decor margin start end shown placeholder cs text is_placeholder is_tex
     ∙ ap (λ t. shown_cells decor (covered_columns left placeholder (inner_part room left right cs)) t end) is_shown
     ∙ ap (λ e. shown_cells decor (covered_columns left placeholder (inner_part room left right cs))
     (uncovered_part left placeholder (inner_part room left right cs)) e) is_end in
-    made ∙ ap (λ p. shown_cells decor (covered_columns left p (inner_part room left right cs)) (uncovered_part left p (inner_part room left right cs)) (covered_end room left right p cs)) is_placeholder ∙ ap (λ t. window_cells decor margin t) is_text
+    made ∙ ap (λ p. shown_cells decor (covered_columns left p (inner_part room left right cs)) (uncovered_part left p (inner_part room left right cs))
+    (covered_end room left right p cs)) is_placeholder ∙ ap (λ t. window_cells decor margin t) is_text

@@ -62,7 +62,8 @@ module _ (layout : Layout) (depth : ℕ) (some : 0 < depth) (room : layout.gutte
           let S : ℕ → Type 0 = λ ch. NoBar (unlinked_cell (stroke_role e) ch) in
           All-connector_of (Clear r) layout 1 e (λ deep.
           let from : ℕ = layout.gutter + 3 + deep in
-          All-stretch_of (Clear r) (1 + e.position) from to glyph (stroke_role e) (λ there. All-replicate S (to - from) glyph (inr (primary, refl)) (cell - from) 0 (omega (arith, there.from, there.to))))
+          All-stretch_of (Clear r) (1 + e.position) from to glyph (stroke_role e) (λ there.
+          All-replicate S (to - from) glyph (inr (primary, refl)) (cell - from) 0 (omega (arith, there.from, there.to))))
 
   -- so the strokes of a line leave none, if none was there and no entry has this depth
   strokes_clear : (count : ℕ) (placed order : List PlacedEntry) (begun : List (List Cell)) (r : ℕ)
@@ -75,11 +76,14 @@ module _ (layout : Layout) (depth : ℕ) (some : 0 < depth) (room : layout.gutte
       let four : List Write = labels_of layout 1 placed in
       let five : List Write = marks_of layout 1 order in
       let C : Write → Type 0 = Clear r in
-      let corners : All C two = away r two (All-flat_map (λ w. Reaches r cell w → ⊥) (corner_of layout 0 count) placed (λ k d within. part_leaves layout bar room count placed order begun r (get_or placed k d) (get_or placed k d).entry.annotation_type (others k d within))) in
+      let corners : All C two = away r two (All-flat_map (λ w. Reaches r cell w → ⊥) (corner_of layout 0 count) placed (λ k d within.
+      part_leaves layout bar room count placed order begun r (get_or placed k d) (get_or placed k d).entry.annotation_type (others k d within))) in
       let barred : All C (one ++ two) = All-append C one two (lines_clear r placed) corners in
       let hung : All C (one ++ two ++ three) = All-append C (one ++ two) three barred (away r three (stems_right layout bar room count placed order begun r)) in
-      let named : All C (one ++ two ++ three ++ four) = All-append C (one ++ two ++ three) four hung (away r four (labels_right layout bar room count placed order begun r)) in
-      painted-cell NoBar (line_strokes layout 0 count placed order) begun r cell before (All-append C (one ++ two ++ three ++ four) five named (away r five (marks_right layout bar room count placed order begun r)))
+      let named : All C (one ++ two ++ three ++ four) = All-append C (one ++ two ++ three) four hung
+      (away r four (labels_right layout bar room count placed order begun r)) in
+      painted-cell NoBar (line_strokes layout 0 count placed order) begun r cell before
+      (All-append C (one ++ two ++ three ++ four) five named (away r five (marks_right layout bar room count placed order begun r)))
 
   -- ---- rows
 
@@ -101,9 +105,12 @@ module _ (layout : Layout) (depth : ℕ) (some : 0 < depth) (room : layout.gutte
   begun_spaces closes count source blank =
       let seps : List (List Cell) = replicate (count - 1) (separator_row layout.decor layout.gutter) in
       let end : List Cell = bare_row layout.decor layout.gutter closes in
-      All-cons HasSpace source (seps ++ end ∷ []) blank (All-append HasSpace seps (end ∷ []) (All-replicate HasSpace (count - 1) (separator_row layout.decor layout.gutter) (bare_space false)) (All-cons HasSpace end [] (bare_space closes) (All-nil HasSpace)))
+      All-cons HasSpace source (seps ++ end ∷ []) blank (All-append HasSpace seps (end ∷ [])
+      (All-replicate HasSpace (count - 1) (separator_row layout.decor layout.gutter) (bare_space false))
+      (All-cons HasSpace end [] (bare_space closes) (All-nil HasSpace)))
 
-  module _ (width : ℕ) (closes : Bool) (text : List ℕ) (dropped : ℕ) (es : List LineAnnotation) (source : List Cell) (others : All (λ b. b.depth ≢ depth) (ends_of_bars es)) (blank : get_or source (layout.gutter + 2 + depth) SPACE ≡ SPACE) where
+  module _ (width : ℕ) (closes : Bool) (text : List ℕ) (dropped : ℕ) (es : List LineAnnotation) (source : List Cell)
+      (others : All (λ b. b.depth ≢ depth) (ends_of_bars es)) (blank : get_or source (layout.gutter + 2 + depth) SPACE ≡ SPACE) where
     painted_clear : (rows : List (List Cell)) → StrokesPainted layout width closes (map (shifted dropped) es) source rows → (r : ℕ)
         → NoBar (cell_at rows r cell)
     painted_clear rows drawn r =
@@ -111,9 +118,12 @@ module _ (layout : Layout) (depth : ℕ) (some : 0 < depth) (room : layout.gutte
         let begun : List (List Cell) = begun_rows layout closes (row_count placed) source in
         let at : List (List Cell) → Cell = λ all. cell_at all r cell in
         let Other : LineAnnotation → Type 0 = λ e. is_at depth e.annotation_type ≡ false in
-        let none : All (λ (e : PlacedEntry). Other e.entry) placed = entries_all Other (map (shifted dropped) es) placed drawn.are.same (All-map Other (shifted dropped) es (none_has depth es others)) in
-        let clear = strokes_clear (row_count placed + 1) placed (painting_order placed) begun r none (spaces_in begun (begun_spaces closes (row_count placed) source blank) r) in
-        subst NoBar (sym (ap at drawn.cut.new_is ∙ uncut r drawn.top drawn.marks drawn.cut.source_now drawn.cut.marks_now drawn.lower drawn.cut.source_cut.left drawn.cut.marks_cut.left ∙ ap at drawn.painted_are)) clear
+        let none : All (λ (e : PlacedEntry). Other e.entry) placed = entries_all Other (map (shifted dropped) es) placed drawn.are.same
+        (All-map Other (shifted dropped) es (none_has depth es others)) in
+        let clear = strokes_clear (row_count placed + 1) placed (painting_order placed) begun r none
+        (spaces_in begun (begun_spaces closes (row_count placed) source blank) r) in
+        subst NoBar (sym (ap at drawn.cut.new_is ∙ uncut r drawn.top drawn.marks drawn.cut.source_now drawn.cut.marks_now drawn.lower drawn.cut.source_cut.left
+        drawn.cut.marks_cut.left ∙ ap at drawn.painted_are)) clear
       where
         uncut : (i : ℕ) (top marks top_now marks_now : List Cell) (lower : List (List Cell)) → take layout.code top_now ≡ take layout.code top
             → take layout.code marks_now ≡ take layout.code marks
@@ -127,14 +137,16 @@ module _ (layout : Layout) (depth : ℕ) (some : 0 < depth) (room : layout.gutte
         elim (cases_Bool (is_whole_line text es)) [
           | inl whole ↦
               let topped : List Cell = with_bars layout Top (ends_of_bars es) source in
-              let all : All HasSpace (topped ∷ []) = All-cons HasSpace topped [] (passed_by layout bar room Top (ends_of_bars es) source others ∙ blank) (All-nil HasSpace) in
+              let all : All HasSpace (topped ∷ []) = All-cons HasSpace topped [] (passed_by layout bar room Top (ends_of_bars es) source others ∙ blank)
+              (All-nil HasSpace) in
               spaces_in rows (subst (All HasSpace) (sym (are.whole whole)) all) r
           | inr other ↦ by_entries es refl other
         ]
       where
         ended : (b : Bool) → All HasSpace (source ∷ cond b (closing_row layout.decor layout.gutter ∷ []) [])
         ended true =
-            All-cons HasSpace source (closing_row layout.decor layout.gutter ∷ []) blank (All-cons HasSpace (closing_row layout.decor layout.gutter) [] (bare_space true) (All-nil HasSpace))
+            All-cons HasSpace source (closing_row layout.decor layout.gutter ∷ []) blank
+            (All-cons HasSpace (closing_row layout.decor layout.gutter) [] (bare_space true) (All-nil HasSpace))
         ended false = All-cons HasSpace source [] blank (All-nil HasSpace)
 
         by_entries : (xs : List LineAnnotation) → es ≡ xs → is_whole_line text es ≡ false → NoBar (cell_at rows r cell)
@@ -148,6 +160,9 @@ module _ (layout : Layout) (depth : ℕ) (some : 0 < depth) (room : layout.gutte
         let past : List Bar = bars_apart open_bars (ends_of_bars es) in
         let rule : List Cell → List Cell = with_bars layout Solid past in
         let as_many : length rows ≡ length drawn.own = ap length drawn.rows_are ∙ length-map drawn.own rule in
-        let row : row_at rows i ≡ rule (row_at drawn.own i) = ap (λ rs. row_at rs i) drawn.rows_are ∙ get_or-map rule drawn.own i [] [] (omega (arith, within, as_many)) in
-        let apart : All (λ b. b.depth ≢ depth) past = All-filter (λ (b : Bar). not (has_depth (ends_of_bars es) b.depth)) (λ b. b.depth ≢ depth) open_bars open_others in
-        subst NoBar (sym (ap (λ cells. get_or cells cell SPACE) row ∙ passed_by layout bar room Solid past (row_at drawn.own i) apart)) (own_clear drawn.own drawn.are i)
+        let row : row_at rows i ≡ rule (row_at drawn.own i) = ap (λ rs. row_at rs i) drawn.rows_are
+        ∙ get_or-map rule drawn.own i [] [] (omega (arith, within, as_many)) in
+        let apart : All (λ b. b.depth ≢ depth) past = All-filter (λ (b : Bar). not (has_depth (ends_of_bars es) b.depth)) (λ b.
+        b.depth ≢ depth) open_bars open_others in
+        subst NoBar (sym (ap (λ cells. get_or cells cell SPACE) row ∙ passed_by layout bar room Solid past (row_at drawn.own i) apart))
+        (own_clear drawn.own drawn.are i)

@@ -69,7 +69,8 @@ IsCut-more : (layout : Layout) (m n : ℕ) (whole now row : List Cell) → IsCut
 IsCut-more layout m n whole now row first then =
     record {
       left = then.left ∙ first.left;
-      text = AreReplaced-more (placeholder_of layout.decor) m n (row_text (drop layout.code whole)) (row_text (drop layout.code now)) (row_text (drop layout.code row)) first.text then.text;
+      text = AreReplaced-more (placeholder_of layout.decor) m n (row_text (drop layout.code whole)) (row_text (drop layout.code now))
+          (row_text (drop layout.code row)) first.text then.text;
       uncut = λ none. then.uncut (omega arith) ∙ first.uncut (omega arith);
       free = λ free. then.free (first.free free);
     }
@@ -103,18 +104,22 @@ IsCut-there layout start end row from some within =
     let front = take (start - layout.code) (drop layout.code row) in
     let stretch = take (end - start) (drop start row) in
     let back = drop end row in
-    let replaced : IsReplaced (placeholder_of layout.decor) (row_text (drop layout.code row)) (row_text (drop layout.code (take start row ++ placeholder ++ drop end row))) = record {
+    let replaced : IsReplaced (placeholder_of layout.decor) (row_text (drop layout.code row))
+    (row_text (drop layout.code (take start row ++ placeholder ++ drop end row))) = record {
       front = row_text front;
       stretch = row_text stretch;
       back = row_text back;
       before_is = ap row_text (three_parts row layout.code start end from some within) ∙ row_text-parts front stretch back;
-      after_is = ap row_text (three_parts_now row placeholder layout.code start end from some within) ∙ row_text-parts front placeholder back ∙ ap (λ t. row_text front ++ t ++ row_text back) (row_text-text_cells LineNumber (placeholder_of layout.decor));
+      after_is = ap row_text (three_parts_now row placeholder layout.code start end from some within) ∙ row_text-parts front placeholder back
+          ∙ ap (λ t. row_text front ++ t ++ row_text back) (row_text-text_cells LineNumber (placeholder_of layout.decor));
     } in
     record {
       left = front_stays row placeholder layout.code start end from some within;
       text = inr (row_text (drop layout.code (take start row ++ placeholder ++ drop end row)), replaced, refl);
       uncut = λ none. absurd (omega (arith, none));
-      free = λ free. All-append IsFreeCell (take start row ++ placeholder) (drop end row) (All-append IsFreeCell (take start row) placeholder (All-take IsFreeCell start row free) (free_placeholder layout.decor)) (All-drop IsFreeCell end row free);
+      free = λ free. All-append IsFreeCell (take start row ++ placeholder) (drop end row)
+          (All-append IsFreeCell (take start row) placeholder (All-take IsFreeCell start row free) (free_placeholder layout.decor))
+          (All-drop IsFreeCell end row free);
     }
 
 pub IsCut-replaced : (layout : Layout) (start end : ℕ) (row : List Cell) → layout.code ≤ start
@@ -124,7 +129,8 @@ IsCut-replaced layout start end row from =
     elim (cases_lt start end) [
       | inl some ↦ elim (cases_lt (length row) end) [
         | inl past ↦ subst (IsCut layout 1 row) (sym (replaced_past start end placeholder row past)) (IsCut-none layout 1 row)
-        | inr within ↦ subst (IsCut layout 1 row) (sym (replaced_there start end placeholder row some within)) (IsCut-there layout start end row from some within)
+        | inr within ↦ subst (IsCut layout 1 row) (sym (replaced_there start end placeholder row some within))
+            (IsCut-there layout start end row from some within)
       ]
       | inr none ↦ subst (IsCut layout 1 row) (sym (replaced_empty start end placeholder row none)) (IsCut-none layout 1 row)
     ]
@@ -137,7 +143,8 @@ cells_replaced_here above below source cells row start end here =
     let rows = above ++ source ∷ below in
     let there : row < length rows = omega (arith, here, length-append above (source ∷ below)) in
     let read : slice_index_or rows row [] ≡ source = grind (arith, places) in
-    changed_within_one change row rows [] there ∙ ap (λ r. set rows row (change r)) read ∙ ap (λ n. set rows n (change source)) (sym here) ∙ set-append_seam above source below (change source)
+    changed_within_one change row rows [] there ∙ ap (λ r. set rows row (change r)) read ∙ ap (λ n. set rows n (change source)) (sym here)
+    ∙ set-append_seam above source below (change source)
 
 -- rows that are cut at some stretches, and then at some more
 pub cut_rows-append : (decor : DecorStyle) (row : ℕ) (cuts more : List Stretch) (rows : List (List Cell))
@@ -150,7 +157,8 @@ cut_rows-append decor row (cut ∷ cuts) more rows =
 -- what is cut from one entry on is what is cut for it, and from the next one on
 pub cuts_of-more : (layout : Layout) (room : ℕ) (placed : List PlacedEntry) (flags : List Bool) (k : ℕ) (e : PlacedEntry) (flag : Bool)
     → k < length placed → k < length flags
-    → cuts_of layout room (drop k placed) (drop k flags) ≡ cut_of layout room (get_or placed k e, get_or flags k flag) ++ cuts_of layout room (drop (k + 1) placed) (drop (k + 1) flags)
+    → cuts_of layout room (drop k placed) (drop k flags) ≡ cut_of layout room (get_or placed k e, get_or flags k flag)
+    ++ cuts_of layout room (drop (k + 1) placed) (drop (k + 1) flags)
 cuts_of-more layout room placed flags k e flag within there =
     ap (λ es. cuts_of layout room es (drop k flags)) (drop_more placed k e within)
     ∙ ap (cuts_of layout room (get_or placed k e ∷ drop (k + 1) placed)) (drop_more flags k flag there)
@@ -169,7 +177,8 @@ replaced_here layout row start end above source marks below here =
     let placeholder = text_cells LineNumber (placeholder_of layout.decor) in
     let change = replaced_within start end placeholder in
     let first = cells_replaced_here above (marks ∷ below) source placeholder row start end here in
-    let apart : above ++ change source ∷ marks ∷ below ≡ (above ++ change source ∷ []) ++ marks ∷ below = sym (append_assoc above (change source ∷ []) (marks ∷ below)) in
+    let apart : above ++ change source ∷ marks ∷ below ≡ (above ++ change source ∷ [])
+    ++ marks ∷ below = sym (append_assoc above (change source ∷ []) (marks ∷ below)) in
     let next : length (above ++ change source ∷ []) ≡ row + 1 = omega (arith, here, length-append above (change source ∷ [])) in
     let second = cells_replaced_here (above ++ change source ∷ []) below marks placeholder (row + 1) start end next in
     ap (λ rows. cells_replaced rows (row + 1) start end placeholder) (first ∙ apart) ∙ second ∙ append_assoc above (change source ∷ []) (change marks ∷ below)
@@ -204,7 +213,8 @@ cut_row-append decor (cut ∷ cuts) more row =
 
 -- a row is cut once at most for each wide entry
 pub IsCut-cuts : (layout : Layout) (room : ℕ) (placed : List PlacedEntry) (flags : List Bool) (row : List Cell)
-    → IsCut layout (wide_entries room layout.decor (map (λ (e : PlacedEntry). e.entry) placed)) row (cut_row layout.decor (cuts_of layout room placed flags) row)
+    → IsCut layout (wide_entries room layout.decor (map (λ (e : PlacedEntry). e.entry) placed)) row
+    (cut_row layout.decor (cuts_of layout room placed flags) row)
 IsCut-cuts layout room [] flags row = IsCut-none layout (wide_entries room layout.decor []) row
 IsCut-cuts layout room (e ∷ es) [] row =
     IsCut-none layout (wide_entries room layout.decor (map (λ (x : PlacedEntry). x.entry) (e ∷ es))) row

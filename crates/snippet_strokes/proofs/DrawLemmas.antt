@@ -69,7 +69,8 @@ DrawsFrom-writes row r from at old new cells writes lower within right all =
         | inr other ↦ subst (λ cells. get_or cells c SPACE ≡ cell_at old k c) (sym (writes.others k other)) refl
       ];
       free = λ k free c. elim (cases_eq k r) [
-        | inl here ↦ subst (λ n. P (cell_at new n c)) (sym here) (written_cell P old new r at c cells writes all (subst (λ n. P (cell_at old n c)) here (free c)))
+        | inl here ↦ subst (λ n. P (cell_at new n c)) (sym here) (written_cell P old new r at c cells writes all
+            (subst (λ n. P (cell_at old n c)) here (free c)))
         | inr other ↦ subst (λ cells. P (get_or cells c SPACE)) (sym (writes.others k other)) (free c)
       ];
       count = omega (arith, writes.count, within);
@@ -100,7 +101,8 @@ in_glyphs ch (g ∷ glyphs) free is =
     elim (cases_eq ch g) [
       | inl here ↦ subst (λ x. is_listed x ≡ false) (sym here) (All-head (λ x. is_listed x ≡ false) g glyphs free)
       | inr other ↦
-          in_glyphs ch glyphs (All-tail (λ x. is_listed x ≡ false) g glyphs free) (sym (ap (λ b. b || list_any (λ x. ch == x) glyphs) (unequal ch g other)) ∙ is)
+          in_glyphs ch glyphs (All-tail (λ x. is_listed x ≡ false) g glyphs free)
+          (sym (ap (λ b. b || list_any (λ x. ch == x) glyphs) (unequal ch g other)) ∙ is)
     ]
   where
     unequal : (m n : ℕ) → (m ≡ n → ⊥) → (m == n) ≡ false
@@ -172,7 +174,8 @@ DrawsBarCells-writes layout row r at old new cell writes lower within right left
     let P : Cell → Type 0 = IsFreeCell in
     let R : Cell → Type 0 = IsBarCell layout.decor in
     record {
-      draws = DrawsFrom-writes row r (layout.gutter + 3) at old new (cell ∷ []) writes lower within right (All-cons P cell [] (free_bar layout.decor cell is) (All-nil P));
+      draws = DrawsFrom-writes row r (layout.gutter + 3) at old new (cell ∷ []) writes lower within right
+          (All-cons P cell [] (free_bar layout.decor cell is) (All-nil P));
       bar_cells = KeepsBarCells-writes layout old new r at (cell ∷ []) writes (All-cons R cell [] is (All-nil R));
       code = λ k. elim (cases_eq k r) [
         | inl here ↦ subst (λ n. drop layout.code (row_at new n) ≡ drop layout.code (row_at old n)) (sym here) after_code
@@ -186,5 +189,8 @@ DrawsBarCells-writes layout row r at old new cell writes lower within right left
   where
     after_code : drop layout.code (row_at new r) ≡ drop layout.code (row_at old r)
     after_code =
-        let long : length (drop layout.code (row_at new r)) ≡ length (drop layout.code (row_at old r)) = omega (arith, writes.width, left, length-drop layout.code (row_at new r), length-drop layout.code (row_at old r)) in
-        ext_get_or SPACE (drop layout.code (row_at new r)) (drop layout.code (row_at old r)) long (λ k within. get_or-drop layout.code (row_at new r) k SPACE ∙ writes.after (layout.code + k) (omega (arith, left)) ∙ sym (get_or-drop layout.code (row_at old r) k SPACE))
+        let long : length (drop layout.code (row_at new r)) ≡ length (drop layout.code (row_at old r)) = omega
+        (arith, writes.width, left, length-drop layout.code (row_at new r), length-drop layout.code (row_at old r)) in
+        ext_get_or SPACE (drop layout.code (row_at new r)) (drop layout.code (row_at old r)) long (λ k within.
+        get_or-drop layout.code (row_at new r) k SPACE ∙ writes.after (layout.code + k) (omega (arith, left))
+        ∙ sym (get_or-drop layout.code (row_at old r) k SPACE))

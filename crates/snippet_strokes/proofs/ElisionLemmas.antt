@@ -62,17 +62,23 @@ elision_added layout open_bars old begun new row last place begins draws value =
     let short : length (take row new) ≡ row = length-take-le row new (omega (arith, all)) in
     let top : take row new ≡ old = ext_get_or [] (take row new) old (short ∙ last) (λ k within.
     let inside : k < row = omega (arith, within, short) in
-    get_or-take row new k [] inside ∙ draws.above k inside ∙ ap (λ rs. get_or rs k []) begins ∙ get_or_append_left old (bare ∷ []) [] k (omega (arith, inside, last))) in
+    get_or-take row new k [] inside ∙ draws.above k inside ∙ ap (λ rs. get_or rs k []) begins
+    ∙ get_or_append_left old (bare ∷ []) [] k (omega (arith, inside, last))) in
     record {
       row = row_at new row;
-      added = split new row ∙ ap (λ rs. rs ++ drop row new) top ∙ ap (λ rs. old ++ rs) (drop_more new row [] (omega (arith, all)) ∙ ap (λ rs. row_at new row ∷ rs) (drop_all (row + 1) new (omega (arith, all))));
+      added = split new row ∙ ap (λ rs. rs ++ drop row new) top ∙ ap (λ rs.
+          old ++ rs) (drop_more new row [] (omega (arith, all)) ∙ ap (λ rs. row_at new row ∷ rs) (drop_all (row + 1) new (omega (arith, all))));
       is = record {
         left = drawn.left;
-        bar_cells = λ c from to. drawn.bar_cells c (bar_space layout.decor (get_or bare c SPACE) (ap (λ (cell : Cell). cell.ch) (get_or_past bare c SPACE (omega (arith, few, from)))) (ap (λ (cell : Cell). cell.link) (get_or_past bare c SPACE (omega (arith, few, from)))));
+        bar_cells = λ c from to. drawn.bar_cells c (bar_space layout.decor (get_or bare c SPACE)
+            (ap (λ (cell : Cell). cell.ch) (get_or_past bare c SPACE (omega (arith, few, from))))
+            (ap (λ (cell : Cell). cell.link) (get_or_past bare c SPACE (omega (arith, few, from)))));
         ends = omega (arith, drawn.short, few, place);
         free = drawn.free (free_bare_elision layout.decor layout.gutter);
       };
-      row_is = ap (λ rs. row_at rs row) (value ∙ ap (λ r. barred layout Dotted open_bars r begun) last ∙ ap (barred layout Dotted open_bars (length old)) begins ∙ barred-below layout Dotted open_bars old (bare ∷ [])) ∙ get_or_push old (gap_row layout open_bars) [] row (sym last);
+      row_is = ap (λ rs. row_at rs row) (value ∙ ap (λ r. barred layout Dotted open_bars r begun) last
+          ∙ ap (barred layout Dotted open_bars (length old)) begins ∙ barred-below layout Dotted open_bars old (bare ∷ []))
+          ∙ get_or_push old (gap_row layout open_bars) [] row (sym last);
     }
   where
     split : (xs : List (List Cell)) (n : ℕ) → xs ≡ take n xs ++ drop n xs

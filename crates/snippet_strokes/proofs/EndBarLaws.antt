@@ -73,8 +73,26 @@ last_passing p (x ∷ xs) some =
     elim (cases_Bool (list_any p xs)) [
       | inl later ↦
           let rest = last_passing p xs later in
-          record { before = x ∷ rest.before; one = rest.one; after = rest.after; split = ap (λ ys. x ∷ ys) rest.split; among = contains-there rest.one x xs rest.among; passes = rest.passes; none = rest.none }
-      | inr none ↦ record { before = []; one = x; after = xs; split = refl; among = contains-here x x xs refl; passes = here (p x) (list_any p xs) some none; none = none_pass p xs none }
+          record {
+            before = x ∷ rest.before;
+            one = rest.one;
+            after = rest.after;
+            split = ap (λ ys.
+                x ∷ ys) rest.split;
+            among = contains-there rest.one x xs rest.among;
+            passes = rest.passes;
+            none = rest.none;
+          }
+      | inr none ↦ record {
+        before = [];
+        one = x;
+        after = xs;
+        split = refl;
+        among = contains-here x x xs refl;
+        passes = here (p x)
+            (list_any p xs) some none;
+        none = none_pass p xs none;
+      }
     ]
   where
     here : (a b : Bool) → (a || b) ≡ true → b ≡ false → a ≡ true
@@ -93,20 +111,24 @@ column_stands start (suc n) cell glyph role rows r from to =
       | inl later ↦ column_stands (start + 1) n cell glyph role (written_by rows w) r (omega (arith, later)) (omega (arith, to))
       | inr first ↦
           let here : start ≡ r = omega (arith, first, from) in
-          let beside : All (λ v. Reaches r cell v → ⊥) (map (λ row. glyph_at row cell glyph role) (range_with_len (start + 1) n)) = lower (start + 1) n (omega (arith, first)) in
-          painted-untouched (map (λ row. glyph_at row cell glyph role) (range_with_len (start + 1) n)) (written_by rows w) r cell beside ∙ one_glyph w rows r cell here refl refl
+          let beside : All (λ v. Reaches r cell v → ⊥) (map (λ row. glyph_at row cell glyph role) (range_with_len (start + 1) n)) = lower (start + 1) n
+          (omega (arith, first)) in
+          painted-untouched (map (λ row. glyph_at row cell glyph role) (range_with_len (start + 1) n)) (written_by rows w) r cell beside
+          ∙ one_glyph w rows r cell here refl refl
     ]
   where
     lower : (a m : ℕ) → r < a → All (λ v. Reaches r cell v → ⊥) (map (λ row. glyph_at row cell glyph role) (range_with_len a m))
     lower a zero up = All-nil (λ v. Reaches r cell v → ⊥)
     lower a (suc m) up =
-        All-cons (λ v. Reaches r cell v → ⊥) (glyph_at a cell glyph role) (map (λ row. glyph_at row cell glyph role) (range_with_len (a + 1) m)) (λ there. omega (arith, there.row, up)) (lower (a + 1) m (omega (arith, up)))
+        All-cons (λ v. Reaches r cell v → ⊥) (glyph_at a cell glyph role) (map (λ row. glyph_at row cell glyph role) (range_with_len (a + 1) m)) (λ there.
+        omega (arith, there.row, up)) (lower (a + 1) m (omega (arith, up)))
 
     one_glyph : (w : Write) (old : List (List Cell)) (at c : ℕ) → w.row ≡ at → w.cell ≡ c → w.text ≡ glyph ∷ []
         → cell_at (written_by old w) at c ≡ unlinked_cell w.role glyph
     one_glyph w old at c row is text =
         let zero_at : c - w.cell ≡ 0 = omega (arith, is) in
-        cell-written w old at c (record { row = row; from = omega (arith, is); to = omega (arith, is, ap length text) }) ∙ ap (λ n. unlinked_cell w.role (get_or w.text n 0)) zero_at ∙ ap (λ t. unlinked_cell w.role (get_or t 0 0)) text
+        cell-written w old at c (record { row = row; from = omega (arith, is); to = omega (arith, is, ap length text) })
+        ∙ ap (λ n. unlinked_cell w.role (get_or w.text n 0)) zero_at ∙ ap (λ t. unlinked_cell w.role (get_or t 0 0)) text
 
 -- ---- the bars of a line's entries
 
@@ -117,7 +139,8 @@ is_at depth (MultilineStart d) = d == depth
 is_at depth (MultilineEnd d) = d == depth
 is_at depth (MultilineLine d) = false
 
-module _ (layout : Layout) (bar : Bar) (room : layout.gutter + 2 + bar.depth < layout.code) (count : ℕ) (placed order : List PlacedEntry) (begun : List (List Cell)) where
+module _ (layout : Layout) (bar : Bar) (room : layout.gutter + 2 + bar.depth < layout.code) (count : ℕ) (placed order : List PlacedEntry)
+    (begun : List (List Cell)) where
   -- the cell of the bar's depth
   abbrev cell : ℕ
   cell = layout.gutter + 2 + bar.depth
@@ -129,12 +152,14 @@ module _ (layout : Layout) (bar : Bar) (room : layout.gutter + 2 + bar.depth < l
   -- stems stand right of it
   pub stems_right : (r : ℕ) → All (Leaves r) (stems_of layout 1 placed)
   stems_right r =
-      All-stems_of (Leaves r) layout 1 placed (λ k d within. All-stem_of (Leaves r) layout 1 (get_or placed k d) (λ b low there. omega (arith, there.from, room)))
+      All-stems_of (Leaves r) layout 1 placed (λ k d within. All-stem_of (Leaves r) layout 1 (get_or placed k d) (λ b low there.
+      omega (arith, there.from, room)))
 
   -- labels do
   pub labels_right : (r : ℕ) → All (Leaves r) (labels_of layout 1 placed)
   labels_right r =
-      All-flat_map (Leaves r) (label_of layout 1) placed (λ k d within. All-label_of (Leaves r) layout 1 (get_or placed k d) (λ has there. omega (arith, there.from, room)))
+      All-flat_map (Leaves r) (label_of layout 1) placed (λ k d within.
+      All-label_of (Leaves r) layout 1 (get_or placed k d) (λ has there. omega (arith, there.from, room)))
 
   -- and marks
   pub marks_right : (r : ℕ) → All (Leaves r) (marks_of layout 1 order)
@@ -145,10 +170,13 @@ module _ (layout : Layout) (bar : Bar) (room : layout.gutter + 2 + bar.depth < l
       mark e =
           let from : ℕ = layout.code + e.entry.start.display in
           let to : ℕ = layout.code + mark_end e in
-          elim (nat_lt from to) as (λ b. All (Leaves r) (cond b (glyph_at 1 from (first_glyph layout.decor e) (stroke_role e) ∷ stretch_of 1 (from + 1) to (strokes_of layout.decor (is_primary e.entry.kind)).underline (stroke_role e)) [])) [
-            | true ↦ All-cons (Leaves r) (glyph_at 1 from (first_glyph layout.decor e) (stroke_role e)) (stretch_of 1 (from + 1) to (strokes_of layout.decor (is_primary e.entry.kind)).underline (stroke_role e))
+          elim (nat_lt from to) as (λ b. All (Leaves r) (cond b (glyph_at 1 from (first_glyph layout.decor e) (stroke_role e) ∷ stretch_of 1 (from + 1) to
+          (strokes_of layout.decor (is_primary e.entry.kind)).underline (stroke_role e)) [])) [
+            | true ↦ All-cons (Leaves r) (glyph_at 1 from (first_glyph layout.decor e) (stroke_role e))
+                (stretch_of 1 (from + 1) to (strokes_of layout.decor (is_primary e.entry.kind)).underline (stroke_role e))
                 (λ there. omega (arith, there.from, room))
-                (All-stretch_of (Leaves r) 1 (from + 1) to (strokes_of layout.decor (is_primary e.entry.kind)).underline (stroke_role e) (λ there. omega (arith, there.from, room)))
+                (All-stretch_of (Leaves r) 1 (from + 1) to (strokes_of layout.decor (is_primary e.entry.kind)).underline (stroke_role e) (λ there.
+                omega (arith, there.from, room)))
             | false ↦ All-nil (Leaves r)
           ]
 
@@ -171,7 +199,8 @@ module _ (layout : Layout) (bar : Bar) (room : layout.gutter + 2 + bar.depth < l
       let glyph : ℕ = (strokes_of layout.decor (is_primary e.entry.kind)).bar_top in
       let line : ℕ = (strokes_of layout.decor (is_primary e.entry.kind)).bar in
       let own : Write = glyph_at corner (layout.gutter + 2 + depth) glyph (stroke_role e) in
-      All-cons (Leaves r) own (strokes.bar_writes layout e depth (corner + 1) count) (glyph_leaves r corner depth glyph (stroke_role e) apart) (column_leaves r (corner + 1) count depth line (stroke_role e) apart)
+      All-cons (Leaves r) own (strokes.bar_writes layout e depth (corner + 1) count) (glyph_leaves r corner depth glyph (stroke_role e) apart)
+      (column_leaves r (corner + 1) count depth line (stroke_role e) apart)
   part_leaves r e (MultilineEnd depth) other =
       let apart : depth ≢ bar.depth = λ same. both_ways (depth == bar.depth) other (eq-eqb depth bar.depth same) in
       let corner : ℕ = 0 + 1 + e.position in
@@ -185,7 +214,8 @@ module _ (layout : Layout) (bar : Bar) (room : layout.gutter + 2 + bar.depth < l
   -- so in it stands what the last entry of its depth leaves there
   last_stands : (before : List PlacedEntry) (e : PlacedEntry) (after : List PlacedEntry) → placed ≡ before ++ e ∷ after
       → All (λ f. is_at bar.depth f.entry.annotation_type ≡ false) after
-      → (old : List (List Cell)) × ((r : ℕ) → cell_at (painted (line_strokes layout 0 count placed order) begun) r cell ≡ cell_at (painted (corner_of layout 0 count e) old) r cell)
+      → (old : List (List Cell)) × ((r : ℕ) → cell_at (painted (line_strokes layout 0 count placed order) begun) r cell
+      ≡ cell_at (painted (corner_of layout 0 count e) old) r cell)
   last_stands before e after split others =
       let f : PlacedEntry → List Write = corner_of layout 0 count in
       let lines : List Write = connectors_of layout 1 placed in
@@ -200,12 +230,15 @@ module _ (layout : Layout) (bar : Bar) (room : layout.gutter + 2 + bar.depth < l
       let labelled : List (List Cell) = painted (lines ++ corners ++ stems ++ labels) begun in
       let parts : corners ≡ flat_map f before ++ (f e ++ flat_map f after) = ap (flat_map f) split ∙ flat_map-append f before (e ∷ after) in
       let drawn : barred ≡ painted (flat_map f after) (painted (f e) old) =
-      painted-append lines corners begun ∙ ap (λ ws. painted ws joined) parts ∙ painted-append (flat_map f before) (f e ++ flat_map f after) joined ∙ painted-append (f e) (flat_map f after) old in (
+      painted-append lines corners begun ∙ ap (λ ws. painted ws joined) parts ∙ painted-append (flat_map f before) (f e ++ flat_map f after) joined
+      ∙ painted-append (f e) (flat_map f after) old in (
         old,
         λ r.
             let own : List Cell → Cell = λ row. get_or row cell SPACE in
             let at : List (List Cell) → Cell = λ rows. own (row_at rows r) in
-            let leave : All (Leaves r) (flat_map f after) = All-flat_map (Leaves r) f after (All-weaker (λ (x : PlacedEntry). is_at bar.depth x.entry.annotation_type ≡ false) (λ (x : PlacedEntry). All (Leaves r) (f x)) (λ x other. part_leaves r x x.entry.annotation_type other) after others) in
+            let leave : All (Leaves r) (flat_map f after) = All-flat_map (Leaves r) f after
+            (All-weaker (λ (x : PlacedEntry). is_at bar.depth x.entry.annotation_type ≡ false) (λ (x : PlacedEntry). All (Leaves r) (f x)) (λ x other.
+            part_leaves r x x.entry.annotation_type other) after others) in
             ap at (painted-append (lines ++ corners ++ stems ++ labels) marks begun) ∙ painted-untouched marks labelled r cell (marks_right r)
             ∙ ap at (painted-append (lines ++ corners ++ stems) labels begun) ∙ painted-untouched labels stemmed r cell (labels_right r)
             ∙ ap at (painted-append (lines ++ corners) stems begun) ∙ painted-untouched stems barred r cell (stems_right r)
@@ -216,13 +249,15 @@ module _ (layout : Layout) (bar : Bar) (room : layout.gutter + 2 + bar.depth < l
   abbrev HasKind : PlacedEntry → Type 0
   HasKind e = is_primary e.entry.kind ≡ bar.primary
 
-  solid_by : (e : PlacedEntry) → HasKind e → unlinked_cell (stroke_role e) (strokes_of layout.decor (is_primary e.entry.kind)).bar ≡ bar_cell_part layout Solid bar
+  solid_by : (e : PlacedEntry) → HasKind e → unlinked_cell (stroke_role e) (strokes_of layout.decor (is_primary e.entry.kind)).bar
+      ≡ bar_cell_part layout Solid bar
   solid_by e kind =
       ap (λ primary. unlinked_cell (underline_role primary) (strokes_of layout.decor primary).bar) kind
 
   start_drawn : (e : PlacedEntry) (old : List (List Cell)) → HasKind e
       → (cell_at (painted (corner_by layout 0 count e (MultilineStart bar.depth)) old) (1 + e.position) cell ≡ start_corner layout bar)
-      × ((r : ℕ) → 1 + e.position < r → r < count → cell_at (painted (corner_by layout 0 count e (MultilineStart bar.depth)) old) r cell ≡ bar_cell_part layout Solid bar)
+      × ((r : ℕ) → 1 + e.position < r → r < count → cell_at (painted (corner_by layout 0 count e (MultilineStart bar.depth)) old) r cell
+      ≡ bar_cell_part layout Solid bar)
   start_drawn e old kind =
       let corner : ℕ = 0 + 1 + e.position in
       let glyph : ℕ = (strokes_of layout.decor (is_primary e.entry.kind)).bar_top in
@@ -231,10 +266,13 @@ module _ (layout : Layout) (bar : Bar) (room : layout.gutter + 2 + bar.depth < l
       let below : List Write = column_of (corner + 1) count cell line (stroke_role e) in
       let here : corner ≡ 1 + e.position = omega arith in
       let none : cell - cell ≡ 0 = omega arith in
-      let leave : All (Leaves (1 + e.position)) below = All-column_of (Leaves (1 + e.position)) (corner + 1) count cell line (stroke_role e) (λ n from to there. omega (arith, there.row, from, here)) in
-      let first = painted-last [] below own old (1 + e.position) cell (record { row = here; from = omega arith; to = omega arith }) leave ∙ ap (λ n. unlinked_cell (stroke_role e) (get_or (glyph ∷ []) n 0)) none in (
+      let leave : All (Leaves (1 + e.position)) below = All-column_of (Leaves (1 + e.position)) (corner + 1) count cell line (stroke_role e)
+      (λ n from to there. omega (arith, there.row, from, here)) in
+      let first = painted-last [] below own old (1 + e.position) cell (record { row = here; from = omega arith; to = omega arith }) leave
+      ∙ ap (λ n. unlinked_cell (stroke_role e) (get_or (glyph ∷ []) n 0)) none in (
         first ∙ ap (λ primary. unlinked_cell (underline_role primary) (strokes_of layout.decor primary).bar_top) kind,
-        λ r lower within. column_stands (corner + 1) (count - (corner + 1)) cell line (stroke_role e) (written_by old own) r (omega (arith, lower, here)) (omega (arith, lower, within, here)) ∙ solid_by e kind,
+        λ r lower within. column_stands (corner + 1) (count - (corner + 1)) cell line (stroke_role e) (written_by old own) r (omega (arith, lower, here))
+            (omega (arith, lower, within, here)) ∙ solid_by e kind,
       )
 
   end_drawn : (e : PlacedEntry) (old : List (List Cell)) → HasKind e
@@ -248,11 +286,14 @@ module _ (layout : Layout) (bar : Bar) (room : layout.gutter + 2 + bar.depth < l
       let above : List Write = column_of 0 corner cell line (stroke_role e) in
       let here : corner ≡ 1 + e.position = omega arith in
       let none : cell - cell ≡ 0 = omega arith in
-      let last = painted-last above [] own old (1 + e.position) cell (record { row = here; from = omega arith; to = omega arith }) (All-nil (Leaves (1 + e.position))) ∙ ap (λ n. unlinked_cell (stroke_role e) (get_or (glyph ∷ []) n 0)) none in (
+      let last = painted-last above [] own old (1 + e.position) cell (record { row = here; from = omega arith; to = omega arith })
+      (All-nil (Leaves (1 + e.position))) ∙ ap (λ n. unlinked_cell (stroke_role e) (get_or (glyph ∷ []) n 0)) none in (
         last ∙ ap (λ primary. unlinked_cell (underline_role primary) (strokes_of layout.decor primary).bar_bottom) kind,
         λ r higher.
-            let one : cell_at (painted (above ++ own ∷ []) old) r cell ≡ cell_at (written_by (painted above old) own) r cell = ap (λ rows. cell_at rows r cell) (painted-append above (own ∷ []) old) in
-            one ∙ cell-unwritten own (painted above old) r cell (λ there. omega (arith, there.row, higher, here)) ∙ column_stands 0 (corner - 0) cell line (stroke_role e) old r (omega arith) (omega (arith, higher, here)) ∙ solid_by e kind,
+            let one : cell_at (painted (above ++ own ∷ []) old) r cell ≡ cell_at (written_by (painted above old) own) r cell = ap (λ rows.
+            cell_at rows r cell) (painted-append above (own ∷ []) old) in
+            one ∙ cell-unwritten own (painted above old) r cell (λ there. omega (arith, there.row, higher, here))
+            ∙ column_stands 0 (corner - 0) cell line (stroke_role e) old r (omega arith) (omega (arith, higher, here)) ∙ solid_by e kind,
       )
 
 -- ---- the rows of a line
@@ -295,9 +336,11 @@ module _ (layout : Layout) (bar : Bar) (room : layout.gutter + 2 + bar.depth < l
       let entry_of : PlacedEntry → LineAnnotation = λ f. f.entry in
       let moved : List LineAnnotation = map (shifted dropped) es in
       let there : list_any (λ (f : PlacedEntry). is_its f.entry) placed ≡ true =
-      sym (list_any-map is_its entry_of placed) ∙ sym (list_any-IsPermutation is_its moved (map entry_of placed) drawn.are.same) ∙ list_any-map is_its (shifted dropped) es ∙ some in
+      sym (list_any-map is_its entry_of placed) ∙ sym (list_any-IsPermutation is_its moved (map entry_of placed) drawn.are.same)
+      ∙ list_any-map is_its (shifted dropped) es ∙ some in
       let last = last_passing (λ (f : PlacedEntry). is_its f.entry) placed there in
-      let kinds : All (λ (f : PlacedEntry). IsItsPart part f.entry) placed = entries_all (IsItsPart part) moved placed drawn.are.same (All-map (IsItsPart part) (shifted dropped) es known) in
+      let kinds : All (λ (f : PlacedEntry). IsItsPart part f.entry) placed = entries_all (IsItsPart part) moved placed drawn.are.same
+      (All-map (IsItsPart part) (shifted dropped) es known) in
       let its = All-contains (λ (f : PlacedEntry). IsItsPart part f.entry) placed last.one kinds last.among last.passes in
       let lower = All-contains (HasRows 1 (1 + row_count placed)) placed last.one (HasRows-row_count 1 (1 + row_count placed) placed refl) last.among in
       let left = last_stands layout bar room count placed order begun last.before last.one last.after last.split last.none in
@@ -318,14 +361,18 @@ module _ (layout : Layout) (bar : Bar) (room : layout.gutter + 2 + bar.depth < l
           → take layout.code marks_now ≡ take layout.code marks
           → cell_at (top_now ∷ marks_now ∷ lower) r (layout.gutter + 2 + bar.depth) ≡ cell_at (top ∷ marks ∷ lower) r (layout.gutter + 2 + bar.depth)
       uncut zero top marks top_now marks_now lower first second = left_same layout.code (layout.gutter + 2 + bar.depth) top_now top (omega (arith, room)) first
-      uncut (suc zero) top marks top_now marks_now lower first second = left_same layout.code (layout.gutter + 2 + bar.depth) marks_now marks (omega (arith, room)) second
+      uncut (suc zero) top marks top_now marks_now lower first second = left_same layout.code (layout.gutter + 2 + bar.depth) marks_now marks
+          (omega (arith, room)) second
       uncut (suc (suc r)) top marks top_now marks_now lower first second = refl
 
       cut : (r : ℕ)
-          → cell_at rows r (layout.gutter + 2 + bar.depth) ≡ cell_at (painted (line_strokes layout 0 (row_count drawn.placed + 1) drawn.placed (painting_order drawn.placed)) (begun_rows layout closes (row_count drawn.placed) source)) r (layout.gutter + 2 + bar.depth)
+          → cell_at rows r (layout.gutter + 2 + bar.depth) ≡ cell_at (painted
+          (line_strokes layout 0 (row_count drawn.placed + 1) drawn.placed (painting_order drawn.placed))
+          (begun_rows layout closes (row_count drawn.placed) source)) r (layout.gutter + 2 + bar.depth)
       cut r =
           let at : List (List Cell) → Cell = λ all. cell_at all r (layout.gutter + 2 + bar.depth) in
-          ap at drawn.cut.new_is ∙ uncut r drawn.top drawn.marks drawn.cut.source_now drawn.cut.marks_now drawn.lower drawn.cut.source_cut.left drawn.cut.marks_cut.left ∙ ap at drawn.painted_are
+          ap at drawn.cut.new_is ∙ uncut r drawn.top drawn.marks drawn.cut.source_now drawn.cut.marks_now drawn.lower drawn.cut.source_cut.left
+          drawn.cut.marks_cut.left ∙ ap at drawn.painted_are
 
   own_begins : (rows : List (List Cell)) → HasOwn (MultilineStart bar.depth) rows → cell_at rows 0 (layout.gutter + 2 + bar.depth) ≡ SPACE
       → BeginsBelow layout bar rows
@@ -356,7 +403,8 @@ module _ (layout : Layout) (bar : Bar) (room : layout.gutter + 2 + bar.depth < l
       → get_or (with_bars layout stroke bars row) (layout.gutter + 2 + bar.depth) SPACE ≡ get_or row (layout.gutter + 2 + bar.depth) SPACE
   passed_by stroke [] row others = refl
   passed_by stroke (b ∷ bars) row others =
-      passed_by stroke bars (with_bar layout stroke row b) (All-tail (λ x. x.depth ≢ bar.depth) b bars others) ∙ drawn_beside layout stroke bar b row (All-head (λ x. x.depth ≢ bar.depth) b bars others)
+      passed_by stroke bars (with_bar layout stroke row b) (All-tail (λ x. x.depth ≢ bar.depth) b bars others)
+      ∙ drawn_beside layout stroke bar b row (All-head (λ x. x.depth ≢ bar.depth) b bars others)
 
   -- what is known of the entries of a line, one of which begins or ends the bar
   module _ (es : List LineAnnotation) (among : Contains (ends_of_bars es) bar) (alone : HasOwnDepth bar (ends_of_bars es)) where
@@ -381,8 +429,11 @@ module _ (layout : Layout) (bar : Bar) (room : layout.gutter + 2 + bar.depth < l
     past_apart open_bars =
         let ends : List Bar = ends_of_bars es in
         let test : Bar → Bool = λ b. not (has_depth ends b.depth) in
-        let there : has_depth ends bar.depth ≡ true = list_any_at (λ (b : Bar). b.depth == bar.depth) ends among.0 bar among.1 (ap (λ (b : Bar). b.depth == bar.depth) among.2 ∙ eq-eqb bar.depth bar.depth refl) in
-        All-weaker (λ b. test b ≡ true) (λ b. b.depth ≢ bar.depth) (λ b passes same. both_ways (has_depth ends bar.depth) (ap (has_depth ends) (sym same) ∙ not-true (has_depth ends b.depth) passes) there) (filter test open_bars) (filter_passes test open_bars)
+        let there : has_depth ends bar.depth ≡ true = list_any_at (λ (b : Bar). b.depth == bar.depth) ends among.0 bar among.1
+        (ap (λ (b : Bar). b.depth == bar.depth) among.2 ∙ eq-eqb bar.depth bar.depth refl) in
+        All-weaker (λ b. test b ≡ true) (λ b. b.depth ≢ bar.depth) (λ b passes same.
+        both_ways (has_depth ends bar.depth) (ap (has_depth ends) (sym same) ∙ not-true (has_depth ends b.depth) passes) there) (filter test open_bars)
+        (filter_passes test open_bars)
 
     -- each that has its depth is of its kind
     kind_of : (e : LineAnnotation) → Among es e → (b : Bar) → bar_of e ≡ Some b → b.depth ≡ bar.depth → b ≡ bar
@@ -392,7 +443,9 @@ module _ (layout : Layout) (bar : Bar) (room : layout.gutter + 2 + bar.depth < l
     all_starts : All (λ e. e.annotation_type ≡ MultilineEnd bar.depth → ⊥) es → All (IsItsPart (MultilineStart bar.depth)) es
     unfolding is_at
     all_starts none =
-        all_from_among (IsItsPart (MultilineStart bar.depth)) es (λ e here. by_type e.annotation_type (is_primary e.kind) (kind_of e here) (all_among (λ (x : LineAnnotation). x.annotation_type ≡ MultilineEnd bar.depth → ⊥) es e none here))
+        all_from_among (IsItsPart (MultilineStart bar.depth)) es (λ e here.
+        by_type e.annotation_type (is_primary e.kind) (kind_of e here)
+        (all_among (λ (x : LineAnnotation). x.annotation_type ≡ MultilineEnd bar.depth → ⊥) es e none here))
       where
         by_type : (t : LineAnnotationType) (primary : Bool) → ((b : Bar) → bar_at t primary ≡ Some b → b.depth ≡ bar.depth → b ≡ bar)
             → (t ≡ MultilineEnd bar.depth → ⊥) → is_at bar.depth t ≡ true
@@ -407,7 +460,9 @@ module _ (layout : Layout) (bar : Bar) (room : layout.gutter + 2 + bar.depth < l
     all_ends : All (λ e. e.annotation_type ≡ MultilineStart bar.depth → ⊥) es → All (IsItsPart (MultilineEnd bar.depth)) es
     unfolding is_at
     all_ends none =
-        all_from_among (IsItsPart (MultilineEnd bar.depth)) es (λ e here. by_type e.annotation_type (is_primary e.kind) (kind_of e here) (all_among (λ (x : LineAnnotation). x.annotation_type ≡ MultilineStart bar.depth → ⊥) es e none here))
+        all_from_among (IsItsPart (MultilineEnd bar.depth)) es (λ e here.
+        by_type e.annotation_type (is_primary e.kind) (kind_of e here)
+        (all_among (λ (x : LineAnnotation). x.annotation_type ≡ MultilineStart bar.depth → ⊥) es e none here))
       where
         by_type : (t : LineAnnotationType) (primary : Bool) → ((b : Bar) → bar_at t primary ≡ Some b → b.depth ≡ bar.depth → b ≡ bar)
             → (t ≡ MultilineStart bar.depth → ⊥) → is_at bar.depth t ≡ true
@@ -419,7 +474,8 @@ module _ (layout : Layout) (bar : Bar) (room : layout.gutter + 2 + bar.depth < l
             (ap MultilineEnd same, ap (λ (b : Bar). b.primary) (own (record { depth = d; primary = primary }) refl same))
         by_type (MultilineLine d) primary own wrong at = absurd cc
 
-    module _ (width : ℕ) (closes : Bool) (text : List ℕ) (dropped : ℕ) (open_bars : List Bar) (source : List Cell) (rows : List (List Cell)) (drawn : AreLineRows layout width closes text dropped open_bars es source rows) where
+    module _ (width : ℕ) (closes : Bool) (text : List ℕ) (dropped : ℕ) (open_bars : List Bar) (source : List Cell) (rows : List (List Cell))
+        (drawn : AreLineRows layout width closes text dropped open_bars es source rows) where
       abbrev past : List Bar
       past = bars_apart open_bars (ends_of_bars es)
 
@@ -430,7 +486,8 @@ module _ (layout : Layout) (bar : Bar) (room : layout.gutter + 2 + bar.depth < l
       own_cell : (i : ℕ) → i < length rows → cell_at rows i (layout.gutter + 2 + bar.depth) ≡ cell_at drawn.own i (layout.gutter + 2 + bar.depth)
       own_cell i within =
           let rule : List Cell → List Cell = with_bars layout Solid past in
-          let row : row_at rows i ≡ rule (row_at drawn.own i) = ap (λ rs. row_at rs i) drawn.rows_are ∙ get_or-map rule drawn.own i [] [] (omega (arith, within, as_many)) in
+          let row : row_at rows i ≡ rule (row_at drawn.own i) = ap (λ rs. row_at rs i) drawn.rows_are
+          ∙ get_or-map rule drawn.own i [] [] (omega (arith, within, as_many)) in
           ap (λ cells. get_or cells (layout.gutter + 2 + bar.depth) SPACE) row ∙ passed_by Solid past (row_at drawn.own i) (past_apart open_bars)
 
       -- the line has entries
@@ -447,11 +504,14 @@ module _ (layout : Layout) (bar : Bar) (room : layout.gutter + 2 + bar.depth < l
                 let alone_there : length rows ≡ 1 = as_many ∙ ap length one in
                 inl (record {
                   alone = alone_there;
-                  top = own_cell 0 (omega (arith, alone_there)) ∙ ap (λ rs. cell_at rs 0 (layout.gutter + 2 + bar.depth)) one ∙ bar_stands layout Top bar (ends_of_bars es) source alone among;
+                  top = own_cell 0 (omega (arith, alone_there)) ∙ ap (λ rs. cell_at rs 0 (layout.gutter + 2 + bar.depth)) one
+                      ∙ bar_stands layout Top bar (ends_of_bars es) source alone among;
                 })
             | inr other ↦
-                let has = own_of width closes dropped es source drawn.own (MultilineStart bar.depth) (drawn.are.strokes other some_entries) (all_starts none) some_has in
-                let own : BeginsBelow layout bar drawn.own = own_begins drawn.own has (sym (own_cell 0 (omega (arith, as_many, has.long, has.within))) ∙ blank other) in
+                let has = own_of width closes dropped es source drawn.own (MultilineStart bar.depth) (drawn.are.strokes other some_entries)
+                (all_starts none) some_has in
+                let own : BeginsBelow layout bar drawn.own = own_begins drawn.own has
+                (sym (own_cell 0 (omega (arith, as_many, has.long, has.within))) ∙ blank other) in
                 inr (record {
                   corner = own.corner;
                   below = own.below;
@@ -469,7 +529,8 @@ module _ (layout : Layout) (bar : Bar) (room : layout.gutter + 2 + bar.depth < l
           let found = one_has in
           let part : found.0.annotation_type ≡ MultilineEnd bar.depth = (all_among (IsItsPart (MultilineEnd bar.depth)) es found.0 known found.1 found.2).0 in
           let other : is_whole_line text es ≡ false = false_from_ne_true (is_whole_line text es) (λ whole. not_whole found.0 part es found.1 whole) in
-          let own : BarEnds layout bar drawn.own = own_ends drawn.own (own_of width closes dropped es source drawn.own (MultilineEnd bar.depth) (drawn.are.strokes other some_entries) known some_has) in
+          let own : BarEnds layout bar drawn.own = own_ends drawn.own (own_of width closes dropped es source drawn.own (MultilineEnd bar.depth)
+          (drawn.are.strokes other some_entries) known some_has) in
           record {
             corner = own.corner;
             below = own.below;

@@ -21,14 +21,23 @@ use Rattle.snippet_labels.specs.Positions.{is_placed_before}
 
 -- an entry of these columns, each of one character
 abbrev entry : AnnotationKind → ℕ → ℕ → LineAnnotation
-entry kind from to = record { start = record { line = 1; char = from; display = from; byte = from }; end = record { line = 1; char = to; display = to; byte = to }; kind = kind; label = None; annotation_type = Singleline; highlight_source = false }
+entry kind from to = record {
+  start = record { line = 1; char = from; display = from; byte = from };
+  end = record
+      { line = 1; char = to; display = to; byte = to };
+  kind = kind;
+  label = None;
+  annotation_type = Singleline;
+  highlight_source = false;
+}
 
 -- entries are placed from right to left
 from_the_right : ordered_by is_placed_before (entry Context 0 2 ∷ entry Primary 3 5 ∷ []) ≡ entry Primary 3 5 ∷ entry Context 0 2 ∷ []
 from_the_right = refl
 
 -- those that start at one character stay as they are given
-ties_as_given : ordered_by is_placed_before (entry Context 1 2 ∷ entry Primary 1 5 ∷ entry Context 1 9 ∷ []) ≡ entry Context 1 2 ∷ entry Primary 1 5 ∷ entry Context 1 9 ∷ []
+ties_as_given : ordered_by is_placed_before (entry Context 1 2 ∷ entry Primary 1 5 ∷ entry Context 1 9 ∷ [])
+    ≡ entry Context 1 2 ∷ entry Primary 1 5 ∷ entry Context 1 9 ∷ []
 ties_as_given = refl
 
 abbrev placed : CowStr Global → AnnotationKind → ℕ → ℕ → PlacedEntry
@@ -36,7 +45,8 @@ placed label kind from to = record { entry = entry kind from to; label = label; 
 
 -- the widest mark is painted first, and of one width those for context before a primary one; all others as they are placed
 widest_first : (label : CowStr Global)
-    → painting_order (placed label Primary 4 6 ∷ placed label Context 2 4 ∷ placed label Context 0 2 ∷ placed label Primary 0 9 ∷ []) ≡ placed label Primary 0 9 ∷ placed label Context 2 4 ∷ placed label Context 0 2 ∷ placed label Primary 4 6 ∷ []
+    → painting_order (placed label Primary 4 6 ∷ placed label Context 2 4 ∷ placed label Context 0 2 ∷ placed label Primary 0 9 ∷ [])
+    ≡ placed label Primary 0 9 ∷ placed label Context 2 4 ∷ placed label Context 0 2 ∷ placed label Primary 4 6 ∷ []
 widest_first label = refl
 
 -- `^` and `│` are drawn with strokes, and no letter is
@@ -54,12 +64,14 @@ letter_of_none = refl
 -- `        -----`
 -- `  ^^^`
 two_do_not_count : (label : CowStr Global)
-    → let marks = placed label Primary 10 15 ∷ placed label Context 8 13 ∷ placed label Primary 2 5 ∷ [] in overlapped_by marks (3 ∷ 3 ∷ 3 ∷ []) 0 marks ≡ false ∷ false ∷ true ∷ []
+    → let marks = placed label Primary 10 15 ∷ placed label Context 8 13 ∷ placed label Primary 2 5 ∷ [] in overlapped_by marks (3 ∷ 3 ∷ 3 ∷ []) 0 marks
+    ≡ false ∷ false ∷ true ∷ []
 two_do_not_count label = refl
 
 -- but where the place of no label is sought beyond the mark before it, the third isn't looked at
 looked_at_no_more : (label : CowStr Global)
-    → let marks = placed label Primary 10 15 ∷ placed label Context 8 13 ∷ placed label Primary 2 5 ∷ [] in overlapped_by marks (2 ∷ 2 ∷ 2 ∷ []) 0 marks ≡ false ∷ false ∷ false ∷ []
+    → let marks = placed label Primary 10 15 ∷ placed label Context 8 13 ∷ placed label Primary 2 5 ∷ [] in overlapped_by marks (2 ∷ 2 ∷ 2 ∷ []) 0 marks
+    ≡ false ∷ false ∷ false ∷ []
 looked_at_no_more label = refl
 
 -- a third of the room stays at each end of what is cut, and five columns at least
@@ -70,7 +82,8 @@ five_stay : end_columns 9 ≡ 5
 five_stay = refl
 
 -- the placeholder stands in place of the cells that are cut: `ab...gh` for `abcdefgh`
-cut_in_the_middle : cut_row Ascii (record { from = 2; to = 6 } ∷ []) (text_cells Quotation (97 ∷ 98 ∷ 99 ∷ 100 ∷ 101 ∷ 102 ∷ 103 ∷ 104 ∷ [])) ≡ text_cells Quotation (97 ∷ 98 ∷ []) ++ text_cells LineNumber (46 ∷ 46 ∷ 46 ∷ []) ++ text_cells Quotation (103 ∷ 104 ∷ [])
+cut_in_the_middle : cut_row Ascii (record { from = 2; to = 6 } ∷ []) (text_cells Quotation (97 ∷ 98 ∷ 99 ∷ 100 ∷ 101 ∷ 102 ∷ 103 ∷ 104 ∷ []))
+    ≡ text_cells Quotation (97 ∷ 98 ∷ []) ++ text_cells LineNumber (46 ∷ 46 ∷ 46 ∷ []) ++ text_cells Quotation (103 ∷ 104 ∷ [])
 unfolding replaced_within
 cut_in_the_middle = refl
 

@@ -94,16 +94,20 @@ held_are es placed are =
     let entry : PlacedEntry → LineAnnotation = λ e. e.entry in
     let position : PlacedEntry → ℕ = λ e. e.position in
     let ordered = ordered_by is_placed_before es in
-    let alike : line_positions placed ≡ line_positions (labelled (map entry placed)) = sym (line_positions-bare placed) ∙ ap line_positions (all_bare placed are.bytes) ∙ line_positions-bare (labelled (map entry placed)) in
+    let alike : line_positions placed ≡ line_positions (labelled (map entry placed)) = sym (line_positions-bare placed)
+    ∙ ap line_positions (all_bare placed are.bytes) ∙ line_positions-bare (labelled (map entry placed)) in
     let at : map position placed ≡ line_positions (labelled ordered) = are.positions_are ∙ alike ∙ ap (λ xs. line_positions (labelled xs)) are.order in
-    all_held placed are.bytes ∙ ap (λ xs. map held (map placed_at (zip xs (map position placed)))) are.order ∙ ap (λ ps. map held (map placed_at (zip ordered ps))) at
+    all_held placed are.bytes ∙ ap (λ xs. map held (map placed_at (zip xs (map position placed)))) are.order
+    ∙ ap (λ ps. map held (map placed_at (zip ordered ps))) at
 
 -- ---- entries whose labels are lent from elsewhere
 
 plain_label : (e : LineAnnotation) (p : ℕ) → held (placed_at (plain_entry e, p)) ≡ held (placed_at (e, p))
 plain_label e p =
-    ap (λ x. record { entry = x; label = Borrowed (record { ref_ptr = (0, 0); now = encode_utf8_all (label_text (plain_entry e)) }); position = p }) (plain_twice e)
-    ∙ ap (λ text. record { entry = plain_entry e; label = Borrowed (record { ref_ptr = (0, 0); now = encode_utf8_all text }); position = p }) (label_text-plain e)
+    ap (λ x. record { entry = x; label = Borrowed (record { ref_ptr = (0, 0); now = encode_utf8_all (label_text (plain_entry e)) }); position = p })
+    (plain_twice e)
+    ∙ ap (λ text. record { entry = plain_entry e; label = Borrowed (record { ref_ptr = (0, 0); now = encode_utf8_all text }); position = p })
+    (label_text-plain e)
 
 bare-plain : (es : List LineAnnotation) → map bare (labelled (map plain_entry es)) ≡ map bare (labelled es)
 bare-plain [] = refl
@@ -120,7 +124,8 @@ held-plain (e ∷ es) (p ∷ ps) =
 pub placed_of-plain : (es : List LineAnnotation) → map held (placed_of (map plain_entry es)) ≡ map held (placed_of es)
 placed_of-plain es =
     let ordered = ordered_by is_placed_before es in
-    let at : line_positions (labelled (map plain_entry ordered)) ≡ line_positions (labelled ordered) = sym (line_positions-bare (labelled (map plain_entry ordered))) ∙ ap line_positions (bare-plain ordered) ∙ line_positions-bare (labelled ordered) in
+    let at : line_positions (labelled (map plain_entry ordered)) ≡ line_positions (labelled ordered) = sym
+    (line_positions-bare (labelled (map plain_entry ordered))) ∙ ap line_positions (bare-plain ordered) ∙ line_positions-bare (labelled ordered) in
     ap (λ xs. map held (map placed_at (zip xs (line_positions (labelled xs))))) (sym (map-ordered_by plain_entry is_placed_before es))
     ∙ ap (λ ps. map held (map placed_at (zip (map plain_entry ordered) ps))) at
     ∙ held-plain ordered (line_positions (labelled ordered))

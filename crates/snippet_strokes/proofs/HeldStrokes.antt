@@ -44,8 +44,15 @@ module _ (layout : Layout) (row : ℕ) where
   labels_of-held : (es : List PlacedEntry) → labels_of layout row (map held es) ≡ labels_of layout row es
   labels_of-held [] = refl
   labels_of-held (e ∷ es) =
-      let at : List ℕ → Write = λ text. record { row = row + (label_place e).0; cell = layout.code + (label_place e).1; text = text; role = label_role e.entry.kind } in
-      ap (λ ws. label_of layout row (held e) ++ ws) (labels_of-held es) ∙ ap (λ text. cond (has_label e) (at text ∷ []) [] ++ labels_of layout row es) (label_text-plain e.entry)
+      let at : List ℕ → Write = λ text. record {
+        row = row + (label_place e).0;
+        cell = layout.code +
+            (label_place e).1;
+        text = text;
+        role = label_role e.entry.kind;
+      } in
+      ap (λ ws. label_of layout row (held e) ++ ws) (labels_of-held es)
+      ∙ ap (λ text. cond (has_label e) (at text ∷ []) [] ++ labels_of layout row es) (label_text-plain e.entry)
 
   connectors_of-held : (es : List PlacedEntry) → connectors_of layout row (map held es) ≡ connectors_of layout row es
   connectors_of-held es = flat_map-map (connector_of layout row) held es
@@ -62,8 +69,10 @@ line_strokes-held layout row count placed order =
     let stems = stems_of layout (row + 1) placed in
     let labels = labels_of layout (row + 1) placed in
     let others = map held placed in
-    ap (λ ws. ws ++ corners_of layout row count others ++ stems_of layout (row + 1) others ++ labels_of layout (row + 1) others ++ marks_of layout (row + 1) (map held order)) (connectors_of-held layout (row + 1) placed)
-    ∙ ap (λ ws. lines ++ ws ++ stems_of layout (row + 1) others ++ labels_of layout (row + 1) others ++ marks_of layout (row + 1) (map held order)) (corners_of-held layout row count placed)
+    ap (λ ws. ws ++ corners_of layout row count others ++ stems_of layout (row + 1) others ++ labels_of layout (row + 1) others
+    ++ marks_of layout (row + 1) (map held order)) (connectors_of-held layout (row + 1) placed)
+    ∙ ap (λ ws. lines ++ ws ++ stems_of layout (row + 1) others ++ labels_of layout (row + 1) others ++ marks_of layout (row + 1) (map held order))
+    (corners_of-held layout row count placed)
     ∙ ap (λ ws. lines ++ bars ++ ws ++ labels_of layout (row + 1) others ++ marks_of layout (row + 1) (map held order)) (stems_of-held layout (row + 1) placed)
     ∙ ap (λ ws. lines ++ bars ++ stems ++ ws ++ marks_of layout (row + 1) (map held order)) (labels_of-held layout (row + 1) placed)
     ∙ ap (λ ws. lines ++ bars ++ stems ++ labels ++ ws) (marks_of-held layout (row + 1) order)
@@ -90,7 +99,8 @@ look_ends-held i reached [] = refl
 look_ends-held i reached (e ∷ others) =
     let here = position_at reached e others in
     let looked = i + 1 + looked_after reached e others in
-    ap (λ n. (i + 1 + n) ∷ look_ends (i + 1) (position_after (position_at reached (held e) (map held others)) (held e) (map held others)) (map held others)) (looked_after-held reached e others)
+    ap (λ n. (i + 1 + n) ∷ look_ends (i + 1) (position_after (position_at reached (held e) (map held others)) (held e) (map held others)) (map held others))
+    (looked_after-held reached e others)
     ∙ ap (λ p. looked ∷ look_ends (i + 1) (position_after p (held e) (map held others)) (map held others)) (position_at-held reached e others)
     ∙ ap (λ p. looked ∷ look_ends (i + 1) p (map held others)) (position_after-held here e others)
     ∙ ap (λ ns. looked ∷ ns) (look_ends-held (i + 1) (position_after here e others) others)
@@ -102,7 +112,8 @@ zip-held (e ∷ es) (y ∷ ys) = ap (λ pairs. (held e, y) ∷ pairs) (zip-held 
 
 meets-held : (e : PlacedEntry) (looked : List PlacedEntry) → meets (held e) (map held looked) ≡ meets e looked
 meets-held e looked =
-    ap (list_any (λ (other : PlacedEntry). do_overlap other 0 e)) (drop-map held 2 looked) ∙ list_any-map (λ (other : PlacedEntry). do_overlap other 0 e) held (drop 2 looked)
+    ap (list_any (λ (other : PlacedEntry). do_overlap other 0 e)) (drop-map held 2 looked)
+    ∙ list_any-map (λ (other : PlacedEntry). do_overlap other 0 e) held (drop 2 looked)
 
 is_met-held : (k : ℕ) (e : PlacedEntry) (placed : List PlacedEntry) (ends : List ℕ) → is_met k (held e) (map held placed) ends ≡ is_met k e placed ends
 is_met-held k e placed ends =
@@ -114,7 +125,8 @@ overlapped_by-held : (placed : List PlacedEntry) (ends : List ℕ) (k : ℕ) (es
 overlapped_by-held placed ends k [] = refl
 overlapped_by-held placed ends k (e ∷ es) =
     let n = get_or ends k 0 in
-    let before : meets (held e) (take n (map held placed)) ≡ meets e (take n placed) = ap (meets (held e)) (take-map held n placed) ∙ meets-held e (take n placed) in
+    let before : meets (held e) (take n (map held placed)) ≡ meets e (take n placed) = ap (meets (held e)) (take-map held n placed)
+    ∙ meets-held e (take n placed) in
     let rest = overlapped_by (map held placed) ends (k + 1) (map held es) in
     ap (λ b. (b || (nat_le 2 k && is_met k (held e) (map held placed) ends)) ∷ rest) before
     ∙ ap (λ b. (meets e (take n placed) || (nat_le 2 k && b)) ∷ rest) (is_met-held k e placed ends)
@@ -122,9 +134,11 @@ overlapped_by-held placed ends k (e ∷ es) =
 
 pub overlapped-held : (placed : List PlacedEntry) → overlapped (map held placed) ≡ overlapped placed
 overlapped-held placed =
-    ap (λ ends. overlapped_by (map held placed) ends 0 (map held placed)) (look_ends-held 0 0 placed) ∙ overlapped_by-held placed (look_ends 0 0 placed) 0 placed
+    ap (λ ends. overlapped_by (map held placed) ends 0 (map held placed)) (look_ends-held 0 0 placed)
+    ∙ overlapped_by-held placed (look_ends 0 0 placed) 0 placed
 
 pub cuts_of-held : (layout : Layout) (room : ℕ) (order : List PlacedEntry) (flags : List Bool)
     → cuts_of layout room (map held order) flags ≡ cuts_of layout room order flags
 cuts_of-held layout room order flags =
-    ap (flat_map (cut_of layout room)) (zip-held order flags) ∙ flat_map-map (cut_of layout room) (λ (pair : PlacedEntry × Bool). (held pair.0, pair.1)) (zip order flags)
+    ap (flat_map (cut_of layout room)) (zip-held order flags) ∙ flat_map-map (cut_of layout room) (λ (pair : PlacedEntry × Bool). (held pair.0, pair.1))
+    (zip order flags)

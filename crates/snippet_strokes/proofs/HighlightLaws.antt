@@ -56,7 +56,8 @@ module _ (code dropped : ℕ) (es : List LineAnnotation) (row : ℕ) (old new : 
   -- so they are that: the row is highlighted, the others stay, and none comes or goes
   pub IsHighlighted-rows : new ≡ changed → IsHighlighted code dropped es (row_at old row) (row_at new row)
   IsHighlighted-rows is =
-      subst (IsHighlighted code dropped es (row_at old row)) (sym (ap (λ rows. row_at rows row) is ∙ own_row)) (IsHighlighted-row code dropped es (row_at old row))
+      subst (IsHighlighted code dropped es (row_at old row)) (sym (ap (λ rows. row_at rows row) is ∙ own_row))
+      (IsHighlighted-row code dropped es (row_at old row))
 
   pub unlit_rows : new ≡ changed → (r : ℕ) → r ≢ row → row_at new r ≡ row_at old r
   unlit_rows is r other = ap (λ rows. row_at rows r) is ∙ other_row r other

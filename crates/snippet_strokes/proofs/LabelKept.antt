@@ -41,7 +41,9 @@ positions_from p (e ∷ others) =
     let q = position_at p e others in
     let here : p ≤ q = at_least p e others in
     let after : q ≤ position_after q e others = after_least q e others in
-    All-cons (λ n. p ≤ n) q (positions (position_after q e others) others) here (All-weaker (λ n. position_after q e others ≤ n) (λ n. p ≤ n) (λ n is. omega (arith, here, after, is)) (positions (position_after q e others) others) (positions_from (position_after q e others) others))
+    All-cons (λ n. p ≤ n) q (positions (position_after q e others) others) here
+    (All-weaker (λ n. position_after q e others ≤ n) (λ n. p ≤ n) (λ n is.
+    omega (arith, here, after, is)) (positions (position_after q e others) others) (positions_from (position_after q e others) others))
 
 -- a test that no element passes
 any_false : {X : Type 0} (p : X → Bool) (xs : List X) → list_any p xs ≡ false → All (λ x. p x ≡ false) xs
@@ -124,11 +126,20 @@ pub label_parts : (e : PlacedEntry) → StandsAfter e ⊎ StandsBelow e
 label_parts e =
     elim (cases_eq e.position 0) [
       | inl zero_here ↦
-          let place : label_place e ≡ (0, cond (e.entry.end.display == 0) 2 (e.entry.end.display + 1)) = ap (λ b. cond b (0, cond (e.entry.end.display == 0) 2 (e.entry.end.display + 1)) (e.position + 1, e.entry.start.display)) (eq-eqb e.position 0 zero_here) in
+          let place : label_place e ≡ (0, cond (e.entry.end.display == 0) 2 (e.entry.end.display + 1)) = ap (λ b.
+          cond b (0, cond (e.entry.end.display == 0) 2 (e.entry.end.display + 1)) (e.position + 1, e.entry.start.display))
+          (eq-eqb e.position 0 zero_here) in
           let column : (label_place e).1 ≡ cond (e.entry.end.display == 0) 2 (e.entry.end.display + 1) = ap (λ (x : ℕ × ℕ). x.1) place in
-          inl (record { position = zero_here; row = ap (λ (x : ℕ × ℕ). x.0) place; from = omega (arith, column, low e.entry.end.display); to = omega (arith, column, high e.entry.end.display) })
+          inl (record {
+            position = zero_here;
+            row = ap (λ (x : ℕ × ℕ). x.0) place;
+            from = omega (arith, column, low e.entry.end.display);
+            to = omega
+                (arith, column, high e.entry.end.display);
+          })
       | inr some ↦
-          let place : label_place e ≡ (e.position + 1, e.entry.start.display) = ap (λ b. cond b (0, cond (e.entry.end.display == 0) 2 (e.entry.end.display + 1)) (e.position + 1, e.entry.start.display)) (unequal e.position some) in
+          let place : label_place e ≡ (e.position + 1, e.entry.start.display) = ap (λ b.
+          cond b (0, cond (e.entry.end.display == 0) 2 (e.entry.end.display + 1)) (e.position + 1, e.entry.start.display)) (unequal e.position some) in
           inr (record { position = omega (arith, some); row = ap (λ (x : ℕ × ℕ). x.0) place; column = ap (λ (x : ℕ × ℕ). x.1) place })
     ]
   where
@@ -153,7 +164,8 @@ label_chars_le e has = omega (arith, ap length has, length-chars_le (cow_str_byt
 pub labelled_positions : (given : List LineAnnotation) (es : List PlacedEntry) (k : ℕ) (d : PlacedEntry) → ArePlaced given es → k < length es
     → has_label (get_or es k d) ≡ true → map (λ (e : PlacedEntry). e.position) es ≡ positions 0 es
 labelled_positions given es k d placed within has =
-    placed.positions_are ∙ ap (λ b. cond b (flipped (positions 0 es)) (positions 0 es)) (list_all_at is_start es k d within (no_start (is_start_part (get_or es k d).entry.annotation_type) (has_label (get_or es k d)) has))
+    placed.positions_are ∙ ap (λ b. cond b (flipped (positions 0 es)) (positions 0 es))
+    (list_all_at is_start es k d within (no_start (is_start_part (get_or es k d).entry.annotation_type) (has_label (get_or es k d)) has))
   where
     no_start : (s l : Bool) → l ≡ true → (s && not l) ≡ false
     no_start true true is = refl
@@ -184,8 +196,21 @@ pub record IsClear (e f : PlacedEntry) : Type 0 where
 clear_left : (e f : PlacedEntry) → crosses e f ≡ false → HasPlace e.entry → f.entry.start.display ≤ e.entry.start.display → IsClear e f
 clear_left e f uncrossed place left =
     elim (uncovered (do_overlap f 0 e) (has_label f) (is_same_place e f) uncrossed) [
-      | inl off ↦ record { clear = inl (omega (arith, place.ordered, apart f.entry.start.display f.entry.end.display e.entry.start.display e.entry.end.display 0 off left)) }
-      | inr same ↦ record { clear = inl (omega (arith, one_end (e.entry.start.display == f.entry.start.display) (e.entry.start.char == f.entry.start.char) e.entry.end.display f.entry.end.display (e.entry.end.char == f.entry.end.char) same)) }
+      | inl off ↦ record {
+        clear = inl (omega (
+          arith,
+          place.ordered,
+          apart f.entry.start.display f.entry.end.display e.entry.start.display e.entry.end.display
+              0 off left,
+        ));
+      }
+      | inr same ↦ record {
+        clear = inl (omega (
+          arith,
+          one_end (e.entry.start.display == f.entry.start.display)
+              (e.entry.start.char == f.entry.start.char) e.entry.end.display f.entry.end.display (e.entry.end.char == f.entry.end.char) same,
+        ));
+      }
     ]
   where
     uncovered : (o l s : Bool) → (o && (l || not s)) ≡ false → (o ≡ false) ⊎ (s ≡ true)
@@ -203,8 +228,14 @@ clear_left e f uncrossed place left =
 clear_right : (e f : PlacedEntry) → crowds 0 f e ≡ false → has_label e ≡ true → e.entry.start.display ≤ f.entry.start.display → IsClear e f
 clear_right e f uncrowded has left =
     elim (unreached (blocks f e) (has_label e) (do_overlap e (length (cow_str_bytes e.label) + 2) f) (has_label f) (ends_no_later e f) uncrowded has) [
-      | inl off ↦ record { clear = inr (apart e.entry.start.display e.entry.end.display f.entry.start.display f.entry.end.display (length (cow_str_bytes e.label) + 2) off left) }
-      | inr longer ↦ record { clear = inl (ends e.entry.end.display f.entry.end.display (e.entry.end.display == f.entry.end.display && nat_le e.entry.end.char f.entry.end.char) longer) }
+      | inl off ↦ record {
+        clear = inr (apart e.entry.start.display e.entry.end.display f.entry.start.display f.entry.end.display
+            (length (cow_str_bytes e.label) + 2) off left);
+      }
+      | inr longer ↦ record {
+        clear = inl (ends e.entry.end.display f.entry.end.display
+            (e.entry.end.display == f.entry.end.display && nat_le e.entry.end.char f.entry.end.char) longer);
+      }
     ]
   where
     unreached : (b l o h z : Bool) → (b || (l && o && (h || (true && z)))) ≡ false → l ≡ true → (o ≡ false) ⊎ (z ≡ false)
@@ -240,11 +271,13 @@ all_clear given es i d placed places within has zero_here j d2 fits =
     let are = labelled_positions given es i d placed within has in
     let zero_there : get_or (positions 0 es) i 0 ≡ 0 = sym (position_of es i d are within) ∙ zero_here in
     elim (cases_lt i j) [
-      | inl left ↦ clear_left (get_or es i d) (get_or es j d2) (uncrossed 0 es i j d d2 left fits zero_there has) (places i d within) (stands_left given es i j d d2 placed left fits)
+      | inl left ↦ clear_left (get_or es i d) (get_or es j d2) (uncrossed 0 es i j d d2 left fits zero_there has) (places i d within)
+          (stands_left given es i j d d2 placed left fits)
       | inr not_left ↦ elim (cases_lt j i) [
         | inl right ↦
             let low : get_or (positions 0 es) j 0 ≡ 0 = omega (arith, zero_there, ascending 0 es j i right within) in
-            clear_right (get_or es i d) (get_or es j d2) (subst (λ p. crowds p (get_or es j d2) (get_or es i d) ≡ false) low (uncrowded 0 es j i d2 d right within (low ∙ sym zero_there))) has (stands_left given es j i d2 d placed right within)
+            clear_right (get_or es i d) (get_or es j d2) (subst (λ p. crowds p (get_or es j d2) (get_or es i d) ≡ false) low
+            (uncrowded 0 es j i d2 d right within (low ∙ sym zero_there))) has (stands_left given es j i d2 d placed right within)
         | inr not_right ↦
             let own : j ≡ i = omega (arith, not_left, not_right) in
             let same : get_or es j d2 ≡ get_or es i d = ap (λ k. get_or es k d2) own ∙ get_or_default es i d2 d within in
@@ -268,10 +301,12 @@ labels_kept layout row given es old new placed places marked stand k d within ha
           let here : row + (label_place e).0 ≡ row = omega (arith, at.row) in
           let p : ℕ = (label_place e).1 + n in
           let there : layout.code + (label_place e).1 + n ≡ layout.code + p = omega arith in
-          let clear : All (λ (f : PlacedEntry). IsPaintedAt f p → ⊥) es = All-weaker (IsClear e) (λ (f : PlacedEntry). IsPaintedAt f p → ⊥) (λ f is. unpainted e f n at (placed.labels k d within) is inside) es (all_clear given es k d placed places within has at.position) in
+          let clear : All (λ (f : PlacedEntry). IsPaintedAt f p → ⊥) es = All-weaker (IsClear e) (λ (f : PlacedEntry). IsPaintedAt f p → ⊥) (λ f is.
+          unpainted e f n at (placed.labels k d within) is inside) es (all_clear given es k d placed places within has at.position) in
           ap (λ r. cell_at new r (layout.code + (label_place e).1 + n)) here ∙ ap (cell_at new row) there
           ∙ marked.painted.unmarked p (All-permutation (λ (f : PlacedEntry). IsPaintedAt f p → ⊥) es marked.order marked.same clear)
           ∙ sym (ap (cell_at old row) there) ∙ sym (ap (λ r. cell_at old r (layout.code + (label_place e).1 + n)) here) ∙ before
       | inr at ↦
-          ap (λ cells. get_or cells (layout.code + (label_place e).1 + n) SPACE) (marked.painted.others (row + (label_place e).0) (λ same. omega (arith, same, at.row))) ∙ before
+          ap (λ cells. get_or cells (layout.code + (label_place e).1 + n) SPACE)
+          (marked.painted.others (row + (label_place e).0) (λ same. omega (arith, same, at.row))) ∙ before
     ]

@@ -25,7 +25,8 @@ pub uncrowded_apart : (p : ℕ) (e f : PlacedEntry) → crowds p e f ≡ false �
 uncrowded_apart p e f crowded has_e has_f left =
     let more = length (cow_str_bytes f.label) + 2 in
     let clear : reaches p e f ≡ false = right (blocks e f) (reaches p e f) crowded in
-    apart f.entry.start.display f.entry.end.display e.entry.start.display e.entry.end.display more (unreached (has_label f) (do_overlap f more e) (has_label e) ((p == 0) && ends_no_later f e) clear has_f has_e) left
+    apart f.entry.start.display f.entry.end.display e.entry.start.display e.entry.end.display more
+    (unreached (has_label f) (do_overlap f more e) (has_label e) ((p == 0) && ends_no_later f e) clear has_f has_e) left
   where
     right : (a b : Bool) → (a || b) ≡ false → b ≡ false
     right true b is = cc is
@@ -43,7 +44,8 @@ pub labels_apart : (layout : Layout) (row : ℕ) (e f : PlacedEntry) → HasPlac
     → Reaches r c (label_write layout row e) → Reaches r c (label_write layout row f) → ⊥
 labels_apart layout row e f place_e place_f label has_e has_f left clear r c there_e there_f =
     let short : length (label_text f.entry) ≤ length (cow_str_bytes f.label) = label_chars_le f label in
-    let gap : e.position ≡ f.position → f.entry.end.display + (length (cow_str_bytes f.label) + 2) ≤ e.entry.start.display = λ same. uncrowded_apart e.position e f (clear same) has_e has_f left in
+    let gap : e.position ≡ f.position → f.entry.end.display + (length (cow_str_bytes f.label) + 2) ≤ e.entry.start.display = λ same.
+    uncrowded_apart e.position e f (clear same) has_e has_f left in
     elim (label_parts e) [
       | inl at_e ↦ elim (label_parts f) [
         | inl at_f ↦ omega (arith, gap (at_e.position ∙ sym at_f.position), short, at_e.from, at_f.to, place_e.ordered, there_e.from, there_f.to)
@@ -86,10 +88,13 @@ labels_stand layout row given es rows placed places k d within has n inside =
     let N : Write → Type 0 = λ v. Reaches r c v → ⊥ in
     let here : Reaches r c w = record { row = refl; from = omega arith; to = omega (arith, inside) } in
     let split : es ≡ take k es ++ e ∷ after = sym (take-append-drop k es) ∙ ap (λ xs. take k es ++ xs) (drop_more es k d within) in
-    let parts : labels_of layout row es ≡ labels_of layout row (take k es) ++ w ∷ labels_of layout row after = ap (flat_map f) split ∙ flat_map-append f (take k es) (e ∷ after) ∙ ap (λ b. labels_of layout row (take k es) ++ (cond b (w ∷ []) [] ++ labels_of layout row after)) has in
+    let parts : labels_of layout row es ≡ labels_of layout row (take k es) ++ w ∷ labels_of layout row after = ap (flat_map f) split
+    ∙ flat_map-append f (take k es) (e ∷ after) ∙ ap (λ b. labels_of layout row (take k es) ++ (cond b (w ∷ []) [] ++ labels_of layout row after)) has in
     let beside : All N (labels_of layout row after) = All-flat_map N f after (λ m d2 fits.
     let j : ℕ = k + 1 + m in
     let later : j < length es = omega (arith, fits, length-drop (k + 1) es) in
     let same : get_or after m d2 ≡ get_or es j d2 = get_or-drop (k + 1) es m d2 in
-    subst (λ (x : PlacedEntry). All N (f x)) (sym same) (All-label_of N layout row (get_or es j d2) (λ has_f there. placed_apart layout row given es k j d d2 placed places (omega arith) later has has_f r c here there))) in
-    ap (λ ws. cell_at (painted ws rows) r c) parts ∙ painted-last (labels_of layout row (take k es)) (labels_of layout row after) w rows r c here beside ∙ ap (λ m. unlinked_cell (label_role e.entry.kind) (get_or (label_text e.entry) m 0)) (omega arith)
+    subst (λ (x : PlacedEntry). All N (f x)) (sym same) (All-label_of N layout row (get_or es j d2) (λ has_f there.
+    placed_apart layout row given es k j d d2 placed places (omega arith) later has has_f r c here there))) in
+    ap (λ ws. cell_at (painted ws rows) r c) parts ∙ painted-last (labels_of layout row (take k es)) (labels_of layout row after) w rows r c here beside
+    ∙ ap (λ m. unlinked_cell (label_role e.entry.kind) (get_or (label_text e.entry) m 0)) (omega arith)

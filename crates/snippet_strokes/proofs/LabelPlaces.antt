@@ -96,7 +96,13 @@ one_passes q (x ∷ xs) apart =
           omega (arith, sum_by-cons (λ y. cond (q y) 1 0) x xs, here, rest)
       | inr fails ↦
           let here : ◌≡◌ {A = ℕ} (cond (q x) 1 0) 0 = ap (λ b. cond b 1 0) fails in
-          omega (arith, sum_by-cons (λ y. cond (q y) 1 0) x xs, here, one_passes q xs (λ i j d d2 before within. apart (suc i) (suc j) d d2 (omega (arith, before)) (omega (arith, within))))
+          omega (
+            arith,
+            sum_by-cons (λ y. cond (q y) 1 0) x xs,
+            here,
+            one_passes q xs (λ i j d d2 before within.
+                apart (suc i) (suc j) d d2 (omega (arith, before)) (omega (arith, within))),
+          )
     ]
 
 -- ---- labels
@@ -115,11 +121,14 @@ shows_label e has some = by_length (length (chars (cow_str_bytes e.label))) (ome
 
 -- where a label begins
 stands-at : (layout : Layout) (e : PlacedEntry)
-    → let l = placed_label layout e in ((l.row ≡ 0) × (l.cell ≡ layout.code + max e.entry.end.display 1 + 1)) ⊎ ((0 < l.row) × (l.cell ≡ layout.code + e.entry.start.display))
+    → let l = placed_label layout e in ((l.row ≡ 0) × (l.cell ≡ layout.code + max e.entry.end.display 1 + 1))
+    ⊎ ((0 < l.row) × (l.cell ≡ layout.code + e.entry.start.display))
 stands-at layout e =
     elim (label_parts e) [
       | inl at ↦
-          let place : label_place e ≡ (0, cond (e.entry.end.display == 0) 2 (e.entry.end.display + 1)) = ap (λ b. cond b (0, cond (e.entry.end.display == 0) 2 (e.entry.end.display + 1)) (e.position + 1, e.entry.start.display)) (eq-eqb e.position 0 at.position) in
+          let place : label_place e ≡ (0, cond (e.entry.end.display == 0) 2 (e.entry.end.display + 1)) = ap (λ b.
+          cond b (0, cond (e.entry.end.display == 0) 2 (e.entry.end.display + 1)) (e.position + 1, e.entry.start.display))
+          (eq-eqb e.position 0 at.position) in
           let column : (label_place e).1 ≡ cond (e.entry.end.display == 0) 2 (e.entry.end.display + 1) = ap (λ (x : ℕ × ℕ). x.1) place in
           inl (at.row, omega (arith, column, after e.entry.end.display))
       | inr at ↦ inr (omega (arith, at.row), omega (arith, at.column))
@@ -131,7 +140,8 @@ stands-at layout e =
 -- the cell is reached by the label's write
 reached : (layout : Layout) (e : PlacedEntry) (r c : ℕ) → is_cell_of r c (placed_label layout e) ≡ true → Reaches r c (label_write layout 0 e)
 reached layout e r c is =
-    let outer = and_parts ((label_place e).0 == r) (nat_le (layout.code + (label_place e).1) c && nat_lt c (layout.code + (label_place e).1 + length (label_text e.entry))) is in
+    let outer = and_parts ((label_place e).0 == r) (nat_le (layout.code + (label_place e).1) c
+    && nat_lt c (layout.code + (label_place e).1 + length (label_text e.entry))) is in
     let inner = and_parts (nat_le (layout.code + (label_place e).1) c) (nat_lt c (layout.code + (label_place e).1 + length (label_text e.entry))) outer.1 in
     record {
       row = omega (arith, same (label_place e).0 r outer.0);
@@ -154,7 +164,8 @@ beside_labels : (layout : Layout) (row r c : ℕ) (placed : List PlacedEntry) �
 beside_labels layout row r c placed none k d within has there =
     let e : PlacedEntry = get_or placed k d in
     let at : ℕ = layout.code + (label_place e).1 in
-    false≢true (sym (all_fail (λ x. is_cell_of r c (placed_label layout x)) placed none k d within) ∙ inside (label_place e).0 r at c (length (label_text e.entry)) (omega (arith, there.row)) there.from there.to)
+    false≢true (sym (all_fail (λ x. is_cell_of r c (placed_label layout x)) placed none k d within)
+    ∙ inside (label_place e).0 r at c (length (label_text e.entry)) (omega (arith, there.row)) there.from there.to)
   where
     inside : (a r b c n : ℕ) → a ≡ r → b ≤ c → c < b + n → (a == r && (nat_le b c && nat_lt c (b + n))) ≡ true
     inside a r b c n same from to = grind (arith, nat_tests, same, from, to)
@@ -188,7 +199,8 @@ LabelsStand-placed layout row es placed rows below is places stands beside hung 
             whole = λ n inside. same (label_place e).0 (layout.code + (label_place e).1 + n) ∙ stand k d within (shows_label e (has k d within) some) n inside;
             place = stands-at layout e;
           });
-      led = All-map (λ (l : PlacedLabel). 0 < length (label_text l.entry) → IsLedTo layout.decor (map g order) below l) g order (λ k d within some r under above none.
+      led = All-map (λ (l : PlacedLabel). 0 < length (label_text l.entry) → IsLedTo layout.decor (map g order) below l) g order
+          (λ k d within some r under above none.
           let e : PlacedEntry = get_or order k d in
           let c : ℕ = layout.code + (label_place e).1 in
           let stem : IsStemCell layout.decor (cell_at rows (row + r) c) = elim (label_parts e) [
@@ -196,7 +208,9 @@ LabelsStand-placed layout row es placed rows below is places stands beside hung 
             | inr at ↦
                 let here : layout.code + e.entry.start.display ≡ c = omega (arith, at.column) in
                 let clear : BesideLabels layout row (row + r) c placed = beside_labels layout row r c placed (counted r c ∙ none) in
-                subst (λ n. IsStemCell layout.decor (cell_at rows (row + r) n)) here (leads k d within (shows_label e (has k d within) some) r under (omega (arith, above, at.row)) (subst (λ n. BesideLabels layout row (row + r) n placed) (sym here) clear))
+                subst (λ n. IsStemCell layout.decor (cell_at rows (row + r) n)) here
+                (leads k d within (shows_label e (has k d within) some) r under (omega (arith, above, at.row))
+                (subst (λ n. BesideLabels layout row (row + r) n placed) (sym here) clear))
           ] in
           subst (IsStemCell layout.decor) (sym (same r c)) stem);
       apart = λ r c.
@@ -225,10 +239,13 @@ LabelsStand-none layout es rows none blank =
     record {
       labels = map g es;
       are = entries es;
-      stand = All-map (λ (l : PlacedLabel). 0 < length (label_text l.entry) → StandsIn layout rows l) g es (λ k d within some. absurd (omega (arith, some, ap length (none k d within))));
-      led = All-map (λ (l : PlacedLabel). 0 < length (label_text l.entry) → IsLedTo layout.decor (map g es) rows l) g es (λ k d within some. absurd (omega (arith, some, ap length (none k d within))));
+      stand = All-map (λ (l : PlacedLabel). 0 < length (label_text l.entry) → StandsIn layout rows l) g es (λ k d within some.
+          absurd (omega (arith, some, ap length (none k d within))));
+      led = All-map (λ (l : PlacedLabel). 0 < length (label_text l.entry) → IsLedTo layout.decor (map g es) rows l) g es (λ k d within some.
+          absurd (omega (arith, some, ap length (none k d within))));
       apart = λ r c.
-          let empty : count_by (λ e. is_cell_of r c (g e)) es ≡ 0 = none_pass (λ e. is_cell_of r c (g e)) es (λ j d within. no_cell r c (length (label_text (get_or es j d))) (ap length (none j d within))) in
+          let empty : count_by (λ e. is_cell_of r c (g e)) es ≡ 0 = none_pass (λ e. is_cell_of r c (g e)) es (λ j d within.
+          no_cell r c (length (label_text (get_or es j d))) (ap length (none j d within))) in
           omega (arith, empty, count-map (is_cell_of r c) g es);
       others = λ r c right _. inl (blank r c right);
     }
@@ -250,7 +267,8 @@ LabelsStand-kept layout es old new is same =
       stand = λ k d within some.
           let stands : StandsIn layout old (get_or is.labels k d) = is.stand k d within some in
           record {
-            whole = λ n inside. same (get_or is.labels k d).row ((get_or is.labels k d).cell + n) (right (get_or is.labels k d) n stands.place) ∙ stands.whole n inside;
+            whole = λ n inside. same (get_or is.labels k d).row ((get_or is.labels k d).cell + n) (right (get_or is.labels k d) n stands.place)
+                ∙ stands.whole n inside;
             place = stands.place;
           };
       led = λ k d within some r under above none.

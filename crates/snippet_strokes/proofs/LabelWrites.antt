@@ -59,7 +59,8 @@ pub labels_unmarked : (layout : Layout) (row : ℕ) (es : List PlacedEntry) (row
 labels_unmarked layout row es rows r c _ before =
     let M : Cell → Type 0 = λ cell. has_mark_role cell ≡ false in
     let Q : Write → Type 0 = λ w. Reaches r c w → M (cell_of_write w c) in
-    painted-cell M (labels_of layout row es) rows r c before (All-flat_map Q (label_of layout row) es (λ k d within. All-label_of Q layout row (get_or es k d) (λ has there. label_unmarked (get_or es k d).entry.kind)))
+    painted-cell M (labels_of layout row es) rows r c before (All-flat_map Q (label_of layout row) es (λ k d within.
+    All-label_of Q layout row (get_or es k d) (λ has there. label_unmarked (get_or es k d).entry.kind)))
 
 -- where no entry has a label nothing is written
 pub labels_none : (layout : Layout) (row : ℕ) (es : List PlacedEntry) → All (λ e. has_label e ≡ false) es → labels_of layout row es ≡ []
@@ -71,7 +72,8 @@ pub label_lone : (layout : Layout) (row : ℕ) (e : PlacedEntry) (rows : List (L
     → has_label e ≡ true → painted (labels_of layout row (e ∷ [])) rows ≡ cells_written rows row (layout.code + e.entry.end.display + 1)
     (text_cells (label_role e.entry.kind) (label_text e.entry))
 label_lone layout row e rows beside some has =
-    let at : ℕ × ℕ → List (List Cell) = λ place. cells_written rows (row + place.0) (layout.code + place.1) (text_cells (label_role e.entry.kind) (label_text e.entry)) in
+    let at : ℕ × ℕ → List (List Cell) = λ place. cells_written rows (row + place.0) (layout.code + place.1)
+    (text_cells (label_role e.entry.kind) (label_text e.entry)) in
     ap (λ b. painted (cond b (label_write layout row e ∷ []) [] ++ []) rows) has ∙ ap at (label_beside e beside some)
     ∙ ap (λ r. cells_written rows r (layout.code + (e.entry.end.display + 1)) (text_cells (label_role e.entry.kind) (label_text e.entry)))
     (omega arith) ∙ ap (λ n. cells_written rows row n (text_cells (label_role e.entry.kind) (label_text e.entry))) (omega arith)

@@ -18,7 +18,15 @@ use Rattle.snippet_strokes.specs.Rows.{highlighted_row}
 
 -- an entry of these columns, each of one character
 abbrev entry : AnnotationKind → ℕ → ℕ → Option (Bor (List ℕ)) → LineAnnotationType → LineAnnotation
-entry kind from to label part = record { start = record { line = 1; char = from; display = from; byte = from }; end = record { line = 1; char = to; display = to; byte = to }; kind = kind; label = label; annotation_type = part; highlight_source = true }
+entry kind from to label part = record {
+  start = record { line = 1; char = from; display = from; byte = from };
+  end = record
+      { line = 1; char = to; display = to; byte = to };
+  kind = kind;
+  label = label;
+  annotation_type = part;
+  highlight_source = true;
+}
 
 abbrev lent : List ℕ → Option (Bor (List ℕ))
 lent text = Some (record { ref_ptr = (0, 0); now = text })
@@ -38,7 +46,8 @@ abbrev separated : List Cell
 separated = text_cells NoStyle (codes "  ") ++ text_cells LineNumber (codes "|") ++ text_cells NoStyle (codes " ")
 
 -- `1 | ab cd`
-source_is : source 4 ≡ text_cells LineNumber (codes "1") ++ text_cells NoStyle (codes " ") ++ text_cells LineNumber (codes "|") ++ text_cells NoStyle (codes " ") ++ text_cells Quotation (codes "ab cd")
+source_is : source 4 ≡ text_cells LineNumber (codes "1") ++ text_cells NoStyle (codes " ") ++ text_cells LineNumber (codes "|")
+    ++ text_cells NoStyle (codes " ") ++ text_cells Quotation (codes "ab cd")
 unfolding written
 source_is = refl
 
@@ -47,9 +56,11 @@ source_is = refl
 -- `  | -- ^^ y`
 -- `  | |`
 -- `  | x`
-two_labels : line_rows (layout_to 4) 140 false text 0 [] (entry Context 0 2 (lent (codes "x")) Singleline ∷ entry Primary 3 5 (lent (codes "y")) Singleline ∷ []) (source 4) ≡
+two_labels : line_rows (layout_to 4) 140 false text 0 [] (entry Context 0 2 (lent (codes "x")) Singleline ∷ entry Primary 3 5
+    (lent (codes "y")) Singleline ∷ []) (source 4) ≡
     source 4
-    ∷ (separated ++ text_cells UnderlineSecondary (codes "--") ++ text_cells NoStyle (codes " ") ++ text_cells UnderlinePrimary (codes "^^") ++ text_cells NoStyle (codes " ") ++ text_cells LabelPrimary (codes "y"))
+    ∷ (separated ++ text_cells UnderlineSecondary (codes "--") ++ text_cells NoStyle (codes " ") ++ text_cells UnderlinePrimary (codes "^^")
+    ++ text_cells NoStyle (codes " ") ++ text_cells LabelPrimary (codes "y"))
     ∷ (separated ++ text_cells UnderlineSecondary (codes "|"))
     ∷ (separated ++ text_cells LabelSecondary (codes "x"))
     ∷ []
@@ -59,8 +70,10 @@ two_labels = refl
 -- the start of a span of several lines, whose bar has depth 2, beside a bar of depth 1 that runs past: in Ascii the corner is a space
 -- `1 | |  ab cd`
 -- `  | | ____^`
-start_beside_bar : line_rows (layout_to 7) 140 false text 0 (record { depth = 1; primary = false } ∷ []) (entry Primary 3 4 None (MultilineStart 2) ∷ []) (source 7) ≡
-    (text_cells LineNumber (codes "1") ++ text_cells NoStyle (codes " ") ++ text_cells LineNumber (codes "|") ++ text_cells NoStyle (codes " ") ++ text_cells UnderlineSecondary (codes "|") ++ text_cells NoStyle (codes "  ") ++ text_cells Quotation text)
+start_beside_bar : line_rows (layout_to 7) 140 false text 0 (record { depth = 1; primary = false } ∷ []) (entry Primary 3 4 None (MultilineStart 2) ∷ [])
+    (source 7) ≡
+    (text_cells LineNumber (codes "1") ++ text_cells NoStyle (codes " ") ++ text_cells LineNumber (codes "|") ++ text_cells NoStyle (codes " ")
+    ++ text_cells UnderlineSecondary (codes "|") ++ text_cells NoStyle (codes "  ") ++ text_cells Quotation text)
     ∷ (separated ++ text_cells UnderlineSecondary (codes "|") ++ text_cells UnderlinePrimary (codes " ____^"))
     ∷ []
 unfolding chars written
@@ -69,11 +82,13 @@ start_beside_bar = refl
 -- a line that begins with its span is marked as a whole: the top of the bar stands beside it, and no row below
 -- `1 | / ab cd`
 whole_line : line_rows (layout_to 6) 140 false text 0 [] (entry Primary 0 1 None (MultilineStart 1) ∷ []) (source 6) ≡
-    (text_cells LineNumber (codes "1") ++ text_cells NoStyle (codes " ") ++ text_cells LineNumber (codes "|") ++ text_cells NoStyle (codes " ") ++ text_cells UnderlinePrimary (codes "/") ++ text_cells NoStyle (codes " ") ++ text_cells Quotation text)
+    (text_cells LineNumber (codes "1") ++ text_cells NoStyle (codes " ") ++ text_cells LineNumber (codes "|") ++ text_cells NoStyle (codes " ")
+    ++ text_cells UnderlinePrimary (codes "/") ++ text_cells NoStyle (codes " ") ++ text_cells Quotation text)
     ∷ []
 unfolding written
 whole_line = refl
 
 -- the characters of a primary entry get the role of its marks
-two_highlighted : highlighted_row 1 0 (entry Primary 0 2 None Singleline ∷ []) (text_cells NoStyle (codes " ") ++ text_cells Quotation text) ≡ text_cells NoStyle (codes " ") ++ text_cells UnderlinePrimary (codes "ab") ++ text_cells Quotation (codes " cd")
+two_highlighted : highlighted_row 1 0 (entry Primary 0 2 None Singleline ∷ []) (text_cells NoStyle (codes " ") ++ text_cells Quotation text)
+    ≡ text_cells NoStyle (codes " ") ++ text_cells UnderlinePrimary (codes "ab") ++ text_cells Quotation (codes " cd")
 two_highlighted = refl

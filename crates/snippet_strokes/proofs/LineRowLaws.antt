@@ -56,7 +56,9 @@ module _ (layout : Layout) (room : ℕ) (closes : Bool) (text : List ℕ) (dropp
       let only : bars_apart (bar ∷ []) (ends_of_bars es) ≡ bar ∷ [] = ap (bars_apart (bar ∷ [])) none in
       let rows_are : rows ≡ map (with_bars layout Solid (bar ∷ [])) own = drawn.rows_are ∙ ap (λ bs. map (with_bars layout Solid bs) own) only in
       let inside : i < length own = omega (arith, within, ap length rows_are, length-map own (with_bars layout Solid (bar ∷ []))) in
-      let row : row_at rows i ≡ with_bars layout Solid (bar ∷ []) (row_at own i) = ap (λ rs. row_at rs i) rows_are ∙ get_or-map (with_bars layout Solid (bar ∷ [])) own i [] [] inside in
+      let row : row_at rows i ≡ with_bars layout Solid (bar ∷ []) (row_at own i) = ap (λ rs. row_at rs i) rows_are
+      ∙ get_or-map (with_bars layout Solid (bar ∷ [])) own i [] [] inside in
       let at : cell + 0 ≡ cell = omega arith in
       let drawn_row : List Cell = with_bars layout Solid (bar ∷ []) (row_at own i) in
-      ap (λ cells. get_or cells cell SPACE) row ∙ ap (λ c. get_or drawn_row c SPACE) (sym at) ∙ slice_index_or-written_inside SPACE (row_at own i) cell (part ∷ []) 0 SPACE (omega arith)
+      ap (λ cells. get_or cells cell SPACE) row ∙ ap (λ c. get_or drawn_row c SPACE) (sym at)
+      ∙ slice_index_or-written_inside SPACE (row_at own i) cell (part ∷ []) 0 SPACE (omega arith)

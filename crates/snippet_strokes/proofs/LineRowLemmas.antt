@@ -34,7 +34,8 @@ use Rattle.snippet_strokes.proofs.PositionLemmas.{row_count_some}
 
 -- rows that are begun below others
 begun_below : (layout : Layout) (closes : Bool) (count : ℕ) (above : List (List Cell)) (source : List Cell)
-    → (above ++ source ∷ []) ++ replicate (count - 1) (separator_row layout.decor layout.gutter) ++ bare_row layout.decor layout.gutter closes ∷ [] ≡ above ++ begun_rows layout closes count source
+    → (above ++ source ∷ []) ++ replicate (count - 1) (separator_row layout.decor layout.gutter) ++ bare_row layout.decor layout.gutter closes ∷ [] ≡ above
+    ++ begun_rows layout closes count source
 begun_below layout closes count above source =
     let seps = replicate (count - 1) (separator_row layout.decor layout.gutter) in
     let end = bare_row layout.decor layout.gutter closes ∷ [] in
@@ -52,12 +53,14 @@ same_after [] a b same = same
 same_after (x ∷ front) a b same = same_after front a b (cc same)
 
 -- the strokes of a line, painted and then cut, are its rows
-module _ (layout : Layout) (room : ℕ) (closes : Bool) (es : List LineAnnotation) (placed : List PlacedEntry) (flags : List Bool) (above : List (List Cell)) (source : List Cell) (old new final : List (List Cell)) (row : ℕ)
+module _ (layout : Layout) (room : ℕ) (closes : Bool) (es : List LineAnnotation) (placed : List PlacedEntry) (flags : List Bool) (above : List (List Cell))
+    (source : List Cell) (old new final : List (List Cell)) (row : ℕ)
     (are : ArePlaced es placed)
     (old_is : old ≡ above ++ source ∷ [])
     (row_is : row ≡ length above)
     (long : length new ≡ length old + row_count placed)
-    (new_is : new ≡ painted (line_strokes layout row (length old + row_count placed) placed (painting_order placed)) (old ++ replicate (row_count placed - 1) (separator_row layout.decor layout.gutter) ++ bare_row layout.decor layout.gutter closes ∷ []))
+    (new_is : new ≡ painted (line_strokes layout row (length old + row_count placed) placed (painting_order placed))
+    (old ++ replicate (row_count placed - 1) (separator_row layout.decor layout.gutter) ++ bare_row layout.decor layout.gutter closes ∷ []))
     (flags_are : list_any (is_wide_at room layout.decor) placed ≡ true → flags ≡ overlapped placed)
     (final_is : final ≡ cut_rows layout.decor row (cuts_of layout room (painting_order placed) flags) new) where
   abbrev order : List PlacedEntry
@@ -97,7 +100,8 @@ module _ (layout : Layout) (room : ℕ) (closes : Bool) (es : List LineAnnotatio
       elim (cases_Bool (list_any (is_wide_at room layout.decor) placed)) [
         | inl wide_one ↦ ap (cuts_of layout room order) (flags_are wide_one)
         | inr narrow ↦
-            let none : list_any (is_wide_at room layout.decor) order ≡ false = sym (list_any-IsPermutation (is_wide_at room layout.decor) placed order (IsPermutation-painting_order placed)) ∙ narrow in
+            let none : list_any (is_wide_at room layout.decor) order ≡ false = sym
+            (list_any-IsPermutation (is_wide_at room layout.decor) placed order (IsPermutation-painting_order placed)) ∙ narrow in
             cuts_of-narrow layout room order flags none ∙ sym (cuts_of-narrow layout room order (overlapped placed) none)
       ]
 
@@ -114,8 +118,11 @@ module _ (layout : Layout) (room : ℕ) (closes : Bool) (es : List LineAnnotatio
       let change : List Cell → List Cell = cut_row layout.decor stretches in
       let of_stretches = final_is ∙ ap (λ cs. cut_rows layout.decor row cs new) cuts_are in
       let of_parts = ap (cut_rows layout.decor row stretches) (new_below ∙ ap (λ rs. above ++ rs) parts) in
-      let by_row : final ≡ above ++ change top ∷ change marks ∷ lower = of_stretches ∙ of_parts ∙ cut_rows-here layout row stretches above top marks lower (sym row_is) in
-      let is_cut : (row : List Cell) → IsCut layout (wide_entries room layout.decor es) row (change row) = λ row. subst (λ n. IsCut layout n row (change row)) (wide_entries-order room layout.decor es placed are) (IsCut-cuts layout room order (overlapped placed) row) in
+      let by_row : final ≡ above ++ change top ∷ change marks ∷ lower = of_stretches ∙ of_parts
+      ∙ cut_rows-here layout row stretches above top marks lower (sym row_is) in
+      let is_cut : (row : List Cell) → IsCut layout (wide_entries room layout.decor es) row (change row) = λ row.
+      subst (λ n. IsCut layout n row (change row)) (wide_entries-order room layout.decor es placed are)
+      (IsCut-cuts layout room order (overlapped placed) row) in
       record {
         rows = change top ∷ change marks ∷ lower;
         added = by_row;

@@ -80,7 +80,8 @@ module _ (layout : Layout) (room : ℕ) (closes : Bool) (source : List Cell) whe
 
 -- ---- the rows of a line
 
-own_rows_are : (layout : Layout) (room : ℕ) (closes : Bool) (text : List ℕ) (dropped : ℕ) (es : List LineAnnotation) (source : List Cell) (rows : List (List Cell)) → AreOwnRows layout room closes text dropped es source rows → rows ≡ own_rows layout room closes text dropped es source
+own_rows_are : (layout : Layout) (room : ℕ) (closes : Bool) (text : List ℕ) (dropped : ℕ) (es : List LineAnnotation) (source : List Cell)
+    (rows : List (List Cell)) → AreOwnRows layout room closes text dropped es source rows → rows ≡ own_rows layout room closes text dropped es source
 own_rows_are layout room closes text dropped [] source rows are = are.none refl
 own_rows_are layout room closes text dropped (e ∷ es) source rows are =
     let whole : List (List Cell) = with_bars layout Top (ends_of_bars (e ∷ es)) source ∷ [] in
@@ -88,14 +89,17 @@ own_rows_are layout room closes text dropped (e ∷ es) source rows are =
     elim (cases_Bool (is_whole_line text (e ∷ es))) [
       | inl is ↦ are.whole is ∙ sym (cond-true (is_whole_line text (e ∷ es)) whole strokes is)
       | inr not ↦
-          stroke_rows_are layout room closes source (map (shifted dropped) (e ∷ es)) rows (are.strokes not (omega arith)) ∙ sym (cond-false (is_whole_line text (e ∷ es)) whole strokes not)
+          stroke_rows_are layout room closes source (map (shifted dropped) (e ∷ es)) rows (are.strokes not (omega arith))
+          ∙ sym (cond-false (is_whole_line text (e ∷ es)) whole strokes not)
     ]
 
 -- rows of a line are what its entries, and the bars that are open above it, make of its source row
-pub line_rows_are : (layout : Layout) (room : ℕ) (closes : Bool) (text : List ℕ) (dropped : ℕ) (open_bars : List OpenBar) (es : List LineAnnotation) (source : List Cell) (rows : List (List Cell))
+pub line_rows_are : (layout : Layout) (room : ℕ) (closes : Bool) (text : List ℕ) (dropped : ℕ) (open_bars : List OpenBar) (es : List LineAnnotation)
+    (source : List Cell) (rows : List (List Cell))
     → AreLineRows layout room closes text dropped open_bars es source rows → rows ≡ line_rows layout room closes text dropped open_bars es source
 line_rows_are layout room closes text dropped open_bars es source rows are =
-    are.rows_are ∙ ap (map (with_bars layout Solid (bars_apart open_bars (ends_of_bars es)))) (own_rows_are layout room closes text dropped es source are.own are.are)
+    are.rows_are ∙ ap (map (with_bars layout Solid (bars_apart open_bars (ends_of_bars es))))
+    (own_rows_are layout room closes text dropped es source are.own are.are)
 
 -- a highlighted row is what its entries make of a source row
 pub highlighted_is : (code dropped : ℕ) (es : List LineAnnotation) (plain row : List Cell) → IsHighlighted code dropped es plain row
@@ -127,13 +131,16 @@ own_rows-plain layout room closes text dropped (e ∷ es) source =
     let strokes : List LineAnnotation → List (List Cell) = λ xs. stroke_rows layout room closes xs source in
     ap (λ b. cond b (whole (ends_of_bars others)) (strokes (map (shifted dropped) others))) (list_all-map (is_beside text) plain_entry all)
     ∙ ap (λ bars. cond (is_whole_line text all) (whole bars) (strokes (map (shifted dropped) others))) (ends_of_bars-plain all)
-    ∙ ap (λ rows. cond (is_whole_line text all) (whole (ends_of_bars all)) rows) (ap strokes (shifted-plain dropped all) ∙ stroke_rows-plain layout room closes source (map (shifted dropped) all))
+    ∙ ap (λ rows. cond (is_whole_line text all) (whole (ends_of_bars all)) rows)
+    (ap strokes (shifted-plain dropped all) ∙ stroke_rows-plain layout room closes source (map (shifted dropped) all))
 
 -- rows of a line are the same wherever the labels of its entries are lent from
-pub line_rows-plain : (layout : Layout) (room : ℕ) (closes : Bool) (text : List ℕ) (dropped : ℕ) (open_bars : List OpenBar) (es : List LineAnnotation) (source : List Cell)
+pub line_rows-plain : (layout : Layout) (room : ℕ) (closes : Bool) (text : List ℕ) (dropped : ℕ) (open_bars : List OpenBar) (es : List LineAnnotation)
+    (source : List Cell)
     → line_rows layout room closes text dropped open_bars (map plain_entry es) source ≡ line_rows layout room closes text dropped open_bars es source
 line_rows-plain layout room closes text dropped open_bars es source =
-    ap (λ bars. map (with_bars layout Solid (bars_apart open_bars bars)) (own_rows layout room closes text dropped (map plain_entry es) source)) (ends_of_bars-plain es)
+    ap (λ bars. map (with_bars layout Solid (bars_apart open_bars bars)) (own_rows layout room closes text dropped (map plain_entry es) source))
+    (ends_of_bars-plain es)
     ∙ ap (map (with_bars layout Solid (bars_apart open_bars (ends_of_bars es)))) (own_rows-plain layout room closes text dropped es source)
 
 map_alike : {X Y : Type 0} (f g : X → Y) (xs : List X) → ((x : X) → f x ≡ g x) → map f xs ≡ map g xs
@@ -148,5 +155,7 @@ highlighted_row-plain code dropped es plain =
     let cell = get_or plain c SPACE in
     let primary : LineAnnotation → Bool = λ e. is_primary e.kind && highlights code dropped c e in
     let others = list_any (highlights code dropped c) (map plain_entry es) in
-    ap (λ b. record cell { role = cond b UnderlinePrimary (cond (others && gives_way cell.role) UnderlineSecondary cell.role) }) (list_any-map primary plain_entry es)
-    ∙ ap (λ b. record cell { role = cond (list_any primary es) UnderlinePrimary (cond (b && gives_way cell.role) UnderlineSecondary cell.role) }) (list_any-map (highlights code dropped c) plain_entry es))
+    ap (λ b. record cell { role = cond b UnderlinePrimary (cond (others && gives_way cell.role) UnderlineSecondary cell.role) })
+    (list_any-map primary plain_entry es)
+    ∙ ap (λ b. record cell { role = cond (list_any primary es) UnderlinePrimary (cond (b && gives_way cell.role) UnderlineSecondary cell.role) })
+    (list_any-map (highlights code dropped c) plain_entry es))

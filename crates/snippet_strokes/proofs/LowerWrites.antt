@@ -31,14 +31,16 @@ unfolding written
 written-cons x xs at new =
     let fill : suc at - suc (length xs) ≡ at - length xs = omega arith in
     let past : suc at + length new ≡ suc (at + length new) = omega arith in
-    ap (λ n. take (suc at) ((x ∷ xs) ++ replicate n []) ++ new ++ drop (suc at + length new) (x ∷ xs)) fill ∙ ap (λ n. (x ∷ take at (xs ++ replicate (at - length xs) [])) ++ new ++ drop n (x ∷ xs)) past
+    ap (λ n. take (suc at) ((x ∷ xs) ++ replicate n []) ++ new ++ drop (suc at + length new) (x ∷ xs)) fill
+    ∙ ap (λ n. (x ∷ take at (xs ++ replicate (at - length xs) [])) ++ new ++ drop n (x ∷ xs)) past
 
 written-below : (above xs : List (List Cell)) (at : ℕ) (new : List (List Cell))
     → written [] (above ++ xs) (length above + at) new ≡ above ++ written [] xs at new
 written-below [] xs at new = ap (λ n. written [] xs n new) (let none : 0 + at ≡ at = omega arith in none)
 written-below (x ∷ above) xs at new =
     let next : suc (length above) + at ≡ suc (length above + at) = omega arith in
-    ap (λ n. written [] (x ∷ (above ++ xs)) n new) next ∙ written-cons x (above ++ xs) (length above + at) new ∙ ap (λ rows. x ∷ rows) (written-below above xs at new)
+    ap (λ n. written [] (x ∷ (above ++ xs)) n new) next ∙ written-cons x (above ++ xs) (length above + at) new
+    ∙ ap (λ rows. x ∷ rows) (written-below above xs at new)
 
 row_at-below : (above xs : List (List Cell)) (r : ℕ) → row_at (above ++ xs) (length above + r) ≡ row_at xs r
 row_at-below [] xs r = ap (row_at xs) (let none : 0 + r ≡ r = omega arith in none)
@@ -49,7 +51,8 @@ row_at-below (x ∷ above) xs r =
 painted_one : (above rows : List (List Cell)) (w : Write) → written_by (above ++ rows) (lowered (length above) w) ≡ above ++ written_by rows w
 painted_one above rows w =
     let cells : List Cell = text_cells w.role w.text in
-    ap (λ row. written [] (above ++ rows) (length above + w.row) (written SPACE row w.cell cells ∷ [])) (row_at-below above rows w.row) ∙ written-below above rows w.row (written SPACE (row_at rows w.row) w.cell cells ∷ [])
+    ap (λ row. written [] (above ++ rows) (length above + w.row) (written SPACE row w.cell cells ∷ [])) (row_at-below above rows w.row)
+    ∙ written-below above rows w.row (written SPACE (row_at rows w.row) w.cell cells ∷ [])
 
 -- writes that are lowered past some rows leave these, and paint those below
 pub painted-below : (above : List (List Cell)) (ws : List Write) (rows : List (List Cell))
@@ -65,7 +68,8 @@ flat_map-lowered : {X : Type 0} (n : ℕ) (f g : X → List Write) → ((x : X) 
     → flat_map f xs ≡ map (lowered n) (flat_map g xs)
 flat_map-lowered n f g same [] = refl
 flat_map-lowered n f g same (x ∷ xs) =
-    flat_map-cons f x xs ∙ ap (λ ws. ws ++ flat_map f xs) (same x) ∙ ap (λ ws. map (lowered n) (g x) ++ ws) (flat_map-lowered n f g same xs) ∙ sym (ap (map (lowered n)) (flat_map-cons g x xs) ∙ map-append (lowered n) (g x) (flat_map g xs))
+    flat_map-cons f x xs ∙ ap (λ ws. ws ++ flat_map f xs) (same x) ∙ ap (λ ws. map (lowered n) (g x) ++ ws) (flat_map-lowered n f g same xs)
+    ∙ sym (ap (map (lowered n)) (flat_map-cons g x xs) ∙ map-append (lowered n) (g x) (flat_map g xs))
 
 stretch-lowered : (n low row from to glyph : ℕ) (role : ElementStyle) → low ≡ n + row
     → stretch_of low from to glyph role ≡ map (lowered n) (stretch_of row from to glyph role)
@@ -84,7 +88,8 @@ range-lowered : (f g : ℕ → Write) (n a low count : ℕ) → low ≡ n + a �
     → map f (range_with_len low count) ≡ map (lowered n) (map g (range_with_len a count))
 range-lowered f g n a low zero is same = refl
 range-lowered f g n a low (suc count) is same =
-    ap (λ w. w ∷ map f (range_with_len (low + 1) count)) (ap f is ∙ same a) ∙ ap (λ ws. lowered n (g a) ∷ ws) (range-lowered f g n (a + 1) (low + 1) count (omega (arith, is)) same)
+    ap (λ w. w ∷ map f (range_with_len (low + 1) count)) (ap f is ∙ same a)
+    ∙ ap (λ ws. lowered n (g a) ∷ ws) (range-lowered f g n (a + 1) (low + 1) count (omega (arith, is)) same)
 
 column-lowered : (n start end cell glyph : ℕ) (role : ElementStyle)
     → column_of (n + start) (n + end) cell glyph role ≡ map (lowered n) (column_of start end cell glyph role)
@@ -100,7 +105,8 @@ module _ (layout : Layout) (n : ℕ) where
     where
       line : (e : PlacedEntry) (depth : ℕ) → line_to layout (n + row) e depth ≡ map (lowered n) (line_to layout row e depth)
       line e depth =
-          stretch-lowered n (n + row + e.position) (row + e.position) (layout.gutter + 3 + depth) (layout.code + e.entry.start.display) (strokes_of layout.decor (is_primary e.entry.kind)).connector (stroke_role e) (omega arith)
+          stretch-lowered n (n + row + e.position) (row + e.position) (layout.gutter + 3 + depth) (layout.code + e.entry.start.display)
+          (strokes_of layout.decor (is_primary e.entry.kind)).connector (stroke_role e) (omega arith)
 
       by_part : (e : PlacedEntry) (part : LineAnnotationType) → connector_by layout (n + row) e part ≡ map (lowered n) (connector_by layout row e part)
       by_part e Singleline = refl
@@ -115,7 +121,8 @@ module _ (layout : Layout) (n : ℕ) where
       bar : (e : PlacedEntry) (depth start end low high : ℕ) → low ≡ n + start → high ≡ n + end
           → bar_writes layout e depth low high ≡ map (lowered n) (bar_writes layout e depth start end)
       bar e depth start end low high is_low is_high =
-          ap (λ s. bar_writes layout e depth s high) is_low ∙ ap (λ t. bar_writes layout e depth (n + start) t) is_high ∙ column-lowered n start end (layout.gutter + 2 + depth) (strokes_of layout.decor (is_primary e.entry.kind)).bar (stroke_role e)
+          ap (λ s. bar_writes layout e depth s high) is_low ∙ ap (λ t. bar_writes layout e depth (n + start) t) is_high
+          ∙ column-lowered n start end (layout.gutter + 2 + depth) (strokes_of layout.decor (is_primary e.entry.kind)).bar (stroke_role e)
 
       corner : (e : PlacedEntry) → n + row + 1 + e.position ≡ n + (row + 1 + e.position)
       corner e = omega arith
@@ -151,14 +158,16 @@ module _ (layout : Layout) (n : ℕ) where
 
       one : (below : ℕ) → stem_write layout (n + row) e below ≡ lowered n (stem_write layout row e below)
       one below =
-          ap (λ r. glyph_at r (layout.code + e.entry.start.display) (glyph below) (stroke_role e)) (let same : n + row + below ≡ n + (row + below) = omega arith in same)
+          ap (λ r. glyph_at r (layout.code + e.entry.start.display) (glyph below) (stroke_role e))
+          (let same : n + row + below ≡ n + (row + below) = omega arith in same)
 
       all : (belows : List ℕ) → map (stem_write layout (n + row) e) belows ≡ map (lowered n) (map (stem_write layout row e) belows)
       all [] = refl
       all (below ∷ belows) =
           ap (λ w. w ∷ map (stem_write layout (n + row) e) belows) (one below) ∙ ap (λ ws. lowered n (stem_write layout row e below) ∷ ws) (all belows)
 
-      cells : map (stem_write layout (n + row) e) (range_with_len 0 (e.position + 1)) ≡ map (lowered n) (map (stem_write layout row e) (range_with_len 0 (e.position + 1)))
+      cells : map (stem_write layout (n + row) e) (range_with_len 0 (e.position + 1))
+          ≡ map (lowered n) (map (stem_write layout row e) (range_with_len 0 (e.position + 1)))
       cells = all (range_with_len 0 (e.position + 1))
 
       either : (some : Bool) (ws : List Write) → cond some (map (lowered n) ws) [] ≡ map (lowered n) (cond some ws [])
@@ -192,19 +201,22 @@ module _ (layout : Layout) (n : ℕ) where
 
   marks-lowered : (row : ℕ) (es : List PlacedEntry) → marks_of layout (n + row) es ≡ map (lowered n) (marks_of layout row es)
   marks-lowered row es =
-      flat_map-lowered n (mark_of layout (n + row)) (mark_of layout row) (λ e. either e (nat_lt (layout.code + e.entry.start.display) (layout.code + mark_end e))) es
+      flat_map-lowered n (mark_of layout (n + row)) (mark_of layout row) (λ e.
+      either e (nat_lt (layout.code + e.entry.start.display) (layout.code + mark_end e))) es
     where
       from : PlacedEntry → ℕ
       from e = layout.code + e.entry.start.display
 
       line : PlacedEntry → ℕ → List Write
-      line e r = stretch_of r (layout.code + e.entry.start.display + 1) (layout.code + mark_end e) (strokes_of layout.decor (is_primary e.entry.kind)).underline (stroke_role e)
+      line e r = stretch_of r (layout.code + e.entry.start.display + 1) (layout.code + mark_end e)
+          (strokes_of layout.decor (is_primary e.entry.kind)).underline (stroke_role e)
 
       first : PlacedEntry → ℕ → Write
       first e r = glyph_at r (layout.code + e.entry.start.display) (first_glyph layout.decor e) (stroke_role e)
 
       either : (e : PlacedEntry) (some : Bool) → cond some (first e (n + row) ∷ line e (n + row)) [] ≡ map (lowered n) (cond some (first e row ∷ line e row) [])
-      either e true = ap (λ ws. lowered n (first e row) ∷ ws) (stretch-lowered n (n + row) row (layout.code + e.entry.start.display + 1) (layout.code + mark_end e) (strokes_of layout.decor (is_primary e.entry.kind)).underline (stroke_role e) refl)
+      either e true = ap (λ ws. lowered n (first e row) ∷ ws) (stretch-lowered n (n + row) row (layout.code + e.entry.start.display + 1)
+          (layout.code + mark_end e) (strokes_of layout.decor (is_primary e.entry.kind)).underline (stroke_role e) refl)
       either e false = refl
 
   -- all strokes of a line
@@ -217,7 +229,8 @@ module _ (layout : Layout) (n : ℕ) where
       let three : List Write = stems_of layout 1 placed in
       let four : List Write = labels_of layout 1 placed in
       let five : List Write = marks_of layout 1 order in
-      let corners : corners_of layout n (n + count) placed ≡ map (lowered n) two = ap (λ r. corners_of layout r (n + count) placed) (sym none) ∙ corners-lowered 0 count placed in
+      let corners : corners_of layout n (n + count) placed ≡ map (lowered n) two = ap (λ r. corners_of layout r (n + count) placed) (sym none)
+      ∙ corners-lowered 0 count placed in
       join (connectors-lowered 1 placed) corners (stems-lowered 1 placed) (labels-lowered 1 placed) (marks-lowered 1 order)
       ∙ sym (map-append (lowered n) (one ++ two ++ three ++ four) five
       ∙ ap (λ ws. ws ++ map (lowered n) five)

@@ -76,8 +76,11 @@ mark_shown layout es placed row old new plain same marked p kind mark =
     let top : PlacedEntry = get_or order shows.at x in
     let read : (j : ℕ) → j < length order → get_or sorted j mark.entry ≡ (get_or order j x).entry = λ j within. get_or-map f order j x mark.entry within in
     let inside : shows.at < length sorted = omega (arith, shows.within, length-map order f) in
-    let among : Contains es top.entry = Contains-permutation sorted es top.entry (IsPermutation-sym es sorted all) (subst (Contains sorted) (read shows.at shows.within) (Contains-get_or sorted shows.at mark.entry inside)) in
-    let over : CoversOver mark.entry top.entry = subst (λ e. CoversOver e top.entry) (read k found.1.1 ∙ is) (subst (CoversOver (get_or sorted k mark.entry)) (read shows.at shows.within) (marked.ordered k shows.at mark.entry shows.later inside)) in
+    let among : Contains es top.entry = Contains-permutation sorted es top.entry (IsPermutation-sym es sorted all)
+    (subst (Contains sorted) (read shows.at shows.within) (Contains-get_or sorted shows.at mark.entry inside)) in
+    let over : CoversOver mark.entry top.entry = subst (λ e. CoversOver e top.entry) (read k found.1.1 ∙ is)
+    (subst (CoversOver (get_or sorted k mark.entry)) (read shows.at shows.within) (marked.ordered k shows.at mark.entry shows.later inside)) in
     let top_plain : IsPlainEntry top.entry = subst IsPlainEntry among.2 (plain among.0 top.entry among.1) in
     let alike = drawn_alike es p kind mark top.entry among (covered_painted top p top_plain shows.covers) over in
-    same_mark layout.decor kind top.entry.kind (cell_at new row (layout.code + p)) alike (subst (IsMarkCell layout.decor top.entry.kind) (sym shows.holds) (IsMarkCell-mark_cell layout top (layout.code + p) (spaceless top top_plain)))
+    same_mark layout.decor kind top.entry.kind (cell_at new row (layout.code + p)) alike
+    (subst (IsMarkCell layout.decor top.entry.kind) (sym shows.holds) (IsMarkCell-mark_cell layout top (layout.code + p) (spaceless top top_plain)))

@@ -33,10 +33,13 @@ paints_some layout row e old some =
     let w : Write = record { row = row; cell = from + 1; text = replicate n glyph; role = role } in
     let mid : List (List Cell) = cells_written old row from (text_cells role (first ∷ [])) in
     let new : List (List Cell) = painted (stretch_of row (from + 1) to glyph role) mid in
-    let one : WritesCells old mid row from (marks from ∷ []) = subst (λ (x : Cell). WritesCells old mid row from (x ∷ [])) (first_cell_is layout e first (is_primary e.entry.kind) role refl refl refl) (WritesCells-cells_written old row from (text_cells role (first ∷ []))) in
-    let begun : Paints old mid row from (from + 1) marks = Paints-more old old mid row from from (from + 1) marks (Paints-none old row from marks) one (omega arith) refl in
+    let one : WritesCells old mid row from (marks from ∷ []) = subst (λ (x : Cell). WritesCells old mid row from (x ∷ []))
+    (first_cell_is layout e first (is_primary e.entry.kind) role refl refl refl) (WritesCells-cells_written old row from (text_cells role (first ∷ []))) in
+    let begun : Paints old mid row from (from + 1) marks = Paints-more old old mid row from from (from + 1) marks (Paints-none old row from marks) one
+    (omega arith) refl in
     let is_line = other_cell_is layout e glyph (is_primary e.entry.kind) role refl refl refl in
-    let is : painted (mark_of layout row e) old ≡ new = ap (λ b. painted (cond b (glyph_at row from first role ∷ stretch_of row (from + 1) to glyph role) []) old) (less from to (omega (arith, some))) in
+    let is : painted (mark_of layout row e) old ≡ new = ap (λ b. painted
+    (cond b (glyph_at row from first role ∷ stretch_of row (from + 1) to glyph role) []) old) (less from to (omega (arith, some))) in
     subst (λ (rows : List (List Cell)). Paints old rows row from to marks) (sym is) (elim (cases_lt (from + 1) to) [
       | inl more ↦
           let writes : WritesCells mid new row (from + 1) (replicate n line) =
@@ -58,7 +61,8 @@ Paints-mark layout row e old =
     let to = layout.code + mark_end e in
     elim (cases_lt e.entry.start.display (mark_end e)) [
       | inl some ↦ paints_some layout row e old some
-      | inr none ↦ subst (λ (rows : List (List Cell)). Paints old rows row from to (mark_cell layout e)) (sym (ap (λ ws. painted ws old) (mark_of-none layout row e none))) (Paints-past old row from to (mark_cell layout e) (omega (arith, none)))
+      | inr none ↦ subst (λ (rows : List (List Cell)). Paints old rows row from to (mark_cell layout e))
+          (sym (ap (λ ws. painted ws old) (mark_of-none layout row e none))) (Paints-past old row from to (mark_cell layout e) (omega (arith, none)))
     ]
 
 -- so the marks of entries are painted, up to each and in all
@@ -71,7 +75,8 @@ painted_upto layout row es d old (suc i) within =
     let e : PlacedEntry = get_or es i d in
     let mid : List (List Cell) = painted (marks_of layout row (take i es)) old in
     let next : suc i ≡ i + 1 = omega arith in
-    let is : painted (marks_of layout row (take (i + 1) es)) old ≡ painted (f e) mid = ap (λ ws. painted ws old) (flat_map-take_more f es i d inside) ∙ painted-append (marks_of layout row (take i es)) (f e) old in
+    let is : painted (marks_of layout row (take (i + 1) es)) old ≡ painted (f e) mid = ap (λ ws. painted ws old) (flat_map-take_more f es i d inside)
+    ∙ painted-append (marks_of layout row (take i es)) (f e) old in
     subst (λ n. Painted layout (take n es) row old (painted (marks_of layout row (take n es)) old)) (sym next)
     (subst (Painted layout (take (i + 1) es) row old) (sym is)
     (Painted-next layout es i d row old mid (painted (f e) mid) inside (painted_upto layout row es d old i (omega (arith, within)))

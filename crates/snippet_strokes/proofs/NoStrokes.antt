@@ -25,7 +25,8 @@ strokes_none layout room closes es above plain old new place none old_is bare_ba
     record {
       source = plain;
       rows = if closes then closing_row layout.decor layout.gutter ∷ [] else [];
-      added = adds ∙ ap (λ rows. rows ++ (if closes then closing_row layout.decor layout.gutter ∷ [] else [])) old_is ∙ append_assoc above (plain ∷ []) (if closes then closing_row layout.decor layout.gutter ∷ [] else []);
+      added = adds ∙ ap (λ rows. rows ++ (if closes then closing_row layout.decor layout.gutter ∷ [] else [])) old_is
+          ∙ append_assoc above (plain ∷ []) (if closes then closing_row layout.decor layout.gutter ∷ [] else []);
       beside = record {
         front = refl;
         gap = refl;
@@ -62,7 +63,8 @@ strokes_none layout room closes es above plain old new place none old_is bare_ba
     short true = omega arith
     short false = omega arith
 
-    blank : (closes : Bool) → (closes ≡ true → inner_cell layout ≤ layout.code) → (r c : ℕ) → layout.code ≤ c → cell_at (if closes then closing_row layout.decor layout.gutter ∷ [] else []) r c ≡ SPACE
+    blank : (closes : Bool) → (closes ≡ true → inner_cell layout ≤ layout.code) → (r c : ℕ) → layout.code ≤ c
+        → cell_at (if closes then closing_row layout.decor layout.gutter ∷ [] else []) r c ≡ SPACE
     blank true stands zero c right = bare_row_right layout.decor layout.gutter true c (omega (arith, right, stands refl))
     blank true stands (suc r) c right = refl
     blank false stands r c right = refl

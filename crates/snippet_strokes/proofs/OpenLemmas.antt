@@ -27,7 +27,8 @@ pub ends_more : (es : List LineAnnotation) (i : ℕ) (d : LineAnnotation) (bars 
     → bars ≡ ends_of_bars (take i es) → found ≡ bar_of (get_or es i d) → next ≡ bars ++ option_to_list found → next ≡ ends_of_bars (take (i + 1) es)
 ends_more es i d bars next found within before is pushed =
     let e = get_or es i d in
-    pushed ∙ ap (λ bs. bs ++ option_to_list found) before ∙ sym (ap ends_of_bars (take_more es i d within) ∙ filter_map-append bar_of (take i es) (e ∷ []) ∙ ap (λ bs. ends_of_bars (take i es) ++ bs) (one_end e ∙ ap option_to_list (sym is)))
+    pushed ∙ ap (λ bs. bs ++ option_to_list found) before ∙ sym (ap ends_of_bars (take_more es i d within) ∙ filter_map-append bar_of (take i es) (e ∷ [])
+    ∙ ap (λ bs. ends_of_bars (take i es) ++ bs) (one_end e ∙ ap option_to_list (sym is)))
 
 -- the bar of an entry has its place where the entry has
 room_at : (layout : Layout) (t : LineAnnotationType) (primary : Bool) → HasBarCellAt layout t → All (HasBarRoom layout) (option_to_list (bar_at t primary))
@@ -44,8 +45,10 @@ room_ends layout [] all = All-nil (HasBarRoom layout)
 room_ends layout (e ∷ es) all =
     let P : LineAnnotation → Type 0 = HasBarCell layout in
     let head : P e = all 0 e (omega arith) in
-    let first : All (HasBarRoom layout) (ends_of_bars (e ∷ [])) = All-same (HasBarRoom layout) (ends_of_bars (e ∷ [])) (option_to_list (bar_of e)) (one_end e) (room_at layout e.annotation_type (is_primary e.kind) head) in
-    All-same (HasBarRoom layout) (ends_of_bars (e ∷ es)) (ends_of_bars (e ∷ []) ++ ends_of_bars es) (filter_map-append bar_of (e ∷ []) es) (All-append (HasBarRoom layout) (ends_of_bars (e ∷ [])) (ends_of_bars es) first (room_ends layout es (All-tail P e es all)))
+    let first : All (HasBarRoom layout) (ends_of_bars (e ∷ [])) = All-same (HasBarRoom layout) (ends_of_bars (e ∷ [])) (option_to_list (bar_of e)) (one_end e)
+    (room_at layout e.annotation_type (is_primary e.kind) head) in
+    All-same (HasBarRoom layout) (ends_of_bars (e ∷ es)) (ends_of_bars (e ∷ []) ++ ends_of_bars es) (filter_map-append bar_of (e ∷ []) es)
+    (All-append (HasBarRoom layout) (ends_of_bars (e ∷ [])) (ends_of_bars es) first (room_ends layout es (All-tail P e es all)))
 
 -- bars that have room have it also without some of them
 pub room_apart : (layout : Layout) (bars others : List OpenBar) → All (HasBarRoom layout) bars → All (HasBarRoom layout) (bars_apart bars others)
@@ -57,4 +60,5 @@ pub room_below : (layout : Layout) (bars : List OpenBar) (es : List LineAnnotati
     → All (HasBarRoom layout) (open_below bars es)
 room_below layout bars es all bar_cells =
     let ends = ends_of_bars es in
-    All-append (HasBarRoom layout) (bars_apart bars ends) (bars_apart ends bars) (room_apart layout bars ends all) (room_apart layout ends bars (room_ends layout es bar_cells))
+    All-append (HasBarRoom layout) (bars_apart bars ends) (bars_apart ends bars) (room_apart layout bars ends all)
+    (room_apart layout ends bars (room_ends layout es bar_cells))

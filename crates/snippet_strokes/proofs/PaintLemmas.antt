@@ -79,7 +79,8 @@ Paints-rest old mid new row from to line cell done is more writes =
             let k : ℕ = c - (from + 1) in
             let here : from + 1 + k ≡ c = omega (arith, late) in
             let within : k < n = omega (arith, late, before) in
-            ap (cell_at new row) (sym here) ∙ writes.inside k (omega (arith, within, long)) ∙ get_or-replicate n k line SPACE within ∙ is c (omega (arith, late))
+            ap (cell_at new row) (sym here) ∙ writes.inside k (omega (arith, within, long)) ∙ get_or-replicate n k line SPACE within
+            ∙ is c (omega (arith, late))
       ];
       before = λ c left. writes.before c (omega (arith, left)) ∙ done.before c left;
       after = λ c right. writes.after c (omega (arith, right, long, more)) ∙ done.after c (omega (arith, right, more));
@@ -173,7 +174,8 @@ shows_new layout es e d k p mid new row paints within covers =
       later = omega (arith, length_push es e);
       within = omega (arith, length_push es e);
       covers = subst (λ x. IsPaintedAt x p) (sym here) covers;
-      holds = paints.inside (layout.code + p) (omega (arith, covers.0)) (omega (arith, covers.1)) ∙ ap (λ (x : PlacedEntry). mark_cell layout x (layout.code + p)) (sym here);
+      holds = paints.inside (layout.code + p) (omega (arith, covers.0)) (omega (arith, covers.1))
+          ∙ ap (λ (x : PlacedEntry). mark_cell layout x (layout.code + p)) (sym here);
     }
 
 -- what an earlier entry shows where the last one doesn't cover the column
@@ -214,7 +216,9 @@ Painted-more layout es e row old mid new done paints =
                   let here : k ≡ length es = omega (arith, length_push es e) in
                   absurd (not_last (subst (λ x. IsPaintedAt x p) (ap (λ n. get_or (es ++ e ∷ []) n d) here ∙ new_place es e d) covers))
             ] in
-            shows_old layout es e d k p (cell_at mid row (layout.code + p)) (cell_at new row (layout.code + p)) (untouched layout mid new row p e paints not_last) (done.marked k p d old_one (subst (λ x. IsPaintedAt x p) (old_place es e d k old_one) covers))
+            shows_old layout es e d k p (cell_at mid row (layout.code + p)) (cell_at new row (layout.code + p))
+            (untouched layout mid new row p e paints not_last) (done.marked k p d old_one
+            (subst (λ x. IsPaintedAt x p) (old_place es e d k old_one) covers))
       ];
       unmarked = λ p none.
           let N : PlacedEntry → Type 0 = λ x. IsPaintedAt x p → ⊥ in

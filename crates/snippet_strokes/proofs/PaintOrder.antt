@@ -65,7 +65,8 @@ paint_order : IsStrictWeakOrder painted_before
 unfolding painted_before
 paint_order = record {
   one_way = λ x y h. paint_one_way (entry_width x.entry) (entry_width y.entry) (is_primary x.entry.kind) (is_primary y.entry.kind) h;
-  chain = λ x y z g h. paint_chain (entry_width x.entry) (entry_width y.entry) (entry_width z.entry) (is_primary x.entry.kind) (is_primary y.entry.kind) (is_primary z.entry.kind) g h;
+  chain = λ x y z g h. paint_chain (entry_width x.entry) (entry_width y.entry) (entry_width z.entry) (is_primary x.entry.kind) (is_primary y.entry.kind)
+      (is_primary z.entry.kind) g h;
 }
 
 -- entries that are sorted stably by the code's test stand in the order of painting
@@ -73,8 +74,10 @@ pub painting_order_of_sort : (given sorted : List PlacedEntry) → IsSortedBy pa
     → sorted ≡ painting_order given
 unfolding painted_before
 painting_order_of_sort given sorted up stable =
-    let same : (x y : PlacedEntry) → paint_less x y ≡ painted_before x y = λ x y. paint_tells (entry_width x.entry) (entry_width y.entry) (is_primary x.entry.kind) (is_primary y.entry.kind) in
-    sorted-only painted_before paint_order given sorted (sorted_same paint_less painted_before same sorted up) (stable_same paint_less painted_before same given sorted stable)
+    let same : (x y : PlacedEntry) → paint_less x y ≡ painted_before x y = λ x y.
+    paint_tells (entry_width x.entry) (entry_width y.entry) (is_primary x.entry.kind) (is_primary y.entry.kind) in
+    sorted-only painted_before paint_order given sorted (sorted_same paint_less painted_before same sorted up)
+    (stable_same paint_less painted_before same given sorted stable)
 
 -- each entry may be painted over all before it
 abbrev AllCover : List LineAnnotation → Type 0
@@ -110,10 +113,12 @@ AllCover-put_in e (f ∷ fs) up =
     let there = e ∷ f ∷ fs in
     elim (cases_Bool (is_painted_before f e)) [
       | inl over ↦
-          subst AllCover (sym (cond-true (is_painted_before f e) here there over)) (All-put_in is_painted_before (CoversOver f) e fs (covers_after f e over) up.0, AllCover-put_in e fs up.1)
+          subst AllCover (sym (cond-true (is_painted_before f e) here there over))
+          (All-put_in is_painted_before (CoversOver f) e fs (covers_after f e over) up.0, AllCover-put_in e fs up.1)
       | inr under ↦
           let first = covers_before f e under in
-          subst AllCover (sym (cond-false (is_painted_before f e) here there under)) (All-cons (CoversOver e) f fs first (λ k d within. CoversOver-trans e f (get_or fs k d) first (up.0 k d within)), up)
+          subst AllCover (sym (cond-false (is_painted_before f e) here there under))
+          (All-cons (CoversOver e) f fs first (λ k d within. CoversOver-trans e f (get_or fs k d) first (up.0 k d within)), up)
     ]
 
 AllCover-ordered_by : (es : List LineAnnotation) → AllCover (ordered_by is_painted_before es)
@@ -131,7 +136,8 @@ IsPaintingOrder-covers (e ∷ es) up (suc i) (suc j) d before within = IsPaintin
 pub IsPaintingOrder-painting_order : (placed : List PlacedEntry) → IsPaintingOrder (map (λ (e : PlacedEntry). e.entry) (painting_order placed))
 IsPaintingOrder-painting_order placed =
     let f : PlacedEntry → LineAnnotation = λ e. e.entry in
-    subst IsPaintingOrder (sym (map-ordered_by f is_painted_before placed)) (IsPaintingOrder-covers (ordered_by is_painted_before (map f placed)) (AllCover-ordered_by (map f placed)))
+    subst IsPaintingOrder (sym (map-ordered_by f is_painted_before placed))
+    (IsPaintingOrder-covers (ordered_by is_painted_before (map f placed)) (AllCover-ordered_by (map f placed)))
 
 IsPermutation-put_in : {X : Type 0} (before : X → X → Bool) (x : X) (ys : List X) → IsPermutation (x ∷ ys) (put_in before x ys)
 IsPermutation-put_in before x [] = IsPermutation-refl (x ∷ [])
@@ -149,7 +155,8 @@ IsPermutation-put_in before x (y ∷ ys) =
 IsPermutation-ordered_by : {X : Type 0} (before : X → X → Bool) (xs : List X) → IsPermutation xs (ordered_by before xs)
 IsPermutation-ordered_by before [] = IsPermutation-refl []
 IsPermutation-ordered_by before (x ∷ xs) =
-    IsPermutation-trans (x ∷ xs) (x ∷ ordered_by before xs) (put_in before x (ordered_by before xs)) (IsPermutation-cons x xs (ordered_by before xs) (IsPermutation-ordered_by before xs)) (IsPermutation-put_in before x (ordered_by before xs))
+    IsPermutation-trans (x ∷ xs) (x ∷ ordered_by before xs) (put_in before x (ordered_by before xs))
+    (IsPermutation-cons x xs (ordered_by before xs) (IsPermutation-ordered_by before xs)) (IsPermutation-put_in before x (ordered_by before xs))
 
 -- it is an order of the same entries
 pub IsPermutation-painting_order : (placed : List PlacedEntry) → IsPermutation placed (painting_order placed)

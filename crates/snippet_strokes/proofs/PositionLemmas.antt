@@ -29,9 +29,12 @@ positions-unlabelled p (e ∷ others) none flat =
     let own_flat : takes_space e ≡ false = All-head T e others flat in
     let rest_flat : All T others = All-tail T e others flat in
     let here : position_at p e others ≡ p = at_bare p e others own in
-    let uncrowded : list_any (crowds p e) others ≡ false = list_any_none (crowds p e) others (λ k d within. crowds_bare p e (get_or others k d) own own_flat (rest k d within) (rest_flat k d within)) in
+    let uncrowded : list_any (crowds p e) others ≡ false = list_any_none (crowds p e) others (λ k d within.
+    crowds_bare p e (get_or others k d) own own_flat (rest k d within) (rest_flat k d within)) in
     let after : position_after p e others ≡ p = ap (λ t. cond t (p + 1) p) uncrowded in
-    All-cons (λ q. q ≡ p) (position_at p e others) _ here (subst (λ q. All (λ x. x ≡ p) (positions (position_after q e others) others)) (sym here) (subst (λ q. All (λ x. x ≡ p) (positions q others)) (sym after) (positions-unlabelled p others rest rest_flat)))
+    All-cons (λ q. q ≡ p) (position_at p e others) _ here (subst (λ q.
+    All (λ x. x ≡ p) (positions (position_after q e others) others)) (sym here)
+    (subst (λ q. All (λ x. x ≡ p) (positions q others)) (sym after) (positions-unlabelled p others rest rest_flat)))
   where
     cond_and : (b : Bool) (x y : ℕ) → cond (b && false) x y ≡ y
     cond_and true x y = refl
@@ -57,8 +60,10 @@ pub positions_low : (p n : ℕ) (es : List PlacedEntry) → max p 1 + length es 
 positions_low p n [] low = All-nil (λ q. q ≤ n)
 positions_low p n (e ∷ others) low =
     let here : position_at p e others ≤ max p 1 = at_most p ((p == 0) && (has_label e && list_any (crosses e) others)) in
-    let next : position_after (position_at p e others) e others ≤ max p 1 + 1 = after_most (position_at p e others) (list_any (crowds (position_at p e others) e) others) (max p 1) here in
-    All-cons (λ q. q ≤ n) (position_at p e others) _ (omega (arith, here, low)) (positions_low (position_after (position_at p e others) e others) n others (omega (arith, next, low)))
+    let next : position_after (position_at p e others) e others ≤ max p 1 + 1 = after_most (position_at p e others)
+    (list_any (crowds (position_at p e others) e) others) (max p 1) here in
+    All-cons (λ q. q ≤ n) (position_at p e others) _ (omega (arith, here, low))
+    (positions_low (position_after (position_at p e others) e others) n others (omega (arith, next, low)))
   where
     at_most : (p : ℕ) (b : Bool) → cond b 1 p ≤ max p 1
     at_most p true = omega arith
@@ -76,7 +81,8 @@ fold-max_ge (e ∷ es) m = omega (arith, fold-max_ge es (max m e.position))
 fold-max_all : (es : List PlacedEntry) (m : ℕ) → All (λ (e : PlacedEntry). e.position ≤ fold (λ lowest (f : PlacedEntry). max lowest f.position) m es) es
 fold-max_all [] m = All-nil (λ (e : PlacedEntry). e.position ≤ m)
 fold-max_all (e ∷ es) m =
-    All-cons (λ (f : PlacedEntry). f.position ≤ fold (λ lowest (g : PlacedEntry). max lowest g.position) (max m e.position) es) e es (omega (arith, fold-max_ge es (max m e.position))) (fold-max_all es (max m e.position))
+    All-cons (λ (f : PlacedEntry). f.position ≤ fold (λ lowest (g : PlacedEntry). max lowest g.position) (max m e.position) es) e es
+    (omega (arith, fold-max_ge es (max m e.position))) (fold-max_all es (max m e.position))
 
 pub positions_at_most : (es : List PlacedEntry) → All (λ e. e.position ≤ lowest_position es) es
 positions_at_most es = fold-max_all es 0
@@ -97,7 +103,8 @@ lowest_position_le es n all = fold-max_le es 0 n (omega arith) all
 pub of_positions : (P : ℕ → Type 0) (es : List PlacedEntry) (ps : List ℕ) → map (λ (e : PlacedEntry). e.position) es ≡ ps → All P ps
     → All (λ e. P e.position) es
 of_positions P es ps are all k d within =
-    subst P (ap (λ xs. get_or xs k d.position) (sym are) ∙ get_or-map (λ (e : PlacedEntry). e.position) es k d d.position within) (all k d.position (omega (arith, within, length-map es (λ (e : PlacedEntry). e.position), ap length are)))
+    subst P (ap (λ xs. get_or xs k d.position) (sym are) ∙ get_or-map (λ (e : PlacedEntry). e.position) es k d d.position within)
+    (all k d.position (omega (arith, within, length-map es (λ (e : PlacedEntry). e.position), ap length are)))
 
 -- where a label begins: in a row that is there, and not left of its entry
 pub label_stands : (row n : ℕ) (e : PlacedEntry) → HasRows row n e → HasPlace e.entry → has_label e ≡ true → row + (label_place e).0 < n
@@ -194,11 +201,13 @@ greatest_from (p ∷ ps) m n low all =
 pub line_positions_low : (n : ℕ) (es : List PlacedEntry) → All (λ q. q ≤ n) (positions 0 es) → All (λ q. q ≤ n) (line_positions es)
 line_positions_low n es all =
     elim (are_starts es) as (λ b. All (λ q. q ≤ n) (cond b (flipped (positions 0 es)) (positions 0 es))) [
-      | true ↦ All-map (λ q. q ≤ n) (λ p. greatest (positions 0 es) - p) (positions 0 es) (λ k d within. omega (arith, greatest_from (positions 0 es) 0 n (omega arith) all))
+      | true ↦ All-map (λ q. q ≤ n) (λ p. greatest (positions 0 es) - p) (positions 0 es) (λ k d within.
+          omega (arith, greatest_from (positions 0 es) 0 n (omega arith) all))
       | false ↦ all
     ]
 
 -- labels of a line stand no lower than there are entries
 pub positions_of_placed : (es : List LineAnnotation) (placed : List PlacedEntry) → ArePlaced es placed → All (λ e. e.position ≤ length placed) placed
 positions_of_placed es placed is =
-    of_positions (λ q. q ≤ length placed) placed (line_positions placed) is.positions_are (line_positions_low (length placed) placed (positions_low 0 (length placed) placed (omega arith)))
+    of_positions (λ q. q ≤ length placed) placed (line_positions placed) is.positions_are
+    (line_positions_low (length placed) placed (positions_low 0 (length placed) placed (omega arith)))

@@ -46,7 +46,8 @@ enough_begun {row} {below} {count} {placed} layout dropped entries old begun sep
       bar_cells = entries_all (HasBarCell layout) es placed are.same (shifted_bars layout dropped entries bar_cells);
     }
 
-module _ {layout : Layout} {row below count : ℕ} {placed xs : List PlacedEntry} (enough : AreEnough layout row below count placed) (old : List (List Cell)) (many : length old ≡ count) (given : xs ≡ placed) where
+module _ {layout : Layout} {row below count : ℕ} {placed xs : List PlacedEntry} (enough : AreEnough layout row below count placed) (old : List (List Cell))
+    (many : length old ≡ count) (given : xs ≡ placed) where
   -- so each of the same entries has its rows among them
   pub rows_for : All (HasRows below (length old)) xs
   rows_for = subst (All (HasRows below (length old))) (sym given) (subst (λ n. All (HasRows below n) placed) (sym many) enough.rows)
@@ -60,14 +61,16 @@ module _ {layout : Layout} {row below count : ℕ} {placed xs : List PlacedEntry
 
   pub count_corners : (new : List (List Cell)) → new ≡ painted (corners_of layout row (length old) xs) old → length new ≡ count
   count_corners new drawn_now =
-      ap length drawn_now ∙ (DrawsBarCells-corners layout row xs old (subst (All (λ e. HasBarCell layout e.entry)) (sym given) enough.bar_cells) rows_beside).draws.count ∙ many
+      ap length drawn_now ∙ (DrawsBarCells-corners layout row xs old
+      (subst (All (λ e. HasBarCell layout e.entry)) (sym given) enough.bar_cells) rows_beside).draws.count ∙ many
 
   pub count_stems : (new : List (List Cell)) → new ≡ painted (stems_of layout below xs) old → length new ≡ count
   count_stems new drawn_now = ap length drawn_now ∙ (DrawsFrom-stems layout below 0 xs old rows_for (λ k d within. omega arith)).count ∙ many
 
   pub count_labels : (new : List (List Cell)) → new ≡ painted (labels_of layout below xs) old → length new ≡ count
   count_labels new drawn_now =
-      ap length drawn_now ∙ (DrawsFrom-labels layout below 0 xs old (subst (All (λ e. HasPlace e.entry)) (sym given) enough.places) rows_for (λ k d within. omega arith)).count ∙ many
+      ap length drawn_now ∙ (DrawsFrom-labels layout below 0 xs old (subst (All (λ e. HasPlace e.entry)) (sym given) enough.places) rows_for (λ k d within.
+      omega arith)).count ∙ many
 
 -- nor do marks
 pub count_marks : {layout : Layout} {row below count : ℕ} {placed : List PlacedEntry} → AreEnough layout row below count placed

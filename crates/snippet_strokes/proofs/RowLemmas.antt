@@ -21,7 +21,8 @@ use Rattle.snippet_strokes.proofs.SourceRowLemmas.{length-separator_row, separat
 -- spaces and characters are as many cells as both
 pub length-led : (n : ℕ) (chs : List ℕ) → length (replicate n SPACE ++ text_cells LineNumber chs) ≡ n + length chs
 length-led n chs =
-    length-append (replicate n SPACE) (text_cells LineNumber chs) ∙ ap (λ k. k + length (text_cells LineNumber chs)) (length-replicate n SPACE) ∙ ap (λ k. n + k) (length-text_cells LineNumber chs)
+    length-append (replicate n SPACE) (text_cells LineNumber chs) ∙ ap (λ k. k + length (text_cells LineNumber chs)) (length-replicate n SPACE)
+    ∙ ap (λ k. n + k) (length-text_cells LineNumber chs)
 
 -- spaces and characters that aren't listed are free cells
 pub free_led : (n : ℕ) (chs : List ℕ) → All (λ c. is_listed c ≡ false) chs → IsFree (replicate n SPACE ++ text_cells LineNumber chs)

@@ -62,7 +62,8 @@ last_changed old begun new row first last begins count others =
           ap (λ n. get_or new n []) here ∙ sym (ap (λ n. get_or (old ++ changed ∷ []) n []) here ∙ get_or_push old changed [] row (sym last))
       | inr other ↦
           let before : k < length old = omega arith in
-          others k other ∙ ap (λ rows. get_or rows k []) begins ∙ get_or_append_left old (first ∷ []) [] k before ∙ sym (get_or_append_left old (changed ∷ []) [] k before)
+          others k other ∙ ap (λ rows. get_or rows k []) begins ∙ get_or_append_left old (first ∷ []) [] k before
+          ∙ sym (get_or_append_left old (changed ∷ []) [] k before)
     ])
 
 -- the row that was added last
@@ -98,7 +99,9 @@ unasked_left code dropped c left e =
 role_left : (code dropped c : ℕ) → c < code → (es : List LineAnnotation) (role : ElementStyle) → role_in_source code dropped es c role ≡ role
 role_left code dropped c left es role =
     let unasked = unasked_left code dropped c left in
-    let primary : list_any (λ e. is_primary e.kind && highlights code dropped c e) es ≡ false = list_any_none _ es (λ k d within. and_right (is_primary (get_or es k d).kind) (highlights code dropped c (get_or es k d)) (unasked (get_or es k d))) in
+    let primary : list_any (λ e. is_primary e.kind && highlights code dropped c e) es
+    ≡ false = list_any_none _ es (λ k d within. and_right (is_primary (get_or es k d).kind) (highlights code dropped c (get_or es k d))
+    (unasked (get_or es k d))) in
     let any : list_any (highlights code dropped c) es ≡ false = list_any_none _ es (λ k d within. unasked (get_or es k d)) in
     rw (primary, any)
 
@@ -169,12 +172,15 @@ pub line_added : (layout : Layout) (margin : Margin) (numbers : LineNumbers) (cl
     → All (λ e. is_bar e.annotation_type ≡ false → dropped ≤ e.start.display) info.annotations.items
     → IsHighlighted layout.code dropped (filter (λ e. not (is_end_part e.annotation_type)) info.annotations.items) (row_at mid row) (row_at high row)
     → ((r : ℕ) → r ≢ row → row_at high r ≡ row_at mid r) → length high ≡ length mid
-    → ((above : List (List Cell)) (plain : List Cell) → high ≡ above ++ plain ∷ [] → HasNoBars layout plain → AddsStrokes layout margin.term_width (map (shifted dropped) info.annotations.items) closes above plain done)
+    → ((above : List (List Cell)) (plain : List Cell) → high ≡ above ++ plain ∷ [] → HasNoBars layout plain
+    → AddsStrokes layout margin.term_width (map (shifted dropped) info.annotations.items) closes above plain done)
     → DrawsBars layout row done new
-    → ((above : List (List Cell)) (bright : List Cell) → high ≡ above ++ bright ∷ [] → AddsOwnRows layout margin.term_width closes (norm (chars info.line.now)) dropped info.annotations.items above bright done)
+    → ((above : List (List Cell)) (bright : List Cell) → high ≡ above ++ bright ∷ []
+    → AddsOwnRows layout margin.term_width closes (norm (chars info.line.now)) dropped info.annotations.items above bright done)
     → bars ≡ bars_apart open_bars (ends_of_bars info.annotations.items) → new ≡ barred layout Solid bars row done
     → AddsLine layout margin numbers closes open_bars info old new
-line_added layout margin numbers closes open_bars bars info dropped old mid high done new row short source last dropped_is clear highlights others count strokes draws own bars_are value =
+line_added layout margin numbers closes open_bars bars info dropped old mid high done new row short source last dropped_is clear highlights others count
+    strokes draws own bars_are value =
     let shown = shown_number numbers layout.gutter info.line_index in
     let text = norm (chars info.line.now) in
     let cells = window_cells layout.decor margin text in
@@ -185,7 +191,8 @@ line_added layout margin numbers closes open_bars bars info dropped old mid high
     let is : IsHighlighted layout.code dropped es source.row bright = subst (λ plain. IsHighlighted layout.code dropped es plain bright) first highlights in
     let top : high ≡ old ++ bright ∷ [] = last_changed old mid high row source.row last source.added count others in
     let bare : HasNoBars layout bright = no_bars layout shown cells dropped es source.row bright source.is short is in
-    let adds : AddsStrokes layout margin.term_width entries closes old bright new = AddsStrokes-drawn layout margin.term_width entries closes old bright done new row last bare.0 (strokes old bright top bare) draws in
+    let adds : AddsStrokes layout margin.term_width entries closes old bright new = AddsStrokes-drawn layout margin.term_width entries closes old bright done
+    new row last bare.0 (strokes old bright top bare) draws in
     let below = adds.rows in
     let plain : Bool = are_plain margin.term_width layout.decor entries in
     let free_below : All IsFree below = All-from_get_or IsFree below [] (λ k within. (adds.are.are k within).free) in
@@ -207,14 +214,17 @@ line_added layout margin numbers closes open_bars bars info dropped old mid high
         highlights = is;
         beside = adds.beside;
         strokes = adds.are;
-        unnumbered = All-from_get_or (HasNoNumber layout.gutter) below [] (λ k within. no_number layout plain entries (closes && k + 1 == length below) (row_at below k) (adds.are.are k within));
+        unnumbered = All-from_get_or (HasNoNumber layout.gutter) below [] (λ k within.
+            no_number layout plain entries (closes && k + 1 == length below) (row_at below k) (adds.are.are k within));
         free = All-cons IsFree adds.source below (adds.beside.free (highlighted_free layout.code dropped es source.row bright is source.is.free)) free_below;
-        drawn = line_rows layout margin.term_width closes text dropped open_bars bars info.annotations.items old bright (adds.source ∷ below) done new row (own old bright top) last bars_are value adds.added;
+        drawn = line_rows layout margin.term_width closes text dropped open_bars bars info.annotations.items old bright (adds.source ∷ below) done new row
+            (own old bright top) last bars_are value adds.added;
       };
     }
 
 -- the lines before one of a number were drawn, and below them these bars are open: with rows that show the others they show all
-pub record AddsLines (layout : Layout) (margin : Margin) (numbers : LineNumbers) (closes : Bool) (infos : List AnnotatedLineInfo) (i : ℕ) (open_bars : List OpenBar) (old new : List (List Cell)) : Type 0 where
+pub record AddsLines (layout : Layout) (margin : Margin) (numbers : LineNumbers) (closes : Bool) (infos : List AnnotatedLineInfo) (i : ℕ)
+    (open_bars : List OpenBar) (old new : List (List Cell)) : Type 0 where
   pub rows : List (List Cell)
   pub added : new ≡ old ++ rows
   pub shown : (rest : List (List Cell)) → AreLinesShown layout margin numbers closes open_bars (drop i infos) rest
@@ -243,7 +253,8 @@ pub AddsLines-next : (layout : Layout) (margin : Margin) (numbers : LineNumbers)
 AddsLines-next layout margin numbers closes infos i info open_bars below old before mid new within is below_is done line gap =
     let later = drop (i + 1) infos in
     let next : drop i infos ≡ info ∷ later = drop_more infos i info within ∙ ap (λ x. x ∷ later) (sym is) in
-    let shows : ShowsLine layout margin numbers (closes && length later == 0) open_bars info line.rows = subst (λ b. ShowsLine layout margin numbers b open_bars info line.rows) (last_closes closes infos i within) line.shown in
+    let shows : ShowsLine layout margin numbers (closes && length later == 0) open_bars info line.rows = subst (λ b.
+    ShowsLine layout margin numbers b open_bars info line.rows) (last_closes closes infos i within) line.shown in
     let first = line.rows in
     let between = gap.rows in
     record {
@@ -259,7 +270,8 @@ AddsLines-next layout margin numbers closes infos i info open_bars below old bef
             subst (λ bs. IsGap layout bs info.line_index later between) below_is gap.is,
             subst (λ bs. AreLinesShown layout margin numbers closes bs later rest) below_is shown,
           ) in
-          let whole : AreLinesShown layout margin numbers closes [] infos (done.rows ++ (first ++ between ++ rest)) = done.shown (first ++ between ++ rest) (subst (λ xs. AreLinesShown layout margin numbers closes open_bars xs (first ++ between ++ rest)) (sym next) all) in
+          let whole : AreLinesShown layout margin numbers closes [] infos (done.rows ++ (first ++ between ++ rest)) = done.shown (first ++ between ++ rest)
+          (subst (λ xs. AreLinesShown layout margin numbers closes open_bars xs (first ++ between ++ rest)) (sym next) all) in
           subst (λ rs. AreLinesShown layout margin numbers closes [] infos rs) (sym (regroup done.rows first between rest)) whole;
     }
   where
@@ -272,7 +284,8 @@ pub AddsSnippet-from_lines : (layout : Layout) (margin : Margin) (numbers : Line
     → AddsSnippet layout margin numbers closes infos old new
 AddsSnippet-from_lines layout margin numbers closes infos i open_bars old new all done =
     let none : drop i infos ≡ [] = drop_all i infos (omega (arith, all)) in
-    let shown : AreLinesShown layout margin numbers closes [] infos (done.rows ++ []) = done.shown [] (subst (λ xs. AreLinesShown layout margin numbers closes open_bars xs []) (sym none) refl) in
+    let shown : AreLinesShown layout margin numbers closes [] infos (done.rows ++ []) = done.shown []
+    (subst (λ xs. AreLinesShown layout margin numbers closes open_bars xs []) (sym none) refl) in
     record {
       rows = done.rows;
       added = done.added;
@@ -288,7 +301,8 @@ free_gap layout open_bars number (next ∷ infos) rows (inl gap) =
 free_gap layout open_bars number (next ∷ infos) rows (inr near) = All-same IsFree rows [] near.1 (All-nil IsFree)
 
 -- no row of the lines holds a listed character
-pub free_from_AreLinesShown : (layout : Layout) (margin : Margin) (numbers : LineNumbers) (closes : Bool) (open_bars : List OpenBar) (infos : List AnnotatedLineInfo) (rows : List (List Cell)) → AreLinesShown layout margin numbers closes open_bars infos rows → All IsFree rows
+pub free_from_AreLinesShown : (layout : Layout) (margin : Margin) (numbers : LineNumbers) (closes : Bool) (open_bars : List OpenBar)
+    (infos : List AnnotatedLineInfo) (rows : List (List Cell)) → AreLinesShown layout margin numbers closes open_bars infos rows → All IsFree rows
 free_from_AreLinesShown layout margin numbers closes open_bars [] rows none = All-same IsFree rows [] none (All-nil IsFree)
 free_from_AreLinesShown layout margin numbers closes open_bars (info ∷ infos) rows shown =
     All-same IsFree rows (shown.0 ++ shown.1 ++ shown.2)

@@ -40,12 +40,16 @@ pub none_has : (depth : ℕ) (es : List LineAnnotation) → All (λ b. b.depth �
     → All (λ (e : LineAnnotation). is_at depth e.annotation_type ≡ false) es
 unfolding is_at
 none_has depth es others =
-    all_from_among (λ (e : LineAnnotation). is_at depth e.annotation_type ≡ false) es (λ e here. by_type e.annotation_type (is_primary e.kind) (λ b is. all_among (λ (x : Bar). x.depth ≢ depth) (ends_of_bars es) b others (among_filter_map bar_of es e b here is)))
+    all_from_among (λ (e : LineAnnotation). is_at depth e.annotation_type ≡ false) es (λ e here.
+    by_type e.annotation_type (is_primary e.kind) (λ b is. all_among (λ (x : Bar). x.depth ≢ depth) (ends_of_bars es) b others
+    (among_filter_map bar_of es e b here is)))
   where
     by_type : (t : LineAnnotationType) (primary : Bool) → ((b : Bar) → bar_at t primary ≡ Some b → b.depth ≢ depth) → is_at depth t ≡ false
     by_type Singleline primary apart = refl
-    by_type (MultilineStart d) primary apart = false_from_ne_true (is_at depth (MultilineStart d)) (λ same. apart (record { depth = d; primary = primary }) refl (eqb-true d depth same))
-    by_type (MultilineEnd d) primary apart = false_from_ne_true (is_at depth (MultilineEnd d)) (λ same. apart (record { depth = d; primary = primary }) refl (eqb-true d depth same))
+    by_type (MultilineStart d) primary apart = false_from_ne_true (is_at depth (MultilineStart d)) (λ same.
+        apart (record { depth = d; primary = primary }) refl (eqb-true d depth same))
+    by_type (MultilineEnd d) primary apart = false_from_ne_true (is_at depth (MultilineEnd d)) (λ same.
+        apart (record { depth = d; primary = primary }) refl (eqb-true d depth same))
     by_type (MultilineLine d) primary apart = refl
 
 module _ (layout : Layout) (depth : ℕ) (room : layout.gutter + 2 + depth < layout.code) where
@@ -67,7 +71,8 @@ module _ (layout : Layout) (depth : ℕ) (room : layout.gutter + 2 + depth < lay
     where
       line : (e : PlacedEntry) → All Leaves (connector_of layout 1 e)
       line e =
-          All-connector_of Leaves layout 1 e (λ deep. All-stretch_of Leaves (1 + e.position) (layout.gutter + 3 + deep) (layout.code + e.entry.start.display) (strokes_of layout.decor (is_primary e.entry.kind)).connector (stroke_role e) (λ there. omega (arith, there.row)))
+          All-connector_of Leaves layout 1 e (λ deep. All-stretch_of Leaves (1 + e.position) (layout.gutter + 3 + deep) (layout.code + e.entry.start.display)
+          (strokes_of layout.decor (is_primary e.entry.kind)).connector (stroke_role e) (λ there. omega (arith, there.row)))
 
   -- an entry isn't the end of a span of this depth
   abbrev IsNoEnd : LineAnnotation → Type 0
@@ -83,11 +88,14 @@ module _ (layout : Layout) (depth : ℕ) (room : layout.gutter + 2 + depth < lay
       let three : List Write = stems_of layout 1 placed in
       let four : List Write = labels_of layout 1 placed in
       let five : List Write = marks_of layout 1 order in
-      let corners : All Leaves two = All-flat_map Leaves (corner_of layout 0 count) placed (λ k d within. by_part (get_or placed k d) (get_or placed k d).entry.annotation_type (others k d within)) in
+      let corners : All Leaves two = All-flat_map Leaves (corner_of layout 0 count) placed (λ k d within.
+      by_part (get_or placed k d) (get_or placed k d).entry.annotation_type (others k d within)) in
       let barred : All Leaves (one ++ two) = All-append Leaves one two (lines_below placed) corners in
       let hung : All Leaves (one ++ two ++ three) = All-append Leaves (one ++ two) three barred (stems_right layout bar room count placed order begun 0) in
-      let named : All Leaves (one ++ two ++ three ++ four) = All-append Leaves (one ++ two ++ three) four hung (labels_right layout bar room count placed order begun 0) in
-      painted-untouched (line_strokes layout 0 count placed order) begun 0 cell (All-append Leaves (one ++ two ++ three ++ four) five named (marks_right layout bar room count placed order begun 0))
+      let named : All Leaves (one ++ two ++ three ++ four) = All-append Leaves (one ++ two ++ three) four hung
+      (labels_right layout bar room count placed order begun 0) in
+      painted-untouched (line_strokes layout 0 count placed order) begun 0 cell
+      (All-append Leaves (one ++ two ++ three ++ four) five named (marks_right layout bar room count placed order begun 0))
     where
       by_part : (e : PlacedEntry) (part : LineAnnotationType) → (part ≡ MultilineEnd depth → ⊥) → All Leaves (corner_by layout 0 count e part)
       by_part e Singleline other = All-nil Leaves
@@ -96,9 +104,11 @@ module _ (layout : Layout) (depth : ℕ) (room : layout.gutter + 2 + depth < lay
           let line : ℕ = (strokes_of layout.decor (is_primary e.entry.kind)).bar in
           let own : Write = glyph_at corner (layout.gutter + 2 + d) (strokes_of layout.decor (is_primary e.entry.kind)).bar_top (stroke_role e) in
           let below : List Write = column_of (corner + 1) count (layout.gutter + 2 + d) line (stroke_role e) in
-          All-cons Leaves own below (λ there. omega (arith, there.row)) (All-column_of Leaves (corner + 1) count (layout.gutter + 2 + d) line (stroke_role e) (λ n from to there. omega (arith, there.row, from)))
+          All-cons Leaves own below (λ there. omega (arith, there.row))
+          (All-column_of Leaves (corner + 1) count (layout.gutter + 2 + d) line (stroke_role e) (λ n from to there. omega (arith, there.row, from)))
       by_part e (MultilineEnd d) other =
-          part_leaves layout bar room count placed order begun 0 e (MultilineEnd d) (false_from_ne_true (d == depth) (λ same. other (ap MultilineEnd (eqb-true d depth same))))
+          part_leaves layout bar room count placed order begun 0 e (MultilineEnd d)
+          (false_from_ne_true (d == depth) (λ same. other (ap MultilineEnd (eqb-true d depth same))))
       by_part e (MultilineLine d) other = All-nil Leaves
 
   -- beside a line that isn't marked as a whole the cell stays, if no entry is such an end
@@ -108,16 +118,20 @@ module _ (layout : Layout) (depth : ℕ) (room : layout.gutter + 2 + depth < lay
       let placed : List PlacedEntry = drawn.placed in
       let begun : List (List Cell) = begun_rows layout closes (row_count placed) source in
       let at : List (List Cell) → Cell = λ all. cell_at all 0 cell in
-      let none_placed : All (λ (e : PlacedEntry). IsNoEnd e.entry) placed = entries_all IsNoEnd (map (shifted dropped) es) placed drawn.are.same (All-map IsNoEnd (shifted dropped) es none) in
-      ap at drawn.cut.new_is ∙ left_same layout.code cell drawn.cut.source_now drawn.top room drawn.cut.source_cut.left ∙ ap at drawn.painted_are ∙ untouched (row_count placed + 1) placed (painting_order placed) begun none_placed
+      let none_placed : All (λ (e : PlacedEntry). IsNoEnd e.entry) placed = entries_all IsNoEnd (map (shifted dropped) es) placed drawn.are.same
+      (All-map IsNoEnd (shifted dropped) es none) in
+      ap at drawn.cut.new_is ∙ left_same layout.code cell drawn.cut.source_now drawn.top room drawn.cut.source_cut.left ∙ ap at drawn.painted_are
+      ∙ untouched (row_count placed + 1) placed (painting_order placed) begun none_placed
 
-  module _ (width : ℕ) (closes : Bool) (text : List ℕ) (dropped : ℕ) (es : List LineAnnotation) (source : List Cell) (others : All (λ b. b.depth ≢ depth) (ends_of_bars es)) where
+  module _ (width : ℕ) (closes : Bool) (text : List ℕ) (dropped : ℕ) (es : List LineAnnotation) (source : List Cell)
+      (others : All (λ b. b.depth ≢ depth) (ends_of_bars es)) where
     -- no entry has this depth
     none_at : All IsNoEnd es
     none_at =
         all_from_among IsNoEnd es (λ e here end.
         let own : Bar = record { depth = depth; primary = is_primary e.kind } in
-        all_among (λ (x : Bar). x.depth ≢ depth) (ends_of_bars es) own others (among_filter_map bar_of es e own here (ap (λ t. bar_at t (is_primary e.kind)) end)) refl)
+        all_among (λ (x : Bar). x.depth ≢ depth) (ends_of_bars es) own others
+        (among_filter_map bar_of es e own here (ap (λ t. bar_at t (is_primary e.kind)) end)) refl)
 
     own_source : (rows : List (List Cell)) → AreOwnRows layout width closes text dropped es source rows → cell_at rows 0 cell ≡ get_or source cell SPACE
     own_source rows are =
@@ -137,8 +151,10 @@ module _ (layout : Layout) (depth : ℕ) (room : layout.gutter + 2 + depth < lay
         let past : List Bar = bars_apart open_bars (ends_of_bars es) in
         let rule : List Cell → List Cell = with_bars layout Solid past in
         let as_many : length rows ≡ length drawn.own = ap length drawn.rows_are ∙ length-map drawn.own rule in
-        let row : row_at rows 0 ≡ rule (row_at drawn.own 0) = ap (λ rs. row_at rs 0) drawn.rows_are ∙ get_or-map rule drawn.own 0 [] [] (omega (arith, some, as_many)) in
-        let apart : All (λ b. b.depth ≢ depth) past = All-filter (λ (b : Bar). not (has_depth (ends_of_bars es) b.depth)) (λ b. b.depth ≢ depth) open_bars open_others in
+        let row : row_at rows 0 ≡ rule (row_at drawn.own 0) = ap (λ rs. row_at rs 0) drawn.rows_are
+        ∙ get_or-map rule drawn.own 0 [] [] (omega (arith, some, as_many)) in
+        let apart : All (λ b. b.depth ≢ depth) past = All-filter (λ (b : Bar). not (has_depth (ends_of_bars es) b.depth)) (λ b.
+        b.depth ≢ depth) open_bars open_others in
         ap (λ cells. get_or cells cell SPACE) row ∙ passed_by layout bar room Solid past (row_at drawn.own 0) apart ∙ own_source drawn.own drawn.are
 
   -- nor beside lines that are left out
@@ -147,7 +163,8 @@ module _ (layout : Layout) (depth : ℕ) (room : layout.gutter + 2 + depth < lay
       let bare : List Cell = bare_elision_row layout.decor layout.gutter in
       passed_by layout bar room Dotted open_bars bare others ∙ get_or_past bare cell SPACE (omega (arith, some, bare_elision_short layout.decor layout.gutter))
 
-module _ (layout : Layout) (bar : Bar) (room : layout.gutter + 2 + bar.depth < layout.code) (es : List LineAnnotation) (among : Contains (ends_of_bars es) bar) (alone : HasOwnDepth bar (ends_of_bars es)) where
+module _ (layout : Layout) (bar : Bar) (room : layout.gutter + 2 + bar.depth < layout.code) (es : List LineAnnotation) (among : Contains (ends_of_bars es) bar)
+    (alone : HasOwnDepth bar (ends_of_bars es)) where
   -- the bar of a span that begins on a line begins in the line's rows, where a space stands in its cell of the row that shows the line alone
   pub begins : (width : ℕ) (closes : Bool) (text : List ℕ) (dropped : ℕ) (open_bars : List Bar) (source : List Cell) (rows : List (List Cell))
       → AreLineRows layout width closes text dropped open_bars es source rows
@@ -158,5 +175,8 @@ module _ (layout : Layout) (bar : Bar) (room : layout.gutter + 2 + bar.depth < l
       let rule : List Cell → List Cell = with_bars layout Solid past in
       let as_many : length rows ≡ length drawn.own = ap length drawn.rows_are ∙ length-map drawn.own rule in
       let strokes = drawn.are.strokes other (some_entries layout bar room es among alone width closes text dropped open_bars source rows drawn) in
-      let row : row_at rows 0 ≡ rule (row_at drawn.own 0) = ap (λ rs. row_at rs 0) drawn.rows_are ∙ get_or-map rule drawn.own 0 [] [] (omega (arith, strokes.count)) in
-      ap (λ cells. get_or cells (layout.gutter + 2 + bar.depth) SPACE) row ∙ passed_by layout bar room Solid past (row_at drawn.own 0) (past_apart layout bar room es among alone open_bars) ∙ painted_source layout bar.depth room width closes dropped es source drawn.own none strokes ∙ blank)
+      let row : row_at rows 0 ≡ rule (row_at drawn.own 0) = ap (λ rs. row_at rs 0) drawn.rows_are
+      ∙ get_or-map rule drawn.own 0 [] [] (omega (arith, strokes.count)) in
+      ap (λ cells. get_or cells (layout.gutter + 2 + bar.depth) SPACE) row
+      ∙ passed_by layout bar room Solid past (row_at drawn.own 0) (past_apart layout bar room es among alone open_bars)
+      ∙ painted_source layout bar.depth room width closes dropped es source drawn.own none strokes ∙ blank)

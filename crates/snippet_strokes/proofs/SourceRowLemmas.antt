@@ -55,14 +55,21 @@ separator_row_blank decor gutter c other =
     let len = length-replicate (gutter + 1) SPACE in
     elim (cases_lt c (gutter + 1)) [
       | inl left ↦
-          get_or_append_left (replicate (gutter + 1) SPACE) (text_cells LineNumber (separator_of decor ∷ [])) SPACE c (omega arith) ∙ get_or-replicate (gutter + 1) c SPACE SPACE left
+          get_or_append_left (replicate (gutter + 1) SPACE) (text_cells LineNumber (separator_of decor ∷ [])) SPACE c (omega arith)
+          ∙ get_or-replicate (gutter + 1) c SPACE SPACE left
       | inr right ↦ get_or_past (separator_row decor gutter) c SPACE (omega (arith, length-separator_row decor gutter))
     ]
 
 -- the row that has its number, read
 length-front : (layout : Layout) (shown : List ℕ) → length shown ≤ layout.gutter + 1 → length (front layout shown) ≡ layout.gutter + 2
 length-front layout shown short =
-    omega (arith, length-written SPACE (separator_row layout.decor layout.gutter) 0 (text_cells LineNumber shown), length-separator_row layout.decor layout.gutter, length-text_cells LineNumber shown)
+    omega (
+      arith,
+      length-written SPACE (separator_row layout.decor layout.gutter) 0
+          (text_cells LineNumber shown),
+      length-separator_row layout.decor layout.gutter,
+      length-text_cells LineNumber shown,
+    )
 
 take-front : (layout : Layout) (shown : List ℕ) → take (length shown) (front layout shown) ≡ text_cells LineNumber shown
 take-front layout shown =
@@ -73,12 +80,14 @@ take-front layout shown =
 front_after : (layout : Layout) (shown : List ℕ) (c : ℕ) → length shown ≤ c
     → slice_index_or (front layout shown) c SPACE ≡ slice_index_or (separator_row layout.decor layout.gutter) c SPACE
 front_after layout shown c after =
-    slice_index_or-written_after SPACE (separator_row layout.decor layout.gutter) 0 (text_cells LineNumber shown) c SPACE (omega (arith, length-text_cells LineNumber shown))
+    slice_index_or-written_after SPACE (separator_row layout.decor layout.gutter) 0 (text_cells LineNumber shown) c SPACE
+    (omega (arith, length-text_cells LineNumber shown))
 
 free_front : (layout : Layout) (shown : List ℕ) → All (λ c. is_listed c ≡ false) shown → IsFree (front layout shown)
 free_front layout shown free =
     let P : Cell → Type 0 = IsFreeCell in
-    free_written (separator_row layout.decor layout.gutter) 0 (text_cells LineNumber shown) (free_separator_row layout.decor layout.gutter) (free_drawn LineNumber shown free)
+    free_written (separator_row layout.decor layout.gutter) 0 (text_cells LineNumber shown) (free_separator_row layout.decor layout.gutter)
+    (free_drawn LineNumber shown free)
 
 -- the row of a line that has no text
 source_bare : (layout : Layout) (shown : List ℕ) → layout.gutter + 3 ≤ layout.code → length shown ≤ layout.gutter + 1 → All (λ c. is_listed c ≡ false) shown
@@ -105,7 +114,8 @@ source_full layout shown cells place short free_shown free_cells is =
     let row = written SPACE start layout.code cells in
     let ends : length start ≤ layout.code = omega (arith, length-front layout shown short) in
     let bare = source_bare layout shown place short free_shown in
-    let before : (c : ℕ) → c < layout.code → slice_index_or row c SPACE ≡ slice_index_or start c SPACE = λ c left. slice_index_or-written_before SPACE start layout.code cells c left in
+    let before : (c : ℕ) → c < layout.code → slice_index_or row c SPACE ≡ slice_index_or start c SPACE = λ c left.
+    slice_index_or-written_before SPACE start layout.code cells c left in
     record {
       is = sym is;
       shows = record {
@@ -113,7 +123,8 @@ source_full layout shown cells place short free_shown free_cells is =
             ∙ ap (take (length shown)) (take-written_past SPACE start layout.code cells ends)
             ∙ take-append-le (length shown) start (replicate (layout.code - length start) SPACE) (omega (arith, length-front layout shown short))
             ∙ take-front layout shown;
-        code = drop-written SPACE start layout.code cells ∙ ap (λ rest. cells ++ rest) (drop_all (layout.code + length cells) start (omega arith)) ∙ append-nil cells;
+        code = drop-written SPACE start layout.code cells ∙ ap (λ rest. cells ++ rest) (drop_all (layout.code + length cells) start (omega arith))
+            ∙ append-nil cells;
       };
       separator = before (layout.gutter + 1) (omega arith) ∙ bare.separator;
       blank = λ c after other left. before c left ∙ bare.blank c after other left;
@@ -133,7 +144,8 @@ pub number_written : (layout : Layout) (number : List ℕ) (old begun mid : List
     → (0 < length number → mid ≡ cells_written begun row 0 (text_cells LineNumber (chars number))) → (number ≡ [] → mid ≡ begun)
     → mid ≡ old ++ front layout (chars number) ∷ []
 number_written layout number old begun mid row last begins numbers number_stays =
-    text_put old begun mid (separator_row layout.decor layout.gutter) row 0 number (text_cells LineNumber (chars number)) begins last numbers number_stays ∙ ap (λ r. old ++ r ∷ []) (texted_start number (separator_row layout.decor layout.gutter))
+    text_put old begun mid (separator_row layout.decor layout.gutter) row 0 number (text_cells LineNumber (chars number)) begins last numbers number_stays
+    ∙ ap (λ r. old ++ r ∷ []) (texted_start number (separator_row layout.decor layout.gutter))
 
 -- the row that has its number ends left of the code
 pub front_short : (layout : Layout) (shown : List ℕ) → layout.gutter + 3 ≤ layout.code → length shown ≤ layout.gutter + 1

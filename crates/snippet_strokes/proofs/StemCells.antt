@@ -83,7 +83,9 @@ module _ (layout : Layout) (r c : ℕ) where
       let foot : ℕ = foot_glyph layout.decor e in
       let line : ℕ = (strokes_of layout.decor primary).stem in
       let S : ℕ → Type 0 = λ ch. P (unlinked_cell (stroke_role e) ch) in
-      let among : (b : Bool) → Among layout.decor (cond b foot line) = λ b. either b foot line (of_foot (Among layout.decor) e.entry.annotation_type layout.decor primary (has_label e) (stems_among layout.decor primary)) (stems_among layout.decor primary).stem in
+      let among : (b : Bool) → Among layout.decor (cond b foot line) = λ b.
+      either b foot line (of_foot (Among layout.decor) e.entry.annotation_type layout.decor primary (has_label e) (stems_among layout.decor primary))
+      (stems_among layout.decor primary).stem in
       All-stem_of Q layout row e (λ b low there.
       let glyph : ℕ = cond (b == e.position) foot line in
       let whole : All S (glyph ∷ []) = All-cons S glyph [] (stem_cell layout.decor primary glyph (among (b == e.position))) (All-nil S) in
@@ -106,7 +108,8 @@ module _ (layout : Layout) (r c : ℕ) where
       let inside : b < e.position + 1 = omega (arith, low) in
       let there : Reaches r c (f b) = record { row = sym at_row; from = omega (arith, at_cell); to = omega (arith, at_cell) } in
       let here : get_or own b (f b) ≡ f b = get_or-map-range_with_len f 0 (e.position + 1) b b (f b) inside (omega arith) in
-      ap_cell is (painted_reached own b (f b) rows (omega (arith, inside, length-map-range_with_len f 0 (e.position + 1))) (subst (Reaches r c) (sym here) there) (subst (All Q) is (stem_leaves row e)))
+      ap_cell is (painted_reached own b (f b) rows (omega (arith, inside, length-map-range_with_len f 0 (e.position + 1)))
+      (subst (Reaches r c) (sym here) there) (subst (All Q) is (stem_leaves row e)))
     where
       ap_cell : {vs : List Write} → stem_of layout row e ≡ vs → P (cell_at (painted vs rows) r c) → P (cell_at (painted (stem_of layout row e) rows) r c)
       ap_cell same holds = subst (λ ws. P (cell_at (painted ws rows) r c)) (sym same) holds
@@ -118,7 +121,8 @@ module _ (layout : Layout) (r c : ℕ) where
   stems_stand row [] k b d rows within stem low at_row at_cell = absurd (omega (arith, within))
   stems_stand row (e ∷ later) (suc k) b d rows within stem low at_row at_cell =
       let own : List Write = cond (is_stem_covered e later) [] (stem_of layout row e) in
-      subst (λ rs. P (cell_at rs r c)) (sym (painted-append own (stems_of layout row later) rows)) (stems_stand row later k b d (painted own rows) (omega (arith, within)) stem low at_row at_cell)
+      subst (λ rs. P (cell_at rs r c)) (sym (painted-append own (stems_of layout row later) rows))
+      (stems_stand row later k b d (painted own rows) (omega (arith, within)) stem low at_row at_cell)
   stems_stand row (e ∷ []) zero b d rows within stem low at_row at_cell =
       let drawn : List (List Cell) = painted (stem_of layout row e) rows in
       subst (λ rs. P (cell_at rs r c)) (stems_next layout row e [] rows drawn refl refl) (stem_stands row b e rows stem low at_row at_cell)
@@ -127,10 +131,12 @@ module _ (layout : Layout) (r c : ℕ) where
       elim (cases_Bool (is_stem_covered e others)) [
         | inl hidden ↦
             let by : Hides e next = hides e next later hidden in
-            subst (λ rs. P (cell_at rs r c)) (stems_skip layout row e others rows hidden) (stems_stand row (next ∷ later) zero b d rows (omega arith) by.stem (omega (arith, low, by.deep)) at_row (omega (arith, at_cell, by.column)))
+            subst (λ rs. P (cell_at rs r c)) (stems_skip layout row e others rows hidden)
+            (stems_stand row (next ∷ later) zero b d rows (omega arith) by.stem (omega (arith, low, by.deep)) at_row (omega (arith, at_cell, by.column)))
         | inr shown ↦
             let drawn : List (List Cell) = painted (stem_of layout row e) rows in
-            subst (λ rs. P (cell_at rs r c)) (stems_next layout row e others rows drawn shown refl) (painted-cell P (stems_of layout row others) drawn r c (stem_stands row b e rows stem low at_row at_cell) (stems_leave row others))
+            subst (λ rs. P (cell_at rs r c)) (stems_next layout row e others rows drawn shown refl)
+            (painted-cell P (stems_of layout row others) drawn r c (stem_stands row b e rows stem low at_row at_cell) (stems_leave row others))
       ]
 
   -- marks stand in their own row alone
@@ -146,7 +152,8 @@ module _ (layout : Layout) (r c : ℕ) where
           let first : Write = glyph_at row from (first_glyph layout.decor e) (stroke_role e) in
           let rest : List Write = stretch_of row (from + 1) to glyph (stroke_role e) in
           elim (nat_lt from to) as (λ b. All Q (cond b (first ∷ rest) [])) [
-            | true ↦ All-cons Q first rest (λ there. absurd (omega (arith, there.row, below))) (All-stretch_of Q row (from + 1) to glyph (stroke_role e) (λ there. absurd (omega (arith, there.row, below))))
+            | true ↦ All-cons Q first rest (λ there. absurd (omega (arith, there.row, below)))
+                (All-stretch_of Q row (from + 1) to glyph (stroke_role e) (λ there. absurd (omega (arith, there.row, below))))
             | false ↦ All-nil Q
           ]
 
@@ -163,10 +170,14 @@ module _ (layout : Layout) (r c : ℕ) where
       let labels : List Write = labels_of layout (row + 1) placed in
       let marks : List Write = marks_of layout (row + 1) order in
       let stem : has_stem e ≡ true = hangs e.position (has_label e) (takes_space e) (omega (arith, some, low)) has in
-      let hung : P (cell_at (painted (bars ++ stems) rows) r c) = subst (λ rs. P (cell_at rs r c)) (sym (painted-append bars stems rows)) (stems_stand (row + 1) placed k b d (painted bars rows) within stem low at_row at_cell) in
-      let own_labels : All Q labels = All-flat_map Q (label_of layout (row + 1)) placed (λ i x inside. All-label_of Q layout (row + 1) (get_or placed i x) (λ shows there. absurd (beside i x inside shows there))) in
-      let named : P (cell_at (painted (bars ++ stems ++ labels) rows) r c) = subst (λ rs. P (cell_at rs r c)) (sym (painted-append (bars ++ stems) labels rows)) (painted-cell P labels (painted (bars ++ stems) rows) r c hung own_labels) in
-      subst (λ rs. P (cell_at rs r c)) (sym (painted-append (bars ++ stems ++ labels) marks rows)) (painted-cell P marks (painted (bars ++ stems ++ labels) rows) r c named (marks_beside (row + 1) order (omega (arith, some, at_row))))
+      let hung : P (cell_at (painted (bars ++ stems) rows) r c) = subst (λ rs.
+      P (cell_at rs r c)) (sym (painted-append bars stems rows)) (stems_stand (row + 1) placed k b d (painted bars rows) within stem low at_row at_cell) in
+      let own_labels : All Q labels = All-flat_map Q (label_of layout (row + 1)) placed (λ i x inside.
+      All-label_of Q layout (row + 1) (get_or placed i x) (λ shows there. absurd (beside i x inside shows there))) in
+      let named : P (cell_at (painted (bars ++ stems ++ labels) rows) r c) = subst (λ rs.
+      P (cell_at rs r c)) (sym (painted-append (bars ++ stems) labels rows)) (painted-cell P labels (painted (bars ++ stems) rows) r c hung own_labels) in
+      subst (λ rs. P (cell_at rs r c)) (sym (painted-append (bars ++ stems ++ labels) marks rows))
+      (painted-cell P marks (painted (bars ++ stems ++ labels) rows) r c named (marks_beside (row + 1) order (omega (arith, some, at_row))))
     where
       hangs : (p : ℕ) (label space : Bool) → 0 < p → label ≡ true → (nat_lt 0 p && (label || space)) ≡ true
       hangs p label space some has = grind (arith, nat_tests, some, has)
@@ -175,10 +186,12 @@ module _ (layout : Layout) (r c : ℕ) where
 -- hangs, and no label of these entries stands there
 abbrev pub IsHung : Layout → ℕ → List PlacedEntry → List (List Cell) → PlacedEntry → Type 0
 IsHung layout row placed rows e =
-    has_label e ≡ true → (b : ℕ) → 0 < b → b ≤ e.position → BesideLabels layout row (row + b) (layout.code + e.entry.start.display) placed → IsStemCell layout.decor (cell_at rows (row + b) (layout.code + e.entry.start.display))
+    has_label e ≡ true → (b : ℕ) → 0 < b → b ≤ e.position → BesideLabels layout row (row + b) (layout.code + e.entry.start.display) placed
+    → IsStemCell layout.decor (cell_at rows (row + b) (layout.code + e.entry.start.display))
 
 -- all strokes of a line leave rows in which each label that hangs is hung so
 pub all_hung : (layout : Layout) (row count : ℕ) (placed order : List PlacedEntry) (rows : List (List Cell))
     → All (IsHung layout (row + 1) placed (painted (line_strokes layout row count placed order) rows)) placed
 all_hung layout row count placed order rows k d within has b some low beside =
-    stem_of_strokes layout (row + 1 + b) (layout.code + (get_or placed k d).entry.start.display) row count placed order rows k b d within has some low refl refl beside
+    stem_of_strokes layout (row + 1 + b) (layout.code + (get_or placed k d).entry.start.display) row count placed order rows k b d within has some low refl
+    refl beside

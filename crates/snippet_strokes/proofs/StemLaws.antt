@@ -54,7 +54,8 @@ pub stem_left_out : (layout : Layout) (es : List LineAnnotation) (rows : List (L
     → cell_at rows r (get_or stand.labels k d).cell ≡ SPACE → ⊥
 stem_left_out layout es rows stand k d within some r under above blank =
     let c : ℕ = (get_or stand.labels k d).cell in
-    let none : count_by (is_cell_of r c) stand.labels ≡ 0 = none_pass (is_cell_of r c) stand.labels (λ j x inside. elim (cases_Bool (is_cell_of r c (get_or stand.labels j x))) [
+    let none : count_by (is_cell_of r c) stand.labels ≡ 0 = none_pass (is_cell_of r c) stand.labels (λ j x inside.
+    elim (cases_Bool (is_cell_of r c (get_or stand.labels j x))) [
       | inl holds ↦ absurd (no_space layout rows (get_or stand.labels j x) r c (stand.stand j x inside) holds blank)
       | inr not ↦ not
     ]) in

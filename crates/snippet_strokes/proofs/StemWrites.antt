@@ -38,7 +38,8 @@ pub All-stems_of : (P : Write → Type 0) (layout : Layout) (row : ℕ) (es : Li
     → ((k : ℕ) (d : PlacedEntry) → k < length es → All P (stem_of layout row (get_or es k d))) → All P (stems_of layout row es)
 All-stems_of P layout row [] each = All-nil P
 All-stems_of P layout row (e ∷ later) each =
-    All-append P (cond (is_stem_covered e later) [] (stem_of layout row e)) (stems_of layout row later) (elim (is_stem_covered e later) as (λ b. All P (cond b [] (stem_of layout row e))) [
+    All-append P (cond (is_stem_covered e later) [] (stem_of layout row e)) (stems_of layout row later)
+    (elim (is_stem_covered e later) as (λ b. All P (cond b [] (stem_of layout row e))) [
       | true ↦ All-nil P
       | false ↦ each 0 e (omega arith)
     ]) (All-stems_of P layout row later (λ k d within. each (suc k) d (omega (arith, within))))
@@ -55,7 +56,8 @@ stem_within layout row count from e rows stand =
       right = stand;
       free = All-cons P (cond (b == e.position) (foot_glyph layout.decor e) (strokes_of layout.decor primary).stem) []
           (either (b == e.position) (foot_glyph layout.decor e) (strokes_of layout.decor primary).stem
-          (of_foot P e.entry.annotation_type layout.decor primary (has_label e) (free_strokes layout.decor primary).stems) (free_strokes layout.decor primary).stems.stem) (All-nil P);
+          (of_foot P e.entry.annotation_type layout.decor primary (has_label e) (free_strokes layout.decor primary).stems)
+          (free_strokes layout.decor primary).stems.stem) (All-nil P);
     })
   where
     either : (b : Bool) (foot stem : ℕ) → is_listed foot ≡ false → is_listed stem ≡ false → is_listed (cond b foot stem) ≡ false
@@ -79,13 +81,15 @@ pub stem_count : (layout : Layout) (row : ℕ) (e : PlacedEntry) (rows : List (L
     → length (painted (stem_of layout row e) rows) ≡ length rows
 stem_count layout row e rows has =
     let n = length rows in
-    painted-count (stem_of layout row e) rows n refl (All-weaker (IsWithin row n 0) (λ (w : Write). w.row < n) (λ w is. is.there) (stem_of layout row e) (stem_within layout row n 0 e has (omega arith)))
+    painted-count (stem_of layout row e) rows n refl (All-weaker (IsWithin row n 0) (λ (w : Write). w.row < n) (λ w is.
+    is.there) (stem_of layout row e) (stem_within layout row n 0 e has (omega arith)))
 
 -- the stems from one entry on are its own, unless the next one's covers it, and those of the later ones
 pub stems_next : (layout : Layout) (row : ℕ) (e : PlacedEntry) (later : List PlacedEntry) (old new : List (List Cell)) → is_stem_covered e later ≡ false
     → new ≡ painted (stem_of layout row e) old → painted (stems_of layout row later) new ≡ painted (stems_of layout row (e ∷ later)) old
 stems_next layout row e later old new shown drawn_now =
-    ap (painted (stems_of layout row later)) drawn_now ∙ sym (painted-append (stem_of layout row e) (stems_of layout row later) old) ∙ sym (ap (λ b. painted (cond b [] (stem_of layout row e) ++ stems_of layout row later) old) shown)
+    ap (painted (stems_of layout row later)) drawn_now ∙ sym (painted-append (stem_of layout row e) (stems_of layout row later) old)
+    ∙ sym (ap (λ b. painted (cond b [] (stem_of layout row e) ++ stems_of layout row later) old) shown)
 
 -- an entry that is hidden by a later one adds no stem
 pub stems_skip : (layout : Layout) (row : ℕ) (e : PlacedEntry) (later : List PlacedEntry) (rows : List (List Cell)) → is_stem_covered e later ≡ true
@@ -99,7 +103,8 @@ pub stems_start : (layout : Layout) (row : ℕ) (es : List PlacedEntry) (rows : 
 stems_start layout row es rows r c beside before =
     let M : Cell → Type 0 = λ cell. has_mark_role cell ≡ false in
     let Q : Write → Type 0 = λ w. Reaches r c w → M (cell_of_write w c) in
-    painted-cell M (stems_of layout row es) rows r c before (All-stems_of Q layout row es (λ k d within. All-stem_of Q layout row (get_or es k d) (λ b low there. absurd (beside k d within (omega (arith, there.from, there.to))))))
+    painted-cell M (stems_of layout row es) rows r c before (All-stems_of Q layout row es (λ k d within.
+    All-stem_of Q layout row (get_or es k d) (λ b low there. absurd (beside k d within (omega (arith, there.from, there.to))))))
 
 -- where no entry has a stem nothing is written
 pub stems_none : (layout : Layout) (row : ℕ) (es : List PlacedEntry) → All (λ e. has_stem e ≡ false) es → stems_of layout row es ≡ []
@@ -107,7 +112,8 @@ stems_none layout row [] none = refl
 stems_none layout row (e ∷ later) none =
     let N : PlacedEntry → Type 0 = λ x. has_stem x ≡ false in
     let own : stem_of layout row e ≡ [] = ap (λ b. cond b (map (stem_write layout row e) (range_with_len 0 (e.position + 1))) []) (All-head N e later none) in
-    ap (λ ws. cond (is_stem_covered e later) [] ws ++ stems_of layout row later) own ∙ ap (λ ws. ws ++ stems_of layout row later) (either (is_stem_covered e later)) ∙ stems_none layout row later (All-tail N e later none)
+    ap (λ ws. cond (is_stem_covered e later) [] ws ++ stems_of layout row later) own
+    ∙ ap (λ ws. ws ++ stems_of layout row later) (either (is_stem_covered e later)) ∙ stems_none layout row later (All-tail N e later none)
   where
     either : (b : Bool) → ◌≡◌ {A = List Write} (cond b [] []) []
     either true = refl

@@ -65,14 +65,16 @@ module _ (layout : Layout) (r c : ℕ) (right : layout.code ≤ c) where
   of_stretch row from to glyph e among =
       let S : ℕ → Type 0 = λ ch. P (unlinked_cell (stroke_role e) ch) in
       let w : Write = record { row = row; cell = from; text = replicate (to - from) glyph; role = stroke_role e } in
-      All-stretch_of Q row from to glyph (stroke_role e) (of_text w (All-replicate S (to - from) glyph (stroke_cell layout.decor (is_primary e.entry.kind) glyph among)))
+      All-stretch_of Q row from to glyph (stroke_role e) (of_text w (All-replicate S (to - from) glyph
+      (stroke_cell layout.decor (is_primary e.entry.kind) glyph among)))
 
   connectors : (row : ℕ) (es : List PlacedEntry) → All Q (connectors_of layout row es)
   connectors row es =
       All-flat_map Q (connector_of layout row) es (λ k d within.
       let e : PlacedEntry = get_or es k d in
       let glyph : ℕ = (strokes_of layout.decor (is_primary e.entry.kind)).connector in
-      All-connector_of Q layout row e (λ depth. of_stretch (row + e.position) (layout.gutter + 3 + depth) (layout.code + e.entry.start.display) glyph e (code_among layout.decor (is_primary e.entry.kind)).connector))
+      All-connector_of Q layout row e (λ depth. of_stretch (row + e.position) (layout.gutter + 3 + depth) (layout.code + e.entry.start.display) glyph e
+      (code_among layout.decor (is_primary e.entry.kind)).connector))
 
   -- bars and corners stand left of the code
   corners : (row count : ℕ) (es : List PlacedEntry) → All (λ e. HasBarCell layout e.entry) es → All Q (corners_of layout row count es)
@@ -93,12 +95,14 @@ module _ (layout : Layout) (r c : ℕ) (right : layout.code ≤ c) where
       by_part e (MultilineStart depth) bar_cell =
           let glyph : ℕ = (strokes_of layout.decor (is_primary e.entry.kind)).bar_top in
           let corner : ℕ = row + 1 + e.position in
-          All-cons Q (glyph_at corner (layout.gutter + 2 + depth) glyph (stroke_role e)) (bar_writes layout e depth (corner + 1) count) (left e depth corner glyph bar_cell.1) (bar e depth (corner + 1) count bar_cell.1)
+          All-cons Q (glyph_at corner (layout.gutter + 2 + depth) glyph (stroke_role e)) (bar_writes layout e depth (corner + 1) count)
+          (left e depth corner glyph bar_cell.1) (bar e depth (corner + 1) count bar_cell.1)
       by_part e (MultilineEnd depth) bar_cell =
           let glyph : ℕ = (strokes_of layout.decor (is_primary e.entry.kind)).bar_bottom in
           let corner : ℕ = row + 1 + e.position in
           let own : Write = glyph_at corner (layout.gutter + 2 + depth) glyph (stroke_role e) in
-          All-append Q (bar_writes layout e depth row corner) (own ∷ []) (bar e depth row corner bar_cell.1) (All-cons Q own [] (left e depth corner glyph bar_cell.1) (All-nil Q))
+          All-append Q (bar_writes layout e depth row corner) (own ∷ []) (bar e depth row corner bar_cell.1)
+          (All-cons Q own [] (left e depth corner glyph bar_cell.1) (All-nil Q))
       by_part e (MultilineLine depth) bar_cell = All-nil Q
 
   stems : (row : ℕ) (es : List PlacedEntry) → All Q (stems_of layout row es)
@@ -113,9 +117,11 @@ module _ (layout : Layout) (r c : ℕ) (right : layout.code ≤ c) where
           let primary : Bool = is_primary e.entry.kind in
           let foot : ℕ = foot_glyph layout.decor e in
           let line : ℕ = (strokes_of layout.decor primary).stem in
-          let is_foot : Among layout.decor foot = of_foot (Among layout.decor) e.entry.annotation_type layout.decor primary (has_label e) (code_among layout.decor primary).stems in
+          let is_foot : Among layout.decor foot = of_foot (Among layout.decor) e.entry.annotation_type layout.decor primary (has_label e)
+          (code_among layout.decor primary).stems in
           let among : (b : Bool) → Among layout.decor (cond b foot line) = λ b. either b foot line is_foot (code_among layout.decor primary).stems.stem in
-          All-stem_of Q layout row e (λ b low. of_glyph (row + b) (layout.code + e.entry.start.display) (cond (b == e.position) foot line) e (among (b == e.position)))
+          All-stem_of Q layout row e (λ b low. of_glyph (row + b) (layout.code + e.entry.start.display) (cond (b == e.position) foot line) e
+          (among (b == e.position)))
 
   labels : (row : ℕ) (es : List PlacedEntry) → BesideLabels layout row r c es → All Q (labels_of layout row es)
   labels row es beside =
@@ -133,7 +139,9 @@ module _ (layout : Layout) (r c : ℕ) (right : layout.code ≤ c) where
           let first : Write = glyph_at row from (first_glyph layout.decor e) (stroke_role e) in
           let rest : List Write = stretch_of row (from + 1) to glyph (stroke_role e) in
           elim (nat_lt from to) as (λ b. All Q (cond b (first ∷ rest) [])) [
-            | true ↦ All-cons Q first rest (of_glyph row from (first_glyph layout.decor e) e (of_first (Among layout.decor) layout.decor e (code_among layout.decor (is_primary e.entry.kind)))) (of_stretch row (from + 1) to glyph e (code_among layout.decor (is_primary e.entry.kind)).underline)
+            | true ↦ All-cons Q first rest (of_glyph row from (first_glyph layout.decor e) e
+                (of_first (Among layout.decor) layout.decor e (code_among layout.decor (is_primary e.entry.kind))))
+                (of_stretch row (from + 1) to glyph e (code_among layout.decor (is_primary e.entry.kind)).underline)
             | false ↦ All-nil Q
           ]
 
@@ -149,4 +157,5 @@ module _ (layout : Layout) (r c : ℕ) (right : layout.code ≤ c) where
       let bars : All Q (one ++ two) = All-append Q one two (connectors (row + 1) placed) (corners row count placed bar_cells) in
       let hung : All Q (one ++ two ++ three) = All-append Q (one ++ two) three bars (stems (row + 1) placed) in
       let named : All Q (one ++ two ++ three ++ four) = All-append Q (one ++ two ++ three) four hung (labels (row + 1) placed beside) in
-      painted-cell P (line_strokes layout row count placed order) rows r c before (All-append Q (one ++ two ++ three ++ four) five named (marks (row + 1) order))
+      painted-cell P (line_strokes layout row count placed order) rows r c before
+      (All-append Q (one ++ two ++ three ++ four) five named (marks (row + 1) order))

@@ -54,13 +54,15 @@ use Rattle.snippet_strokes.proofs.BegunLemmas.{kept_above, begun_row, written_fa
 use Rattle.snippet_strokes.proofs.BegunLemmas.{IsStrokeRow-cut, same_front, sole_same, wide_entries-order}
 use Rattle.snippet_strokes.proofs.CutLemmas.{CutsRows-cuts}
 
-module _ (layout : Layout) (room : ℕ) (closes : Bool) (es : List LineAnnotation) (placed : List PlacedEntry) (above_rows : List (List Cell)) (plain_row : List Cell) (begun joined barred stemmed labelled new : List (List Cell))
+module _ (layout : Layout) (room : ℕ) (closes : Bool) (es : List LineAnnotation) (placed : List PlacedEntry) (above_rows : List (List Cell))
+    (plain_row : List Cell) (begun joined barred stemmed labelled new : List (List Cell))
     (place : layout.gutter + 3 ≤ layout.code)
     (is : ArePlaced es placed)
     (places : All (λ (e : PlacedEntry). HasPlace e.entry) placed)
     (bar_cells : All (λ (e : PlacedEntry). HasBarCell layout e.entry) placed)
     (bare_bars : HasNoBars layout plain_row)
-    (begins : begun ≡ (above_rows ++ plain_row ∷ []) ++ replicate (row_count placed - 1) (separator_row layout.decor layout.gutter) ++ bare_row layout.decor layout.gutter closes ∷ [])
+    (begins : begun ≡ (above_rows ++ plain_row ∷ []) ++ replicate (row_count placed - 1) (separator_row layout.decor layout.gutter)
+    ++ bare_row layout.decor layout.gutter closes ∷ [])
     (lines_are : joined ≡ painted (connectors_of layout (length above_rows + 1) placed) begun)
     (bars_are : barred ≡ painted (corners_of layout (length above_rows) (length joined) placed) joined)
     (stems_are : stemmed ≡ painted (stems_of layout (length above_rows + 1) placed) barred)
@@ -93,7 +95,8 @@ module _ (layout : Layout) (room : ℕ) (closes : Bool) (es : List LineAnnotatio
 
   long_but_last : length but_last ≡ length old + (row_count placed - 1)
   long_but_last =
-      length-append old (replicate (row_count placed - 1) (separator_row layout.decor layout.gutter)) ∙ ap (λ n. length old + n) (length-replicate (row_count placed - 1) (separator_row layout.decor layout.gutter))
+      length-append old (replicate (row_count placed - 1) (separator_row layout.decor layout.gutter))
+      ∙ ap (λ n. length old + n) (length-replicate (row_count placed - 1) (separator_row layout.decor layout.gutter))
 
   long_begun : length begun ≡ row + row_count placed
   long_begun =
@@ -113,7 +116,8 @@ module _ (layout : Layout) (room : ℕ) (closes : Bool) (es : List LineAnnotatio
 
   bars : DrawsBarCells layout (length above_rows) joined barred
   bars =
-      subst (DrawsBarCells layout (length above_rows) joined) (sym bars_are) (DrawsBarCells-corners layout (length above_rows) placed joined bar_cells (enough joined lines.count))
+      subst (DrawsBarCells layout (length above_rows) joined) (sym bars_are)
+      (DrawsBarCells-corners layout (length above_rows) placed joined bar_cells (enough joined lines.count))
 
   stems : (from : ℕ) → All (λ (e : PlacedEntry). StandsFrom layout.code from e.entry) placed → DrawsFrom row from barred stemmed
   stems from stand =
@@ -147,12 +151,14 @@ module _ (layout : Layout) (room : ℕ) (closes : Bool) (es : List LineAnnotatio
   -- each label stands whole once all are written, and once the marks are painted
   stands : All (StandsWhole layout row new) placed
   stands =
-      labels_kept layout row es placed labelled new is places marked (subst (λ rows. All (StandsWhole layout row rows) placed) (sym labels_are) (labels_stand layout row es placed stemmed is places))
+      labels_kept layout row es placed labelled new is places marked
+      (subst (λ rows. All (StandsWhole layout row rows) placed) (sym labels_are) (labels_stand layout row es placed stemmed is places))
 
   -- all strokes, as one list
   new_is : new ≡ painted (line_strokes layout (length above_rows) (length begun) placed (painting_order placed)) begun
   new_is =
-      strokes_painted layout (length above_rows) row (length joined) (length begun) placed (painting_order placed) begun begun joined barred stemmed labelled new refl lines.count refl lines_are bars_are stems_are labels_are marks_are
+      strokes_painted layout (length above_rows) row (length joined) (length begun) placed
+      (painting_order placed) begun begun joined barred stemmed labelled new refl lines.count refl lines_are bars_are stems_are labels_are marks_are
 
   -- ---- the rows once all are drawn
 
@@ -177,19 +183,22 @@ module _ (layout : Layout) (room : ℕ) (closes : Bool) (es : List LineAnnotatio
   -- the entries in the order of painting
   ordered_all : (Q : LineAnnotation → Type 0) → All Q es → All (λ (e : PlacedEntry). Q e.entry) marked.order
   ordered_all Q all =
-      entries_all Q es marked.order (IsPermutation-trans es (map f placed) (map f marked.order) is.same (IsPermutation-map f placed marked.order marked.same)) all
+      entries_all Q es marked.order (IsPermutation-trans es (map f placed) (map f marked.order) is.same
+      (IsPermutation-map f placed marked.order marked.same)) all
 
   -- rows above those of the strokes are as they were begun, but for bars
   above_begun : (r : ℕ) → r < length old → row_at begun r ≡ row_at old r
   above_begun r high =
-      ap (λ rows. row_at rows r) begins ∙ get_or_append_left but_last (end ∷ []) [] r (omega (arith, high, long_but_last)) ∙ get_or_append_left old (replicate (row_count placed - 1) (separator_row layout.decor layout.gutter)) [] r high
+      ap (λ rows. row_at rows r) begins ∙ get_or_append_left but_last (end ∷ []) [] r (omega (arith, high, long_but_last))
+      ∙ get_or_append_left old (replicate (row_count placed - 1) (separator_row layout.decor layout.gutter)) [] r high
 
   above_new : (r : ℕ) → r < row → row_at new r ≡ row_at barred r
   above_new r high = marked.painted.others r (λ here. omega (arith, here, high)) ∙ right_of.above r high
 
   above : (r : ℕ) → r < length above_rows → row_at new r ≡ row_at above_rows r
   above r high =
-      above_new r (omega (arith, high)) ∙ bars.draws.above r high ∙ lines.above r (omega (arith, high)) ∙ above_begun r (omega (arith, high, last)) ∙ get_or_append_left above_rows (plain_row ∷ []) [] r high
+      above_new r (omega (arith, high)) ∙ bars.draws.above r high ∙ lines.above r (omega (arith, high)) ∙ above_begun r (omega (arith, high, last))
+      ∙ get_or_append_left above_rows (plain_row ∷ []) [] r high
 
   -- the source row with its bars
   abbrev source : List Cell
@@ -197,19 +206,22 @@ module _ (layout : Layout) (room : ℕ) (closes : Bool) (es : List LineAnnotatio
 
   joined_source : row_at joined (length above_rows) ≡ plain_row
   joined_source =
-      lines.above (length above_rows) (omega arith) ∙ above_begun (length above_rows) (omega (arith, last)) ∙ get_or_push above_rows plain_row [] (length above_rows) refl
+      lines.above (length above_rows) (omega arith) ∙ above_begun (length above_rows) (omega (arith, last))
+      ∙ get_or_push above_rows plain_row [] (length above_rows) refl
 
   barred_source : source ≡ row_at barred (length above_rows)
   barred_source = above_new (length above_rows) (omega arith)
 
   source_left : (c : ℕ) → c < layout.gutter + 3 → slice_index_or source c SPACE ≡ slice_index_or plain_row c SPACE
   source_left c before =
-      ap (λ cells. slice_index_or cells c SPACE) barred_source ∙ bars.draws.left (length above_rows) c before ∙ ap (λ cells. slice_index_or cells c SPACE) joined_source
+      ap (λ cells. slice_index_or cells c SPACE) barred_source ∙ bars.draws.left (length above_rows) c before
+      ∙ ap (λ cells. slice_index_or cells c SPACE) joined_source
 
   source_bar_cells : (c : ℕ) → layout.gutter + 3 ≤ c → c < layout.code → IsBarCell layout.decor (slice_index_or source c SPACE)
   source_bar_cells c right before =
       let R : Cell → Type 0 = IsBarCell layout.decor in
-      let begun_here : R (cell_at joined (length above_rows) c) = subst (λ cells. R (slice_index_or cells c SPACE)) (sym joined_source) (bare_bars.1 c right before) in
+      let begun_here : R (cell_at joined (length above_rows) c) = subst (λ cells.
+      R (slice_index_or cells c SPACE)) (sym joined_source) (bare_bars.1 c right before) in
       subst (λ cells. R (slice_index_or cells c SPACE)) (sym barred_source) (bars.bar_cells (length above_rows) c before begun_here)
 
   source_code : drop layout.code source ≡ drop layout.code plain_row
@@ -221,7 +233,8 @@ module _ (layout : Layout) (room : ℕ) (closes : Bool) (es : List LineAnnotatio
   source_free : IsFree plain_row → IsFree source
   source_free free =
       let P : Cell → Type 0 = IsFreeCell in
-      let cells : (c : ℕ) → P (cell_at joined (length above_rows) c) = λ c. subst (λ cells. P (slice_index_or cells c SPACE)) (sym joined_source) (free_cell plain_row free c) in
+      let cells : (c : ℕ) → P (cell_at joined (length above_rows) c) = λ c.
+      subst (λ cells. P (slice_index_or cells c SPACE)) (sym joined_source) (free_cell plain_row free c) in
       subst IsFree (sym barred_source) (All-from_get_or P (row_at barred (length above_rows)) SPACE (λ c _. bars.draws.free (length above_rows) cells c))
 
   -- it stays beside its bars where it is cut
@@ -255,13 +268,16 @@ module _ (layout : Layout) (room : ℕ) (closes : Bool) (es : List LineAnnotatio
 
   gutter_of : (k c : ℕ) → k < row_count placed → c < layout.gutter + 3 → cell_at new (row + k) c ≡ slice_index_or (bare k) c SPACE
   gutter_of k c within before =
-      left_barred k c (omega (arith, before, place)) ∙ bars.draws.left (row + k) c before ∙ lines.left (row + k) c before ∙ ap (λ cells. slice_index_or cells c SPACE) (begun_at k within)
+      left_barred k c (omega (arith, before, place)) ∙ bars.draws.left (row + k) c before ∙ lines.left (row + k) c before
+      ∙ ap (λ cells. slice_index_or cells c SPACE) (begun_at k within)
 
   bar_cells_of : (k c : ℕ) → k < row_count placed → layout.gutter + 3 ≤ c → c < layout.code → IsBarCell layout.decor (cell_at new (row + k) c)
   bar_cells_of k c within right before =
       let R : Cell → Type 0 = IsBarCell layout.decor in
-      let blank : cell_at begun (row + k) c ≡ SPACE = ap (λ cells. slice_index_or cells c SPACE) (begun_at k within) ∙ bare_row_right layout.decor layout.gutter (closes && k + 1 == row_count placed) c right in
-      subst R (sym (left_barred k c before)) (bars.bar_cells (row + k) c before (line_bar_cells (row + k) c before (subst R (sym blank) (bar_space layout.decor))))
+      let blank : cell_at begun (row + k) c ≡ SPACE = ap (λ cells. slice_index_or cells c SPACE) (begun_at k within)
+      ∙ bare_row_right layout.decor layout.gutter (closes && k + 1 == row_count placed) c right in
+      subst R (sym (left_barred k c before)) (bars.bar_cells (row + k) c before
+      (line_bar_cells (row + k) c before (subst R (sym blank) (bar_space layout.decor))))
 
   -- on a plain line no line leads to a bar
   single : plain ≡ true → All (λ (e : PlacedEntry). IsPlainEntry e.entry) placed
@@ -270,7 +286,8 @@ module _ (layout : Layout) (room : ℕ) (closes : Bool) (es : List LineAnnotatio
   barless : plain ≡ true → barred ≡ begun
   barless flat =
       let all : All (λ (e : PlacedEntry). is_single e.entry ≡ true) placed = λ k d within. (single flat k d within).0 in
-      bars_are ∙ ap (λ ws. painted ws joined) (corners_none layout (length above_rows) (length joined) placed all) ∙ lines_are ∙ ap (λ ws. painted ws begun) (connectors_none layout row placed all)
+      bars_are ∙ ap (λ ws. painted ws joined) (corners_none layout (length above_rows) (length joined) placed all) ∙ lines_are
+      ∙ ap (λ ws. painted ws begun) (connectors_none layout row placed all)
 
   spaceless_all : plain ≡ true → All (λ e. takes_space e ≡ false) placed
   spaceless_all flat k d within = spaceless (get_or placed k d) (single flat k d within)
@@ -280,17 +297,22 @@ module _ (layout : Layout) (room : ℕ) (closes : Bool) (es : List LineAnnotatio
       → cell_at new (row + k) c ≡ slice_index_or (bare k) c SPACE
   left_of flat zero c from within before all =
       let same : row + 0 ≡ row = omega arith in
-      let marks : cell_at new row c ≡ cell_at labelled row c = marked.painted.left c (λ k d inside. omega (arith, before, ordered_all (StandsFrom layout.code from) all k d inside)) in
-      ap (λ n. cell_at new n c) same ∙ marks ∙ (drawn_from from all).left row c before ∙ ap (λ rows. cell_at rows row c) (barless flat) ∙ sym (ap (λ n. cell_at begun n c) same) ∙ ap (λ cells. slice_index_or cells c SPACE) (begun_at 0 within)
+      let marks : cell_at new row c ≡ cell_at labelled row c = marked.painted.left c (λ k d inside.
+      omega (arith, before, ordered_all (StandsFrom layout.code from) all k d inside)) in
+      ap (λ n. cell_at new n c) same ∙ marks ∙ (drawn_from from all).left row c before ∙ ap (λ rows. cell_at rows row c) (barless flat)
+      ∙ sym (ap (λ n. cell_at begun n c) same) ∙ ap (λ cells. slice_index_or cells c SPACE) (begun_at 0 within)
   left_of flat (suc k) c from within before all =
-      ap (λ cells. slice_index_or cells c SPACE) (marked.painted.others (row + suc k) (λ here. omega (arith, here))) ∙ (drawn_from from all).left (row + suc k) c before ∙ ap (λ rows. cell_at rows (row + suc k) c) (barless flat) ∙ ap (λ cells. slice_index_or cells c SPACE) (begun_at (suc k) within)
+      ap (λ cells. slice_index_or cells c SPACE) (marked.painted.others (row + suc k) (λ here. omega (arith, here)))
+      ∙ (drawn_from from all).left (row + suc k) c before ∙ ap (λ rows. cell_at rows (row + suc k) c) (barless flat)
+      ∙ ap (λ cells. slice_index_or cells c SPACE) (begun_at (suc k) within)
 
   abbrev P : Cell → Type 0
   P cell = IsFreeCell cell
 
   free_begun : (k : ℕ) → k < row_count placed → (c : ℕ) → P (cell_at begun (row + k) c)
   free_begun k within c =
-      subst (λ cells. P (slice_index_or cells c SPACE)) (sym (begun_at k within)) (free_cell (bare k) (free_bare_row layout.decor layout.gutter (closes && k + 1 == row_count placed)) c)
+      subst (λ cells. P (slice_index_or cells c SPACE)) (sym (begun_at k within))
+      (free_cell (bare k) (free_bare_row layout.decor layout.gutter (closes && k + 1 == row_count placed)) c)
 
   free_labelled : (k : ℕ) → k < row_count placed → (c : ℕ) → P (cell_at labelled (row + k) c)
   free_labelled k within = right_of.free (row + k) (bars.draws.free (row + k) (lines.free (row + k) (free_begun k within)))
@@ -300,14 +322,16 @@ module _ (layout : Layout) (room : ℕ) (closes : Bool) (es : List LineAnnotatio
       let same : row ≡ row + 0 = omega arith in
       subst (λ n. P (cell_at new n c)) same (marked.painted.free c (subst (λ n. P (cell_at labelled n c)) (sym same) (free_labelled 0 within c)))
   free_at (suc k) within c =
-      subst (λ cells. P (slice_index_or cells c SPACE)) (sym (marked.painted.others (row + suc k) (λ here. omega (arith, here)))) (free_labelled (suc k) within c)
+      subst (λ cells. P (slice_index_or cells c SPACE)) (sym (marked.painted.others (row + suc k) (λ here. omega (arith, here))))
+      (free_labelled (suc k) within c)
 
   stroke_row : (k : ℕ) → k < row_count placed → IsStrokeRow layout plain es (closes && k + 1 == row_count placed) (row_at new (row + k))
   stroke_row k within =
       record {
         left = λ c before. gutter_of k c within before;
         bar_cells = λ c right before. bar_cells_of k c within right before;
-        before = λ flat c from right before all. left_of flat k c from within before all ∙ bare_row_right layout.decor layout.gutter (closes && k + 1 == row_count placed) c (omega (arith, right, place));
+        before = λ flat c from right before all. left_of flat k c from within before all
+            ∙ bare_row_right layout.decor layout.gutter (closes && k + 1 == row_count placed) c (omega (arith, right, place));
         free = All-from_get_or P (row_at new (row + k)) SPACE (λ c _. free_at k within c);
       }
 
@@ -340,8 +364,11 @@ module _ (layout : Layout) (room : ℕ) (closes : Bool) (es : List LineAnnotatio
       let long : length placed ≡ 1 = sym (length-map placed f) ∙ length_permutation es (map f placed) is.same ∙ ap length one in
       let found = sole placed long in
       let q : PlacedEntry = found.0 in
-      let entry : q.entry ≡ e = sole_same e q.entry (subst (λ xs. IsPermutation xs (q.entry ∷ [])) one (subst (λ ps. IsPermutation es (map f ps)) found.1 is.same)) in
-      let at : All (λ (x : PlacedEntry). x.position ≤ 0) placed = highest (subst (λ ps. All (λ q. q ≤ 0) (positions 0 ps)) (sym found.1) (subst (All (λ q. q ≤ 0)) (sym (positions_sole q)) (All-cons (λ q. q ≤ 0) 0 [] (omega arith) (All-nil (λ q. q ≤ 0))))) in
+      let entry : q.entry ≡ e = sole_same e q.entry (subst (λ xs. IsPermutation xs (q.entry ∷ [])) one
+      (subst (λ ps. IsPermutation es (map f ps)) found.1 is.same)) in
+      let at : All (λ (x : PlacedEntry). x.position ≤ 0) placed = highest
+      (subst (λ ps. All (λ q. q ≤ 0) (positions 0 ps)) (sym found.1)
+      (subst (All (λ q. q ≤ 0)) (sym (positions_sole q)) (All-cons (λ q. q ≤ 0) 0 [] (omega arith) (All-nil (λ q. q ≤ 0))))) in
       let first : q.position ≤ 0 = subst (All (λ (x : PlacedEntry). x.position ≤ 0)) found.1 at 0 q (omega arith) in
       (q, found.1, entry, omega (arith, first))
 
@@ -362,17 +389,27 @@ module _ (layout : Layout) (room : ℕ) (closes : Bool) (es : List LineAnnotatio
       let cells : List Cell = text_cells (label_role e.kind) (label_text e) in
       let text : chars (cow_str_bytes q.label) ≡ label_text e = subst (All HasItsLabel) found.1 is.labels 0 q (omega arith) ∙ ap label_text entry in
       let labels_here : has_label q ≡ true = has (chars (cow_str_bytes q.label)) (omega (arith, ap length text, shown)) in
-      let bare_stems : stemmed ≡ begun = no_stems (subst (All (λ x. has_stem x ≡ false)) (sym found.1) (All-cons (λ x. has_stem x ≡ false) q [] (stemless_beside q found.3) (All-nil (λ x. has_stem x ≡ false)))) ∙ barless flat in
-      let write : LineAnnotation → List (List Cell) = λ x. cells_written begun row (layout.code + x.end.display + 1) (text_cells (label_role x.kind) (label_text x)) in
+      let bare_stems : stemmed ≡ begun = no_stems (subst (All (λ x. has_stem x ≡ false)) (sym found.1)
+      (All-cons (λ x. has_stem x ≡ false) q [] (stemless_beside q found.3) (All-nil (λ x. has_stem x ≡ false)))) ∙ barless flat in
+      let write : LineAnnotation → List (List Cell) = λ x. cells_written begun row (layout.code + x.end.display + 1)
+      (text_cells (label_role x.kind) (label_text x)) in
       let past : 0 < q.entry.end.display = omega (arith, some, ap (λ (x : LineAnnotation). x.end.display) entry) in
-      let puts : labelled ≡ write e = lone_label q found.1 found.3 past labels_here ∙ ap (λ rows. cells_written rows row (layout.code + q.entry.end.display + 1) (text_cells (label_role q.entry.kind) (label_text q.entry))) bare_stems ∙ ap write entry in
-      let line : row_at labelled row ≡ written SPACE (bare 0) (at + 1) cells = ap (λ rows. row_at rows row) puts ∙ row_at-cells_written_same begun row (at + 1) cells ∙ ap (λ cs. written SPACE cs (at + 1) cells) first_begun in
+      let puts : labelled ≡ write e = lone_label q found.1 found.3 past labels_here
+      ∙ ap (λ rows. cells_written rows row (layout.code + q.entry.end.display + 1) (text_cells (label_role q.entry.kind) (label_text q.entry))) bare_stems
+      ∙ ap write entry in
+      let line : row_at labelled row ≡ written SPACE (bare 0) (at + 1) cells = ap (λ rows. row_at rows row) puts
+      ∙ row_at-cells_written_same begun row (at + 1) cells ∙ ap (λ cs. written SPACE cs (at + 1) cells) first_begun in
       let long : length (row_at labelled row) ≡ max (length (bare 0)) (at + 1 + length cells) = ap length line ∙ length-written SPACE (bare 0) (at + 1) cells in
-      let ends : mark_end q ≡ e.end.display = mark_end_plain q (subst (All (λ (x : PlacedEntry). IsPlainEntry x.entry)) found.1 (single flat) 0 q (omega arith)) ∙ ap (λ (x : LineAnnotation). x.end.display) entry in
-      let width : length (row_at new row) ≡ max (length (row_at labelled row)) at = marked.painted.width q (lone_order q found.1) (omega (arith, ends, some, ap (λ (x : LineAnnotation). x.start.display) entry)) ∙ ap (λ n. max (length (row_at labelled row)) (layout.code + n)) ends in
+      let ends : mark_end q ≡ e.end.display = mark_end_plain q (subst (All (λ (x : PlacedEntry). IsPlainEntry x.entry)) found.1 (single flat) 0 q
+      (omega arith)) ∙ ap (λ (x : LineAnnotation). x.end.display) entry in
+      let width : length (row_at new row) ≡ max (length (row_at labelled row)) at = marked.painted.width q (lone_order q found.1)
+      (omega (arith, ends, some, ap (λ (x : LineAnnotation). x.start.display) entry))
+      ∙ ap (λ n. max (length (row_at labelled row)) (layout.code + n)) ends in
       let same_long : length (row_at new row) ≡ length (row_at labelled row) = omega (arith, width, long) in
-      let same : drop at (row_at new row) ≡ drop at (row_at labelled row) = same_after (row_at new row) (row_at labelled row) at same_long (λ c right. after q e found.1 ends c right) in
-      same ∙ ap (drop at) line ∙ written_far (bare 0) cells at (omega (arith, bare_row_short layout.decor layout.gutter (closes && 0 + 1 == row_count placed), place))
+      let same : drop at (row_at new row) ≡ drop at (row_at labelled row) = same_after (row_at new row) (row_at labelled row) at same_long (λ c right.
+      after q e found.1 ends c right) in
+      same ∙ ap (drop at) line ∙ written_far (bare 0) cells at (omega
+      (arith, bare_row_short layout.decor layout.gutter (closes && 0 + 1 == row_count placed), place))
     where
       has : (cs : List ℕ) → 0 < length cs → not (length cs == 0) ≡ true
       has cs some = grind (arith, nat_tests, some)
@@ -384,7 +421,8 @@ module _ (layout : Layout) (room : ℕ) (closes : Bool) (es : List LineAnnotatio
           let N : PlacedEntry → Type 0 = λ x. IsPaintedAt x p → ⊥ in
           let here : layout.code + p ≡ c = omega (arith, right) in
           let none : N q = λ covers. omega (arith, covers.1, right, ends) in
-          subst (λ n. cell_at new row n ≡ cell_at labelled row n) here (marked.painted.unmarked p (subst (All N) (sym (lone_order q one)) (All-cons N q [] none (All-nil N))))
+          subst (λ n. cell_at new row n ≡ cell_at labelled row n) here (marked.painted.unmarked p
+          (subst (All N) (sym (lone_order q one)) (All-cons N q [] none (All-nil N))))
 
   -- below a column that no entry of a plain line covers no mark is painted
   unpainted : plain ≡ true → (p : ℕ) → All (λ e. EntryCovers e p → ⊥) es → All (λ e. IsPaintedAt e p → ⊥) marked.order
@@ -397,8 +435,11 @@ module _ (layout : Layout) (room : ℕ) (closes : Bool) (es : List LineAnnotatio
   unmarked : plain ≡ true → (p : ℕ) → All (λ e. EntryCovers e p → ⊥) es → has_mark_role (cell_at new row (layout.code + p)) ≡ false
   unmarked flat p uncovered =
       let N : LineAnnotation → Type 0 = λ e. layout.code + p ≢ layout.code + e.start.display in
-      let beside : All N es = λ k d within here. uncovered k d within (omega (arith, here), omega (arith, here, (plain_entries room layout.decor es flat k d within).1)) in
-      let bare_space : has_mark_role (cell_at barred row (layout.code + p)) ≡ false = ap (λ rows. has_mark_role (cell_at rows row (layout.code + p))) (barless flat) ∙ ap (λ cells. has_mark_role (slice_index_or cells (layout.code + p) SPACE)) first_begun ∙ ap has_mark_role (space_at p) in
+      let beside : All N es = λ k d within here. uncovered k d within
+      (omega (arith, here), omega (arith, here, (plain_entries room layout.decor es flat k d within).1)) in
+      let bare_space : has_mark_role (cell_at barred row (layout.code + p))
+      ≡ false = ap (λ rows. has_mark_role (cell_at rows row (layout.code + p))) (barless flat)
+      ∙ ap (λ cells. has_mark_role (slice_index_or cells (layout.code + p) SPACE)) first_begun ∙ ap has_mark_role (space_at p) in
       let stems_done = stem_starts row (layout.code + p) (entries_all N es placed is.same beside) bare_space in
       let labels_done = label_starts row (layout.code + p) (All-nil (λ (e : PlacedEntry). layout.code + p ≢ layout.code + e.entry.start.display)) stems_done in
       ap has_mark_role (marked.painted.unmarked p (unpainted flat p uncovered)) ∙ labels_done
@@ -409,7 +450,8 @@ module _ (layout : Layout) (room : ℕ) (closes : Bool) (es : List LineAnnotatio
         marks = mark_shown layout es placed row labelled new (plain_entries room layout.decor es flat) is.same marked;
         unmarked = unmarked flat;
         spaces = λ none p uncovered.
-            marked.painted.unmarked p (unpainted flat p uncovered) ∙ ap (λ rows. cell_at rows row (layout.code + p)) (unhung flat none) ∙ ap (λ cells. slice_index_or cells (layout.code + p) SPACE) first_begun ∙ space_at p;
+            marked.painted.unmarked p (unpainted flat p uncovered) ∙ ap (λ rows. cell_at rows row (layout.code + p)) (unhung flat none)
+            ∙ ap (λ cells. slice_index_or cells (layout.code + p) SPACE) first_begun ∙ space_at p;
         lone = lone flat;
       }
 
@@ -420,7 +462,8 @@ module _ (layout : Layout) (room : ℕ) (closes : Bool) (es : List LineAnnotatio
   one_row_lone one =
       let e = sole es one in
       let found = lone_placed e.0 e.1 in
-      one_row (subst (λ ps. All (λ q. q ≤ 0) (positions 0 ps)) (sym found.1) (subst (All (λ q. q ≤ 0)) (sym (positions_sole found.0)) (All-cons (λ q. q ≤ 0) 0 [] (omega arith) (All-nil (λ q. q ≤ 0)))))
+      one_row (subst (λ ps. All (λ q. q ≤ 0) (positions 0 ps)) (sym found.1)
+      (subst (All (λ q. q ≤ 0)) (sym (positions_sole found.0)) (All-cons (λ q. q ≤ 0) 0 [] (omega arith) (All-nil (λ q. q ≤ 0)))))
 
   one_row_bare : plain ≡ true → All (λ e. label_text e ≡ []) es → row_count placed ≡ 1
   one_row_bare flat none =
@@ -434,7 +477,8 @@ module _ (layout : Layout) (room : ℕ) (closes : Bool) (es : List LineAnnotatio
   pub rows_split : new ≡ above_rows ++ source ∷ row_at new row ∷ lower
   rows_split =
       let n : ℕ = length above_rows in
-      kept_above above_rows new (omega (arith, long_new)) above ∙ ap (λ rows. above_rows ++ rows) (drop_more new n [] (omega (arith, long_new))) ∙ ap (λ rows. above_rows ++ source ∷ rows) (drop_more new row [] (omega (arith, long_new, row_count_some placed)))
+      kept_above above_rows new (omega (arith, long_new)) above ∙ ap (λ rows. above_rows ++ rows) (drop_more new n [] (omega (arith, long_new)))
+      ∙ ap (λ rows. above_rows ++ source ∷ rows) (drop_more new row [] (omega (arith, long_new, row_count_some placed)))
 
   long_rows : (marks_now : List Cell) → length (marks_now ∷ lower) ≡ row_count placed
   long_rows marks_now = omega (arith, length-drop (row + 1) new, long_new, row_count_some placed)
@@ -451,14 +495,17 @@ module _ (layout : Layout) (room : ℕ) (closes : Bool) (es : List LineAnnotatio
   begun_space : (k c : ℕ) → layout.code ≤ c → cell_at begun (row + k) c ≡ SPACE
   begun_space k c right =
       elim (cases_lt k (row_count placed)) [
-        | inl within ↦ ap (λ cells. slice_index_or cells c SPACE) (begun_at k within) ∙ bare_row_right layout.decor layout.gutter (closes && k + 1 == row_count placed) c (omega (arith, right, place))
+        | inl within ↦ ap (λ cells. slice_index_or cells c SPACE) (begun_at k within)
+            ∙ bare_row_right layout.decor layout.gutter (closes && k + 1 == row_count placed) c (omega (arith, right, place))
         | inr past ↦ ap (λ cells. slice_index_or cells c SPACE) (get_or_past begun (row + k) [] (omega (arith, past, long_begun)))
       ]
 
   -- so in each cell that no label has stands a space or a stroke
   beside_labels : HasStrokesBeside layout row placed new
   beside_labels k c right beside =
-      subst (λ rows. IsStrokeCell layout.decor (cell_at rows (row + k) c)) (sym new_is) (cell_of_strokes layout (row + k) c right (length above_rows) (length begun) placed (painting_order placed) begun bar_cells (inl (begun_space k c right)) beside)
+      subst (λ rows. IsStrokeCell layout.decor (cell_at rows (row + k) c)) (sym new_is)
+      (cell_of_strokes layout (row + k) c right (length above_rows) (length begun) placed (painting_order placed) begun bar_cells
+      (inl (begun_space k c right)) beside)
 
   -- the rows of a line's strokes are added, once those of the source and of the marks are cut where entries are wide
   pub strokes_added : (final : List (List Cell)) → 0 < length es
@@ -481,15 +528,20 @@ module _ (layout : Layout) (room : ℕ) (closes : Bool) (es : List LineAnnotatio
           lone = λ flat one. long ∙ one_row_lone one;
           bare = λ flat none. omega (arith, long, one_row_bare flat none);
           marks = λ flat. subst (ShowsMarks layout.decor layout.code es) (sym (cuts.marks_cut.uncut (narrow flat))) (shows_marks flat);
-          labels = λ uncut _. LabelsStand-placed layout row es placed new rows is places stands beside_labels (subst hung (sym new_is) (all_hung layout (length above_rows) (length begun) placed (painting_order placed) begun)) (rows_new cuts.marks_now (cuts.marks_cut.uncut uncut));
-          are = λ k inside. subst (λ n. IsStrokeRow layout plain es (closes && k + 1 == n) (row_at rows k)) (sym long) (stroke_rows wide narrow cuts.marks_now cuts.marks_cut k (omega (arith, inside, long)));
+          labels = λ uncut _. LabelsStand-placed layout row es placed new rows is places stands beside_labels
+              (subst hung (sym new_is) (all_hung layout (length above_rows) (length begun) placed (painting_order placed) begun))
+              (rows_new cuts.marks_now (cuts.marks_cut.uncut uncut));
+          are = λ k inside. subst (λ n. IsStrokeRow layout plain es (closes && k + 1 == n) (row_at rows k)) (sym long)
+              (stroke_rows wide narrow cuts.marks_now cuts.marks_cut k (omega (arith, inside, long)));
         };
       }
     where
       stroke_rows : (wide : ℕ) → (plain ≡ true → wide ≡ 0) → (marks_now : List Cell) → IsCut layout wide (row_at new row) marks_now → (k : ℕ)
           → k < row_count placed → IsStrokeRow layout plain es (closes && k + 1 == row_count placed) (row_at (marks_now ∷ lower) k)
       stroke_rows wide narrow marks_now cut zero within =
-          IsStrokeRow-cut layout wide plain es (closes && 0 + 1 == row_count placed) (row_at new row) marks_now place narrow (subst (IsStrokeRow layout plain es (closes && 0 + 1 == row_count placed)) (ap (row_at new) (let same : row + 0 ≡ row = omega arith in same)) (stroke_row 0 within)) cut
+          IsStrokeRow-cut layout wide plain es (closes && 0 + 1 == row_count placed) (row_at new row) marks_now place narrow
+          (subst (IsStrokeRow layout plain es (closes && 0 + 1 == row_count placed)) (ap (row_at new) (let same : row + 0 ≡ row = omega arith in same))
+          (stroke_row 0 within)) cut
       stroke_rows wide narrow marks_now cut (suc k) within =
           subst (IsStrokeRow layout plain es (closes && suc k + 1 == row_count placed)) (sym (lower_at k)) (stroke_row (suc k) within)
 
@@ -501,7 +553,9 @@ module _ (layout : Layout) (room : ℕ) (closes : Bool) (es : List LineAnnotatio
       let order = painting_order placed in
       let n : ℕ = length above_rows in
       let marks_row : List Cell = row_at new row in
-      let parts : final ≡ cut_rows layout.decor n (cuts_of layout room order flags) (above_rows ++ source ∷ marks_row ∷ lower) = final_is ∙ ap (cut_rows layout.decor n (cuts_of layout room order flags)) rows_split in
+      let parts : final ≡ cut_rows layout.decor n (cuts_of layout room order flags) (above_rows ++ source ∷ marks_row ∷ lower) = final_is
+      ∙ ap (cut_rows layout.decor n (cuts_of layout room order flags)) rows_split in
       let Cut : ℕ → List (List Cell) → Type 0 = λ wide drawn. CutsRows layout wide above_rows source marks_row lower drawn in
       let given = wide_entries room layout.decor (map f order) in
-      strokes_added final some (subst (λ wide. Cut wide final) (wide_entries-order room layout.decor es placed is) (subst (Cut given) (sym parts) (CutsRows-cuts layout room n order flags above_rows source marks_row lower refl)))
+      strokes_added final some (subst (λ wide. Cut wide final) (wide_entries-order room layout.decor es placed is)
+      (subst (Cut given) (sym parts) (CutsRows-cuts layout room n order flags above_rows source marks_row lower refl)))

@@ -42,7 +42,8 @@ pub stem_drawn : (layout : Layout) (row : ℕ) (e : PlacedEntry) (n foot stem gl
     → new ≡ painted (map (stem_write layout row e) (range_with_len 0 (n + 1))) old
 stem_drawn layout row e n foot stem glyph role old mid new is_glyph is_foot is_stem is_role writes so_far =
     let cell = layout.code + e.entry.start.display in
-    let same : glyph ≡ cond (n == e.position) (foot_glyph layout.decor e) (strokes_of layout.decor (is_primary e.entry.kind)).stem = is_glyph ∙ ap (λ f. cond (n == e.position) f stem) is_foot ∙ ap (λ s. cond (n == e.position) (foot_glyph layout.decor e) s) is_stem in
+    let same : glyph ≡ cond (n == e.position) (foot_glyph layout.decor e) (strokes_of layout.decor (is_primary e.entry.kind)).stem = is_glyph
+    ∙ ap (λ f. cond (n == e.position) f stem) is_foot ∙ ap (λ s. cond (n == e.position) (foot_glyph layout.decor e) s) is_stem in
     writes ∙ ap (λ g. cells_written mid (row + n) cell (text_cells role (g ∷ []))) same
     ∙ ap (λ r. cells_written mid (row + n) cell
     (text_cells r (cond (n == e.position) (foot_glyph layout.decor e) (strokes_of layout.decor (is_primary e.entry.kind)).stem
@@ -59,7 +60,8 @@ column_painted start row cell glyph role old mid new below so_far writes =
     let n : ℕ = row - start in
     let one_more : row + 1 - start ≡ n + 1 = omega (arith, below) in
     let here : start + n ≡ row = omega (arith, below) in
-    writes ∙ ap (λ rows. written_by rows (f row)) so_far ∙ sym (painted-append (map f (range_with_len start n)) (f row ∷ []) old) ∙ sym (ap (λ ws. painted ws old) (map-range_with_len_more f start n row here)) ∙ sym (ap (λ m. painted (map f (range_with_len start m)) old) one_more)
+    writes ∙ ap (λ rows. written_by rows (f row)) so_far ∙ sym (painted-append (map f (range_with_len start n)) (f row ∷ []) old)
+    ∙ sym (ap (λ ws. painted ws old) (map-range_with_len_more f start n row here)) ∙ sym (ap (λ m. painted (map f (range_with_len start m)) old) one_more)
 
 -- a column with no rows is no write
 pub column_of-none : (start cell glyph : ℕ) (role : ElementStyle) → column_of start start cell glyph role ≡ []
@@ -79,8 +81,14 @@ strokes_painted layout row below count all placed order rows begun joined barred
     let four : List Write = labels_of layout (row + 1) placed in
     let five : List Write = marks_of layout (row + 1) order in
     let after_one : joined ≡ painted one rows = lines ∙ ap (λ n. painted (connectors_of layout n placed) begun) is_below ∙ ap (painted one) is_begun in
-    let after_two : barred ≡ painted two (painted one rows) = bars ∙ ap (λ n. painted (corners_of layout row n placed) joined) is_all ∙ ap (painted two) after_one in
-    let after_three : stemmed ≡ painted three (painted two (painted one rows)) = stems ∙ ap (λ n. painted (stems_of layout n placed) barred) is_below ∙ ap (painted three) after_two in
-    let after_four : labelled ≡ painted four (painted three (painted two (painted one rows))) = labels ∙ ap (λ n. painted (labels_of layout n placed) stemmed) is_below ∙ ap (painted four) after_three in
-    let after_five : new ≡ painted five (painted four (painted three (painted two (painted one rows)))) = marks ∙ ap (λ n. painted (marks_of layout n order) labelled) is_below ∙ ap (painted five) after_four in
-    after_five ∙ sym (painted-append (one ++ two ++ three ++ four) five rows ∙ ap (painted five) (painted-append (one ++ two ++ three) four rows ∙ ap (painted four) (painted-append (one ++ two) three rows ∙ ap (painted three) (painted-append one two rows))))
+    let after_two : barred ≡ painted two (painted one rows) = bars ∙ ap (λ n. painted (corners_of layout row n placed) joined) is_all
+    ∙ ap (painted two) after_one in
+    let after_three : stemmed ≡ painted three (painted two (painted one rows)) = stems ∙ ap (λ n. painted (stems_of layout n placed) barred) is_below
+    ∙ ap (painted three) after_two in
+    let after_four : labelled ≡ painted four (painted three (painted two (painted one rows))) = labels
+    ∙ ap (λ n. painted (labels_of layout n placed) stemmed) is_below ∙ ap (painted four) after_three in
+    let after_five : new ≡ painted five (painted four (painted three (painted two (painted one rows)))) = marks
+    ∙ ap (λ n. painted (marks_of layout n order) labelled) is_below ∙ ap (painted five) after_four in
+    after_five ∙ sym (painted-append (one ++ two ++ three ++ four) five rows
+    ∙ ap (painted five) (painted-append (one ++ two ++ three) four rows
+    ∙ ap (painted four) (painted-append (one ++ two) three rows ∙ ap (painted three) (painted-append one two rows))))

@@ -23,15 +23,19 @@ right-whole room right text fits =
 
 inner-whole : (room right : ℕ) (text : List ℕ) → width_of text ≤ room → inner_part room 0 right text ≡ text
 inner-whole room right text fits =
-    rw (right-whole room right text fits, left_none text, reaching-none text, fitting_all (width_of text - 0) text (omega arith)) (take_all (length text) text (omega arith))
+    rw (right-whole room right text fits, left_none text, reaching-none text, fitting_all (width_of text - 0) text (omega arith))
+    (take_all (length text) text (omega arith))
 
 not_less : (n : ℕ) → ltb n n ≡ false
 not_less n = grind arith
 
 end_none : (room right : ℕ) (placeholder text : List ℕ) → width_of text ≤ room → covered_end room 0 right placeholder text ≡ None
 end_none room right placeholder text fits =
-    let at = unwrap_or (covered_columns 0 placeholder (inner_part room 0 right text)) 0 + length (uncovered_part 0 placeholder (inner_part room 0 right text)) in
-    ap (λ n. cond (ltb n (width_of text)) (Some (at - reaching_last (width_of placeholder) (inner_part room 0 right text))) None) (right-whole room right text fits) ∙ ap (λ b. cond b (Some (at - reaching_last (width_of placeholder) (inner_part room 0 right text))) None) (not_less (width_of text))
+    let at = unwrap_or (covered_columns 0 placeholder (inner_part room 0 right text)) 0 + length
+    (uncovered_part 0 placeholder (inner_part room 0 right text)) in
+    ap (λ n. cond (ltb n (width_of text)) (Some (at - reaching_last (width_of placeholder) (inner_part room 0 right text))) None)
+    (right-whole room right text fits) ∙ ap (λ b. cond b (Some (at - reaching_last (width_of placeholder) (inner_part room 0 right text))) None)
+    (not_less (width_of text))
 
 -- the cells between any bounds
 cells_between : DecorStyle → ℕ → ℕ → ℕ → List ℕ → List Cell
@@ -43,11 +47,13 @@ cells_between decor room left right text =
 whole_between : (decor : DecorStyle) (room right : ℕ) (text : List ℕ) → width_of text ≤ room → cells_between decor room 0 right text ≡ text_cells Quotation text
 unfolding cells_between
 whole_between decor room right text fits =
-    ap (λ e. shown_cells decor None (inner_part room 0 right text) e) (end_none room right (placeholder_of decor) text fits) ∙ ap (text_cells Quotation) (inner-whole room right text fits)
+    ap (λ e. shown_cells decor None (inner_part room 0 right text) e) (end_none room right (placeholder_of decor) text fits)
+    ∙ ap (text_cells Quotation) (inner-whole room right text fits)
 
 -- a text that fits the room, of which nothing is cut on the left, is shown whole
 pub window_cells-whole : (decor : DecorStyle) (margin : Margin) (text : List ℕ) → (bounds_of margin).left ≡ 0 → width_of text ≤ margin.term_width
     → window_cells decor margin text ≡ text_cells Quotation text
 unfolding cells_between
 window_cells-whole decor margin text uncut fits =
-    ap (λ left. cells_between decor margin.term_width left (bounds_of margin).right text) uncut ∙ whole_between decor margin.term_width (bounds_of margin).right text fits
+    ap (λ left. cells_between decor margin.term_width left (bounds_of margin).right text) uncut
+    ∙ whole_between decor margin.term_width (bounds_of margin).right text fits

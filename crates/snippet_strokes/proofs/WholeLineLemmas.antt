@@ -72,7 +72,9 @@ all_unlabelled text dropped (e ∷ es) whole ends =
     let rest : list_all (is_beside text) es ≡ true = second_true (is_beside text e) (list_all (is_beside text) es) whole in
     let first : LineAnnotation = shifted dropped e in
     let others : List LineAnnotation = map (shifted dropped) es in
-    All-cons (λ x. label_text x ≡ []) first others (All-head IsLabelledAtEnd first others ends (bar_or_start e.annotation_type (list_all is_whitespace (take e.start.display text)) beside)) (all_unlabelled text dropped es rest (All-tail IsLabelledAtEnd first others ends))
+    All-cons (λ x. label_text x ≡ []) first others (All-head IsLabelledAtEnd first others ends
+    (bar_or_start e.annotation_type (list_all is_whitespace (take e.start.display text)) beside))
+    (all_unlabelled text dropped es rest (All-tail IsLabelledAtEnd first others ends))
 
 beside_unlabelled : (text : List ℕ) (dropped : ℕ) (es : List LineAnnotation) → is_whole_line text es ≡ true → All IsLabelledAtEnd (map (shifted dropped) es)
     → All (λ e. label_text e ≡ []) (map (shifted dropped) es)

@@ -22,11 +22,13 @@ row_text-written : (cells : List Cell) (at : ℕ) (new : List Cell) → row_text
 unfolding written
 row_text-written cells at new =
     let f : Cell → ℕ = λ c. c.ch in
-    let pad : map f (replicate (at - length cells) SPACE) ≡ replicate (at - length (map f cells)) 32 = map-replicate f (at - length cells) SPACE ∙ ap (λ n. replicate (at - n) 32) (sym (length-map cells f)) in
+    let pad : map f (replicate (at - length cells) SPACE) ≡ replicate (at - length (map f cells)) 32 = map-replicate f (at - length cells) SPACE
+    ∙ ap (λ n. replicate (at - n) 32) (sym (length-map cells f)) in
     let front : map f (take at (cells ++ replicate (at - length cells) SPACE)) ≡ take at (map f cells ++ replicate (at - length (map f cells)) 32) =
     sym (take-map f at (cells ++ replicate (at - length cells) SPACE))
     ∙ ap (take at) (map-append f cells (replicate (at - length cells) SPACE) ∙ ap (λ p. map f cells ++ p) pad) in
-    let back : map f (drop (at + length new) cells) ≡ drop (at + length (map f new)) (map f cells) = sym (drop-map f (at + length new) cells) ∙ ap (λ n. drop (at + n) (map f cells)) (sym (length-map new f)) in
+    let back : map f (drop (at + length new) cells) ≡ drop (at + length (map f new)) (map f cells) = sym (drop-map f (at + length new) cells)
+    ∙ ap (λ n. drop (at + n) (map f cells)) (sym (length-map new f)) in
     map-append f (take at (cells ++ replicate (at - length cells) SPACE) ++ new) (drop (at + length new) cells)
     ∙ ap (λ xs. xs ++ map f (drop (at + length new) cells))
     (map-append f (take at (cells ++ replicate (at - length cells) SPACE)) new ∙ ap (λ xs. xs ++ map f new) front)
@@ -54,7 +56,9 @@ row_text-ended : (decor : DecorStyle) (end : Option ℕ) (cells : List Cell) (te
     → row_text (ended_cells decor end cells) ≡ ended_with (placeholder_of decor) end text
 row_text-ended decor None cells text is = is
 row_text-ended decor (Some at) cells text is =
-    row_text-written cells at (text_cells LineNumber (placeholder_of decor)) ∙ ap (λ t. written 32 t at (row_text (text_cells LineNumber (placeholder_of decor)))) is ∙ ap (written 32 text at) (row_text-text_cells LineNumber (placeholder_of decor))
+    row_text-written cells at (text_cells LineNumber (placeholder_of decor))
+    ∙ ap (λ t. written 32 t at (row_text (text_cells LineNumber (placeholder_of decor)))) is
+    ∙ ap (written 32 text at) (row_text-text_cells LineNumber (placeholder_of decor))
 
 -- the characters of the cells of a window are the window
 pub row_text-window_cells : (decor : DecorStyle) (margin : Margin) (text : List ℕ)
@@ -64,4 +68,5 @@ row_text-window_cells decor margin text =
     let right = (bounds_of margin).right in
     let placeholder = placeholder_of decor in
     let inner = inner_part margin.term_width left right text in
-    row_text-ended decor (covered_end margin.term_width left right placeholder text) _ _ (row_text-begun decor (covered_columns left placeholder inner) (uncovered_part left placeholder inner))
+    row_text-ended decor (covered_end margin.term_width left right placeholder text) _ _
+    (row_text-begun decor (covered_columns left placeholder inner) (uncovered_part left placeholder inner))

@@ -21,7 +21,8 @@ cell-written w rows r c reaches =
     let k : ℕ = c - w.cell in
     let within : k < length w.text = omega (arith, reaches.from, reaches.to) in
     let here : w.cell + k ≡ c = omega (arith, reaches.from) in
-    ap (λ n. cell_at (written_by rows w) n c) (sym reaches.row) ∙ ap (cell_at (written_by rows w) w.row) (sym here) ∙ writes.inside k (omega (arith, within, length-text_cells w.role w.text)) ∙ slice_index_or-text_cells w.role w.text k SPACE within
+    ap (λ n. cell_at (written_by rows w) n c) (sym reaches.row) ∙ ap (cell_at (written_by rows w) w.row) (sym here)
+    ∙ writes.inside k (omega (arith, within, length-text_cells w.role w.text)) ∙ slice_index_or-text_cells w.role w.text k SPACE within
 
 pub cell-unwritten : (w : Write) (rows : List (List Cell)) (r c : ℕ) → (Reaches r c w → ⊥) → cell_at (written_by rows w) r c ≡ cell_at rows r c
 cell-unwritten w rows r c beside =
@@ -71,26 +72,30 @@ pub painted-untouched : (ws : List Write) (rows : List (List Cell)) (r c : ℕ) 
     → cell_at (painted ws rows) r c ≡ cell_at rows r c
 painted-untouched [] rows r c beside = refl
 painted-untouched (w ∷ ws) rows r c beside =
-    painted-untouched ws (written_by rows w) r c (All-tail (λ v. Reaches r c v → ⊥) w ws beside) ∙ cell-unwritten w rows r c (All-head (λ v. Reaches r c v → ⊥) w ws beside)
+    painted-untouched ws (written_by rows w) r c (All-tail (λ v. Reaches r c v → ⊥) w ws beside)
+    ∙ cell-unwritten w rows r c (All-head (λ v. Reaches r c v → ⊥) w ws beside)
 
 -- the last write of a cell stands
 pub painted-last : (ws vs : List Write) (w : Write) (rows : List (List Cell)) (r c : ℕ) → Reaches r c w → All (λ v. Reaches r c v → ⊥) vs
     → cell_at (painted (ws ++ w ∷ vs) rows) r c ≡ cell_of_write w c
 painted-last ws vs w rows r c reaches beside =
-    ap (λ new. cell_at new r c) (painted-append ws (w ∷ vs) rows) ∙ painted-untouched vs (written_by (painted ws rows) w) r c beside ∙ cell-written w (painted ws rows) r c reaches
+    ap (λ new. cell_at new r c) (painted-append ws (w ∷ vs) rows) ∙ painted-untouched vs (written_by (painted ws rows) w) r c beside
+    ∙ cell-written w (painted ws rows) r c reaches
 
 -- a row in which nothing is written stays
 pub painted-other : (ws : List Write) (rows : List (List Cell)) (r : ℕ) → All (λ w. r ≢ w.row) ws → row_at (painted ws rows) r ≡ row_at rows r
 painted-other [] rows r beside = refl
 painted-other (w ∷ ws) rows r beside =
-    painted-other ws (written_by rows w) r (All-tail (λ v. r ≢ v.row) w ws beside) ∙ (WritesCells-cells_written rows w.row w.cell (text_cells w.role w.text)).others r (All-head (λ v. r ≢ v.row) w ws beside)
+    painted-other ws (written_by rows w) r (All-tail (λ v. r ≢ v.row) w ws beside)
+    ∙ (WritesCells-cells_written rows w.row w.cell (text_cells w.role w.text)).others r (All-head (λ v. r ≢ v.row) w ws beside)
 
 -- rows that are there are no more after it
 pub painted-count : (ws : List Write) (rows : List (List Cell)) (n : ℕ) → n ≡ length rows → All (λ w. w.row < n) ws → length (painted ws rows) ≡ n
 painted-count [] rows n is there = sym is
 painted-count (w ∷ ws) rows n is there =
     let here : w.row < n = All-head (λ v. v.row < n) w ws there in
-    painted-count ws (written_by rows w) n (omega (arith, is, here, (WritesCells-cells_written rows w.row w.cell (text_cells w.role w.text)).count)) (All-tail (λ v. v.row < n) w ws there)
+    painted-count ws (written_by rows w) n (omega (arith, is, here, (WritesCells-cells_written rows w.row w.cell (text_cells w.role w.text)).count))
+    (All-tail (λ v. v.row < n) w ws there)
 
 -- what a rule gives for each of some things
 pub All-flat_map : {X : Type 0} (P : Write → Type 0) (f : X → List Write) (xs : List X) → All (λ x. All P (f x)) xs → All P (flat_map f xs)
@@ -112,7 +117,10 @@ DrawsFrom-painted row from ws rows within =
     let W : Write → Type 0 = IsWithin row n from in
     record {
       above = λ r high. painted-other ws rows r (All-weaker W (λ w. r ≢ w.row) (λ w is same. omega (arith, is.below, high, same)) ws within);
-      left = λ r c before. painted-untouched ws rows r c (All-weaker W (λ w. Reaches r c w → ⊥) (λ w is there. omega (arith, is.right, there.from, before)) ws within);
-      free = λ r free c. painted-cell IsFreeCell ws rows r c (free c) (All-weaker W (λ w. Reaches r c w → IsFreeCell (cell_of_write w c)) (λ w is there. (is.free (c - w.cell) 0 (omega (arith, there.from, there.to)), refl)) ws within);
+      left = λ r c before. painted-untouched ws rows r c (All-weaker W (λ w. Reaches r c w → ⊥) (λ w is there.
+          omega (arith, is.right, there.from, before)) ws within);
+      free = λ r free c. painted-cell IsFreeCell ws rows r c (free c)
+          (All-weaker W (λ w. Reaches r c w → IsFreeCell (cell_of_write w c)) (λ w is there.
+          (is.free (c - w.cell) 0 (omega (arith, there.from, there.to)), refl)) ws within);
       count = painted-count ws rows n refl (All-weaker W (λ w. w.row < n) (λ w is. is.there) ws within);
     }

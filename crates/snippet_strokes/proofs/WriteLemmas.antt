@@ -23,13 +23,15 @@ painted-append ws vs rows = fold-append written_by rows ws vs
 pub flat_map-take_more : {X : Type 0} (f : X → List Write) (xs : List X) (i : ℕ) (d : X) → i < length xs
     → flat_map f (take (i + 1) xs) ≡ flat_map f (take i xs) ++ f (get_or xs i d)
 flat_map-take_more f xs i d within =
-    ap (flat_map f) (take_more xs i d within) ∙ flat_map-append f (take i xs) (get_or xs i d ∷ []) ∙ ap (λ ws. flat_map f (take i xs) ++ ws) (append-nil (f (get_or xs i d)))
+    ap (flat_map f) (take_more xs i d within) ∙ flat_map-append f (take i xs) (get_or xs i d ∷ [])
+    ∙ ap (λ ws. flat_map f (take i xs) ++ ws) (append-nil (f (get_or xs i d)))
 
 -- the step of a loop that paints what a rule gives for each of some things
 pub painted_more : {X : Type 0} (f : X → List Write) (xs : List X) (i : ℕ) (x : X) (old mid : List (List Cell)) → i < length xs → x ≡ get_or xs i x
     → mid ≡ painted (flat_map f (take i xs)) old → painted (f x) mid ≡ painted (flat_map f (take (i + 1) xs)) old
 painted_more f xs i x old mid within is so_far =
-    ap (painted (f x)) so_far ∙ sym (painted-append (flat_map f (take i xs)) (f x) old) ∙ ap (λ y. painted (flat_map f (take i xs) ++ f y) old) is ∙ sym (ap (λ ws. painted ws old) (flat_map-take_more f xs i x within))
+    ap (painted (f x)) so_far ∙ sym (painted-append (flat_map f (take i xs)) (f x) old) ∙ ap (λ y. painted (flat_map f (take i xs) ++ f y) old) is
+    ∙ sym (ap (λ ws. painted ws old) (flat_map-take_more f xs i x within))
 
 -- ---- stretches, columns and marks
 
@@ -58,7 +60,8 @@ pub mark_of-none : (layout : Layout) (row : ℕ) (e : PlacedEntry) → mark_end 
 mark_of-none layout row e past =
     let from = layout.code + e.entry.start.display in
     let to = layout.code + mark_end e in
-    let ws : List Write = glyph_at row from (first_glyph layout.decor e) (stroke_role e) ∷ stretch_of row (from + 1) to (strokes_of layout.decor (is_primary e.entry.kind)).underline (stroke_role e) in
+    let ws : List Write = glyph_at row from (first_glyph layout.decor e) (stroke_role e) ∷ stretch_of row (from + 1) to
+    (strokes_of layout.decor (is_primary e.entry.kind)).underline (stroke_role e) in
     ap (λ b. cond b ws []) (not_less from to (omega (arith, past)))
 
 -- a mark is its first glyph, and the underline after it

@@ -17,7 +17,8 @@ abbrev pub own_rows : Layout → ℕ → Bool → List ℕ → ℕ → List Line
 own_rows layout room closes text dropped [] source =
     source ∷ (if closes then closing_row layout.decor layout.gutter ∷ [] else [])
 own_rows layout room closes text dropped (e ∷ es) source =
-    if is_whole_line text (e ∷ es) then with_bars layout Top (ends_of_bars (e ∷ es)) source ∷ [] else stroke_rows layout room closes (map (shifted dropped) (e ∷ es)) source
+    if is_whole_line text (e ∷ es) then with_bars layout Top (ends_of_bars (e ∷ es)) source ∷ [] else stroke_rows layout room closes
+    (map (shifted dropped) (e ∷ es)) source
 
 -- the rows of a line, where these bars are open above it: its own, and over each of them the bars that run past, which are drawn last
 abbrev pub line_rows : Layout → ℕ → Bool → List ℕ → ℕ → List OpenBar → List LineAnnotation → List Cell → List (List Cell)
@@ -27,19 +28,22 @@ line_rows layout room closes text dropped open_bars es source =
 -- the rows that a line has by its own entries, of which so many columns are dropped: beside a line that is marked as a whole the tops
 -- of its bars, and no row below; without entries none below either, but a closing row where the window closes with the line; and
 -- else the rows of its strokes
-pub record AreOwnRows (layout : Layout) (room : ℕ) (closes : Bool) (text : List ℕ) (dropped : ℕ) (es : List LineAnnotation) (source : List Cell) (rows : List (List Cell)) : Type 0 where
+pub record AreOwnRows (layout : Layout) (room : ℕ) (closes : Bool) (text : List ℕ) (dropped : ℕ) (es : List LineAnnotation) (source : List Cell)
+    (rows : List (List Cell)) : Type 0 where
   pub whole : is_whole_line text es ≡ true → rows ≡ with_bars layout Top (ends_of_bars es) source ∷ []
   pub none : es ≡ [] → rows ≡ source ∷ (if closes then closing_row layout.decor layout.gutter ∷ [] else [])
   pub strokes : is_whole_line text es ≡ false → 0 < length es → StrokesPainted layout room closes (map (shifted dropped) es) source rows
 
 -- the rows of a line, where these bars are open above it: its own, and over each of them the bars that run past
-pub record AreLineRows (layout : Layout) (room : ℕ) (closes : Bool) (text : List ℕ) (dropped : ℕ) (open_bars : List OpenBar) (es : List LineAnnotation) (source : List Cell) (rows : List (List Cell)) : Type 0 where
+pub record AreLineRows (layout : Layout) (room : ℕ) (closes : Bool) (text : List ℕ) (dropped : ℕ) (open_bars : List OpenBar) (es : List LineAnnotation)
+    (source : List Cell) (rows : List (List Cell)) : Type 0 where
   pub own : List (List Cell)
   pub are : AreOwnRows layout room closes text dropped es source own
   pub rows_are : rows ≡ map (with_bars layout Solid (bars_apart open_bars (ends_of_bars es))) own
 
 -- the own rows of a line were drawn below those that are there, the last of which is its source row
-pub record AddsOwnRows (layout : Layout) (room : ℕ) (closes : Bool) (text : List ℕ) (dropped : ℕ) (es : List LineAnnotation) (above : List (List Cell)) (source : List Cell) (new : List (List Cell)) : Type 0 where
+pub record AddsOwnRows (layout : Layout) (room : ℕ) (closes : Bool) (text : List ℕ) (dropped : ℕ) (es : List LineAnnotation) (above : List (List Cell))
+    (source : List Cell) (new : List (List Cell)) : Type 0 where
   pub rows : List (List Cell)
   pub added : new ≡ above ++ rows
   pub are : AreOwnRows layout room closes text dropped es source rows

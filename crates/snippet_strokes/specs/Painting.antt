@@ -60,7 +60,8 @@ IsPaintedAt e p = (e.entry.start.display ≤ p) × (p < mark_end e)
 abbrev pub mark_cell : Layout → PlacedEntry → ℕ → Cell
 mark_cell layout e c =
     let primary = is_primary e.entry.kind in
-    unlinked_cell (underline_role primary) (if c == code_cell layout e.entry.start.display then first_glyph layout.decor e else (strokes_of layout.decor primary).underline)
+    unlinked_cell (underline_role primary) (if c == code_cell layout e.entry.start.display then first_glyph layout.decor e else
+    (strokes_of layout.decor primary).underline)
 
 -- the cells of a row from `from` to before `to` were painted, and nothing else changed
 pub record Paints (old new : List (List Cell)) (row from to : ℕ) (cell : ℕ → Cell) : Type 0 where
@@ -104,7 +105,8 @@ pub record AreMarked (layout : Layout) (placed : List PlacedEntry) (row : ℕ) (
 -- the label of an entry, if it has one, stands whole at its place, in the role of labels of its kind
 abbrev pub StandsWhole : Layout → ℕ → List (List Cell) → PlacedEntry → Type 0
 StandsWhole layout row rows e =
-    has_label e ≡ true → (k : ℕ) → k < length (label_text e.entry) → cell_at rows (row + (label_place e).0) (code_cell layout (label_place e).1 + k) ≡ unlinked_cell (label_role e.entry.kind) (slice_index_or (label_text e.entry) k 0)
+    has_label e ≡ true → (k : ℕ) → k < length (label_text e.entry) → cell_at rows (row + (label_place e).0) (code_cell layout (label_place e).1 + k)
+    ≡ unlinked_cell (label_role e.entry.kind) (slice_index_or (label_text e.entry) k 0)
 
 -- the role of an entry's strokes
 abbrev pub stroke_role : PlacedEntry → ElementStyle
@@ -117,7 +119,8 @@ abbrev pub mark_of : Layout → ℕ → PlacedEntry → List Write
 mark_of layout row e =
     let from = code_cell layout e.entry.start.display in
     let to = code_cell layout (mark_end e) in
-    if nat_lt from to then glyph_at row from (first_glyph layout.decor e) (stroke_role e) ∷ stretch_of row (from + 1) to (strokes_of layout.decor (is_primary e.entry.kind)).underline (stroke_role e) else []
+    if nat_lt from to then glyph_at row from (first_glyph layout.decor e) (stroke_role e) ∷ stretch_of row (from + 1) to
+    (strokes_of layout.decor (is_primary e.entry.kind)).underline (stroke_role e) else []
 
 -- the marks of some entries, in the order in which they are painted
 abbrev pub marks_of : Layout → ℕ → List PlacedEntry → List Write

@@ -85,7 +85,8 @@ HasNoBars layout row =
     (layout.gutter + 2 ≤ length row) × ((c : ℕ) → inner_cell layout ≤ c → c < layout.code → IsBarCell layout.decor (slice_index_or row c SPACE))
 
 -- the strokes of a line were drawn below its source row, which is the last row that is there, and beside it
-pub record AddsStrokes (layout : Layout) (room : ℕ) (es : List LineAnnotation) (closes : Bool) (above : List (List Cell)) (plain : List Cell) (new : List (List Cell)) : Type 0 where
+pub record AddsStrokes (layout : Layout) (room : ℕ) (es : List LineAnnotation) (closes : Bool) (above : List (List Cell)) (plain : List Cell)
+    (new : List (List Cell)) : Type 0 where
   pub source : List Cell
   pub rows : List (List Cell)
   pub added : new ≡ above ++ source ∷ rows
@@ -117,7 +118,8 @@ highlights code dropped c e = e.highlight_source && holds_character code dropped
 -- primary entry asks for it, else that of marks for context where an entry asks and the cell's role gives way
 abbrev pub role_in_source : ℕ → ℕ → List LineAnnotation → ℕ → ElementStyle → ElementStyle
 role_in_source code dropped es c role =
-    if list_any (λ e. is_primary e.kind && highlights code dropped c e) es then UnderlinePrimary else (if list_any (highlights code dropped c) es && gives_way role then UnderlineSecondary else role)
+    if list_any (λ e. is_primary e.kind && highlights code dropped c e) es then UnderlinePrimary else
+    (if list_any (highlights code dropped c) es && gives_way role then UnderlineSecondary else role)
 
 -- a source row with the characters highlighted that entries ask for
 abbrev pub highlighted_row : ℕ → ℕ → List LineAnnotation → List Cell → List Cell

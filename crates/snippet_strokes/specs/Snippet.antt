@@ -29,13 +29,15 @@ use Rattle.snippet_strokes.specs.Rows.{IsBeside, IsElisionRow, IsHighlighted, Ar
 -- wide; the others its strokes, with which the window may close, as far left as columns of the line are dropped; none but
 -- the first can be taken for a source row, and none holds a listed character. All of them are what the entries, and the bars
 -- that are open above the line, make of the highlighted row
-pub record ShowsLine (layout : Layout) (margin : Margin) (numbers : LineNumbers) (closes : Bool) (open_bars : List OpenBar) (info : AnnotatedLineInfo) (rows : List (List Cell)) : Type 0 where
+pub record ShowsLine (layout : Layout) (margin : Margin) (numbers : LineNumbers) (closes : Bool) (open_bars : List OpenBar) (info : AnnotatedLineInfo)
+    (rows : List (List Cell)) : Type 0 where
   pub source : List Cell
   pub below : List (List Cell)
   pub rows_are : rows ≡ source ∷ below
   pub plain : List Cell
   pub shows : IsSourceRow layout (shown_number numbers layout.gutter info.line_index) (window_cells layout.decor margin (norm (chars info.line.now))) plain
-  pub text : row_text (drop layout.code plain) ≡ window (placeholder_of layout.decor) margin.term_width (bounds_of margin).left (bounds_of margin).right (norm (chars info.line.now))
+  pub text : row_text (drop layout.code plain) ≡ window (placeholder_of layout.decor) margin.term_width (bounds_of margin).left (bounds_of margin).right
+      (norm (chars info.line.now))
   pub whole : (bounds_of margin).left ≡ 0 → width_of (norm (chars info.line.now)) ≤ margin.term_width
       → drop layout.code plain ≡ text_cells Quotation (norm (chars info.line.now))
   pub dropped : ℕ
@@ -59,7 +61,8 @@ gap_row layout open_bars =
 abbrev pub IsGap : Layout → List OpenBar → ℕ → List AnnotatedLineInfo → List (List Cell) → Type 0
 IsGap layout open_bars number [] rows = rows ≡ []
 IsGap layout open_bars number (next ∷ infos) rows =
-    ((number + 1 < next.line_index) × (row : List Cell) × (rows ≡ row ∷ []) × IsElisionRow layout row × (row ≡ gap_row layout open_bars)) ⊎ ((next.line_index ≤ number + 1) × (rows ≡ []))
+    ((number + 1 < next.line_index) × (row : List Cell) × (rows ≡ row ∷ []) × IsElisionRow layout row × (row ≡ gap_row layout open_bars))
+    ⊎ ((next.line_index ≤ number + 1) × (rows ≡ []))
 
 -- the rows show these lines, those of each line after those of the one before, with a row between where lines are left out;
 -- these bars are open above the first, and the window may close with the last line
@@ -68,16 +71,20 @@ AreLinesShown layout margin numbers closes open_bars [] rows = rows ≡ []
 AreLinesShown layout margin numbers closes open_bars (info ∷ infos) rows =
     let below = open_below open_bars info.annotations.items in
     let last = length infos == 0 in
-    (first : List (List Cell)) × (gap : List (List Cell)) × (rest : List (List Cell)) × (rows ≡ first ++ gap ++ rest) × ShowsLine layout margin numbers (closes && last) open_bars info first × IsGap layout below info.line_index infos gap × AreLinesShown layout margin numbers closes below infos rest
+    (first : List (List Cell)) × (gap : List (List Cell)) × (rest : List (List Cell)) × (rows ≡ first ++ gap ++ rest)
+    × ShowsLine layout margin numbers (closes && last) open_bars info first × IsGap layout below info.line_index infos gap
+    × AreLinesShown layout margin numbers closes below infos rest
 
 -- what a snippet adds below the rows that are there: the rows of each line; no bar is open above the first
-pub record AddsSnippet (layout : Layout) (margin : Margin) (numbers : LineNumbers) (closes : Bool) (infos : List AnnotatedLineInfo) (old new : List (List Cell)) : Type 0 where
+pub record AddsSnippet (layout : Layout) (margin : Margin) (numbers : LineNumbers) (closes : Bool) (infos : List AnnotatedLineInfo)
+    (old new : List (List Cell)) : Type 0 where
   pub rows : List (List Cell)
   pub added : new ≡ old ++ rows
   pub shown : AreLinesShown layout margin numbers closes [] infos rows
 
 -- what a line adds below the rows that are there, where these bars are open above it: rows that show it
-pub record AddsLine (layout : Layout) (margin : Margin) (numbers : LineNumbers) (closes : Bool) (open_bars : List OpenBar) (info : AnnotatedLineInfo) (old new : List (List Cell)) : Type 0 where
+pub record AddsLine (layout : Layout) (margin : Margin) (numbers : LineNumbers) (closes : Bool) (open_bars : List OpenBar) (info : AnnotatedLineInfo)
+    (old new : List (List Cell)) : Type 0 where
   pub rows : List (List Cell)
   pub added : new ≡ old ++ rows
   pub shown : ShowsLine layout margin numbers closes open_bars info rows

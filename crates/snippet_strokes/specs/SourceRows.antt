@@ -42,7 +42,8 @@ window_cells decor margin text =
     let left = (bounds_of margin).left in
     let right = (bounds_of margin).right in
     let inner = inner_part margin.term_width left right text in
-    shown_cells decor (covered_columns left placeholder inner) (uncovered_part left placeholder inner) (covered_end margin.term_width left right placeholder text)
+    shown_cells decor (covered_columns left placeholder inner) (uncovered_part left placeholder inner)
+    (covered_end margin.term_width left right placeholder text)
 
 -- a row with these cells from this one on, if there are any; a row without any stays
 abbrev pub with_cells : ℕ → List Cell → List Cell → List Cell

@@ -42,7 +42,8 @@ labels_of layout row placed = flat_map (label_of layout row) placed
 -- the stem of an entry, so many rows below the row of the marks: at its foot another glyph
 abbrev pub stem_write : Layout → ℕ → PlacedEntry → ℕ → Write
 stem_write layout row e below =
-    glyph_at (row + below) (code_cell layout e.entry.start.display) (if below == e.position then foot_glyph layout.decor e else (strokes_of layout.decor (is_primary e.entry.kind)).stem) (stroke_role e)
+    glyph_at (row + below) (code_cell layout e.entry.start.display)
+    (if below == e.position then foot_glyph layout.decor e else (strokes_of layout.decor (is_primary e.entry.kind)).stem) (stroke_role e)
 
 -- the stem of an entry, if it has one, from the row of the marks down
 abbrev pub stem_of : Layout → ℕ → PlacedEntry → List Write
@@ -65,7 +66,8 @@ stems_of layout row (e ∷ later) =
 -- the line from the bar of this depth to before the start of an entry, in the row of its position
 abbrev pub line_to : Layout → ℕ → PlacedEntry → ℕ → List Write
 line_to layout row e depth =
-    stretch_of (row + e.position) (inner_cell layout + depth) (code_cell layout e.entry.start.display) (strokes_of layout.decor (is_primary e.entry.kind)).connector (stroke_role e)
+    stretch_of (row + e.position) (inner_cell layout + depth) (code_cell layout e.entry.start.display)
+    (strokes_of layout.decor (is_primary e.entry.kind)).connector (stroke_role e)
 
 -- the line to the bar of an entry that stands for this part of a span: a start or an end has one
 abbrev pub connector_by : Layout → ℕ → PlacedEntry → LineAnnotationType → List Write
@@ -98,13 +100,15 @@ bar_writes layout e depth start end =
 abbrev pub top_of : Layout → ℕ → ℕ → PlacedEntry → ℕ → List Write
 top_of layout row count e depth =
     let corner = row + 1 + e.position in
-    glyph_at corner (bar_cell layout depth) (strokes_of layout.decor (is_primary e.entry.kind)).bar_top (stroke_role e) ∷ bar_writes layout e depth (corner + 1) count
+    glyph_at corner (bar_cell layout depth) (strokes_of layout.decor (is_primary e.entry.kind)).bar_top (stroke_role e) ∷ bar_writes layout e depth
+    (corner + 1) count
 
 -- the bottom of an end's bar: the bar in all rows from the source row down to that of its position, and the corner there
 abbrev pub bottom_of : Layout → ℕ → PlacedEntry → ℕ → List Write
 bottom_of layout row e depth =
     let corner = row + 1 + e.position in
-    bar_writes layout e depth row corner ++ glyph_at corner (bar_cell layout depth) (strokes_of layout.decor (is_primary e.entry.kind)).bar_bottom (stroke_role e) ∷ []
+    bar_writes layout e depth row corner ++ glyph_at corner (bar_cell layout depth) (strokes_of layout.decor (is_primary e.entry.kind)).bar_bottom
+    (stroke_role e) ∷ []
 
 -- the bar of an entry that stands for this part of a span: a start or an end has one
 abbrev pub corner_by : Layout → ℕ → ℕ → PlacedEntry → LineAnnotationType → List Write
@@ -127,7 +131,8 @@ corners_of layout row count placed = flat_map (corner_of layout row count) place
 -- to bars, the bars, the stems, the labels, and the marks in the order in which they are painted
 abbrev pub line_strokes : Layout → ℕ → ℕ → List PlacedEntry → List PlacedEntry → List Write
 line_strokes layout row count placed order =
-    connectors_of layout (row + 1) placed ++ corners_of layout row count placed ++ stems_of layout (row + 1) placed ++ labels_of layout (row + 1) placed ++ marks_of layout (row + 1) order
+    connectors_of layout (row + 1) placed ++ corners_of layout row count placed ++ stems_of layout (row + 1) placed ++ labels_of layout (row + 1) placed
+    ++ marks_of layout (row + 1) order
 
 -- the source row of a line with the rows of its strokes below it, before they are drawn: separators, with the last row as the window
 -- closes or goes on
@@ -156,13 +161,16 @@ pub record StrokesPainted (layout : Layout) (room : ℕ) (closes : Bool) (es : L
   pub top : List Cell
   pub marks : List Cell
   pub lower : List (List Cell)
-  pub painted_are : top ∷ marks ∷ lower ≡ painted (line_strokes layout 0 (row_count placed + 1) placed (painting_order placed)) (begun_rows layout closes (row_count placed) source)
-  pub rows_are : rows ≡ (let cuts = cuts_of layout room (painting_order placed) (overlapped placed) in cut_row layout.decor cuts top ∷ cut_row layout.decor cuts marks ∷ lower)
+  pub painted_are : top ∷ marks ∷ lower ≡ painted (line_strokes layout 0 (row_count placed + 1) placed (painting_order placed))
+      (begun_rows layout closes (row_count placed) source)
+  pub rows_are : rows ≡ (let cuts = cuts_of layout room (painting_order placed)
+      (overlapped placed) in cut_row layout.decor cuts top ∷ cut_row layout.decor cuts marks ∷ lower)
   pub cut : CutsRows layout (wide_entries room layout.decor es) [] top marks lower rows
   pub count : length rows ≡ row_count placed + 1
 
 -- the strokes of a line were drawn below its source row, which is the last row that is there, and beside it
-pub record AddsPainted (layout : Layout) (room : ℕ) (closes : Bool) (es : List LineAnnotation) (above : List (List Cell)) (source : List Cell) (new : List (List Cell)) : Type 0 where
+pub record AddsPainted (layout : Layout) (room : ℕ) (closes : Bool) (es : List LineAnnotation) (above : List (List Cell)) (source : List Cell)
+    (new : List (List Cell)) : Type 0 where
   pub rows : List (List Cell)
   pub added : new ≡ above ++ rows
   pub painted_are : StrokesPainted layout room closes es source rows

@@ -3,7 +3,8 @@ ghost use Rattle.std.specs.Prelude.{◌≡◌, ◌+◌, ◌-◌, ◌^◌, ◌<�
 ghost use Rattle.std.specs.Prelude.{slice_index_or};
 ghost use Rattle.snippet_strokes.specs.declared.bars.OpenBar.{OpenBar};
 ghost use Rattle.snippet_strokes.specs.Bars as spec;
-ghost use Rattle.snippet_strokes.specs.Bars.{HasBarRoom, StandsBeside, bar_cell_part, barred, changed_from, ends_of_bars};
+ghost use Rattle.snippet_strokes.specs.Bars.{HasBarRoom, StandsBeside, bar_cell_part, barred, changed_from};
+ghost use Rattle.snippet_strokes.specs.Bars.{ends_of_bars};
 ghost use Rattle.snippet_style.specs.Cell.{SPACE, written};
 ghost use Rattle.snippet_grid.specs.Layout.{bar_cell};
 
@@ -107,7 +108,8 @@ fn has_depth(bars: &[OpenBar], depth: usize) -> bool
     bars.iter().any(|bar| bar.depth == depth)
 }
 
-/// Draws a part of some bars in each row from this one on. Those that stand side by side in one role are drawn as one text.
+/// Draws a part of some bars in each row from this one on. Those that stand side by side in one role are drawn as one
+/// text.
 ///
 /// ```text
 ///     2 | | |  y             the bar of depth 1, and that of depth 2
@@ -175,7 +177,8 @@ fn draw_side(
     requires room { bar_cell layout first.depth + count < layout.code }
     requires some { 0 < count }
     ensures value { OnOk result (buffer.new ≡ changed_from
-        (λ cells. written SPACE cells (bar_cell layout first.depth) (replicate count (bar_cell_part layout stroke first)))
+        (λ cells. written SPACE cells (bar_cell layout first.depth)
+        (replicate count (bar_cell_part layout stroke first)))
         row buffer.old) }
 {
     let glyph = stroke.glyph(layout.decor, first.primary);

@@ -15,8 +15,8 @@ use snippet_labels::PlacedEntry;
 use snippet_parts::LineAnnotationType;
 use std::alloc::{AllocError, Global};
 
-/// Draws the lines that lead from starts and ends of spans of several lines to their bars, each in the row of its position,
-/// the first of which is the row of the marks.
+/// Draws the lines that lead from starts and ends of spans of several lines to their bars, each in the row of its
+/// position, the first of which is the row of the marks.
 ///
 /// ```text
 ///     1 |    X0 Y0

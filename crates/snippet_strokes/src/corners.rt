@@ -13,9 +13,9 @@ use snippet_labels::PlacedEntry;
 use snippet_parts::LineAnnotationType;
 use std::alloc::AllocError;
 
-/// Draws the bars of the spans that begin or end on a line whose source row has this number, with the corners where their
-/// lines to the marks begin. The bar of a start leads from there down to the last row of the grid, that of an end from the
-/// source row down to there.
+/// Draws the bars of the spans that begin or end on a line whose source row has this number, with the corners where
+/// their lines to the marks begin. The bar of a start leads from there down to the last row of the grid, that of an end
+/// from the source row down to there.
 ///
 /// ```text
 ///     1 |    X0 Y0              2 │ ┃  b)
@@ -35,7 +35,8 @@ pub(crate) fn draw_corners(
     requires bar_cells { All (λ e. HasBarCell layout e.entry) placed.now }
     requires small { AreRows (length buffer.old) }
     requires rows { All (HasRows (row + 1) (length buffer.old)) placed.now }
-    ensures painted { OnOk result (buffer.new ≡ painted (corners_of layout row (length buffer.old) placed.now) buffer.old) }
+    ensures painted { OnOk result (buffer.new ≡ painted (corners_of layout row
+        (length buffer.old) placed.now) buffer.old) }
 {
     for entry in placed {
         draw_corner(buffer, layout, row, entry)?;
@@ -53,7 +54,8 @@ fn draw_corner(
     requires bar_cell { HasBarCell layout placed.now.entry }
     requires small { AreRows (length buffer.old) }
     requires rows { HasRows (row + 1) (length buffer.old) placed.now }
-    ensures painted { OnOk result (buffer.new ≡ painted (corner_of layout row (length buffer.old) placed.now) buffer.old) }
+    ensures painted { OnOk result (buffer.new ≡ painted (corner_of layout row
+        (length buffer.old) placed.now) buffer.old) }
 {
     match placed.entry.annotation_type {
         LineAnnotationType::MultilineStart(depth) => draw_top(buffer, layout, row, depth, placed),
@@ -74,7 +76,8 @@ fn draw_top(
     requires depth { inner_cell layout + depth < layout.code }
     requires small { AreRows (length buffer.old) }
     requires rows { HasRows (row + 1) (length buffer.old) placed.now }
-    ensures painted { OnOk result (buffer.new ≡ painted (top_of layout row (length buffer.old) placed.now depth) buffer.old) }
+    ensures painted { OnOk result (buffer.new ≡ painted (top_of layout row
+        (length buffer.old) placed.now depth) buffer.old) }
 {
     let strokes = layout.decor.underline(is_primary(placed.entry.kind));
     let corner = row + 1 + placed.position;
@@ -84,8 +87,8 @@ fn draw_top(
     draw_bar(buffer, layout, corner + 1, end, depth, placed)
 }
 
-/// Draws the bottom of an end's bar: the corner in the row of its position, and the bar in all rows from the source row down
-/// to it.
+/// Draws the bottom of an end's bar: the corner in the row of its position, and the bar in all rows from the source row
+/// down to it.
 fn draw_bottom(
     buffer: &mut StyledBuffer,
     layout: Layout,

@@ -21,9 +21,9 @@ use std::alloc::{AllocError, Global};
 /// The fewest columns that stay at each end of a span that is cut.
 const LEAST_END: usize = 5;
 
-/// For each entry of a line, from right to left, whether its columns overlap those of an entry that was looked at while the
-/// place of a label was sought. The two entries farthest right count for no one, and any other counts for itself too. Only wide
-/// entries ask for it: where none is, nothing is looked at.
+/// For each entry of a line, from right to left, whether its columns overlap those of an entry that was looked at while
+/// the place of a label was sought. The two entries farthest right count for no one, and any other counts for itself
+/// too. Only wide entries ask for it: where none is, nothing is looked at.
 ///
 /// ```text
 ///       |          ^^^^^    the first and the second entry aren't overlapped, though they overlap
@@ -42,7 +42,8 @@ pub(crate) fn overlapping(
 ) -> Result<Vec<bool>, AllocError>
     requires columns { All (λ e. HasPlace e.entry) placed.now }
     ensures count { IfOk result (λ flags. length flags.items ≡ length placed.now) }
-    ensures value { IfOk result (λ flags. list_any (is_wide_at room decor) placed.now ≡ true → flags.items ≡ spec.overlapped placed.now) }
+    ensures value { IfOk result (λ flags. list_any (is_wide_at room decor) placed.now ≡ true → flags.items
+        ≡ spec.overlapped placed.now) }
 {
     if !has_wide(room, decor, placed) {
         return vec![in alloc; false; placed.len()];
@@ -59,7 +60,8 @@ fn has_wide(room: usize, decor: DecorStyle, placed: &[PlacedEntry]) -> bool
     placed.iter().any(|p| is_wide(room, decor, &p.entry))
 }
 
-/// For each entry before which place those stand that are looked at while the place of its label is sought, from the first on.
+/// For each entry before which place those stand that are looked at while the place of its label is sought, from the
+/// first on.
 ///
 /// # Errors
 ///
@@ -80,8 +82,8 @@ fn look_ends(alloc: Global, placed: &[PlacedEntry]) -> Result<Vec<usize>, AllocE
     Ok(ends)
 }
 
-/// How many of the entries after one are looked at, where this position is reached: all, or where its label may still stand
-/// beside the mark, those up to the first one that is in its way.
+/// How many of the entries after one are looked at, where this position is reached: all, or where its label may still
+/// stand beside the mark, those up to the first one that is in its way.
 fn looked_after(reached: usize, entry: &PlacedEntry, others: &[PlacedEntry]) -> usize
     requires columns { All (λ e. HasPlace e.entry) others.now }
     ensures value { result ≡ spec.looked_after reached entry.now others.now }
@@ -168,8 +170,8 @@ fn is_met(k: usize, entry: &PlacedEntry, placed: &[PlacedEntry], ends: &[usize])
         .any(|(other, end)| k < *end && overlap(entry, 0, other))
 }
 
-/// Puts the placeholder in place of the middle of each wide entry that stands at a place which isn't overlapped: in the source row,
-/// and in the row of the marks below it.
+/// Puts the placeholder in place of the middle of each wide entry that stands at a place which isn't overlapped: in the
+/// source row, and in the row of the marks below it.
 ///
 /// ```text
 ///     1 | let aaaaa...aaaaa = 1;
@@ -191,7 +193,8 @@ pub(crate) fn cut_wide(
     requires count { length overlapped.now ≡ length placed.now }
     requires rows { row + 1 < length buffer.old }
     requires small { AreRows (length buffer.old) }
-    ensures value { OnOk result (buffer.new ≡ spec.cut_rows layout.decor row (spec.cuts_of layout room placed.now overlapped.now) buffer.old) }
+    ensures value { OnOk result (buffer.new ≡ spec.cut_rows layout.decor row
+        (spec.cuts_of layout room placed.now overlapped.now) buffer.old) }
 {
     for k in 0..placed.len() {
         cut_entry(buffer, layout, row, room, &placed[k], overlapped[k])?;
@@ -214,7 +217,8 @@ fn cut_entry(
 ) -> Result<(), AllocError>
     requires columns { HasPlace placed.now.entry }
     requires small { HasNext row }
-    ensures value { OnOk result (buffer.new ≡ spec.cut_rows layout.decor row (spec.cut_of layout room (placed.now, overlapped)) buffer.old) }
+    ensures value { OnOk result (buffer.new ≡ spec.cut_rows layout.decor row
+        (spec.cut_of layout room (placed.now, overlapped)) buffer.old) }
 {
     let entry = &placed.entry;
     if overlapped || !is_wide(room, layout.decor, entry) {
@@ -259,7 +263,8 @@ fn cut_stretch(
 ) -> Result<(), AllocError>
     requires small { HasNext row }
     ensures ok { OnOk result (let placeholder = text_cells LineNumber (placeholder_of decor) in
-        buffer.new ≡ cells_replaced (cells_replaced buffer.old row start end placeholder) (row + 1) start end placeholder) }
+        buffer.new ≡ cells_replaced (cells_replaced buffer.old row start end placeholder)
+        (row + 1) start end placeholder) }
 {
     buffer.replace(row, start, end, decor.placeholder())?;
     buffer.replace(row + 1, start, end, decor.placeholder())

@@ -12,7 +12,8 @@ use snippet_parts::ShownLine;
 use snippet_style::{DecorStyle, ElementStyle};
 use std::alloc::{AllocError, Global};
 
-/// Draws the row that stands for the lines between one of this number and the first of the lines after it, if there are any.
+/// Draws the row that stands for the lines between one of this number and the first of the lines after it, if there are
+/// any.
 ///
 /// # Errors
 ///
@@ -34,8 +35,8 @@ pub(crate) fn draw_gap(
     draw_elision(alloc, buffer, layout, open_bars)
 }
 
-/// Draws the row that stands for lines that aren't shown, with the bars that run beside them, below all that stands in the
-/// grid.
+/// Draws the row that stands for lines that aren't shown, with the bars that run beside them, below all that stands in
+/// the grid.
 ///
 /// ```text
 ///   ...  |  |            ┆ ┇  ┆

@@ -10,8 +10,9 @@ use snippet_grid::{Layout, StyledBuffer};
 use snippet_parts::{LineAnnotation, LineAnnotationType};
 use std::alloc::AllocError;
 
-/// Gives the characters of a source row, of which this many columns are dropped on the left, that entries ask to highlight the
-/// role of these entries' marks, primary ones over those for context. Starts and ends of spans of several lines ask for nothing.
+/// Gives the characters of a source row, of which this many columns are dropped on the left, that entries ask to
+/// highlight the role of these entries' marks, primary ones over those for context. Starts and ends of spans of several
+/// lines ask for nothing.
 ///
 /// # Errors
 ///
@@ -46,8 +47,8 @@ fn is_end_part(part: LineAnnotationType) -> bool
     )
 }
 
-/// Gives the characters of an entry the role of its mark. Characters and columns differ after wide ones, so that some of
-/// them may count as left of the code: there nothing is coloured.
+/// Gives the characters of an entry the role of its mark. Characters and columns differ after wide ones, so that some
+/// of them may count as left of the code: there nothing is coloured.
 fn highlight_entry(
     buffer: &mut StyledBuffer,
     layout: Layout,

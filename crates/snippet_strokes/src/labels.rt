@@ -66,8 +66,8 @@ fn draw_label(
     )
 }
 
-/// Where the label of an entry begins: how many rows below the row of the marks, and at which column. A mark that ends at
-/// column 0 still takes that column.
+/// Where the label of an entry begins: how many rows below the row of the marks, and at which column. A mark that ends
+/// at column 0 still takes that column.
 fn label_place(placed: &PlacedEntry) -> (usize, usize)
     requires columns { HasPlace placed.now.entry }
     requires low { HasNext placed.now.position }

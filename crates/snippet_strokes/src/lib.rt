@@ -1,4 +1,5 @@
-//! What is painted for a snippet: for each line that is shown its source row, and below it the rows of its marks and labels.
+//! What is painted for a snippet: for each line that is shown its source row, and below it the rows of its marks and
+//! labels.
 #![tactic(auto)]
 
 mod bars;

@@ -111,8 +111,8 @@ fn paint_entry(
     )
 }
 
-/// The column after the last one at which an entry's mark is painted. Where an entry covers no column, but a glyph of its
-/// own stands at its start, that glyph is its mark.
+/// The column after the last one at which an entry's mark is painted. Where an entry covers no column, but a glyph of
+/// its own stands at its start, that glyph is its mark.
 fn mark_end(placed: &PlacedEntry) -> usize
     requires columns { IsColumn placed.now.entry.end.display }
     ensures value { result ≡ mark_end placed.now }

@@ -75,7 +75,8 @@ pub fn begin_rows(
     count: usize,
 ) -> Result<usize, AllocError>
     requires some { 0 < count }
-    ensures added { OnOk result (buffer.new ≡ buffer.old ++ replicate (count - 1) (separator_row layout.decor layout.gutter)
+    ensures added { OnOk result (buffer.new ≡ buffer.old
+        ++ replicate (count - 1) (separator_row layout.decor layout.gutter)
         ++ bare_row layout.decor layout.gutter closes ∷ []) }
     ensures row { IfOk result (λ row. row ≡ length buffer.old) }
     ensures small { OnOk result (AreRows (length buffer.new)) }

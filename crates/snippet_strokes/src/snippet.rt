@@ -28,8 +28,8 @@ use snippet_parts::{AnnotatedLineInfo, ShownLine};
 use snippet_window::Margin;
 use std::alloc::{AllocError, Global};
 
-/// Draws the lines of a snippet below all that stands in the grid: for each line its source row and its strokes. Where the
-/// group's window `closes` with it, the last row does so; it is one of its own where the last line has no entries.
+/// Draws the lines of a snippet below all that stands in the grid: for each line its source row and its strokes. Where
+/// the group's window `closes` with it, the last row does so; it is one of its own where the last line has no entries.
 ///
 /// ```text
 ///     1 | let x = 1;           1 │ let x = 1;
@@ -42,11 +42,11 @@ use std::alloc::{AllocError, Global};
 ///     9 | |       x            9 │ ┃       x
 /// ```
 ///
-/// Of each line the part between the bounds of the margin is shown, and its strokes are drawn as far left as columns of the
-/// line are dropped. No entry may stand left of the padding of the left bound.
+/// Of each line the part between the bounds of the margin is shown, and its strokes are drawn as far left as columns of
+/// the line are dropped. No entry may stand left of the padding of the left bound.
 ///
-/// A line with no entries has no strokes. Bars run beside the rows from the line on which a span of several lines starts to
-/// the one on which it ends. Where lines between two of these are left out, a row stands for them.
+/// A line with no entries has no strokes. Bars run beside the rows from the line on which a span of several lines
+/// starts to the one on which it ends. Where lines between two of these are left out, a row stands for them.
 ///
 /// # Errors
 ///
@@ -60,13 +60,15 @@ pub fn draw_snippet(
     closes: bool,
     lines: &[ShownLine],
 ) -> Result<(), AllocError>
-    requires numbers { All (λ line. length (shown_number numbers layout.gutter line.info.line_index) ≤ separator_cell layout)
+    requires numbers { All (λ line. length (shown_number numbers layout.gutter line.info.line_index) ≤
+        separator_cell layout)
         lines.now }
     requires texts { All (λ line. TextFits line.info.line.now) lines.now }
     requires columns { All (λ line. All HasPlace line.info.annotations.items) lines.now }
     requires clear { All (λ line. All (StandsClear margin) line.info.annotations.items) lines.now }
     requires bar_cells { All (λ line. All (HasBarCell layout) line.info.annotations.items) lines.now }
-    requires labels { All (λ line. All (λ e. IfSome e.label (λ t. TextFits t.now)) line.info.annotations.items) lines.now }
+    requires labels { All (λ line. All (λ e. IfSome e.label (λ t. TextFits t.now)) line.info.annotations.items)
+        lines.now }
     ensures added { OnOk result (AddsSnippet layout margin numbers closes (infos_of lines.now) buffer.old buffer.new) }
 {
     let mut open_bars = Vec::new(alloc);
@@ -89,8 +91,8 @@ pub fn draw_snippet(
     Ok(())
 }
 
-/// Draws the rows of a line below all that stands in the grid, with the bars that are open above it and stay so, and gives
-/// those that are open below it. The window may close with it.
+/// Draws the rows of a line below all that stands in the grid, with the bars that are open above it and stay so, and
+/// gives those that are open below it. The window may close with it.
 ///
 /// ```text
 ///     1 | let x = 1;
@@ -113,7 +115,8 @@ fn draw_line(
     requires bar_cells { All (HasBarCell layout) line.now.info.annotations.items }
     requires labels { All (λ e. IfSome e.label (λ t. TextFits t.now)) line.now.info.annotations.items }
     requires room { All (HasBarRoom layout) open_bars.now }
-    ensures added { OnOk result (AddsLine layout margin numbers closes open_bars.now line.now.info buffer.old buffer.new) }
+    ensures added { OnOk result (AddsLine layout margin numbers closes open_bars.now line.now.info buffer.old
+        buffer.new) }
     ensures bars { IfOk result (λ bars. bars.items ≡ open_below open_bars.now line.now.info.annotations.items) }
 {
     let (row, dropped) = draw_source_row(alloc, buffer, layout, numbers, margin, line)?;
@@ -137,8 +140,9 @@ fn draw_line(
     Ok(below)
 }
 
-/// Draws the strokes of a line, of which this many columns are dropped on the left, where these bars start or end on it. Its
-/// source row is the last row of the grid. A line that is marked as a whole has no strokes but the tops of its bars.
+/// Draws the strokes of a line, of which this many columns are dropped on the left, where these bars start or end on
+/// it. Its source row is the last row of the grid. A line that is marked as a whole has no strokes but the tops of its
+/// bars.
 fn draw_entries(
     alloc: Global,
     buffer: &mut StyledBuffer,
@@ -152,7 +156,8 @@ fn draw_entries(
 ) -> Result<(), AllocError>
     requires last { length buffer.old ≡ row + 1 }
     requires columns { All HasPlace info.now.annotations.items }
-    requires clear { All (λ e. is_bar e.annotation_type ≡ false → dropped ≤ e.start.display) info.now.annotations.items }
+    requires clear { All (λ e. is_bar e.annotation_type ≡ false
+        → dropped ≤ e.start.display) info.now.annotations.items }
     requires bar_cells { All (HasBarCell layout) info.now.annotations.items }
     requires labels { All (λ e. IfSome e.label (λ t. TextFits t.now)) info.now.annotations.items }
     requires ends { ends.now ≡ ends_of_bars info.now.annotations.items }
@@ -160,7 +165,8 @@ fn draw_entries(
         → HasNoBars layout plain
         → AddsStrokes layout room (map (shifted dropped) info.now.annotations.items) closes above plain buffer.new) }
     ensures own { OnOk result ((above : List (List Cell)) (source : List Cell) → buffer.old ≡ above ++ source ∷ []
-        → AddsOwnRows layout room closes (norm (chars info.now.line.now)) dropped info.now.annotations.items above source
+        → AddsOwnRows layout room closes (norm (chars info.now.line.now)) dropped info.now.annotations.items
+        above source
         buffer.new) }
 {
     if is_whole_line(info.line, &info.annotations) {

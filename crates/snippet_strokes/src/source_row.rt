@@ -24,8 +24,8 @@ use snippet_text::normalized;
 use snippet_window::{LineWindow, Margin, near_part, window_of};
 use std::alloc::{AllocError, Global};
 
-/// Draws the source row of a line below all that stands in the grid: the part of the line between the bounds of a margin.
-/// It gives the row's number, and how many columns of the line are dropped on the left.
+/// Draws the source row of a line below all that stands in the grid: the part of the line between the bounds of a
+/// margin. It gives the row's number, and how many columns of the line are dropped on the left.
 ///
 /// ```text
 ///     1 | let x = 1;
@@ -47,7 +47,8 @@ pub fn draw_source_row(
     requires text { TextFits line.now.info.line.now }
     ensures added { OnOk result (AddsSourceRow layout (shown_number numbers layout.gutter line.now.info.line_index)
         (window_cells layout.decor margin (norm (chars line.now.info.line.now))) buffer.old buffer.new) }
-    ensures short { OnOk result (IsWindowEnd (length (window_cells layout.decor margin (norm (chars line.now.info.line.now))))) }
+    ensures short { OnOk result (IsWindowEnd (length (window_cells layout.decor margin
+        (norm (chars line.now.info.line.now))))) }
     ensures row { IfOk result (λ at. at.0 ≡ length buffer.old) }
     ensures dropped { IfOk result (λ at.
         at.1 ≡ width_of (dropped_part (bounds_of margin).left (norm (chars line.now.info.line.now)))) }
@@ -80,8 +81,10 @@ fn write_source_row(
     requires text_free { list_any is_listed (chars window.text.now) ≡ false }
     requires end { IfSome window.end (λ at. IsWindowColumn at) }
     ensures added { OnOk result (AddsSourceRow layout (chars number.now)
-        (shown_cells layout.decor window.entry.start (chars window.entry.text.now) window.entry.end) buffer.old buffer.new) }
-    ensures short { OnOk result (IsWindowEnd (length (shown_cells layout.decor window.entry.start (chars window.entry.text.now) window.entry.end))) }
+        (shown_cells layout.decor window.entry.start (chars window.entry.text.now) window.entry.end) buffer.old
+        buffer.new) }
+    ensures short { OnOk result (IsWindowEnd (length (shown_cells layout.decor window.entry.start
+        (chars window.entry.text.now) window.entry.end))) }
     ensures row { IfOk result (λ row. row ≡ length buffer.old) }
 {
     let row = begin_row(buffer, layout)?;
@@ -91,8 +94,8 @@ fn write_source_row(
     Ok(row)
 }
 
-/// Writes the text of a window after a row that ends left of the code, and the placeholder before it where lines are cut
-/// on the left.
+/// Writes the text of a window after a row that ends left of the code, and the placeholder before it where lines are
+/// cut on the left.
 fn write_beginning(
     buffer: &mut StyledBuffer,
     layout: Layout,

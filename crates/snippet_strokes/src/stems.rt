@@ -45,8 +45,8 @@ pub(crate) fn draw_stems(
     Ok(())
 }
 
-/// Whether the stem of the next of some later entries covers that of an entry: it stands in the same column, and reaches as far
-/// down. So of many labels below one column the lowest alone has a stem.
+/// Whether the stem of the next of some later entries covers that of an entry: it stands in the same column, and
+/// reaches as far down. So of many labels below one column the lowest alone has a stem.
 fn is_stem_covered(placed: &PlacedEntry, later: &[PlacedEntry]) -> bool
     ensures value { result ≡ is_stem_covered placed.now later.now }
 {
@@ -60,8 +60,8 @@ fn is_stem_covered(placed: &PlacedEntry, later: &[PlacedEntry]) -> bool
     }
 }
 
-/// Draws the stem of an entry, if it has one: below its first column, as far as the row of its line to the bar, or the row
-/// above its label.
+/// Draws the stem of an entry, if it has one: below its first column, as far as the row of its line to the bar, or the
+/// row above its label.
 fn draw_stem(
     buffer: &mut StyledBuffer,
     layout: Layout,
@@ -93,8 +93,8 @@ fn stem_glyph(placed: &PlacedEntry, foot: char, stem: char, below: usize) -> cha
     if below == placed.position { foot } else { stem }
 }
 
-/// The glyph at the foot of a stem: where a line leads to a bar, the corner at which it begins, or where a label follows
-/// below it the branch.
+/// The glyph at the foot of a stem: where a line leads to a bar, the corner at which it begins, or where a label
+/// follows below it the branch.
 fn foot_glyph(decor: DecorStyle, placed: &PlacedEntry) -> char
     ensures value { result ≡ foot_glyph decor placed.now }
 {

@@ -25,10 +25,11 @@ use snippet_labels::{PlacedEntry, are_starts, placed_entries};
 use snippet_parts::LineAnnotation;
 use std::alloc::{AllocError, Global};
 
-/// Draws the strokes of a line, of which this many columns are dropped on the left, below its source row, which has this number
-/// and is the last one: none if the line has no entries, and else the row of its marks and the rows of the labels that hang
-/// from them and of the lines that lead to bars. Where the window closes with the line, its last row begins with the closing
-/// glyph; a line with no entries then has a row for it. Wide spans are cut to a room of this many columns.
+/// Draws the strokes of a line, of which this many columns are dropped on the left, below its source row, which has
+/// this number and is the last one: none if the line has no entries, and else the row of its marks and the rows of the
+/// labels that hang from them and of the lines that lead to bars. Where the window closes with the line, its last row
+/// begins with the closing glyph; a line with no entries then has a row for it. Wide spans are cut to a room of this
+/// many columns.
 ///
 /// ```text
 ///       | --^^--             │ ┬─┯━──             1 | |   b)             1 │ ┃   b)
@@ -37,9 +38,9 @@ use std::alloc::{AllocError, Global};
 ///       | f                  ╰╴f
 /// ```
 ///
-/// What is drawn later stands over what was there: stems over separators and over the lines that lead to bars, labels over
-/// stems, marks over all. The bars of spans that begin or end on the line are drawn as far as the line's rows go; those that
-/// run past it are left to the caller.
+/// What is drawn later stands over what was there: stems over separators and over the lines that lead to bars, labels
+/// over stems, marks over all. The bars of spans that begin or end on the line are drawn as far as the line's rows go;
+/// those that run past it are left to the caller.
 ///
 /// # Errors
 ///
@@ -94,8 +95,8 @@ fn close_below(buffer: &mut StyledBuffer, layout: Layout, closes: bool) -> Resul
     Ok(())
 }
 
-/// How many rows the strokes of some entries take: that of the marks, and below it, where an entry needs a row of its own,
-/// as many as the lowest position, and one more for labels, which starts don't have.
+/// How many rows the strokes of some entries take: that of the marks, and below it, where an entry needs a row of its
+/// own, as many as the lowest position, and one more for labels, which starts don't have.
 fn row_count(placed: &[PlacedEntry]) -> usize
     requires low { All (λ e. IsCount e.position) placed.now }
     ensures value { result ≡ spec.row_count placed.now }

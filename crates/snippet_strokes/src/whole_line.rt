@@ -7,7 +7,8 @@ ghost use Rattle.snippet_text.specs.Normalized.{norm, shown};
 
 use snippet_parts::{LineAnnotation, LineAnnotationType};
 
-/// Whether a line is marked as a whole: it has entries, and each is a bar, or a start with nothing but whitespace before it.
+/// Whether a line is marked as a whole: it has entries, and each is a bar, or a start with nothing but whitespace
+/// before it.
 ///
 /// ```text
 ///     1 | /   fn f() {        a start, marked as a whole
@@ -29,8 +30,8 @@ pub(crate) fn is_whole_line(line: &str, entries: &[LineAnnotation]) -> bool
     !entries.is_empty() && begins_blank(line, last_start)
 }
 
-/// Whether the first characters of a line as it is shown, as many as `count`, are whitespace. The line is read no further
-/// than to one that isn't.
+/// Whether the first characters of a line as it is shown, as many as `count`, are whitespace. The line is read no
+/// further than to one that isn't.
 fn begins_blank(line: &str, count: usize) -> bool
     ensures value { result ≡ list_all is_whitespace (take count (norm (chars line.now))) }
 {

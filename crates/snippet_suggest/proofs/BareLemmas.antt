@@ -43,9 +43,13 @@ bare_signed decor gutter role glyph row other bare =
     let cells = text_cells role (suggestion_glyph_of decor glyph) in
     let short : gutter + 1 + length cells ≤ gutter + 3 = omega (arith, length-text_cells role (suggestion_glyph_of decor glyph), glyph_short decor glyph) in
     record {
-      strokes = each_written P row (gutter + 1) (gutter + 3) cells bare.strokes (All-text_cells P role (suggestion_glyph_of decor glyph) (AllPass-from_list_all (is_stroke decor) (suggestion_glyph_of decor glyph) (glyph_strokes decor glyph other)));
-      marks = λ c after. subst (λ (cell : Cell). IsMarkOrSpace decor cell.ch) (sym (slice_index_or-written_after SPACE row (gutter + 1) cells c SPACE (omega (arith, short, after)))) (bare.marks c after);
-      free = free_written row (gutter + 1) cells bare.free (free_drawn role (suggestion_glyph_of decor glyph) (All-from_none is_listed (suggestion_glyph_of decor glyph) (glyph_unlisted decor glyph)));
+      strokes = each_written P row (gutter + 1) (gutter + 3) cells bare.strokes
+          (All-text_cells P role (suggestion_glyph_of decor glyph) (AllPass-from_list_all (is_stroke decor) (suggestion_glyph_of decor glyph)
+          (glyph_strokes decor glyph other)));
+      marks = λ c after. subst (λ (cell : Cell). IsMarkOrSpace decor cell.ch)
+          (sym (slice_index_or-written_after SPACE row (gutter + 1) cells c SPACE (omega (arith, short, after)))) (bare.marks c after);
+      free = free_written row (gutter + 1) cells bare.free (free_drawn role (suggestion_glyph_of decor glyph)
+          (All-from_none is_listed (suggestion_glyph_of decor glyph) (glyph_unlisted decor glyph)));
     }
 
 -- a row that spaces lead, and that ends before the line's place with what stands left of it
@@ -54,9 +58,16 @@ pub bare_led : (decor : DecorStyle) (gutter at : ℕ) (role : ElementStyle) (cs 
 bare_led decor gutter at role cs short strokes free =
     let P : Cell → Type 0 = λ cell. is_stroke decor cell.ch ≡ true in
     let row = replicate at SPACE ++ text_cells role cs in
-    let long : length row ≡ at + length cs = omega (arith, length-append (replicate at SPACE) (text_cells role cs), length-replicate at SPACE, length-text_cells role cs) in
+    let long : length row ≡ at + length cs = omega (
+      arith,
+      length-append (replicate at SPACE)
+          (text_cells role cs),
+      length-replicate at SPACE,
+      length-text_cells role cs,
+    ) in
     record {
-      strokes = λ c left. each_cell P row refl (All-append P (replicate at SPACE) (text_cells role cs) (All-replicate P at SPACE refl) (All-text_cells P role cs (AllPass-from_list_all (is_stroke decor) cs strokes))) c;
+      strokes = λ c left. each_cell P row refl (All-append P (replicate at SPACE) (text_cells role cs) (All-replicate P at SPACE refl)
+          (All-text_cells P role cs (AllPass-from_list_all (is_stroke decor) cs strokes))) c;
       marks = λ c after. subst (λ (cell : Cell). IsMarkOrSpace decor cell.ch) (sym (get_or_past row c SPACE (omega (arith, long, short, after)))) (inl refl);
       free = free_led at (text_cells role cs) (free_drawn role cs (All-from_none is_listed cs free));
     }
@@ -87,7 +98,8 @@ put_left gutter role old cs row covers there c inside =
     let ch : Cell → ℕ = λ cell. cell.ch in
     elim (cases_lt c at) [
       | inl before ↦
-          ap ch (slice_index_or-written_before SPACE row at cells c before) ∙ there c inside ∙ get_or_append_left spaces old 32 c (omega (arith, long, before)) ∙ sym (get_or_append_left spaces cs 32 c (omega (arith, long, before)))
+          ap ch (slice_index_or-written_before SPACE row at cells c before) ∙ there c inside ∙ get_or_append_left spaces old 32 c (omega (arith, long, before))
+          ∙ sym (get_or_append_left spaces cs 32 c (omega (arith, long, before)))
       | inr not_before ↦
           elim (cases_lt c (at + length cs)) [
             | inl within ↦
@@ -95,7 +107,8 @@ put_left gutter role old cs row covers there c inside =
                 let shown : slice_index_or (written SPACE row at cells) c SPACE ≡ slice_index_or cells (c - at) SPACE =
                 ap (λ (k : ℕ). slice_index_or (written SPACE row at cells) k SPACE) (sym here)
                 ∙ slice_index_or-written_inside SPACE row at cells (c - at) SPACE (omega (arith, size, within, not_before)) in
-                ap ch shown ∙ ch_at cells (c - at) ∙ ap (λ (t : List ℕ). slice_index_or t (c - at) 32) (row_text-text_cells role cs) ∙ sym (get_or-append_right spaces cs at c 32 long (omega (arith, not_before)))
+                ap ch shown ∙ ch_at cells (c - at) ∙ ap (λ (t : List ℕ). slice_index_or t (c - at) 32) (row_text-text_cells role cs)
+                ∙ sym (get_or-append_right spaces cs at c 32 long (omega (arith, not_before)))
             | inr past ↦
                 ap ch (slice_index_or-written_after SPACE row at cells c SPACE (omega (arith, size, past))) ∙ there c inside
                 ∙ get_or_past (spaces ++ old) c 32 (omega (arith, length-append spaces old, long, covers, past))
@@ -126,9 +139,14 @@ stroke_none decor gutter = record { bare = bare_none decor gutter; left_is = λ 
 
 -- a glyph that is put after the gutter of such a row
 pub stroke_signed : (decor : DecorStyle) (gutter : ℕ) (role : ElementStyle) (glyph : SuggestionGlyph) → is_sign glyph ≡ false
-    → IsEdgeRow decor gutter (beside_gutter gutter (suggestion_glyph_of decor glyph)) (written SPACE [] (gutter + 1) (text_cells role (suggestion_glyph_of decor glyph)))
+    → IsEdgeRow decor gutter (beside_gutter gutter (suggestion_glyph_of decor glyph))
+    (written SPACE [] (gutter + 1) (text_cells role (suggestion_glyph_of decor glyph)))
 stroke_signed decor gutter role glyph other =
-    stroke_put decor gutter role glyph [] [] other (omega arith) (record { bare = bare_none decor gutter; left_is = λ c inside. sym (spaces_left (gutter + 1) c) })
+    stroke_put decor gutter role glyph [] [] other (omega arith) (record {
+      bare = bare_none decor gutter;
+      left_is = λ c inside.
+          sym (spaces_left (gutter + 1) c);
+    })
 
 -- a row of a placeholder was added
 pub gap_added : (gutter : ℕ) (decor : DecorStyle) (old new : List (List Cell)) (row at : ℕ) (text : List ℕ) → row ≡ length old
@@ -139,7 +157,8 @@ gap_added gutter decor old new row at text below right is writes =
     let cs = chars text in
     let left : at ≤ gutter = omega (arith, right) in
     let some : 0 < length text = omega (arith, length-chars_le text, ap length is, placeholder_some decor) in
-    let gap_is : replicate at 32 ++ cs ≡ gap_left decor gutter = ap (λ (n : ℕ). replicate n 32 ++ cs) right ∙ ap (λ t. replicate (gutter - width_of (placeholder_of decor)) 32 ++ t) is in
+    let gap_is : replicate at 32 ++ cs ≡ gap_left decor gutter = ap (λ (n : ℕ). replicate n 32 ++ cs) right
+    ∙ ap (λ t. replicate (gutter - width_of (placeholder_of decor)) 32 ++ t) is in
     record {
       row = replicate at SPACE ++ text_cells LineNumber cs;
       added = begun_by old new row at (text_cells LineNumber cs) below (writes some);

@@ -111,7 +111,8 @@ unfolded_cells code v false = refl
 --     1 - a
 --       |
 deleted_cells : (code : ℕ) (v : Vec Patch Global) (follows : Bool)
-    → suggestion_cells (ascii code) Opening follows (deleted_line v) [] ≡ stroke ∷ (text_cells LineNumber (codes "1") ++ SPACE ∷ text_cells Removal (codes "- a")) ∷ stroke ∷ []
+    → suggestion_cells (ascii code) Opening follows (deleted_line v) []
+    ≡ stroke ∷ (text_cells LineNumber (codes "1") ++ SPACE ∷ text_cells Removal (codes "- a")) ∷ stroke ∷ []
 unfolding suggestion_cells body_cells cells_of begin_cells end_cells removed_cells on_last put sign_of with_stretches with_mark with_marks
     changed_within written new_stretches replaced_stretches norm digits char_width unicode_width locations_of location_of start_location end_location
     place_of steps_after_text shown_text trimmed_edit sandwich kept_before start_of line_of chars last_line_reached newline_count trim_start trim_end
@@ -126,7 +127,8 @@ deleted_cells code v false = refl
 --     1 - a
 --       |
 left_out_row : (code : ℕ) (v : Vec Patch Global) (follows : Bool)
-    → suggestion_cells (ascii code) Opening follows (first_line_deleted v) [] ≡ stroke ∷ (text_cells LineNumber (codes "1") ++ SPACE ∷ text_cells Removal (codes "- a")) ∷ stroke ∷ []
+    → suggestion_cells (ascii code) Opening follows (first_line_deleted v) []
+    ≡ stroke ∷ (text_cells LineNumber (codes "1") ++ SPACE ∷ text_cells Removal (codes "- a")) ∷ stroke ∷ []
 unfolding suggestion_cells body_cells cells_of begin_cells end_cells removed_cells on_last put sign_of with_stretches with_mark with_marks
     changed_within written new_stretches replaced_stretches norm digits char_width unicode_width locations_of location_of start_location end_location
     place_of steps_after_text shown_text trimmed_edit sandwich kept_before start_of line_of chars last_line_reached newline_count trim_start trim_end

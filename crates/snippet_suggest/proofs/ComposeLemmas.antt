@@ -79,6 +79,9 @@ pub line_lines : (layout : SuggestionLayout) (first : ℕ) (line : List ℕ) (ab
     → (adds : AddsRow (IsLineRow layout.base.decor layout.base.gutter (shown_number layout.numbers layout.base.gutter first) (norm (chars line))) above mid)
     → IsRepainted above adds.row new → AddsRows layout first (line ∷ []) (Offers 0 ∷ []) above new
 line_lines layout first line above mid new small adds painted =
-    let shown : AddsRow (IsLineRow layout.base.decor layout.base.gutter (shown_number layout.numbers layout.base.gutter first) (norm (chars line))) above new = line_repainted layout.base.decor layout.base.gutter (shown_number layout.numbers layout.base.gutter first) (norm
+    let shown : AddsRow (IsLineRow layout.base.decor layout.base.gutter (shown_number layout.numbers layout.base.gutter first)
+    (norm (chars line))) above new = line_repainted layout.base.decor layout.base.gutter (shown_number layout.numbers layout.base.gutter first) (norm
     (chars line)) above mid new adds painted in
-    row_alone layout first (line ∷ []) (Offers 0) above new (subst (λ (n : ℕ). AddsRow (IsLineRow layout.base.decor layout.base.gutter (shown_number layout.numbers layout.base.gutter n) (norm (chars line))) above new) (sym (number_first first small)) shown)
+    row_alone layout first (line ∷ []) (Offers 0) above new (subst (λ (n : ℕ). AddsRow
+    (IsLineRow layout.base.decor layout.base.gutter (shown_number layout.numbers layout.base.gutter n) (norm (chars line))) above new)
+    (sym (number_first first small)) shown)

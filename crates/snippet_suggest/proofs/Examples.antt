@@ -39,7 +39,8 @@ snippet v folds text ps few =
 -- a suggestion of some patches is of this kind. These lines are given. Of the lines of the patched source those of these numbers
 -- are offered, and of the source's lines those of these are shown as removed. This number is counted. Where it begins in a row of its
 -- own, its rows but the last show this
-pub record Gives (s : Snippet Patch) (kind : DisplaySuggestion) (lines : List (List ℕ)) (offered removed : List ℕ) (counted : ℕ) (rows : List SuggestionRow) : Type 0 where
+pub record Gives (s : Snippet Patch) (kind : DisplaySuggestion) (lines : List (List ℕ)) (offered removed : List ℕ) (counted : ℕ)
+    (rows : List SuggestionRow) : Type 0 where
   pub kind_is : shown_kind s ≡ kind
   pub lines_are : given_lines s ≡ lines
   pub offered_are : offered_lines s ≡ offered
@@ -174,10 +175,12 @@ first_of_three_gives v = record { kind_is = refl; lines_are = refl; offered_are 
 --     7 ~ gy
 --       |
 abbrev gap : Vec Patch Global → Snippet Patch
-gap v = snippet v true (codes "a" ++ 10 ∷ codes "b" ++ 10 ∷ codes "c" ++ 10 ∷ codes "d" ++ 10 ∷ codes "e" ++ 10 ∷ codes "f" ++ 10 ∷ codes "g") (patch 0 0 (codes "x") ∷ patch 13 13 (codes "y") ∷ []) (omega arith)
+gap v = snippet v true (codes "a" ++ 10 ∷ codes "b" ++ 10 ∷ codes "c" ++ 10 ∷ codes "d" ++ 10 ∷ codes "e" ++ 10 ∷ codes "f" ++ 10 ∷ codes "g")
+    (patch 0 0 (codes "x") ∷ patch 13 13 (codes "y") ∷ []) (omega arith)
 
 gap_gives : (v : Vec Patch Global)
-    → Gives (gap v) Plain (codes "xa" ∷ codes "b" ∷ codes "c" ∷ codes "d" ∷ codes "e" ∷ codes "f" ∷ codes "gy" ∷ []) (0 ∷ 1 ∷ 5 ∷ 6 ∷ []) [] 7 (Begins Opening ∷ Offers 0 ∷ Offers 1 ∷ Skips ∷ Offers 5 ∷ Offers 6 ∷ [])
+    → Gives (gap v) Plain (codes "xa" ∷ codes "b" ∷ codes "c" ∷ codes "d" ∷ codes "e" ∷ codes "f" ∷ codes "gy" ∷ []) (0 ∷ 1 ∷ 5 ∷ 6 ∷ []) [] 7
+    (Begins Opening ∷ Offers 0 ∷ Offers 1 ∷ Skips ∷ Offers 5 ∷ Offers 6 ∷ [])
 unfolding shown_text trimmed_edit sandwich kept_before start_of line_of chars last_line_reached newline_count trim_start trim_end lib.Utf8.encode
 gap_gives v = record { kind_is = refl; lines_are = refl; offered_are = refl; removed_are = refl; counted-is = refl; rows_are = refl }
 

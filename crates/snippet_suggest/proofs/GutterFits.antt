@@ -39,13 +39,16 @@ kind_by few takes replaces adds =
 few_by : (few takes replaces adds : Bool) (kind : DisplaySuggestion) → kind_by few takes replaces adds ≡ kind → counted_folded kind 0 0 1 ≡ 0 → few ≡ true
 few_by true takes replaces adds kind is one = refl
 few_by false takes true true kind is one = let same : counted_folded Add 0 0 1 ≡ 0 = ap (λ k. counted_folded k 0 0 1) is ∙ one in absurd (omega (arith, same))
-few_by false takes true false kind is one = let same : counted_folded Plain 0 0 1 ≡ 0 = ap (λ k. counted_folded k 0 0 1) is ∙ one in absurd (omega (arith, same))
-few_by false takes false adds kind is one = let same : counted_folded Plain 0 0 1 ≡ 0 = ap (λ k. counted_folded k 0 0 1) is ∙ one in absurd (omega (arith, same))
+few_by false takes true false kind is one = let same : counted_folded Plain 0 0 1 ≡ 0 = ap (λ k. counted_folded k 0 0 1) is
+    ∙ one in absurd (omega (arith, same))
+few_by false takes false adds kind is one = let same : counted_folded Plain 0 0 1 ≡ 0 = ap (λ k. counted_folded k 0 0 1) is
+    ∙ one in absurd (omega (arith, same))
 
 -- in a diff, and as one line with marks, at most one line is given
 pub one_given : (source : List ℕ) (ts : List Edit) (text : List ℕ) → counted_folded (kind_of source ts text) 0 0 1 ≡ 0 → length (lines_of text) ≤ 1
 one_given source ts text one =
-    let few : nat_le (length (lines_of text)) 1 ≡ true = few_by (nat_le (length (lines_of text)) 1) (list_any (takes_away source) ts) (is_only_replacement ts text) (adds_lines ts) (kind_of source ts text) refl one in
+    let few : nat_le (length (lines_of text)) 1 ≡ true = few_by (nat_le (length (lines_of text)) 1) (list_any (takes_away source) ts)
+    (is_only_replacement ts text) (adds_lines ts) (kind_of source ts text) refl one in
     grind (arith, nat_tests)
 
 -- a text that has lines has one more than newlines are counted in it
@@ -87,14 +90,21 @@ counted_last s can k within =
     let last : ℕ = first + newline_count (given_text s) in
     let size : length (given_lines s) ≡ length (lines_of (given_text s)) = length-map (lines_of (given_text s)) (λ l. l.0) in
     let lines : length (lines_of (given_text s)) ≡ newline_count (given_text s) + 1 = lines_counted (given_text s) (omega (arith, within, size)) in
-    let spans : All (λ e. IsSpan source e.start e.end) (in_order (edits_of s)) = spans_in_order source (edits_of s) (All-map (λ e. IsSpan source e.start e.end) edit_of s.markers.items can.spans) in
+    let spans : All (λ e. IsSpan source e.start e.end) (in_order (edits_of s)) = spans_in_order source (edits_of s)
+    (All-map (λ e. IsSpan source e.start e.end) edit_of s.markers.items can.spans) in
     let Holds : ℕ → Type 0 = λ n. (first + k ≤ n) × (n < 2 ^ 64) in
     let low : first + k ≤ last = omega (arith, within, size, lines) in
     let small : last < 2 ^ 64 = omega (arith, can.numbers, size, lines) in
     cond_both s.fold (counted_folded (shown_kind s) first removed last) last Holds
     (λ folds.
-    let shown : first_given s ≡ line_of ls (first_start (in_order (edits_of s))) = cond-true s.fold (line_of ls (first_start (in_order (edits_of s)))) 0 folds in
-    let before : first ≤ removed = omega (arith, shown, line_of-mono ls (first_start (in_order (edits_of s))) (first_end (trimmed_of s)) (omega (arith, length-source_lines source)) (first_before source (in_order (edits_of s)) spans)) in
+    let shown : first_given s ≡ line_of ls (first_start (in_order (edits_of s))) = cond-true s.fold
+    (line_of ls (first_start (in_order (edits_of s)))) 0 folds in
+    let before : first ≤ removed = omega (
+      arith,
+      shown,
+      line_of-mono ls (first_start (in_order (edits_of s))) (first_end (trimmed_of s))
+          (omega (arith, length-source_lines source)) (first_before source (in_order (edits_of s)) spans),
+    ) in
     let one : counted_folded (shown_kind s) 0 0 1 ≡ 0 → k ≡ 0 = λ is. omega (arith, one_given source (trimmed_of s) (given_text s) is, within, size) in
     let there : removed < 2 ^ 64 = omega (arith, can.lines, line_of-within source (first_end (trimmed_of s))) in
     (folded_fits (shown_kind s) first removed last k one before low, folded_small (shown_kind s) first removed last (omega (arith, small)) there small))
@@ -113,4 +123,5 @@ numbers_fit layout s can room k within =
     let first : ℕ = s.line_start + first_given s in
     let counted = counted_last s can k within in
     let same : number_after first k ≡ first + k = omega (arith, counted.0, counted.1) in
-    subst (λ (n : ℕ). length (shown_number layout.numbers layout.base.gutter n) ≤ layout.base.gutter + 1) (sym same) (shown_fits layout.numbers layout.base.gutter (first + k) (counted_line s) room counted.0 counted.1)
+    subst (λ (n : ℕ). length (shown_number layout.numbers layout.base.gutter n) ≤ layout.base.gutter + 1) (sym same)
+    (shown_fits layout.numbers layout.base.gutter (first + k) (counted_line s) room counted.0 counted.1)

@@ -64,15 +64,20 @@ module _ (p : PreparedSuggestion) (line : List ℕ) (infos : List LineInfo) (sta
 
   numbers : numbered_at infos ≡ map {B = ℕ × List ℕ} (λ j. (p.snippet.now.line_start + j, text j)) (range_with_len from count)
   numbers =
-      let Lines : Source → ℕ → ℕ → List (ℕ × List ℕ) = λ s i j. map {B = ℕ × List ℕ} (λ k. (s.first + k, text_at (source_lines s.text) k)) (range_with_len (line_of (source_lines s.text) i) (line_of (source_lines s.text) j + 1 - line_of (source_lines s.text) i)) in
+      let Lines : Source → ℕ → ℕ → List (ℕ × List ℕ) = λ s i j. map {B = ℕ × List ℕ} (λ k.
+      (s.first + k, text_at (source_lines s.text) k)) (range_with_len (line_of (source_lines s.text) i)
+      (line_of (source_lines s.text) j + 1 - line_of (source_lines s.text) i)) in
       let s : Source = record { text = source; first = p.snippet.now.line_start } in
-      touched_numbered p.map infos start end is.are ∙ ap (λ m. Lines m start end) is.prepared.lines ∙ ap (λ n. Lines s n end) (is.starts ∙ ap first_start is.prepared.edits) ∙ ap (Lines s (first_start (trimmed_of p.snippet.now))) (is.ends ∙ ap (end_from 0) is.prepared.edits)
+      touched_numbered p.map infos start end is.are ∙ ap (λ m. Lines m start end) is.prepared.lines
+      ∙ ap (λ n. Lines s n end) (is.starts ∙ ap first_start is.prepared.edits)
+      ∙ ap (Lines s (first_start (trimmed_of p.snippet.now))) (is.ends ∙ ap (end_from 0) is.prepared.edits)
 
   -- the lines that a diff removes stand one after another in the source
   pub known_diff : AreReplaced p.snippet.now line text from count infos
   known_diff =
       let some : 0 < length infos = touched_some p.map infos start end is.ordered is.are in
-      let long : length infos ≡ count = sym (length-map infos (λ (info : LineInfo). (info.line_index, info.line.now))) ∙ ap length numbers ∙ length-map (range_with_len from count) _ ∙ length-range_with_len from count in
+      let long : length infos ≡ count = sym (length-map infos (λ (info : LineInfo). (info.line_index, info.line.now))) ∙ ap length numbers
+      ∙ length-map (range_with_len from count) _ ∙ length-range_with_len from count in
       let there : to ≡ from + (count - 1) = omega (arith, some, long) in
       record {
         one = is.one;
@@ -98,4 +103,6 @@ module _ (p : PreparedSuggestion) (line : List ℕ) (infos : List LineInfo) (sta
       ∙ ap (map text) (replaced_touched p is.prepared line is.one is.touches ∙ unless_range (bytes_eq line (last_reached s)) from count) in
       let removed = known_replaced_rows p is.prepared line infos start end first is.diff is.one is.touches is.starts is.ends is.are last is.numbered in
       let touched : is_touched s.fold (given_ranges s) 0 ≡ true = ap (λ rs. is_touched s.fold rs 0) (sym is.prepared.ranges) ∙ sym is.touches in
-      rows_diff at s line [] true left is.one (sym is.prepared.kind ∙ is.diff) touched refl ∙ ap (λ rs. Begins at ∷ changed_rows true left rs) (sym removed ∙ ap (λ ts. Removed ts first) texts ∙ ap (Removed (map text (range_with_len from (shown_count s line count)))) is.numbered)
+      rows_diff at s line [] true left is.one (sym is.prepared.kind ∙ is.diff) touched refl
+      ∙ ap (λ rs. Begins at ∷ changed_rows true left rs) (sym removed ∙ ap (λ ts. Removed ts first) texts
+      ∙ ap (Removed (map text (range_with_len from (shown_count s line count)))) is.numbered)

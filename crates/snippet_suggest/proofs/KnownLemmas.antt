@@ -25,13 +25,15 @@ use Rattle.snippet_suggest.proofs.PreparedLemmas.{first-original}
 edit_spans : (p : PreparedSuggestion) → IsPrepared p → All (λ e. IsSpan p.map.text e.start e.end) (edits_of p.snippet.now)
 edit_spans p is =
     let source : List ℕ = cow_str_bytes p.snippet.now.source in
-    subst (λ text. All (λ (e : Edit). IsSpan text e.start e.end) (edits_of p.snippet.now)) (sym (ap (λ m. m.text) is.lines)) (All-map (λ e. IsSpan source e.start e.end) edit_of p.snippet.now.markers.items is.suggestible.spans)
+    subst (λ text. All (λ (e : Edit). IsSpan text e.start e.end) (edits_of p.snippet.now)) (sym (ap (λ m. m.text) is.lines))
+    (All-map (λ e. IsSpan source e.start e.end) edit_of p.snippet.now.markers.items is.suggestible.spans)
 
 -- so are those of its patches, and those that they had before they were trimmed
 pub known_spans : (p : PreparedSuggestion) → IsPrepared p → All (λ t. IsSpan p.map.text t.span.start t.span.end) p.splice.patches.items
 known_spans p is =
     let text : cow_str_bytes p.snippet.now.source ≡ p.map.text = sym (ap (λ m. m.text) is.lines) in
-    trimmed_spans p.map.text (edits_of p.snippet.now) p.splice.patches.items (edit_spans p is) (is.edits ∙ ap (λ source. trimmed_edits source (edits_of p.snippet.now)) text)
+    trimmed_spans p.map.text (edits_of p.snippet.now) p.splice.patches.items (edit_spans p is)
+    (is.edits ∙ ap (λ source. trimmed_edits source (edits_of p.snippet.now)) text)
 
 -- the patches of a prepared suggestion stand on spans of its source
 pub known_originals : (p : PreparedSuggestion) → IsPrepared p → All (λ t. IsSpan p.map.text t.original_span.start t.original_span.end) p.splice.patches.items
@@ -50,7 +52,8 @@ known_some p is = go p.splice.patches.items is.edits
 pub known_apart : (p : PreparedSuggestion) → IsPrepared p → AreApart 0 (trimmed_edits (cow_str_bytes p.snippet.now.source) (edits_of p.snippet.now))
 known_apart p is =
     let source : List ℕ = cow_str_bytes p.snippet.now.source in
-    trimmed-apart source 0 (in_order (edits_of p.snippet.now)) (apart-in_order (edits_of p.snippet.now) (ordered-spans source p.snippet.now.markers.items is.suggestible.spans) is.suggestible.disjoint)
+    trimmed-apart source 0 (in_order (edits_of p.snippet.now)) (apart-in_order (edits_of p.snippet.now)
+    (ordered-spans source p.snippet.now.markers.items is.suggestible.spans) is.suggestible.disjoint)
 
 -- the last of the lines that are removed is the last that its patches reach
 pub known_reached : (p : PreparedSuggestion) → IsPrepared p → (infos : List LineInfo) (start end : ℕ) → start ≤ end
@@ -83,9 +86,11 @@ known_first_end p is =
 
 -- the number of the first line of a prepared suggestion is that of the first that is given
 pub known_first : (p : PreparedSuggestion) → IsPrepared p
-    → p.map.first + (if p.snippet.now.fold then line_of (source_lines p.map.text) (first_original p.splice.patches.items) else 0) ≡ p.snippet.now.line_start + first_given p.snippet.now
+    → p.map.first + (if p.snippet.now.fold then line_of (source_lines p.map.text) (first_original p.splice.patches.items) else 0)
+    ≡ p.snippet.now.line_start + first_given p.snippet.now
 known_first p is =
     let s = p.snippet.now in
     let trimmed = p.splice.patches.items in
     ap (λ m. m.first + (if s.fold then line_of (source_lines m.text) (first_original trimmed) else 0)) is.lines
-    ∙ ap (λ b. s.line_start + (if s.fold then line_of (source_lines (cow_str_bytes s.source)) b else 0)) (first-original trimmed (in_order (edits_of s)) is.originals)
+    ∙ ap (λ b. s.line_start + (if s.fold then line_of (source_lines (cow_str_bytes s.source)) b else 0))
+    (first-original trimmed (in_order (edits_of s)) is.originals)

@@ -24,7 +24,8 @@ pub diff_numbers : (folds : Bool) (ranges : List LineRange) (line last : List �
 diff_numbers folds ranges line last true is =
     ap (λ t. if is_left_out Diff (line ∷ []) last then [] else numbers_shown (if t then shown_run 0 0 ++ (Line 0 ∷ []) else [])) is
 diff_numbers folds ranges line last false is =
-    ap (λ t. if is_left_out Diff (line ∷ []) last then [] else numbers_shown (if t then shown_run 0 0 ++ (Line 0 ∷ []) else [])) is ∙ cond_same (is_left_out Diff (line ∷ []) last)
+    ap (λ t. if is_left_out Diff (line ∷ []) last then [] else numbers_shown (if t then shown_run 0 0 ++ (Line 0 ∷ []) else [])) is
+    ∙ cond_same (is_left_out Diff (line ∷ []) last)
 
 -- where no line is given none is shown
 pub none_numbers : (kind : DisplaySuggestion) (folds : Bool) (ranges : List LineRange) (last : List ℕ) → numbers_of kind folds ranges [] last ≡ []
@@ -49,7 +50,12 @@ known_few : (p : PreparedSuggestion) → IsPrepared p → p.kind ≡ Diff → le
 known_few p is diff =
     let s = p.snippet.now in
     let kind : shown_kind s ≡ Diff = sym is.kind ∙ diff in
-    omega (arith, one_given (cow_str_bytes s.source) (trimmed_of s) (given_text s) (ap (λ k. counted_folded k 0 0 1) kind), length-map (lines_of (given_text s)) (λ l. l.0))
+    omega (
+      arith,
+      one_given (cow_str_bytes s.source) (trimmed_of s) (given_text s) (ap (λ k. counted_folded k 0 0 1) kind),
+      length-map
+          (lines_of (given_text s)) (λ l. l.0),
+    )
 
 -- a suggestion shown as a diff that gives a line gives that one alone
 pub known_one : {X : Type 0} (p : PreparedSuggestion) → IsPrepared p → p.kind ≡ Diff → (text_of : X → List ℕ) (lines : List X) (line : X)

@@ -32,7 +32,8 @@ touched_source p is infos start end are =
 
 -- those of the first patch's span, or of the whole source
 touched_either : (folds : Bool) (source : List ℕ) (start end size : ℕ)
-    → lines_touched source (if folds then start else 0) (if folds then end else size) ≡ (if folds then lines_touched source start end else lines_touched source 0 size)
+    → lines_touched source (if folds then start else 0) (if folds then end else size)
+    ≡ (if folds then lines_touched source start end else lines_touched source 0 size)
 touched_either true source start end size = refl
 touched_either false source start end size = refl
 
@@ -46,8 +47,10 @@ known_emptied p is start end starts ends =
     let first : ℕ = first_start (in_order (edits_of s)) in
     let last : ℕ = first_end (in_order (edits_of s)) in
     let from : start ≡ (if s.fold then first else 0) = starts ∙ ap (λ (n : ℕ). if s.fold then n else 0) (known_first_start p is) in
-    let to : end ≡ (if s.fold then last else length source) = ends ∙ ap (λ (n : ℕ). if s.fold then n else length p.map.text) (known_first_end p is) ∙ ap (λ m. if s.fold then last else length m.text) is.lines in
-    ap (λ (n : ℕ). lines_touched source n end) from ∙ ap (λ (n : ℕ). lines_touched source (if s.fold then first else 0) n) to ∙ touched_either s.fold source first last (length source)
+    let to : end ≡ (if s.fold then last else length source) = ends ∙ ap (λ (n : ℕ). if s.fold then n else length p.map.text) (known_first_end p is)
+    ∙ ap (λ m. if s.fold then last else length m.text) is.lines in
+    ap (λ (n : ℕ). lines_touched source n end) from ∙ ap (λ (n : ℕ). lines_touched source (if s.fold then first else 0) n) to
+    ∙ touched_either s.fold source first last (length source)
 
 -- the rows of lines that are removed, where these stand one after the other in the source
 range_removed : (f : ℕ → ℕ × List ℕ) (a n : ℕ) → removed_from a (map f (range_with_len a n)) ≡ map (λ k. Removes k (f k).0 (f k).1) (range_with_len a n)
@@ -59,8 +62,11 @@ range_counted : (f : ℕ → List ℕ) (first a b j n : ℕ) → b ≡ a + j
 range_counted f first a b j zero at = refl
 range_counted f first a b j (suc n) at =
     let here : j ≡ b - a = omega (arith, at) in
-    let rest : counted_from first (j + 1) (map f (range_with_len (b + 1) n)) ≡ map {B = ℕ × List ℕ} (λ k. (number_after first (k - a), f k)) (range_with_len (b + 1) n) = range_counted f first a (b + 1) (j + 1) n (omega (arith, at)) in
-    ap (λ ls. (number_after first j, f b) ∷ ls) rest ∙ ap (λ (m : ℕ). (number_after first m, f b) ∷ map {B = ℕ × List ℕ} (λ k. (number_after first (k - a), f k)) (range_with_len (b + 1) n)) here
+    let rest : counted_from first (j + 1) (map f (range_with_len (b + 1) n))
+    ≡ map {B = ℕ × List ℕ} (λ k. (number_after first (k - a), f k)) (range_with_len (b + 1) n) = range_counted f first a (b + 1) (j + 1) n
+    (omega (arith, at)) in
+    ap (λ ls. (number_after first j, f b) ∷ ls) rest ∙ ap (λ (m : ℕ). (number_after first m, f b) ∷ map {B = ℕ × List ℕ} (λ k.
+    (number_after first (k - a), f k)) (range_with_len (b + 1) n)) here
 
 -- the rows of those that are removed where no line stands in their place
 pub known_emptied_rows : (p : PreparedSuggestion) → IsPrepared p → (infos : List LineInfo) (start end : ℕ) → given_lines p.snippet.now ≡ []
@@ -79,7 +85,8 @@ known_emptied_rows p is infos start end none starts ends are =
     let counted : ℕ → ℕ = λ k. number_after (s.line_start + first_given s) (k - begin) in
     let row : List (List ℕ) → ℕ → SuggestionRow = λ given k. Removes k (number_beside given (s.line_start + k) (counted k)) (text_at (source_lines source) k) in
     let ks : List ℕ = removed_lines s in
-    let lines : lines_touched source start end ≡ ks = known_emptied p is start end starts ends ∙ ap (λ (given : List (List ℕ)). removed_of given (shown_kind s) (emptied_lines s) (replaced_lines s)) (sym none) in
+    let lines : lines_touched source start end ≡ ks = known_emptied p is start end starts ends
+    ∙ ap (λ (given : List (List ℕ)). removed_of given (shown_kind s) (emptied_lines s) (replaced_lines s)) (sym none) in
     ap (removed_from a) (touched_numbered p.map infos start end are) ∙ range_removed own a n
     ∙ ap (λ m. map (λ k. Removes k (m.first + k) (text_at (source_lines m.text) k)) (lines_touched m.text start end)) is.lines
     ∙ ap (map (row [])) lines ∙ ap (λ (given : List (List ℕ)). map (row given) ks) (sym none)
@@ -108,7 +115,8 @@ removes_replaced : (p : PreparedSuggestion) → IsPrepared p → (line : List �
     → removed_lines p.snippet.now ≡ replaced_lines p.snippet.now
 removes_replaced p is line diff one =
     let s = p.snippet.now in
-    ap (λ (ls : List (List ℕ)). removed_of ls (shown_kind s) (emptied_lines s) (replaced_lines s)) one ∙ ap (λ k. removed_of (line ∷ []) k (emptied_lines s) (replaced_lines s)) (sym is.kind ∙ diff)
+    ap (λ (ls : List (List ℕ)). removed_of ls (shown_kind s) (emptied_lines s) (replaced_lines s)) one
+    ∙ ap (λ k. removed_of (line ∷ []) k (emptied_lines s) (replaced_lines s)) (sym is.kind ∙ diff)
 
 -- lines are replaced where the given one is touched: those from the first edit to the last, but one that stays
 pub replaced_touched : (p : PreparedSuggestion) → IsPrepared p → (line : List ℕ) → given_lines p.snippet.now ≡ line ∷ []
@@ -118,7 +126,9 @@ pub replaced_touched : (p : PreparedSuggestion) → IsPrepared p → (line : Lis
 replaced_touched p is line one touches =
     let s = p.snippet.now in
     let ks : List ℕ = lines_touched (cow_str_bytes s.source) (first_start (trimmed_of s)) (end_from 0 (trimmed_of s)) in
-    ap (λ t. if t then unless_stays (bytes_eq (slice_index_or (given_lines s) 0 []) (last_reached s)) ks else []) (ap (λ rs. is_touched s.fold rs 0) (sym is.ranges) ∙ sym touches) ∙ ap (λ (ls : List (List ℕ)). unless_stays (bytes_eq (slice_index_or ls 0 []) (last_reached s)) ks) one
+    ap (λ t. if t then unless_stays (bytes_eq (slice_index_or (given_lines s) 0 []) (last_reached s)) ks else [])
+    (ap (λ rs. is_touched s.fold rs 0) (sym is.ranges) ∙ sym touches)
+    ∙ ap (λ (ls : List (List ℕ)). unless_stays (bytes_eq (slice_index_or ls 0 []) (last_reached s)) ks) one
 
 -- those from the first trimmed patch's start to the last one's end
 pub known_replaced : (p : PreparedSuggestion) → IsPrepared p → (line : List ℕ) (infos : List LineInfo) (start end : ℕ)
@@ -133,9 +143,12 @@ known_replaced p is line infos start end one touches starts ends are reached =
     let stays : Bool = bytes_eq line (last_reached s) in
     let from : start ≡ first_start (trimmed_of s) = starts ∙ ap first_start is.edits in
     let to : end ≡ end_from 0 (trimmed_of s) = ends ∙ ap (end_from 0) is.edits in
-    let texts : texts_at infos ≡ texts_of_source s ks = touched_source p is infos start end are ∙ ap (λ (n : ℕ). texts_of_source s (lines_touched source n end)) from ∙ ap (λ (n : ℕ). texts_of_source s (lines_touched source (first_start (trimmed_of s)) n)) to in
+    let texts : texts_at infos ≡ texts_of_source s ks = touched_source p is infos start end are
+    ∙ ap (λ (n : ℕ). texts_of_source s (lines_touched source n end)) from
+    ∙ ap (λ (n : ℕ). texts_of_source s (lines_touched source (first_start (trimmed_of s)) n)) to in
     let lines : replaced_lines s ≡ unless_stays stays ks = replaced_touched p is line one touches in
-    ap (λ (t : List ℕ). unless_stays (bytes_eq line t) (texts_at infos)) reached ∙ ap (unless_stays stays) texts ∙ unless_stays-map stays (text_at (source_lines source)) ks ∙ ap (texts_of_source s) (sym lines)
+    ap (λ (t : List ℕ). unless_stays (bytes_eq line t) (texts_at infos)) reached ∙ ap (unless_stays stays) texts
+    ∙ unless_stays-map stays (text_at (source_lines source)) ks ∙ ap (texts_of_source s) (sym lines)
 
 -- the rows of those
 pub known_replaced_rows : (p : PreparedSuggestion) → IsPrepared p → (line : List ℕ) (infos : List LineInfo) (start end first : ℕ) → p.kind ≡ Diff
@@ -159,7 +172,11 @@ known_replaced_rows p is line infos start end first diff one touches starts ends
     let ks : List ℕ = removed_lines s in
     let lines : replaced_lines s ≡ range_with_len a m = replaced_touched p is line one touches ∙ unless_range stays a n in
     let removed : range_with_len a m ≡ ks = sym lines ∙ sym (removes_replaced p is line diff one) in
-    let texts : unless_stays (bytes_eq line (last_removed infos)) (texts_at infos) ≡ map text (range_with_len a m) = known_replaced p is line infos start end one touches starts ends are reached ∙ ap (map text) lines in
+    let texts : unless_stays (bytes_eq line (last_removed infos)) (texts_at infos)
+    ≡ map text (range_with_len a m) = known_replaced p is line infos start end one touches starts ends are reached ∙ ap (map text) lines in
     let begun : a ≡ a + 0 = omega arith in
-    let rows : removed_from a (counted_from first 0 (map text (range_with_len a m))) ≡ map (row (line ∷ []) first) (range_with_len a m) = ap (removed_from a) (range_counted text first a a 0 m begun) ∙ range_removed (λ k. (number_after first (k - a), text k)) a m in
-    ap (λ (ts : List (List ℕ)). removed_from a (counted_from first 0 ts)) texts ∙ rows ∙ ap (map (row (line ∷ []) first)) removed ∙ ap (λ (at : ℕ). map (row (line ∷ []) at) ks) numbered ∙ ap (λ (given : List (List ℕ)). map (row given (s.line_start + first_given s)) ks) (sym one)
+    let rows : removed_from a (counted_from first 0 (map text (range_with_len a m)))
+    ≡ map (row (line ∷ []) first) (range_with_len a m) = ap (removed_from a) (range_counted text first a a 0 m begun)
+    ∙ range_removed (λ k. (number_after first (k - a), text k)) a m in
+    ap (λ (ts : List (List ℕ)). removed_from a (counted_from first 0 ts)) texts ∙ rows ∙ ap (map (row (line ∷ []) first)) removed
+    ∙ ap (λ (at : ℕ). map (row (line ∷ []) at) ks) numbered ∙ ap (λ (given : List (List ℕ)). map (row given (s.line_start + first_given s)) ks) (sym one)

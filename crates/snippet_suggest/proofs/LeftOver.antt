@@ -19,7 +19,8 @@ use Rattle.snippet_suggest.proofs.RowLemmas.{each_written, texted}
 -- a number holds digits and spaces
 decimal_holds : (P : ℕ → Type 0) → ((d : ℕ) → d < 10 → P (48 + d)) → (n : ℕ) → n < 2 ^ 64 → All P (decimal n)
 decimal_holds P digit n fits =
-    decimal_by_steps (λ _ ds. All P ds) (λ m one. All-cons P (48 + m) [] (digit m one) (All-nil P)) (λ m ds more so_far. All-push P ds (48 + m % 10) so_far (digit (m % 10) (omega arith))) n fits
+    decimal_by_steps (λ _ ds. All P ds) (λ m one. All-cons P (48 + m) [] (digit m one) (All-nil P)) (λ m ds more so_far.
+    All-push P ds (48 + m % 10) so_far (digit (m % 10) (omega arith))) n fits
 
 right_holds : (P : ℕ → Type 0) → P 32 → (gutter : ℕ) (cs : List ℕ) → All P cs → All P (set_right gutter cs)
 right_holds P space gutter cs holds =
@@ -62,7 +63,8 @@ pub before_sign : (numbers : LineNumbers) (decor : DecorStyle) (gutter : ℕ) (n
 before_sign numbers decor gutter [] row number_is strokes c left = inl (strokes c left)
 before_sign numbers decor gutter (b ∷ bs) row number_is strokes c left =
     let P : Cell → Type 0 = λ cell. IsBeforeSign numbers decor cell.ch in
-    each_written P row 0 (gutter + 3) (text_cells LineNumber (chars (b ∷ bs))) (λ k inside. inl (strokes k inside)) (All-text_cells P LineNumber (chars (b ∷ bs)) number_is) c left
+    each_written P row 0 (gutter + 3) (text_cells LineNumber (chars (b ∷ bs))) (λ k inside.
+    inl (strokes k inside)) (All-text_cells P LineNumber (chars (b ∷ bs)) number_is) c left
 
 -- what stands after the gutter of a row that showed no line, once a number was put into it
 pub left_over : (decor : DecorStyle) (gutter : ℕ) (number : List ℕ) (row : List Cell) → StaysLeft decor gutter (chars number)
@@ -79,7 +81,8 @@ left_over decor gutter (b ∷ bs) row number_is marks c right =
             | inl left ↦ All-text_cells P LineNumber (chars (b ∷ bs)) left c SPACE inside
             | inr short ↦ absurd (omega (arith, short, inside, right, length-text_cells LineNumber (chars (b ∷ bs))))
           ] in
-          subst (λ (k : ℕ). P (slice_index_or (written SPACE row 0 cells) k SPACE)) here (subst P (sym (slice_index_or-written_inside SPACE row 0 cells c SPACE inside)) there)
+          subst (λ (k : ℕ). P (slice_index_or (written SPACE row 0 cells) k SPACE)) here
+          (subst P (sym (slice_index_or-written_inside SPACE row 0 cells c SPACE inside)) there)
       | inr past ↦
           subst P (sym (slice_index_or-written_after SPACE row 0 cells c SPACE (omega (arith, past)))) (inl (marks c right))
     ]

@@ -38,14 +38,16 @@ line_row_between : (gutter c : ℕ) (sign_role number_role line_role : ElementSt
 line_row_between gutter c sign_role number_role line_role sign number text after left =
     let led = sign_row gutter sign_role sign in
     let cells = text_cells number_role (chars number) in
-    kept_after text (texted number led 0 cells) (gutter + 3) c (text_cells line_role (chars text)) left ∙ left_after number led 0 c cells (omega (arith, length-text_cells number_role (chars number), after))
+    kept_after text (texted number led 0 cells) (gutter + 3) c (text_cells line_role (chars text)) left
+    ∙ left_after number led 0 c cells (omega (arith, length-text_cells number_role (chars number), after))
 
 -- a glyph's row holds no letter or digit
 sign_row_plain : (gutter : ℕ) (role : ElementStyle) (sign : List ℕ) → list_any is_ascii_alphanumeric sign ≡ false → (c : ℕ)
     → is_ascii_alphanumeric (slice_index_or (sign_row gutter role sign) c SPACE).ch ≡ false
 sign_row_plain gutter role sign plain c =
     let P : Cell → Type 0 = λ cell. is_ascii_alphanumeric cell.ch ≡ false in
-    each_cell P (sign_row gutter role sign) refl (All-append P (replicate (gutter + 1) SPACE) (text_cells role sign) (All-replicate P (gutter + 1) SPACE refl) (All-text_cells P role sign (All-from_none is_ascii_alphanumeric sign plain))) c
+    each_cell P (sign_row gutter role sign) refl (All-append P (replicate (gutter + 1) SPACE) (text_cells role sign) (All-replicate P (gutter + 1) SPACE refl)
+    (All-text_cells P role sign (All-from_none is_ascii_alphanumeric sign plain))) c
 
 -- and shows the glyph after the gutter, with a space if it has one character
 sign_row_sign : (gutter : ℕ) (role : ElementStyle) (decor : DecorStyle) (glyph : SuggestionGlyph) → is_sign glyph ≡ true
@@ -53,13 +55,15 @@ sign_row_sign : (gutter : ℕ) (role : ElementStyle) (decor : DecorStyle) (glyph
 sign_row_sign gutter role decor glyph is =
     let here : gutter + 1 + 0 ≡ gutter + 1 = omega arith in
     let shows = led_ch (gutter + 1) 0 role (suggestion_glyph_of decor glyph) in
-    subst (λ (c : ℕ). IsSign decor (slice_index_or (sign_row gutter role (suggestion_glyph_of decor glyph)) c SPACE).ch) here (subst (λ (ch : ℕ). IsSign decor ch) (sym shows) (sign_first decor glyph is))
+    subst (λ (c : ℕ). IsSign decor (slice_index_or (sign_row gutter role (suggestion_glyph_of decor glyph)) c SPACE).ch) here
+    (subst (λ (ch : ℕ). IsSign decor ch) (sym shows) (sign_first decor glyph is))
 
 sign_row_space : (gutter : ℕ) (role : ElementStyle) (decor : DecorStyle) (glyph : SuggestionGlyph) → is_sign glyph ≡ true
     → (slice_index_or (sign_row gutter role (suggestion_glyph_of decor glyph)) (gutter + 2) SPACE).ch ≡ 32
 sign_row_space gutter role decor glyph is =
     let here : gutter + 1 + 1 ≡ gutter + 2 = omega arith in
-    sym (ap (λ c. (slice_index_or (sign_row gutter role (suggestion_glyph_of decor glyph)) c SPACE).ch) here) ∙ led_ch (gutter + 1) 1 role (suggestion_glyph_of decor glyph) ∙ sign_second decor glyph is
+    sym (ap (λ c. (slice_index_or (sign_row gutter role (suggestion_glyph_of decor glyph)) c SPACE).ch) here)
+    ∙ led_ch (gutter + 1) 1 role (suggestion_glyph_of decor glyph) ∙ sign_second decor glyph is
 
 -- it offers the line
 line_row_offers : (decor : DecorStyle) (glyph : SuggestionGlyph) (gutter : ℕ) (sign_role number_role line_role : ElementStyle) (number text : List ℕ)
@@ -73,13 +77,17 @@ line_row_offers decor glyph gutter sign_role number_role line_role number text i
     let numbered = texted number led 0 cells in
     let led_long : length led ≡ gutter + 1 + length sign = length-sign_row gutter sign_role sign in
     let numbered_long : gutter + 1 ≤ length numbered = omega (arith, led_long, length-texted_ge number led 0 cells) in
-    let numbered_short : length numbered ≤ gutter + 3 = length-texted_le number led 0 (gutter + 3) cells (omega (arith, led_long, glyph_short decor glyph)) (omega (arith, fits, length-text_cells number_role (chars number))) in
-    let between = λ (c : ℕ) (after : length (chars number) ≤ c) (left : c < gutter + 3). line_row_between gutter c sign_role number_role line_role sign number text after left in
+    let numbered_short : length numbered ≤ gutter + 3 = length-texted_le number led 0 (gutter + 3) cells (omega (arith, led_long, glyph_short decor glyph))
+    (omega (arith, fits, length-text_cells number_role (chars number))) in
+    let between = λ (c : ℕ) (after : length (chars number) ≤ c) (left : c < gutter + 3). line_row_between gutter c sign_role number_role line_role sign number
+    text after left in
     let sign_is = between (gutter + 1) fits (omega arith) in
     let space_is = between (gutter + 2) (omega (arith, fits)) (omega arith) in
     record {
-      numbered = ap row_text (take_texted (length (chars number)) text numbered (gutter + 3) (text_cells line_role (chars text)) (omega (arith, fits)) (omega (arith, fits, numbered_long))) ∙ begins_texted number led number_role;
-      beside = λ c after left. ap (λ (cell : Cell). is_ascii_alphanumeric cell.ch) (between c after left) ∙ sign_row_plain gutter sign_role sign (glyph_plain decor glyph) c;
+      numbered = ap row_text (take_texted (length (chars number)) text numbered (gutter + 3) (text_cells line_role (chars text)) (omega (arith, fits))
+          (omega (arith, fits, numbered_long))) ∙ begins_texted number led number_role;
+      beside = λ c after left. ap (λ (cell : Cell). is_ascii_alphanumeric cell.ch) (between c after left)
+          ∙ sign_row_plain gutter sign_role sign (glyph_plain decor glyph) c;
       sign = subst (λ (cell : Cell). IsSign decor cell.ch) (sym sign_is) (sign_row_sign gutter sign_role decor glyph is);
       space = ap (λ (cell : Cell). cell.ch) space_is ∙ sign_row_space gutter sign_role decor glyph is;
       holds = holds_texted gutter text numbered line_role numbered_short;
@@ -97,5 +105,8 @@ pub line_row_is : (decor : DecorStyle) (glyph : SuggestionGlyph) (gutter : ℕ) 
 line_row_is decor glyph gutter sign_role number_role line_role sign number shown text norm_text is sign_is number_is fits free_number text_is free_text =
     let row = λ (signs : List ℕ). line_row gutter sign_role number_role line_role signs number text in
     let free : All (λ c. is_listed c ≡ false) (chars number) = subst (λ (t : List ℕ). All (λ c. is_listed c ≡ false) t) (sym number_is) free_number in
-    let offers = line_row_offers decor glyph gutter sign_role number_role line_role number text is (omega (arith, fits, ap length number_is)) free (ap (list_any is_listed) text_is ∙ free_text) in
-    subst (λ (signs : List ℕ). IsLineRow decor gutter shown norm_text (row signs)) (sym sign_is) (subst (λ (t : List ℕ). IsLineRow decor gutter shown t (row (suggestion_glyph_of decor glyph))) text_is (subst (λ (n : List ℕ). IsLineRow decor gutter n (chars text) (row (suggestion_glyph_of decor glyph))) number_is offers))
+    let offers = line_row_offers decor glyph gutter sign_role number_role line_role number text is (omega (arith, fits, ap length number_is)) free
+    (ap (list_any is_listed) text_is ∙ free_text) in
+    subst (λ (signs : List ℕ). IsLineRow decor gutter shown norm_text (row signs)) (sym sign_is)
+    (subst (λ (t : List ℕ). IsLineRow decor gutter shown t (row (suggestion_glyph_of decor glyph))) text_is
+    (subst (λ (n : List ℕ). IsLineRow decor gutter n (chars text) (row (suggestion_glyph_of decor glyph))) number_is offers))

@@ -43,7 +43,8 @@ mark_there decor role ch at c row is before =
       | inl left ↦ subst Shows (sym (slice_index_or-written_before SPACE row at cells c left)) before
       | inr not_left ↦
           elim (cases_eq c at) [
-            | inl same ↦ subst (λ (n : ℕ). Shows (slice_index_or (written SPACE row at cells) n SPACE)) (here ∙ sym same) (subst Shows (sym (slice_index_or-written_inside SPACE row at cells 0 SPACE (omega arith))) is)
+            | inl same ↦ subst (λ (n : ℕ). Shows (slice_index_or (written SPACE row at cells) n SPACE)) (here ∙ sym same)
+                (subst Shows (sym (slice_index_or-written_inside SPACE row at cells 0 SPACE (omega arith))) is)
             | inr other ↦ subst Shows (sym (slice_index_or-written_after SPACE row at cells c SPACE (omega (arith, not_left, other)))) before
           ]
     ]
@@ -56,7 +57,8 @@ bare_marked decor gutter at role ch row right is bare =
     let P : Cell → Type 0 = IsFreeCell in
     let free : IsFree cells = All-cons P (unlinked_cell role ch) [] (mark_unlisted decor ch is, refl) (All-nil P) in
     record {
-      strokes = λ c left. ap (λ (cell : Cell). is_stroke decor cell.ch) (slice_index_or-written_before SPACE row at cells c (omega (arith, left, right))) ∙ bare.strokes c left;
+      strokes = λ c left. ap (λ (cell : Cell). is_stroke decor cell.ch) (slice_index_or-written_before SPACE row at cells c (omega (arith, left, right)))
+          ∙ bare.strokes c left;
       marks = λ c after. mark_there decor role ch at c row is (bare.marks c after);
       free = free_written row at cells bare.free free;
     }
@@ -67,7 +69,8 @@ stroke_marked : (decor : DecorStyle) (gutter at : ℕ) (role : ElementStyle) (ch
 stroke_marked decor gutter at role ch left row right is stroke =
     record {
       bare = bare_marked decor gutter at role ch row right is stroke.bare;
-      left_is = λ c inside. ap (λ (cell : Cell). cell.ch) (slice_index_or-written_before SPACE row at (text_cells role (ch ∷ [])) c (omega (arith, inside, right))) ∙ stroke.left_is c inside;
+      left_is = λ c inside. ap (λ (cell : Cell). cell.ch) (slice_index_or-written_before SPACE row at (text_cells role (ch ∷ [])) c
+          (omega (arith, inside, right))) ∙ stroke.left_is c inside;
     }
 
 -- one mark more
@@ -78,6 +81,7 @@ marks_more decor gutter at role ch left above mid new row here right is adds wri
     let cells = text_cells role (ch ∷ []) in
     record {
       row = written SPACE adds.row at cells;
-      added = writes ∙ ap (λ (rows : List (List Cell)). cells_written rows row at cells) adds.added ∙ ap (λ r. cells_written (above ++ adds.row ∷ []) r at cells) here ∙ cells_written_last above adds.row at cells;
+      added = writes ∙ ap (λ (rows : List (List Cell)). cells_written rows row at cells) adds.added
+          ∙ ap (λ r. cells_written (above ++ adds.row ∷ []) r at cells) here ∙ cells_written_last above adds.row at cells;
       is = stroke_marked decor gutter at role ch left adds.row right is adds.is;
     }

@@ -112,7 +112,8 @@ put_push role (d ∷ cs) c at row =
     let xs : List Cell = text_cells role (d ∷ cs) in
     let long : length (d ∷ cs) ≡ length xs = sym (length-text_cells role (d ∷ cs)) in
     let whole : xs ++ text_cells role (c ∷ []) ≡ text_cells role (d ∷ cs ++ c ∷ []) = sym (map-append (λ ch. unlinked_cell role ch) (d ∷ cs) (c ∷ [])) in
-    ap (λ n. written SPACE (written SPACE row at xs) (at + n) (text_cells role (c ∷ []))) long ∙ written_twice row at xs (unlinked_cell role c) ∙ ap (written SPACE row at) whole
+    ap (λ n. written SPACE (written SPACE row at xs) (at + n) (text_cells role (c ∷ []))) long ∙ written_twice row at xs (unlinked_cell role c)
+    ∙ ap (written SPACE row at) whole
 
 replicate_push : (n c : ℕ) → replicate n c ++ c ∷ [] ≡ replicate (n + 1) c
 replicate_push n c = same_lists _ _ (grind (arith, places)) (λ k d h. grind (arith, places))
@@ -148,7 +149,8 @@ marks_done layout mark start end n above last now n_is is =
 -- ---- the marks of some edits
 
 -- so many are drawn: what the last row holds, and what those that are left make of it
-pub record Marked (layout : SuggestionLayout) (s : Source) (earlier : List PatchColumns) (left : List Edit) (all : List Cell) (above now : List (List Cell)) : Type 0 where
+pub record Marked (layout : SuggestionLayout) (s : Source) (earlier : List PatchColumns) (left : List Edit) (all : List Cell)
+    (above now : List (List Cell)) : Type 0 where
   pub row : List Cell
   pub is : now ≡ above ++ row ∷ []
   pub whole : with_marks layout s earlier left row ≡ all
@@ -179,11 +181,13 @@ marked_next layout s earlier later e left es all above now new mark start end so
     record {
       row = Drawn mark start end;
       is = adds;
-      whole = ap (λ cs. with_marks layout s cs es (Drawn mark start end)) more ∙ ap (with_marks layout s (earlier ++ c ∷ []) es) row_is ∙ sym (marks-cons layout s earlier e es row) ∙ ap (λ ds. with_marks layout s earlier ds row) (sym first) ∙ so_far.whole;
+      whole = ap (λ cs. with_marks layout s cs es (Drawn mark start end)) more ∙ ap (with_marks layout s (earlier ++ c ∷ []) es) row_is
+          ∙ sym (marks-cons layout s earlier e es row) ∙ ap (λ ds. with_marks layout s earlier ds row) (sym first) ∙ so_far.whole;
     }
 
 -- once no edit is left the row has all marks
 pub marked_done : (layout : SuggestionLayout) (s : Source) (earlier : List PatchColumns) (left : List Edit) (all : List Cell) (above now : List (List Cell))
     → left ≡ [] → Marked layout s earlier left all above now → now ≡ above ++ all ∷ []
 marked_done layout s earlier left all above now none drawn =
-    drawn.is ∙ ap (λ (row : List Cell). above ++ row ∷ []) (sym (marks-nil layout s earlier drawn.row) ∙ ap (λ ds. with_marks layout s earlier ds drawn.row) (sym none) ∙ drawn.whole)
+    drawn.is ∙ ap (λ (row : List Cell). above ++ row ∷ []) (sym (marks-nil layout s earlier drawn.row)
+    ∙ ap (λ ds. with_marks layout s earlier ds drawn.row) (sym none) ∙ drawn.whole)

@@ -16,7 +16,9 @@ use Rattle.snippet_suggest.proofs.OfferLaws.{HaveSpans, edits-apart}
 edits-feeds : (ps : List Patch) → text_feeds (map edit_of ps) ≡ added_lines ps
 edits-feeds [] = refl
 edits-feeds (p ∷ ps) =
-    sum_by-cons (λ e. count_by (λ b. b == 10) e.text) (edit_of p) (map edit_of ps) ∙ ap (λ n. count_by (λ b. b == 10) (cow_str_bytes p.replacement) + n) (edits-feeds ps) ∙ sym (sum_by-cons (λ q. count_by (λ b. b == 10) (cow_str_bytes q.replacement)) p ps)
+    sum_by-cons (λ e. count_by (λ b. b == 10) e.text) (edit_of p) (map edit_of ps)
+    ∙ ap (λ n. count_by (λ b. b == 10) (cow_str_bytes p.replacement) + n) (edits-feeds ps)
+    ∙ sym (sum_by-cons (λ q. count_by (λ b. b == 10) (cow_str_bytes q.replacement)) p ps)
 
 -- the lines that are given have numbers, where the source's lines have, and one more for each LF of the replacements
 pub numbers-bound : (s : Snippet Patch) → HaveSpans s → AreDisjoint (edits_of s)

@@ -34,7 +34,8 @@ edits-apart s spans disjoint =
 pub given-part : (s : Snippet Patch) → HaveSpans s → AreDisjoint (edits_of s) → s.markers.items ≢ [] → IsOfferable s
     → IsShownPart s.fold (cow_str_bytes s.source) (edits_of s)
 given-part s spans disjoint some offerable =
-    shown-part s.fold (cow_str_bytes s.source) (edits_of s) offerable.no_cr offerable.before (edits-apart s spans disjoint) (some-edits (cow_str_bytes s.source) s.markers.items some)
+    shown-part s.fold (cow_str_bytes s.source) (edits_of s) offerable.no_cr offerable.before (edits-apart s spans disjoint)
+    (some-edits (cow_str_bytes s.source) s.markers.items some)
 
 -- the lines that are given are lines of the patched source, one after the other
 pub given-from : (s : Snippet Patch) → HaveSpans s → AreDisjoint (edits_of s) → s.markers.items ≢ [] → IsOfferable s
@@ -42,7 +43,8 @@ pub given-from : (s : Snippet Patch) → HaveSpans s → AreDisjoint (edits_of s
 given-from s spans disjoint some offerable =
     let source : List ℕ = cow_str_bytes s.source in
     let part : IsShownPart s.fold source (edits_of s) = given-part s spans disjoint some offerable in
-    subst (λ t. AreFrom (first_given s) (texts_of (lines_of t)) (texts_of (source_lines (patched source (edits_of s))))) (sym part.text) (shown-lines s.fold source (edits_of s) offerable.no_cr offerable.no_cr_in part)
+    subst (λ t. AreFrom (first_given s) (texts_of (lines_of t)) (texts_of (source_lines (patched source (edits_of s))))) (sym part.text)
+    (shown-lines s.fold source (edits_of s) offerable.no_cr offerable.no_cr_in part)
 
 -- a line that is given is the line of the patched source at the same place
 pub given-is-patched : (s : Snippet Patch) → HaveSpans s → AreDisjoint (edits_of s) → s.markers.items ≢ [] → IsOfferable s → (k : ℕ)

@@ -46,7 +46,8 @@ module _ (start : SuggestionStart) (s : Snippet Patch) where
       → rows_of_suggestion start s ≡ rows_where lines diff (Begins start) taken (changed_rows touched_first left_out taken) offered
   by_case lines diff lines_are kind_is =
       let changed : List SuggestionRow = changed_rows touched_first left_out taken in
-      ap (λ ls. rows_where ls (is_diff (shown_kind s)) (Begins start) taken changed offered) lines_are ∙ ap (λ d. rows_where lines d (Begins start) taken changed offered) kind_is
+      ap (λ ls. rows_where ls (is_diff (shown_kind s)) (Begins start) taken changed offered) lines_are
+      ∙ ap (λ d. rows_where lines d (Begins start) taken changed offered) kind_is
 
   -- where no line is given
   pub rows_none_diff : given_lines s ≡ [] → shown_kind s ≡ Diff → rows_of_suggestion start s ≡ Begins start ∷ map (removed_row s) (removed_lines s)
@@ -61,8 +62,10 @@ module _ (start : SuggestionStart) (s : Snippet Patch) where
       → is_touched s.fold (given_ranges s) 0 ≡ touched → is_left_out Diff (line ∷ lines) (last_reached s) ≡ left
       → rows_of_suggestion start s ≡ Begins start ∷ changed_rows touched left (map (removed_row s) (removed_lines s))
   rows_diff line lines touched left some diff touches leaves =
-      let left_is : left_out ≡ left = ap (λ k. is_left_out k (given_lines s) (last_reached s)) diff ∙ ap (λ ls. is_left_out Diff ls (last_reached s)) some ∙ leaves in
-      by_case (line ∷ lines) true some (ap is_diff diff) ∙ ap (λ t. Begins start ∷ changed_rows t left_out taken) touches ∙ ap (λ l. Begins start ∷ changed_rows touched l taken) left_is
+      let left_is : left_out ≡ left = ap (λ k. is_left_out k (given_lines s) (last_reached s)) diff ∙ ap (λ ls. is_left_out Diff ls (last_reached s)) some
+      ∙ leaves in
+      by_case (line ∷ lines) true some (ap is_diff diff) ∙ ap (λ t. Begins start ∷ changed_rows t left_out taken) touches
+      ∙ ap (λ l. Begins start ∷ changed_rows touched l taken) left_is
 
   -- in another kind
   pub rows_others : (line : List ℕ) (lines : List (List ℕ)) → given_lines s ≡ line ∷ lines → shown_kind s ≢ Diff
@@ -113,7 +116,8 @@ offered_where Underline [] folds ranges last start removed none few = none ∙ s
 offered_where Plain [] folds ranges last start removed none few = none ∙ sym (none_numbers Plain folds ranges last)
 offered_where Add [] folds ranges last start removed none few = none ∙ sym (none_numbers Add folds ranges last)
 offered_where Diff (line ∷ []) folds ranges last start removed none few =
-    changed_offer (is_touched folds ranges 0) (is_left_out Diff (line ∷ []) last) removed none ∙ sym (diff_numbers folds ranges line last (is_touched folds ranges 0) refl)
+    changed_offer (is_touched folds ranges 0) (is_left_out Diff (line ∷ []) last) removed none
+    ∙ sym (diff_numbers folds ranges line last (is_touched folds ranges 0) refl)
 offered_where Diff (line ∷ other ∷ lines) folds ranges last start removed none few = absurd (omega (arith, few refl))
 offered_where Underline (line ∷ lines) folds ranges last start removed none few =
     shown_offer (lines_suggested (is_touched folds ranges) (length (line ∷ lines)))
@@ -124,12 +128,18 @@ offered_where Add (line ∷ lines) folds ranges last start removed none few =
 
 few_in_diff : (s : Snippet Patch) → shown_kind s ≡ Diff → length (given_lines s) ≤ 1
 few_in_diff s diff =
-    omega (arith, one_given (cow_str_bytes s.source) (trimmed_of s) (given_text s) (ap (λ k. counted_folded k 0 0 1) diff), length-map (lines_of (given_text s)) (λ l. l.0))
+    omega (
+      arith,
+      one_given (cow_str_bytes s.source) (trimmed_of s) (given_text s) (ap (λ k. counted_folded k 0 0 1) diff),
+      length-map
+          (lines_of (given_text s)) (λ l. l.0),
+    )
 
 -- the rows of a suggestion offer the numbers that are given, in order
 pub rows-offer : (start : SuggestionStart) (s : Snippet Patch) → numbers_offered (rows_of_suggestion start s) ≡ numbers_given s
 rows-offer start s =
-    offered_where (shown_kind s) (given_lines s) s.fold (given_ranges s) (last_reached s) start (map (removed_row s) (removed_lines s)) (removed_offer s (removed_lines s)) (few_in_diff s)
+    offered_where (shown_kind s) (given_lines s) s.fold (given_ranges s) (last_reached s) start (map (removed_row s) (removed_lines s))
+    (removed_offer s (removed_lines s)) (few_in_diff s)
 
 -- each line that is removed is shown as removed, in order
 taken_where : (kind : DisplaySuggestion) (lines : List (List ℕ)) (touched left : Bool) (start : SuggestionStart) (removed : List SuggestionRow)
@@ -199,4 +209,5 @@ rows-own start s =
     let removed : List SuggestionRow = map (removed_row s) (removed_lines s) in
     let left : Bool = is_left_out (shown_kind s) (given_lines s) (last_reached s) in
     let shown : List SuggestionLine = lines_suggested touched (length (given_lines s)) in
-    own_where s (given_lines s) (is_diff (shown_kind s)) start removed (changed_rows (touched 0) left removed) (map row_of_shown shown) (own_rows s (removed_lines s)) (changed_own s (touched 0) left removed (own_rows s (removed_lines s))) (shown_rows s shown)
+    own_where s (given_lines s) (is_diff (shown_kind s)) start removed (changed_rows (touched 0) left removed) (map row_of_shown shown)
+    (own_rows s (removed_lines s)) (changed_own s (touched 0) left removed (own_rows s (removed_lines s))) (shown_rows s shown)

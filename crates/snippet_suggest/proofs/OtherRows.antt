@@ -81,13 +81,16 @@ others_removed layout first lines shown i removed above mid new adds more = go s
     go : (done : List SuggestionRow) (at : ℕ) (ls : List (ℕ × List ℕ)) (rows now : List (List Cell)) → AddsOthers layout first lines done above now
         → new ≡ now ++ rows → AllZip (IsRowOfRemoved layout) ls rows → AddsOthers layout first lines (done ++ removed_from at ls) above new
     go done at [] [] now adds added are =
-        subst (λ rs. AddsOthers layout first lines rs above new) (sym (append-nil done)) (subst (AddsOthers layout first lines done above) (sym (added ∙ append-nil now)) adds)
+        subst (λ rs. AddsOthers layout first lines rs above new) (sym (append-nil done))
+        (subst (AddsOthers layout first lines done above) (sym (added ∙ append-nil now)) adds)
     go done at [] (row ∷ rows) now adds added are = elim are [ ]
     go done at (l ∷ ls) [] now adds added are = elim are [ ]
     go done at (l ∷ ls) (row ∷ rows) now adds added are =
         let end : SuggestionRow = Removes at l.0 l.1 in
-        let next : AddsOthers layout first lines (done ++ end ∷ []) above (now ++ row ∷ []) = others_more layout first lines done end above now (now ++ row ∷ []) adds (record { row = row; added = refl; is = are.0 }) in
-        subst (λ rs. AddsOthers layout first lines rs above new) (append_assoc done (end ∷ []) (removed_from (at + 1) ls)) (go (done ++ end ∷ []) (at + 1) ls rows (now ++ row ∷ []) next (added ∙ sym (append_assoc now (row ∷ []) rows)) are.1)
+        let next : AddsOthers layout first lines (done ++ end ∷ []) above (now ++ row ∷ []) = others_more layout first lines done end above now
+        (now ++ row ∷ []) adds (record { row = row; added = refl; is = are.0 }) in
+        subst (λ rs. AddsOthers layout first lines rs above new) (append_assoc done (end ∷ []) (removed_from (at + 1) ls))
+        (go (done ++ end ∷ []) (at + 1) ls rows (now ++ row ∷ []) next (added ∙ sym (append_assoc now (row ∷ []) rows)) are.1)
 
 -- so they are added
 pub rows_of_others : (layout : SuggestionLayout) (first : ℕ) (lines : List (List ℕ)) (shown : List SuggestionRow) (above new : List (List Cell))
@@ -97,7 +100,8 @@ rows_of_others layout first lines shown above new adds =
     record {
       rows = rows;
       added = adds.last.added ∙ append_assoc above adds.before (adds.last.row ∷ []);
-      are = subst (λ rs. AllZip (Shows layout first lines) rs rows) (sym adds.shown_are) (zip_push (Shows layout first lines) adds.front adds.before adds.end adds.last.row adds.are adds.last.is);
+      are = subst (λ rs. AllZip (Shows layout first lines) rs rows) (sym adds.shown_are)
+          (zip_push (Shows layout first lines) adds.front adds.before adds.end adds.last.row adds.are adds.last.is);
     }
 
 -- the texts of the lines that are left, if the last of them may stay

@@ -33,7 +33,9 @@ changed_same role xs start end =
     let b = take (end - start) (drop start xs) in
     let c = drop (max start end) xs in
     let w = without_role in
-    map-append w (a ++ map (restyled role true) b) c ∙ ap (λ t. t ++ map w c) (map-append w a (map (restyled role true) b) ∙ ap (λ t. map w a ++ t) (restyled_same role b) ∙ sym (map-append w a b)) ∙ sym (map-append w (a ++ b) c) ∙ ap (map w) (parts_whole xs start end)
+    map-append w (a ++ map (restyled role true) b) c ∙ ap (λ t. t ++ map w c)
+    (map-append w a (map (restyled role true) b) ∙ ap (λ t. map w a ++ t) (restyled_same role b) ∙ sym (map-append w a b)) ∙ sym (map-append w (a ++ b) c)
+    ∙ ap (map w) (parts_whole xs start end)
 
 set_last : (above : List (List Cell)) (row new : List Cell) → set (above ++ row ∷ []) (length above) new ≡ above ++ new ∷ []
 set_last [] row new = refl
@@ -64,7 +66,8 @@ repaint_more above last mid new row start end role here painted paints =
     let f : List Cell → List Cell = changed_within (restyled role true) start end in
     record {
       now = f painted.now;
-      is = paints ∙ ap (λ (rows : List (List Cell)). changed_within f row (row + 1) rows) painted.is ∙ ap (λ r. changed_within f r (r + 1) (above ++ painted.now ∷ [])) here ∙ changed_last f above painted.now;
+      is = paints ∙ ap (λ (rows : List (List Cell)). changed_within f row (row + 1) rows) painted.is
+          ∙ ap (λ r. changed_within f r (r + 1) (above ++ painted.now ∷ [])) here ∙ changed_last f above painted.now;
       same = changed_same role painted.now start end ∙ painted.same;
     }
 
@@ -87,7 +90,8 @@ seen_free xs ys same free k d within =
     let long : length xs ≡ length ys = sym (length-map xs without_role) ∙ ap length same ∙ length-map ys without_role in
     let there : k < length ys = omega (arith, long, within) in
     let P : ℕ × Option (List ℕ) → Type 0 = λ p. (is_listed p.0 ≡ false) × (p.1 ≡ None) in
-    subst P (sym (get_or-map without_role ys k d (without_role d) there) ∙ ap (λ zs. get_or zs k (without_role d)) (sym same) ∙ get_or-map without_role xs k d (without_role d) within) (free k d there)
+    subst P (sym (get_or-map without_role ys k d (without_role d) there) ∙ ap (λ zs. get_or zs k (without_role d)) (sym same)
+    ∙ get_or-map without_role xs k d (without_role d) within) (free k d there)
 
 seen_take : (n : ℕ) (xs ys : List Cell) → map without_role xs ≡ map without_role ys → map without_role (take n xs) ≡ map without_role (take n ys)
 seen_take n xs ys same = sym (take-map without_role n xs) ∙ ap (take n) same ∙ take-map without_role n ys
@@ -118,5 +122,7 @@ line_added_painted decor gutter number counted text other old mid new row number
     record {
       row = painted.now;
       added = painted.is;
-      is = subst (λ (n : List ℕ). IsLineRow decor gutter n other painted.now) numbers (subst (λ (t : List ℕ). IsLineRow decor gutter number t painted.now) same (line_row_painted decor gutter number text adds.row painted.now painted.same adds.is));
+      is = subst (λ (n : List ℕ). IsLineRow decor gutter n other painted.now) numbers
+          (subst (λ (t : List ℕ). IsLineRow decor gutter number t painted.now) same
+          (line_row_painted decor gutter number text adds.row painted.now painted.same adds.is));
     }

@@ -46,7 +46,8 @@ put_some role (c ∷ cs) at row some = refl
 -- what a grid has where the rows below some are one row, or none
 pub over : (above tail : List (List Cell)) (at : ℕ) (cells : List Cell) → length tail ≤ 1
     → cells_written (above ++ tail) (length above) at cells ≡ above ++ written SPACE (row_at tail 0) at cells ∷ []
-over above [] at cells few = ap (λ (rows : List (List Cell)). cells_written rows (length above) at cells) (append-nil above) ∙ cells_written_below above at cells
+over above [] at cells few = ap (λ (rows : List (List Cell)). cells_written rows (length above) at cells) (append-nil above)
+    ∙ cells_written_below above at cells
 over above (row ∷ []) at cells few = cells_written_last above row at cells
 over above (row ∷ next ∷ tail) at cells few = absurd (omega arith)
 
@@ -55,7 +56,8 @@ pub put_begun : (role : ElementStyle) (cs : List ℕ) (at r : ℕ) (above tail o
     → length tail ≤ 1 → new ≡ cells_written old r at (text_cells role cs) → new ≡ above ++ put role cs at (row_at tail 0) ∷ []
 put_begun role cs at r above tail old new some here is few writes =
     let cells = text_cells role cs in
-    writes ∙ ap (λ n. cells_written old n at cells) here ∙ ap (λ (rows : List (List Cell)). cells_written rows (length above) at cells) is ∙ over above tail at cells few ∙ ap (λ (row : List Cell). above ++ row ∷ []) (sym (put_some role cs at (row_at tail 0) some))
+    writes ∙ ap (λ n. cells_written old n at cells) here ∙ ap (λ (rows : List (List Cell)). cells_written rows (length above) at cells) is
+    ∙ over above tail at cells few ∙ ap (λ (row : List Cell). above ++ row ∷ []) (sym (put_some role cs at (row_at tail 0) some))
 
 -- a text that may be empty was put into the last row
 pub put_more : (role : ElementStyle) (bytes : List ℕ) (at r : ℕ) (above : List (List Cell)) (row : List Cell) (old new : List (List Cell))
@@ -124,16 +126,19 @@ pub line_drawn : (layout : SuggestionLayout) (glyph : SuggestionGlyph) (number :
     → (0 < length text → new ≡ cells_written two r (layout.base.gutter + 3) (text_cells NoStyle (chars text))) → (text ≡ [] → new ≡ two)
     → new ≡ old ++ line_cells layout glyph number line ∷ []
 unfolding line_cells
-line_drawn layout glyph number line role signed digits text r old one two new here role_is sign_is digits_are text_is utf8_digits utf8_text signs numbers no_number texts no_text =
+line_drawn layout glyph number line role signed digits text r old one two new here role_is sign_is digits_are text_is utf8_digits utf8_text signs numbers
+    no_number texts no_text =
     let g = layout.base.gutter in
     let sign_row = put (suggestion_role_of glyph) (suggestion_glyph_of layout.base.decor glyph) (g + 1) [] in
     let first : one ≡ old ++ sign_row ∷ [] =
-    put_begun (suggestion_role_of glyph) (suggestion_glyph_of layout.base.decor glyph) (g + 1) r old [] old one (glyph_some layout.base.decor glyph) here (sym (append-nil old))
+    put_begun (suggestion_role_of glyph) (suggestion_glyph_of layout.base.decor glyph) (g + 1) r old [] old one (glyph_some layout.base.decor glyph) here
+    (sym (append-nil old))
     (omega arith) (signs ∙ ap (λ (k : ElementStyle). cells_written old r (g + 1)
     (text_cells k (chars signed))) role_is ∙ ap (λ (cs : List ℕ). cells_written old r (g + 1) (text_cells (suggestion_role_of glyph) cs)) sign_is) in
     let second = put_more LineNumber digits 0 r old sign_row one two utf8_digits here first numbers no_number in
     let third = put_more NoStyle text (g + 3) r old (put LineNumber (chars digits) 0 sign_row) two new utf8_text here second texts no_text in
-    third ∙ ap (λ (cs : List ℕ). old ++ put NoStyle cs (g + 3) (put LineNumber (chars digits) 0 sign_row) ∷ []) text_is ∙ ap (λ (cs : List ℕ). old ++ put NoStyle (norm (chars line)) (g + 3) (put LineNumber cs 0 sign_row) ∷ []) digits_are
+    third ∙ ap (λ (cs : List ℕ). old ++ put NoStyle cs (g + 3) (put LineNumber (chars digits) 0 sign_row) ∷ []) text_is
+    ∙ ap (λ (cs : List ℕ). old ++ put NoStyle (norm (chars line)) (g + 3) (put LineNumber cs 0 sign_row) ∷ []) digits_are
 
 -- the row of a line that is removed was drawn, over one that is there or not
 pub removed_drawn : (layout : SuggestionLayout) (role : ElementStyle) (number : ℕ) (line : List ℕ) (minus digits text : List ℕ) (r : ℕ)
@@ -144,7 +149,8 @@ pub removed_drawn : (layout : SuggestionLayout) (role : ElementStyle) (number : 
     → (0 < length text → new ≡ cells_written two r (layout.base.gutter + 3) (text_cells role (chars text))) → (text ≡ [] → new ≡ two)
     → new ≡ above ++ removed_cells layout role number line (row_at tail 0) ∷ []
 unfolding removed_cells
-removed_drawn layout role number line minus digits text r above tail old one two new here is few minus_is digits_are text_is utf8_digits utf8_text numbers no_number signs texts no_text =
+removed_drawn layout role number line minus digits text r above tail old one two new here is few minus_is digits_are text_is utf8_digits utf8_text numbers
+    no_number signs texts no_text =
     let g = layout.base.gutter in
     let under = row_at tail 0 in
     let first = put_over LineNumber digits 0 r above tail old one utf8_digits here is few numbers no_number in
@@ -154,7 +160,8 @@ removed_drawn layout role number line minus digits text r above tail old one two
     here first.is first.few (signs ∙ ap (λ (cs : List ℕ). cells_written one r (g + 1) (text_cells Removal cs)) minus_is)
     ∙ ap (λ (row : List Cell). above ++ put Removal (codes "- ") (g + 1) row ∷ []) first.row_is in
     let third = put_more role text (g + 3) r above (put Removal (codes "- ") (g + 1) numbered) two new utf8_text here second texts no_text in
-    third ∙ ap (λ (cs : List ℕ). above ++ put role cs (g + 3) (put Removal (codes "- ") (g + 1) numbered) ∷ []) text_is ∙ ap (λ (cs : List ℕ). above ++ put role (norm (chars line)) (g + 3) (put Removal (codes "- ") (g + 1) (put LineNumber cs 0 under)) ∷ []) digits_are
+    third ∙ ap (λ (cs : List ℕ). above ++ put role cs (g + 3) (put Removal (codes "- ") (g + 1) numbered) ∷ []) text_is
+    ∙ ap (λ (cs : List ℕ). above ++ put role (norm (chars line)) (g + 3) (put Removal (codes "- ") (g + 1) (put LineNumber cs 0 under)) ∷ []) digits_are
 
 -- the row in place of lines that are left out was drawn
 pub gap_drawn : (layout : SuggestionLayout) (text : List ℕ) (r at : ℕ) (old new : List (List Cell)) → r ≡ length old
@@ -164,7 +171,9 @@ unfolding gap_cells
 gap_drawn layout [] r at old new here right is writes = absurd (placeholder_some layout.base.decor (sym is ∙ chars-nil))
 gap_drawn layout (b ∷ bs) r at old new here right is writes =
     let cs = placeholder_of layout.base.decor in
-    put_begun LineNumber cs at r old [] old new (placeholder_some layout.base.decor) here (sym (append-nil old)) (omega arith) (writes (omega arith) ∙ ap (λ (t : List ℕ). cells_written old r at (text_cells LineNumber t)) is) ∙ ap (λ (n : ℕ). old ++ put LineNumber cs n [] ∷ []) right
+    put_begun LineNumber cs at r old [] old new (placeholder_some layout.base.decor) here (sym (append-nil old)) (omega arith)
+    (writes (omega arith) ∙ ap (λ (t : List ℕ). cells_written old r at (text_cells LineNumber t)) is)
+    ∙ ap (λ (n : ℕ). old ++ put LineNumber cs n [] ∷ []) right
 
 -- the row of a line that is offered
 pub offered_is : (layout : SuggestionLayout) (kind : DisplaySuggestion) (glyph : SuggestionGlyph) (count counted number numbered : ℕ)
@@ -173,9 +182,12 @@ pub offered_is : (layout : SuggestionLayout) (kind : DisplaySuggestion) (glyph :
     ≡ offered_cells layout kind counted numbered text new
 unfolding offered_cells
 offered_is layout kind glyph count counted number numbered line text ss new sign counts numbers lines stretches =
-    let Row : List ℕ → List SubstitutionHighlight → SuggestionGlyph → ℕ → List Cell = λ t es g n. with_stretches Addition layout.base.gutter (chars t) es (line_cells layout g n t) in
-    let signed : glyph ≡ sign_of kind counted text new = sign ∙ ap (λ n. sign_of kind n line ss) counts ∙ ap (λ t. sign_of kind counted t ss) lines ∙ ap (sign_of kind counted text) stretches in
-    ap (λ t. Row t ss glyph number) lines ∙ ap (λ es. Row text es glyph number) stretches ∙ ap (λ g. Row text new g number) signed ∙ ap (Row text new (sign_of kind counted text new)) numbers
+    let Row : List ℕ → List SubstitutionHighlight → SuggestionGlyph → ℕ → List Cell = λ t es g n.
+    with_stretches Addition layout.base.gutter (chars t) es (line_cells layout g n t) in
+    let signed : glyph ≡ sign_of kind counted text new = sign ∙ ap (λ n. sign_of kind n line ss) counts ∙ ap (λ t. sign_of kind counted t ss) lines
+    ∙ ap (sign_of kind counted text) stretches in
+    ap (λ t. Row t ss glyph number) lines ∙ ap (λ es. Row text es glyph number) stretches ∙ ap (λ g. Row text new g number) signed
+    ∙ ap (Row text new (sign_of kind counted text new)) numbers
 
 -- a glyph that was drawn below all rows and so many empty ones
 pub glyph_below : (role : ElementStyle) (decor : DecorStyle) (glyph : SuggestionGlyph) (cs : List ℕ) (at r skipped : ℕ) (old new : List (List Cell))
@@ -193,7 +205,8 @@ pub glyph_over : (role : ElementStyle) (decor : DecorStyle) (glyph : SuggestionG
     → cs ≡ suggestion_glyph_of decor glyph → r ≡ length above → old ≡ above ++ tail → length tail ≤ 1 → new ≡ cells_written old r at (text_cells role cs)
     → new ≡ above ++ put role (suggestion_glyph_of decor glyph) at (row_at tail 0) ∷ []
 glyph_over role decor glyph cs at r above tail old new is here old_is few writes =
-    put_begun role (suggestion_glyph_of decor glyph) at r above tail old new (glyph_some decor glyph) here old_is few (writes ∙ ap (λ (t : List ℕ). cells_written old r at (text_cells role t)) is)
+    put_begun role (suggestion_glyph_of decor glyph) at r above tail old new (glyph_some decor glyph) here old_is few
+    (writes ∙ ap (λ (t : List ℕ). cells_written old r at (text_cells role t)) is)
 
 -- what a suggestion begins and ends with
 pub begin_opening : (layout : SuggestionLayout) (under : List Cell)

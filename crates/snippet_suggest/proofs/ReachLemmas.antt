@@ -74,7 +74,8 @@ touched_count : (s : Source) (infos : List LineInfo) (start end : ℕ) → start
     → length infos ≡ line_of (source_lines s.text) end + 1 - line_of (source_lines s.text) start
 touched_count s infos start end ordered are =
     let ls = source_lines s.text in
-    sym (length-map infos table_entry) ∙ ap length are ∙ length-map (range_with_len (line_of ls start) (line_of ls end + 1 - line_of ls start)) (entry_at s.first ls) ∙ length-range_with_len (line_of ls start) (line_of ls end + 1 - line_of ls start)
+    sym (length-map infos table_entry) ∙ ap length are ∙ length-map (range_with_len (line_of ls start) (line_of ls end + 1 - line_of ls start))
+    (entry_at s.first ls) ∙ length-range_with_len (line_of ls start) (line_of ls end + 1 - line_of ls start)
 
 lines_ordered : (s : Source) (start end : ℕ) → start ≤ end → line_of (source_lines s.text) start ≤ line_of (source_lines s.text) end
 lines_ordered s start end ordered = line_of-mono (source_lines s.text) start end (omega (arith, length-source_lines s.text)) ordered
@@ -112,7 +113,8 @@ touched_numbered s infos start end are =
     own (info ∷ is) = ap (λ ls. (info.line_index, info.line.now) ∷ ls) (own is)
 
     theirs : (ks : List ℕ)
-        → map {B = ℕ × List ℕ} (λ (e : LineEntry). (e.number, e.text)) (map (entry_at s.first (source_lines s.text)) ks) ≡ map {B = ℕ × List ℕ} (λ k. (s.first + k, text_at (source_lines s.text) k)) ks
+        → map {B = ℕ × List ℕ} (λ (e : LineEntry). (e.number, e.text)) (map (entry_at s.first (source_lines s.text)) ks)
+        ≡ map {B = ℕ × List ℕ} (λ k. (s.first + k, text_at (source_lines s.text) k)) ks
     theirs [] = refl
     theirs (k ∷ ks) = ap (λ ls. (s.first + k, text_at (source_lines s.text) k) ∷ ls) (theirs ks)
 

@@ -46,10 +46,12 @@ counted_push first k [] text =
     ap (λ (n : ℕ). (number_after first n, text) ∷ []) here
 counted_push first k (t ∷ texts) text =
     let here : k + 1 + length texts ≡ k + length (t ∷ texts) = omega arith in
-    ap (λ ls. (number_after first k, t) ∷ ls) (counted_push first (k + 1) texts text ∙ ap (λ (n : ℕ). counted_from first (k + 1) texts ++ (number_after first n, text) ∷ []) here)
+    ap (λ ls. (number_after first k, t) ∷ ls) (counted_push first (k + 1) texts text
+    ∙ ap (λ (n : ℕ). counted_from first (k + 1) texts ++ (number_after first n, text) ∷ []) here)
 
 counted_next : (first : ℕ) (infos : List LineInfo) (i : ℕ) (d : LineInfo) → i < length infos
-    → counted_from first 0 (take i (texts_at infos)) ++ (number_after first i, (get_or infos i d).line.now) ∷ [] ≡ counted_from first 0 (take (i + 1) (texts_at infos))
+    → counted_from first 0 (take i (texts_at infos)) ++ (number_after first i, (get_or infos i d).line.now) ∷ []
+    ≡ counted_from first 0 (take (i + 1) (texts_at infos))
 counted_next first infos i d within =
     let text : LineInfo → List ℕ = λ info. info.line.now in
     let texts : List (List ℕ) = texts_at infos in
@@ -135,7 +137,8 @@ removes_more layout above infos d at count next now new drawn within adds below 
     let line : ℕ × List ℕ = ((get_or infos count d).line_index, (get_or infos count d).line.now) in
     record {
       rows = drawn.rows ++ adds.row ∷ [];
-      are = subst (λ ls. AllZip (IsRowOfRemoved layout) ls (drawn.rows ++ adds.row ∷ [])) (numbered_next infos count d within) (zip_push (IsRowOfRemoved layout) (take count (numbered_at infos)) drawn.rows line adds.row drawn.are adds.is);
+      are = subst (λ ls. AllZip (IsRowOfRemoved layout) ls (drawn.rows ++ adds.row ∷ [])) (numbered_next infos count d within)
+          (zip_push (IsRowOfRemoved layout) (take count (numbered_at infos)) drawn.rows line adds.row drawn.are adds.is);
       tail = [];
       shares = false;
       here = below ∙ ap length whole;

@@ -54,7 +54,8 @@ same_free : (xs ys : List Cell) → AreSame xs ys → IsFree ys → IsFree xs
 same_free xs ys same free k d within =
     let P : ℕ × Option (List ℕ) → Type 0 = λ p. (is_listed p.0 ≡ false) × (p.1 ≡ None) in
     let there : k < length ys = omega (arith, same_length xs ys same, within) in
-    let seen : without_role (get_or ys k d) ≡ without_role (get_or xs k d) = sym (get_or-map without_role ys k d) ∙ ap (λ zs. get_or zs k (without_role d)) (sym same) ∙ get_or-map without_role xs k d in
+    let seen : without_role (get_or ys k d) ≡ without_role (get_or xs k d) = sym (get_or-map without_role ys k d)
+    ∙ ap (λ zs. get_or zs k (without_role d)) (sym same) ∙ get_or-map without_role xs k d in
     subst P seen (free k d there)
 
 -- each kind of row stays what it is
@@ -83,7 +84,8 @@ same_removed numbers decor gutter number text now last same is =
       before = λ c left. same_char (IsBeforeSign numbers decor) now last c same (is.before c left);
       minus = same_char (λ ch. ch ≡ 45) now last (gutter + 1) same is.minus;
       space = same_char (λ ch. ch ≡ 32) now last (gutter + 2) same is.space;
-      begins = same_text (take n (drop (gutter + 3) now)) (take n (drop (gutter + 3) last)) (same_take n (drop (gutter + 3) now) (drop (gutter + 3) last) (same_drop (gutter + 3) now last same)) ∙ is.begins;
+      begins = same_text (take n (drop (gutter + 3) now)) (take n (drop (gutter + 3) last))
+          (same_take n (drop (gutter + 3) now) (drop (gutter + 3) last) (same_drop (gutter + 3) now last same)) ∙ is.begins;
       after = λ c right. same_char (IsLeftOver decor) now last c same (is.after c right);
       free = same_free now last same is.free;
     }
@@ -105,11 +107,13 @@ same_shows : (layout : SuggestionLayout) (first : ℕ) (lines : List (List ℕ))
 same_shows layout first lines (Begins start) now last same is =
     same_stroke layout.base.decor layout.base.gutter (beside_gutter layout.base.gutter (begin_glyph layout.base.decor start)) now last same is
 same_shows layout first lines (Offers k) now last same is =
-    same_line layout.base.decor layout.base.gutter (shown_number layout.numbers layout.base.gutter (number_after first k)) (norm (chars (get_or lines k []))) now last same is
+    same_line layout.base.decor layout.base.gutter (shown_number layout.numbers layout.base.gutter (number_after first k))
+    (norm (chars (get_or lines k []))) now last same is
 same_shows layout first lines Skips now last same is =
     same_stroke layout.base.decor layout.base.gutter (gap_left layout.base.decor layout.base.gutter) now last same is
 same_shows layout first lines (Removes i number text) now last same is =
-    same_removed layout.numbers layout.base.decor layout.base.gutter (shown_number layout.numbers layout.base.gutter number) (norm (chars text)) now last same is
+    same_removed layout.numbers layout.base.decor layout.base.gutter (shown_number layout.numbers layout.base.gutter number)
+    (norm (chars text)) now last same is
 same_shows layout first lines Empty now last same is = same_stroke layout.base.decor layout.base.gutter [] now last same is
 same_shows layout first lines (Ends follows) now last same is =
     same_stroke layout.base.decor layout.base.gutter (beside_gutter layout.base.gutter (end_glyph layout.base.decor follows)) now last same is
@@ -129,12 +133,17 @@ pub removed_repainted : (layout : SuggestionLayout) (line : ℕ × List ℕ) (ol
     → IsRepainted old adds.row new → AddsRow (IsRowOfRemoved layout line) old new
 removed_repainted layout line old mid new adds painted =
     let number : List ℕ = shown_number layout.numbers layout.base.gutter line.0 in
-    row_repainted (IsRowOfRemoved layout line) (same_removed layout.numbers layout.base.decor layout.base.gutter number (norm (chars line.1))) old mid new adds painted
+    row_repainted (IsRowOfRemoved layout line) (same_removed layout.numbers layout.base.decor layout.base.gutter number
+    (norm (chars line.1))) old mid new adds painted
 
 -- a row of a suggestion that is repainted shows the same still
-pub shows_repainted : (layout : SuggestionLayout) (first : ℕ) (lines : List (List ℕ)) (shown : SuggestionRow) (old mid new : List (List Cell)) (adds : AddsRow (Shows layout first lines shown) old mid) → IsRepainted old adds.row new → AddsRow (Shows layout first lines shown) old new
-shows_repainted layout first lines shown old mid new adds painted = row_repainted (Shows layout first lines shown) (same_shows layout first lines shown) old mid new adds painted
+pub shows_repainted : (layout : SuggestionLayout) (first : ℕ) (lines : List (List ℕ)) (shown : SuggestionRow) (old mid new : List (List Cell))
+    (adds : AddsRow (Shows layout first lines shown) old mid) → IsRepainted old adds.row new → AddsRow (Shows layout first lines shown) old new
+shows_repainted layout first lines shown old mid new adds painted = row_repainted (Shows layout first lines shown)
+    (same_shows layout first lines shown) old mid new adds painted
 
 -- the row of a line that is repainted is its row still
-pub line_repainted : (decor : DecorStyle) (gutter : ℕ) (number text : List ℕ) (old mid new : List (List Cell)) (adds : AddsRow (IsLineRow decor gutter number text) old mid) → IsRepainted old adds.row new → AddsRow (IsLineRow decor gutter number text) old new
-line_repainted decor gutter number text old mid new adds painted = row_repainted (IsLineRow decor gutter number text) (same_line decor gutter number text) old mid new adds painted
+pub line_repainted : (decor : DecorStyle) (gutter : ℕ) (number text : List ℕ) (old mid new : List (List Cell))
+    (adds : AddsRow (IsLineRow decor gutter number text) old mid) → IsRepainted old adds.row new → AddsRow (IsLineRow decor gutter number text) old new
+line_repainted decor gutter number text old mid new adds painted = row_repainted (IsLineRow decor gutter number text)
+    (same_line decor gutter number text) old mid new adds painted

@@ -48,13 +48,16 @@ rising_from_by : (touched : ℕ → Bool) (from k left : ℕ) (is : Bool) → fr
 rising_from_by touched from k left false ordered shown waiting = waiting
 rising_from_by touched from k left true ordered shown waiting =
     let rest = Line k ∷ shown_from touched (k + 1) (k + 1) left in
-    subst (AreRising from (k + 1 + left)) (sym (filter_map-append number_of (shown_run from k) rest)) (rising_append from k (k + 1 + left) (numbers_shown (shown_run from k)) (numbers_shown rest) (rising_run from k ordered) (omega arith, shown))
+    subst (AreRising from (k + 1 + left)) (sym (filter_map-append number_of (shown_run from k) rest))
+    (rising_append from k (k + 1 + left) (numbers_shown (shown_run from k)) (numbers_shown rest) (rising_run from k ordered) (omega arith, shown))
 
 rising_from : (touched : ℕ → Bool) (from k left : ℕ) → from ≤ k → AreRising from (k + left) (numbers_shown (shown_from touched from k left))
 rising_from touched from k zero ordered = omega (arith, ordered)
 rising_from touched from k (suc left) ordered =
     let same : k + 1 + left ≡ k + suc left = omega arith in
-    subst (λ (to : ℕ). AreRising from to (numbers_shown (shown_from touched from k (suc left)))) same (rising_from_by touched from k left (touched k) ordered (rising_from touched (k + 1) (k + 1) left (omega arith)) (rising_from touched from (k + 1) left (omega (arith, ordered))))
+    subst (λ (to : ℕ). AreRising from to (numbers_shown (shown_from touched from k (suc left)))) same
+    (rising_from_by touched from k left (touched k) ordered (rising_from touched (k + 1) (k + 1) left (omega arith))
+    (rising_from touched from (k + 1) left (omega (arith, ordered))))
 
 -- the numbers of shown lines rise
 pub rising_shown : (touched : ℕ → Bool) (count : ℕ) → AreRising 0 count (numbers_shown (lines_suggested touched count))
@@ -67,7 +70,8 @@ rooms_of : (layout : SuggestionLayout) (first low count : ℕ) (shown : List Sug
     → ((k : ℕ) → k < count → NumberFits layout first (Line k)) → All (NumberFits layout first) shown
 rooms_of layout first low count [] rising rooms = All-nil (NumberFits layout first)
 rooms_of layout first low count (Line k ∷ shown) rising rooms =
-    All-cons (NumberFits layout first) (Line k) shown (rooms k (omega (arith, rising_bound (k + 1) count (numbers_shown shown) rising.1))) (rooms_of layout first (k + 1) count shown rising.1 rooms)
+    All-cons (NumberFits layout first) (Line k) shown (rooms k (omega (arith, rising_bound (k + 1) count (numbers_shown shown) rising.1)))
+    (rooms_of layout first (k + 1) count shown rising.1 rooms)
 rooms_of layout first low count (Gap ∷ shown) rising rooms =
     All-cons (NumberFits layout first) Gap shown tt (rooms_of layout first low count shown rising rooms)
 
@@ -97,7 +101,8 @@ touched_from_by touched from k left j true is low high holds later =
           let h = later (k + 1) (omega (arith, low, other)) in
           (suc h.0, omega (arith, h.1), h.2)
     ] in
-    subst (λ (ks : List ℕ). Contains ks j) (sym (filter_map-append number_of (shown_run from k) (Line k ∷ rest))) (Contains-append_right (numbers_shown (shown_run from k)) (numbers_shown (Line k ∷ rest)) j here)
+    subst (λ (ks : List ℕ). Contains ks j) (sym (filter_map-append number_of (shown_run from k) (Line k ∷ rest)))
+    (Contains-append_right (numbers_shown (shown_run from k)) (numbers_shown (Line k ∷ rest)) j here)
 touched_from_by touched from k left j false is low high holds later =
     elim (cases_eq j k) [
       | inl same ↦ absurd (grind (arith, holds, ap touched same, is))
@@ -107,7 +112,8 @@ touched_from_by touched from k left j false is low high holds later =
 touched_from : (touched : ℕ → Bool) (from k left j : ℕ) → k ≤ j → j < k + left → touched j ≡ true → Contains (numbers_shown (shown_from touched from k left)) j
 touched_from touched from k zero j low high holds = absurd (omega (arith, low, high))
 touched_from touched from k (suc left) j low high holds =
-    touched_from_by touched from k left j (touched k) refl low high holds (λ next more. touched_from touched next (k + 1) left j more (omega (arith, high)) holds)
+    touched_from_by touched from k left j (touched k) refl low high holds (λ next more.
+    touched_from touched next (k + 1) left j more (omega (arith, high)) holds)
 
 -- a line that is touched is shown
 pub touched_shown : (touched : ℕ → Bool) (count j : ℕ) → j < count → touched j ≡ true → Contains (numbers_shown (lines_suggested touched count)) j

@@ -55,7 +55,8 @@ each_written P row at n cells there all c left =
             | inl inside ↦
                 let here : at + (c - at) ≡ c = omega arith in
                 let within : c - at < length cells = omega arith in
-                subst (λ (k : ℕ). P (slice_index_or (written SPACE row at cells) k SPACE)) here (subst P (sym (slice_index_or-written_inside SPACE row at cells (c - at) SPACE within)) (all (c - at) SPACE within))
+                subst (λ (k : ℕ). P (slice_index_or (written SPACE row at cells) k SPACE)) here
+                (subst P (sym (slice_index_or-written_inside SPACE row at cells (c - at) SPACE within)) (all (c - at) SPACE within))
             | inr after ↦ subst P (sym (slice_index_or-written_after SPACE row at cells c SPACE after)) (there c left)
           ]
     ]
@@ -87,7 +88,8 @@ begins_texted (b ∷ bs) row role =
     let cs = chars (b ∷ bs) in
     let cells = text_cells role cs in
     let begun : written SPACE row 0 cells ≡ cells ++ drop (0 + length cells) row = drop-written SPACE row 0 cells in
-    ap (λ (t : List Cell). row_text (take (length cs) t)) begun ∙ ap row_text (take_at cells (drop (0 + length cells) row) (length cs) (length-text_cells role cs)) ∙ row_text-text_cells role cs
+    ap (λ (t : List Cell). row_text (take (length cs) t)) begun ∙ ap row_text
+    (take_at cells (drop (0 + length cells) row) (length cs) (length-text_cells role cs)) ∙ row_text-text_cells role cs
 
 -- a text that is put into a row stands there
 pub stands_texted : (at : ℕ) (bytes : List ℕ) (row : List Cell) (role : ElementStyle)
@@ -97,7 +99,8 @@ stands_texted at [] row role =
 stands_texted at (b ∷ bs) row role =
     let cs = chars (b ∷ bs) in
     let cells = text_cells role cs in
-    ap (λ (t : List Cell). row_text (take (length cs) t)) (drop-written SPACE row at cells) ∙ ap row_text (take_at cells (drop (at + length cells) row) (length cs) (length-text_cells role cs)) ∙ row_text-text_cells role cs
+    ap (λ (t : List Cell). row_text (take (length cs) t)) (drop-written SPACE row at cells)
+    ∙ ap row_text (take_at cells (drop (at + length cells) row) (length cs) (length-text_cells role cs)) ∙ row_text-text_cells role cs
 
 -- a row is no shorter once a text was put into it
 pub length-texted_ge : (bytes : List ℕ) (row : List Cell) (at : ℕ) (cells : List Cell) → length row ≤ length (texted bytes row at cells)
@@ -116,4 +119,5 @@ pub led_ch : (n k : ℕ) (role : ElementStyle) (cs : List ℕ)
 led_ch n k role cs =
     let cells = text_cells role cs in
     let same : n + k - n ≡ k = omega arith in
-    ap (λ (cell : Cell). cell.ch) (get_or-append_right (replicate n SPACE) cells n (n + k) SPACE (length-replicate n SPACE) (omega arith)) ∙ ap (λ i. (slice_index_or cells i SPACE).ch) same ∙ ch_at cells k ∙ ap (λ t. slice_index_or t k 32) (row_text-text_cells role cs)
+    ap (λ (cell : Cell). cell.ch) (get_or-append_right (replicate n SPACE) cells n (n + k) SPACE (length-replicate n SPACE) (omega arith))
+    ∙ ap (λ i. (slice_index_or cells i SPACE).ch) same ∙ ch_at cells k ∙ ap (λ t. slice_index_or t k 32) (row_text-text_cells role cs)

@@ -30,7 +30,8 @@ drawn_next {A} f xs i d old now new within is adds =
 -- ---- lines that are removed with nothing in their place
 
 -- so many of them are drawn: what stands, and what the next stands over
-pub record Emptied (layout : SuggestionLayout) (above : List (List Cell)) (under : List Cell) (lines : List (ℕ × List ℕ)) (at count : ℕ) (now : List (List Cell)) : Type 0 where
+pub record Emptied (layout : SuggestionLayout) (above : List (List Cell)) (under : List Cell) (lines : List (ℕ × List ℕ)) (at count : ℕ)
+    (now : List (List Cell)) : Type 0 where
   pub rows : List (List Cell)
   pub tail : List (List Cell)
   pub few : length tail ≤ 1
@@ -72,7 +73,9 @@ emptied_more layout above under lines d at count next now new drawn within adds 
     let rows : List (List Cell) = drawn.rows ++ row ∷ [] in
     let is : new ≡ above ++ rows = adds ∙ append_assoc above drawn.rows (row ∷ []) in
     let later : List (List Cell) = emptied_cells layout (drop (count + 1) lines) [] in
-    let cut : emptied_cells layout (drop count lines) (row_at drawn.tail 0) ≡ row ∷ later = ap (λ ls. emptied_cells layout ls (row_at drawn.tail 0)) (drop_more lines count d within) ∙ emptied-cons layout line (drop (count + 1) lines) (row_at drawn.tail 0) in
+    let cut : emptied_cells layout (drop count lines) (row_at drawn.tail 0)
+    ≡ row ∷ later = ap (λ ls. emptied_cells layout ls (row_at drawn.tail 0)) (drop_more lines count d within)
+    ∙ emptied-cons layout line (drop (count + 1) lines) (row_at drawn.tail 0) in
     record {
       rows = rows;
       tail = [];
@@ -92,7 +95,8 @@ emptied_next layout above under infos d at count next now new drawn within adds 
     let f : LineInfo → ℕ × List ℕ = λ info. (info.line_index, info.line.now) in
     let line : get_or (numbered_at infos) count (f d) ≡ f (get_or infos count d) = get_or-map f infos count d in
     let here : count < length (numbered_at infos) = omega (arith, within, length-map infos f) in
-    emptied_more layout above under (numbered_at infos) (f d) at count next now new drawn here (adds ∙ ap (λ (l : ℕ × List ℕ). (above ++ drawn.rows) ++ removed_cells layout Removal l.0 l.1 (row_at drawn.tail 0) ∷ []) (sym line)) below
+    emptied_more layout above under (numbered_at infos) (f d) at count next now new drawn here
+    (adds ∙ ap (λ (l : ℕ × List ℕ). (above ++ drawn.rows) ++ removed_cells layout Removal l.0 l.1 (row_at drawn.tail 0) ∷ []) (sym line)) below
 
 -- no more lines are numbered than there are
 pub numbered_all : (infos : List LineInfo) (count : ℕ) → length infos ≤ count → length (numbered_at infos) ≤ count
@@ -101,9 +105,12 @@ numbered_all infos count all =
     omega (arith, all, length-map infos f)
 
 -- once no emptied line is left all are added
-pub emptied_done : (layout : SuggestionLayout) (above : List (List Cell)) (under : List Cell) (lines : List (ℕ × List ℕ)) (at count : ℕ) (now : List (List Cell)) → 0 < count → length lines ≤ count → Emptied layout above under lines at count now → now ≡ above ++ emptied_cells layout lines under
+pub emptied_done : (layout : SuggestionLayout) (above : List (List Cell)) (under : List Cell) (lines : List (ℕ × List ℕ)) (at count : ℕ)
+    (now : List (List Cell)) → 0 < count → length lines ≤ count → Emptied layout above under lines at count now → now ≡ above
+    ++ emptied_cells layout lines under
 emptied_done layout above under lines at count now some all drawn =
-    let none : emptied_cells layout (drop count lines) (row_at drawn.tail 0) ≡ [] = ap (λ ls. emptied_cells layout ls (row_at drawn.tail 0)) (drop_all count lines all) ∙ emptied-nil layout (row_at drawn.tail 0) in
+    let none : emptied_cells layout (drop count lines) (row_at drawn.tail 0)
+    ≡ [] = ap (λ ls. emptied_cells layout ls (row_at drawn.tail 0)) (drop_all count lines all) ∙ emptied-nil layout (row_at drawn.tail 0) in
     let rows : drawn.rows ≡ emptied_cells layout lines under = sym (append-nil drawn.rows) ∙ ap (λ rs. drawn.rows ++ rs) (sym none) ∙ drawn.whole in
     drawn.stands ∙ ap (λ tail. (above ++ drawn.rows) ++ tail) (drawn.after some) ∙ append-nil (above ++ drawn.rows) ∙ ap (λ rs. above ++ rs) rows
 
@@ -116,12 +123,16 @@ taken-append : (layout : SuggestionLayout) (first : ℕ) (replaced : ℕ → Lis
 unfolding taken_cells
 taken-append layout first replaced k [] info =
     let here : k ≡ k + 0 = omega arith in
-    ap (λ n. with_stretches Removal layout.base.gutter (chars info.line.now) (replaced (info.line_index - first)) (removed_cells layout NoStyle (number_after first n) info.line.now []) ∷ []) here
+    ap (λ n. with_stretches Removal layout.base.gutter (chars info.line.now) (replaced (info.line_index - first))
+    (removed_cells layout NoStyle (number_after first n) info.line.now []) ∷ []) here
 taken-append layout first replaced k (one ∷ infos) info =
     let here : k + 1 + length infos ≡ k + length (one ∷ infos) = omega arith in
-    let Row : ℕ → List Cell = λ n. with_stretches Removal layout.base.gutter (chars info.line.now) (replaced (info.line_index - first)) (removed_cells layout NoStyle (number_after first n) info.line.now []) in
-    let top : List Cell = with_stretches Removal layout.base.gutter (chars one.line.now) (replaced (one.line_index - first)) (removed_cells layout NoStyle (number_after first k) one.line.now []) in
-    ap (λ rows. top ∷ rows) (taken-append layout first replaced (k + 1) infos info) ∙ ap (λ n. top ∷ (taken_cells layout first replaced (k + 1) infos ++ Row n ∷ [])) here
+    let Row : ℕ → List Cell = λ n. with_stretches Removal layout.base.gutter (chars info.line.now) (replaced (info.line_index - first))
+    (removed_cells layout NoStyle (number_after first n) info.line.now []) in
+    let top : List Cell = with_stretches Removal layout.base.gutter (chars one.line.now) (replaced (one.line_index - first))
+    (removed_cells layout NoStyle (number_after first k) one.line.now []) in
+    ap (λ rows. top ∷ rows) (taken-append layout first replaced (k + 1) infos info)
+    ∙ ap (λ n. top ∷ (taken_cells layout first replaced (k + 1) infos ++ Row n ∷ [])) here
 
 -- before any removed line is taken no row is added
 pub taken_none : (layout : SuggestionLayout) (first : ℕ) (replaced : ℕ → List SubstitutionHighlight) (infos : List LineInfo) (old : List (List Cell))
@@ -139,13 +150,16 @@ pub taken_next : (layout : SuggestionLayout) (first : ℕ) (replaced : ℕ → L
 taken_next layout first replaced infos i number d ss old now new within number_is ss_is is adds =
     let info : LineInfo = get_or infos i d in
     let front : List (List Cell) = taken_cells layout first replaced 0 (take i infos) in
-    let Row : ℕ → List SubstitutionHighlight → List Cell = λ n es. with_stretches Removal layout.base.gutter (chars info.line.now) es (removed_cells layout NoStyle n info.line.now []) in
+    let Row : ℕ → List SubstitutionHighlight → List Cell = λ n es. with_stretches Removal layout.base.gutter (chars info.line.now) es
+    (removed_cells layout NoStyle n info.line.now []) in
     let count : i ≡ 0 + length (take i infos) = omega (arith, length-take i infos, within) in
-    let row : Row number ss ≡ Row (number_after first (0 + length (take i infos))) (replaced (info.line_index - first)) = ap (λ n. Row n ss) (number_is ∙ ap (number_after first) count) ∙ ap (Row (number_after first (0 + length (take i infos)))) ss_is in
+    let row : Row number ss ≡ Row (number_after first (0 + length (take i infos))) (replaced (info.line_index - first)) = ap (λ n.
+    Row n ss) (number_is ∙ ap (number_after first) count) ∙ ap (Row (number_after first (0 + length (take i infos)))) ss_is in
     let more : taken_cells layout first replaced 0 (take (i + 1) infos) ≡ front ++ Row (number_after first (0 + length (take i infos)))
     (replaced (info.line_index - first)) ∷ [] =
     ap (taken_cells layout first replaced 0) (take_more infos i d within) ∙ taken-append layout first replaced 0 (take i infos) info in
-    adds ∙ ap (λ rows. rows ++ Row number ss ∷ []) is ∙ append_assoc old front (Row number ss ∷ []) ∙ ap (λ r. old ++ (front ++ r ∷ [])) row ∙ ap (λ rows. old ++ rows) (sym more)
+    adds ∙ ap (λ rows. rows ++ Row number ss ∷ []) is ∙ append_assoc old front (Row number ss ∷ []) ∙ ap (λ r. old ++ (front ++ r ∷ [])) row
+    ∙ ap (λ rows. old ++ rows) (sym more)
 
 -- the last of some rows
 pub record LastOf (rows : List (List Cell)) : Type 0 where
@@ -175,10 +189,12 @@ pub diff_left : (layout : SuggestionLayout) (first : ℕ) (infos : List LineInfo
     (last ∷ taken_cells layout first replaced 0 (unless_stays stays infos)) ≡ diff_cells layout first infos replaced line added last
 unfolding diff_cells
 diff_left layout first infos replaced line added last stays is left =
-    let Rows : Bool → List (List Cell) = λ b. on_last (left_out_cells layout.base.gutter line (gone_of b first replaced infos) added) (last ∷ taken_cells layout first replaced 0 (unless_stays b infos)) in
+    let Rows : Bool → List (List Cell) = λ b. on_last (left_out_cells layout.base.gutter line (gone_of b first replaced infos) added)
+    (last ∷ taken_cells layout first replaced 0 (unless_stays b infos)) in
     let real : Bool = bytes_eq line (last_removed infos) in
     let rows : List (List Cell) = last ∷ taken_cells layout first replaced 0 (unless_stays real infos) in
-    ap Rows is ∙ sym (cond-true (is_left_out Diff (line ∷ []) (last_removed infos)) (Rows real) (rows ++ offered_cells layout Diff 1 first line added ∷ []) left)
+    ap Rows is ∙ sym (cond-true (is_left_out Diff (line ∷ []) (last_removed infos)) (Rows real)
+    (rows ++ offered_cells layout Diff 1 first line added ∷ []) left)
 
 -- where the added line isn't left out, a diff is its beginning, the removed lines and the added one
 pub diff_shown : (layout : SuggestionLayout) (first : ℕ) (infos : List LineInfo) (replaced : ℕ → List SubstitutionHighlight) (line : List ℕ)
@@ -222,6 +238,7 @@ pub some_gone : (gutter : ℕ) (line : List ℕ) (stays : Bool) (first : ℕ) (r
 some_gone gutter line stays first replaced infos row count d ss keeps counts within is =
     let index : LineInfo → ℕ = λ info. info.line_index in
     let last : length infos - 1 ≡ count = sym (counts ∙ ap (λ b. length infos - bool_byte b) keeps) in
-    let same : get_or (map index infos) (length infos - 1) 0 ≡ (get_or infos count d).line_index = ap (λ n. get_or (map index infos) n 0) last ∙ mapped index infos count d 0 within in
+    let same : get_or (map index infos) (length infos - 1) 0 ≡ (get_or infos count d).line_index = ap (λ n. get_or (map index infos) n 0) last
+    ∙ mapped index infos count d 0 within in
     let gone : gone_of stays first replaced infos ≡ ss = ap (λ b. gone_of b first replaced infos) keeps ∙ ap (λ n. replaced (n - first)) same ∙ sym is in
     ap (λ es. with_stretches Removal gutter (chars line) es row) (sym gone)

@@ -9,7 +9,8 @@ pub run_step : (done new all : List SuggestionLine) (line to : ℕ) → line < t
     → new ++ lines_from (line + 1) (to - (line + 1)) ≡ all
 run_step done new all line to below pushed is =
     let left : to - line ≡ suc (to - (line + 1)) = omega arith in
-    ap (λ xs. xs ++ lines_from (line + 1) (to - (line + 1))) pushed ∙ append_assoc done (Line line ∷ []) (lines_from (line + 1) (to - (line + 1))) ∙ sym (ap (λ n. done ++ lines_from line n) left) ∙ is
+    ap (λ xs. xs ++ lines_from (line + 1) (to - (line + 1))) pushed ∙ append_assoc done (Line line ∷ []) (lines_from (line + 1) (to - (line + 1)))
+    ∙ sym (ap (λ n. done ++ lines_from line n) left) ∙ is
 
 -- what is still to come, where the line is touched, and where it isn't
 pub touched_step : (touched : ℕ → Bool) (done mid new all : List SuggestionLine) (after line count : ℕ) → line < count → touched line ≡ true
@@ -29,4 +30,5 @@ pub untouched_step : (touched : ℕ → Bool) (done all : List SuggestionLine) (
 untouched_step touched done all after line count below holds is =
     let left : count - line ≡ suc (count - (line + 1)) = omega arith in
     let rest = shown_from touched (line + 1) (line + 1) (count - (line + 1)) in
-    sym (ap (λ b. done ++ (if b then shown_run after line ++ (Line line ∷ rest) else shown_from touched after (line + 1) (count - (line + 1)))) holds) ∙ sym (ap (λ n. done ++ shown_from touched after line n) left) ∙ is
+    sym (ap (λ b. done ++ (if b then shown_run after line ++ (Line line ∷ rest) else shown_from touched after (line + 1) (count - (line + 1)))) holds)
+    ∙ sym (ap (λ n. done ++ shown_from touched after line n) left) ∙ is

@@ -36,7 +36,8 @@ with_same : (role : ElementStyle) (gutter : ℕ) (cs : List ℕ) (ss : List Subs
 unfolding with_stretches
 with_same role gutter cs [] row = refl
 with_same role gutter cs (s ∷ ss) row =
-    with_same role gutter cs ss (changed_within (restyled role true) (stretch_cell gutter cs s.start) (stretch_cell gutter cs s.end) row) ∙ changed_same role row (stretch_cell gutter cs s.start) (stretch_cell gutter cs s.end)
+    with_same role gutter cs ss (changed_within (restyled role true) (stretch_cell gutter cs s.start) (stretch_cell gutter cs s.end) row)
+    ∙ changed_same role row (stretch_cell gutter cs s.start) (stretch_cell gutter cs s.end)
 
 -- what a text leaves that is put into a row, and its first character
 put_left : (role : ElementStyle) (cs : List ℕ) (at c : ℕ) (row : List Cell) → c < at → slice_index_or (put role cs at row) c SPACE ≡ slice_index_or row c SPACE
@@ -59,7 +60,8 @@ put_first role [] at row some = absurd (some refl)
 put_first role (x ∷ cs) at row some =
     let here : at ≡ at + 0 = omega arith in
     let cells : List Cell = text_cells role (x ∷ cs) in
-    ap (λ n. (slice_index_or (put role (x ∷ cs) at row) n SPACE).ch) here ∙ ap (λ (cell : Cell). cell.ch) (slice_index_or-written_inside SPACE row at cells 0 SPACE (omega arith))
+    ap (λ n. (slice_index_or (put role (x ∷ cs) at row) n SPACE).ch) here
+    ∙ ap (λ (cell : Cell). cell.ch) (slice_index_or-written_inside SPACE row at cells 0 SPACE (omega arith))
 
 -- the sign stands in the row of a line
 line_sign : (layout : SuggestionLayout) (glyph : SuggestionGlyph) (number : ℕ) (line : List ℕ)
@@ -73,7 +75,9 @@ line_sign layout glyph number line fits =
     let digits : List ℕ = shown_number layout.numbers g number in
     let numbered : List Cell = put LineNumber digits 0 signed in
     let Ch : Cell → ℕ = λ cell. cell.ch in
-    ap Ch (put_left NoStyle (norm (chars line)) (g + 3) (g + 1) numbered (omega arith)) ∙ ap Ch (put_right LineNumber digits 0 (g + 1) signed (omega (arith, fits))) ∙ put_first (suggestion_role_of glyph) (suggestion_glyph_of layout.base.decor glyph) (g + 1) [] (glyph_some layout.base.decor glyph)
+    ap Ch (put_left NoStyle (norm (chars line)) (g + 3) (g + 1) numbered (omega arith))
+    ∙ ap Ch (put_right LineNumber digits 0 (g + 1) signed (omega (arith, fits)))
+    ∙ put_first (suggestion_role_of glyph) (suggestion_glyph_of layout.base.decor glyph) (g + 1) [] (glyph_some layout.base.decor glyph)
 
 offered_sign : (layout : SuggestionLayout) (kind : DisplaySuggestion) (count number : ℕ) (line : List ℕ) (ss : List SubstitutionHighlight)
     → length (shown_number layout.numbers layout.base.gutter number) ≤ layout.base.gutter + 1
@@ -82,14 +86,16 @@ offered_sign : (layout : SuggestionLayout) (kind : DisplaySuggestion) (count num
 unfolding offered_cells
 offered_sign layout kind count number line ss fits =
     let row : List Cell = line_cells layout (sign_of kind count line ss) number line in
-    seen_ch (layout.base.gutter + 1) (with_stretches Addition layout.base.gutter (chars line) ss row) row (with_same Addition layout.base.gutter (chars line) ss row) ∙ line_sign layout (sign_of kind count line ss) number line fits
+    seen_ch (layout.base.gutter + 1) (with_stretches Addition layout.base.gutter (chars line) ss row) row
+    (with_same Addition layout.base.gutter (chars line) ss row) ∙ line_sign layout (sign_of kind count line ss) number line fits
 
 -- each row has its sign
 pub has_sign : (layout : SuggestionLayout) (s : Snippet Patch) (under : List Cell) (shown : SuggestionRow)
     → HasSign layout s shown (cells_of layout s under shown)
 unfolding cells_of
 has_sign layout s under (Begins start) = tt
-has_sign layout s under (Offers k) = λ fits. offered_sign layout (shown_kind s) (length (given_lines s)) _ (slice_index_or (given_lines s) k []) (new_on s k) fits
+has_sign layout s under (Offers k) = λ fits. offered_sign layout (shown_kind s) (length (given_lines s)) _ (slice_index_or (given_lines s) k [])
+    (new_on s k) fits
 has_sign layout s under Skips = tt
 has_sign layout s under (Removes i number text) = tt
 has_sign layout s under Empty = tt
@@ -130,9 +136,12 @@ signs_left_out : (layout : SuggestionLayout) (s : Snippet Patch) (lines : List (
 signs_left_out layout s [] shown rows have = have
 signs_left_out layout s (line ∷ lines) shown rows have =
     let test : Bool = is_diff (shown_kind s) && is_touched s.fold (given_ranges s) 0 && is_left_out (shown_kind s) (line ∷ lines) (last_reached s) in
-    let gone : List SubstitutionHighlight = if bytes_eq line (last_reached s) then suggested_stretches s (last_line_reached (cow_str_bytes s.source) (edits_of s) - first_given s) else [] in
+    let gone : List SubstitutionHighlight = if bytes_eq line (last_reached s) then suggested_stretches s
+    (last_line_reached (cow_str_bytes s.source) (edits_of s) - first_given s) else [] in
     let f : List Cell → List Cell = left_out_cells layout.base.gutter line gone (new_on s 0) in
-    let same : (row : List Cell) → map without_role (f row) ≡ map without_role row = λ row. with_same Addition layout.base.gutter (chars line) (new_on s 0) (with_stretches Removal layout.base.gutter (chars line) gone row) ∙ with_same Removal layout.base.gutter (chars line) gone row in
+    let same : (row : List Cell) → map without_role (f row) ≡ map without_role row = λ row.
+    with_same Addition layout.base.gutter (chars line) (new_on s 0) (with_stretches Removal layout.base.gutter (chars line) gone row)
+    ∙ with_same Removal layout.base.gutter (chars line) gone row in
     let Have : List (List Cell) → Type 0 = λ rs. AllZip (HasSign layout s) shown rs in
     elim (cases_Bool test) [
       | inl gives ↦ subst Have (sym (cond-true test (on_last f rows) rows gives)) (signs_last layout s f shown rows same have)
@@ -144,4 +153,5 @@ pub body_signs : (layout : SuggestionLayout) (start : SuggestionStart) (s : Snip
     → AllZip (HasSign layout s) (rows_of_suggestion start s) (body_cells layout start s under)
 unfolding body_cells
 body_signs layout start s under =
-    signs_left_out layout s (given_lines s) (rows_of_suggestion start s) (cells_over (cells_of layout s) under (rows_of_suggestion start s)) (signs_over layout s under (rows_of_suggestion start s))
+    signs_left_out layout s (given_lines s) (rows_of_suggestion start s) (cells_over (cells_of layout s) under (rows_of_suggestion start s))
+    (signs_over layout s under (rows_of_suggestion start s))

@@ -29,8 +29,20 @@ whole_span source text valid is =
 pub joined_span : (source : List ℕ) (a b c d from : ℕ) → from ≡ min a d → IsSpan source a b → IsSpan source c d → IsSpan source from d
 joined_span source a b c d from is first last =
     elim (cases_lt d a) [
-      | inl past ↦ let at : d ≡ from = omega arith in record { ordered = omega arith; within = last.within; from = subst (IsSpanBorder source) at last.to; to = last.to }
-      | inr before ↦ let at : a ≡ from = omega arith in record { ordered = omega arith; within = last.within; from = subst (IsSpanBorder source) at first.from; to = last.to }
+      | inl past ↦ let at : d ≡ from = omega arith in record {
+        ordered = omega arith;
+        within = last.within;
+        from = subst
+            (IsSpanBorder source) at last.to;
+        to = last.to;
+      }
+      | inr before ↦ let at : a ≡ from = omega arith in record {
+        ordered = omega arith;
+        within = last.within;
+        from = subst
+            (IsSpanBorder source) at first.from;
+        to = last.to;
+      }
     ]
 
 -- a part of a source may be cut where the source may
@@ -41,7 +53,8 @@ border_inside source start end before ordered within to border =
     let size : length part ≡ end - start = length-take-le (end - start) (drop start source) (omega (arith, length-drop start source)) in
     elim (cases_lt before (length part)) [
       | inl inside ↦
-          let same : get_or part before 0 ≡ get_or source (start + before) 0 = get_or-take (end - start) (drop start source) before 0 (omega arith) ∙ get_or-drop start source before 0 in
+          let same : get_or part before 0 ≡ get_or source (start + before) 0 = get_or-take (end - start) (drop start source) before 0 (omega arith)
+          ∙ get_or-drop start source before 0 in
           (omega arith, λ left high. let lead : 192 ≤ get_or part before 0 = border.1 inside (omega arith) in omega arith)
       | inr past ↦
           let at : end ≡ start + before = omega (arith, border.0) in
@@ -57,7 +70,8 @@ unfolding trimmed_edit
 edit_span source e span =
     let Taken : Edit → Type 0 = λ t. IsSpan source t.start t.end in
     cond_both (ltb 0 (length e.text) && leb e.end (length source)) (shrunk e (sandwich (slice_range source e.start e.end) e.text)) e Taken
-    (λ t. kept (sandwich (slice_range source e.start e.end) e.text) (leb-true e.end (length source) (and_parts (ltb 0 (length e.text)) (leb e.end (length source)) t).1) refl)
+    (λ t. kept (sandwich (slice_range source e.start e.end) e.text)
+    (leb-true e.end (length source) (and_parts (ltb 0 (length e.text)) (leb e.end (length source)) t).1) refl)
     (λ _. span)
   where
     kept : (r : Option (ℕ × List ℕ × ℕ)) → e.end ≤ length source → sandwich (slice_range source e.start e.end) e.text ≡ r
@@ -65,7 +79,8 @@ edit_span source e span =
     kept None within is = span
     kept (Some k) within is =
         let h = sandwich-sandwiched (slice_range source e.start e.end) e.text k.0 k.1 k.2 is in
-        let size : length (slice_range source e.start e.end) ≡ e.end - e.start = length-take-le (e.end - e.start) (drop e.start source) (omega (arith, length-drop e.start source)) in
+        let size : length (slice_range source e.start e.end) ≡ e.end - e.start = length-take-le (e.end - e.start) (drop e.start source)
+        (omega (arith, length-drop e.start source)) in
         let here : e.start + k.0 ≡ e.end - k.2 = omega (arith, h.parts, size, span.ordered) in
         let border : IsCharBoundary source (e.start + k.0) = border_inside source e.start e.end k.0 span.ordered within span.to h.border in
         record {
@@ -88,7 +103,8 @@ pub trimmed_spans : (source : List ℕ) (es : List Edit) (ps : List TrimmedPatch
 trimmed_spans source es ps all same =
     let P : Edit → Type 0 = λ d. IsSpan source d.start d.end in
     let given : All P (in_order es) = spans_in_order source es all in
-    let trimmed : All P (trimmed_edits source es) = All-map P (trimmed_edit source) (in_order es) (λ k d within. edit_span source (get_or (in_order es) k d) (given k d within)) in
+    let trimmed : All P (trimmed_edits source es) = All-map P (trimmed_edit source) (in_order es) (λ k d within.
+    edit_span source (get_or (in_order es) k d) (given k d within)) in
     All-unmapped P trimmed_edit_of ps (subst (All P) (sym same) trimmed)
 
 -- the patches of edits on spans stand on spans

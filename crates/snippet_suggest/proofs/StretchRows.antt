@@ -71,7 +71,8 @@ cursor_next t now c more at line rest passed adds sums =
       left_text = IsUtf8-past_char (chars_rest t.rest) (chars_rest now.rest) c at.left_text rest;
       within = omega (arith, is.0, passed, ap length same);
       left = is.2 ∙ ap (λ n. drop n cs) (sym passed) ∙ ap (λ t. drop now.passed t) (sym same);
-      counted = one_more cs t.passed c t.tabs more now.tabs is.0 is.1 at.counted adds sums ∙ ap (λ n. capped (count_by (λ c. eqb c 9) (take n cs))) (sym passed) ∙ ap (λ t. capped (count_by (λ c. eqb c 9) (take now.passed t))) (sym same);
+      counted = one_more cs t.passed c t.tabs more now.tabs is.0 is.1 at.counted adds sums
+          ∙ ap (λ n. capped (count_by (λ c. eqb c 9) (take n cs))) (sym passed) ∙ ap (λ t. capped (count_by (λ c. eqb c 9) (take now.passed t))) (sym same);
     }
 
 -- what it counted before a character that it has come to, or at the line's end
@@ -115,7 +116,8 @@ unfolding changed_within
 empty_stretch f at row = same_lists _ _ (grind (arith, places)) (λ k d h. grind (arith, places))
 
 -- so far, and one more
-pub painted_begun : (role : ElementStyle) (gutter : ℕ) (cs : List ℕ) (ss : List SubstitutionHighlight) (above : List (List Cell)) (last : List Cell) (now : List (List Cell)) → now ≡ above ++ last ∷ [] → now ≡ above ++ with_stretches role gutter cs (take 0 ss) last ∷ []
+pub painted_begun : (role : ElementStyle) (gutter : ℕ) (cs : List ℕ) (ss : List SubstitutionHighlight) (above : List (List Cell)) (last : List Cell)
+    (now : List (List Cell)) → now ≡ above ++ last ∷ [] → now ≡ above ++ with_stretches role gutter cs (take 0 ss) last ∷ []
 painted_begun role gutter cs ss above last now is =
     is ∙ ap (λ (row : List Cell). above ++ row ∷ []) (sym (with_none role gutter cs last))
 
@@ -144,5 +146,8 @@ passed_next role gutter cs ss i d above last now within is empty =
     let so_far : List Cell = with_stretches role gutter cs (take i ss) last in
     let s : SubstitutionHighlight = get_or ss i d in
     let f : ℕ → ℕ → List Cell → List Cell = λ from to. changed_within (restyled role true) from to in
-    let stays : f (stretch_cell gutter cs s.start) (stretch_cell gutter cs s.end) so_far ≡ so_far = ap (λ k. f (stretch_cell gutter cs s.start) (stretch_cell gutter cs k) so_far) (sym empty) ∙ empty_stretch (restyled role true) (stretch_cell gutter cs s.start) so_far in
-    is ∙ ap (λ (r : List Cell). above ++ r ∷ []) (sym stays ∙ sym (with_append role gutter cs (take i ss) s last)) ∙ ap (λ (t : List SubstitutionHighlight). above ++ with_stretches role gutter cs t last ∷ []) (sym (take_more ss i d within))
+    let stays : f (stretch_cell gutter cs s.start) (stretch_cell gutter cs s.end) so_far
+    ≡ so_far = ap (λ k. f (stretch_cell gutter cs s.start) (stretch_cell gutter cs k) so_far) (sym empty)
+    ∙ empty_stretch (restyled role true) (stretch_cell gutter cs s.start) so_far in
+    is ∙ ap (λ (r : List Cell). above ++ r ∷ []) (sym stays ∙ sym (with_append role gutter cs (take i ss) s last))
+    ∙ ap (λ (t : List SubstitutionHighlight). above ++ with_stretches role gutter cs t last ∷ []) (sym (take_more ss i d within))

@@ -32,7 +32,8 @@ use Rattle.snippet_suggest.specs.Order.{Begins, Empty, Ends, Offers, Removes, Su
 use Rattle.snippet_suggest.specs.Order.{removed_from, row_of_shown, rows_of_suggestion}
 use Rattle.snippet_suggest.specs.Rows.{rows_shared}
 use Rattle.snippet_suggest.specs.Shown.{is_touched}
-use Rattle.snippet_suggest.specs.Suggested.{body_cells, cells_of, cells_over, marked_edits, new_on, removed_in, suggested_stretches, suggestion_cells, with_left_out}
+use Rattle.snippet_suggest.specs.Suggested.{body_cells, cells_of, cells_over, marked_edits, new_on, removed_in, suggested_stretches, suggestion_cells}
+use Rattle.snippet_suggest.specs.Suggested.{with_left_out}
 use Rattle.snippet_suggest.specs.Marks.{with_marks}
 use Rattle.snippet_suggest.proofs.KnownRemoved.{unless_range}
 use Rattle.snippet_suggest.proofs.RowsDrawn.{diff_left, diff_shown}
@@ -50,16 +51,20 @@ unfolding cells_of
 empty_is layout s under = refl
 
 -- lines that are shown, which have the same stretches
-pub shown_same : (layout : SuggestionLayout) (kind : DisplaySuggestion) (first : ℕ) (lines : List (List ℕ)) (f g : ℕ → List SubstitutionHighlight) (shown : List SuggestionLine) → ((k : ℕ) → f k ≡ g k) → map (suggestion_row layout kind first lines f) shown ≡ map (suggestion_row layout kind first lines g) shown
+pub shown_same : (layout : SuggestionLayout) (kind : DisplaySuggestion) (first : ℕ) (lines : List (List ℕ)) (f g : ℕ → List SubstitutionHighlight)
+    (shown : List SuggestionLine) → ((k : ℕ) → f k ≡ g k) → map (suggestion_row layout kind first lines f) shown
+    ≡ map (suggestion_row layout kind first lines g) shown
 shown_same layout kind first lines f g [] same = refl
 shown_same layout kind first lines f g (Line k ∷ shown) same =
     let Row : List SubstitutionHighlight → List Cell = λ ss. suggestion_row layout kind first lines (λ n. ss) (Line k) in
-    ap (λ ss. Row ss ∷ map (suggestion_row layout kind first lines f) shown) (same k) ∙ ap (λ rows. Row (g k) ∷ rows) (shown_same layout kind first lines f g shown same)
+    ap (λ ss. Row ss ∷ map (suggestion_row layout kind first lines f) shown) (same k)
+    ∙ ap (λ rows. Row (g k) ∷ rows) (shown_same layout kind first lines f g shown same)
 shown_same layout kind first lines f g (Gap ∷ shown) same =
     ap (λ rows. suggestion_row layout kind first lines g Gap ∷ rows) (shown_same layout kind first lines f g shown same)
 
 pub shown_is : (layout : SuggestionLayout) (s : Snippet Patch) (shown : List SuggestionLine)
-    → map (cells_of layout s []) (map row_of_shown shown) ≡ map (suggestion_row layout (shown_kind s) (s.line_start + first_given s) (given_lines s) (new_on s)) shown
+    → map (cells_of layout s []) (map row_of_shown shown) ≡ map (suggestion_row layout (shown_kind s) (s.line_start + first_given s) (given_lines s)
+    (new_on s)) shown
 unfolding cells_of
 shown_is layout s [] = refl
 shown_is layout s (Line k ∷ shown) =
@@ -80,20 +85,23 @@ emptied_later : (layout : SuggestionLayout) (s : Snippet Patch) (i : ℕ) (lines
 unfolding emptied_cells
 emptied_later layout s i [] none = refl
 emptied_later layout s i (line ∷ lines) none =
-    ap (λ row. row ∷ map (cells_of layout s []) (removed_from (i + 1) lines)) (removed_none layout s [] i line.0 line.1 none) ∙ ap (λ rows. removed_cells layout Removal line.0 line.1 [] ∷ rows) (emptied_later layout s (i + 1) lines none)
+    ap (λ row. row ∷ map (cells_of layout s []) (removed_from (i + 1) lines)) (removed_none layout s [] i line.0 line.1 none)
+    ∙ ap (λ rows. removed_cells layout Removal line.0 line.1 [] ∷ rows) (emptied_later layout s (i + 1) lines none)
 
 emptied_over : (layout : SuggestionLayout) (s : Snippet Patch) (under : List Cell) (i : ℕ) (lines : List (ℕ × List ℕ)) → given_lines s ≡ []
     → cells_over (cells_of layout s) under (removed_from i lines) ≡ emptied_cells layout lines under
 unfolding emptied_cells
 emptied_over layout s under i [] none = refl
 emptied_over layout s under i (line ∷ lines) none =
-    ap (λ row. row ∷ map (cells_of layout s []) (removed_from (i + 1) lines)) (removed_none layout s under i line.0 line.1 none) ∙ ap (λ rows. removed_cells layout Removal line.0 line.1 under ∷ rows) (emptied_later layout s (i + 1) lines none)
+    ap (λ row. row ∷ map (cells_of layout s []) (removed_from (i + 1) lines)) (removed_none layout s under i line.0 line.1 none)
+    ∙ ap (λ rows. removed_cells layout Removal line.0 line.1 under ∷ rows) (emptied_later layout s (i + 1) lines none)
 
 body_none : (layout : SuggestionLayout) (start : SuggestionStart) (s : Snippet Patch) (under : List Cell) (rows : List SuggestionRow) → given_lines s ≡ []
     → rows_of_suggestion start s ≡ rows → body_cells layout start s under ≡ cells_over (cells_of layout s) under rows
 unfolding body_cells
 body_none layout start s under rows none is =
-    ap (λ (ls : List (List ℕ)). with_left_out layout s ls (cells_over (cells_of layout s) under (rows_of_suggestion start s))) none ∙ ap (cells_over (cells_of layout s) under) is
+    ap (λ (ls : List (List ℕ)). with_left_out layout s ls (cells_over (cells_of layout s) under (rows_of_suggestion start s))) none
+    ∙ ap (cells_over (cells_of layout s) under) is
 
 -- where no line is given, the rows of emptied lines are those of the suggestion
 pub body_emptied : (layout : SuggestionLayout) (start : SuggestionStart) (s : Snippet Patch) (under : List Cell) (i : ℕ) (lines : List (ℕ × List ℕ))
@@ -106,7 +114,9 @@ pub body_emptied_diff : (layout : SuggestionLayout) (start : SuggestionStart) (s
     (lines : List (ℕ × List ℕ)) → given_lines s ≡ [] → rows_of_suggestion start s ≡ Begins start ∷ removed_from i lines
     → begin_cells layout start under ∷ emptied_cells layout lines [] ≡ body_cells layout start s under
 body_emptied_diff layout start s under i lines none is =
-    sym (body_none layout start s under (Begins start ∷ removed_from i lines) none is ∙ ap (λ row. row ∷ map (cells_of layout s []) (removed_from i lines)) (begins_is layout s under start) ∙ ap (λ rows. begin_cells layout start under ∷ rows) (emptied_later layout s i lines none))
+    sym (body_none layout start s under (Begins start ∷ removed_from i lines) none is
+    ∙ ap (λ row. row ∷ map (cells_of layout s []) (removed_from i lines)) (begins_is layout s under start)
+    ∙ ap (λ rows. begin_cells layout start under ∷ rows) (emptied_later layout s i lines none))
 
 -- ---- where lines are given, and aren't shown as a diff
 
@@ -118,7 +128,9 @@ body_plain : (layout : SuggestionLayout) (start : SuggestionStart) (s : Snippet 
 unfolding body_cells
 body_plain layout start s under line lines rows some stays is =
     let all : List (List Cell) = cells_over (cells_of layout s) under (rows_of_suggestion start s) in
-    ap (λ (ls : List (List ℕ)). with_left_out layout s ls all) some ∙ cond-false (is_diff (shown_kind s) && is_touched s.fold (given_ranges s) 0 && is_left_out (shown_kind s) (line ∷ lines) (last_reached s)) _ all stays ∙ ap (cells_over (cells_of layout s) under) is
+    ap (λ (ls : List (List ℕ)). with_left_out layout s ls all) some
+    ∙ cond-false (is_diff (shown_kind s) && is_touched s.fold (given_ranges s) 0 && is_left_out (shown_kind s) (line ∷ lines) (last_reached s)) _ all stays
+    ∙ ap (cells_over (cells_of layout s) under) is
 
 -- where lines are given, and no diff is shown, the beginning and the rows of the shown lines are the suggestion's
 pub body_shown : (layout : SuggestionLayout) (start : SuggestionStart) (s : Snippet Patch) (under : List Cell) (line : List ℕ) (lines : List (List ℕ))
@@ -129,7 +141,9 @@ body_shown layout start s under line lines shown some other is =
     let t : Bool = is_touched s.fold (given_ranges s) 0 in
     let l : Bool = is_left_out (shown_kind s) (line ∷ lines) (last_reached s) in
     let stays : (is_diff (shown_kind s) && t && l) ≡ false = ap (λ (b : Bool). b && t && l) (not_diff (shown_kind s) other) in
-    sym (body_plain layout start s under line lines (Begins start ∷ map row_of_shown shown) some stays is ∙ ap (λ row. row ∷ map (cells_of layout s []) (map row_of_shown shown)) (begins_is layout s under start) ∙ ap (λ rows. begin_cells layout start under ∷ rows) (shown_is layout s shown))
+    sym (body_plain layout start s under line lines (Begins start ∷ map row_of_shown shown) some stays is
+    ∙ ap (λ row. row ∷ map (cells_of layout s []) (map row_of_shown shown)) (begins_is layout s under start)
+    ∙ ap (λ rows. begin_cells layout start under ∷ rows) (shown_is layout s shown))
 
 -- ---- a diff
 
@@ -139,8 +153,11 @@ pub body_untouched : (layout : SuggestionLayout) (start : SuggestionStart) (s : 
     → rows_of_suggestion start s ≡ Begins start ∷ Empty ∷ [] → begin_cells layout start under ∷ [] ∷ [] ≡ body_cells layout start s under
 body_untouched layout start s under line one diff untouched is =
     let l : Bool = is_left_out (shown_kind s) (line ∷ []) (last_reached s) in
-    let stays : (is_diff (shown_kind s) && is_touched s.fold (given_ranges s) 0 && l) ≡ false = ap (λ (b : Bool). b && is_touched s.fold (given_ranges s) 0 && l) (ap is_diff diff) ∙ ap (λ (b : Bool). b && l) untouched in
-    sym (body_plain layout start s under line [] (Begins start ∷ Empty ∷ []) one stays is ∙ ap (λ row. row ∷ cells_of layout s [] Empty ∷ []) (begins_is layout s under start) ∙ ap (λ (row : List Cell). begin_cells layout start under ∷ row ∷ []) (empty_is layout s []))
+    let stays : (is_diff (shown_kind s) && is_touched s.fold (given_ranges s) 0 && l)
+    ≡ false = ap (λ (b : Bool). b && is_touched s.fold (given_ranges s) 0 && l) (ap is_diff diff) ∙ ap (λ (b : Bool). b && l) untouched in
+    sym (body_plain layout start s under line [] (Begins start ∷ Empty ∷ []) one stays is
+    ∙ ap (λ row. row ∷ cells_of layout s [] Empty ∷ []) (begins_is layout s under start)
+    ∙ ap (λ (row : List Cell). begin_cells layout start under ∷ row ∷ []) (empty_is layout s []))
 
 -- the lines that are removed above one in their place
 removed_some : (layout : SuggestionLayout) (s : Snippet Patch) (under : List Cell) (line : List ℕ) (i number : ℕ) (text : List ℕ)
@@ -166,10 +183,15 @@ taken_rows layout s line replaced (info ∷ infos) f a (suc m) k one same are =
     let own : info.line_index ≡ s.line_start + a = ap (λ (p : ℕ × List ℕ). p.0) pair in
     let text : info.line.now ≡ f a = ap (λ (p : ℕ × List ℕ). p.1) pair in
     let index : info.line_index - first ≡ a - first_given s = omega (arith, own) in
-    let Row : List ℕ → List SubstitutionHighlight → List Cell = λ t ss. with_stretches Removal layout.base.gutter (chars t) ss (removed_cells layout NoStyle (number_after first k) t []) in
-    let row : Row info.line.now (replaced (info.line_index - first)) ≡ Row (f a) (suggested_stretches s (a - first_given s)) = ap (λ t. Row t (replaced (info.line_index - first))) text ∙ ap (Row (f a)) (ap replaced index ∙ same (a - first_given s)) in
+    let Row : List ℕ → List SubstitutionHighlight → List Cell = λ t ss.
+    with_stretches Removal layout.base.gutter (chars t) ss (removed_cells layout NoStyle (number_after first k) t []) in
+    let row : Row info.line.now (replaced (info.line_index - first))
+    ≡ Row (f a) (suggested_stretches s (a - first_given s)) = ap (λ t. Row t (replaced (info.line_index - first))) text
+    ∙ ap (Row (f a)) (ap replaced index ∙ same (a - first_given s)) in
     let is = removed_some layout s [] line a (number_after first k) (f a) one in
-    ap (λ r. r ∷ taken_cells layout first replaced (k + 1) infos) (row ∙ sym is) ∙ ap (λ rows. cells_of layout s [] (Removes a (number_after first k) (f a)) ∷ rows) (taken_rows layout s line replaced infos f (a + 1) m (k + 1) one same rest)
+    ap (λ r. r ∷ taken_cells layout first replaced (k + 1) infos) (row ∙ sym is)
+    ∙ ap (λ rows. cells_of layout s [] (Removes a (number_after first k) (f a)) ∷ rows)
+    (taken_rows layout s line replaced infos f (a + 1) m (k + 1) one same rest)
 
 -- a suggestion shares at most one row
 pub shared_few : (start : SuggestionStart) (n : ℕ) → n ≡ rows_shared start → n ≤ 1
@@ -190,21 +212,24 @@ own_numbers [] = refl
 own_numbers (info ∷ infos) = ap (λ ks. info.line_index ∷ ks) (own_numbers infos)
 
 own_index : (infos : List LineInfo)
-    → get_or (map (λ (info : LineInfo). info.line_index) infos) (length infos - 1) 0 ≡ get_or (map (λ (l : ℕ × List ℕ). l.0) (numbered_at infos)) (length (numbered_at infos) - 1) 0
+    → get_or (map (λ (info : LineInfo). info.line_index) infos) (length infos - 1) 0
+    ≡ get_or (map (λ (l : ℕ × List ℕ). l.0) (numbered_at infos)) (length (numbered_at infos) - 1) 0
 own_index infos =
     let g : LineInfo → ℕ × List ℕ = λ info. (info.line_index, info.line.now) in
     let ks : List ℕ = map (λ (l : ℕ × List ℕ). l.0) (numbered_at infos) in
     ap (λ (ns : List ℕ). get_or ns (length infos - 1) 0) (own_numbers infos) ∙ ap (λ (n : ℕ). get_or ks (n - 1) 0) (sym (length-map infos g))
 
 last_index : (base : ℕ) (f : ℕ → List ℕ) (a n : ℕ) → 0 < n
-    → let ls : List (ℕ × List ℕ) = map {B = ℕ × List ℕ} (λ j. (base + j, f j)) (range_with_len a n) in get_or (map (λ (l : ℕ × List ℕ). l.0) ls) (length ls - 1) 0 ≡ base + (a + (n - 1))
+    → let ls : List (ℕ × List ℕ) = map {B = ℕ × List ℕ} (λ j. (base + j, f j)) (range_with_len a n) in get_or (map (λ (l : ℕ × List ℕ). l.0) ls)
+    (length ls - 1) 0 ≡ base + (a + (n - 1))
 last_index base f a n some =
     let g : ℕ → ℕ × List ℕ = λ j. (base + j, f j) in
     let first : ℕ × List ℕ → ℕ = λ l. l.0 in
     let ls : List (ℕ × List ℕ) = map g (range_with_len a n) in
     let d : ℕ × List ℕ = (0, []) in
     let k : length ls ≡ n = length-map (range_with_len a n) g ∙ length-range_with_len a n in
-    ap (λ (m : ℕ). get_or (map first ls) (m - 1) 0) k ∙ get_or-map first ls (n - 1) d ∙ ap first (get_or-map-range_with_len g a n (n - 1) (a + (n - 1)) d (omega (arith, some)) refl)
+    ap (λ (m : ℕ). get_or (map first ls) (m - 1) 0) k ∙ get_or-map first ls (n - 1) d
+    ∙ ap first (get_or-map-range_with_len g a n (n - 1) (a + (n - 1)) d (omega (arith, some)) refl)
 
 -- what is known of the lines that a diff removes: they stand one after another in the source, from one of its lines on
 pub record AreReplaced (s : Snippet Patch) (line : List ℕ) (f : ℕ → List ℕ) (a n : ℕ) (infos : List LineInfo) : Type 0 where
@@ -221,7 +246,8 @@ pub record AreReplaced (s : Snippet Patch) (line : List ℕ) (f : ℕ → List �
 abbrev pub shown_count : Snippet Patch → List ℕ → ℕ → ℕ
 shown_count s line n = if bytes_eq line (last_reached s) then n - 1 else n
 
-module _ (layout : SuggestionLayout) (s : Snippet Patch) (line : List ℕ) (f : ℕ → List ℕ) (a n : ℕ) (infos : List LineInfo) (replaced : ℕ → List SubstitutionHighlight) (known : AreReplaced s line f a n infos) (same : (j : ℕ) → replaced j ≡ suggested_stretches s j) where
+module _ (layout : SuggestionLayout) (s : Snippet Patch) (line : List ℕ) (f : ℕ → List ℕ) (a n : ℕ) (infos : List LineInfo)
+    (replaced : ℕ → List SubstitutionHighlight) (known : AreReplaced s line f a n infos) (same : (j : ℕ) → replaced j ≡ suggested_stretches s j) where
   abbrev first : ℕ
   first = s.line_start + first_given s
 
@@ -252,8 +278,10 @@ module _ (layout : SuggestionLayout) (s : Snippet Patch) (line : List ℕ) (f : 
       let index : List (ℕ × List ℕ) → ℕ = λ ls. get_or (map (λ (l : ℕ × List ℕ). l.0) ls) (length ls - 1) 0 in
       let own : get_or (map (λ (info : LineInfo). info.line_index) infos) (length infos - 1) 0 ≡ index (numbered_at infos) = own_index infos in
       let last : index (numbered_at infos) ≡ s.line_start + (a + (n - 1)) = ap index known.are ∙ last_index s.line_start f a n known.some in
-      let at : get_or (map (λ (info : LineInfo). info.line_index) infos) (length infos - 1) 0 - first ≡ last_line_reached (cow_str_bytes s.source) (edits_of s) - first_given s = omega (arith, own, last, known.reached) in
-      ap (λ (k : ℕ). if stays then replaced k else []) at ∙ ap (λ (ss : List SubstitutionHighlight). if stays then ss else []) (same (last_line_reached (cow_str_bytes s.source) (edits_of s) - first_given s))
+      let at : get_or (map (λ (info : LineInfo). info.line_index) infos) (length infos - 1) 0 - first
+      ≡ last_line_reached (cow_str_bytes s.source) (edits_of s) - first_given s = omega (arith, own, last, known.reached) in
+      ap (λ (k : ℕ). if stays then replaced k else []) at ∙ ap (λ (ss : List SubstitutionHighlight). if stays then ss else [])
+      (same (last_line_reached (cow_str_bytes s.source) (edits_of s) - first_given s))
 
   -- the row of the line in their place
   offered_is : cells_of layout s [] (Offers 0) ≡ offered_cells layout Diff 1 first line (new_on s 0)
@@ -271,17 +299,20 @@ module _ (layout : SuggestionLayout) (s : Snippet Patch) (line : List ℕ) (f : 
   unfolding body_cells
   body_left start under leaves rows =
       let all : List (List Cell) = cells_over (cells_of layout s) under (rows_of_suggestion start s) in
-      let Painted : List SubstitutionHighlight → List (List Cell) → List (List Cell) = λ ss rs. on_last (left_out_cells layout.base.gutter line ss (new_on s 0)) rs in
+      let Painted : List SubstitutionHighlight → List (List Cell) → List (List Cell) = λ ss rs.
+      on_last (left_out_cells layout.base.gutter line ss (new_on s 0)) rs in
       let test : (is_diff (shown_kind s) && is_touched s.fold (given_ranges s) 0 && is_left_out (shown_kind s) (line ∷ []) (last_reached s)) ≡ true =
       ap (λ k. is_diff k && is_touched s.fold (given_ranges s) 0 && is_left_out k (line ∷ []) (last_reached s)) known.diff
       ∙ ap (λ (t : Bool). t && left) known.touched ∙ leaves in
-      let body : with_left_out layout s (given_lines s) all ≡ Painted gone all = ap (λ (ls : List (List ℕ)). with_left_out layout s ls all) known.one ∙ cond-true _ (Painted gone all) all test in
+      let body : with_left_out layout s (given_lines s) all ≡ Painted gone all = ap (λ (ls : List (List ℕ)). with_left_out layout s ls all) known.one
+      ∙ cond-true _ (Painted gone all) all test in
       let shown : all ≡ begin_cells layout start under ∷ taken_cells layout first replaced 0 (unless_stays stays infos) =
       ap (cells_over (cells_of layout s) under)
       (rows ∙ ap (λ l. Begins start ∷ changed_rows true l removed) leaves ∙ ap (λ rs. Begins start ∷ rs) (append-nil removed))
       ∙ ap (λ row. row ∷ map (cells_of layout s []) removed) (begins_is layout s under start)
       ∙ ap (λ rs. begin_cells layout start under ∷ rs) (sym taken_are) in
-      ap (λ ss. Painted ss (begin_cells layout start under ∷ taken_cells layout first replaced 0 (unless_stays stays infos))) gone_are ∙ sym (body ∙ ap (Painted gone) shown)
+      ap (λ ss. Painted ss (begin_cells layout start under ∷ taken_cells layout first replaced 0 (unless_stays stays infos))) gone_are
+      ∙ sym (body ∙ ap (Painted gone) shown)
 
   body_offered : (start : SuggestionStart) (under : List Cell) → left ≡ false
       → rows_of_suggestion start s ≡ Begins start ∷ changed_rows true left removed
@@ -293,7 +324,8 @@ module _ (layout : SuggestionLayout) (s : Snippet Patch) (line : List ℕ) (f : 
       let test : (is_diff (shown_kind s) && is_touched s.fold (given_ranges s) 0 && is_left_out (shown_kind s) (line ∷ []) (last_reached s)) ≡ false =
       ap (λ k. is_diff k && is_touched s.fold (given_ranges s) 0 && is_left_out k (line ∷ []) (last_reached s)) known.diff
       ∙ ap (λ (t : Bool). t && left) known.touched ∙ shown in
-      let body = body_plain layout start s under line [] (Begins start ∷ (removed ++ Offers 0 ∷ [])) known.one test (rows ∙ ap (λ l. Begins start ∷ changed_rows true l removed) shown) in
+      let body = body_plain layout start s under line [] (Begins start ∷ (removed ++ Offers 0 ∷ [])) known.one test
+      (rows ∙ ap (λ l. Begins start ∷ changed_rows true l removed) shown) in
       let cells : map (cells_of layout s []) (removed ++ Offers 0 ∷ []) ≡ taken_cells layout first replaced 0 (unless_stays stays infos) ++ row ∷ [] =
       map-append (cells_of layout s []) removed (Offers 0 ∷ []) ∙ ap (λ rs. rs ++ cells_of layout s [] (Offers 0) ∷ []) (sym taken_are)
       ∙ ap (λ (r : List Cell). taken_cells layout first replaced 0 (unless_stays stays infos) ++ r ∷ []) offered_is in
@@ -307,8 +339,10 @@ module _ (layout : SuggestionLayout) (s : Snippet Patch) (line : List ℕ) (f : 
       let stays_is : stays ≡ bytes_eq line (last_removed infos) = ap (bytes_eq line) (sym known.last) in
       let left_is : is_left_out Diff (line ∷ []) (last_removed infos) ≡ left = ap (is_left_out Diff (line ∷ [])) known.last in
       ap (λ ss. diff_cells layout first infos replaced line ss (begin_cells layout start under)) new ∙ elim (cases_Bool left) [
-        | inl leaves ↦ sym (diff_left layout first infos replaced line (new_on s 0) (begin_cells layout start under) stays stays_is (left_is ∙ leaves)) ∙ body_left start under leaves rows
-        | inr shown ↦ sym (diff_shown layout first infos replaced line (new_on s 0) (begin_cells layout start under) stays stays_is (left_is ∙ shown)) ∙ body_offered start under shown rows
+        | inl leaves ↦ sym (diff_left layout first infos replaced line (new_on s 0) (begin_cells layout start under) stays stays_is (left_is ∙ leaves))
+            ∙ body_left start under leaves rows
+        | inr shown ↦ sym (diff_shown layout first infos replaced line (new_on s 0) (begin_cells layout start under) stays stays_is (left_is ∙ shown))
+            ∙ body_offered start under shown rows
       ]
 
 -- ---- the last row

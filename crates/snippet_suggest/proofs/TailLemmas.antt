@@ -43,7 +43,8 @@ pub tail_bare : (layout : SuggestionLayout) (shares : Bool) (tail : List (List C
 tail_bare layout true tail is =
     subst (λ (rows : List (List Cell)). IsBareRow layout.base.decor layout.base.gutter (tail_row rows)) (sym is.2) is.3.bare
 tail_bare layout false tail is =
-    subst (λ (rows : List (List Cell)). IsBareRow layout.base.decor layout.base.gutter (tail_row rows)) (sym is) (bare_none layout.base.decor layout.base.gutter)
+    subst (λ (rows : List (List Cell)). IsBareRow layout.base.decor layout.base.gutter (tail_row rows)) (sym is)
+    (bare_none layout.base.decor layout.base.gutter)
 
 -- it is one row, or none
 tail_is_row : (layout : SuggestionLayout) (tail : List (List Cell)) → IsTail layout.base.decor layout.base.gutter true tail → tail ≡ tail_row tail ∷ []
@@ -59,24 +60,32 @@ pub start_tail : (layout : SuggestionLayout) (start : SuggestionStart) (tail : L
     → IsTail layout.base.decor layout.base.gutter (begins_in_last start) tail
 start_tail layout Opening tail none = none
 start_tail layout Next tail shared = shared
-start_tail layout Path tail is =
-    (is.0, true, is.1, subst (λ (cs : List ℕ). IsEdgeRow layout.base.decor layout.base.gutter (beside_gutter layout.base.gutter cs) is.0) (lead_glyph layout.base.decor) is.2)
+start_tail layout Path tail is = (
+  is.0,
+  true,
+  is.1,
+  subst (λ (cs : List ℕ). IsEdgeRow layout.base.decor layout.base.gutter (beside_gutter layout.base.gutter cs) is.0)
+      (lead_glyph layout.base.decor) is.2,
+)
 
 -- what is written below the rows above goes into it
 pub tail_written : (layout : SuggestionLayout) (shares : Bool) (above tail : List (List Cell)) (at : ℕ) (cells : List Cell)
     → IsTail layout.base.decor layout.base.gutter shares tail
     → cells_written (above ++ tail) (length above) at cells ≡ above ++ written SPACE (tail_row tail) at cells ∷ []
 tail_written layout true above tail at cells is =
-    subst (λ (rows : List (List Cell)). cells_written (above ++ rows) (length above) at cells ≡ above ++ written SPACE (tail_row tail) at cells ∷ []) (sym (tail_is_row layout tail is)) (cells_written_last above (tail_row tail) at cells)
+    subst (λ (rows : List (List Cell)). cells_written (above ++ rows) (length above) at cells ≡ above ++ written SPACE (tail_row tail) at cells ∷ [])
+    (sym (tail_is_row layout tail is)) (cells_written_last above (tail_row tail) at cells)
 tail_written layout false above tail at cells is =
-    subst (λ (rows : List (List Cell)). cells_written (above ++ rows) (length above) at cells ≡ above ++ written SPACE (tail_row rows) at cells ∷ []) (sym is) (ap (λ (rows : List (List Cell)). cells_written rows (length above) at cells) (append-nil above) ∙ cells_written_below above at cells)
+    subst (λ (rows : List (List Cell)). cells_written (above ++ rows) (length above) at cells ≡ above ++ written SPACE (tail_row rows) at cells ∷ []) (sym is)
+    (ap (λ (rows : List (List Cell)). cells_written rows (length above) at cells) (append-nil above) ∙ cells_written_below above at cells)
 
 -- the same, of a grid that has these rows
 pub tail_put : (layout : SuggestionLayout) (shares : Bool) (above tail old new : List (List Cell)) (row at : ℕ) (cells : List Cell)
     → row ≡ length above → old ≡ above ++ tail → IsTail layout.base.decor layout.base.gutter shares tail → new ≡ cells_written old row at cells
     → new ≡ above ++ written SPACE (tail_row tail) at cells ∷ []
 tail_put layout shares above tail old new row at cells here is tail_is writes =
-    writes ∙ ap (λ r. cells_written old r at cells) here ∙ ap (λ (rows : List (List Cell)). cells_written rows (length above) at cells) is ∙ tail_written layout shares above tail at cells tail_is
+    writes ∙ ap (λ r. cells_written old r at cells) here ∙ ap (λ (rows : List (List Cell)). cells_written rows (length above) at cells) is
+    ∙ tail_written layout shares above tail at cells tail_is
 
 -- a glyph that a suggestion begins with was drawn into it
 begin_other : (glyph : SuggestionGlyph) → is_begin glyph ≡ true → is_sign glyph ≡ false
@@ -111,10 +120,15 @@ tail_stroke : (layout : SuggestionLayout) (shares : Bool) (glyph : SuggestionGly
     → IsEdgeRow layout.base.decor layout.base.gutter (beside_gutter layout.base.gutter (suggestion_glyph_of layout.base.decor glyph))
     (written SPACE (tail_row tail) (layout.base.gutter + 1) (text_cells LineNumber (suggestion_glyph_of layout.base.decor glyph)))
 tail_stroke layout true glyph tail is shared =
-    let Is : List (List Cell) → Type 0 = λ rs. IsEdgeRow layout.base.decor layout.base.gutter (beside_gutter layout.base.gutter (suggestion_glyph_of layout.base.decor glyph)) (written SPACE (tail_row rs) (layout.base.gutter + 1) (text_cells LineNumber (suggestion_glyph_of layout.base.decor glyph))) in
-    subst Is (sym shared.2) (stroke_put layout.base.decor layout.base.gutter LineNumber glyph (end_glyph layout.base.decor shared.1) shared.0 (begin_other glyph is) (begin_covers layout.base.decor glyph shared.1 is) shared.3)
+    let Is : List (List Cell) → Type 0 = λ rs. IsEdgeRow layout.base.decor layout.base.gutter
+    (beside_gutter layout.base.gutter (suggestion_glyph_of layout.base.decor glyph))
+    (written SPACE (tail_row rs) (layout.base.gutter + 1) (text_cells LineNumber (suggestion_glyph_of layout.base.decor glyph))) in
+    subst Is (sym shared.2) (stroke_put layout.base.decor layout.base.gutter LineNumber glyph (end_glyph layout.base.decor shared.1) shared.0
+    (begin_other glyph is) (begin_covers layout.base.decor glyph shared.1 is) shared.3)
 tail_stroke layout false glyph tail is none =
-    let Is : List (List Cell) → Type 0 = λ rs. IsEdgeRow layout.base.decor layout.base.gutter (beside_gutter layout.base.gutter (suggestion_glyph_of layout.base.decor glyph)) (written SPACE (tail_row rs) (layout.base.gutter + 1) (text_cells LineNumber (suggestion_glyph_of layout.base.decor glyph))) in
+    let Is : List (List Cell) → Type 0 = λ rs. IsEdgeRow layout.base.decor layout.base.gutter
+    (beside_gutter layout.base.gutter (suggestion_glyph_of layout.base.decor glyph))
+    (written SPACE (tail_row rs) (layout.base.gutter + 1) (text_cells LineNumber (suggestion_glyph_of layout.base.decor glyph))) in
     subst Is (sym none) (stroke_signed layout.base.decor layout.base.gutter LineNumber glyph (begin_other glyph is))
 
 -- a glyph that is drawn over the tail is one row of strokes more
@@ -127,7 +141,8 @@ glyph_added layout shares glyph above tail old new row text begins is writes her
     let cells = text_cells LineNumber (suggestion_glyph_of layout.base.decor glyph) in
     record {
       row = written SPACE (tail_row tail) (layout.base.gutter + 1) cells;
-      added = tail_put layout shares above tail old new row (layout.base.gutter + 1) cells here old_is tail_is (writes ∙ ap (λ cs. cells_written old row (layout.base.gutter + 1) (text_cells LineNumber cs)) is);
+      added = tail_put layout shares above tail old new row (layout.base.gutter + 1) cells here old_is tail_is
+          (writes ∙ ap (λ cs. cells_written old row (layout.base.gutter + 1) (text_cells LineNumber cs)) is);
       is = tail_stroke layout shares glyph tail begins tail_is;
     }
 
@@ -135,7 +150,8 @@ glyph_added layout shares glyph above tail old new row text begins is writes her
 pub skipped_written : (rows : List (List Cell)) (skipped at : ℕ) (cells : List Cell)
     → cells_written rows (length rows + skipped) at cells ≡ rows ++ (replicate skipped [] ++ written SPACE [] at cells ∷ [])
 skipped_written rows skipped at cells =
-    ap (λ (row : List Cell). written [] rows (length rows + skipped) (written SPACE row at cells ∷ [])) (get_or_past rows (length rows + skipped) [] (omega arith)) ∙ filled (written SPACE [] at cells)
+    ap (λ (row : List Cell). written [] rows (length rows + skipped) (written SPACE row at cells ∷ []))
+    (get_or_past rows (length rows + skipped) [] (omega arith)) ∙ filled (written SPACE [] at cells)
   where
     filled : (row : List Cell) → written [] rows (length rows + skipped) (row ∷ []) ≡ rows ++ (replicate skipped [] ++ row ∷ [])
     filled row = same_lists _ _ (unfold written in grind (arith, places)) (λ k d h. unfold written in grind (arith, places))
@@ -149,7 +165,8 @@ end_added layout glyph skipped old new row text other is writes here =
     let cells = text_cells LineNumber (suggestion_glyph_of layout.base.decor glyph) in
     record {
       last = written SPACE [] (layout.base.gutter + 1) cells;
-      added = writes ∙ ap (λ cs. cells_written old row (layout.base.gutter + 1) (text_cells LineNumber cs)) is ∙ ap (λ r. cells_written old r (layout.base.gutter + 1) cells) here ∙ skipped_written old skipped (layout.base.gutter + 1) cells;
+      added = writes ∙ ap (λ cs. cells_written old row (layout.base.gutter + 1) (text_cells LineNumber cs)) is
+          ∙ ap (λ r. cells_written old r (layout.base.gutter + 1) cells) here ∙ skipped_written old skipped (layout.base.gutter + 1) cells;
       is = stroke_signed layout.base.decor layout.base.gutter LineNumber glyph other;
     }
 
@@ -163,7 +180,8 @@ number_and_glyph layout shares above tail old mid new r at [] cells sign here is
 number_and_glyph layout shares above tail old mid new r at (b ∷ bs) cells sign here is tail_is writes stays signs =
     let row = written SPACE (tail_row tail) 0 cells in
     let put : mid ≡ above ++ row ∷ [] = tail_put layout shares above tail old mid r 0 cells here is tail_is (writes (omega arith)) in
-    signs ∙ ap (λ (rows : List (List Cell)). cells_written rows r at sign) put ∙ ap (λ i. cells_written (above ++ row ∷ []) i at sign) here ∙ cells_written_last above row at sign
+    signs ∙ ap (λ (rows : List (List Cell)). cells_written rows r at sign) put ∙ ap (λ i. cells_written (above ++ row ∷ []) i at sign) here
+    ∙ cells_written_last above row at sign
 
 -- what stands before cells that are put into a row stays
 take-written : (n : ℕ) (row : List Cell) (at : ℕ) (cells : List Cell) → n ≤ at → n ≤ length row → take n (written SPACE row at cells) ≡ take n row
@@ -186,22 +204,32 @@ removed_row numbers decor gutter role led number text begins within before left 
     let P : Cell → Type 0 = IsFreeCell in
     let glyph = text_cells Removal (45 ∷ 32 ∷ []) in
     let row = written SPACE led (gutter + 1) glyph in
-    let free_glyph : IsFree glyph = All-cons P (unlinked_cell Removal 45) (unlinked_cell Removal 32 ∷ []) (refl, refl) (All-cons P (unlinked_cell Removal 32) [] (refl, refl) (All-nil P)) in
+    let free_glyph : IsFree glyph = All-cons P (unlinked_cell Removal 45) (unlinked_cell Removal 32 ∷ []) (refl, refl)
+    (All-cons P (unlinked_cell Removal 32) [] (refl, refl) (All-nil P)) in
     let first : gutter + 1 + 0 ≡ gutter + 1 = omega arith in
     let second : gutter + 1 + 1 ≡ gutter + 2 = omega arith in
-    let minus : slice_index_or row (gutter + 1) SPACE ≡ unlinked_cell Removal 45 = subst (λ (n : ℕ). slice_index_or row n SPACE ≡ unlinked_cell Removal 45) first (slice_index_or-written_inside SPACE led (gutter + 1) glyph 0 SPACE (omega arith)) in
-    let space : slice_index_or row (gutter + 2) SPACE ≡ unlinked_cell Removal 32 = subst (λ (n : ℕ). slice_index_or row n SPACE ≡ unlinked_cell Removal 32) second (slice_index_or-written_inside SPACE led (gutter + 1) glyph 1 SPACE (omega arith)) in
+    let minus : slice_index_or row (gutter + 1) SPACE ≡ unlinked_cell Removal 45 = subst
+    (λ (n : ℕ). slice_index_or row n SPACE ≡ unlinked_cell Removal 45) first
+    (slice_index_or-written_inside SPACE led (gutter + 1) glyph 0 SPACE (omega arith)) in
+    let space : slice_index_or row (gutter + 2) SPACE ≡ unlinked_cell Removal 32 = subst
+    (λ (n : ℕ). slice_index_or row n SPACE ≡ unlinked_cell Removal 32) second
+    (slice_index_or-written_inside SPACE led (gutter + 1) glyph 1 SPACE (omega arith)) in
     let long : length row ≡ max (length led) (gutter + 1 + length glyph) = length-written SPACE led (gutter + 1) glyph in
     record {
-      numbered = λ short. ap row_text (take_texted (length number) text row (gutter + 3) (text_cells role (chars text)) (omega (arith, short)) (omega (arith, within, long)) ∙ take-written (length number) led (gutter + 1) glyph short within) ∙ begins;
-      before = λ c here. subst (λ (cell : Cell). IsBeforeSign numbers decor cell.ch) (sym (kept_after text row (gutter + 3) c (text_cells role (chars text)) (omega (arith, here)) ∙ slice_index_or-written_before SPACE led (gutter + 1) glyph c (omega (arith, here)))) (before c (omega (arith, here)));
+      numbered = λ short. ap row_text (take_texted (length number) text row (gutter + 3) (text_cells role (chars text)) (omega (arith, short))
+          (omega (arith, within, long)) ∙ take-written (length number) led (gutter + 1) glyph short within) ∙ begins;
+      before = λ c here. subst (λ (cell : Cell). IsBeforeSign numbers decor cell.ch)
+          (sym (kept_after text row (gutter + 3) c (text_cells role (chars text)) (omega (arith, here))
+          ∙ slice_index_or-written_before SPACE led (gutter + 1) glyph c (omega (arith, here)))) (before c (omega (arith, here)));
       minus = ap (λ (cell : Cell). cell.ch) (kept_after text row (gutter + 3) (gutter + 1) (text_cells role (chars text)) (omega arith) ∙ minus);
       space = ap (λ (cell : Cell). cell.ch) (kept_after text row (gutter + 3) (gutter + 2) (text_cells role (chars text)) (omega arith) ∙ space);
       begins = stands_texted (gutter + 3) text row role;
       after = λ c right.
           let past : gutter + 3 + length (text_cells role (chars text)) ≤ c = omega (arith, length-text_cells role (chars text), right) in
-          subst (λ (cell : Cell). IsLeftOver decor cell.ch) (sym (left_after text row (gutter + 3) c (text_cells role (chars text)) past ∙ slice_index_or-written_after SPACE led (gutter + 1) glyph c SPACE (omega (arith, right)))) (left c (omega (arith, right)));
-      free = free_texted text row (gutter + 3) (text_cells role (chars text)) (free_written led (gutter + 1) glyph free_led free_glyph) (free_drawn role (chars text) free_text);
+          subst (λ (cell : Cell). IsLeftOver decor cell.ch) (sym (left_after text row (gutter + 3) c (text_cells role (chars text)) past
+          ∙ slice_index_or-written_after SPACE led (gutter + 1) glyph c SPACE (omega (arith, right)))) (left c (omega (arith, right)));
+      free = free_texted text row (gutter + 3) (text_cells role (chars text)) (free_written led (gutter + 1) glyph free_led free_glyph)
+          (free_drawn role (chars text) free_text);
     }
 
 -- a line that is removed was drawn into it
@@ -213,13 +241,17 @@ pub removed_added : (layout : SuggestionLayout) (shares : Bool) (role : ElementS
     → (0 < length text → new ≡ cells_written signed r (layout.base.gutter + 3) (text_cells role (chars text))) → (text ≡ [] → new ≡ signed)
     → r ≡ length above → old ≡ above ++ tail → IsTail layout.base.decor layout.base.gutter shares tail
     → AddsRow (IsRemovedRow layout.numbers layout.base.decor layout.base.gutter (chars number) (chars text)) above new
-removed_added layout shares role above tail old mid signed new r number sign text minus free_number before_number left_number free_text numbers no_number signs texts no_text here old_is tail_is =
+removed_added layout shares role above tail old mid signed new r number sign text minus free_number before_number left_number free_text numbers no_number signs
+    texts no_text here old_is tail_is =
     let g = layout.base.gutter in
     let led = texted number (tail_row tail) 0 (text_cells LineNumber (chars number)) in
     let glyph = text_cells Removal (45 ∷ 32 ∷ []) in
     let row = written SPACE led (g + 1) glyph in
-    let begun : signed ≡ above ++ row ∷ [] = number_and_glyph layout shares above tail old mid signed r (g + 1) number (text_cells LineNumber (chars number)) glyph here old_is tail_is numbers no_number (signs ∙ ap (λ cs. cells_written mid r (g + 1) (text_cells Removal cs)) minus) in
-    let free_led = free_texted number (tail_row tail) 0 (text_cells LineNumber (chars number)) (tail_bare layout shares tail tail_is).free (free_drawn LineNumber (chars number) free_number) in
+    let begun : signed ≡ above ++ row ∷ [] = number_and_glyph layout shares above tail old mid signed r (g + 1) number
+    (text_cells LineNumber (chars number)) glyph here old_is tail_is numbers no_number
+    (signs ∙ ap (λ cs. cells_written mid r (g + 1) (text_cells Removal cs)) minus) in
+    let free_led = free_texted number (tail_row tail) 0 (text_cells LineNumber (chars number)) (tail_bare layout shares tail tail_is).free
+    (free_drawn LineNumber (chars number) free_number) in
     record {
       row = texted text row (g + 3) (text_cells role (chars text));
       added = text_put above signed new row r (g + 3) text (text_cells role (chars text)) begun here texts no_text;

@@ -40,13 +40,17 @@ held-later base j ranges h =
     let same : shift r ≡ h.range = sym (get_or-map shift ranges i h.range h.range within) ∙ h.among.2 in
     let from : base + r.first ≤ j = omega (arith, h.from, ap (λ q. q.first) same) in
     let to : j ≤ base + r.last = omega (arith, h.to, ap (λ q. q.last) same) in
-    list_any_at (λ q. nat_le q.first (j - base) && nat_le (j - base) q.last) ranges i h.range within (and_from _ _ (le-leb r.first (j - base) (omega (arith, from))) (le-leb (j - base) r.last (omega (arith, to))))
+    list_any_at (λ q. nat_le q.first (j - base) && nat_le (j - base) q.last) ranges i h.range within
+    (and_from _ _ (le-leb r.first (j - base) (omega (arith, from))) (le-leb (j - base) r.last (omega (arith, to))))
 
 -- a line is left out only of a diff: it is blank, or the same as the last that is removed
 left_out : (kind : DisplaySuggestion) (lines : List (List ℕ)) (last : List ℕ) → is_left_out kind lines last ≡ true
     → (kind ≡ Diff) × ((is_blank (get_or lines 0 []) ≡ true) ⊎ (get_or lines 0 [] ≡ last))
-left_out Diff lines last is =
-    (refl, ⊎_elim (λ blank. inl blank) (λ same. inr ((bytes_eq-Decides (get_or lines 0 []) last).0 same)) (or_cases (is_blank (get_or lines 0 [])) (bytes_eq (get_or lines 0 []) last) is))
+left_out Diff lines last is = (
+  refl,
+  ⊎_elim (λ blank. inl blank) (λ same. inr ((bytes_eq-Decides (get_or lines 0 []) last).0 same))
+      (or_cases (is_blank (get_or lines 0 [])) (bytes_eq (get_or lines 0 []) last) is),
+)
 left_out Underline lines last is = absurd (true≢false (sym is))
 left_out Plain lines last is = absurd (true≢false (sym is))
 left_out Add lines last is = absurd (true≢false (sym is))
@@ -61,7 +65,8 @@ diff-by false takes false closes is = absurd (cc)
 
 diff-one : (source : List ℕ) (ts : List Edit) (text : List ℕ) → kind_of source ts text ≡ Diff → length (lines_of text) ≤ 1
 diff-one source ts text is =
-    leb-true (length (lines_of text)) 1 (diff-by (nat_le (length (lines_of text)) 1) (list_any (takes_away source) ts) (is_only_replacement ts text) (adds_lines ts) is)
+    leb-true (length (lines_of text)) 1 (diff-by (nat_le (length (lines_of text)) 1) (list_any (takes_away source) ts) (is_only_replacement ts text)
+    (adds_lines ts) is)
 
 -- a line that isn't blank isn't empty
 not-empty : (text : List ℕ) → is_blank text ≡ false → text ≢ []
@@ -94,7 +99,12 @@ one-left-out : (s : Snippet Patch) → HaveSpans s → AreDisjoint (edits_of s) 
 one-left-out s spans disjoint some offerable first is =
     let source : List ℕ = cow_str_bytes s.source in
     let why = left_out (shown_kind s) (given_lines s) (last_reached s) is in
-    let one : length (given_lines s) ≤ 1 = omega (arith, diff-one source (trimmed_of s) (given_text s) why.0, length-map (lines_of (given_text s)) (λ l. l.0)) in
+    let one : length (given_lines s) ≤ 1 = omega (
+      arith,
+      diff-one source (trimmed_of s) (given_text s) why.0,
+      length-map (lines_of (given_text s)) (λ l.
+          l.0),
+    ) in
     let part : IsShownPart s.fold source (edits_of s) = given-part s spans disjoint some offerable in
     let text : spliced_text s.fold source (edits_of s) ≡ given_text s = part.spliced ∙ sym part.text in
     (one, ⊎_elim (λ blank. inl blank) (λ same. inr (ap (λ t. texts_of (lines_of t)) text ∙ only (given_lines s) [] first one ∙ ap (λ t. t ∷ []) same)) why.1)
@@ -115,8 +125,10 @@ touched-offered s spans disjoint offerable j touched filled =
     let base : ℕ = first_given s in
     let ls : List Line = source_lines (patched source es) in
     let part : IsShownPart s.fold source es = given-part s spans disjoint some offerable in
-    let bounds = shown-touched s.fold source es offerable.no_cr offerable.before (edits-apart s spans disjoint) part j touched (not-empty (text_at ls j) filled) in
-    let count : length (given_lines s) ≡ length (lines_of (without_final_line_feeds part.part)) = length-map (lines_of (given_text s)) (λ l. l.0) ∙ ap (λ t. length (lines_of t)) part.text in
+    let bounds = shown-touched s.fold source es offerable.no_cr offerable.before (edits-apart s spans disjoint) part j touched
+    (not-empty (text_at ls j) filled) in
+    let count : length (given_lines s) ≡ length (lines_of (without_final_line_feeds part.part)) = length-map (lines_of (given_text s)) (λ l. l.0)
+    ∙ ap (λ t. length (lines_of t)) part.text in
     let k : ℕ = j - base in
     let low : k < length (given_lines s) = omega (arith, bounds.0, bounds.1, count) in
     let is_j : base + k ≡ j = omega (arith, bounds.0) in
@@ -124,11 +136,16 @@ touched-offered s spans disjoint offerable j touched filled =
     (λ out. let why = one-left-out s spans disjoint some offerable (omega (arith, low)) out in
     ⊎_elim
     (λ blank. let zero_k : k ≡ 0 = omega (arith, low, why.0) in
-    let at : get_or (given_lines s) 0 [] ≡ text_at ls j = ap (λ n. get_or (given_lines s) n []) (sym zero_k) ∙ (given-is-patched s spans disjoint some offerable k low).1 ∙ ap (text_at ls) is_j in
+    let at : get_or (given_lines s) 0 [] ≡ text_at ls j = ap (λ n. get_or (given_lines s) n []) (sym zero_k)
+    ∙ (given-is-patched s spans disjoint some offerable k low).1 ∙ ap (text_at ls) is_j in
     absurd (true≢false (sym blank ∙ ap is_blank at ∙ filled)))
     (λ as_it_was. inl as_it_was) why.1)
-    (λ shown. let ranges : ranges_from base (given_ranges s) ≡ line_ranges source es = written-ranges s.fold source es offerable.no_cr offerable.before (edits-apart s spans disjoint) in
-    let held : is_held (given_ranges s) k ≡ true = held-later base j (given_ranges s) (subst (λ rs. IsHeld rs j) (sym ranges) (touched-held source es j touched)) in
-    let among : Contains (numbers_shown (lines_suggested (is_touched s.fold (given_ranges s)) (length (given_lines s)))) k = touched_shown (is_touched s.fold (given_ranges s)) (length (given_lines s)) k low (or_right (not s.fold) (is_held (given_ranges s) k) held) in
-    inr (contains-moved base k j (numbers_given s) is_j (subst (λ ks. Contains ks k) (sym (none-left-out (shown_kind s) s.fold (given_ranges s) (given_lines s) (last_reached s) shown)) among)))
+    (λ shown. let ranges : ranges_from base (given_ranges s) ≡ line_ranges source es = written-ranges s.fold source es offerable.no_cr offerable.before
+    (edits-apart s spans disjoint) in
+    let held : is_held (given_ranges s) k ≡ true = held-later base j (given_ranges s)
+    (subst (λ rs. IsHeld rs j) (sym ranges) (touched-held source es j touched)) in
+    let among : Contains (numbers_shown (lines_suggested (is_touched s.fold (given_ranges s)) (length (given_lines s)))) k = touched_shown
+    (is_touched s.fold (given_ranges s)) (length (given_lines s)) k low (or_right (not s.fold) (is_held (given_ranges s) k) held) in
+    inr (contains-moved base k j (numbers_given s) is_j (subst (λ ks.
+    Contains ks k) (sym (none-left-out (shown_kind s) s.fold (given_ranges s) (given_lines s) (last_reached s) shown)) among)))
     (cases_Bool (is_left_out (shown_kind s) (given_lines s) (last_reached s)))

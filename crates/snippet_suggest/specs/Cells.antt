@@ -128,7 +128,8 @@ emptied_cells layout (line ∷ lines) under =
 unfoldable pub taken_cells : SuggestionLayout → ℕ → (ℕ → List SubstitutionHighlight) → ℕ → List LineInfo → List (List Cell)
 taken_cells layout first replaced k [] = []
 taken_cells layout first replaced k (info ∷ infos) =
-    with_stretches Removal layout.base.gutter (chars info.line.now) (replaced (info.line_index - first)) (removed_cells layout NoStyle (number_after first k) info.line.now [])
+    with_stretches Removal layout.base.gutter (chars info.line.now) (replaced (info.line_index - first))
+    (removed_cells layout NoStyle (number_after first k) info.line.now [])
     ∷ taken_cells layout first replaced (k + 1) infos
 
 -- some rows, the last of them changed
@@ -150,8 +151,10 @@ gone_of stays first replaced infos =
 
 -- the rows of a diff from the one that the suggestion begins with on: the lines that are removed, but the last where it is the same
 -- as the line in their place, and that line; where it isn't shown, the row above it gets its roles
-unfoldable pub diff_cells : SuggestionLayout → ℕ → List LineInfo → (ℕ → List SubstitutionHighlight) → List ℕ → List SubstitutionHighlight → List Cell → List (List Cell)
+unfoldable pub diff_cells : SuggestionLayout → ℕ → List LineInfo → (ℕ → List SubstitutionHighlight) → List ℕ → List SubstitutionHighlight → List Cell
+    → List (List Cell)
 diff_cells layout first infos replaced line added last =
     let stays = bytes_eq line (last_removed infos) in
     let rows = last ∷ taken_cells layout first replaced 0 (unless_stays stays infos) in
-    if is_left_out Diff (line ∷ []) (last_removed infos) then on_last (left_out_cells layout.base.gutter line (gone_of stays first replaced infos) added) rows else rows ++ offered_cells layout Diff 1 first line added ∷ []
+    if is_left_out Diff (line ∷ []) (last_removed infos) then on_last
+    (left_out_cells layout.base.gutter line (gone_of stays first replaced infos) added) rows else rows ++ offered_cells layout Diff 1 first line added ∷ []

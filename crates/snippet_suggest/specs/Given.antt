@@ -111,7 +111,8 @@ emptied_lines s =
 abbrev pub replaced_lines : Snippet Patch → List ℕ
 replaced_lines s =
     let source = cow_str_bytes s.source in
-    if is_touched s.fold (given_ranges s) 0 then unless_stays (bytes_eq (slice_index_or (given_lines s) 0 []) (last_reached s)) (lines_touched source (first_start (trimmed_of s)) (end_from 0 (trimmed_of s))) else []
+    if is_touched s.fold (given_ranges s) 0 then unless_stays (bytes_eq (slice_index_or (given_lines s) 0 []) (last_reached s))
+    (lines_touched source (first_start (trimmed_of s)) (end_from 0 (trimmed_of s))) else []
 
 -- those that are removed, by the lines that are given and how they are shown: lines are removed if none is given, or in a diff
 abbrev pub removed_of : List (List ℕ) → DisplaySuggestion → List ℕ → List ℕ → List ℕ
@@ -163,4 +164,5 @@ abbrev pub counted_line : Snippet Patch → ℕ
 counted_line s =
     let first = s.line_start + first_given s in
     let last = first + newline_count (given_text s) in
-    if s.fold then counted_folded (shown_kind s) first (s.line_start + line_of (source_lines (cow_str_bytes s.source)) (first_end (trimmed_of s))) last else last
+    if s.fold then counted_folded (shown_kind s) first (s.line_start + line_of (source_lines (cow_str_bytes s.source))
+    (first_end (trimmed_of s))) last else last

@@ -74,7 +74,8 @@ unfoldable pub with_marks : SuggestionLayout → Source → List PatchColumns �
 with_marks layout s earlier [] row = row
 with_marks layout s earlier (e ∷ es) row =
     let c = edit_columns s e in
-    with_marks layout s (earlier ++ c ∷ []) es (with_mark layout (mark_glyph_of layout.base.decor s.text e) (mark_start earlier c e.text) (patch_mark_end earlier c e.text) row)
+    with_marks layout s (earlier ++ c ∷ []) es (with_mark layout (mark_glyph_of layout.base.decor s.text e) (mark_start earlier c e.text)
+    (patch_mark_end earlier c e.text) row)
 
 -- the edits that some trimmed patches are
 abbrev pub edits_at : List TrimmedPatch → List Edit

@@ -38,6 +38,7 @@ pub record IsPrepared (p : PreparedSuggestion) : Type 0 where
   pub new : (k : ℕ)
       → line_stretches p.splice.highlights.items k ≡ new_stretches p.snippet.now.fold (cow_str_bytes p.snippet.now.source) (edits_of p.snippet.now) k
   pub replaced : (k : ℕ)
-      → line_stretches p.splice.replaced_highlights.items k ≡ replaced_stretches p.snippet.now.fold (cow_str_bytes p.snippet.now.source) (edits_of p.snippet.now) k
+      → line_stretches p.splice.replaced_highlights.items k ≡ replaced_stretches p.snippet.now.fold (cow_str_bytes p.snippet.now.source)
+      (edits_of p.snippet.now) k
   pub kind : p.kind ≡ shown_kind p.snippet.now
   pub counted : p.counted ≡ counted_line p.snippet.now

@@ -34,7 +34,8 @@ IsSign decor c = (c ≡ separator_of decor) ⊎ (c ≡ changed_mark_of decor) �
 -- suggestions begin and end with
 abbrev pub is_stroke : DecorStyle → ℕ → Bool
 is_stroke decor c =
-    list_any (λ d. d == c) (32 ∷ (placeholder_of decor ++ suggestion_glyph_of decor sign.Opening ++ suggestion_glyph_of decor sign.Next ++ suggestion_glyph_of decor sign.Leading ++ suggestion_glyph_of decor sign.Closing))
+    list_any (λ d. d == c) (32 ∷ (placeholder_of decor ++ suggestion_glyph_of decor sign.Opening ++ suggestion_glyph_of decor sign.Next
+    ++ suggestion_glyph_of decor sign.Leading ++ suggestion_glyph_of decor sign.Closing))
 
 -- what stands in a row of marks: spaces, `+`, and the mark below what is changed
 abbrev pub IsMarkOrSpace : DecorStyle → ℕ → Type 0
@@ -138,7 +139,8 @@ pub record IsRepainted (above : List (List Cell)) (last : List Cell) (new : List
 -- the row that a line of some is shown by, the first of which has this number; and one that shows none of them
 abbrev pub IsShownRow : SuggestionLayout → ℕ → List (List ℕ) → SuggestionLine → List Cell → Type 0
 IsShownRow layout first lines (Line k) row =
-    IsLineRow layout.base.decor layout.base.gutter (shown_number layout.numbers layout.base.gutter (number_after first k)) (norm (chars (slice_index_or lines k []))) row
+    IsLineRow layout.base.decor layout.base.gutter (shown_number layout.numbers layout.base.gutter (number_after first k))
+    (norm (chars (slice_index_or lines k []))) row
 IsShownRow layout first lines Gap row = IsEdgeRow layout.base.decor layout.base.gutter (gap_left layout.base.decor layout.base.gutter) row
 
 -- rows for these, one each, stand below some rows, and nothing else
@@ -209,11 +211,13 @@ abbrev pub IsStart : SuggestionLayout → SuggestionStart → List (List Cell) �
 IsStart layout Opening tail = tail ≡ []
 IsStart layout Next tail = IsTail layout.base.decor layout.base.gutter true tail
 IsStart layout Path tail =
-    (row : List Cell) × (tail ≡ row ∷ []) × IsEdgeRow layout.base.decor layout.base.gutter (beside_gutter layout.base.gutter (begin_glyph layout.base.decor Path)) row
+    (row : List Cell) × (tail ≡ row ∷ []) × IsEdgeRow layout.base.decor layout.base.gutter
+    (beside_gutter layout.base.gutter (begin_glyph layout.base.decor Path)) row
 
 -- the rows of a suggestion stand below some rows, and nothing else, each of which shows what the suggestion has there; the last is
 -- what it ends with, in which a further suggestion may begin
-pub record AddsSuggestion (layout : SuggestionLayout) (start : SuggestionStart) (follows : Bool) (s : Snippet Patch) (above new : List (List Cell)) : Type 0 where
+pub record AddsSuggestion (layout : SuggestionLayout) (start : SuggestionStart) (follows : Bool) (s : Snippet Patch)
+    (above new : List (List Cell)) : Type 0 where
   pub rows : List (List Cell)
   pub last : List Cell
   pub added : new ≡ above ++ (rows ++ last ∷ [])

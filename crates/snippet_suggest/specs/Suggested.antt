@@ -70,7 +70,8 @@ abbrev pub with_left_out : SuggestionLayout → Snippet Patch → List (List ℕ
 with_left_out layout s [] rows = rows
 with_left_out layout s (line ∷ lines) rows =
     let gone = if bytes_eq line (last_reached s) then suggested_stretches s (last_line_reached (cow_str_bytes s.source) (edits_of s) - first_given s) else [] in
-    if is_diff (shown_kind s) && is_touched s.fold (given_ranges s) 0 && is_left_out (shown_kind s) (line ∷ lines) (last_reached s) then on_last (left_out_cells layout.base.gutter line gone (new_on s 0)) rows else rows
+    if is_diff (shown_kind s) && is_touched s.fold (given_ranges s) 0
+    && is_left_out (shown_kind s) (line ∷ lines) (last_reached s) then on_last (left_out_cells layout.base.gutter line gone (new_on s 0)) rows else rows
 
 -- the rows of a suggestion but the last, the first of them over one that is there or has no cells
 unfoldable pub body_cells : SuggestionLayout → SuggestionStart → Snippet Patch → List Cell → List (List Cell)
@@ -88,7 +89,8 @@ abbrev pub HasSign : SuggestionLayout → Snippet Patch → SuggestionRow → Li
 HasSign layout s (Begins start) row = Unit {0}
 HasSign layout s (Offers k) row =
     let glyph = sign_of (shown_kind s) (length (given_lines s)) (slice_index_or (given_lines s) k []) (new_on s k) in
-    NumberFits layout (s.line_start + first_given s) (Line k) → (slice_index_or row (separator_cell layout.base) SPACE).ch ≡ slice_index_or (suggestion_glyph_of layout.base.decor glyph) 0 32
+    NumberFits layout (s.line_start + first_given s) (Line k) → (slice_index_or row (separator_cell layout.base) SPACE).ch
+    ≡ slice_index_or (suggestion_glyph_of layout.base.decor glyph) 0 32
 HasSign layout s Skips row = Unit {0}
 HasSign layout s (Removes i number text) row = Unit {0}
 HasSign layout s Empty row = Unit {0}

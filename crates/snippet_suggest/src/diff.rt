@@ -21,8 +21,8 @@ use snippet_splice::SubstitutionHighlight;
 use snippet_style::{ElementStyle, SuggestionGlyph};
 use std::alloc::{AllocError, Global};
 
-/// Draws lines that are removed below all that stands in the grid, and the line in their place below them. Where this is
-/// the same as the last of them, neither is drawn; a blank one isn't drawn.
+/// Draws lines that are removed below all that stands in the grid, and the line in their place below them. Where this
+/// is the same as the last of them, neither is drawn; a blank one isn't drawn.
 ///
 /// ```text
 ///     1 - let x = 1;
@@ -49,9 +49,11 @@ pub(crate) fn draw_diff(
         (above : List (List Cell)) (last : List Cell) (begin : SuggestionRow) (i : ℕ) → buffer.old ≡ above ++ last ∷ []
         → Shows layout.now first (line.now ∷ []) begin last → NumberFits layout.now first (Line 0)
         → OnOk result (AddsRows layout.now first (line.now ∷ []) (begin ∷ changed_rows true
-        (is_left_out Diff (line.now ∷ []) (last_removed removed.now)) (removed_from i (counted_from first 0 left))) above buffer.new) }
+        (is_left_out Diff (line.now ∷ []) (last_removed removed.now))
+        (removed_from i (counted_from first 0 left))) above buffer.new) }
     ensures cells { (above : List (List Cell)) (last : List Cell) → buffer.old ≡ above ++ last ∷ []
-        → OnOk result (buffer.new ≡ above ++ diff_cells layout.now first removed.now (line_stretches replaced.now) line.now added.now last) }
+        → OnOk result (buffer.new ≡ above ++ diff_cells layout.now first removed.now
+        (line_stretches replaced.now) line.now added.now last) }
 {
     let stays = is_last(removed, line);
     let count = removed.len().saturating_sub(usize::from(stays));
@@ -64,8 +66,8 @@ pub(crate) fn draw_diff(
     draw_diff_line(alloc, buffer, layout, first, line, left_out, added)
 }
 
-/// Draws the line that stands in place of those that are removed below all that stands in the grid, unless it is left out,
-/// and gives the stretches that are new in it their role.
+/// Draws the line that stands in place of those that are removed below all that stands in the grid, unless it is left
+/// out, and gives the stretches that are new in it their role.
 fn draw_diff_line(
     alloc: Global,
     buffer: &mut StyledBuffer,
@@ -79,9 +81,12 @@ fn draw_diff_line(
         → OnOk result (IsRepainted above last buffer.new) }
     ensures added { left_out ≡ false → NumberFits layout.now first (Line 0)
         → OnOk result (AddsRows layout.now first (line.now ∷ []) (Offers 0 ∷ []) buffer.old buffer.new) }
-    ensures left_cells { (above : List (List Cell)) (last : List Cell) → left_out ≡ true → buffer.old ≡ above ++ last ∷ []
-        → OnOk result (buffer.new ≡ above ++ with_stretches Addition layout.now.base.gutter (chars line.now) added.now last ∷ []) }
-    ensures cells { left_out ≡ false → OnOk result (buffer.new ≡ buffer.old ++ offered_cells layout.now Diff 1 first line.now added.now ∷ []) }
+    ensures left_cells { (above : List (List Cell)) (last : List Cell) → left_out ≡ true → buffer.old ≡ above
+        ++ last ∷ []
+        → OnOk result (buffer.new ≡ above ++ with_stretches Addition layout.now.base.gutter
+        (chars line.now) added.now last ∷ []) }
+    ensures cells { left_out ≡ false → OnOk result (buffer.new ≡ buffer.old
+        ++ offered_cells layout.now Diff 1 first line.now added.now ∷ []) }
 {
     if !left_out {
         draw_line(alloc, buffer, layout, SuggestionGlyph::Added, first, line)?;
@@ -100,7 +105,8 @@ fn paint_last(
     ensures repaints { (above : List (List Cell)) (last : List Cell) → buffer.old ≡ above ++ last ∷ []
         → OnOk result (IsRepainted above last buffer.new) }
     ensures cells { (above : List (List Cell)) (last : List Cell) → buffer.old ≡ above ++ last ∷ []
-        → OnOk result (buffer.new ≡ above ++ with_stretches role layout.now.base.gutter (chars line.now) stretches.now last ∷ []) }
+        → OnOk result (buffer.new ≡ above ++ with_stretches role layout.now.base.gutter
+        (chars line.now) stretches.now last ∷ []) }
 {
     let row = buffer.num_lines().saturating_sub(1);
     paint_stretches(buffer, layout, row, line, stretches, role)
@@ -144,8 +150,10 @@ fn draw_diff_removed(
     removed: &[LineInfo<'_>],
     replaced: &[Vec<SubstitutionHighlight>],
 ) -> Result<(), AllocError>
-    ensures added { OnOk result (AddsRemoved layout.now (counted_from first 0 (texts_at removed.now)) buffer.old buffer.new) }
-    ensures cells { OnOk result (buffer.new ≡ buffer.old ++ taken_cells layout.now first (line_stretches replaced.now) 0 removed.now) }
+    ensures added { OnOk result (AddsRemoved layout.now (counted_from first 0
+        (texts_at removed.now)) buffer.old buffer.new) }
+    ensures cells { OnOk result (buffer.new ≡ buffer.old
+        ++ taken_cells layout.now first (line_stretches replaced.now) 0 removed.now) }
 {
     for i in 0..removed.len() {
         let info = removed[i];

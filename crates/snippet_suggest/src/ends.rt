@@ -60,7 +60,8 @@ fn draw_glyph(
     glyph: SuggestionGlyph,
 ) -> Result<(), AllocError>
     requires row { HasNext row }
-    ensures added { is_begin glyph ≡ true → (above tail : List (List Cell)) (shares : Bool) → row ≡ length above → buffer.old ≡ above ++ tail
+    ensures added { is_begin glyph ≡ true → (above tail : List (List Cell)) (shares : Bool) → row ≡ length above
+        → buffer.old ≡ above ++ tail
         → IsTail layout.now.base.decor layout.now.base.gutter shares tail
         → OnOk result (AddsRow (IsEdgeRow layout.now.base.decor layout.now.base.gutter
         (beside_gutter layout.now.base.gutter (suggestion_glyph_of layout.now.base.decor glyph))) above buffer.new) }
@@ -68,9 +69,11 @@ fn draw_glyph(
         → OnOk result (AddsEnd layout.now (suggestion_glyph_of layout.now.base.decor glyph) skipped
         buffer.old buffer.new) }
     ensures over { (above tail : List (List Cell)) → row ≡ length above → buffer.old ≡ above ++ tail → length tail ≤ 1
-        → OnOk result (buffer.new ≡ above ++ put LineNumber (suggestion_glyph_of layout.now.base.decor glyph) (separator_cell layout.now.base) (row_at tail 0) ∷ []) }
+        → OnOk result (buffer.new ≡ above ++ put LineNumber (suggestion_glyph_of layout.now.base.decor glyph)
+        (separator_cell layout.now.base) (row_at tail 0) ∷ []) }
     ensures below { (skipped : ℕ) → row ≡ length buffer.old + skipped → OnOk result (buffer.new
-        ≡ (buffer.old ++ replicate skipped []) ++ put LineNumber (suggestion_glyph_of layout.now.base.decor glyph) (separator_cell layout.now.base) [] ∷ []) }
+        ≡ (buffer.old ++ replicate skipped []) ++ put LineNumber (suggestion_glyph_of layout.now.base.decor glyph)
+        (separator_cell layout.now.base) [] ∷ []) }
 {
     let base = layout.base;
     buffer.puts(
@@ -99,8 +102,10 @@ pub(crate) fn draw_end(
     follows: bool,
 ) -> Result<usize, AllocError>
     requires few { skipped < 2 }
-    ensures added { OnOk result (AddsEnd layout.now (end_glyph layout.now.base.decor follows) skipped buffer.old buffer.new) }
-    ensures cells { OnOk result (buffer.new ≡ (buffer.old ++ replicate skipped []) ++ end_cells layout.now follows ∷ []) }
+    ensures added { OnOk result (AddsEnd layout.now (end_glyph layout.now.base.decor follows) skipped buffer.old
+        buffer.new) }
+    ensures cells { OnOk result (buffer.new ≡ (buffer.old ++ replicate skipped [])
+        ++ end_cells layout.now follows ∷ []) }
     ensures row { IfOk result (λ row. (row ≡ length buffer.old + skipped) × HasNext row) }
 {
     let row = buffer.num_lines() + skipped;

@@ -6,7 +6,8 @@ ghost use Rattle.std.specs.String.{string_bytes};
 ghost use Rattle.snippet_lines.specs.Lines.{last_byte, lines_of};
 ghost use Rattle.snippet_lines.specs.Span.{IsSpan};
 ghost use Rattle.snippet_splice.specs.Edits.{trimmed_edit_of};
-ghost use Rattle.snippet_suggest.specs.Kind.{adds_lines, adds_text, is_only_replacement, is_under_text, kind_of, loses_text};
+ghost use Rattle.snippet_suggest.specs.Kind.{adds_lines, adds_text, is_only_replacement, is_under_text, kind_of};
+ghost use Rattle.snippet_suggest.specs.Kind.{loses_text};
 ghost use Rattle.snippet_suggest.specs.Kind.{text_under};
 ghost use Rattle.snippet_suggest.specs.Kind as spec;
 
@@ -30,7 +31,8 @@ impl DisplaySuggestion {
     /// How the patches of a source are shown, with the text that they give.
     pub fn new(source: &str, splice: &SplicedLines<'_>) -> DisplaySuggestion
         requires spans { All (λ p. IsSpan source.now p.span.start p.span.end) splice.now.patches.items }
-        ensures value { result ≡ kind_of source.now (map trimmed_edit_of splice.now.patches.items) (string_bytes splice.now.complete) }
+        ensures value { result ≡ kind_of source.now (map trimmed_edit_of splice.now.patches.items)
+            (string_bytes splice.now.complete) }
     {
         let text = splice.complete.as_str();
         let single = has_one_line(text);
@@ -98,8 +100,8 @@ fn destroys(source: &str, patch: &TrimmedPatch<'_>) -> bool
     }
 }
 
-/// Whether a patch stands over text that isn't blank. A span that isn't inside the source counts as such text, unless it
-/// is empty.
+/// Whether a patch stands over text that isn't blank. A span that isn't inside the source counts as such text, unless
+/// it is empty.
 pub fn overwrites(source: &str, patch: &TrimmedPatch<'_>) -> bool
     ensures value { let e = trimmed_edit_of patch.now in IsSpan source.now patch.now.span.start patch.now.span.end
         → result ≡ is_under_text e (text_under source.now e) }

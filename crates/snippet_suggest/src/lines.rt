@@ -131,11 +131,14 @@ fn draw_text_line(
     stretches: &[Vec<SubstitutionHighlight>],
     k: usize,
 ) -> Result<(), AllocError>
-    ensures added { length (shown_number layout.now.numbers layout.now.base.gutter (number_after first k)) ≤ separator_cell layout.now.base
-        → OnOk result (AddsRow (IsLineRow layout.now.base.decor layout.now.base.gutter (shown_number layout.now.numbers layout.now.base.gutter (number_after first k))
+    ensures added { length (shown_number layout.now.numbers layout.now.base.gutter
+        (number_after first k)) ≤ separator_cell layout.now.base
+        → OnOk result (AddsRow (IsLineRow layout.now.base.decor layout.now.base.gutter
+        (shown_number layout.now.numbers layout.now.base.gutter (number_after first k))
         (norm (chars (slice_index_or (map (λ l. l.now) lines.now) k [])))) buffer.old buffer.new) }
     ensures cells { OnOk result (buffer.new ≡ buffer.old
-        ++ suggestion_row layout.now kind first (map (λ l. l.now) lines.now) (line_stretches stretches.now) (Line k) ∷ []) }
+        ++ suggestion_row layout.now kind first (map (λ l. l.now) lines.now) (line_stretches stretches.now)
+        (Line k) ∷ []) }
 {
     let line = line_at(lines, k);
     let stretches = stretches_of(stretches, k);

@@ -2,7 +2,8 @@
 ghost use Rattle.std.specs.Prelude.{◌≡◌, ℕ, ◌+◌, ◌-◌, ◌++◌, ◌∷◌, [], List, All, OnOk, length};
 ghost use Rattle.snippet_splice.specs.Edits.{trimmed_edit_of};
 ghost use Rattle.snippet_splice.specs.Stretches.{capped};
-ghost use Rattle.snippet_suggest.specs.Marks.{edit_columns, edits_at, left_of, patch_mark_end, mark_glyph_of, mark_start};
+ghost use Rattle.snippet_suggest.specs.Marks.{edit_columns, edits_at, left_of, patch_mark_end, mark_glyph_of};
+ghost use Rattle.snippet_suggest.specs.Marks.{mark_start};
 ghost use Rattle.snippet_suggest.specs.Marks.{text_width, with_mark, with_marks};
 ghost use Rattle.snippet_suggest.specs.Moves.{AreMoves, shift_of};
 ghost use Rattle.snippet_suggest.specs.declared.marks.PatchColumns.{PatchColumns};
@@ -51,7 +52,8 @@ impl Shift {
 
     /// The same with what one more patch makes the line longer or shorter.
     fn with(self, columns: PatchColumns) -> Shift
-        ensures value { (earlier : List PatchColumns) → self ≡ shift_of earlier → result ≡ shift_of (earlier ++ columns ∷ []) }
+        ensures value { (earlier : List PatchColumns) → self ≡ shift_of earlier → result
+            ≡ shift_of (earlier ++ columns ∷ []) }
     {
         Shift {
             right: self
@@ -95,7 +97,8 @@ impl Moves {
 
     /// Adds a patch.
     fn push(&mut self, columns: PatchColumns) -> Result<(), AllocError>
-        ensures of { OnOk result ((earlier : List PatchColumns) → AreMoves earlier self.old → AreMoves (earlier ++ columns ∷ []) self.new) }
+        ensures of { OnOk result ((earlier : List PatchColumns) → AreMoves earlier self.old
+            → AreMoves (earlier ++ columns ∷ []) self.new) }
     {
         self.patches.push(columns)?;
         self.all = self.all.with(columns);
@@ -103,10 +106,11 @@ impl Moves {
         Ok(())
     }
 
-    /// How those that end at a column or left of it move what starts there. Patches of one line all do, and are not looked at one
-    /// by one.
+    /// How those that end at a column or left of it move what starts there. Patches of one line all do, and are not
+    /// looked at one by one.
     fn before(&self, start: usize) -> Shift
-        ensures value { (earlier : List PatchColumns) → AreMoves earlier self.now → result ≡ shift_of (left_of start earlier) }
+        ensures value { (earlier : List PatchColumns) → AreMoves earlier self.now → result
+            ≡ shift_of (left_of start earlier) }
     {
         if self.end <= start {
             return self.all;
@@ -143,7 +147,8 @@ pub(crate) fn draw_marks(
     requires row { HasNext row }
     requires spans { All (λ p. IsSpan map.now.text p.span.start p.span.end) patches.now }
     // Into the last row, which shows no line.
-    ensures marked { (above : List (List Cell)) (last : List Cell) (left : List ℕ) → row ≡ length above → buffer.old ≡ above ++ last ∷ []
+    ensures marked { (above : List (List Cell)) (last : List Cell) (left : List ℕ) → row ≡ length above → buffer.old
+        ≡ above ++ last ∷ []
         → IsEdgeRow layout.now.base.decor layout.now.base.gutter left last
         → OnOk result (AddsRow (IsEdgeRow layout.now.base.decor layout.now.base.gutter left) above buffer.new) }
     ensures cells { (above : List (List Cell)) (last : List Cell) → row ≡ length above → buffer.old ≡ above ++ last ∷ []
@@ -184,7 +189,8 @@ fn draw_mark(
     mark: char,
 ) -> Result<(), AllocError>
     requires row { HasNext row }
-    ensures marked { (above : List (List Cell)) (last : List Cell) (left : List ℕ) → row ≡ length above → buffer.old ≡ above ++ last ∷ []
+    ensures marked { (above : List (List Cell)) (last : List Cell) (left : List ℕ) → row ≡ length above → buffer.old
+        ≡ above ++ last ∷ []
         → IsEdgeRow layout.now.base.decor layout.now.base.gutter left last
         → IsMarkOrSpace layout.now.base.decor mark
         → OnOk result (AddsRow (IsEdgeRow layout.now.base.decor layout.now.base.gutter left) above buffer.new) }

@@ -60,8 +60,8 @@ pub fn prepare_suggestion<'a>(
     }))
 }
 
-/// The line number that a suggestion counts for the gutter's width: that of its last line, or folded, where it has one line,
-/// that line's, or in a diff that of the last line that the first patch changes.
+/// The line number that a suggestion counts for the gutter's width: that of its last line, or folded, where it has one
+/// line, that line's, or in a diff that of the last line that the first patch changes.
 fn counted_line(
     source: &SourceMap<'_>,
     splice: &SplicedLines<'_>,
@@ -70,7 +70,8 @@ fn counted_line(
 ) -> usize
     requires some { 0 < length splice.now.patches.items }
     requires spans { All (λ p. IsSpan source.now.text p.span.start p.span.end) splice.now.patches.items }
-    requires originals { All (λ p. IsSpan source.now.text p.original_span.start p.original_span.end) splice.now.patches.items }
+    requires originals { All (λ p. IsSpan source.now.text p.original_span.start p.original_span.end)
+        splice.now.patches.items }
     ensures value { let ls = source_lines source.now.text in
         let first = source.now.first + (if fold then line_of ls (first_original splice.now.patches.items) else 0) in
         let removed = source.now.first + line_of ls (first_end (map trimmed_edit_of splice.now.patches.items)) in

@@ -25,7 +25,8 @@ pub(crate) fn paint_stretches(
 ) -> Result<(), AllocError>
     ensures repaints { OnOk result ((above : List (List Cell)) (last : List Cell) → row ≡ length above
         → buffer.old ≡ above ++ last ∷ [] → IsRepainted above last buffer.new) }
-    ensures cells { OnOk result ((above : List (List Cell)) (last : List Cell) → row ≡ length above → buffer.old ≡ above ++ last ∷ []
+    ensures cells { OnOk result ((above : List (List Cell)) (last : List Cell) → row ≡ length above → buffer.old
+        ≡ above ++ last ∷ []
         → buffer.new ≡ above ++ with_stretches role layout.now.base.gutter (chars line.now) stretches.now last ∷ []) }
 {
     let mut tabs = TabCursor::new(line);

@@ -36,8 +36,10 @@ pub(crate) fn draw_line(
     line: &str,
 ) -> Result<usize, AllocError>
     requires sign { is_sign glyph ≡ true }
-    ensures added { let shown = shown_number layout.now.numbers layout.now.base.gutter number in length shown ≤ separator_cell layout.now.base
-        → OnOk result (AddsRow (IsLineRow layout.now.base.decor layout.now.base.gutter shown (norm (chars line.now))) buffer.old buffer.new) }
+    ensures added { let shown = shown_number layout.now.numbers layout.now.base.gutter number in length shown ≤
+        separator_cell layout.now.base
+        → OnOk result (AddsRow (IsLineRow layout.now.base.decor layout.now.base.gutter shown
+        (norm (chars line.now))) buffer.old buffer.new) }
     ensures cells { OnOk result (buffer.new ≡ buffer.old ++ line_cells layout.now glyph number line.now ∷ []) }
     ensures row { IfOk result (λ row. row ≡ length buffer.old) }
 {
@@ -100,7 +102,8 @@ pub(crate) fn draw_gap(
     buffer: &mut StyledBuffer,
     layout: &SuggestionLayout,
 ) -> Result<(), AllocError>
-    ensures added { OnOk result (AddsRow (IsEdgeRow layout.now.base.decor layout.now.base.gutter (gap_left layout.now.base.decor layout.now.base.gutter)) buffer.old buffer.new) }
+    ensures added { OnOk result (AddsRow (IsEdgeRow layout.now.base.decor layout.now.base.gutter
+        (gap_left layout.now.base.decor layout.now.base.gutter)) buffer.old buffer.new) }
     ensures cells { OnOk result (buffer.new ≡ buffer.old ++ gap_cells layout.now ∷ []) }
 {
     let row = buffer.num_lines();

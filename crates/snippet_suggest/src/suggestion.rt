@@ -43,8 +43,8 @@ use std::ops::Range;
 ///      ╰╴    ++++
 /// ```
 ///
-/// It begins in a row of its own, in the last row of the suggestion before it, or below its path, which is drawn before. The
-/// last row leads on, if an element `follows`.
+/// It begins in a row of its own, in the last row of the suggestion before it, or below its path, which is drawn
+/// before. The last row leads on, if an element `follows`.
 ///
 /// # Errors
 ///
@@ -58,14 +58,15 @@ pub fn draw_suggestion(
     follows: bool,
 ) -> Result<(), AllocError>
     requires prepared { IsPrepared suggestion.now }
-    // Where the gutter has room for the number that it counts: the rows that it has, in their order, and nothing else, below what
-    // stands there.
+    // Where the gutter has room for the number that it counts: the rows that it has, in their order, and nothing else,
+    // below what stands there.
     ensures added { HasGutter layout.now suggestion.now.snippet.now
         → (above tail : List (List Cell)) → buffer.old ≡ above ++ tail → IsStart layout.now start tail
         → OnOk result (AddsSuggestion layout.now start follows suggestion.now.snippet.now above buffer.new) }
     // These rows are a value, cell by cell.
     ensures cells { (above tail : List (List Cell)) → buffer.old ≡ above ++ tail → length tail ≡ rows_shared start
-        → OnOk result (buffer.new ≡ above ++ suggestion_cells layout.now start follows suggestion.now.snippet.now (row_at tail 0)) }
+        → OnOk result (buffer.new ≡ above ++ suggestion_cells layout.now start follows suggestion.now.snippet.now
+        (row_at tail 0)) }
 {
     let lines = text_lines(alloc, suggestion.splice.complete.as_str())?;
     let skipped = draw_body(alloc, buffer, layout, suggestion, &lines, start)?;
@@ -92,11 +93,13 @@ fn draw_body(
     // Its rows, once those that stay empty stand there.
     ensures added { let s = suggestion.now.snippet.now in HasGutter layout.now s
         → (above tail : List (List Cell)) → buffer.old ≡ above ++ tail → IsStart layout.now start tail
-        → IfOk result (λ skipped. AddsRows layout.now (s.line_start + first_given s) (given_lines s) (rows_of_suggestion start s)
+        → IfOk result (λ skipped. AddsRows layout.now (s.line_start + first_given s) (given_lines s)
+        (rows_of_suggestion start s)
         above (buffer.new ++ replicate skipped [])) }
     ensures cells { let s = suggestion.now.snippet.now in
         (above tail : List (List Cell)) → buffer.old ≡ above ++ tail → length tail ≡ rows_shared start
-        → IfOk result (λ skipped. buffer.new ++ replicate skipped [] ≡ above ++ body_cells layout.now start s (row_at tail 0)) }
+        → IfOk result (λ skipped. buffer.new ++ replicate skipped [] ≡ above
+        ++ body_cells layout.now start s (row_at tail 0)) }
 {
     let Some(line) = lines.first() else {
         draw_emptied(alloc, buffer, layout, suggestion, start)?;
@@ -123,8 +126,8 @@ fn draw_body(
     Ok(0)
 }
 
-/// Draws the rows of a suggestion that is shown as removed lines and one line. Where no patch touches this, one row stays
-/// empty.
+/// Draws the rows of a suggestion that is shown as removed lines and one line. Where no patch touches this, one row
+/// stays empty.
 fn draw_changed(
     alloc: Global,
     buffer: &mut StyledBuffer,
@@ -176,7 +179,8 @@ fn draw_emptied(
     requires none { given_lines suggestion.now.snippet.now ≡ [] }
     ensures added { let s = suggestion.now.snippet.now in (above tail : List (List Cell)) → buffer.old ≡ above ++ tail
         → IsStart layout.now start tail
-        → OnOk result (AddsRows layout.now (s.line_start + first_given s) (given_lines s) (rows_of_suggestion start s) above buffer.new) }
+        → OnOk result (AddsRows layout.now (s.line_start + first_given s) (given_lines s)
+        (rows_of_suggestion start s) above buffer.new) }
     ensures cells { let s = suggestion.now.snippet.now in
         (above tail : List (List Cell)) → buffer.old ≡ above ++ tail → length tail ≡ rows_shared start
         → OnOk result (buffer.new ≡ above ++ body_cells layout.now start s (row_at tail 0)) }
@@ -204,13 +208,14 @@ fn first_row(buffer: &StyledBuffer, start: SuggestionStart) -> usize
     }
 }
 
-/// The bytes whose lines are removed where nothing stands in their place: those of the first patch as it was given, or of
-/// the whole source, if lines aren't folded.
+/// The bytes whose lines are removed where nothing stands in their place: those of the first patch as it was given, or
+/// of the whole source, if lines aren't folded.
 fn given_span(map: &SourceMap<'_>, patches: &[TrimmedPatch<'_>], fold: bool) -> Range<usize>
     requires originals { All (λ p. IsSpan map.now.text p.original_span.start p.original_span.end) patches.now }
     ensures span { IsSpan map.now.text result.start result.end }
     ensures start { result.start ≡ (if fold then first_original patches.now else 0) }
-    ensures end { 0 < length patches.now → result.end ≡ (if fold then first_original_end patches.now else length map.now.text) }
+    ensures end { 0 < length patches.now → result.end ≡
+        (if fold then first_original_end patches.now else length map.now.text) }
 {
     match patches.first() {
         Some(patch) if fold => patch.original_span.start..patch.original_span.end,
@@ -223,8 +228,10 @@ fn trimmed_span(source: &SourceMap<'_>, patches: &[TrimmedPatch<'_>]) -> Range<u
     requires spans { All (λ p. IsSpan source.now.text p.span.start p.span.end) patches.now }
     ensures span { IsSpan source.now.text result.start result.end }
     // Of patches that stand apart the last one's end is the greatest, and the first one's start the least.
-    ensures end { let ts = map trimmed_edit_of patches.now in 0 < length patches.now → AreApart 0 ts → result.end ≡ end_from 0 ts }
-    ensures start { let ts = map trimmed_edit_of patches.now in 0 < length patches.now → AreApart 0 ts → result.start ≡ first_start ts }
+    ensures end { let ts = map trimmed_edit_of patches.now in 0 < length patches.now → AreApart 0 ts → result.end
+        ≡ end_from 0 ts }
+    ensures start { let ts = map trimmed_edit_of patches.now in 0 < length patches.now → AreApart 0 ts → result.start
+        ≡ first_start ts }
 {
     match patches {
         [] => 0..source.source().len(),

@@ -33,7 +33,8 @@ norm-shown c = grind (arith, nat_tests)
 pub width_of-norm : (cs : List ℕ) → width_of (norm cs) ≡ width_of cs
 unfolding norm
 width_of-norm [] = refl
-width_of-norm (c ∷ cs) = sum_by-append char_width (shown c) (flat_map shown cs) ∙ (let rest : width_of (flat_map shown cs) ≡ width_of cs = width_of-norm cs in rw (width_of-shown c, rest) (sym (sum_by-cons char_width c cs)))
+width_of-norm (c ∷ cs) = sum_by-append char_width (shown c) (flat_map shown cs)
+    ∙ (let rest : width_of (flat_map shown cs) ≡ width_of cs = width_of-norm cs in rw (width_of-shown c, rest) (sym (sum_by-cons char_width c cs)))
 
 -- nor makes it a text longer than four times
 length-shown : (c : ℕ) → length (shown c) ≤ 4
@@ -51,13 +52,16 @@ length-norm (c ∷ cs) =
 pub list_any-norm : (cs : List ℕ) → list_any is_listed (norm cs) ≡ false
 unfolding norm
 list_any-norm [] = refl
-list_any-norm (c ∷ cs) = list_any-append is_listed (shown c) (flat_map shown cs) ∙ (let rest : list_any is_listed (flat_map shown cs) ≡ false = list_any-norm cs in rw (list_any-shown c, rest))
+list_any-norm (c ∷ cs) = list_any-append is_listed (shown c) (flat_map shown cs)
+    ∙ (let rest : list_any is_listed (flat_map shown cs) ≡ false = list_any-norm cs in rw (list_any-shown c, rest))
 
 -- normalising a second time changes nothing
 pub norm-norm : (cs : List ℕ) → norm (norm cs) ≡ norm cs
 unfolding norm
 norm-norm [] = refl
-norm-norm (c ∷ cs) = flat_map-append shown (shown c) (flat_map shown cs) ∙ (let rest : flat_map shown (flat_map shown cs) ≡ flat_map shown cs = norm-norm cs in let first : flat_map shown (shown c) ≡ shown c = norm-shown c in rw (first, rest))
+norm-norm (c ∷ cs) = flat_map-append shown (shown c) (flat_map shown cs)
+    ∙ (let rest : flat_map shown (flat_map shown cs) ≡ flat_map shown cs = norm-norm cs in let first : flat_map shown (shown c)
+    ≡ shown c = norm-shown c in rw (first, rest))
 
 -- bytes that spell the normalised characters hold those characters
 pub chars-spelled : (bs cs all : List ℕ) → IsUtf8 bs → bs ≡ encode_utf8_all (norm cs) → map (λ c. c) cs ≡ all → chars bs ≡ norm all

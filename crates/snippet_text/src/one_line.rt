@@ -3,8 +3,8 @@ ghost use Rattle.snippet_text.specs.OneLine.{IsOneLine};
 
 /// Whether a text is one line: it holds no line feed.
 ///
-/// A line feed in a label, a path, an id or a level's name is drawn as it is, so what stands after it begins a line of the
-/// report's text. With the label `here`, a line feed, `2 | let y = 666;` that looks like a line of the source:
+/// A line feed in a label, a path, an id or a level's name is drawn as it is, so what stands after it begins a line of
+/// the report's text. With the label `here`, a line feed, `2 | let y = 666;` that looks like a line of the source:
 ///
 /// ```text
 /// 1 | let x = 1;

@@ -67,7 +67,8 @@ span_before-order = record {
 pub named_spans-is : (given sorted : List NamedSpan) (marks : List Annotation) → IsSortedBy span_before sorted → IsStableBy span_before given sorted
     → map annotation_of given ≡ filter (λ a. is_marking a.kind) marks → map annotation_of sorted ≡ named_spans marks
 named_spans-is given sorted marks up stable are =
-    ap (map annotation_of) (sorted-only span_before span_before-order given sorted up stable) ∙ map-ordered_by annotation_of is_named_before given ∙ ap (ordered_by is_named_before) are
+    ap (map annotation_of) (sorted-only span_before span_before-order given sorted up stable) ∙ map-ordered_by annotation_of is_named_before given
+    ∙ ap (ordered_by is_named_before) are
 
 -- ---- what holds of each
 
@@ -80,7 +81,8 @@ All-named_spans P marks all =
 pub All-annotations : (P : Annotation → Type 0) (spans : List NamedSpan) → All P (map annotation_of spans) → All (λ s. P (annotation_of s)) spans
 All-annotations P [] all = All-nil (λ s. P (annotation_of s))
 All-annotations P (s ∷ spans) all =
-    All-cons (λ t. P (annotation_of t)) s spans (All-head P (annotation_of s) (map annotation_of spans) all) (All-annotations P spans (All-tail P (annotation_of s) (map annotation_of spans) all))
+    All-cons (λ t. P (annotation_of t)) s spans (All-head P (annotation_of s) (map annotation_of spans) all)
+    (All-annotations P spans (All-tail P (annotation_of s) (map annotation_of spans) all))
 
 -- ---- what is added
 
@@ -128,8 +130,10 @@ pub span-plain : (anonymized : Bool) (source : Source) (indent : List ℕ) (path
     → three ≡ old ++ span_form anonymized source indent path a
 span-plain anonymized source indent path a at old one two three is first second third none =
     let front : List ℕ = indent ++ span_place anonymized source path at.0 at.1 in
-    let same : front ++ after_place (label_characters a) ≡ front = ap (λ l. front ++ l) (cond-false (is_labelled a) (codes ": " ++ label_characters a) [] none) ∙ append-nil front in
-    place-added old one two three indent (span_place anonymized source path at.0 at.1) first second third ∙ ap (λ l. old ++ Break ∷ bare l) (sym same) ∙ placed anonymized source indent path a at old is
+    let same : front ++ after_place (label_characters a) ≡ front = ap (λ l. front ++ l) (cond-false (is_labelled a) (codes ": " ++ label_characters a) [] none)
+    ∙ append-nil front in
+    place-added old one two three indent (span_place anonymized source path at.0 at.1) first second third ∙ ap (λ l. old ++ Break ∷ bare l) (sym same)
+    ∙ placed anonymized source indent path a at old is
 
 -- a span with a label
 pub span-labelled : (anonymized : Bool) (source : Source) (indent : List ℕ) (path : Option (List ℕ)) (a : Annotation) (at : Loc × Loc)
@@ -180,7 +184,9 @@ pub no_span-added : (anonymized : Bool) (source : Source) (path : Option (List �
     (line : ℕ) → line ≡ source.first → one ≡ old ++ Break ∷ [] → two ≡ one ++ bare (codes " ") → three ≡ two ++ bare (place anonymized path line None)
     → spans ≡ [] → three ≡ old ++ spans_form anonymized source path (map annotation_of spans)
 no_span-added anonymized source path old one two three spans line number first second third none =
-    place-added old one two three (codes " ") (place anonymized path line None) first second third ∙ ap (λ n. old ++ Break ∷ bare (codes " " ++ place anonymized path n None)) number ∙ ap (λ ss. old ++ spans_form anonymized source path (map annotation_of ss)) (sym none)
+    place-added old one two three (codes " ") (place anonymized path line None) first second third
+    ∙ ap (λ n. old ++ Break ∷ bare (codes " " ++ place anonymized path n None)) number
+    ∙ ap (λ ss. old ++ spans_form anonymized source path (map annotation_of ss)) (sym none)
 
 -- the whole snippet
 pub cause-added : (anonymized : Bool) (source : Source) (path : Option (List ℕ)) (spans : List Annotation) (s : Snippet Annotation)
@@ -188,7 +194,8 @@ pub cause-added : (anonymized : Bool) (source : Source) (path : Option (List ℕ
     → new ≡ old ++ spans_form anonymized source path spans → new ≡ old ++ cause_form anonymized s
 unfolding cause_form
 cause-added anonymized source path spans s old new its by are added =
-    added ∙ ap (λ (given : Source). old ++ spans_form anonymized given path spans) its ∙ ap (λ p. old ++ spans_form anonymized (numbered_source s) p spans) by ∙ ap (λ marks. old ++ spans_form anonymized (numbered_source s) (option_map cow_str_bytes s.path) marks) are
+    added ∙ ap (λ (given : Source). old ++ spans_form anonymized given path spans) its ∙ ap (λ p. old ++ spans_form anonymized (numbered_source s) p spans) by
+    ∙ ap (λ marks. old ++ spans_form anonymized (numbered_source s) (option_map cow_str_bytes s.path) marks) are
 
 -- ---- texts of labels
 

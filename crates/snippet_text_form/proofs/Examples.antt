@@ -70,7 +70,8 @@ abbrev patch : ℕ → ℕ → List ℕ → Patch
 patch start end text = record { span = record { start = start; end = end }; replacement = text_of text }
 
 -- a title with an id, one whose name is hidden, and a message after another element
-title_with_id : form_text (heading_form false Title (heading Error Standard (Some (record { id = Some (text_of (codes "E0308")); url = None })) (codes "mismatched types"))) ≡ codes "error E0308: mismatched types"
+title_with_id : form_text (heading_form false Title (heading Error Standard (Some (record { id = Some (text_of (codes "E0308")); url = None }))
+    (codes "mismatched types"))) ≡ codes "error E0308: mismatched types"
 unfolding heading_form norm chars
 title_with_id = refl
 
@@ -98,7 +99,8 @@ unfolding heading_form norm chars
 lines_without_label = refl
 
 -- an id links to its address where links are on and its text shows anything
-linked_id : form_links (heading_form true Title (heading Help Standard (Some (record { id = Some (text_of (codes "E1")); url = Some (text_of (codes "u")) })) [])) ≡ codes "u" ∷ []
+linked_id : form_links (heading_form true Title (heading Help Standard
+    (Some (record { id = Some (text_of (codes "E1")); url = Some (text_of (codes "u")) })) [])) ≡ codes "u" ∷ []
 unfolding heading_form norm chars
 linked_id = refl
 
@@ -120,48 +122,61 @@ coloured = refl
 
 -- a primary span and another, in a file
 two_spans : (v : Vec Annotation Global)
-    → plain_from true (cause_form false (cause v (Some (text_of (codes "a.rs"))) (codes "let x = 1;") (mark Context 8 9 (codes "value") ∷ mark Primary 4 5 (codes "here") ∷ []) (omega arith))) ≡ codes "\n at a.rs:1:5: here\n  on line 1, column 9: value"
+    → plain_from true (cause_form false (cause v (Some (text_of (codes "a.rs"))) (codes "let x = 1;")
+    (mark Context 8 9 (codes "value") ∷ mark Primary 4 5 (codes "here") ∷ []) (omega arith))) ≡ codes "\n at a.rs:1:5: here\n  on line 1, column 9: value"
 unfolding cause_form locations_of start_location end_location location_of place_of steps_after_text line_of start_of newline_count digits norm chars
 two_spans v = refl
 
 -- a span over two lines: without a path the column is left out where the line ends with it; in a file the lines may be anonymized
 two_lines : (v : Vec Annotation Global)
-    → plain_from true (cause_form false (cause v None (codes "f(a,\n b)") (mark Primary 1 8 (codes "x") ∷ []) (omega arith))) ≡ codes "\n on line 1, column 2 to line 2: x"
+    → plain_from true (cause_form false (cause v None (codes "f(a,\n b)") (mark Primary 1 8 (codes "x") ∷ []) (omega arith)))
+    ≡ codes "\n on line 1, column 2 to line 2: x"
 unfolding cause_form locations_of start_location end_location location_of place_of steps_after_text line_of start_of newline_count digits norm chars
 two_lines v = refl
 
 two_lines_anonymized : (v : Vec Annotation Global)
-    → plain_from true (cause_form true (cause v (Some (text_of (codes "a.rs"))) (codes "f(a,\n b)") (mark Primary 1 8 (codes "x") ∷ []) (omega arith))) ≡ codes "\n at a.rs:LL:2 to LL:4: x"
+    → plain_from true (cause_form true (cause v (Some (text_of (codes "a.rs"))) (codes "f(a,\n b)") (mark Primary 1 8 (codes "x") ∷ []) (omega arith)))
+    ≡ codes "\n at a.rs:LL:2 to LL:4: x"
 unfolding cause_form locations_of start_location end_location location_of place_of steps_after_text line_of start_of newline_count digits norm chars
 two_lines_anonymized v = refl
 
 -- `foo` with `bar` in its place
 replacement : (v : Vec Patch Global)
-    → plain_from true (suggestion_form false (record { option = None; names_path = true }) (offer v (codes "foo") (patch 0 3 (codes "bar") ∷ []) (omega arith))) ≡ codes "\n on line 1, column 1 to column 4 replace with: bar"
-unfolding suggestion_form trimmed_edit sandwich kept_before locations_of start_location end_location location_of place_of steps_after_text line_of start_of newline_count digits norm chars
+    → plain_from true (suggestion_form false (record { option = None; names_path = true })
+    (offer v (codes "foo") (patch 0 3 (codes "bar") ∷ []) (omega arith))) ≡ codes "\n on line 1, column 1 to column 4 replace with: bar"
+unfolding suggestion_form trimmed_edit sandwich kept_before locations_of start_location end_location location_of place_of steps_after_text line_of start_of
+    newline_count digits norm chars
 replacement v = refl
 
 -- `foo()` with `y` put before the bracket, the second of two suggestions
 second_option : (v : Vec Patch Global)
-    → plain_from true (suggestion_form false (record { option = Some 2; names_path = false }) (offer v (codes "foo()") (patch 4 4 (codes "y") ∷ []) (omega arith))) ≡ codes "\n option 2\n  on line 1, column 5 add: y"
-unfolding suggestion_form trimmed_edit sandwich kept_before locations_of start_location end_location location_of place_of steps_after_text line_of start_of newline_count digits norm chars
+    → plain_from true (suggestion_form false (record { option = Some 2; names_path = false })
+    (offer v (codes "foo()") (patch 4 4 (codes "y") ∷ []) (omega arith))) ≡ codes "\n option 2\n  on line 1, column 5 add: y"
+unfolding suggestion_form trimmed_edit sandwich kept_before locations_of start_location end_location location_of place_of steps_after_text line_of start_of
+    newline_count digits norm chars
 second_option v = refl
 
 -- `x` put into the empty line between `a` and `b`. The bytes at which a line is cut are those of the source, so the column is named
 empty_line : (v : Vec Patch Global)
-    → plain_from true (suggestion_form false (record { option = None; names_path = true }) (offer v (codes "a\n\nb") (patch 2 2 (codes "x") ∷ []) (omega arith))) ≡ codes "\n on line 2, column 1 add: x"
-unfolding suggestion_form trimmed_edit sandwich kept_before locations_of start_location end_location location_of place_of steps_after_text line_of start_of newline_count digits norm chars
+    → plain_from true (suggestion_form false (record { option = None; names_path = true })
+    (offer v (codes "a\n\nb") (patch 2 2 (codes "x") ∷ []) (omega arith))) ≡ codes "\n on line 2, column 1 add: x"
+unfolding suggestion_form trimmed_edit sandwich kept_before locations_of start_location end_location location_of place_of steps_after_text line_of start_of
+    newline_count digits norm chars
 empty_line v = refl
 
 -- on a line of whitespace alone, and where a line is deleted, no column is named
 blank_line : (v : Vec Patch Global)
-    → plain_from true (suggestion_form false (record { option = None; names_path = true }) (offer v (codes "\t") (patch 1 1 (codes "(") ∷ []) (omega arith))) ≡ codes "\n on line 1 add: ("
-unfolding suggestion_form trimmed_edit sandwich kept_before locations_of start_location end_location location_of place_of steps_after_text line_of start_of newline_count digits norm chars
+    → plain_from true (suggestion_form false (record { option = None; names_path = true }) (offer v (codes "\t") (patch 1 1 (codes "(") ∷ []) (omega arith)))
+    ≡ codes "\n on line 1 add: ("
+unfolding suggestion_form trimmed_edit sandwich kept_before locations_of start_location end_location location_of place_of steps_after_text line_of start_of
+    newline_count digits norm chars
 blank_line v = refl
 
 deleted_line : (v : Vec Patch Global)
-    → plain_from true (suggestion_form false (record { option = None; names_path = true }) (offer v (codes " b") (patch 0 2 [] ∷ []) (omega arith))) ≡ codes "\n on line 1"
-unfolding suggestion_form trimmed_edit sandwich kept_before locations_of start_location end_location location_of place_of steps_after_text line_of start_of newline_count digits norm chars
+    → plain_from true (suggestion_form false (record { option = None; names_path = true }) (offer v (codes " b") (patch 0 2 [] ∷ []) (omega arith)))
+    ≡ codes "\n on line 1"
+unfolding suggestion_form trimmed_edit sandwich kept_before locations_of start_location end_location location_of place_of steps_after_text line_of start_of
+    newline_count digits norm chars
 deleted_line v = refl
 
 -- a place without source, which may have a column and no line

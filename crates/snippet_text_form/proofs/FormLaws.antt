@@ -23,7 +23,8 @@ pub in_style-pieces : (style : Style) (link : Option (List ℕ)) (text : List �
 in_style-pieces style None text rest =
     ap (λ (ps : List Piece). Opening style ∷ ps) (append_assoc (woven_chars text) (Reset style ∷ []) rest)
 in_style-pieces style (Some url) text rest =
-    ap (λ (ps : List Piece). Opening style ∷ LinkTo url ∷ ps) (ap (λ (ps : List Piece). ps ++ rest) (append_assoc (woven_chars text) (LinkEnd ∷ []) (Reset style ∷ [])) ∙ append_assoc (woven_chars text) (LinkEnd ∷ Reset style ∷ []) rest)
+    ap (λ (ps : List Piece). Opening style ∷ LinkTo url ∷ ps) (ap (λ (ps : List Piece). ps ++ rest)
+    (append_assoc (woven_chars text) (LinkEnd ∷ []) (Reset style ∷ [])) ∙ append_assoc (woven_chars text) (LinkEnd ∷ Reset style ∷ []) rest)
 
 -- the plain text
 plain-chars : (cs : List ℕ) (ps : List Piece) → flat_map plain_piece (woven_chars cs ++ ps) ≡ cs ++ flat_map plain_piece ps
@@ -46,7 +47,8 @@ woven-plain sheet begun (Char ch ∷ ps) = ap (λ (t : List ℕ). ch ∷ t) (wov
 woven-plain sheet true (Break ∷ ps) = ap (λ (t : List ℕ). 10 ∷ t) (woven-plain sheet true ps)
 woven-plain sheet false (Break ∷ ps) = woven-plain sheet false ps
 woven-plain sheet begun (Styled role link text ∷ ps) =
-    plain-in_style (role_style sheet role) link text (woven_from sheet (begun_after begun text) ps) ∙ ap (λ (t : List ℕ). text ++ t) (woven-plain sheet (begun_after begun text) ps)
+    plain-in_style (role_style sheet role) link text (woven_from sheet (begun_after begun text) ps)
+    ∙ ap (λ (t : List ℕ). text ++ t) (woven-plain sheet (begun_after begun text) ps)
 
 -- the links
 links-chars : (cs : List ℕ) (ps : List Piece) → flat_map piece_link (woven_chars cs ++ ps) ≡ flat_map piece_link ps
@@ -54,7 +56,8 @@ links-chars [] ps = refl
 links-chars (c ∷ cs) ps = links-chars cs ps
 
 links-linked : (style : Style) (link : Option (List ℕ)) (text : List ℕ) (rest : List Piece)
-    → flat_map piece_link (link_codes_before link ++ (woven_chars text ++ (link_codes_after link ++ Reset style ∷ rest))) ≡ option_to_list link ++ flat_map piece_link rest
+    → flat_map piece_link (link_codes_before link ++ (woven_chars text ++ (link_codes_after link ++ Reset style ∷ rest))) ≡ option_to_list link
+    ++ flat_map piece_link rest
 links-linked style None text rest = links-chars text (Reset style ∷ rest)
 links-linked style (Some url) text rest =
     ap (λ (urls : List (List ℕ)). url ∷ urls) (links-chars text (LinkEnd ∷ Reset style ∷ rest))
@@ -66,7 +69,8 @@ woven-links sheet true (Break ∷ ps) = woven-links sheet true ps
 woven-links sheet false (Break ∷ ps) = woven-links sheet false ps
 woven-links sheet begun (Styled role link text ∷ ps) =
     let rest : List Piece = woven_from sheet (begun_after begun text) ps in
-    ap (flat_map piece_link) (in_style-pieces (role_style sheet role) link text rest) ∙ links-linked (role_style sheet role) link text rest ∙ ap (λ (urls : List (List ℕ)). option_to_list link ++ urls) (woven-links sheet (begun_after begun text) ps)
+    ap (flat_map piece_link) (in_style-pieces (role_style sheet role) link text rest) ∙ links-linked (role_style sheet role) link text rest
+    ∙ ap (λ (urls : List (List ℕ)). option_to_list link ++ urls) (woven-links sheet (begun_after begun text) ps)
 
 -- the styles are those of the sheet
 chars_of_sheet : (sheet : Stylesheet) (cs : List ℕ) (ps : List Piece) → All (λ p. IsOfSheet sheet p) ps → All (λ p. IsOfSheet sheet p) (woven_chars cs ++ ps)
@@ -78,7 +82,8 @@ linked_of_sheet : (sheet : Stylesheet) (link : Option (List ℕ)) (text : List �
     → All (λ p. IsOfSheet sheet p) (link_codes_before link ++ (woven_chars text ++ (link_codes_after link ++ ps)))
 linked_of_sheet sheet None text ps of = chars_of_sheet sheet text ps of
 linked_of_sheet sheet (Some url) text ps of =
-    All-cons (λ p. IsOfSheet sheet p) (LinkTo url) (woven_chars text ++ LinkEnd ∷ ps) tt (chars_of_sheet sheet text (LinkEnd ∷ ps) (All-cons (λ p. IsOfSheet sheet p) LinkEnd ps tt of))
+    All-cons (λ p. IsOfSheet sheet p) (LinkTo url) (woven_chars text ++ LinkEnd ∷ ps) tt
+    (chars_of_sheet sheet text (LinkEnd ∷ ps) (All-cons (λ p. IsOfSheet sheet p) LinkEnd ps tt of))
 
 in_style_of_sheet : (sheet : Stylesheet) (role : ElementStyle) (link : Option (List ℕ)) (text : List ℕ) (rest : List Piece) → All (λ p. IsOfSheet sheet p) rest
     → All (λ p. IsOfSheet sheet p) (in_style (role_style sheet role) link text ++ rest)
@@ -87,7 +92,9 @@ in_style_of_sheet sheet role link text rest of =
     let own : IsStyleOf sheet style = record { level = Note; role = role; is = refl } in
     let after = All-cons (λ p. IsOfSheet sheet p) (Reset style) rest own of in
     let linked = linked_of_sheet sheet link text (Reset style ∷ rest) after in
-    subst (λ (ps : List Piece). All (λ p. IsOfSheet sheet p) ps) (sym (in_style-pieces style link text rest)) (All-cons (λ p. IsOfSheet sheet p) (Opening style) (link_codes_before link ++ (woven_chars text ++ (link_codes_after link ++ Reset style ∷ rest))) own linked)
+    subst (λ (ps : List Piece). All (λ p. IsOfSheet sheet p) ps) (sym (in_style-pieces style link text rest))
+    (All-cons (λ p. IsOfSheet sheet p) (Opening style) (link_codes_before link
+    ++ (woven_chars text ++ (link_codes_after link ++ Reset style ∷ rest))) own linked)
 
 woven_of_sheet : (sheet : Stylesheet) (begun : Bool) (form : List FormPiece) → All (λ p. IsOfSheet sheet p) (woven_from sheet begun form)
 woven_of_sheet sheet begun [] = All-nil (λ p. IsOfSheet sheet p)
@@ -118,7 +125,8 @@ woven_ended sheet false (Break ∷ ps) = woven_ended sheet false ps
 woven_ended sheet begun (Styled role link text ∷ ps) =
     let style : Style = role_style sheet role in
     let rest : List Piece = woven_from sheet (begun_after begun text) ps in
-    subst (λ (qs : List Piece). AreLinksEnded false qs) (sym (in_style-pieces style link text rest)) (linked_ended style link text rest (woven_ended sheet (begun_after begun text) ps))
+    subst (λ (qs : List Piece). AreLinksEnded false qs) (sym (in_style-pieces style link text rest))
+    (linked_ended style link text rest (woven_ended sheet (begun_after begun text) ps))
 
 -- a text form under a sheet is a woven text
 pub form-woven : (sheet : Stylesheet) (form : List FormPiece) → IsWoven sheet (form_bytes sheet form) (form_text form) (form_links form)

@@ -77,7 +77,9 @@ text-in_style style link cs =
     let before : List Piece = link_codes_before link in
     let after : List Piece = link_codes_after link in
     let whole = sym (append-nil (in_style style link cs)) ∙ in_style-pieces style link cs [] in
-    let last : flat_map piece_text (after ++ Reset style ∷ []) ≡ flat_map piece_text after ++ encode_utf8_all (reset style) = flat_map-append piece_text after (Reset style ∷ []) ∙ ap (λ (bs : List ℕ). flat_map piece_text after ++ bs) (append-nil (encode_utf8_all (reset style))) in
+    let last : flat_map piece_text (after ++ Reset style ∷ []) ≡ flat_map piece_text after
+    ++ encode_utf8_all (reset style) = flat_map-append piece_text after (Reset style ∷ [])
+    ∙ ap (λ (bs : List ℕ). flat_map piece_text after ++ bs) (append-nil (encode_utf8_all (reset style))) in
     ap (flat_map piece_text) whole ∙ ap (λ (bs : List ℕ). encode_utf8_all (opening style) ++ bs)
     (flat_map-append piece_text before (woven_chars cs ++ (after ++ Reset style ∷ [])) ∙ ap (λ (bs : List ℕ). flat_map piece_text before
     ++ bs) (text-chars cs (after ++ Reset style ∷ []) ∙ ap (λ (bs : List ℕ). encode_utf8_all cs ++ bs) last))
@@ -92,9 +94,12 @@ styled_added style link bytes old one two three four new utf8 first second third
     let after : List ℕ = flat_map piece_text (link_codes_after link) in
     let begin : List ℕ = encode_utf8_all (opening style) in
     let end : List ℕ = encode_utf8_all (reset style) in
-    let grown : new ≡ (((((old ++ begin) ++ before) ++ bytes) ++ after) ++ end) = fifth ∙ ap (λ (bs : List ℕ). bs ++ end) (fourth ∙ ap (λ (bs : List ℕ). bs ++ after) (third ∙ ap (λ (bs : List ℕ). bs ++ bytes) (second ∙ ap (λ (bs : List ℕ). bs ++ before) first))) in
+    let grown : new ≡ (((((old ++ begin) ++ before) ++ bytes) ++ after) ++ end) = fifth
+    ∙ ap (λ (bs : List ℕ). bs ++ end) (fourth ∙ ap (λ (bs : List ℕ). bs ++ after)
+    (third ∙ ap (λ (bs : List ℕ). bs ++ bytes) (second ∙ ap (λ (bs : List ℕ). bs ++ before) first))) in
     let regrouped : (((((old ++ begin) ++ before) ++ bytes) ++ after) ++ end) ≡ old ++ (begin ++ (before ++ (bytes ++ (after ++ end)))) = simp append_assoc in
-    grown ∙ regrouped ∙ ap (λ (bs : List ℕ). old ++ (begin ++ (before ++ (bs ++ (after ++ end))))) (sym (encodes-chars bytes utf8)) ∙ ap (λ (bs : List ℕ). old ++ bs) (sym (text-in_style style link (chars bytes)))
+    grown ∙ regrouped ∙ ap (λ (bs : List ℕ). old ++ (begin ++ (before ++ (bs ++ (after ++ end))))) (sym (encodes-chars bytes utf8))
+    ∙ ap (λ (bs : List ℕ). old ++ bs) (sym (text-in_style style link (chars bytes)))
 
 -- ---- whether text stands before a part
 
@@ -146,7 +151,8 @@ woven-append sheet true (Break ∷ ps) more =
 woven-append sheet false (Break ∷ ps) more = woven-append sheet false ps more
 woven-append sheet begun (Styled role link text ∷ ps) more =
     let own : List Piece = in_style (role_style sheet role) link text in
-    ap (λ (qs : List Piece). own ++ qs) (woven-append sheet (begun_after begun text) ps more) ∙ sym (append_assoc own (woven_from sheet (begun_after begun text) ps) (woven_from sheet (begun_past (begun_after begun text) ps) more))
+    ap (λ (qs : List Piece). own ++ qs) (woven-append sheet (begun_after begun text) ps more)
+    ∙ sym (append_assoc own (woven_from sheet (begun_after begun text) ps) (woven_from sheet (begun_past (begun_after begun text) ps) more))
 
 -- ---- whether a part has text
 
@@ -210,13 +216,15 @@ rendered-push : (sheet : Stylesheet) (parts : List TextPart) (part : TextPart) (
 rendered-push sheet parts part old new begun after rendered added is =
     let front : List FormPiece = flat_map pieces_of_part parts in
     let own : List FormPiece = pieces_of_part part in
-    let split : flat_map pieces_of_part (parts ++ part ∷ []) ≡ front ++ own = flat_map-append pieces_of_part parts (part ∷ []) ∙ ap (λ (ps : List FormPiece). front ++ ps) (append-nil own) in
+    let split : flat_map pieces_of_part (parts ++ part ∷ []) ≡ front ++ own = flat_map-append pieces_of_part parts (part ∷ [])
+    ∙ ap (λ (ps : List FormPiece). front ++ ps) (append-nil own) in
     record {
       text_is = added ∙ ap (λ (bs : List ℕ). bs ++ flat_map piece_text (woven_from sheet begun own)) rendered.text_is
           ∙ ap (λ (b : Bool). form_bytes sheet front ++ flat_map piece_text (woven_from sheet b own)) rendered.begun_is
           ∙ sym (flat_map-append piece_text (woven_from sheet false front) (woven_from sheet (begun_past false front) own))
           ∙ ap (flat_map piece_text) (sym (woven-append sheet false front own)) ∙ ap (form_bytes sheet) (sym split);
-      begun_is = is ∙ sym (begun_past-is begun own) ∙ ap (λ (b : Bool). begun_past b own) rendered.begun_is ∙ sym (begun_past-append false front own) ∙ ap (begun_past false) (sym split);
+      begun_is = is ∙ sym (begun_past-is begun own) ∙ ap (λ (b : Bool). begun_past b own) rendered.begun_is ∙ sym (begun_past-append false front own)
+          ∙ ap (begun_past false) (sym split);
     }
 
 -- one part more of a list

@@ -111,15 +111,20 @@ column_words-free (Some column) =
 after_path-free : (anonymized : Bool) (line column : Option ℕ) → AreFree (after_path anonymized line column)
 after_path-free anonymized None column = column_words-free column
 after_path-free anonymized (Some line) column =
-    free-append (codes ":" ++ line_name anonymized line) (column_text column) (free-append (codes ":") (line_name anonymized line) (each-fails is_listed (codes ":") refl) (line_name-free anonymized line)) (column_text-free column)
+    free-append (codes ":" ++ line_name anonymized line) (column_text column)
+    (free-append (codes ":") (line_name anonymized line) (each-fails is_listed (codes ":") refl) (line_name-free anonymized line)) (column_text-free column)
 
 place_in_file-free : (anonymized : Bool) (path : List ℕ) (line column : Option ℕ) → AreFree (place_in_file anonymized path line column)
 place_in_file-free anonymized path line column =
-    free-append (codes "at " ++ norm (chars path)) (after_path anonymized line column) (free-append (codes "at ") (norm (chars path)) (each-fails is_listed (codes "at ") refl) (norm-free (chars path))) (after_path-free anonymized line column)
+    free-append (codes "at " ++ norm (chars path)) (after_path anonymized line column)
+    (free-append (codes "at ") (norm (chars path)) (each-fails is_listed (codes "at ") refl) (norm-free (chars path)))
+    (after_path-free anonymized line column)
 
 place_on_line-free : (anonymized : Bool) (line : ℕ) (column : Option ℕ) → AreFree (place_on_line anonymized line column)
 place_on_line-free anonymized line column =
-    free-append (codes "on line " ++ line_name anonymized line) (column_words column) (free-append (codes "on line ") (line_name anonymized line) (each-fails is_listed (codes "on line ") refl) (line_name-free anonymized line)) (column_words-free column)
+    free-append (codes "on line " ++ line_name anonymized line) (column_words column)
+    (free-append (codes "on line ") (line_name anonymized line) (each-fails is_listed (codes "on line ") refl) (line_name-free anonymized line))
+    (column_words-free column)
 
 place-free : (anonymized : Bool) (path : Option (List ℕ)) (line : ℕ) (column : Option ℕ) → AreFree (place anonymized path line column)
 place-free anonymized None line column = place_on_line-free anonymized line column
@@ -154,7 +159,9 @@ end_on_line-free anonymized source start end = of_lines (start.line == end.line)
 
     text_free : AreFree text
     text_free =
-        free-append (codes " to line " ++ line_name anonymized end.line) (column_words column) (free-append (codes " to line ") (line_name anonymized end.line) (each-fails is_listed (codes " to line ") refl) (line_name-free anonymized end.line)) (column_words-free column)
+        free-append (codes " to line " ++ line_name anonymized end.line) (column_words column)
+        (free-append (codes " to line ") (line_name anonymized end.line) (each-fails is_listed (codes " to line ") refl)
+        (line_name-free anonymized end.line)) (column_words-free column)
 
     of_lines : (same : Bool) → AreFree (if same then [] else text)
     of_lines true = All-nil IsUnlisted
@@ -163,9 +170,11 @@ end_on_line-free anonymized source start end = of_lines (start.line == end.line)
 span_place-free : (anonymized : Bool) (source : Source) (path : Option (List ℕ)) (start end : Loc) → AreFree (span_place anonymized source path start end)
 span_place-free anonymized source None start end =
     let column : Option ℕ = column_unless (is_blank_before (line_at source start.line) start.char) start in
-    free-append (place_on_line anonymized start.line column) (end_on_line anonymized source start end) (place_on_line-free anonymized start.line column) (end_on_line-free anonymized source start end)
+    free-append (place_on_line anonymized start.line column) (end_on_line anonymized source start end) (place_on_line-free anonymized start.line column)
+    (end_on_line-free anonymized source start end)
 span_place-free anonymized source (Some path) start end =
-    free-append (place_in_file anonymized path (Some start.line) (Some (start.char + 1))) (end_in_file anonymized start end) (place_in_file-free anonymized path (Some start.line) (Some (start.char + 1))) (end_in_file-free anonymized start end)
+    free-append (place_in_file anonymized path (Some start.line) (Some (start.char + 1))) (end_in_file anonymized start end)
+    (place_in_file-free anonymized path (Some start.line) (Some (start.char + 1))) (end_in_file-free anonymized start end)
 
 -- nor does a label, nor an annotation's line
 normalized-free : (label : Option (List ℕ)) → AreFree (normalized_chars label)
@@ -184,7 +193,8 @@ span_text-free : (anonymized : Bool) (source : Source) (indent : List ℕ) (path
 span_text-free anonymized source indent path a free =
     let at = locations_of source a.span.start a.span.end in
     let place : List ℕ = span_place anonymized source path at.0 at.1 in
-    free-append (indent ++ place) (after_place (label_characters a)) (free-append indent place free (span_place-free anonymized source path at.0 at.1)) (after_place-free (label_characters a) (normalized-free (option_map cow_str_bytes a.label)))
+    free-append (indent ++ place) (after_place (label_characters a)) (free-append indent place free (span_place-free anonymized source path at.0 at.1))
+    (after_place-free (label_characters a) (normalized-free (option_map cow_str_bytes a.label)))
 
 further_indent-free : (path : Option (List ℕ)) → AreFree (further_indent path)
 further_indent-free None = each-fails is_listed (codes " ") refl
@@ -204,7 +214,8 @@ spans-free anonymized source path [] =
 spans-free anonymized source path (a ∷ marks) =
     let indent : List ℕ = further_indent path in
     let further : Annotation → List FormPiece = span_form anonymized source indent None in
-    let one : FormIsFree (span_form anonymized source (codes " ") path a) = line-free (span_text anonymized source (codes " ") path a) (span_text-free anonymized source (codes " ") path a (each-fails is_listed (codes " ") refl)) in
+    let one : FormIsFree (span_form anonymized source (codes " ") path a) = line-free (span_text anonymized source (codes " ") path a)
+    (span_text-free anonymized source (codes " ") path a (each-fails is_listed (codes " ") refl)) in
     each-append IsUnlisted refl (span_form anonymized source (codes " ") path a) (flat_map further (filter is_labelled marks))
     one (each-flat_map IsUnlisted refl further
     (λ b. line-free (span_text anonymized source indent None b) (span_text-free anonymized source indent None b (further_indent-free path)))
@@ -250,7 +261,8 @@ edit_place-free anonymized source path e start end = of_kind (replaces source.te
 
     of_kind : (replacing : Bool) → AreFree (if replacing then from ++ replaced_to anonymized start end else place anonymized path start.line column)
     of_kind true =
-        free-append from (replaced_to anonymized start end) (place-free anonymized path start.line (Some (start.char + 1))) (replaced_to-free anonymized start end)
+        free-append from (replaced_to anonymized start end) (place-free anonymized path start.line (Some (start.char + 1)))
+        (replaced_to-free anonymized start end)
     of_kind false = place-free anonymized path start.line column
 
 -- nor what it puts there
@@ -270,7 +282,8 @@ added_free source e = of_blank (is_blank e.text)
     of_blank : (blank : Bool) → FormIsFree (if blank then [] else bare sign ++ styled Addition text)
     of_blank true = each-nil IsUnlisted refl
     of_blank false =
-        each-append IsUnlisted refl (bare sign) (styled Addition text) (each-bare IsUnlisted refl sign (sign-free (overwrites source e))) (each-styled IsUnlisted refl Addition None text (norm-free (chars (without_final_line_feeds e.text))))
+        each-append IsUnlisted refl (bare sign) (styled Addition text) (each-bare IsUnlisted refl sign (sign-free (overwrites source e)))
+        (each-styled IsUnlisted refl Addition None text (norm-free (chars (without_final_line_feeds e.text))))
 
 edit-free : (anonymized : Bool) (source : Source) (indent : List ℕ) (path : Option (List ℕ)) → AreFree indent → (e : Edit)
     → FormIsFree (edit_form anonymized source indent path e)
@@ -279,12 +292,14 @@ edit-free anonymized source indent path free e =
     let place : List ℕ = edit_place anonymized source path e at.0 at.1 in
     let front : List ℕ = indent ++ place in
     let line : FormIsFree (bare front) = each-bare IsUnlisted refl front (free-append indent place free (edit_place-free anonymized source path e at.0 at.1)) in
-    each-break IsUnlisted refl (bare front ++ added_form source.text e) (each-append IsUnlisted refl (bare front) (added_form source.text e) line (added_free source.text e))
+    each-break IsUnlisted refl (bare front ++ added_form source.text e)
+    (each-append IsUnlisted refl (bare front) (added_form source.text e) line (added_free source.text e))
 
 option-free : (option : Option ℕ) → FormIsFree (option_form option)
 option-free None = each-nil IsUnlisted refl
 option-free (Some number) =
-    line-free (codes " option " ++ decimal number) (free-append (codes " option ") (decimal number) (each-fails is_listed (codes " option ") refl) (decimal-free number))
+    line-free (codes " option " ++ decimal number) (free-append (codes " option ") (decimal number) (each-fails is_listed (codes " option ") refl)
+    (decimal-free number))
 
 edit_indent-free : (option : Option ℕ) → AreFree (edit_indent option)
 edit_indent-free None = each-fails is_listed (codes " ") refl
@@ -298,14 +313,16 @@ suggestion-free begun anonymized at s =
     let source : Source = numbered_source s in
     let path : Option (List ℕ) = named_path at.names_path (option_map cow_str_bytes s.path) in
     let edits : Edit → List FormPiece = edit_form anonymized source (edit_indent at.option) path in
-    each-append IsUnlisted refl (option_form at.option) (flat_map edits (given.trimmed_of s)) (option-free at.option) (each-flat_map IsUnlisted refl edits (edit-free anonymized source (edit_indent at.option) path (edit_indent-free at.option)) (given.trimmed_of s)) begun
+    each-append IsUnlisted refl (option_form at.option) (flat_map edits (given.trimmed_of s)) (option-free at.option)
+    (each-flat_map IsUnlisted refl edits (edit-free anonymized source (edit_indent at.option) path (edit_indent-free at.option)) (given.trimmed_of s)) begun
 
 -- the text form of an origin holds no listed character
 pub origin-free : (begun anonymized : Bool) (o : Origin) → All (λ c. is_listed c ≡ false) (plain_from begun (origin_form anonymized o))
 unfolding origin_form
 origin-free begun anonymized o =
     let text : List ℕ = place_in_file anonymized (cow_str_bytes o.path) o.line o.char_column in
-    line-free (codes " " ++ text) (free-append (codes " ") text (each-fails is_listed (codes " ") refl) (place_in_file-free anonymized (cow_str_bytes o.path) o.line o.char_column)) begun
+    line-free (codes " " ++ text) (free-append (codes " ") text (each-fails is_listed (codes " ") refl)
+    (place_in_file-free anonymized (cow_str_bytes o.path) o.line o.char_column)) begun
 
 -- what holds of each character that isn't listed, and of each of a heading's text, holds of all of the heading
 before_name-free : (kind : HeadingKind) → AreFree (before_name kind)
@@ -333,13 +350,15 @@ module _ (P : ℕ → Type 0) (free : (c : ℕ) → IsUnlisted c → P c) where
       of_hidden : (hidden : Bool) → EachPlain P (if hidden then [] else bare (before_name kind) ++ styled role name)
       of_hidden true = each-nil P (free 10 refl)
       of_hidden false =
-          each-append P (free 10 refl) (bare (before_name kind)) (styled role name) (bare-all (before_name kind) (before_name-free kind)) (styled-all role None name (norm-free (chars (name_of level))))
+          each-append P (free 10 refl) (bare (before_name kind)) (styled role name) (bare-all (before_name kind) (before_name-free kind))
+          (styled-all role None name (norm-free (chars (name_of level))))
 
   id_text-all : (hidden : Bool) (role : ElementStyle) (address text : Option (List ℕ)) → EachPlain P (id_text_form hidden role address text)
   id_text-all hidden role address None = each-nil P (free 10 refl)
   id_text-all hidden role address (Some text) =
       let shown : List ℕ = norm (chars text) in
-      each-append P (free 10 refl) (bare (before_id hidden)) (linking role address shown) (bare-all (before_id hidden) (before_id-free hidden)) (styled-all role (link_for address shown) shown (norm-free (chars text)))
+      each-append P (free 10 refl) (bare (before_id hidden)) (linking role address shown) (bare-all (before_id hidden) (before_id-free hidden))
+      (styled-all role (link_for address shown) shown (norm-free (chars text)))
 
   id-all : (hyperlink hidden : Bool) (role : ElementStyle) (id : Option Id) → EachPlain P (id_form hyperlink hidden role id)
   id-all hyperlink hidden role None = each-nil P (free 10 refl)
@@ -358,20 +377,24 @@ module _ (P : ℕ → Type 0) (free : (c : ℕ) → IsUnlisted c → P c) where
       let hidden : Bool = is_hidden heading.level.name in
       let id : List FormPiece = id_form hyperlink hidden roles.label heading.id in
       let colon : List FormPiece = colon_form roles.colon hidden heading.id in
-      each-append P (free 10 refl) (name_form kind roles.label heading.level) (id ++ colon) (name-all kind roles.label heading.level) (each-append P (free 10 refl) id colon (id-all hyperlink hidden roles.label heading.id) (colon-all roles.colon hidden heading.id))
+      each-append P (free 10 refl) (name_form kind roles.label heading.level) (id ++ colon) (name-all kind roles.label heading.level)
+      (each-append P (free 10 refl) id colon (id-all hyperlink hidden roles.label heading.id) (colon-all roles.colon hidden heading.id))
 
   further-all : (role : ElementStyle) (width : ℕ) (lines : List (List ℕ)) → All (All P) lines → EachPlain P (flat_map (further_line role width) lines)
   further-all role width [] all = each-nil P (free 10 refl)
   further-all role width (line ∷ lines) all =
       let front : List ℕ = 10 ∷ replicate width 32 in
       let indent : All P front = All-cons P 10 (replicate width 32) (free 10 refl) (All-replicate P width 32 (free 32 refl)) in
-      let one : EachPlain P (further_line role width line) = each-append P (free 10 refl) (bare front) (styled role line) (each-bare P (free 10 refl) front indent) (each-styled P (free 10 refl) role None line (All-head (All P) line lines all)) in
-      each-append P (free 10 refl) (further_line role width line) (flat_map (further_line role width) lines) one (further-all role width lines (All-tail (All P) line lines all))
+      let one : EachPlain P (further_line role width line) = each-append P (free 10 refl) (bare front) (styled role line)
+      (each-bare P (free 10 refl) front indent) (each-styled P (free 10 refl) role None line (All-head (All P) line lines all)) in
+      each-append P (free 10 refl) (further_line role width line) (flat_map (further_line role width) lines) one
+      (further-all role width lines (All-tail (All P) line lines all))
 
   lines_all : (role : ElementStyle) (width : ℕ) (lines : List (List ℕ)) → All (All P) lines → EachPlain P (lines_form role width lines)
   lines_all role width [] all = each-nil P (free 10 refl)
   lines_all role width (line ∷ lines) all =
-      each-append P (free 10 refl) (styled role line) (flat_map (further_line role width) lines) (each-styled P (free 10 refl) role None line (All-head (All P) line lines all)) (further-all role width lines (All-tail (All P) line lines all))
+      each-append P (free 10 refl) (styled role line) (flat_map (further_line role width) lines)
+      (each-styled P (free 10 refl) role None line (All-head (All P) line lines all)) (further-all role width lines (All-tail (All P) line lines all))
 
   heading-all : (hyperlink : Bool) (kind : HeadingKind) (heading : Heading) → All P (shown_text heading) → EachPlain P (heading_form hyperlink kind heading)
   unfolding heading_form
@@ -380,7 +403,8 @@ module _ (P : ℕ → Type 0) (free : (c : ℕ) → IsUnlisted c → P c) where
       let width : ℕ = width_of (heading_label kind heading) in
       let label : List FormPiece = label_form hyperlink kind roles heading in
       let lines : List FormPiece = lines_form roles.text width (heading_lines heading) in
-      each-break P (free 10 refl) (label ++ lines) (each-append P (free 10 refl) label lines (label-all hyperlink kind roles heading) (lines_all roles.text width (heading_lines heading) (All-slice_split P (λ c. c == 10) (shown_text heading) all)))
+      each-break P (free 10 refl) (label ++ lines) (each-append P (free 10 refl) label lines (label-all hyperlink kind roles heading)
+      (lines_all roles.text width (heading_lines heading) (All-slice_split P (λ c. c == 10) (shown_text heading) all)))
 
 -- a listed character in the text form of a heading is of its own text, and that may be styled
 pub heading-free : (begun hyperlink : Bool) (kind : HeadingKind) (heading : Heading)

@@ -95,9 +95,12 @@ pub label-width : (kind : HeadingKind) (known level : Level) (hidden : Bool) (ow
 label-width kind known level hidden owned id set name shown colon colons leveled hides own is_set named identified spelled measured =
     let h : Bool = is_hidden known.name in
     let front : List ℕ = if h then [] else before_name kind ++ norm (chars (name_of known)) in
-    let one : name ≡ width_of front = named ∙ ap (λ (l : Level). if is_hidden l.name then 0 else width_of (before_name kind ++ norm (chars (name_of l)))) leveled ∙ width_of-shown_if h (before_name kind ++ norm (chars (name_of known))) in
-    let two : shown ≡ width_of (label_of_id h owned) = identified ∙ ap (λ (b : Bool). width_of (label_of_id b id)) hides ∙ ap (λ (i : Option Id). width_of (label_of_id h i)) own in
-    let three : colon ≡ width_of (colon_of h owned) = measured ∙ ap width_of spelled ∙ ap (λ (b : Bool). width_of (colon_of b set)) hides ∙ ap (λ (i : Option Id). width_of (colon_of h i)) is_set in
+    let one : name ≡ width_of front = named ∙ ap (λ (l : Level). if is_hidden l.name then 0 else width_of
+    (before_name kind ++ norm (chars (name_of l)))) leveled ∙ width_of-shown_if h (before_name kind ++ norm (chars (name_of known))) in
+    let two : shown ≡ width_of (label_of_id h owned) = identified ∙ ap (λ (b : Bool). width_of (label_of_id b id)) hides
+    ∙ ap (λ (i : Option Id). width_of (label_of_id h i)) own in
+    let three : colon ≡ width_of (colon_of h owned) = measured ∙ ap width_of spelled ∙ ap (λ (b : Bool). width_of (colon_of b set)) hides
+    ∙ ap (λ (i : Option Id). width_of (colon_of h i)) is_set in
     omega (arith, one, two, three, width_of-two front (label_of_id h owned ++ colon_of h owned), width_of-two (label_of_id h owned) (colon_of h owned))
 
 -- ---- the whole heading
@@ -112,7 +115,8 @@ unfolding heading_form
 heading-added r old one two new hyperlink kind heading level trusted roles width leveled trusts are wide first second third =
     let label : List FormPiece = label_form hyperlink kind roles heading in
     let lines : List FormPiece = lines_form roles.text width (heading_lines heading) in
-    let known : roles ≡ text_roles_of kind heading.level.kind heading.allows_styling = are ∙ ap (λ (l : Level). text_roles_of kind l.kind trusted) leveled ∙ ap (text_roles_of kind heading.level.kind) trusts in
+    let known : roles ≡ text_roles_of kind heading.level.kind heading.allows_styling = are ∙ ap (λ (l : Level). text_roles_of kind l.kind trusted) leveled
+    ∙ ap (text_roles_of kind heading.level.kind) trusts in
     let parts : old ++ (Break ∷ (label ++ lines)) ≡ old ++ heading_form hyperlink kind heading =
     ap (λ (rs : HeadingRoles). old ++ (Break ∷ (label_form hyperlink kind rs heading ++ lines_form rs.text width (heading_lines heading)))) known
     ∙ ap (λ n. old ++ (Break

@@ -76,7 +76,8 @@ linking-links role address (c ∷ cs) =
 id_text-links : (hidden : Bool) (role : ElementStyle) (address : Option (List ℕ)) (text : List ℕ)
     → form_links (id_text_form hidden role address (Some text)) ≡ text_links address (norm (chars text))
 id_text-links hidden role address text =
-    links-after (bare (before_id hidden)) (linking role address (norm (chars text))) (bare-links (before_id hidden)) ∙ linking-links role address (norm (chars text))
+    links-after (bare (before_id hidden)) (linking role address (norm (chars text))) (bare-links (before_id hidden))
+    ∙ linking-links role address (norm (chars text))
 
 id-links : (hyperlink hidden : Bool) (role : ElementStyle) (id : Option Id) → form_links (id_form hyperlink hidden role id) ≡ id_links hyperlink id
 id-links hyperlink hidden role None = refl
@@ -109,7 +110,8 @@ label-links hyperlink kind roles heading =
     let hidden : Bool = is_hidden heading.level.name in
     let id : List FormPiece = id_form hyperlink hidden roles.label heading.id in
     let colon : List FormPiece = colon_form roles.colon hidden heading.id in
-    links-after (name_form kind roles.label heading.level) (id ++ colon) (name-links kind roles.label heading.level) ∙ links-before id colon (colon-links roles.colon hidden heading.id) ∙ id-links hyperlink hidden roles.label heading.id
+    links-after (name_form kind roles.label heading.level) (id ++ colon) (name-links kind roles.label heading.level)
+    ∙ links-before id colon (colon-links roles.colon hidden heading.id) ∙ id-links hyperlink hidden roles.label heading.id
 
 lines-links : (role : ElementStyle) (width : ℕ) (lines : List (List ℕ)) → form_links (lines_form role width lines) ≡ []
 lines-links role width [] = refl
@@ -134,7 +136,8 @@ spans-links anonymized source path [] = bare-links (codes " " ++ place anonymize
 spans-links anonymized source path (a ∷ marks) =
     let first : List FormPiece = span_form anonymized source (codes " ") path a in
     let further : Annotation → List FormPiece = span_form anonymized source (further_indent path) None in
-    links-after first (flat_map further (filter is_labelled marks)) (bare-links (span_text anonymized source (codes " ") path a)) ∙ each-links further (λ b. bare-links (span_text anonymized source (further_indent path) None b)) (filter is_labelled marks)
+    links-after first (flat_map further (filter is_labelled marks)) (bare-links (span_text anonymized source (codes " ") path a))
+    ∙ each-links further (λ b. bare-links (span_text anonymized source (further_indent path) None b)) (filter is_labelled marks)
 
 -- the text form of a snippet has no link
 pub cause-links : (anonymized : Bool) (s : Snippet Annotation) → form_links (cause_form anonymized s) ≡ []
@@ -171,7 +174,8 @@ suggestion-links anonymized at s =
     let source : Source = numbered_source s in
     let path : Option (List ℕ) = named_path at.names_path (option_map cow_str_bytes s.path) in
     let edits : Edit → List FormPiece = edit_form anonymized source (edit_indent at.option) path in
-    links-after (option_form at.option) (flat_map edits (given.trimmed_of s)) (option-links at.option) ∙ each-links edits (edit-links anonymized source (edit_indent at.option) path) (given.trimmed_of s)
+    links-after (option_form at.option) (flat_map edits (given.trimmed_of s)) (option-links at.option)
+    ∙ each-links edits (edit-links anonymized source (edit_indent at.option) path) (given.trimmed_of s)
 
 -- the text form of an origin has no link
 pub origin-links : (anonymized : Bool) (o : Origin) → form_links (origin_form anonymized o) ≡ []

@@ -51,13 +51,21 @@ plain-append false (Break ∷ a) b = plain-append false a b
 plain-append begun (Styled role link text ∷ a) b =
     let now : Bool = begun_after begun text in
     let front : List ℕ = plain_from now a in
-    ap (λ cs. text ++ cs) (plain-append now a b) ∙ sym (append_assoc text front (plain_from (begun_after now front) b)) ∙ ap (λ t. (text ++ front) ++ plain_from t b) (sym (begun-append begun text front))
+    ap (λ cs. text ++ cs) (plain-append now a b) ∙ sym (append_assoc text front (plain_from (begun_after now front) b))
+    ∙ ap (λ t. (text ++ front) ++ plain_from t b) (sym (begun-append begun text front))
 
 -- texts that stand in one stand there after more text too
 pub stand-after : (bs : List (List ℕ)) (p q : List ℕ) → StandInOrder bs q → StandInOrder bs (p ++ q)
 stand-after [] p q stand = tt
-stand-after (b ∷ bs) p q stand =
-    (stand.0, record { before = p ++ stand.1.before; whole_is = ap (λ w. p ++ w) stand.1.whole_is ∙ sym (append_assoc p stand.1.before (b ++ stand.0)) }, stand.2)
+stand-after (b ∷ bs) p q stand = (
+  stand.0,
+  record {
+    before = p ++ stand.1.before;
+    whole_is = ap (λ w. p ++ w) stand.1.whole_is
+        ∙ sym (append_assoc p stand.1.before (b ++ stand.0));
+  },
+  stand.2,
+)
 
 -- texts that stand in one, and texts that stand in what is after it
 pub stand-append : (ps bs : List (List ℕ)) (p q : List ℕ) → StandInOrder ps p → StandInOrder bs q → StandInOrder (ps ++ bs) (p ++ q)
@@ -98,7 +106,9 @@ heading_holds begun hyperlink kind heading one =
     let label : List FormPiece = label_form hyperlink kind roles heading in
     let text : List ℕ = shown_text heading in
     let lines : heading_lines heading ≡ text ∷ [] = slice_split_none (λ c. c == 10) text (each-fails (λ c. c == 10) text one) in
-    holds-after (text ∷ []) (Break ∷ label) (lines_form roles.text width (heading_lines heading)) (subst (λ ls. Holds (text ∷ []) (lines_form roles.text width ls)) (sym lines) (λ now. subst (StandInOrder (text ∷ [])) (sym (append-nil text)) (stand-alone text))) begun
+    holds-after (text ∷ []) (Break ∷ label) (lines_form roles.text width (heading_lines heading))
+    (subst (λ ls. Holds (text ∷ []) (lines_form roles.text width ls)) (sym lines) (λ now.
+    subst (StandInOrder (text ∷ [])) (sym (append-nil text)) (stand-alone text))) begun
 
 -- a label stands after a place where it shows anything, and else anywhere
 label_stands : (label front : List ℕ) → StandInOrder (label ∷ []) (front ++ after_place label)
@@ -106,7 +116,8 @@ label_stands [] front =
     (front ++ [], record { before = []; whole_is = refl }, tt)
 label_stands (c ∷ cs) front =
     let full : after_place (c ∷ cs) ≡ codes ": " ++ c ∷ cs = grind (arith, nat_tests) in
-    stand-after ((c ∷ cs) ∷ []) front (after_place (c ∷ cs)) (subst (StandInOrder ((c ∷ cs) ∷ [])) (sym full) (stand-after ((c ∷ cs) ∷ []) (codes ": ") (c ∷ cs) (stand-alone (c ∷ cs))))
+    stand-after ((c ∷ cs) ∷ []) front (after_place (c ∷ cs)) (subst (StandInOrder ((c ∷ cs) ∷ [])) (sym full)
+    (stand-after ((c ∷ cs) ∷ []) (codes ": ") (c ∷ cs) (stand-alone (c ∷ cs))))
 
 -- the label of an annotation
 span-holds : (anonymized : Bool) (source : Source) (indent : List ℕ) (path : Option (List ℕ)) (a : Annotation)
@@ -114,7 +125,8 @@ span-holds : (anonymized : Bool) (source : Source) (indent : List ℕ) (path : O
 span-holds anonymized source indent path a =
     let at = locations_of source a.span.start a.span.end in
     let front : List ℕ = indent ++ span_place anonymized source path at.0 at.1 in
-    holds-after (label_characters a ∷ []) (Break ∷ []) (bare (front ++ after_place (label_characters a))) (holds-bare (label_characters a ∷ []) (front ++ after_place (label_characters a)) (label_stands (label_characters a) front))
+    holds-after (label_characters a ∷ []) (Break ∷ []) (bare (front ++ after_place (label_characters a)))
+    (holds-bare (label_characters a ∷ []) (front ++ after_place (label_characters a)) (label_stands (label_characters a) front))
 
 -- those of further annotations, of which only those with a label are named
 further-holds : (anonymized : Bool) (source : Source) (indent : List ℕ) (marks : List Annotation)
@@ -137,14 +149,17 @@ further-holds anonymized source indent (a ∷ marks) begun =
         rw none (whole, record { before = []; whole_is = ap (λ l. l ++ whole) (sym is) }, later begun)
     of_label (c ∷ cs) is later =
         let some : is_labelled a ≡ true = ap (λ l. nat_lt 0 (length l)) is ∙ begun-cons false c cs in
-        rw some (holds-append (label_characters a ∷ []) (map label_characters marks) (span_form anonymized source indent None a) (form rest) (span-holds anonymized source indent None a) later begun)
+        rw some (holds-append (label_characters a ∷ []) (map label_characters marks) (span_form anonymized source indent None a) (form rest)
+        (span-holds anonymized source indent None a) later begun)
 
 spans-hold : (anonymized : Bool) (source : Source) (path : Option (List ℕ)) (marks : List Annotation)
     → Holds (map label_characters marks) (spans_form anonymized source path marks)
 spans-hold anonymized source path [] begun = tt
 spans-hold anonymized source path (a ∷ marks) begun =
     let indent : List ℕ = further_indent path in
-    holds-append (label_characters a ∷ []) (map label_characters marks) (span_form anonymized source (codes " ") path a) (flat_map (span_form anonymized source indent None) (filter is_labelled marks)) (span-holds anonymized source (codes " ") path a) (further-holds anonymized source indent marks) begun
+    holds-append (label_characters a ∷ []) (map label_characters marks) (span_form anonymized source (codes " ") path a)
+    (flat_map (span_form anonymized source indent None) (filter is_labelled marks)) (span-holds anonymized source (codes " ") path a)
+    (further-holds anonymized source indent marks) begun
 
 -- the labels of a cause
 pub cause-holds : (begun anonymized : Bool) (s : Snippet Annotation)

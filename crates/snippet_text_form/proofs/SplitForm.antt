@@ -37,7 +37,8 @@ norm-step c cs true is same =
     let feed : c ≡ 10 = grind (arith, nat_tests, is) in
     ap (λ d. lines_at (shown d ++ norm cs)) feed ∙ ap (λ parts. [] ∷ parts) same ∙ ap (map norm) (sym (slice_split-cons_yes (λ d. d == 10) c cs is))
 norm-step c cs false is same =
-    norm-onto c cs (lines_at cs) is same (omega (arith, length-slice_split (λ b. b == 10) cs)) ∙ ap (map norm) (sym (slice_split-cons_no (λ d. d == 10) c cs is))
+    norm-onto c cs (lines_at cs) is same (omega (arith, length-slice_split (λ b. b == 10) cs))
+    ∙ ap (map norm) (sym (slice_split-cons_no (λ d. d == 10) c cs is))
 
 pub lines_at-norm : (cs : List ℕ) → lines_at (norm cs) ≡ map norm (lines_at cs)
 unfolding norm
@@ -89,7 +90,8 @@ lines_form-push : (role : ElementStyle) (width : ℕ) (lines : List (List ℕ)) 
     → lines_form role width (lines ++ line ∷ []) ≡ lines_form role width lines ++ (bare (before_line width (length lines)) ++ styled role line)
 lines_form-push role width [] line = refl
 lines_form-push role width (first ∷ lines) line =
-    ap (λ (ps : List FormPiece). styled role first ++ ps) (flat_map-append (further_line role width) lines (line ∷ []) ∙ ap (λ (ps : List FormPiece). flat_map (further_line role width) lines ++ ps) (append-nil (further_line role width line)))
+    ap (λ (ps : List FormPiece). styled role first ++ ps) (flat_map-append (further_line role width) lines (line ∷ [])
+    ∙ ap (λ (ps : List FormPiece). flat_map (further_line role width) lines ++ ps) (append-nil (further_line role width line)))
 
 -- the form after these lines
 abbrev pub with_lines : List FormPiece → ElementStyle → ℕ → Bool → List (ℕ × Bor (List ℕ)) → List FormPiece
@@ -111,7 +113,8 @@ line_added old form one new role width index trusted numbered line text at is fi
     let l : List ℕ = line_shown trusted (chars line.now) in
     let before : List FormPiece = lines_form role width ls in
     let count : index ≡ length ls = at ∙ sym (length-map numbered (λ p. line_shown trusted (line_of p))) in
-    let both : shown-lines trusted (numbered ++ (index, line) ∷ []) ≡ ls ++ l ∷ [] = map-append (λ p. line_shown trusted (line_of p)) numbered ((index, line) ∷ []) in
+    let both : shown-lines trusted (numbered ++ (index, line) ∷ []) ≡ ls
+    ++ l ∷ [] = map-append (λ p. line_shown trusted (line_of p)) numbered ((index, line) ∷ []) in
     second ∙ ap (λ (ps : List FormPiece). ps ++ styled role text) first ∙ append_assoc form (bare (before_line width index)) (styled role text)
     ∙ ap (λ (cs : List ℕ). form ++ (bare (before_line width index) ++ styled role cs)) shows
     ∙ ap (λ n. form ++ (bare (before_line width n) ++ styled role l)) count

@@ -48,7 +48,8 @@ replaced_place anonymized source path e start end over given =
 pub other_place : (anonymized : Bool) (source : Source) (path : Option (List ℕ)) (e : Edit) (start end : Loc) → replaces source.text e ≡ false
     → edit_place anonymized source path e start end ≡ place anonymized path start.line (column_unless (replaces_whole_line source start end e) start)
 other_place anonymized source path e start end other =
-    cond-false (replaces source.text e) (place anonymized path start.line (Some (start.char + 1)) ++ replaced_to anonymized start end) (place anonymized path start.line (column_unless (replaces_whole_line source start end e) start)) other
+    cond-false (replaces source.text e) (place anonymized path start.line (Some (start.char + 1)) ++ replaced_to anonymized start end)
+    (place anonymized path start.line (column_unless (replaces_whole_line source start end e) start)) other
 
 -- what is added for one more patch
 pub edits_more : (f : Edit → List FormPiece) (old mid new : List FormPiece) (ps : List TrimmedPatch) (i : ℕ) (d : TrimmedPatch) → i < length ps
@@ -56,7 +57,8 @@ pub edits_more : (f : Edit → List FormPiece) (old mid new : List FormPiece) (p
     → new ≡ old ++ flat_map f (map trimmed_edit_of (take (i + 1) ps))
 edits_more f old mid new ps i d within first last =
     let e : Edit = trimmed_edit_of (get_or ps i d) in
-    last ∙ ap (λ form. form ++ f e) first ∙ flat_map_more f old (map trimmed_edit_of (take i ps)) e ∙ ap (λ es. old ++ flat_map f es) (sym (map_more trimmed_edit_of ps i d within))
+    last ∙ ap (λ form. form ++ f e) first ∙ flat_map_more f old (map trimmed_edit_of (take i ps)) e
+    ∙ ap (λ es. old ++ flat_map f es) (sym (map_more trimmed_edit_of ps i d within))
 
 -- a suggestion is added once its number and all of its patches are
 pub suggestion_added : (anonymized : Bool) (at : SuggestionContext) (p : PreparedSuggestion) (indent : List ℕ) (path : Option (List ℕ))
@@ -74,4 +76,5 @@ suggestion_added anonymized at p indent path old mid new is indents names first 
     ∙ ap (λ text. flat_map (edit_form anonymized (numbered_source s) text path) edits) indents
     ∙ ap (λ to. flat_map (edit_form anonymized (numbered_source s) (edit_indent at.option) to) edits) names
     ∙ ap (λ es. flat_map (edit_form anonymized (numbered_source s) (edit_indent at.option) named) es) is.edits in
-    added-two old mid new (option_form at.option) (flat_map (edit_form anonymized p.map indent path) edits) first last ∙ ap (λ form. old ++ (option_form at.option ++ form)) forms
+    added-two old mid new (option_form at.option) (flat_map (edit_form anonymized p.map indent path) edits) first last
+    ∙ ap (λ form. old ++ (option_form at.option ++ form)) forms

@@ -71,12 +71,14 @@ end_in_file anonymized start end =
 -- the same after a place that is named without a path; the column is left out where the line ends there
 abbrev pub end_on_line : Bool → Source → Loc → Loc → List ℕ
 end_on_line anonymized source start end =
-    if start.line == end.line then [] else codes " to line " ++ line_name anonymized end.line ++ column_words (column_unless (is_blank_after (line_at source end.line) end.char) end)
+    if start.line == end.line then [] else codes " to line " ++ line_name anonymized end.line
+    ++ column_words (column_unless (is_blank_after (line_at source end.line) end.char) end)
 
 -- where a span starts and ends: in a file, or without a path; there the column is left out where the line begins with the span
 abbrev pub span_place : Bool → Source → Option (List ℕ) → Loc → Loc → List ℕ
 span_place anonymized source None start end =
-    place_on_line anonymized start.line (column_unless (is_blank_before (line_at source start.line) start.char) start) ++ end_on_line anonymized source start end
+    place_on_line anonymized start.line (column_unless (is_blank_before (line_at source start.line) start.char) start)
+    ++ end_on_line anonymized source start end
 span_place anonymized source (Some path) start end =
     place_in_file anonymized path (Some start.line) (Some (start.char + 1)) ++ end_in_file anonymized start end
 

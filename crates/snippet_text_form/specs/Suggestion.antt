@@ -91,7 +91,8 @@ named_path names path = if names then path else None
 -- a suggestion: its number, where it is one of several for one file, and its trimmed edits, in order
 unfoldable pub suggestion_form : Bool → SuggestionContext → Snippet Patch → List FormPiece
 suggestion_form anonymized at s =
-    option_form at.option ++ flat_map (edit_form anonymized (numbered_source s) (edit_indent at.option) (named_path at.names_path (option_map cow_str_bytes s.path))) (trimmed_of s)
+    option_form at.option ++ flat_map (edit_form anonymized (numbered_source s) (edit_indent at.option)
+    (named_path at.names_path (option_map cow_str_bytes s.path))) (trimmed_of s)
 
 -- a place without source, on a line of its own
 unfoldable pub origin_form : Bool → Origin → List FormPiece

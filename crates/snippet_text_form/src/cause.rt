@@ -130,7 +130,8 @@ fn named_spans<'a>(
 
 /// Which of two annotations comes first: a primary one, then the one that starts first.
 fn compare(a: &Annotation<'_>, b: &Annotation<'_>) -> Ordering
-    ensures value { result ≡ ordering_then (nat_cmp (kind_rank a.now.kind) (kind_rank b.now.kind)) (nat_cmp a.now.span.start b.now.span.start) }
+    ensures value { result ≡ ordering_then (nat_cmp (kind_rank a.now.kind) (kind_rank b.now.kind))
+        (nat_cmp a.now.span.start b.now.span.start) }
 {
     rank_of(a.kind)
         .cmp(&rank_of(b.kind))
@@ -260,8 +261,8 @@ fn add_end_in_file(
     form.add_number(end.char + 1)
 }
 
-/// Adds where a span starts and ends without a path: `on line 3, column 5 to line 4, column 7`. A column is left out where
-/// nothing but whitespace stands before the span, or after it.
+/// Adds where a span starts and ends without a path: `on line 3, column 5 to line 4, column 7`. A column is left out
+/// where nothing but whitespace stands before the span, or after it.
 fn add_place_on_lines(
     form: &mut TextForm<'_>,
     anonymized: bool,

@@ -114,8 +114,8 @@ impl<'a> TextForm<'a> {
         Ok(())
     }
 
-    /// Adds a text in the style of a role, which may link to an address. The style is opened and reset even where the text is
-    /// empty.
+    /// Adds a text in the style of a role, which may link to an address. The style is opened and reset even where the
+    /// text is empty.
     pub fn add_styled(
         &mut self,
         role: ElementStyle,
@@ -201,7 +201,8 @@ fn write_styled(
     text: &StyledText<'_>,
 ) -> Result<(), AllocError>
     ensures added { OnOk result (string_bytes out.new ≡ string_bytes out.old ++ flat_map piece_text
-        (in_style (role_style sheet.now text.now.role) (option_copied text.now.link) (chars (cow_str_bytes text.now.text)))) }
+        (in_style (role_style sheet.now text.now.role) (option_copied text.now.link)
+        (chars (cow_str_bytes text.now.text)))) }
 {
     let style = style_of(sheet, text.role);
     write_opening(out, style)?;

@@ -60,8 +60,8 @@ impl HeadingKind {
     }
 }
 
-/// Adds a title or message, on a line of its own. Further lines of its text stand below the first. Where links are on, its id
-/// links to its URL.
+/// Adds a title or message, on a line of its own. Further lines of its text stand below the first. Where links are on,
+/// its id links to its URL.
 ///
 /// ```text
 /// error E0308: mismatched types
@@ -185,7 +185,8 @@ fn label_width(kind: HeadingKind, heading: &dyn MessageOrTitle) -> usize
 /// The columns of a level's name with what stands before it, none where it is hidden.
 fn name_width(kind: HeadingKind, level: &Level<'_>) -> usize
     requires fits { LevelFits level.now }
-    ensures value { result ≡ (if model.is_hidden level.now.name then 0 else width_of (before_name kind ++ norm (chars (name_of level.now)))) }
+    ensures value { result ≡ (if model.is_hidden level.now.name then 0 else width_of
+        (before_name kind ++ norm (chars (name_of level.now)))) }
     ensures small { IsTextWidth result }
 {
     if is_hidden(level) {
@@ -219,7 +220,8 @@ fn add_lines<'a>(
 ) -> Result<(), AllocError>
     requires fits { HeadingFits (heading_of heading.now) }
     ensures added { OnOk result (form.new ≡ form.old
-        ++ lines_form role (width_of (heading_label kind (heading_of heading.now))) (heading_lines (heading_of heading.now))) }
+        ++ lines_form role (width_of (heading_label kind (heading_of heading.now)))
+        (heading_lines (heading_of heading.now))) }
 {
     let trusted = heading.allows_styling();
     let mut width = None;
@@ -230,8 +232,8 @@ fn add_lines<'a>(
     Ok(())
 }
 
-/// Adds what stands before a line: nothing before the first, else a line feed and as many spaces as the label has columns,
-/// which are given where they are known. It gives them as far as they are known then.
+/// Adds what stands before a line: nothing before the first, else a line feed and as many spaces as the label has
+/// columns, which are given where they are known. It gives them as far as they are known then.
 fn begin_line(
     form: &mut TextForm<'_>,
     kind: HeadingKind,
@@ -243,7 +245,8 @@ fn begin_line(
     requires known { IfSome known (λ width. width ≡ width_of (heading_label kind (heading_of heading.now))) }
     ensures added { OnOk result (form.new
         ≡ form.old ++ bare (before_line (width_of (heading_label kind (heading_of heading.now))) index)) }
-    ensures known { IfOk result (λ known. IfSome known (λ width. width ≡ width_of (heading_label kind (heading_of heading.now)))) }
+    ensures known { IfOk result (λ known. IfSome known (λ width.
+        width ≡ width_of (heading_label kind (heading_of heading.now)))) }
 {
     if index == 0 {
         return Ok(known);
@@ -254,7 +257,8 @@ fn begin_line(
     Ok(Some(width))
 }
 
-/// The columns of what stands before a heading's text, which are given where they are known. A text of one line doesn't ask.
+/// The columns of what stands before a heading's text, which are given where they are known. A text of one line doesn't
+/// ask.
 fn known_width(kind: HeadingKind, known: Option<usize>, heading: &dyn MessageOrTitle) -> usize
     requires fits { HeadingFits (heading_of heading.now) }
     requires known { IfSome known (λ width. width ≡ width_of (heading_label kind (heading_of heading.now))) }
@@ -268,7 +272,8 @@ fn known_width(kind: HeadingKind, known: Option<usize>, heading: &dyn MessageOrT
 
 /// A line of a text as it is shown: a trusted one as it is, any other normalised.
 fn shown_line<'a>(alloc: Global, trusted: bool, line: &'a str) -> Result<CowStr<'a>, AllocError>
-    ensures value { IfOk result (λ shown. chars (cow_str_bytes shown) ≡ (if trusted then chars line.now else norm (chars line.now))) }
+    ensures value { IfOk result (λ shown. chars (cow_str_bytes shown)
+        ≡ (if trusted then chars line.now else norm (chars line.now))) }
 {
     if trusted {
         Ok(CowStr::Borrowed(line))

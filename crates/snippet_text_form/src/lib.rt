@@ -1,5 +1,5 @@
-//! The text form of a report, for speech and Braille: what titles, messages, annotated snippets, suggestions and origins are
-//! without graphics.
+//! The text form of a report, for speech and Braille: what titles, messages, annotated snippets, suggestions and
+//! origins are without graphics.
 #![tactic(auto)]
 
 pub mod cause;

@@ -19,7 +19,8 @@ pub(crate) fn add_place<'a>(
     line: usize,
     column: Option<usize>,
 ) -> Result<(), AllocError>
-    ensures added { OnOk result (form.new ≡ form.old ++ bare (spec.place anonymized (option_copied path.entry) line column)) }
+    ensures added { OnOk result (form.new ≡ form.old ++ bare
+        (spec.place anonymized (option_copied path.entry) line column)) }
 {
     match path {
         Some(path) => add_place_in_file(alloc, form, anonymized, path, Some(line), column),

@@ -166,8 +166,8 @@ fn add_end(
     form.add_number(end.char + 1)
 }
 
-/// Whether a patch is that of a whole line: its span is on one line, on which nothing else stands. The bytes at which the line is
-/// cut are those of the source.
+/// Whether a patch is that of a whole line: its span is on one line, on which nothing else stands. The bytes at which
+/// the line is cut are those of the source.
 fn is_whole_line(map: &SourceMap<'_>, patch: &TrimmedPatch<'_>, start: Loc, end: Loc) -> bool
     ensures value { result ≡ spec.replaces_whole_line map.now start end (trimmed_edit_of patch.now) }
 {
@@ -185,8 +185,8 @@ fn is_whole_line(map: &SourceMap<'_>, patch: &TrimmedPatch<'_>, start: Loc, end:
     )
 }
 
-/// Whether a line can be cut at two bytes with nothing but whitespace before the first, and after the second too, unless
-/// that doesn't matter.
+/// Whether a line can be cut at two bytes with nothing but whitespace before the first, and after the second too,
+/// unless that doesn't matter.
 fn is_alone(line: &str, from: usize, to: usize, anything: bool) -> bool
     ensures value { result ≡ spec.is_alone (Some line.now) from to anything }
 {

@@ -81,11 +81,13 @@ unfolding changed_within
 changed_to_end f start end xs before within =
     let part : take (end - start) (drop start xs) ≡ drop start xs = take_all (end - start) (drop start xs) (omega (arith, length-drop start xs)) in
     let rest : drop (max start end) xs ≡ [] = drop_of_length-le xs (omega arith) in
-    ap (λ ys. take start xs ++ map f ys ++ drop (max start end) xs) part ∙ ap (λ zs. take start xs ++ map f (drop start xs) ++ zs) rest ∙ append-nil (take start xs ++ map f (drop start xs))
+    ap (λ ys. take start xs ++ map f ys ++ drop (max start end) xs) part ∙ ap (λ zs. take start xs ++ map f (drop start xs) ++ zs) rest
+    ∙ append-nil (take start xs ++ map f (drop start xs))
 
 changed_after : {X : Type 0} (f : X → X) (end : ℕ) (xs ys : List X) → length xs + length ys ≤ end → changed_within f (length xs) end (xs ++ ys) ≡ xs ++ map f ys
 changed_after f end xs ys within =
-    changed_to_end f (length xs) end (xs ++ ys) (omega (arith, within)) (omega (arith, within, length-append xs ys)) ∙ ap (λ zs. zs ++ map f (drop (length xs) (xs ++ ys))) (take-append_seam xs ys) ∙ ap (λ zs. xs ++ map f zs) (drop-append_seam xs ys)
+    changed_to_end f (length xs) end (xs ++ ys) (omega (arith, within)) (omega (arith, within, length-append xs ys))
+    ∙ ap (λ zs. zs ++ map f (drop (length xs) (xs ++ ys))) (take-append_seam xs ys) ∙ ap (λ zs. xs ++ map f zs) (drop-append_seam xs ys)
 
 -- the rows beside the one that was put in its place
 placed-other : (rows : List (List Cell)) (row : ℕ) (r s : List Cell) (k : ℕ) (d : List Cell) → k ≢ row
@@ -101,7 +103,8 @@ set_placed rows row r s =
     let size = length-written [] rows row (r ∷ []) in
     let same : length old ≡ length new = omega (arith, size, length-written [] rows row (s ∷ [])) in
     same_lists _ _ (length-set old row s ∙ same) (λ k d h. elim (cases_eq k row) [
-      | inl here ↦ ap (λ n. get_or (set old row s) n d) here ∙ get_or-set_same old row s d (omega (arith, size)) ∙ sym (slice_index_or-written_inside [] rows row (s ∷ []) 0 d (omega arith)) ∙ ap (λ n. get_or new n d) (omega (arith, here))
+      | inl here ↦ ap (λ n. get_or (set old row s) n d) here ∙ get_or-set_same old row s d (omega (arith, size))
+          ∙ sym (slice_index_or-written_inside [] rows row (s ∷ []) 0 d (omega arith)) ∙ ap (λ n. get_or new n d) (omega (arith, here))
       | inr other ↦ get_or-set_other old row k s d other ∙ placed-other rows row r s k d other
     ])
 
@@ -111,7 +114,8 @@ linked_row : (rows : List (List Cell)) (row end : ℕ) (cells : List Cell) (url 
 linked_row rows row end [] url within =
     let xs : List Cell = row_at rows row in
     elim (cases_lt row (length rows)) [
-      | inl inside ↦ changed_within_one (changed_within (linked url) (length xs) end) row rows [] inside ∙ ap (set rows row) (changed_within_none (linked url) (length xs) end xs (omega arith)) ∙ set-get_or rows row []
+      | inl inside ↦ changed_within_one (changed_within (linked url) (length xs) end) row rows [] inside
+          ∙ ap (set rows row) (changed_within_none (linked url) (length xs) end xs (omega arith)) ∙ set-get_or rows row []
       | inr past ↦ changed_within_none (changed_within (linked url) (length xs) end) row (row + 1) rows (omega (arith, past))
     ]
 linked_row rows row end (cell ∷ cells) url within =
@@ -130,4 +134,5 @@ pub linked_from-appended : (rows : List (List Cell)) (row from : ℕ) (address :
     → from + length cells < 2 ^ 64 → linked_from address row from (appended rows row cells) ≡ appended rows row (linked_to address cells)
 linked_from-appended rows row from None cells size within = refl
 linked_from-appended rows row from (Some url) cells size within =
-    ap (λ n. cells_linked (appended rows row cells) row n (2 ^ 64 - 1) url) (sym size) ∙ linked_row rows row (2 ^ 64 - 1) cells url (omega (arith, size, within))
+    ap (λ n. cells_linked (appended rows row cells) row n (2 ^ 64 - 1) url) (sym size)
+    ∙ linked_row rows row (2 ^ 64 - 1) cells url (omega (arith, size, within))

@@ -43,7 +43,8 @@ on_top-refilled (cell ∷ cells) rows all is within =
     (ap (λ n. (cell ∷ cells) ∷ (rows ++ replicate n none)) more ∙ ap (λ (rs : List (List Cell)). (cell ∷ cells) ∷ rs) is, omega (arith, within))
 
 -- rows that are trimmed are the same once empty ones are added below
-pub refilled : (rows : List (List Cell)) → (without_empty_end rows ++ replicate (length rows - length (without_empty_end rows)) [] ≡ rows) × (length (without_empty_end rows) ≤ length rows)
+pub refilled : (rows : List (List Cell)) → (without_empty_end rows ++ replicate (length rows - length (without_empty_end rows)) [] ≡ rows)
+    × (length (without_empty_end rows) ≤ length rows)
 refilled [] = (refl, omega arith)
 refilled (row ∷ rows) =
     let rest = refilled rows in on_top-refilled row (without_empty_end rows) rows rest.0 rest.1
@@ -62,7 +63,8 @@ past_rows xs n k =
     none_after : row_at xs k ≡ [] → length xs ≤ k → row_at (xs ++ replicate n []) k ≡ row_at xs k
     none_after none past = elim (cases_lt (k - length xs) n) [
       | inl within ↦ (let read : row_at (xs ++ replicate n []) k ≡ [] = grind (arith, places) in read ∙ sym none)
-      | inr further ↦ (let size : length (xs ++ replicate n []) ≡ length xs + n = grind (arith, places) in get_or_past (xs ++ replicate n []) k [] (omega (arith, size, further, past)) ∙ sym none)
+      | inr further ↦ (let size : length (xs ++ replicate n []) ≡ length xs + n = grind (arith, places) in get_or_past (xs ++ replicate n []) k []
+          (omega (arith, size, further, past)) ∙ sym none)
     ]
 
 -- trimming changes no row
@@ -94,7 +96,8 @@ appended-further base done row (cell ∷ cells) at =
     ∙ ap (λ rs. base ++ rs) (sym (trimmed-full done (cell ∷ cells) (omega arith)))
 
 -- cells below all rows
-pub appended_below : (rows : List (List Cell)) (row : ℕ) (cells : List Cell) → row ≡ length rows → appended rows row cells ≡ rows ++ without_empty_end (cells ∷ [])
+pub appended_below : (rows : List (List Cell)) (row : ℕ) (cells : List Cell) → row ≡ length rows → appended rows row cells ≡ rows
+    ++ without_empty_end (cells ∷ [])
 appended_below rows row cells at =
     ap (λ rs. appended rs row cells) (sym (append-nil rows)) ∙ appended-further rows [] row cells (omega (arith, at))
 
@@ -104,7 +107,8 @@ pub IsAtEnd-is : (base rows : List (List Cell)) (row : ℕ) (cells : List Cell) 
 IsAtEnd-is base rows row cells at is =
     let below : List (List Cell) = without_empty_end (cells ∷ []) in
     let front : take row rows ≡ base = ap (take row) is ∙ ap (λ n. take n (base ++ below)) at ∙ take-append_seam base below in
-    let here : row_at rows row ≡ cells = ap (λ rs. row_at rs row) is ∙ ap (λ n. row_at (base ++ below) n) at ∙ get_or-append_seam base below ∙ row_at-trimmed (cells ∷ []) 0 in (
+    let here : row_at rows row ≡ cells = ap (λ rs. row_at rs row) is ∙ ap (λ n. row_at (base ++ below) n) at ∙ get_or-append_seam base below
+    ∙ row_at-trimmed (cells ∷ []) 0 in (
       front,
       here,
       record {
@@ -120,7 +124,8 @@ appended-last rows row cells end =
     let base : List (List Cell) = take row rows in
     let r : List Cell = row_at rows row in
     let at : row ≡ length base = omega (arith, length-take row rows, end.within) in
-    ap (λ rs. appended rs row cells) (end.last ∙ sym (appended_below base row r at)) ∙ appended-appended base row r cells ∙ appended_below base row (r ++ cells) at
+    ap (λ rs. appended rs row cells) (end.last ∙ sym (appended_below base row r at)) ∙ appended-appended base row r cells
+    ∙ appended_below base row (r ++ cells) at
 
 -- it stays the last one
 pub IsAtEnd-more : (rows new : List (List Cell)) (row : ℕ) (cells : List Cell) → IsAtEnd row rows → new ≡ appended rows row cells

@@ -94,7 +94,9 @@ module _ (P : ℕ → Type 0) (free : (c : ℕ) → IsUnlisted c → P c) where
   text-all : (hidden : Bool) (text : Option (List ℕ)) → All P (bracketed_text hidden text)
   text-all hidden None = All-nil P
   text-all hidden (Some text) =
-      All-append P (opening_bracket_of hidden ++ norm (chars text)) (closing_bracket_of hidden) (All-append P (opening_bracket_of hidden) (norm (chars text)) (opening-all hidden) (from_free (norm (chars text)) (norm-free (chars text)))) (closing-all hidden)
+      All-append P (opening_bracket_of hidden ++ norm (chars text)) (closing_bracket_of hidden)
+      (All-append P (opening_bracket_of hidden) (norm (chars text)) (opening-all hidden) (from_free (norm (chars text)) (norm-free (chars text))))
+      (closing-all hidden)
 
   id-all : (hidden : Bool) (id : Option Id) → All P (id_text hidden id)
   id-all hidden None = All-nil P
@@ -105,7 +107,9 @@ module _ (P : ℕ → Type 0) (free : (c : ℕ) → IsUnlisted c → P c) where
   label-all heading =
       let hidden : Bool = is_hidden heading.level.name in
       let name : List ℕ = norm (chars (name_of heading.level)) in
-      All-append P (name ++ id_text hidden heading.id) (colon_of hidden heading.id) (All-append P name (id_text hidden heading.id) (from_free name (norm-free (chars (name_of heading.level)))) (id-all hidden heading.id)) (colon-all hidden heading.id)
+      All-append P (name ++ id_text hidden heading.id) (colon_of hidden heading.id)
+      (All-append P name (id_text hidden heading.id) (from_free name (norm-free (chars (name_of heading.level)))) (id-all hidden heading.id))
+      (colon-all hidden heading.id)
 
   spaces-all : (n : ℕ) → All P (row_text (replicate n SPACE))
   spaces-all n = subst (All P) (sym (row_text-spaces n)) (All-replicate P n 32 (free 32 refl))
@@ -129,7 +133,8 @@ module _ (P : ℕ → Type 0) (free : (c : ℕ) → IsUnlisted c → P c) where
   sign-all Short = All-nil P
   sign-all (Message place) =
       let sign : List ℕ = note_sign_of place.layout.decor place.followed in
-      parts-all (replicate (place.layout.gutter + 1) SPACE) (text_cells LineNumber sign) (spaces-all (place.layout.gutter + 1)) (subst (All P) (sym (row_text-text_cells LineNumber sign)) (note_sign-all place.layout.decor place.followed))
+      parts-all (replicate (place.layout.gutter + 1) SPACE) (text_cells LineNumber sign) (spaces-all (place.layout.gutter + 1))
+      (subst (All P) (sym (row_text-text_cells LineNumber sign)) (note_sign-all place.layout.decor place.followed))
 
   -- what holds of what an indent is made of holds of its characters
   pub indent-all : (style : TitleStyle) (width : ℕ) → All P (row_text (indent_cells style width))
@@ -137,7 +142,8 @@ module _ (P : ℕ → Type 0) (free : (c : ℕ) → IsUnlisted c → P c) where
   indent-all Short width = spaces-all width
   indent-all (Message place) width =
       let bar : Cell = note_bar_of place.layout.decor place.followed in
-      parts-all (replicate (place.layout.gutter + 1) SPACE) (bar ∷ replicate (width + 1) SPACE) (spaces-all (place.layout.gutter + 1)) (All-cons P bar.ch (row_text (replicate (width + 1) SPACE)) (note_bar-free place.layout.decor place.followed) (spaces-all (width + 1)))
+      parts-all (replicate (place.layout.gutter + 1) SPACE) (bar ∷ replicate (width + 1) SPACE) (spaces-all (place.layout.gutter + 1))
+      (All-cons P bar.ch (row_text (replicate (width + 1) SPACE)) (note_bar-free place.layout.decor place.followed) (spaces-all (width + 1)))
 
   -- and of those of the rows of lines, where it holds of those of the lines
   pub row-all : (cells : List Cell) (r : ElementStyle) → All P (row_text cells) → (line : List ℕ) → All P line → All P (row_text (cells ++ text_cells r line))
@@ -191,10 +197,12 @@ own_unlisted heading c unlisted listed = cc
 pub own_text : (heading : Heading) (trusted : Bool) → heading.allows_styling ≡ trusted → All (IsOwn heading) (shown_text heading)
 own_text heading true is =
     let same : shown_text heading ≡ chars heading.text = rw is refl in
-    subst (All (IsOwn heading)) (sym same) (All-from_get_or (IsOwn heading) (chars heading.text) 0 (λ k within listed. (is, (k, within, get_or_default (chars heading.text) k _ 0 within))))
+    subst (All (IsOwn heading)) (sym same) (All-from_get_or (IsOwn heading) (chars heading.text) 0 (λ k within listed.
+    (is, (k, within, get_or_default (chars heading.text) k _ 0 within))))
 own_text heading false is =
     let same : shown_text heading ≡ norm (chars heading.text) = rw is refl in
-    subst (All (IsOwn heading)) (sym same) (All-weaker IsUnlisted (IsOwn heading) (own_unlisted heading) (norm (chars heading.text)) (norm-free (chars heading.text)))
+    subst (All (IsOwn heading)) (sym same) (All-weaker IsUnlisted (IsOwn heading) (own_unlisted heading) (norm (chars heading.text))
+    (norm-free (chars heading.text)))
 
 -- the rows of a heading are free of listed characters but those of its own text
 pub heading_rows-free : (hyperlink : Bool) (style : TitleStyle) (heading : Heading) → All (IsFreeButText heading) (heading_rows hyperlink style heading)

@@ -37,7 +37,8 @@ use Rattle.snippet_titles.proofs.OriginRowText.{origin_row-after}
 use Rattle.snippet_grid.proofs.RowLemmas.{row_text-text_cells}
 
 -- what holds of separator rows, of those that lead to a file, and of those of paths
-module _ (P : List Cell → Type 0) (layout : OriginLayout) (separator : P (separator_row layout.base.decor layout.base.gutter)) (file : (start : FileStart) → P (file_row layout start)) where
+module _ (P : List Cell → Type 0) (layout : OriginLayout) (separator : P (separator_row layout.base.decor layout.base.gutter))
+    (file : (start : FileStart) → P (file_row layout start)) where
   opening_rows-each : (decor : DecorStyle) (first : Bool) → All P (opening_rows decor layout first)
   opening_rows-each Ascii first = All-cons P (separator_row layout.base.decor layout.base.gutter) [] separator (All-nil P)
   opening_rows-each Unicode true = All-cons P (file_row layout First) [] (file First) (All-nil P)
@@ -59,13 +60,15 @@ module _ (P : List Cell → Type 0) (layout : OriginLayout) (separator : P (sepa
 pub snippet_head-free : (layout : OriginLayout) (primary first : Bool) (path : Option (List ℕ)) (place : OriginLocation)
     → All IsFree (snippet_head layout primary first path place)
 snippet_head-free layout primary first path place =
-    snippet_head-each IsFree layout (separator_row-free layout.base.decor layout.base.gutter) (file_row-free layout) place (λ path start. origin_row-free layout start path place) primary first path
+    snippet_head-each IsFree layout (separator_row-free layout.base.decor layout.base.gutter) (file_row-free layout) place (λ path start.
+    origin_row-free layout start path place) primary first path
 
 -- and none can be taken for a line's
 pub snippet_head-unnumbered : (layout : OriginLayout) (primary first : Bool) (path : Option (List ℕ)) (place : OriginLocation)
     → All (HasNoNumber layout.base.gutter) (snippet_head layout primary first path place)
 snippet_head-unnumbered layout primary first path place =
-    snippet_head-each (HasNoNumber layout.base.gutter) layout (separator_row-unnumbered layout.base.decor layout.base.gutter) (file_row-unnumbered layout) place (λ path start. origin_row-unnumbered layout start path place) primary first path
+    snippet_head-each (HasNoNumber layout.base.gutter) layout (separator_row-unnumbered layout.base.decor layout.base.gutter)
+    (file_row-unnumbered layout) place (λ path start. origin_row-unnumbered layout start path place) primary first path
 
 -- each glyph that leads to a file is four characters wide
 glyph-width : (start : FileStart) (decor : DecorStyle) → length (file_glyph start decor) ≡ 4
@@ -82,10 +85,12 @@ glyph-width Secondary Unicode = refl
 pub origin_row-text : (layout : OriginLayout) (start : FileStart) (path : List ℕ) (place : OriginLocation)
     → row_text (drop (layout.base.gutter + 4) (origin_row layout start path place)) ≡ origin_text layout.anonymized path place
 origin_row-text layout start path place =
-    ap (λ n. row_text (drop (layout.base.gutter + n) (origin_row layout start path place))) (sym (glyph-width start layout.base.decor)) ∙ ap row_text (origin_row-after layout start path place) ∙ row_text-text_cells LineAndColumn (origin_text layout.anonymized path place)
+    ap (λ n. row_text (drop (layout.base.gutter + n) (origin_row layout start path place))) (sym (glyph-width start layout.base.decor))
+    ∙ ap row_text (origin_row-after layout start path place) ∙ row_text-text_cells LineAndColumn (origin_text layout.anonymized path place)
 
 -- what holds of each row that begins with these cells, and of each that begins with those, holds of the rows of lines
-module _ (P : List Cell → Type 0) (first further : List Cell) (r : ElementStyle) (begun : (line : List ℕ) → P (first ++ text_cells r line)) (below : (line : List ℕ) → P (further ++ text_cells r line)) where
+module _ (P : List Cell → Type 0) (first further : List Cell) (r : ElementStyle) (begun : (line : List ℕ) → P (first ++ text_cells r line))
+    (below : (line : List ℕ) → P (further ++ text_cells r line)) where
   further-each : (lines : List (List ℕ)) → All P (map (λ l. further ++ text_cells r l) lines)
   further-each [] = All-nil P
   further-each (line ∷ lines) =
@@ -107,8 +112,11 @@ spaces-led gutter =
 
 -- stays one with cells after it
 led-more : (gutter : ℕ) (front others : List Cell) → IsLed gutter front → IsLed gutter (front ++ others)
-led-more gutter front others led =
-    (omega (arith, led.0, length-append front others), λ c within. ap (λ (cell : Cell). is_ascii_alphanumeric cell.ch) (get_or_append_left front others SPACE c (omega (arith, within, led.0))) ∙ led.1 c within)
+led-more gutter front others led = (
+  omega (arith, led.0, length-append front others),
+  λ c within. ap (λ (cell : Cell). is_ascii_alphanumeric cell.ch)
+      (get_or_append_left front others SPACE c (omega (arith, within, led.0))) ∙ led.1 c within,
+)
 
 -- no row of a message can be taken for a line's
 pub message_rows-unnumbered : (hyperlink : Bool) (place : MessageContext) (heading : Heading)
@@ -121,7 +129,8 @@ message_rows-unnumbered hyperlink place heading =
     let label : List Cell = label_cells hyperlink roles heading in
     let width : ℕ = label_width heading in
     let bar : List Cell = note_bar_of place.layout.decor place.followed ∷ replicate (width + 1) SPACE in
-    let first : IsLed place.layout.gutter ((spaces ++ sign) ++ label) = led-more place.layout.gutter (spaces ++ sign) label (led-more place.layout.gutter spaces sign (spaces-led place.layout.gutter)) in
+    let first : IsLed place.layout.gutter ((spaces ++ sign) ++ label) = led-more place.layout.gutter (spaces ++ sign) label
+    (led-more place.layout.gutter spaces sign (spaces-led place.layout.gutter)) in
     let further : IsLed place.layout.gutter (spaces ++ bar) = led-more place.layout.gutter spaces bar (spaces-led place.layout.gutter) in
     let P : List Cell → Type 0 = HasNoNumber place.layout.gutter in
     All-trimmed P (lines_below ((spaces ++ sign) ++ label) (spaces ++ bar) roles.text (heading_lines heading))
@@ -139,7 +148,8 @@ label-unlinked hyperlink roles heading none =
     let id : List Cell = id_cells hyperlink hidden roles.label heading.id in
     let colon : List Cell = text_cells roles.colon (colon_of hidden heading.id) in
     let bare : All IsUnlinked id = subst (λ (own : Option Id). All IsUnlinked (id_cells hyperlink hidden roles.label own)) (sym none) (All-nil IsUnlinked) in
-    All-append IsUnlinked (name ++ id) colon (All-append IsUnlinked name id (drawn_unlinked roles.label name_chars) bare) (drawn_unlinked roles.colon (colon_of hidden heading.id))
+    All-append IsUnlinked (name ++ id) colon (All-append IsUnlinked name id (drawn_unlinked roles.label name_chars) bare)
+    (drawn_unlinked roles.colon (colon_of hidden heading.id))
 
 -- nor does any row of a heading without one
 pub heading_rows-unlinked : (hyperlink : Bool) (style : TitleStyle) (heading : Heading) → heading.id ≡ None

@@ -17,7 +17,8 @@ module _ (P : List Cell → Type 0) (layout : OriginLayout) (separator : P (sepa
   -- the head of a snippet without a path
   pub nameless_head-each : P (file_row layout Secondary) → All P (nameless_head layout)
   nameless_head-each file =
-      All-cons P (separator_row layout.base.decor layout.base.gutter) (file_row layout Secondary ∷ []) separator (All-cons P (file_row layout Secondary) [] file (All-nil P))
+      All-cons P (separator_row layout.base.decor layout.base.gutter) (file_row layout Secondary ∷ []) separator
+      (All-cons P (file_row layout Secondary) [] file (All-nil P))
 
   -- those of snippets with a path
   module _ (path : List ℕ) (place : OriginLocation) (origin : (start : FileStart) → P (origin_row layout start path place)) where
@@ -31,5 +32,7 @@ module _ (P : List Cell → Type 0) (layout : OriginLayout) (separator : P (sepa
     -- and of another file
     pub secondary_head-each : All P (secondary_head layout path place)
     secondary_head-each =
-        All-cons P (separator_row layout.base.decor layout.base.gutter) (origin_row layout Secondary path place ∷ separator_row layout.base.decor layout.base.gutter ∷ []) separator (All-cons P (origin_row layout Secondary path place)
+        All-cons P (separator_row layout.base.decor layout.base.gutter)
+        (origin_row layout Secondary path place ∷ separator_row layout.base.decor layout.base.gutter ∷ []) separator
+        (All-cons P (origin_row layout Secondary path place)
         (separator_row layout.base.decor layout.base.gutter ∷ []) (origin Secondary) ends)

@@ -10,7 +10,8 @@ use Rattle.snippet_model.specs.Heading.{Heading}
 use Rattle.snippet_titles.specs.declared.style.HeadingRoles.{HeadingRoles}
 use Rattle.snippet_titles.specs.declared.style.TitleStyle.{TitleStyle}
 use Rattle.snippet_titles.specs.Appended.{IsAtEnd, appended}
-use Rattle.snippet_titles.specs.Heading.{heading_lines, heading_rows, indent_cells, label_cells, label_width, lines_below, roles_of, sign_cells, without_empty_end}
+use Rattle.snippet_titles.specs.Heading.{heading_lines, heading_rows, indent_cells, label_cells, label_width, lines_below, roles_of, sign_cells}
+use Rattle.snippet_titles.specs.Heading.{without_empty_end}
 use Rattle.snippet_titles.proofs.AppendLemmas.{row_at-appended}
 use Rattle.snippet_titles.proofs.EndLemmas.{IsAtEnd-begun}
 use Rattle.snippet_titles.proofs.RowLemmas.{appended-two}
@@ -24,7 +25,8 @@ row_at-below rows row at = get_or_past rows row [] (omega (arith, at))
 pub sign_begun : (old one : List (List Cell)) (row start : ℕ) (sign : List Cell) → row ≡ length old → one ≡ appended old row sign → start ≡ length sign
     → length (row_at one row) ≡ start
 sign_begun old one row start sign at is size =
-    ap (λ rs. length (row_at rs row)) is ∙ ap (λ (r : List Cell). length r) (row_at-appended old row sign) ∙ ap (λ (r : List Cell). length (r ++ sign)) (row_at-below old row at) ∙ sym size
+    ap (λ rs. length (row_at rs row)) is ∙ ap (λ (r : List Cell). length r) (row_at-appended old row sign)
+    ∙ ap (λ (r : List Cell). length (r ++ sign)) (row_at-below old row at) ∙ sym size
 
 -- the row of the label is the last one
 pub label_begun : (old one two : List (List Cell)) (row : ℕ) (sign label : List Cell) → row ≡ length old → one ≡ appended old row sign

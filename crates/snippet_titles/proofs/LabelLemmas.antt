@@ -59,7 +59,8 @@ name_few level known shown same fits is =
 pub name_start : (old one : List (List Cell)) (row start count : ℕ) (role : ElementStyle) (name : List ℕ) → length (row_at old row) ≡ start
     → one ≡ appended old row (text_cells role name) → count ≡ length name → length (row_at one row) ≡ start + count
 name_start old one row start count role name size is counted =
-    ap (λ rs. length (row_at rs row)) is ∙ ap (λ (r : List Cell). length r) (row_at-appended old row (text_cells role name)) ∙ omega (arith, size, counted, length-append (row_at old row) (text_cells role name), length-text_cells role name)
+    ap (λ rs. length (row_at rs row)) is ∙ ap (λ (r : List Cell). length r) (row_at-appended old row (text_cells role name))
+    ∙ omega (arith, size, counted, length-append (row_at old row) (text_cells role name), length-text_cells role name)
 
 -- the columns of a label's parts
 width_of-three : (a b c : List ℕ) → width_of (a ++ b ++ c) ≡ width_of a + width_of b + width_of c
@@ -72,16 +73,20 @@ pub label_width-parts : (known level : Level) (hidden : Bool) (owned id set : Op
     → name + shown + colon ≡ width_of (norm (chars (name_of known)) ++ id_text (is_hidden known.name) owned ++ colon_of (is_hidden known.name) owned)
 label_width-parts known level hidden owned id set name shown colon colons leveled hides own is_set named identified spelled measured =
     let h : Bool = is_hidden known.name in
-    let one : name ≡ width_of (norm (chars (name_of known))) = named ∙ ap (λ (l : Level). width_of (chars (name_of l))) leveled ∙ sym (width_of-norm (chars (name_of known))) in
-    let two : shown ≡ width_of (id_text h owned) = identified ∙ ap (λ (b : Bool). width_of (id_text b id)) hides ∙ ap (λ (i : Option Id). width_of (id_text h i)) own in
-    let three : colon ≡ width_of (colon_of h owned) = measured ∙ ap width_of spelled ∙ ap (λ (b : Bool). width_of (colon_of b set)) hides ∙ ap (λ (i : Option Id). width_of (colon_of h i)) is_set in
+    let one : name ≡ width_of (norm (chars (name_of known))) = named ∙ ap (λ (l : Level). width_of (chars (name_of l))) leveled
+    ∙ sym (width_of-norm (chars (name_of known))) in
+    let two : shown ≡ width_of (id_text h owned) = identified ∙ ap (λ (b : Bool). width_of (id_text b id)) hides
+    ∙ ap (λ (i : Option Id). width_of (id_text h i)) own in
+    let three : colon ≡ width_of (colon_of h owned) = measured ∙ ap width_of spelled ∙ ap (λ (b : Bool). width_of (colon_of b set)) hides
+    ∙ ap (λ (i : Option Id). width_of (colon_of h i)) is_set in
     omega (arith, one, two, three, width_of-three (norm (chars (name_of known))) (id_text h owned) (colon_of h owned))
 
 -- an id takes the columns of its text, and in brackets two more
 pub width_of-id : (hidden : Bool) (id : Id) (text : List ℕ) → option_map cow_str_bytes id.id ≡ Some text
     → width_of (id_text hidden (Some id)) ≡ width_of (opening_bracket_of hidden) + width_of (chars text) + width_of (closing_bracket_of hidden)
 width_of-id hidden id text is =
-    ap (λ t. width_of (bracketed_text hidden t)) is ∙ width_of-three (opening_bracket_of hidden) (norm (chars text)) (closing_bracket_of hidden) ∙ ap (λ n. width_of (opening_bracket_of hidden) + n + width_of (closing_bracket_of hidden)) (width_of-norm (chars text))
+    ap (λ t. width_of (bracketed_text hidden t)) is ∙ width_of-three (opening_bracket_of hidden) (norm (chars text)) (closing_bracket_of hidden)
+    ∙ ap (λ n. width_of (opening_bracket_of hidden) + n + width_of (closing_bracket_of hidden)) (width_of-norm (chars text))
 
 -- an id without brackets is as wide as its text
 pub width_of-bare : (hidden : Bool) (id : Id) (text : List ℕ) (width : ℕ) → hidden ≡ true → option_map cow_str_bytes id.id ≡ Some text

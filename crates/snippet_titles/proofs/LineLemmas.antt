@@ -18,13 +18,15 @@ use Rattle.snippet_titles.proofs.EndLemmas.{IsAtEnd-more, appended-further, refi
 
 -- a text without a line feed is one line
 pub lines_at-one : (text : List ℕ) → ((i : ℕ) → i < length text → get_or text i 0 ≢ 10) → lines_at text ≡ text ∷ []
-lines_at-one text none = slice_split_none (λ b. b == 10) text (All-from_get_or (λ b. (b == 10) ≡ false) text 0 (λ i within. let other : get_or text i 0 ≢ 10 = none i within in grind (arith, nat_tests)))
+lines_at-one text none = slice_split_none (λ b. b == 10) text (All-from_get_or (λ b. (b == 10) ≡ false) text 0 (λ i within.
+    let other : get_or text i 0 ≢ 10 = none i within in grind (arith, nat_tests)))
 
 -- a line feed ends the first line
 pub lines_at-first : (text first rest : List ℕ) → text ≡ first ++ (10 ∷ rest) → ((i : ℕ) → i < length first → get_or first i 0 ≢ 10)
     → lines_at text ≡ first ∷ lines_at rest
 lines_at-first text first rest whole none =
-    ap lines_at whole ∙ slice_split_at (λ b. b == 10) first 10 rest (All-from_get_or (λ b. (b == 10) ≡ false) first 0 (λ i within. let other : get_or first i 0 ≢ 10 = none i within in grind (arith, nat_tests))) refl
+    ap lines_at whole ∙ slice_split_at (λ b. b == 10) first 10 rest
+    (All-from_get_or (λ b. (b == 10) ≡ false) first 0 (λ i within. let other : get_or first i 0 ≢ 10 = none i within in grind (arith, nat_tests))) refl
 
 -- a text of one line, after the cells of the last row
 pub one_line : (old new : List (List Cell)) (row : ℕ) (further : List Cell) (role : ElementStyle) (text : List ℕ) → IsAtEnd row old
@@ -32,7 +34,8 @@ pub one_line : (old new : List (List Cell)) (row : ℕ) (further : List Cell) (r
     → new ≡ take row old ++ without_empty_end (lines_below (row_at old row) further role (map chars (lines_at text)))
 one_line old new row further role text end one is =
     let more = IsAtEnd-more old new row (text_cells role (chars text)) end is in
-    more.2.last ∙ ap (λ rs. rs ++ without_empty_end (row_at new row ∷ [])) more.0 ∙ ap (λ (r : List Cell). take row old ++ without_empty_end (r ∷ [])) more.1 ∙ ap (λ (ls : List (List ℕ)). take row old ++ without_empty_end (lines_below (row_at old row) further role (map chars ls))) (sym one)
+    more.2.last ∙ ap (λ rs. rs ++ without_empty_end (row_at new row ∷ [])) more.0 ∙ ap (λ (r : List Cell). take row old ++ without_empty_end (r ∷ [])) more.1
+    ∙ ap (λ (ls : List (List ℕ)). take row old ++ without_empty_end (lines_below (row_at old row) further role (map chars ls))) (sym one)
 
 -- the rows of numbered lines
 abbrev pub line_of : (ℕ × Bor (List ℕ)) → List ℕ
@@ -46,7 +49,8 @@ further_rows further role numbered = map (λ l. further ++ text_cells role l) (m
 pub number_is : (lines : List (List ℕ)) (k index : ℕ) (line : List ℕ) → k < length (enumerate_from 0 lines)
     → ◌≡◌ {A = ℕ × List ℕ} (index, line) (get_or (enumerate_from 0 lines) k (index, line)) → index ≡ k
 number_is lines k index line within is =
-    let same = ap {A = ℕ × List ℕ} {B = ℕ} (λ p. p.0) (is ∙ get_or-enumerate_from 0 lines k (index, line) (omega (arith, within, length-enumerate_from 0 lines))) in
+    let same = ap {A = ℕ × List ℕ} {B = ℕ} (λ p. p.0) (is ∙ get_or-enumerate_from 0 lines k (index, line)
+    (omega (arith, within, length-enumerate_from 0 lines))) in
     omega (arith, same)
 
 -- a row more
@@ -59,11 +63,13 @@ further_drawn old grid new row index further role numbered line end at is drawn_
     let base : List (List Cell) = take row old in
     let first : List Cell = row_at old row in
     let more : List Cell = further ++ text_cells role (chars line.now) in
-    let count : length (further_rows further role numbered) ≡ length numbered = length-map (map line_of numbered) (λ l. further ++ text_cells role l) ∙ length-map numbered line_of in
+    let count : length (further_rows further role numbered) ≡ length numbered = length-map (map line_of numbered) (λ l. further ++ text_cells role l)
+    ∙ length-map numbered line_of in
     let both : further_rows further role (numbered ++ (index, line) ∷ []) ≡ further_rows further role numbered ++ more ∷ [] =
     ap (map (λ l. further ++ text_cells role l)) (map-append line_of numbered ((index, line) ∷ []))
     ∙ map-append (λ l. further ++ text_cells role l) (map line_of numbered) (chars line.now ∷ []) in
-    drawn_is ∙ ap (λ rs. appended rs (row + 1 + index) more) is ∙ appended-further base (first ∷ further_rows further role numbered) (row + 1 + index) more (omega (arith, length-take row old, end.within, count, at)) ∙ ap (λ rs. base ++ without_empty_end (first ∷ rs)) (sym both)
+    drawn_is ∙ ap (λ rs. appended rs (row + 1 + index) more) is ∙ appended-further base (first ∷ further_rows further role numbered) (row + 1 + index) more
+    (omega (arith, length-take row old, end.within, count, at)) ∙ ap (λ rs. base ++ without_empty_end (first ∷ rs)) (sym both)
 
 -- the row below those that are drawn isn't there yet
 pub none_below : (old grid : List (List Cell)) (row index : ℕ) (further : List Cell) (role : ElementStyle) (numbered : List (ℕ × Bor (List ℕ)))
@@ -72,8 +78,18 @@ pub none_below : (old grid : List (List Cell)) (row index : ℕ) (further : List
 none_below old grid row index further role numbered end at is =
     let base : List (List Cell) = take row old in
     let all : List (List Cell) = row_at old row ∷ further_rows further role numbered in
-    let count : length (further_rows further role numbered) ≡ length numbered = length-map (map line_of numbered) (λ l. further ++ text_cells role l) ∙ length-map numbered line_of in
-    get_or_past grid (row + 1 + index) [] (omega (arith, ap length is, length-append base (without_empty_end all), (refilled all).1, length-take row old, end.within, count, at))
+    let count : length (further_rows further role numbered) ≡ length numbered = length-map (map line_of numbered) (λ l. further ++ text_cells role l)
+    ∙ length-map numbered line_of in
+    get_or_past grid (row + 1 + index) [] (omega (
+      arith,
+      ap length is,
+      length-append base (without_empty_end all),
+      (refilled all).1,
+      length-take row old,
+      end.within,
+      count,
+      at,
+    ))
 
 -- the lines without their numbers
 chars-numbered : (n : ℕ) (lines : List (List ℕ)) → map (λ (p : ℕ × List ℕ). chars p.1) (enumerate_from n lines) ≡ map chars lines
@@ -94,7 +110,8 @@ pub several_lines : (old begun new : List (List Cell)) (row : ℕ) (further : Li
     → new ≡ take row old ++ without_empty_end (lines_below (row_at old row) further role (map chars (lines_at text)))
 several_lines old begun new row further role text first rest numbered end several is drawn_is all =
     let more = IsAtEnd-more old begun row (text_cells role (chars first)) end is in
-    let lines : map line_of numbered ≡ map chars (lines_at rest) = chars-seen numbered ∙ ap (map (λ (p : ℕ × List ℕ). chars p.1)) all ∙ chars-numbered 0 (lines_at rest) in
+    let lines : map line_of numbered ≡ map chars (lines_at rest) = chars-seen numbered ∙ ap (map (λ (p : ℕ × List ℕ). chars p.1)) all
+    ∙ chars-numbered 0 (lines_at rest) in
     drawn_is ∙ ap (λ rs. rs ++ without_empty_end (row_at begun row ∷ further_rows further role numbered)) more.0
     ∙ ap (λ (r : List Cell). take row old ++ without_empty_end (r ∷ further_rows further role numbered)) more.1
     ∙ ap (λ (ls : List (List ℕ)). take row old ++ without_empty_end

@@ -49,7 +49,8 @@ sign_unlinked Title = All-nil IsUnlinked
 sign_unlinked Short = All-nil IsUnlinked
 sign_unlinked (Message place) =
     let sign : List Cell = text_cells LineNumber (note_sign_of place.layout.decor place.followed) in
-    All-append IsUnlinked (replicate (place.layout.gutter + 1) SPACE) sign (All-replicate IsUnlinked (place.layout.gutter + 1) SPACE refl) (drawn_unlinked LineNumber (note_sign_of place.layout.decor place.followed))
+    All-append IsUnlinked (replicate (place.layout.gutter + 1) SPACE) sign (All-replicate IsUnlinked (place.layout.gutter + 1) SPACE refl)
+    (drawn_unlinked LineNumber (note_sign_of place.layout.decor place.followed))
 
 -- the cells of an indent have no link
 pub indent_unlinked : (style : TitleStyle) (width : ℕ) → All IsUnlinked (indent_cells style width)
@@ -58,7 +59,8 @@ indent_unlinked Short width = All-replicate IsUnlinked width SPACE refl
 indent_unlinked (Message place) width =
     let bar : Cell = note_bar_of place.layout.decor place.followed in
     let spaces : List Cell = replicate (width + 1) SPACE in
-    All-append IsUnlinked (replicate (place.layout.gutter + 1) SPACE) (bar ∷ spaces) (All-replicate IsUnlinked (place.layout.gutter + 1) SPACE refl) (All-cons IsUnlinked bar spaces (bar_unlinked place.layout.decor place.followed) (All-replicate IsUnlinked (width + 1) SPACE refl))
+    All-append IsUnlinked (replicate (place.layout.gutter + 1) SPACE) (bar ∷ spaces) (All-replicate IsUnlinked (place.layout.gutter + 1) SPACE refl)
+    (All-cons IsUnlinked bar spaces (bar_unlinked place.layout.decor place.followed) (All-replicate IsUnlinked (width + 1) SPACE refl))
 
 -- such cells link to nothing, after others and before them
 pub links-after : (last : Option (List ℕ)) (xs ys : List Cell) → All IsUnlinked ys → links_after last (xs ++ ys) ≡ links_after last xs
@@ -97,7 +99,8 @@ bracketed-links : (hidden : Bool) (r : ElementStyle) (address : Option (List ℕ
 bracketed-links hidden r address text =
     let shown : List Cell = linked_to address (text_cells r (norm (chars text))) in
     let opening : List Cell = text_cells r (opening_bracket_of hidden) in
-    links-after None (opening ++ shown) (text_cells r (closing_bracket_of hidden)) (drawn_unlinked r (closing_bracket_of hidden)) ∙ links-before opening shown (drawn_unlinked r (opening_bracket_of hidden)) ∙ links-linked address r (norm (chars text))
+    links-after None (opening ++ shown) (text_cells r (closing_bracket_of hidden)) (drawn_unlinked r (closing_bracket_of hidden))
+    ∙ links-before opening shown (drawn_unlinked r (opening_bracket_of hidden)) ∙ links-linked address r (norm (chars text))
 
 id-links : (hyperlink hidden : Bool) (r : ElementStyle) (id : Option Id) → links_after None (id_cells hyperlink hidden r id) ≡ id_links hyperlink id
 id-links hyperlink hidden r None = refl
@@ -129,14 +132,16 @@ further-links : (further : List Cell) (r : ElementStyle) (lines : List (List ℕ
     → links_of (map (λ l. further ++ text_cells r l) lines) ≡ []
 further-links further r [] none = refl
 further-links further r (line ∷ lines) none =
-    ap (λ (urls : List (List ℕ)). urls ++ links_of (map (λ l. further ++ text_cells r l) lines)) (unlinked_row further r line none) ∙ further-links further r lines none
+    ap (λ (urls : List (List ℕ)). urls ++ links_of (map (λ l. further ++ text_cells r l) lines)) (unlinked_row further r line none)
+    ∙ further-links further r lines none
 
 -- the links of lines are those of what stands before the first
 pub lines-links : (first further : List Cell) (r : ElementStyle) (lines : List (List ℕ)) → 0 < length lines → All IsUnlinked further
     → links_of (lines_below first further r lines) ≡ links_after None first
 lines-links first further r [] some none = absurd (omega (arith, some))
 lines-links first further r (line ∷ lines) some none =
-    ap (λ (urls : List (List ℕ)). links_after None (first ++ text_cells r line) ++ urls) (further-links further r lines none) ∙ append-nil (links_after None (first ++ text_cells r line)) ∙ links-after None first (text_cells r line) (drawn_unlinked r line)
+    ap (λ (urls : List (List ℕ)). links_after None (first ++ text_cells r line) ++ urls) (further-links further r lines none)
+    ∙ append-nil (links_after None (first ++ text_cells r line)) ∙ links-after None first (text_cells r line) (drawn_unlinked r line)
 
 -- rows that aren't there link to nothing
 on_top-links : (row : List Cell) (rows : List (List Cell)) → links_of (on_top row rows) ≡ links_after None row ++ links_of rows

@@ -9,34 +9,41 @@ use Rattle.snippet_titles.specs.declared.origin.FileStart.TheVariants.{Alone, Fi
 use Rattle.snippet_titles.specs.Origin.{file_row, origin_row, origin_text, padding_row, primary_head, secondary_head, nameless_head}
 
 -- the first element's path, in both styles, and with its line anonymized
-primary : row_text (origin_row (record { base = record { gutter = 1; code = 4; decor = Ascii }; anonymized = false }) First (codes "a.rs") (record { line = Some 1; column = Some 5 })) ≡ codes " --> a.rs:1:5"
+primary : row_text (origin_row (record { base = record { gutter = 1; code = 4; decor = Ascii }; anonymized = false }) First (codes "a.rs")
+    (record { line = Some 1; column = Some 5 })) ≡ codes " --> a.rs:1:5"
 unfolding digits chars norm file_row origin_row origin_text
 primary = refl
 
-primary_unicode : row_text (origin_row (record { base = record { gutter = 1; code = 4; decor = Unicode }; anonymized = false }) First (codes "a.rs") (record { line = Some 1; column = Some 5 })) ≡ codes "  ╭▸ a.rs:1:5"
+primary_unicode : row_text (origin_row (record { base = record { gutter = 1; code = 4; decor = Unicode }; anonymized = false }) First (codes "a.rs")
+    (record { line = Some 1; column = Some 5 })) ≡ codes "  ╭▸ a.rs:1:5"
 unfolding digits chars norm file_row origin_row origin_text
 primary_unicode = refl
 
-anonymized : row_text (origin_row (record { base = record { gutter = 1; code = 4; decor = Ascii }; anonymized = true }) First (codes "a.rs") (record { line = Some 1; column = Some 5 })) ≡ codes " --> a.rs:LL:5"
+anonymized : row_text (origin_row (record { base = record { gutter = 1; code = 4; decor = Ascii }; anonymized = true }) First (codes "a.rs")
+    (record { line = Some 1; column = Some 5 })) ≡ codes " --> a.rs:LL:5"
 unfolding digits chars norm file_row origin_row origin_text
 anonymized = refl
 
 -- a path that is all that a group shows
-alone : row_text (origin_row (record { base = record { gutter = 0; code = 3; decor = Ascii }; anonymized = false }) Alone (codes "$DIR/mismatched-types.rs") (record { line = None; column = None })) ≡ codes "--> $DIR/mismatched-types.rs"
+alone : row_text (origin_row (record { base = record { gutter = 0; code = 3; decor = Ascii }; anonymized = false }) Alone (codes "$DIR/mismatched-types.rs")
+    (record { line = None; column = None })) ≡ codes "--> $DIR/mismatched-types.rs"
 unfolding digits chars norm file_row origin_row origin_text
 alone = refl
 
 -- a column without a line isn't shown, and a tab in a path is four spaces
-column_alone : row_text (origin_row (record { base = record { gutter = 0; code = 3; decor = Unicode }; anonymized = false }) Alone (codes "a\tb") (record { line = None; column = Some 7 })) ≡ codes " ─▸ a    b"
+column_alone : row_text (origin_row (record { base = record { gutter = 0; code = 3; decor = Unicode }; anonymized = false }) Alone (codes "a\tb")
+    (record { line = None; column = Some 7 })) ≡ codes " ─▸ a    b"
 unfolding digits chars norm file_row origin_row origin_text
 column_alone = refl
 
 -- the heads of snippets
-later_file : plain_text (primary_head (record { base = record { gutter = 1; code = 4; decor = Unicode }; anonymized = false }) false (codes "a.rs") (record { line = Some 12; column = Some 1 })) ≡ codes "  ├▸ a.rs:12:1\n  │"
+later_file : plain_text (primary_head (record { base = record { gutter = 1; code = 4; decor = Unicode }; anonymized = false }) false (codes "a.rs")
+    (record { line = Some 12; column = Some 1 })) ≡ codes "  ├▸ a.rs:12:1\n  │"
 unfolding digits chars norm file_row origin_row origin_text
 later_file = refl
 
-other_file : plain_text (secondary_head (record { base = record { gutter = 1; code = 4; decor = Ascii }; anonymized = false }) (codes "b.rs") (record { line = Some 1; column = Some 1 })) ≡ codes "  |\n ::: b.rs:1:1\n  |"
+other_file : plain_text (secondary_head (record { base = record { gutter = 1; code = 4; decor = Ascii }; anonymized = false }) (codes "b.rs")
+    (record { line = Some 1; column = Some 1 })) ≡ codes "  |\n ::: b.rs:1:1\n  |"
 unfolding digits chars norm file_row origin_row origin_text
 other_file = refl
 

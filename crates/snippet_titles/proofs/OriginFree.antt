@@ -40,7 +40,8 @@ closing-unlisted Unicode = refl
 
 after_spaces-free : (n : ℕ) (role : ElementStyle) (cs : List ℕ) → list_any is_listed cs ≡ false → IsFree (replicate n SPACE ++ text_cells role cs)
 after_spaces-free n role cs none =
-    All-append IsFreeCell (replicate n SPACE) (text_cells role cs) (All-replicate IsFreeCell n SPACE (refl, refl)) (text_cells-free role cs (each-fails is_listed cs none))
+    All-append IsFreeCell (replicate n SPACE) (text_cells role cs) (All-replicate IsFreeCell n SPACE (refl, refl))
+    (text_cells-free role cs (each-fails is_listed cs none))
 
 -- a closing row has no listed character and no link
 pub closing_row-free : (decor : DecorStyle) (gutter : ℕ) → IsFree (closing_row decor gutter)
@@ -66,19 +67,22 @@ origin_text-free : (anonymized : Bool) (path : List ℕ) (place : OriginLocation
 unfolding origin_text
 origin_text-free anonymized path place =
     let P : ℕ → Type 0 = λ c. is_listed c ≡ false in
-    All-append P (norm (chars path)) (place_text anonymized place) (each-fails is_listed (norm (chars path)) (list_any-norm (chars path))) (place_text-each P digit_unlisted refl refl anonymized place)
+    All-append P (norm (chars path)) (place_text anonymized place) (each-fails is_listed (norm (chars path)) (list_any-norm (chars path)))
+    (place_text-each P digit_unlisted refl refl anonymized place)
 
 -- the row of an origin has no listed character and no link
 pub origin_row-free : (layout : OriginLayout) (start : FileStart) (path : List ℕ) (place : OriginLocation) → IsFree (origin_row layout start path place)
 unfolding origin_row
 origin_row-free layout start path place =
     let text : List ℕ = origin_text layout.anonymized path place in
-    All-append IsFreeCell (file_row layout start) (text_cells LineAndColumn text) (file_row-free layout start) (text_cells-free LineAndColumn text (origin_text-free layout.anonymized path place))
+    All-append IsFreeCell (file_row layout start) (text_cells LineAndColumn text) (file_row-free layout start)
+    (text_cells-free LineAndColumn text (origin_text-free layout.anonymized path place))
 
 -- and so are the heads of snippets
 pub primary_head-free : (layout : OriginLayout) (first : Bool) (path : List ℕ) (place : OriginLocation) → All IsFree (primary_head layout first path place)
 primary_head-free layout first path place =
-    primary_head-each IsFree layout (separator_row-free layout.base.decor layout.base.gutter) path place (λ start. origin_row-free layout start path place) first
+    primary_head-each IsFree layout (separator_row-free layout.base.decor layout.base.gutter) path place (λ start.
+    origin_row-free layout start path place) first
 
 pub secondary_head-free : (layout : OriginLayout) (path : List ℕ) (place : OriginLocation) → All IsFree (secondary_head layout path place)
 secondary_head-free layout path place =

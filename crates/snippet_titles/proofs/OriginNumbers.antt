@@ -69,20 +69,29 @@ file_row-long : (layout : OriginLayout) (start : FileStart) → layout.base.gutt
 unfolding file_row
 file_row-long layout start =
     let glyph : List ℕ = file_glyph start layout.base.decor in
-    omega (arith, length-append (replicate layout.base.gutter SPACE) (text_cells LineNumber glyph), length-replicate layout.base.gutter SPACE, length-text_cells LineNumber glyph, file_glyph-some start layout.base.decor)
+    omega (
+      arith,
+      length-append (replicate layout.base.gutter SPACE)
+          (text_cells LineNumber glyph),
+      length-replicate layout.base.gutter SPACE,
+      length-text_cells LineNumber glyph,
+      file_glyph-some start layout.base.decor,
+    )
 
 file_row-plain : (layout : OriginLayout) (start : FileStart) → All IsPlain (file_row layout start)
 unfolding file_row
 file_row-plain layout start =
     let glyph : List ℕ = file_glyph start layout.base.decor in
-    All-append IsPlain (replicate layout.base.gutter SPACE) (text_cells LineNumber glyph) (spaces-plain layout.base.gutter) (All-text_cells IsPlain LineNumber glyph (each-fails is_ascii_alphanumeric glyph (glyphs-unnumbered start layout.base.decor)))
+    All-append IsPlain (replicate layout.base.gutter SPACE) (text_cells LineNumber glyph) (spaces-plain layout.base.gutter)
+    (All-text_cells IsPlain LineNumber glyph (each-fails is_ascii_alphanumeric glyph (glyphs-unnumbered start layout.base.decor)))
 
 -- the row of an origin has no number
 pub origin_row-unnumbered : (layout : OriginLayout) (start : FileStart) (path : List ℕ) (place : OriginLocation)
     → HasNoNumber layout.base.gutter (origin_row layout start path place)
 unfolding origin_row
 origin_row-unnumbered layout start path place =
-    front-unnumbered layout.base.gutter (file_row layout start) (text_cells LineAndColumn (origin_text layout.anonymized path place)) (file_row-long layout start) (file_row-plain layout start)
+    front-unnumbered layout.base.gutter (file_row layout start) (text_cells LineAndColumn (origin_text layout.anonymized path place))
+    (file_row-long layout start) (file_row-plain layout start)
 
 -- the row of a file has no number
 pub file_row-unnumbered : (layout : OriginLayout) (start : FileStart) → HasNoNumber layout.base.gutter (file_row layout start)
@@ -93,13 +102,16 @@ file_row-unnumbered layout start c within =
 pub primary_head-unnumbered : (layout : OriginLayout) (first : Bool) (path : List ℕ) (place : OriginLocation)
     → All (HasNoNumber layout.base.gutter) (primary_head layout first path place)
 primary_head-unnumbered layout first path place =
-    primary_head-each (HasNoNumber layout.base.gutter) layout (separator_row-unnumbered layout.base.decor layout.base.gutter) path place (λ start. origin_row-unnumbered layout start path place) first
+    primary_head-each (HasNoNumber layout.base.gutter) layout (separator_row-unnumbered layout.base.decor layout.base.gutter) path place (λ start.
+    origin_row-unnumbered layout start path place) first
 
 pub secondary_head-unnumbered : (layout : OriginLayout) (path : List ℕ) (place : OriginLocation)
     → All (HasNoNumber layout.base.gutter) (secondary_head layout path place)
 secondary_head-unnumbered layout path place =
-    secondary_head-each (HasNoNumber layout.base.gutter) layout (separator_row-unnumbered layout.base.decor layout.base.gutter) path place (λ start. origin_row-unnumbered layout start path place)
+    secondary_head-each (HasNoNumber layout.base.gutter) layout (separator_row-unnumbered layout.base.decor layout.base.gutter) path place (λ start.
+    origin_row-unnumbered layout start path place)
 
 pub nameless_head-unnumbered : (layout : OriginLayout) → All (HasNoNumber layout.base.gutter) (nameless_head layout)
 nameless_head-unnumbered layout =
-    nameless_head-each (HasNoNumber layout.base.gutter) layout (separator_row-unnumbered layout.base.decor layout.base.gutter) (file_row-unnumbered layout Secondary)
+    nameless_head-each (HasNoNumber layout.base.gutter) layout (separator_row-unnumbered layout.base.decor layout.base.gutter)
+    (file_row-unnumbered layout Secondary)

@@ -26,7 +26,8 @@ module _ (P : ℕ → Type 0) (digit : (c : ℕ) → IsDigit c → P c) (colon :
   line_text-each : (anonymized : Bool) (line column : Option ℕ) → All P (line_text anonymized line column)
   line_text-each anonymized None column = All-nil P
   line_text-each anonymized (Some line) column =
-      All-append P (codes ":" ++ line_name anonymized line) (column_text column) (All-cons P 58 (line_name anonymized line) colon (line_name-each anonymized line)) (column_text-each column)
+      All-append P (codes ":" ++ line_name anonymized line) (column_text column)
+      (All-cons P 58 (line_name anonymized line) colon (line_name-each anonymized line)) (column_text-each column)
 
   -- what holds of what a place is made of holds of its text
   pub place_text-each : (anonymized : Bool) (place : OriginLocation) → All P (place_text anonymized place)
@@ -35,11 +36,13 @@ module _ (P : ℕ → Type 0) (digit : (c : ℕ) → IsDigit c → P c) (colon :
 -- they are their own bytes
 pub place_text-chars : (anonymized : Bool) (place : OriginLocation) → chars (place_text anonymized place) ≡ place_text anonymized place
 place_text-chars anonymized place =
-    chars-IsAscii (place_text anonymized place) (IsAscii-from_all (place_text anonymized place) (place_text-each (λ c. c < 128) (λ c is. omega (arith, is.1)) (omega arith) (omega arith) anonymized place))
+    chars-IsAscii (place_text anonymized place) (IsAscii-from_all (place_text anonymized place)
+    (place_text-each (λ c. c < 128) (λ c is. omega (arith, is.1)) (omega arith) (omega arith) anonymized place))
 
 -- a normalised path, and the place added to it
 pub origin_text-added : (path before after : List ℕ) (anonymized : Bool) (place : OriginLocation) → IsUtf8 before → chars before ≡ norm (chars path)
     → after ≡ before ++ place_text anonymized place → chars after ≡ origin_text anonymized path place
 unfolding origin_text
 origin_text-added path before after anonymized place utf8 shown added =
-    ap chars added ∙ chars-append before (place_text anonymized place) utf8 ∙ ap (λ cs. cs ++ chars (place_text anonymized place)) shown ∙ ap (λ cs. norm (chars path) ++ cs) (place_text-chars anonymized place)
+    ap chars added ∙ chars-append before (place_text anonymized place) utf8 ∙ ap (λ cs. cs ++ chars (place_text anonymized place)) shown
+    ∙ ap (λ cs. norm (chars path) ++ cs) (place_text-chars anonymized place)

@@ -55,10 +55,12 @@ module _ (xs ys zs : List Cell) where
       → (get_or (xs ++ (ys ++ zs)) c SPACE).link ≡ None
   other_parts first third c outside =
       elim (cases_lt c (length xs)) [
-        | inl left ↦ (let same : get_or (xs ++ (ys ++ zs)) c SPACE ≡ get_or xs c SPACE = grind (arith, places) in ap (λ (cell : Cell). cell.link) same ∙ unlinked_at xs first c)
+        | inl left ↦ (let same : get_or (xs ++ (ys ++ zs)) c SPACE ≡ get_or xs c SPACE = grind (arith, places) in ap (λ (cell : Cell). cell.link) same
+            ∙ unlinked_at xs first c)
         | inr after ↦ elim (cases_lt c (length xs + length ys)) [
           | inl inside ↦ absurd (outside (omega (arith, after)) inside)
-          | inr right ↦ (let same : get_or (xs ++ (ys ++ zs)) c SPACE ≡ get_or zs (c - length xs - length ys) SPACE = grind (arith, places) in ap (λ (cell : Cell). cell.link) same ∙ unlinked_at zs third (c - length xs - length ys))
+          | inr right ↦ (let same : get_or (xs ++ (ys ++ zs)) c SPACE ≡ get_or zs (c - length xs - length ys) SPACE = grind (arith, places) in ap
+              (λ (cell : Cell). cell.link) same ∙ unlinked_at zs third (c - length xs - length ys))
         ]
       ]
 
@@ -117,7 +119,13 @@ module _ (hyperlink : Bool) (style : TitleStyle) (roles : HeadingRoles) (heading
 
     length-before : length before ≡ id_start style heading
     length-before =
-        omega (arith, length-append (sign_cells style) (name ++ opening), length-append name opening, length-text_cells roles.label name_chars, length-text_cells roles.label (opening_bracket_of hidden))
+        omega (
+          arith,
+          length-append (sign_cells style) (name ++ opening),
+          length-append name opening,
+          length-text_cells roles.label name_chars,
+          length-text_cells roles.label (opening_bracket_of hidden),
+        )
 
     length-shown : length shown ≡ length (norm (chars text))
     length-shown =
@@ -125,11 +133,13 @@ module _ (hyperlink : Bool) (style : TitleStyle) (roles : HeadingRoles) (heading
 
     before_unlinked : All IsUnlinked before
     before_unlinked =
-        All-append IsUnlinked (sign_cells style) (name ++ opening) (sign_unlinked style) (All-append IsUnlinked name opening (drawn_unlinked roles.label name_chars) (drawn_unlinked roles.label (opening_bracket_of hidden)))
+        All-append IsUnlinked (sign_cells style) (name ++ opening) (sign_unlinked style)
+        (All-append IsUnlinked name opening (drawn_unlinked roles.label name_chars) (drawn_unlinked roles.label (opening_bracket_of hidden)))
 
     after_unlinked : All IsUnlinked after
     after_unlinked =
-        All-append IsUnlinked (closing ++ colon) rest (All-append IsUnlinked closing colon (drawn_unlinked roles.label (closing_bracket_of hidden)) (drawn_unlinked roles.colon (colon_of hidden heading.id))) (drawn_unlinked roles.text line)
+        All-append IsUnlinked (closing ++ colon) rest (All-append IsUnlinked closing colon (drawn_unlinked roles.label (closing_bracket_of hidden))
+        (drawn_unlinked roles.colon (colon_of hidden heading.id))) (drawn_unlinked roles.text line)
 
     text_linked : (c : ℕ) → c < length (norm (chars text)) → (get_or row (id_start style heading + c) SPACE).link ≡ address_of hyperlink id
     text_linked c within =
@@ -140,7 +150,8 @@ module _ (hyperlink : Bool) (style : TitleStyle) (roles : HeadingRoles) (heading
 
     others_unlinked : (c : ℕ) → (id_start style heading ≤ c → c < id_start style heading + length (norm (chars text)) → ⊥) → (get_or row c SPACE).link ≡ None
     others_unlinked c outside =
-        ap (λ (r : List Cell). (get_or r c SPACE).link) in_parts ∙ other_parts before shown after before_unlinked after_unlinked c (λ from to. outside (omega (arith, from, length-before)) (omega (arith, to, length-before, length-shown)))
+        ap (λ (r : List Cell). (get_or r c SPACE).link) in_parts ∙ other_parts before shown after before_unlinked after_unlinked c (λ from to.
+        outside (omega (arith, from, length-before)) (omega (arith, to, length-before, length-shown)))
 
   -- where no id shows a text
   bare_unlinked : id_cells hyperlink hidden roles.label heading.id ≡ [] → (c : ℕ) → (get_or row c SPACE).link ≡ None
@@ -155,7 +166,8 @@ module _ (hyperlink : Bool) (style : TitleStyle) (roles : HeadingRoles) (heading
 
   -- which cells of the first row link, and to which address
   abbrev LinksIn : Option Id → Type 0
-  LinksIn own = ((c : ℕ) → c < length (id_chars own) → (get_or row (id_start style heading + c) SPACE).link ≡ id_address hyperlink own) × ((c : ℕ) → (id_start style heading ≤ c → c < id_start style heading + length (id_chars own) → ⊥) → (get_or row c SPACE).link ≡ None)
+  LinksIn own = ((c : ℕ) → c < length (id_chars own) → (get_or row (id_start style heading + c) SPACE).link ≡ id_address hyperlink own)
+      × ((c : ℕ) → (id_start style heading ≤ c → c < id_start style heading + length (id_chars own) → ⊥) → (get_or row c SPACE).link ≡ None)
 
   links_in : (own : Option Id) → heading.id ≡ own → LinksIn own
   links_in None own =
@@ -164,13 +176,20 @@ module _ (hyperlink : Bool) (style : TitleStyle) (roles : HeadingRoles) (heading
     where
       of_text : (text : Option (CowStr Global)) → id.id ≡ text → LinksIn (Some id)
       of_text None is =
-          let none : length (id_chars (Some id)) ≡ 0 = rw is refl in
-          (λ c within. absurd (omega (arith, within, none)), λ c outside. bare_unlinked (ap (id_cells hyperlink hidden roles.label) own ∙ ap (λ t. bracketed_cells hidden roles.label (address_of hyperlink id) (option_map cow_str_bytes t)) is) c)
+          let none : length (id_chars (Some id)) ≡ 0 = rw is refl in (
+            λ c within. absurd (omega (arith, within, none)),
+            λ c outside.
+                bare_unlinked (ap (id_cells hyperlink hidden roles.label) own
+                ∙ ap (λ t. bracketed_cells hidden roles.label (address_of hyperlink id) (option_map cow_str_bytes t)) is) c,
+          )
       of_text (Some text) is =
           let bytes : List ℕ = cow_str_bytes text in
           let same : length (id_chars (Some id)) ≡ length (norm (chars bytes)) = rw is (ap (λ (cs : List ℕ). length cs) (append-nil (norm (chars bytes)))) in
-          let given = ap (option_map cow_str_bytes) is in
-          (λ c within. text_linked id bytes own given c (omega (arith, within, same)), λ c outside. others_unlinked id bytes own given c (λ from to. outside from (omega (arith, to, same))))
+          let given = ap (option_map cow_str_bytes) is in (
+            λ c within. text_linked id bytes own given c (omega (arith, within, same)),
+            λ c outside.
+                others_unlinked id bytes own given c (λ from to. outside from (omega (arith, to, same))),
+          )
 
 -- the first row, and the others
 first_places : (hyperlink : Bool) (style : TitleStyle) (roles : HeadingRoles) (heading : Heading) (line : List ℕ)
@@ -184,7 +203,8 @@ further_at further r lines k c none =
       | inl within ↦ ap (λ (row : List Cell). (get_or row c SPACE).link) (get_or-map (λ l. further ++ text_cells r l) lines k [] [] within)
           ∙ unlinked_at (further ++ text_cells r (get_or lines k []))
           (All-append IsUnlinked further (text_cells r (get_or lines k [])) none (drawn_unlinked r (get_or lines k []))) c
-      | inr past ↦ ap (λ (row : List Cell). (get_or row c SPACE).link) (get_or_past (map (λ l. further ++ text_cells r l) lines) k [] (omega (arith, past, length-map lines (λ l. further ++ text_cells r l))))
+      | inr past ↦ ap (λ (row : List Cell). (get_or row c SPACE).link)
+          (get_or_past (map (λ l. further ++ text_cells r l) lines) k [] (omega (arith, past, length-map lines (λ l. further ++ text_cells r l))))
     ]
 
 -- what the test for a cell of the id says
@@ -222,9 +242,12 @@ module _ (hyperlink : Bool) (style : TitleStyle) (roles : HeadingRoles) (heading
             let parts = id_cell style heading i c inside in
             let k : ℕ = c - start in
             let same : start + k ≡ c = omega (arith, parts.1) in
-            ap (λ n. (cell_at (first ∷ below) n c).link) parts.0 ∙ ap (λ n. (get_or first n SPACE).link) (sym same) ∙ places.0 k (omega (arith, parts.1, parts.2)) ∙ sym (ap address inside)
+            ap (λ n. (cell_at (first ∷ below) n c).link) parts.0 ∙ ap (λ n. (get_or first n SPACE).link) (sym same)
+            ∙ places.0 k (omega (arith, parts.1, parts.2)) ∙ sym (ap address inside)
         | inr outside ↦ elim (cases_eq i 0) [
-          | inl top ↦ ap (λ n. (cell_at (first ∷ below) n c).link) top ∙ places.1 c (λ from to. clash (is_id_cell style heading i c) outside (id_cell_from start (start + length (id_chars heading.id)) i c top from to)) ∙ sym (ap address outside)
+          | inl top ↦ ap (λ n. (cell_at (first ∷ below) n c).link) top ∙ places.1 c (λ from to.
+              clash (is_id_cell style heading i c) outside (id_cell_from start (start + length (id_chars heading.id)) i c top from to))
+              ∙ sym (ap address outside)
           | inr later ↦
               let under : i ≡ suc (i - 1) = omega (arith, later) in
               ap (λ n. (cell_at (first ∷ below) n c).link) under ∙ none (i - 1) c ∙ sym (ap address outside)

@@ -27,7 +27,8 @@ pub written-appended : (rows : List (List Cell)) (row at : ℕ) (cells : List Ce
 written-appended rows row at cells past some =
     let r : List Cell = row_at rows row in
     let gap : List Cell = replicate (at - length r) SPACE in
-    ap (λ (new : List Cell). written [] rows row (new ∷ [])) (written_past SPACE r cells at past ∙ append_assoc r gap cells) ∙ sym (appended-is rows row (gap ++ cells) (omega (arith, some, length-append gap cells)))
+    ap (λ (new : List Cell). written [] rows row (new ∷ [])) (written_past SPACE r cells at past ∙ append_assoc r gap cells)
+    ∙ sym (appended-is rows row (gap ++ cells) (omega (arith, some, length-append gap cells)))
 
 -- a space after spaces
 replicate-more : (count : ℕ) → 0 < count → replicate (count - 1) SPACE ++ SPACE ∷ [] ≡ replicate count SPACE
@@ -38,7 +39,8 @@ pub spaces_added : (old new : List (List Cell)) (row end count : ℕ) → length
     → new ≡ cells_written old row (end + count - 1) (SPACE ∷ []) → new ≡ appended old row (replicate count SPACE)
 spaces_added old new row end count size some is =
     let gap : end + count - 1 - length (row_at old row) ≡ count - 1 = omega (arith, size, some) in
-    is ∙ written-appended old row (end + count - 1) (SPACE ∷ []) (omega (arith, size, some)) (omega arith) ∙ ap (λ n. appended old row (replicate n SPACE ++ SPACE ∷ [])) gap ∙ ap (appended old row) (replicate-more count some)
+    is ∙ written-appended old row (end + count - 1) (SPACE ∷ []) (omega (arith, size, some)) (omega arith)
+    ∙ ap (λ n. appended old row (replicate n SPACE ++ SPACE ∷ [])) gap ∙ ap (appended old row) (replicate-more count some)
 
 -- cells after the gutter of an empty row
 pub after_gutter : (old new : List (List Cell)) (row at : ℕ) (cells : List Cell) → row_at old row ≡ [] → 0 < length cells → new ≡ cells_written old row at cells
@@ -75,7 +77,8 @@ pub id_drawn : (old one two three new : List (List Cell)) (row start from : ℕ)
     → opening ≡ opening_bracket_of hidden → shown ≡ norm (chars text) → closing ≡ closing_bracket_of hidden → address ≡ address_of hyperlink id
     → one ≡ appended old row (text_cells role opening) → two ≡ appended one row (text_cells role shown) → three ≡ linked_from address row from two
     → new ≡ appended three row (text_cells role closing) → new ≡ appended old row (id_cells hyperlink hidden role (Some id))
-id_drawn old one two three new row start from hyperlink hidden role id text opening shown closing address given fits short size at narrow opens is closes to first second linked last =
+id_drawn old one two three new row start from hyperlink hidden role id text opening shown closing address given fits short size at narrow opens is closes to
+    first second linked last =
     let front : length (row_at one row) ≡ from =
     ap (λ rs. length (row_at rs row)) first ∙ ap (λ (r : List Cell). length r) (row_at-appended old row (text_cells role opening))
     ∙ omega (
@@ -87,8 +90,17 @@ id_drawn old one two three new row start from hyperlink hidden role id text open
       ap (λ (cs : List ℕ).
           length cs) opens,
     ) in
-    let few : length (text_cells role shown) < 2 ^ 58 + 1 = omega (arith, length-text_cells role shown, ap (λ (cs : List ℕ). length cs) is, length-norm (chars text), length-chars_le text, fits) in
-    let third : three ≡ appended one row (linked_to address (text_cells role shown)) = linked ∙ ap (linked_from address row from) second ∙ linked_from-appended one row from address (text_cells role shown) front (omega (arith, few, at, short, narrow)) in
+    let few : length (text_cells role shown) < 2 ^ 58 + 1 = omega (
+      arith,
+      length-text_cells role shown,
+      ap (λ (cs : List ℕ). length cs) is,
+      length-norm
+          (chars text),
+      length-chars_le text,
+      fits,
+    ) in
+    let third : three ≡ appended one row (linked_to address (text_cells role shown)) = linked ∙ ap (linked_from address row from) second
+    ∙ linked_from-appended one row from address (text_cells role shown) front (omega (arith, few, at, short, narrow)) in
     appended-three old one three new row (text_cells role opening) (linked_to address (text_cells role shown)) (text_cells role closing)
     first third last ∙ ap (λ (cs : List ℕ). appended old row
     (text_cells role cs ++ linked_to address (text_cells role shown) ++ text_cells role closing)) opens

@@ -22,7 +22,8 @@ path_before : short_texts (codes "src/main.rs:1:5: ") (codes ": here") (error_of
 unfolding chars norm
 path_before = refl
 
-rows : plain_text (short_rows false (codes "src/main.rs:1:5: ") (codes ": here") (error_of Standard (codes "unused"))) ≡ codes "src/main.rs:1:5: error: unused: here"
+rows : plain_text (short_rows false (codes "src/main.rs:1:5: ") (codes ": here") (error_of Standard (codes "unused")))
+    ≡ codes "src/main.rs:1:5: error: unused: here"
 unfolding chars norm label_cells short_rows
 rows = refl
 

@@ -29,7 +29,8 @@ first_text : (hyperlink : Bool) (roles : HeadingRoles) (before : List ℕ) (head
     → row_text (text_cells LineAndColumn before ++ label_cells hyperlink roles heading) ≡ before ++ heading_label_text heading
 first_text hyperlink roles before heading =
     let label : List Cell = label_cells hyperlink roles heading in
-    row_text-append (text_cells LineAndColumn before) label ∙ ap (λ cs. cs ++ row_text label) (row_text-text_cells LineAndColumn before) ∙ ap (λ cs. before ++ cs) (row_text-label hyperlink roles heading)
+    row_text-append (text_cells LineAndColumn before) label ∙ ap (λ cs. cs ++ row_text label) (row_text-text_cells LineAndColumn before)
+    ∙ ap (λ cs. before ++ cs) (row_text-label hyperlink roles heading)
 
 -- a text after the first row
 with_end-texts : (after : List ℕ) (rows : List (List Cell)) → map row_text (with_end (text_cells NoStyle after) rows) ≡ with_end after (map row_text rows)
@@ -47,7 +48,9 @@ short-texts hyperlink before after heading i =
     let further : List Cell = indent_cells Short (label_width heading) in
     let rows : List (List Cell) = lines_below first further roles.text (heading_lines heading) in
     let all : List (List Cell) = with_end (text_cells NoStyle after) rows in
-    ap row_text (row_at-trimmed all i) ∙ text_at all i ∙ ap (λ ts. slice_index_or ts i []) (with_end-texts after rows ∙ ap (with_end after) (texts_of_lines first further (before ++ heading_label_text heading) roles.text (heading_lines heading) (first_text hyperlink roles before heading)))
+    ap row_text (row_at-trimmed all i) ∙ text_at all i ∙ ap (λ ts. slice_index_or ts i [])
+    (with_end-texts after rows ∙ ap (with_end after) (texts_of_lines first further (before ++ heading_label_text heading) roles.text
+    (heading_lines heading) (first_text hyperlink roles before heading)))
 
 -- a text after the first row links to nothing
 with_end-links : (cells : List Cell) (rows : List (List Cell)) → All IsUnlinked cells → links_of (with_end cells rows) ≡ links_of rows
@@ -77,9 +80,11 @@ module _ (P : ℕ → Type 0) (free : (c : ℕ) → IsUnlisted c → P c) where
   with_end-all : (after : List ℕ) (rows : List (List Cell)) → All P after → All (λ row. All P (row_text row)) rows
       → All (λ row. All P (row_text row)) (with_end (text_cells NoStyle after) rows)
   with_end-all after [] more all =
-      All-cons (λ row. All P (row_text row)) (text_cells NoStyle after) [] (row-all P free [] NoStyle (All-nil P) after more) (All-nil (λ row. All P (row_text row)))
+      All-cons (λ row. All P (row_text row)) (text_cells NoStyle after) [] (row-all P free [] NoStyle (All-nil P) after more)
+      (All-nil (λ row. All P (row_text row)))
   with_end-all after (row ∷ rows) more all =
-      All-cons (λ r. All P (row_text r)) (row ++ text_cells NoStyle after) rows (row-all P free row NoStyle (All-head (λ r. All P (row_text r)) row rows all) after more) (All-tail (λ r. All P (row_text r)) row rows all)
+      All-cons (λ r. All P (row_text r)) (row ++ text_cells NoStyle after) rows
+      (row-all P free row NoStyle (All-head (λ r. All P (row_text r)) row rows all) after more) (All-tail (λ r. All P (row_text r)) row rows all)
 
   short_rows-all : (hyperlink : Bool) (before after : List ℕ) (heading : Heading) → All IsUnlisted before → All IsUnlisted after → All P (shown_text heading)
       → All (λ row. All P (row_text row)) (short_rows hyperlink before after heading)
@@ -90,8 +95,10 @@ module _ (P : ℕ → Type 0) (free : (c : ℕ) → IsUnlisted c → P c) where
       let further : List Cell = indent_cells Short (label_width heading) in
       let lines : List (List ℕ) = heading_lines heading in
       let rows : List (List Cell) = lines_below first further roles.text lines in
-      let begun : All P (row_text first) = subst (All P) (sym (first_text hyperlink roles before heading)) (All-append P before (heading_label_text heading) (from_free P free before front) (label-all P free heading)) in
-      let below : All (λ row. All P (row_text row)) rows = lines_all P free first further roles.text lines begun (indent-all P free Short (label_width heading)) (All-slice_split P (λ c. c == 10) (shown_text heading) all) in
+      let begun : All P (row_text first) = subst (All P) (sym (first_text hyperlink roles before heading))
+      (All-append P before (heading_label_text heading) (from_free P free before front) (label-all P free heading)) in
+      let below : All (λ row. All P (row_text row)) rows = lines_all P free first further roles.text lines begun
+      (indent-all P free Short (label_width heading)) (All-slice_split P (λ c. c == 10) (shown_text heading) all) in
       All-trimmed (λ row. All P (row_text row)) (with_end (text_cells NoStyle after) rows) (with_end-all after rows (from_free P free after back) below)
 
 -- each listed character of the rows stands in the title's text, and that is trusted

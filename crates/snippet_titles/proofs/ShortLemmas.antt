@@ -20,7 +20,8 @@ first_written : (base : List (List Cell)) (row : List Cell) (rows : List (List C
     → written [] (base ++ on_top row rows) (length base) (new ∷ []) ≡ base ++ new ∷ rows
 first_written base [] [] new =
     let none : length base - length base ≡ 0 = omega arith in
-    ap (λ rs. written [] rs (length base) (new ∷ [])) (append-nil base) ∙ written_past [] base (new ∷ []) (length base) (omega arith) ∙ ap (λ n. base ++ replicate n [] ++ new ∷ []) none ∙ ap (λ (rs : List (List Cell)). rs ++ new ∷ []) (append-nil base)
+    ap (λ rs. written [] rs (length base) (new ∷ [])) (append-nil base) ∙ written_past [] base (new ∷ []) (length base) (omega arith)
+    ∙ ap (λ n. base ++ replicate n [] ++ new ∷ []) none ∙ ap (λ (rs : List (List Cell)). rs ++ new ∷ []) (append-nil base)
 first_written base [] (r ∷ rows) new =
     same_lists _ _ (unfold written in grind (arith, places)) (λ k d h. unfold written in grind (arith, places))
 first_written base (cell ∷ cells) rows new =
@@ -58,7 +59,9 @@ short_drawn old one two three new row hyperlink before after heading level trust
     let further : List Cell = indent_cells Short (label_width heading) in
     let lines : List (List ℕ) = heading_lines heading in
     let front : List Cell = text_cells LineAndColumn before ++ label_cells hyperlink roles heading in
-    let drawn_are : three ≡ old ++ without_empty_end (lines_below front further roles.text lines) = third ∙ ap (λ rs. rs ++ without_empty_end (lines_below (row_at two row) further roles.text lines)) begun.0 ∙ ap (λ (r : List Cell). old ++ without_empty_end (lines_below r further roles.text lines)) begun.1 in
+    let drawn_are : three ≡ old ++ without_empty_end (lines_below front further roles.text lines) = third
+    ∙ ap (λ rs. rs ++ without_empty_end (lines_below (row_at two row) further roles.text lines)) begun.0
+    ∙ ap (λ (r : List Cell). old ++ without_empty_end (lines_below r further roles.text lines)) begun.1 in
     fourth ∙ ap (λ rs. appended rs row (text_cells NoStyle after)) drawn_are
     ∙ appended-first old (lines_below front further roles.text lines) row (text_cells NoStyle after) at
     ∙ ap (λ (rs : HeadingRoles). old ++ without_empty_end

@@ -18,14 +18,16 @@ lines_at text = slice_split (λ c. c == 10) text
 -- no byte of another character is a line feed
 pub encode-no_feed : (c : ℕ) → (c == 10) ≡ false → All (λ b. (b == 10) ≡ false) (encode_utf8 c)
 encode-no_feed c other =
-    All-from_get_or (λ b. (b == 10) ≡ false) (encode_utf8 c) 0 (λ i within. let at = inside_one c [] (encode_utf8 c) i (sym (append-nil (encode_utf8 c))) within in grind (arith, nat_tests, at))
+    All-from_get_or (λ b. (b == 10) ≡ false) (encode_utf8 c) 0 (λ i within.
+    let at = inside_one c [] (encode_utf8 c) i (sym (append-nil (encode_utf8 c))) within in grind (arith, nat_tests, at))
 
 -- elements that are no line feeds stand at the front of the first part
 pub lines_at-after : (front rest part : List ℕ) (parts : List (List ℕ)) → All (λ b. (b == 10) ≡ false) front → lines_at rest ≡ part ∷ parts
     → lines_at (front ++ rest) ≡ (front ++ part) ∷ parts
 lines_at-after [] rest part parts none is = is
 lines_at-after (b ∷ bs) rest part parts none is =
-    slice_split-cons_no (λ c. c == 10) b (bs ++ rest) (All-head (λ c. (c == 10) ≡ false) b bs none) ∙ ap (onto_first b) (lines_at-after bs rest part parts (All-tail (λ c. (c == 10) ≡ false) b bs none) is)
+    slice_split-cons_no (λ c. c == 10) b (bs ++ rest) (All-head (λ c. (c == 10) ≡ false) b bs none)
+    ∙ ap (onto_first b) (lines_at-after bs rest part parts (All-tail (λ c. (c == 10) ≡ false) b bs none) is)
 
 -- the bytes of one character that is no line feed, before bytes that are cut into these parts
 chars-onto : (c : ℕ) (rest : List ℕ) (parts : List (List ℕ)) → IsScalar c → (c == 10) ≡ false → lines_at rest ≡ parts → 0 < length parts
@@ -33,7 +35,8 @@ chars-onto : (c : ℕ) (rest : List ℕ) (parts : List (List ℕ)) → IsScalar 
 chars-onto c rest [] scalar other is some = absurd (omega (arith, some))
 chars-onto c rest (part ∷ parts) scalar other is some =
     let one : chars (encode_utf8 c) ≡ c ∷ chars [] = chars_past_char (encode_utf8 c) [] c (IsUtf8-encode c scalar) (sym (append-nil (encode_utf8 c))) in
-    let first : chars (encode_utf8 c ++ part) ≡ c ∷ chars part = chars-append (encode_utf8 c) part (IsUtf8-encode c scalar) ∙ ap (λ cs. cs ++ chars part) (one ∙ ap (λ cs. c ∷ cs) chars-nil) in
+    let first : chars (encode_utf8 c ++ part) ≡ c ∷ chars part = chars-append (encode_utf8 c) part (IsUtf8-encode c scalar)
+    ∙ ap (λ cs. cs ++ chars part) (one ∙ ap (λ cs. c ∷ cs) chars-nil) in
     ap (map chars) (lines_at-after (encode_utf8 c) rest part parts (encode-no_feed c other) is) ∙ ap (λ cs. cs ∷ map chars parts) first
 
 -- one character before bytes whose parts hold these characters
@@ -41,9 +44,11 @@ chars-step : (c : ℕ) (rest cs : List ℕ) (feed : Bool) → IsScalar c → (c 
     → map chars (lines_at (encode_utf8 c ++ rest)) ≡ lines_at (c ∷ cs)
 chars-step c rest cs true scalar is same =
     let feed : c ≡ 10 = grind (arith, nat_tests, is) in
-    ap (λ d. map chars (lines_at (encode_utf8 d ++ rest))) feed ∙ ap (λ bs. map chars (lines_at (bs ++ rest))) (encode_ascii 10 (omega arith)) ∙ ap (λ first. first ∷ map chars (lines_at rest)) chars-nil ∙ ap (λ parts. [] ∷ parts) same ∙ sym (slice_split-cons_yes (λ d. d == 10) c cs is)
+    ap (λ d. map chars (lines_at (encode_utf8 d ++ rest))) feed ∙ ap (λ bs. map chars (lines_at (bs ++ rest))) (encode_ascii 10 (omega arith))
+    ∙ ap (λ first. first ∷ map chars (lines_at rest)) chars-nil ∙ ap (λ parts. [] ∷ parts) same ∙ sym (slice_split-cons_yes (λ d. d == 10) c cs is)
 chars-step c rest cs false scalar is same =
-    chars-onto c rest (lines_at rest) scalar is refl (omega (arith, length-slice_split (λ b. b == 10) rest)) ∙ ap (onto_first c) same ∙ sym (slice_split-cons_no (λ d. d == 10) c cs is)
+    chars-onto c rest (lines_at rest) scalar is refl (omega (arith, length-slice_split (λ b. b == 10) rest)) ∙ ap (onto_first c) same
+    ∙ sym (slice_split-cons_no (λ d. d == 10) c cs is)
 
 -- the parts of the bytes that spell characters hold the parts of these characters
 pub lines_at-encodes : (cs : List ℕ) → scalars cs ≡ true → map chars (lines_at (encode_utf8_all cs)) ≡ lines_at cs

@@ -40,7 +40,8 @@ row_text-linked (Some url) (cell ∷ cells) = ap (λ ds. cell.ch ∷ ds) (row_te
 -- three texts, drawn one after the other
 row_text-three : (xs ys zs : List Cell) (a b c : List ℕ) → row_text xs ≡ a → row_text ys ≡ b → row_text zs ≡ c → row_text (xs ++ ys ++ zs) ≡ a ++ b ++ c
 row_text-three xs ys zs a b c first second third =
-    row_text-append (xs ++ ys) zs ∙ ap (λ cs. cs ++ row_text zs) (row_text-append xs ys) ∙ ap (λ cs. (cs ++ row_text ys) ++ row_text zs) first ∙ ap (λ cs. (a ++ cs) ++ row_text zs) second ∙ ap (λ cs. (a ++ b) ++ cs) third
+    row_text-append (xs ++ ys) zs ∙ ap (λ cs. cs ++ row_text zs) (row_text-append xs ys) ∙ ap (λ cs. (cs ++ row_text ys) ++ row_text zs) first
+    ∙ ap (λ cs. (a ++ cs) ++ row_text zs) second ∙ ap (λ cs. (a ++ b) ++ cs) third
 
 -- those of an id, and of a label
 row_text-bracketed : (hidden : Bool) (r : ElementStyle) (address text : Option (List ℕ))
@@ -76,14 +77,16 @@ further_texts : (further : List Cell) (r : ElementStyle) (lines : List (List ℕ
     → map row_text (map (λ l. further ++ text_cells r l) lines) ≡ map (λ l. row_text further ++ l) lines
 further_texts further r [] = refl
 further_texts further r (line ∷ lines) =
-    ap (λ t. t ∷ map row_text (map (λ l. further ++ text_cells r l) lines)) (row_text-after further (row_text further) r line refl) ∙ ap (λ ts. (row_text further ++ line) ∷ ts) (further_texts further r lines)
+    ap (λ t. t ∷ map row_text (map (λ l. further ++ text_cells r l) lines)) (row_text-after further (row_text further) r line refl)
+    ∙ ap (λ ts. (row_text further ++ line) ∷ ts) (further_texts further r lines)
 
 -- the texts of lines below are the lines, each after what stands before it
 pub texts_of_lines : (first further : List Cell) (text : List ℕ) (r : ElementStyle) (lines : List (List ℕ)) → row_text first ≡ text
     → map row_text (lines_below first further r lines) ≡ texts_below text (row_text further) lines
 texts_of_lines first further text r [] is = refl
 texts_of_lines first further text r (line ∷ lines) is =
-    ap (λ t. t ∷ map row_text (map (λ l. further ++ text_cells r l) lines)) (row_text-after first text r line is) ∙ ap (λ ts. (text ++ line) ∷ ts) (further_texts further r lines)
+    ap (λ t. t ∷ map row_text (map (λ l. further ++ text_cells r l) lines)) (row_text-after first text r line is)
+    ∙ ap (λ ts. (text ++ line) ∷ ts) (further_texts further r lines)
 
 -- the text of a row, which is empty where it isn't there
 pub text_at : (rows : List (List Cell)) (k : ℕ) → row_text (row_at rows k) ≡ get_or (map row_text rows) k []
@@ -101,8 +104,10 @@ heading_rows-texts hyperlink style heading k =
     let first : List Cell = sign_cells style ++ label_cells hyperlink roles heading in
     let further : List Cell = indent_cells style (label_width heading) in
     let rows : List (List Cell) = lines_below first further roles.text (heading_lines heading) in
-    let begun : row_text first ≡ row_text (sign_cells style) ++ heading_label_text heading = row_text-append (sign_cells style) (label_cells hyperlink roles heading) ∙ ap (λ cs. row_text (sign_cells style) ++ cs) (row_text-label hyperlink roles heading) in
-    ap row_text (row_at-trimmed rows k) ∙ text_at rows k ∙ ap (λ ts. get_or ts k []) (texts_of_lines first further (row_text (sign_cells style) ++ heading_label_text heading) roles.text (heading_lines heading) begun)
+    let begun : row_text first ≡ row_text (sign_cells style) ++ heading_label_text heading = row_text-append (sign_cells style)
+    (label_cells hyperlink roles heading) ∙ ap (λ cs. row_text (sign_cells style) ++ cs) (row_text-label hyperlink roles heading) in
+    ap row_text (row_at-trimmed rows k) ∙ text_at rows k ∙ ap (λ ts.
+    get_or ts k []) (texts_of_lines first further (row_text (sign_cells style) ++ heading_label_text heading) roles.text (heading_lines heading) begun)
 
 -- no row stands below those of the lines
 lines_count : (first further : List Cell) (r : ElementStyle) (lines : List (List ℕ)) → length (lines_below first further r lines) ≡ length lines
@@ -121,4 +126,10 @@ heading_rows-count hyperlink style heading =
     let first : List Cell = sign_cells style ++ label_cells hyperlink roles heading in
     let further : List Cell = indent_cells style (label_width heading) in
     let lines : List (List ℕ) = heading_lines heading in
-    omega (arith, (refilled (lines_below first further roles.text lines)).1, lines_count first further roles.text lines, texts_count (row_text (sign_cells style) ++ heading_label_text heading) (row_text further) lines)
+    omega (
+      arith,
+      (refilled (lines_below first further roles.text lines)).1,
+      lines_count first further roles.text lines,
+      texts_count
+          (row_text (sign_cells style) ++ heading_label_text heading) (row_text further) lines,
+    )

@@ -67,7 +67,8 @@ colon_of hidden id = if hidden && not (is_set id) then [] else codes ": "
 unfoldable pub label_cells : Bool → HeadingRoles → Heading → List Cell
 label_cells hyperlink roles heading =
     let hidden = is_hidden heading.level.name in
-    text_cells roles.label (norm (chars (name_of heading.level))) ++ id_cells hyperlink hidden roles.label heading.id ++ text_cells roles.colon (colon_of hidden heading.id)
+    text_cells roles.label (norm (chars (name_of heading.level))) ++ id_cells hyperlink hidden roles.label heading.id
+    ++ text_cells roles.colon (colon_of hidden heading.id)
 
 -- its characters: those of an id, and of all of it
 abbrev pub bracketed_text : Bool → Option (List ℕ) → List ℕ
@@ -154,4 +155,5 @@ heading_lines heading = slice_split (λ c. c == 10) (shown_text heading)
 unfoldable pub heading_rows : Bool → TitleStyle → Heading → List (List Cell)
 heading_rows hyperlink style heading =
     let roles = roles_of style heading.level.kind heading.allows_styling in
-    without_empty_end (lines_below (sign_cells style ++ label_cells hyperlink roles heading) (indent_cells style (label_width heading)) roles.text (heading_lines heading))
+    without_empty_end (lines_below (sign_cells style ++ label_cells hyperlink roles heading) (indent_cells style (label_width heading)) roles.text
+    (heading_lines heading))

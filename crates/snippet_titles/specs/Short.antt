@@ -18,7 +18,8 @@ with_end more (row ∷ rows) = (row ++ more) ∷ rows
 unfoldable pub short_rows : Bool → List ℕ → List ℕ → Heading → List (List Cell)
 short_rows hyperlink before after heading =
     let roles = roles_of Short heading.level.kind heading.allows_styling in
-    without_empty_end (with_end (text_cells NoStyle after) (lines_below (text_cells LineAndColumn before ++ label_cells hyperlink roles heading) (indent_cells Short (label_width heading)) roles.text (heading_lines heading)))
+    without_empty_end (with_end (text_cells NoStyle after) (lines_below (text_cells LineAndColumn before ++ label_cells hyperlink roles heading)
+    (indent_cells Short (label_width heading)) roles.text (heading_lines heading)))
 
 -- the text of each row
 abbrev pub short_texts : List ℕ → List ℕ → Heading → List (List ℕ)

@@ -9,8 +9,8 @@ use snippet_grid::StyledBuffer;
 use snippet_style::DecorStyle;
 use std::alloc::{AllocError, Global};
 
-/// Draws what the group's primary snippet begins with, where it has no path, below all that stands in the grid. The snippet
-/// may be the group's `first` element.
+/// Draws what the group's primary snippet begins with, where it has no path, below all that stands in the grid. The
+/// snippet may be the group's `first` element.
 ///
 /// ```text
 ///    |      in ASCII
@@ -38,8 +38,8 @@ pub fn draw_opening_head(
     }
 }
 
-/// Draws what the group's primary snippet begins with, where it has a path, below all that stands in the grid. The snippet
-/// may be the group's `first` element.
+/// Draws what the group's primary snippet begins with, where it has a path, below all that stands in the grid. The
+/// snippet may be the group's `first` element.
 ///
 /// ```text
 ///   --> src/main.rs:3:5

@@ -49,7 +49,8 @@ pub fn draw_heading<'a>(
     ensures texts { OnOk result ((k : ℕ) → row_text (row_at (drop (length buffer.old) buffer.new) k)
         ≡ slice_index_or (heading_texts style (heading_of heading.now)) k []) }
     ensures free { OnOk result (All (IsFreeButText (heading_of heading.now)) (drop (length buffer.old) buffer.new)) }
-    ensures links { OnOk result (LinksId hyperlink style (heading_of heading.now) (drop (length buffer.old) buffer.new)) }
+    ensures links { OnOk result (LinksId hyperlink style (heading_of heading.now)
+        (drop (length buffer.old) buffer.new)) }
 {
     let row = buffer.num_lines();
     let roles = roles_of(&style, heading.level().kind, heading.allows_styling());
@@ -154,8 +155,8 @@ fn text_of(alloc: Global, heading: &dyn MessageOrTitle) -> Result<CowStr<'_>, Al
     }
 }
 
-/// Draws a heading's text after the cells of the grid's last row; each further line of it stands in a row of its own, below a
-/// label of its width.
+/// Draws a heading's text after the cells of the grid's last row; each further line of it stands in a row of its own,
+/// below a label of its width.
 pub(crate) fn draw_text(
     alloc: Global,
     buffer: &mut StyledBuffer,
@@ -168,7 +169,9 @@ pub(crate) fn draw_text(
     requires last { IsAtEnd row buffer.old }
     requires fits { HeadingFits (heading_of heading.now) }
     ensures rows { OnOk result (buffer.new ≡ take row buffer.old
-        ++ without_empty_end (spec.lines_below (row_at buffer.old row) (indent_cells style.now (spec.label_width (heading_of heading.now))) role (spec.heading_lines (heading_of heading.now)))) }
+        ++ without_empty_end (spec.lines_below (row_at buffer.old row)
+        (indent_cells style.now (spec.label_width (heading_of heading.now))) role
+        (spec.heading_lines (heading_of heading.now)))) }
 {
     let text = text_of(alloc, heading)?;
     draw_lines(buffer, row, style, role, heading, text.as_str())
@@ -188,7 +191,9 @@ fn draw_lines(
     requires last { IsAtEnd row buffer.old }
     requires fits { HeadingFits (heading_of heading.now) }
     ensures rows { OnOk result (buffer.new ≡ take row buffer.old
-        ++ without_empty_end (spec.lines_below (row_at buffer.old row) (indent_cells style.now (spec.label_width (heading_of heading.now))) role (map chars (slice_split (λ b. b == 10) text.now)))) }
+        ++ without_empty_end (spec.lines_below (row_at buffer.old row)
+        (indent_cells style.now (spec.label_width (heading_of heading.now))) role
+        (map chars (slice_split (λ b. b == 10) text.now)))) }
 {
     let Some((first, rest)) = text.split_once('\n') else {
         extend_row(buffer, row, text, role)?;
@@ -214,7 +219,8 @@ fn draw_further_line(
     requires row { HasNext row }
     requires empty { row_at buffer.old row ≡ [] }
     requires width { IsAddable width }
-    ensures drawn { OnOk result (buffer.new ≡ appended buffer.old row (indent_cells style.now width ++ text_cells role (chars line.now))) }
+    ensures drawn { OnOk result (buffer.new ≡ appended buffer.old row
+        (indent_cells style.now width ++ text_cells role (chars line.now))) }
 {
     draw_indent(buffer, row, style, width)?;
     extend_row(buffer, row, line, role)?;

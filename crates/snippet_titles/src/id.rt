@@ -17,8 +17,8 @@ use snippet_style::ElementStyle;
 use snippet_text::{CowStr, normalized};
 use std::alloc::{AllocError, Global};
 
-/// Draws an id after a row's cells, of which there are `start`: in brackets, unless the level's name is hidden. Its text
-/// links to its URL where links are on.
+/// Draws an id after a row's cells, of which there are `start`: in brackets, unless the level's name is hidden. Its
+/// text links to its URL where links are on.
 ///
 ///     [E0308]
 ///

@@ -7,8 +7,8 @@ use snippet_grid::{Layout, StyledBuffer};
 use snippet_style::ElementStyle;
 use std::alloc::AllocError;
 
-/// Draws the row of a padding below all that stands in the grid: the separator alone, or the closing glyph alone where it
-/// is the group's last element.
+/// Draws the row of a padding below all that stands in the grid: the separator alone, or the closing glyph alone where
+/// it is the group's last element.
 ///
 /// # Errors
 ///

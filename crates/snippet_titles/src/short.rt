@@ -12,7 +12,8 @@ use snippet_model::MessageOrTitle;
 use snippet_style::{ElementStyle, char_count};
 use std::alloc::{AllocError, Global};
 
-/// Draws a title in the short form below all that stands in the grid: after a text, and its first row goes on with another.
+/// Draws a title in the short form below all that stands in the grid: after a text, and its first row goes on with
+/// another.
 ///
 ///     src/main.rs:1:5: error: unused: here
 ///
@@ -29,7 +30,8 @@ pub fn draw_short<'a>(
 ) -> Result<(), AllocError>
     requires fits { HeadingFits (heading_of heading.now) }
     requires short { IsTextWidth (length (chars before.now)) }
-    ensures rows { OnOk result (buffer.new ≡ buffer.old ++ short_rows hyperlink (chars before.now) (chars after.now) (heading_of heading.now)) }
+    ensures rows { OnOk result (buffer.new ≡ buffer.old
+        ++ short_rows hyperlink (chars before.now) (chars after.now) (heading_of heading.now)) }
 {
     let row = buffer.num_lines();
     let roles = roles_of(

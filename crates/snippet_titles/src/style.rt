@@ -1,4 +1,5 @@
-//! Where a title or message stands, and what that makes of its rows: the roles of their parts, and what they begin with.
+//! Where a title or message stands, and what that makes of its rows: the roles of their parts, and what they begin
+//! with.
 ghost use Rattle.std.specs.Prelude.{◌≡◌, ◌<◌, chars, length};
 ghost use Rattle.snippet_style.specs.Cell.{unlinked_cell};
 ghost use Rattle.snippet_style.specs.Glyphs.{note_sign_of};

@@ -9,7 +9,8 @@ use snippet_grid::StyledBuffer;
 use snippet_model::snippet::Title;
 use std::alloc::{AllocError, Global};
 
-/// Draws the title of a group below all that stands in the grid. Where links are on, the text of its id links to its URL.
+/// Draws the title of a group below all that stands in the grid. Where links are on, the text of its id links to its
+/// URL.
 pub fn draw_title<'a>(
     alloc: Global,
     buffer: &mut StyledBuffer<'a>,

@@ -139,15 +139,18 @@ cut_at_the_right = refl
 
 -- thirty spaces and a letter, a line feed, and 27 spaces: a span from the letter to after the end of the second line. The mark
 -- at its end is in column 27, one before that of the corrected end
-a_mark_after_the_end : end_mark_column (replicate 30 32 ++ 97 ∷ 10 ∷ replicate 27 32) (record { span = record { start = 30; end = 60 }; label = None; kind = Primary; highlight_source = false }) ≡ 27
+a_mark_after_the_end : end_mark_column (replicate 30 32 ++ 97 ∷ 10 ∷ replicate 27 32)
+    (record { span = record { start = 30; end = 60 }; label = None; kind = Primary; highlight_source = false }) ≡ 27
 unfolding place_of location_of end_location steps_after_text line_of start_of char_width unicode_width lib.Utf8.encode
 a_mark_after_the_end = refl
 
-is_too_far_right : is_near_span (replicate 30 32 ++ 97 ∷ 10 ∷ replicate 27 32) (record { span = record { start = 30; end = 60 }; label = None; kind = Primary; highlight_source = false }) ≡ false
+is_too_far_right : is_near_span (replicate 30 32 ++ 97 ∷ 10 ∷ replicate 27 32)
+    (record { span = record { start = 30; end = 60 }; label = None; kind = Primary; highlight_source = false }) ≡ false
 unfolding place_of location_of end_location steps_after_text line_of start_of char_width unicode_width lib.Utf8.encode
 is_too_far_right = refl
 
-and_one_less_is_near : is_near_span (replicate 30 32 ++ 97 ∷ 10 ∷ replicate 26 32) (record { span = record { start = 30; end = 59 }; label = None; kind = Primary; highlight_source = false }) ≡ true
+and_one_less_is_near : is_near_span (replicate 30 32 ++ 97 ∷ 10 ∷ replicate 26 32)
+    (record { span = record { start = 30; end = 59 }; label = None; kind = Primary; highlight_source = false }) ≡ true
 unfolding place_of location_of end_location steps_after_text line_of start_of char_width unicode_width lib.Utf8.encode
 and_one_less_is_near = refl
 
@@ -158,22 +161,26 @@ span_of : AnnotationKind → ℕ → ℕ → Annotation
 span_of kind start end = record { span = record { start = start; end = end }; label = None; kind = kind; highlight_source = false }
 
 -- `a`, a line feed and `éb`: the primary span is named, though another one stands above it, and columns are characters
-second_line : primary_place (annotated_lines true (record { text = 97 ∷ 10 ∷ encode_utf8_all (codes "éb"); first = 1 }) (span_of Context 0 1 ∷ span_of Primary 4 5 ∷ [])) ≡ Some (record { line = 2; column = Some 2 })
+second_line : primary_place (annotated_lines true (record { text = 97 ∷ 10 ∷ encode_utf8_all (codes "éb"); first = 1 })
+    (span_of Context 0 1 ∷ span_of Primary 4 5 ∷ [])) ≡ Some (record { line = 2; column = Some 2 })
 unfolding span_of place_of location_of start_location end_location locations_of steps_after_text line_of start_of char_width unicode_width lib.Utf8.encode
 second_line = refl
 
 -- one byte after a source that ends without a line feed
-after_the_end : primary_place (annotated_lines true (record { text = codes "ab"; first = 1 }) (span_of Primary 3 3 ∷ [])) ≡ Some (record { line = 1; column = Some 4 })
+after_the_end : primary_place (annotated_lines true (record { text = codes "ab"; first = 1 }) (span_of Primary 3 3 ∷ []))
+    ≡ Some (record { line = 1; column = Some 4 })
 unfolding span_of place_of location_of start_location end_location locations_of steps_after_text line_of start_of char_width unicode_width lib.Utf8.encode
 after_the_end = refl
 
 -- the least column on the line, in whichever order the spans are given
-least_of_two : primary_place (annotated_lines true (record { text = codes "abc"; first = 7 }) (span_of Context 2 3 ∷ span_of Context 1 2 ∷ [])) ≡ Some (record { line = 7; column = Some 2 })
+least_of_two : primary_place (annotated_lines true (record { text = codes "abc"; first = 7 }) (span_of Context 2 3 ∷ span_of Context 1 2 ∷ []))
+    ≡ Some (record { line = 7; column = Some 2 })
 unfolding span_of place_of location_of start_location end_location locations_of steps_after_text line_of start_of char_width unicode_width lib.Utf8.encode
 least_of_two = refl
 
 -- of a snippet that isn't primary the first span given on the line
-first_of_two : secondary_place (annotated_lines true (record { text = codes "abc"; first = 7 }) (span_of Context 2 3 ∷ span_of Context 1 2 ∷ [])) ≡ Some (record { line = 7; column = Some 3 })
+first_of_two : secondary_place (annotated_lines true (record { text = codes "abc"; first = 7 }) (span_of Context 2 3 ∷ span_of Context 1 2 ∷ []))
+    ≡ Some (record { line = 7; column = Some 3 })
 unfolding span_of place_of location_of start_location end_location locations_of steps_after_text line_of start_of char_width unicode_width lib.Utf8.encode
 first_of_two = refl
 
@@ -182,6 +189,7 @@ no_span_marked : primary_place (annotated_lines true (record { text = codes "a" 
 unfolding span_of place_of location_of start_location end_location locations_of steps_after_text line_of start_of char_width unicode_width lib.Utf8.encode
 no_span_marked = refl
 
-kept_line_alone : secondary_place (annotated_lines true (record { text = codes "a" ++ 10 ∷ codes "b"; first = 1 }) (span_of Visible 2 3 ∷ [])) ≡ Some (record { line = 2; column = None })
+kept_line_alone : secondary_place (annotated_lines true (record { text = codes "a" ++ 10 ∷ codes "b"; first = 1 }) (span_of Visible 2 3 ∷ []))
+    ≡ Some (record { line = 2; column = None })
 unfolding span_of place_of location_of start_location end_location locations_of steps_after_text line_of start_of char_width unicode_width lib.Utf8.encode
 kept_line_alone = refl

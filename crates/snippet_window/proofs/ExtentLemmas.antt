@@ -27,12 +27,14 @@ with_columns-push es e bar is =
 columns_of-push : (es : List LineAnnotation) (e : LineAnnotation) → is_bar e.annotation_type ≡ false
     → columns_of (es ++ e ∷ []) ≡ columns_of es ++ e.start.display ∷ e.end.display ∷ []
 columns_of-push es e not_bar =
-    ap (flat_map (λ (x : LineAnnotation). x.start.display ∷ x.end.display ∷ [])) (with_columns-push es e false not_bar) ∙ flat_map-append (λ (x : LineAnnotation). x.start.display ∷ x.end.display ∷ []) (with_columns es) (e ∷ [])
+    ap (flat_map (λ (x : LineAnnotation). x.start.display ∷ x.end.display ∷ [])) (with_columns-push es e false not_bar)
+    ∙ flat_map-append (λ (x : LineAnnotation). x.start.display ∷ x.end.display ∷ []) (with_columns es) (e ∷ [])
 
 ends_of-push : (es : List LineAnnotation) (e : LineAnnotation) → is_bar e.annotation_type ≡ false
     → ends_of (es ++ e ∷ []) ≡ ends_of es ++ end_with e.end.display (option_copied e.label) ∷ []
 ends_of-push es e not_bar =
-    ap (map (λ (x : LineAnnotation). end_with x.end.display (option_copied x.label))) (with_columns-push es e false not_bar) ∙ map-append (λ (x : LineAnnotation). end_with x.end.display (option_copied x.label)) (with_columns es) (e ∷ [])
+    ap (map (λ (x : LineAnnotation). end_with x.end.display (option_copied x.label))) (with_columns-push es e false not_bar)
+    ∙ map-append (λ (x : LineAnnotation). end_with x.end.display (option_copied x.label)) (with_columns es) (e ∷ [])
 
 -- a bar takes no part
 with_columns-push_bar : (es : List LineAnnotation) (e : LineAnnotation) → is_bar e.annotation_type ≡ true → with_columns (es ++ e ∷ []) ≡ with_columns es
@@ -46,7 +48,8 @@ bar_added es e x bar reaches =
     record {
       first = reaches.first ∙ ap (λ (ys : List LineAnnotation). least (flat_map (λ (y : LineAnnotation). y.start.display ∷ y.end.display ∷ []) ys)) same;
       last = reaches.last ∙ ap (λ (ys : List LineAnnotation). greatest (flat_map (λ (y : LineAnnotation). y.start.display ∷ y.end.display ∷ []) ys)) same;
-      label_end = reaches.label_end ∙ ap (λ (ys : List LineAnnotation). greatest (map (λ (y : LineAnnotation). end_with y.end.display (option_copied y.label)) ys)) same;
+      label_end = reaches.label_end ∙ ap (λ (ys : List LineAnnotation). greatest
+          (map (λ (y : LineAnnotation). end_with y.end.display (option_copied y.label)) ys)) same;
     }
 
 -- another entry is taken in
@@ -60,8 +63,10 @@ entry_added es e x y once not_bar reaches first twice last end =
       first = twice ∙ ap (λ (o : Option ℕ). Some (option_map_or (λ n. min n e.end.display) o e.end.display))
           (first ∙ ap (λ (o : Option ℕ). Some (option_map_or (λ n. min n e.start.display) o e.start.display)) reaches.first)
           ∙ sym (least-push_two (columns_of es) e.start.display e.end.display) ∙ ap least (sym columns);
-      last = last ∙ ap (λ n. max (max n e.start.display) e.end.display) reaches.last ∙ sym (greatest-push_two (columns_of es) e.start.display e.end.display) ∙ ap greatest (sym columns);
-      label_end = end ∙ ap (λ n. max n (end_with e.end.display (option_copied e.label))) reaches.label_end ∙ sym (greatest-push (ends_of es) (end_with e.end.display (option_copied e.label))) ∙ ap greatest (sym (ends_of-push es e not_bar));
+      last = last ∙ ap (λ n. max (max n e.start.display) e.end.display) reaches.last ∙ sym (greatest-push_two (columns_of es) e.start.display e.end.display)
+          ∙ ap greatest (sym columns);
+      label_end = end ∙ ap (λ n. max n (end_with e.end.display (option_copied e.label))) reaches.label_end
+          ∙ sym (greatest-push (ends_of es) (end_with e.end.display (option_copied e.label))) ∙ ap greatest (sym (ends_of-push es e not_bar));
     }
 
 -- the entries of one more line
@@ -95,7 +100,8 @@ line_added infos info x y reaches entries whitespace widest =
       whitespace = whitespace ∙ ap (λ (o : Option ℕ). option_map_or (λ n. Some (option_map_or (λ m. min m n) o n)) (leading_whitespace text) o)
           reaches.whitespace ∙ sym (least-push_known (whitespaces_of (line_texts infos)) (leading_whitespace text))
           ∙ ap least (sym (whitespaces_of-push (line_texts infos) text)) ∙ ap (λ ts. least (whitespaces_of ts)) (sym texts);
-      widest = widest ∙ ap (λ n. max n (width_of text)) reaches.widest ∙ sym (greatest-push (widths_of (line_texts infos)) (width_of text)) ∙ ap greatest (sym (map_push width_of (line_texts infos) text)) ∙ ap (λ ts. greatest (widths_of ts)) (sym texts);
+      widest = widest ∙ ap (λ n. max n (width_of text)) reaches.widest ∙ sym (greatest-push (widths_of (line_texts infos)) (width_of text))
+          ∙ ap greatest (sym (map_push width_of (line_texts infos) text)) ∙ ap (λ ts. greatest (widths_of ts)) (sym texts);
     }
 
 fold_max_from : (ns : List ℕ) (m : ℕ) → m ≤ fold (λ a b. max a b) m ns
@@ -122,16 +128,22 @@ starts_all P [] all = All-nil (λ (x : LineAnnotation). is_bar x.annotation_type
 starts_all P (e ∷ es) all =
     elim (cases_Bool (is_bar e.annotation_type)) [
       | inl bar ↦
-          let same : columns_of (e ∷ es) ≡ columns_of es = ap (λ b. flat_map (λ (x : LineAnnotation). x.start.display ∷ x.end.display ∷ []) (cond (not b) (e ∷ with_columns es) (with_columns es))) bar in
-          All-cons (λ (x : LineAnnotation). is_bar x.annotation_type ≡ false → P x.start.display) e es (λ not_bar. cc) (starts_all P es (subst (All P) same all))
+          let same : columns_of (e ∷ es) ≡ columns_of es = ap (λ b. flat_map (λ (x : LineAnnotation). x.start.display ∷ x.end.display ∷ [])
+          (cond (not b) (e ∷ with_columns es) (with_columns es))) bar in
+          All-cons (λ (x : LineAnnotation). is_bar x.annotation_type ≡ false → P x.start.display) e es (λ not_bar.
+          cc) (starts_all P es (subst (All P) same all))
       | inr not_bar ↦
-          let same : columns_of (e ∷ es) ≡ e.start.display ∷ e.end.display ∷ columns_of es = ap (λ b. flat_map (λ (x : LineAnnotation). x.start.display ∷ x.end.display ∷ []) (cond (not b) (e ∷ with_columns es) (with_columns es))) not_bar in
+          let same : columns_of (e ∷ es) ≡ e.start.display ∷ e.end.display ∷ columns_of es = ap (λ b.
+          flat_map (λ (x : LineAnnotation). x.start.display ∷ x.end.display ∷ []) (cond (not b) (e ∷ with_columns es) (with_columns es))) not_bar in
           let each = subst (All P) same all in
-          All-cons (λ (x : LineAnnotation). is_bar x.annotation_type ≡ false → P x.start.display) e es (λ _. All-head P e.start.display (e.end.display ∷ columns_of es) each) (starts_all P es (All-tail P e.end.display (columns_of es) (All-tail P e.start.display (e.end.display ∷ columns_of es) each)))
+          All-cons (λ (x : LineAnnotation). is_bar x.annotation_type ≡ false → P x.start.display) e es (λ _.
+          All-head P e.start.display (e.end.display ∷ columns_of es) each)
+          (starts_all P es (All-tail P e.end.display (columns_of es) (All-tail P e.start.display (e.end.display ∷ columns_of es) each)))
     ]
 
 -- what holds of each entry holds of those of each line
 pub lines_all : (Q : LineAnnotation → Type 0) (infos : List AnnotatedLineInfo) → All Q (entries_of infos) → All (λ info. All Q info.annotations.items) infos
 lines_all Q [] all = All-nil (λ (x : AnnotatedLineInfo). All Q x.annotations.items)
 lines_all Q (info ∷ infos) all =
-    All-cons (λ (x : AnnotatedLineInfo). All Q x.annotations.items) info infos (all_front Q info.annotations.items (entries_of infos) all) (lines_all Q infos (all_back Q info.annotations.items (entries_of infos) all))
+    All-cons (λ (x : AnnotatedLineInfo). All Q x.annotations.items) info infos (all_front Q info.annotations.items (entries_of infos) all)
+    (lines_all Q infos (all_back Q info.annotations.items (entries_of infos) all))

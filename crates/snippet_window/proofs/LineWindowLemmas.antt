@@ -46,8 +46,10 @@ pub reaches-next : (columns : ℕ) (cs : List ℕ) (n m at width c len w : ℕ) 
 reaches-next columns cs n m at width c len w next one less is_len is_width so_far =
     let front = ap (λ k. take k cs) one ∙ take-next cs n c next in
     let left : (columns - width) - char_width c ≡ columns - (width + w) = omega arith in
-    let goes : reaching (columns - width) (drop n cs) ≡ reaching (columns - (width + w)) (drop (n + 1) cs) + 1 = ap (reaching (columns - width)) (drop-next cs n c next) ∙ reaching-cons (columns - width) c (drop (n + 1) cs) (omega arith) ∙ ap (λ k. reaching k (drop (n + 1) cs) + 1) left in
-    let same : reaching (columns - (width + w)) (drop m cs) ≡ reaching (columns - (width + w)) (drop (n + 1) cs) = ap (λ k. reaching (columns - (width + w)) (drop k cs)) one in
+    let goes : reaching (columns - width) (drop n cs) ≡ reaching (columns - (width + w)) (drop (n + 1) cs) + 1 = ap (reaching (columns - width))
+    (drop-next cs n c next) ∙ reaching-cons (columns - width) c (drop (n + 1) cs) (omega arith) ∙ ap (λ k. reaching k (drop (n + 1) cs) + 1) left in
+    let same : reaching (columns - (width + w)) (drop m cs) ≡ reaching (columns - (width + w)) (drop (n + 1) cs) = ap (λ k.
+    reaching (columns - (width + w)) (drop k cs)) one in
     record {
       bytes = omega (arith, so_far.bytes, ap bytes_of front, bytes-push (take n cs) c, is_len);
       width_is = omega (arith, so_far.width_is, ap width_of front, width-push (take n cs) c, is_width);
@@ -91,7 +93,8 @@ pub fits_next : (columns : ℕ) (cs : List ℕ) (n m at left c len w : ℕ) → 
 fits_next columns cs n m at left c len w next one less is_len is_width so_far =
     let front = ap (λ k. take k cs) one ∙ take-next cs n c next in
     let same_left : left - char_width c ≡ left - w = omega arith in
-    let goes : fitting left (drop n cs) ≡ fitting (left - w) (drop (n + 1) cs) + 1 = ap (fitting left) (drop-next cs n c next) ∙ fitting-cons left c (drop (n + 1) cs) (omega arith) ∙ ap (λ k. fitting k (drop (n + 1) cs) + 1) same_left in
+    let goes : fitting left (drop n cs) ≡ fitting (left - w) (drop (n + 1) cs) + 1 = ap (fitting left) (drop-next cs n c next)
+    ∙ fitting-cons left c (drop (n + 1) cs) (omega arith) ∙ ap (λ k. fitting k (drop (n + 1) cs) + 1) same_left in
     let same : fitting (left - w) (drop m cs) ≡ fitting (left - w) (drop (n + 1) cs) = ap (λ k. fitting (left - w) (drop k cs)) one in
     record {
       bytes = omega (arith, so_far.bytes, ap bytes_of front, bytes-push (take n cs) c, is_len);
@@ -175,7 +178,8 @@ last_next columns cs n m width count c w next one is_width more so_far =
     record {
       width_is = omega (arith, after, ap width_of same);
       count_is = omega (arith, so_far.count_is, next.0, one);
-      rest = so_far.rest ∙ ap (reaching_last columns) (drop-next cs n c next) ∙ reaching_last-more columns c (drop (n + 1) cs) (omega (arith, after, more)) ∙ ap (reaching_last columns) (sym same);
+      rest = so_far.rest ∙ ap (reaching_last columns) (drop-next cs n c next) ∙ reaching_last-more columns c (drop (n + 1) cs) (omega (arith, after, more))
+          ∙ ap (reaching_last columns) (sym same);
     }
 
 -- a character whose passing would leave too few columns is the first of the last

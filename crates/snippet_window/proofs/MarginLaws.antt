@@ -112,23 +112,27 @@ measured_span g s a =
 pub short_span : (g : Measure) (s : Source) (a : Annotation) → is_short s.text a ≡ true → measured_span g s a ≡ measured g (single_part s a)
 short_span g s a short =
     let both = and_parts (is_marking a.kind) (is_single_line s.text a) short in
-    ap (λ b. cond (not b) [] (cond (is_single_line s.text a) (measured g (single_part s a)) (measured_long g (long_entry s a)))) both.0 ∙ ap (λ b. cond b (measured g (single_part s a)) (measured_long g (long_entry s a))) both.1
+    ap (λ b. cond (not b) [] (cond (is_single_line s.text a) (measured g (single_part s a)) (measured_long g (long_entry s a)))) both.0
+    ∙ ap (λ b. cond b (measured g (single_part s a)) (measured_long g (long_entry s a))) both.1
 
 -- what is measured of a span of several lines is measured of its entry
 pub long_span : (g : Measure) (s : Source) (a : Annotation) → is_long s.text a ≡ true → measured_span g s a ≡ measured_long g (long_entry s a)
 long_span g s a long =
     let both = and_parts (is_marking a.kind) (not (is_single_line s.text a)) long in
-    ap (λ b. cond (not b) [] (cond (is_single_line s.text a) (measured g (single_part s a)) (measured_long g (long_entry s a)))) both.0 ∙ ap (λ b. cond b (measured g (single_part s a)) (measured_long g (long_entry s a))) (not-true (is_single_line s.text a) both.1)
+    ap (λ b. cond (not b) [] (cond (is_single_line s.text a) (measured g (single_part s a)) (measured_long g (long_entry s a)))) both.0
+    ∙ ap (λ b. cond b (measured g (single_part s a)) (measured_long g (long_entry s a))) (not-true (is_single_line s.text a) both.1)
 
 -- the kind with which a span is drawn isn't measured
 drawn_start : (g : Measure) (before : List Entry) (e : Entry) (depth : ℕ) → measured g (start_part (promoted before e) depth) ≡ measured g (start_part e 0)
 drawn_start g before e depth =
-    elim (is_promoted before e) as (λ b. measured g (start_part (cond b (record e { kind = Primary }) e) depth) ≡ measured g (start_part e 0)) [ true ↦ refl | false ↦ refl ]
+    elim (is_promoted before e) as (λ b. measured g (start_part (cond b (record e { kind = Primary }) e) depth)
+    ≡ measured g (start_part e 0)) [ true ↦ refl | false ↦ refl ]
 
 drawn_end : (g : Measure) (before : List Entry) (e : Entry) (part : LineAnnotationType)
     → measured g (end_part (promoted before e) part) ≡ measured g (end_part e Singleline)
 drawn_end g before e part =
-    elim (is_promoted before e) as (λ b. measured g (end_part (cond b (record e { kind = Primary }) e) part) ≡ measured g (end_part e Singleline)) [ true ↦ refl | false ↦ refl ]
+    elim (is_promoted before e) as (λ b. measured g (end_part (cond b (record e { kind = Primary }) e) part)
+    ≡ measured g (end_part e Singleline)) [ true ↦ refl | false ↦ refl ]
 
 -- ---- what is measured of the parts is measured of the spans
 
@@ -142,10 +146,12 @@ bars_none e depth first ks p here some =
 span_part : (g : Measure) (s : Source) (before : List Entry) (depth : ℕ) (again : Bool) (e : Entry) (p : PartEntry) (c : ℕ)
     → Among (span_parts s depth again (promoted before e)) p → has_columns p ≡ true → Among (measured g p) c → Among (measured_long g e) c
 span_part g s before depth true e p c (inl same) some inside =
-    among_right (measured g (start_part e 0)) (measured g (end_part e Singleline)) c (subst (λ ns. Among ns c) (ap (measured g) (sym same) ∙ drawn_end g before e Singleline) inside)
+    among_right (measured g (start_part e 0)) (measured g (end_part e Singleline)) c
+    (subst (λ ns. Among ns c) (ap (measured g) (sym same) ∙ drawn_end g before e Singleline) inside)
 span_part g s before depth true e p c (inr later) some inside = elim later [ ]
 span_part g s before depth false e p c (inl same) some inside =
-    among_left (measured g (start_part e 0)) (measured g (end_part e Singleline)) c (subst (λ ns. Among ns c) (ap (measured g) (sym same) ∙ drawn_start g before e depth) inside)
+    among_left (measured g (start_part e 0)) (measured g (end_part e Singleline)) c
+    (subst (λ ns. Among ns c) (ap (measured g) (sym same) ∙ drawn_start g before e depth) inside)
 span_part g s before depth false e p c (inr later) some inside =
     let x = promoted before e in
     let lines = bar_lines s.text (x.start.line - s.first) (x.end.line - s.first) in
@@ -155,14 +161,16 @@ span_part g s before depth false e p c (inr later) some inside =
     ]
   where
     closing : Among (end_part (promoted before e) (MultilineEnd depth) ∷ []) p → Among (measured_long g e) c
-    closing (inl same) = among_right (measured g (start_part e 0)) (measured g (end_part e Singleline)) c (subst (λ ns. Among ns c) (ap (measured g) (sym same) ∙ drawn_end g before e (MultilineEnd depth)) inside)
+    closing (inl same) = among_right (measured g (start_part e 0)) (measured g (end_part e Singleline)) c
+        (subst (λ ns. Among ns c) (ap (measured g) (sym same) ∙ drawn_end g before e (MultilineEnd depth)) inside)
     closing (inr none) = absurd none
 
 long_part : (g : Measure) (s : Source) (places : List LongExtent) (before es : List Entry) (p : PartEntry) (c : ℕ) → Among (long_parts s places before es) p
     → has_columns p ≡ true → Among (measured g p) c → (e : Entry) × Among es e × Among (measured_long g e) c
 long_part g s places before [] p c here some inside = absurd here
 long_part g s places before (e ∷ later) p c here some inside =
-    elim (append_cases (span_parts s (depth_among places (long_place e)) (stands_among e later) (promoted before e)) (long_parts s places (before ++ e ∷ []) later) p here) [
+    elim (append_cases (span_parts s (depth_among places (long_place e)) (stands_among e later) (promoted before e))
+    (long_parts s places (before ++ e ∷ []) later) p here) [
       | inl first ↦ (e, inl refl, span_part g s before (depth_among places (long_place e)) (stands_among e later) e p c first some inside)
       | inr rest ↦ (let more = long_part g s places (before ++ e ∷ []) later p c rest some inside in (more.0, inr more.1, more.2))
     ]
@@ -171,7 +179,8 @@ long_part g s places before (e ∷ later) p c here some inside =
 long_among : (s : Source) (marks : List Annotation) (e : Entry) → Among (long_spans s marks) e
     → (a : Annotation) × Among marks a × (is_long s.text a ≡ true) × (long_entry s a ≡ e)
 long_among s marks e here =
-    let found = map_cases (long_entry s) (filter (is_long s.text) marks) e (in_order_cases stands_before (map (long_entry s) (filter (is_long s.text) marks)) e here) in
+    let found = map_cases (long_entry s) (filter (is_long s.text) marks) e
+    (in_order_cases stands_before (map (long_entry s) (filter (is_long s.text) marks)) e here) in
     let taken = filter_cases (is_long s.text) marks found.0 found.1 in
     (found.0, taken.0, taken.1, found.2)
 
@@ -182,11 +191,13 @@ made_part g s marks p c here some inside =
       | inl single ↦
           let found = map_cases (single_part s) (filter (is_short s.text) marks) p single in
           let taken = filter_cases (is_short s.text) marks found.0 found.1 in
-          among_flat_map (measured_span g s) marks found.0 c taken.0 (subst (λ ns. Among ns c) (ap (measured g) (sym found.2) ∙ sym (short_span g s found.0 taken.1)) inside)
+          among_flat_map (measured_span g s) marks found.0 c taken.0 (subst (λ ns.
+          Among ns c) (ap (measured g) (sym found.2) ∙ sym (short_span g s found.0 taken.1)) inside)
       | inr several ↦
           let part = long_part g s (long_places s marks) [] (long_spans s marks) p c several some inside in
           let found = long_among s marks part.0 part.1 in
-          among_flat_map (measured_span g s) marks found.0 c found.1 (subst (λ ns. Among ns c) (ap (measured_long g) (sym found.3) ∙ sym (long_span g s found.0 found.2)) part.2)
+          among_flat_map (measured_span g s) marks found.0 c found.1 (subst (λ ns.
+          Among ns c) (ap (measured_long g) (sym found.3) ∙ sym (long_span g s found.0 found.2)) part.2)
     ]
 
 -- the parts of the kept lines
@@ -239,13 +250,25 @@ end_there g s places before [] e here = absurd here
 end_there g s places before (d ∷ later) e (inl same) =
     let depth = depth_among places (long_place d) in
     let again = stands_among d later in
-    let found = span_end g s before depth again d in
-    (found.0, among_left (span_parts s depth again (promoted before d)) (long_parts s places (before ++ d ∷ []) later) found.0 found.1, found.2, found.3 ∙ ap (λ (x : Entry). x.end.line) same, found.4 ∙ ap (λ (x : Entry). measured g (end_part x Singleline)) same)
+    let found = span_end g s before depth again d in (
+      found.0,
+      among_left (span_parts s depth again (promoted before d)) (long_parts s places (before ++ d ∷ []) later) found.0 found.1,
+      found.2,
+      found.3
+          ∙ ap (λ (x : Entry). x.end.line) same,
+      found.4 ∙ ap (λ (x : Entry). measured g (end_part x Singleline)) same,
+    )
 end_there g s places before (d ∷ later) e (inr more) =
     let depth = depth_among places (long_place d) in
     let again = stands_among d later in
-    let found = end_there g s places (before ++ d ∷ []) later e more in
-    (found.0, among_right (span_parts s depth again (promoted before d)) (long_parts s places (before ++ d ∷ []) later) found.0 found.1, found.2, found.3, found.4)
+    let found = end_there g s places (before ++ d ∷ []) later e more in (
+      found.0,
+      among_right (span_parts s depth again (promoted before d))
+          (long_parts s places (before ++ d ∷ []) later) found.0 found.1,
+      found.2,
+      found.3,
+      found.4,
+    )
 
 -- of the spans of one place the last has a part at its start
 abbrev StandsSomewhere : Measure → Source → List LongExtent → List Entry → List Entry → Entry → Type 0
@@ -269,14 +292,27 @@ start_there g s places before (d ∷ later) e (inl same) =
     elim (cases_Bool (stands_among d later)) [
       | inl again ↦
           let next = any_cases (λ q. same_place (long_place d) (long_place q)) later again in
-          let place = and_parts (eqb d.start.byte next.0.start.byte) (eqb d.end.byte next.0.end.byte && (eqb d.start.line next.0.start.line && eqb d.end.line next.0.end.line)) next.2 in
+          let place = and_parts (eqb d.start.byte next.0.start.byte) (eqb d.end.byte next.0.end.byte
+          && (eqb d.start.line next.0.start.line && eqb d.end.line next.0.end.line)) next.2 in
           let byte : d.start.byte ≡ next.0.start.byte = eqb-true d.start.byte next.0.start.byte place.0 in
           let found = start_there g s places (before ++ d ∷ []) later next.0 next.1 in
           later_stands g s places before later d e (found.0, found.1, found.2 ∙ sym byte ∙ ap (λ (x : Entry). x.start.byte) same, found.3)
       | inr last ↦
           let p = start_part (promoted before d) depth in
-          let here : Among (span_parts s depth (stands_among d later) (promoted before d)) p = subst (λ b. Among (span_parts s depth b (promoted before d)) p) (sym last) (inl refl) in
-          (d, inl refl, ap (λ (x : Entry). x.start.byte) same, (p, among_left (span_parts s depth (stands_among d later) (promoted before d)) rest p here, refl, drawn_start_line before d, drawn_start g before d depth))
+          let here : Among (span_parts s depth (stands_among d later) (promoted before d)) p = subst (λ b.
+          Among (span_parts s depth b (promoted before d)) p) (sym last) (inl refl) in (
+            d,
+            inl refl,
+            ap (λ (x : Entry). x.start.byte) same,
+            (
+              p,
+              among_left
+                  (span_parts s depth (stands_among d later) (promoted before d)) rest p here,
+              refl,
+              drawn_start_line before d,
+              drawn_start g before d depth,
+            ),
+          )
     ]
 
 -- the lines on which a span starts and ends are kept
@@ -287,28 +323,37 @@ keeps-ends f l k x y up (inr last) = grind (arith, nat_tests)
 line_kept : (fold : Bool) (source : List ℕ) (marks : List Annotation) (a : Annotation) (k : ℕ) → Among marks a → k < length (source_lines source)
     → keeps source k a ≡ true → Among (kept_lines fold source marks) k
 line_kept fold source marks a k here within keep =
-    among_filter (λ j. not fold || list_any (keeps source j) marks) (range_with_len 0 (length (source_lines source))) k (among_range 0 (length (source_lines source)) k (omega arith) (omega arith)) (or_right (not fold) (list_any (keeps source k) marks) (any_among (keeps source k) marks a here keep))
+    among_filter (λ j. not fold || list_any (keeps source j) marks) (range_with_len 0 (length (source_lines source))) k
+    (among_range 0 (length (source_lines source)) k (omega arith) (omega arith))
+    (or_right (not fold) (list_any (keeps source k) marks) (any_among (keeps source k) marks a here keep))
 
 first_kept : (fold : Bool) (source : List ℕ) (marks : List Annotation) (a : Annotation) → a.span.start ≤ a.span.end → Among marks a
     → Among (kept_lines fold source marks) (first_line source a)
 first_kept fold source marks a ordered here =
-    let up : first_line source a ≤ last_line source a = line_of-mono (source_lines source) a.span.start a.span.end (omega (arith, line_of-within source 0)) ordered in
-    line_kept fold source marks a (first_line source a) here (line_of-within source a.span.start) (keeps-ends (first_line source a) (last_line source a) (first_line source a) _ _ up (inl refl))
+    let up : first_line source a ≤ last_line source a = line_of-mono (source_lines source) a.span.start a.span.end
+    (omega (arith, line_of-within source 0)) ordered in
+    line_kept fold source marks a (first_line source a) here (line_of-within source a.span.start)
+    (keeps-ends (first_line source a) (last_line source a) (first_line source a) _ _ up (inl refl))
 
 last_kept : (fold : Bool) (source : List ℕ) (marks : List Annotation) (a : Annotation) → a.span.start ≤ a.span.end → Among marks a
     → Among (kept_lines fold source marks) (last_line source a)
 last_kept fold source marks a ordered here =
-    let up : first_line source a ≤ last_line source a = line_of-mono (source_lines source) a.span.start a.span.end (omega (arith, line_of-within source 0)) ordered in
-    line_kept fold source marks a (last_line source a) here (line_of-within source a.span.end) (keeps-ends (first_line source a) (last_line source a) (last_line source a) _ _ up (inr refl))
+    let up : first_line source a ≤ last_line source a = line_of-mono (source_lines source) a.span.start a.span.end
+    (omega (arith, line_of-within source 0)) ordered in
+    line_kept fold source marks a (last_line source a) here (line_of-within source a.span.end)
+    (keeps-ends (first_line source a) (last_line source a) (last_line source a) _ _ up (inr refl))
 
 -- a part that stands on a kept line is measured
 part_measured : (g : Measure) (fold : Bool) (s : Source) (marks : List Annotation) (k c : ℕ) (ns : List ℕ) → Among (kept_lines fold s.text marks) k
     → Stands g (made_parts s marks) (s.first + k) ns → Among ns c → Among (measured_parts g (kept_parts fold s marks)) c
 part_measured g fold s marks k c ns kept found inside =
     let p = found.0 in
-    let on : Among (parts_on s marks k) p = among_filter (λ (q : PartEntry). eqb q.entry.start.line (s.first + k)) (made_parts s marks) p found.1 (eq-eqb p.entry.start.line (s.first + k) found.3) in
-    let here : Among (kept_parts fold s marks) p = among_flat_map (λ (l : KeptLine). l.parts) (annotated_lines fold s marks) (kept_line s marks k) p (among_map (kept_line s marks) (kept_lines fold s.text marks) k kept) on in
-    among_flat_map (measured g) (filter has_columns (kept_parts fold s marks)) p c (among_filter has_columns (kept_parts fold s marks) p here found.2) (subst (λ ms. Among ms c) (sym found.4) inside)
+    let on : Among (parts_on s marks k) p = among_filter (λ (q : PartEntry). eqb q.entry.start.line (s.first + k)) (made_parts s marks) p found.1
+    (eq-eqb p.entry.start.line (s.first + k) found.3) in
+    let here : Among (kept_parts fold s marks) p = among_flat_map (λ (l : KeptLine). l.parts) (annotated_lines fold s marks) (kept_line s marks k) p
+    (among_map (kept_line s marks) (kept_lines fold s.text marks) k kept) on in
+    among_flat_map (measured g) (filter has_columns (kept_parts fold s marks)) p c (among_filter has_columns (kept_parts fold s marks) p here found.2)
+    (subst (λ ms. Among ms c) (sym found.4) inside)
 
 same_start : (s : Source) (a b : Annotation) → a.span.start ≡ b.span.start → (long_entry s a).start ≡ (long_entry s b).start
 same_start s a b same =
@@ -316,19 +361,29 @@ same_start s a b same =
 
 long_there : (s : Source) (marks : List Annotation) (a : Annotation) → Among marks a → is_long s.text a ≡ true → Among (long_spans s marks) (long_entry s a)
 long_there s marks a here long =
-    among_in_order stands_before (map (long_entry s) (filter (is_long s.text) marks)) (long_entry s a) (among_map (long_entry s) (filter (is_long s.text) marks) a (among_filter (is_long s.text) marks a here long))
+    among_in_order stands_before (map (long_entry s) (filter (is_long s.text) marks)) (long_entry s a)
+    (among_map (long_entry s) (filter (is_long s.text) marks) a (among_filter (is_long s.text) marks a here long))
 
 made_long : (g : Measure) (s : Source) (marks : List Annotation) (line : ℕ) (ns : List ℕ)
     → Stands g (long_parts s (long_places s marks) [] (long_spans s marks)) line ns → Stands g (made_parts s marks) line ns
-made_long g s marks line ns found =
-    (found.0, among_right (map (single_part s) (filter (is_short s.text) marks)) (long_parts s (long_places s marks) [] (long_spans s marks)) found.0 found.1, found.2, found.3, found.4)
+made_long g s marks line ns found = (
+  found.0,
+  among_right (map (single_part s) (filter (is_short s.text) marks))
+      (long_parts s (long_places s marks) [] (long_spans s marks)) found.0 found.1,
+  found.2,
+  found.3,
+  found.4,
+)
 
 short_back : (g : Measure) (fold : Bool) (s : Source) (marks : List Annotation) (a : Annotation) (c : ℕ) → a.span.start ≤ a.span.end → Among marks a
     → is_short s.text a ≡ true → Among (measured g (single_part s a)) c → Among (measured_parts g (kept_parts fold s marks)) c
 short_back g fold s marks a c ordered here short inside =
     let p = single_part s a in
-    let made : Among (made_parts s marks) p = among_left (map (single_part s) (filter (is_short s.text) marks)) (long_parts s (long_places s marks) [] (long_spans s marks)) p (among_map (single_part s) (filter (is_short s.text) marks) a (among_filter (is_short s.text) marks a here short)) in
-    part_measured g fold s marks (first_line s.text a) c (measured g p) (first_kept fold s.text marks a ordered here) (p, made, refl, entry_of-line s a, refl) inside
+    let made : Among (made_parts s marks) p = among_left (map (single_part s) (filter (is_short s.text) marks))
+    (long_parts s (long_places s marks) [] (long_spans s marks)) p
+    (among_map (single_part s) (filter (is_short s.text) marks) a (among_filter (is_short s.text) marks a here short)) in
+    part_measured g fold s marks (first_line s.text a) c (measured g p) (first_kept fold s.text marks a ordered here)
+    (p, made, refl, entry_of-line s a, refl) inside
 
 start_back : (g : Measure) (fold : Bool) (s : Source) (marks : List Annotation) (a : Annotation) (c : ℕ)
     → All (λ (b : Annotation). IsSpan s.text b.span.start b.span.end) marks → Among marks a → is_long s.text a ≡ true
@@ -373,7 +428,8 @@ parts_back g fold s marks c spans here =
             short_back g fold s marks a c ordered found.1 short (subst (λ ns. Among ns c) (short_span g s a short) found.2)
         | inr some ↦
             let long : is_long s.text a ≡ true = and_from (is_marking a.kind) (not (is_single_line s.text a)) marked (ap not some) in
-            elim (append_cases (measured g (start_part (long_entry s a) 0)) (measured g (end_part (long_entry s a) Singleline)) c (subst (λ ns. Among ns c) (long_span g s a long) found.2)) [
+            elim (append_cases (measured g (start_part (long_entry s a) 0)) (measured g (end_part (long_entry s a) Singleline)) c
+            (subst (λ ns. Among ns c) (long_span g s a long) found.2)) [
               | inl start ↦ start_back g fold s marks a c spans found.1 long start
               | inr end ↦ end_back g fold s marks a c ordered found.1 long end
             ]
@@ -389,16 +445,23 @@ pub margin_of_kept : (room : ℕ) (fold : Bool) (s : Source) (marks : List Annot
 margin_of_kept room fold s marks infos kept spans =
     let es = entries_of infos in
     let texts = map (chars_at s.text) (kept_lines fold s.text marks) in
-    let same_texts : line_texts infos ≡ texts = seen_texts infos ∙ ap (map (λ (l : KeptLine). chars l.text)) kept ∙ kept_texts s marks (kept_lines fold s.text marks) in
+    let same_texts : line_texts infos ≡ texts = seen_texts infos ∙ ap (map (λ (l : KeptLine). chars l.text)) kept
+    ∙ kept_texts s marks (kept_lines fold s.text marks) in
     let same_parts : map seen_part es ≡ kept_parts fold s marks = seen_entries infos ∙ ap (flat_map (λ (l : KeptLine). l.parts)) kept in
     let all_columns : columns_of es ≡ measured_parts columns (kept_parts fold s marks) = measured_entries columns es ∙ ap (measured_parts columns) same_parts in
-    let all_ends : ends_of es ≡ measured_parts ends (kept_parts fold s marks) = single_list (λ (e : LineAnnotation). end_with e.end.display (option_copied e.label)) (with_columns es) ∙ measured_entries ends es ∙ ap (measured_parts ends) same_parts in
+    let all_ends : ends_of es ≡ measured_parts ends (kept_parts fold s marks) = single_list
+    (λ (e : LineAnnotation). end_with e.end.display (option_copied e.label)) (with_columns es) ∙ measured_entries ends es
+    ∙ ap (measured_parts ends) same_parts in
     let low : unwrap_or (least (columns_of es)) 0 ≡ unwrap_or (least (flat_map (span_columns s) marks)) 0 =
     ap (λ ns. unwrap_or (least ns) 0) all_columns
     ∙ least_same (measured_parts columns (kept_parts fold s marks)) (flat_map (span_columns s) marks) (parts_there columns fold s marks)
     (λ c. parts_back columns fold s marks c spans) in
-    let high : greatest (columns_of es) ≡ greatest (flat_map (span_columns s) marks) = ap greatest all_columns ∙ greatest_same (measured_parts columns (kept_parts fold s marks)) (flat_map (span_columns s) marks) (parts_there columns fold s marks) (λ c. parts_back columns fold s marks c spans) in
-    let after : greatest (ends_of es) ≡ greatest (flat_map (span_ends s) marks) = ap greatest all_ends ∙ greatest_same (measured_parts ends (kept_parts fold s marks)) (flat_map (span_ends s) marks) (parts_there ends fold s marks) (λ c. parts_back ends fold s marks c spans) in
+    let high : greatest (columns_of es) ≡ greatest (flat_map (span_columns s) marks) = ap greatest all_columns
+    ∙ greatest_same (measured_parts columns (kept_parts fold s marks)) (flat_map (span_columns s) marks) (parts_there columns fold s marks) (λ c.
+    parts_back columns fold s marks c spans) in
+    let after : greatest (ends_of es) ≡ greatest (flat_map (span_ends s) marks) = ap greatest all_ends
+    ∙ greatest_same (measured_parts ends (kept_parts fold s marks)) (flat_map (span_ends s) marks) (parts_there ends fold s marks) (λ c.
+    parts_back ends fold s marks c spans) in
     ap (λ ts. bounds_for room (whitespaces_of ts) (columns_of es) (ends_of es) (widths_of ts)) same_texts
     ∙ ap (λ n. margin_bounds (unwrap_or (least (whitespaces_of texts)) 0) n (greatest (columns_of es)) (greatest (ends_of es))
     room (greatest (widths_of texts))) low ∙ ap

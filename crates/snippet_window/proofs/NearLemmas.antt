@@ -68,9 +68,17 @@ reaching_width n (c ∷ cs) more =
     elim (cases_lt 0 n) [
       | inl some ↦
           let is = reaching-cons n c cs some in
-          let more_after : 0 < length (drop (reaching (n - char_width c) cs) cs) = omega (arith, more, ap (λ k. length (drop k (c ∷ cs))) is, ap length (drop-cons (reaching (n - char_width c) cs) c cs)) in
+          let more_after : 0 < length (drop (reaching (n - char_width c) cs) cs) = omega
+          (arith, more, ap (λ k. length (drop k (c ∷ cs))) is, ap length (drop-cons (reaching (n - char_width c) cs) c cs)) in
           let rest = reaching_width (n - char_width c) cs more_after in
-          omega (arith, ap (λ k. width_of (take k (c ∷ cs))) is, ap width_of (take-cons (reaching (n - char_width c) cs) c cs), width-cons c (take (reaching (n - char_width c) cs) cs), rest)
+          omega (
+            arith,
+            ap (λ k. width_of (take k (c ∷ cs))) is,
+            ap width_of (take-cons (reaching (n - char_width c) cs) c cs),
+            width-cons c
+                (take (reaching (n - char_width c) cs) cs),
+            rest,
+          )
       | inr none ↦ omega arith
     ]
 
@@ -99,7 +107,14 @@ fitting_width n [] = omega arith
 fitting_width n (c ∷ cs) =
     elim (cases_lt n (char_width c)) [
       | inl wide ↦ omega (arith, ap (λ k. width_of (take k (c ∷ cs))) (fitting-stop n c cs wide))
-      | inr fits ↦ omega (arith, ap (λ k. width_of (take k (c ∷ cs))) (fitting-cons n c cs fits), ap width_of (take-cons (fitting (n - char_width c) cs) c cs), width-cons c (take (fitting (n - char_width c) cs) cs), fitting_width (n - char_width c) cs)
+      | inr fits ↦ omega (
+        arith,
+        ap (λ k. width_of (take k (c ∷ cs))) (fitting-cons n c cs fits),
+        ap width_of
+            (take-cons (fitting (n - char_width c) cs) c cs),
+        width-cons c (take (fitting (n - char_width c) cs) cs),
+        fitting_width (n - char_width c) cs,
+      )
     ]
 
 -- what falls short of some columns fits one column less
@@ -126,7 +141,8 @@ pub near_reaching : (left skipped : ℕ) (before part after : List ℕ) → skip
     → (0 < length after → left - skipped ≤ width_of part) → reaching left (before ++ (part ++ after)) ≡ length before + reaching (left - skipped) part
 near_reaching left skipped before part after is starts reaches =
     let within : reaching (left - skipped) (part ++ after) ≡ reaching (left - skipped) part =
-    by_after (λ b. reaching (left - skipped) (part ++ b) ≡ reaching (left - skipped) part) after (ap (reaching (left - skipped)) (append-nil part)) (λ some. reaching_within (left - skipped) part after (reaches some)) in
+    by_after (λ b. reaching (left - skipped) (part ++ b) ≡ reaching (left - skipped) part) after (ap (reaching (left - skipped)) (append-nil part)) (λ some.
+    reaching_within (left - skipped) part after (reaches some)) in
     let same : left - width_of before ≡ left - skipped = omega (arith, is) in
     omega (arith, reaching_after left before (part ++ after) (λ some. omega (arith, is, starts some)), ap (λ k. reaching k (part ++ after)) same, within)
 
@@ -137,7 +153,8 @@ pub near_dropped : (left skipped : ℕ) (before part after : List ℕ) → skipp
 near_dropped left skipped before part after is starts reaches =
     let all = before ++ (part ++ after) in
     let n = reaching (left - skipped) part in
-    let front : take (reaching left all) all ≡ before ++ take n part = ap (λ k. take k all) (near_reaching left skipped before part after is starts reaches) ∙ take-append-add before (part ++ after) n ∙ ap (λ cs. before ++ cs) (take-append-le n part after (reaching_length (left - skipped) part)) in
+    let front : take (reaching left all) all ≡ before ++ take n part = ap (λ k. take k all) (near_reaching left skipped before part after is starts reaches)
+    ∙ take-append-add before (part ++ after) n ∙ ap (λ cs. before ++ cs) (take-append-le n part after (reaching_length (left - skipped) part)) in
     omega (arith, ap width_of front, sum_by-append char_width before (take n part), is)
 
 pub near_rest : (left skipped : ℕ) (before part after : List ℕ) → skipped ≡ width_of before → (0 < length before → skipped < left)
@@ -146,7 +163,8 @@ pub near_rest : (left skipped : ℕ) (before part after : List ℕ) → skipped 
 near_rest left skipped before part after is starts reaches =
     let all = before ++ (part ++ after) in
     let n = reaching (left - skipped) part in
-    ap (λ k. drop k all) (near_reaching left skipped before part after is starts reaches) ∙ drop-append-add before (part ++ after) n ∙ drop-append-le n part after (reaching_length (left - skipped) part)
+    ap (λ k. drop k all) (near_reaching left skipped before part after is starts reaches) ∙ drop-append-add before (part ++ after) n
+    ∙ drop-append-le n part after (reaching_length (left - skipped) part)
 
 -- the characters that fit after it are found in the part, if it is wider than they are
 pub near_inner : (columns reached : ℕ) (part after rest : List ℕ) → rest ≡ drop reached part ++ after
@@ -154,7 +172,8 @@ pub near_inner : (columns reached : ℕ) (part after rest : List ℕ) → rest �
     → take (fitting columns rest) rest ≡ take (fitting columns (drop reached part)) (drop reached part)
 near_inner columns reached part after rest is enough =
     let near = drop reached part in
-    let wide : width_of part ≡ width_of (take reached part) + width_of near = ap width_of (sym (take-append-drop reached part)) ∙ sum_by-append char_width (take reached part) near in
+    let wide : width_of part ≡ width_of (take reached part) + width_of near = ap width_of (sym (take-append-drop reached part))
+    ∙ sum_by-append char_width (take reached part) near in
     let found : take (fitting columns (near ++ after)) (near ++ after) ≡ take (fitting columns near) near =
     by_after (λ b. take (fitting columns (near ++ b)) (near ++ b) ≡ take (fitting columns near) near)
     after (ap (λ cs. take (fitting columns cs) cs) (append-nil near))
@@ -166,7 +185,8 @@ near_inner columns reached part after rest is enough =
 pub width_left : (n skipped width : ℕ) (cs rest : List ℕ) → width ≡ width_of cs → skipped ≡ width_of (take n cs) → rest ≡ drop n cs
     → width - skipped ≡ width_of rest
 width_left n skipped width cs rest is is_skipped is_rest =
-    let both : width_of cs ≡ width_of (take n cs) + width_of (drop n cs) = ap width_of (sym (take-append-drop n cs)) ∙ sum_by-append char_width (take n cs) (drop n cs) in
+    let both : width_of cs ≡ width_of (take n cs) + width_of (drop n cs) = ap width_of (sym (take-append-drop n cs))
+    ∙ sum_by-append char_width (take n cs) (drop n cs) in
     omega (arith, is, is_skipped, ap width_of is_rest, both)
 
 -- the part that is made so
@@ -198,7 +218,8 @@ pub window_dropped : (room left right skipped l : ℕ) (line part : List ℕ) �
     → skipped + width_of (take (reaching (l - skipped) part) part) ≡ width_of (dropped_part left line)
 window_dropped room left right skipped l line part holds is =
     let from = window_left left line in
-    let found = ap (λ xs. width_of (take (reaching from xs) xs)) holds.text_is ∙ near_dropped from skipped holds.before part holds.after holds.skipped_is holds.starts (λ some. omega (arith, holds.reaches some)) in
+    let found = ap (λ xs. width_of (take (reaching from xs) xs)) holds.text_is
+    ∙ near_dropped from skipped holds.before part holds.after holds.skipped_is holds.starts (λ some. omega (arith, holds.reaches some)) in
     ap (λ k. skipped + width_of (take (reaching (k - skipped) part) part)) is ∙ sym found
 
 -- the inner part of the near text is that of the line
@@ -209,8 +230,10 @@ window_inner room left right skipped l n line part rest inner holds is_left is_c
     let from = window_left left line in
     let columns = window_columns room left right line in
     let reached = reaching (from - skipped) part in
-    let few : width_of (take reached part) < (from - skipped) + 4 = omega (arith, near, ap (λ k. width_of (take (reaching (k - skipped) part) part)) is_left, is_left) in
-    let after = ap (λ xs. drop (reaching from xs) xs) holds.text_is ∙ near_rest from skipped holds.before part holds.after holds.skipped_is holds.starts (λ some. omega (arith, holds.reaches some)) in
+    let few : width_of (take reached part) < (from - skipped) + 4 = omega
+    (arith, near, ap (λ k. width_of (take (reaching (k - skipped) part) part)) is_left, is_left) in
+    let after = ap (λ xs. drop (reaching from xs) xs) holds.text_is
+    ∙ near_rest from skipped holds.before part holds.after holds.skipped_is holds.starts (λ some. omega (arith, holds.reaches some)) in
     let found = near_inner columns reached part holds.after (drop (reaching from line) line) after (λ some. omega (arith, holds.reaches some, few)) in
     let here = is_rest ∙ ap (λ k. drop (reaching (k - skipped) part) part) is_left in
     is_inner ∙ ap (λ k. take (fitting k rest) rest) is_columns ∙ ap (λ xs. take (fitting columns xs) xs) here ∙ sym found
@@ -221,16 +244,19 @@ pub end_some : (room left right end : ℕ) (start : Option ℕ) (placeholder lin
     → shown ≡ uncovered_part left placeholder inner → end ≡ (unwrap_or start 0 + length shown) - reaching_last (width_of placeholder) inner
     → Some end ≡ covered_end room left right placeholder line
 end_some room left right end start placeholder line inner shown is_inner cut is_start is_shown is_end =
-    let at : List ℕ → ℕ = λ i. (unwrap_or (covered_columns left placeholder i) 0 + length (uncovered_part left placeholder i)) - reaching_last (width_of placeholder) i in
+    let at : List ℕ → ℕ = λ i. (unwrap_or (covered_columns left placeholder i) 0 + length (uncovered_part left placeholder i)) - reaching_last
+    (width_of placeholder) i in
     let cut_off : nat_lt (window_right room left right line) (width_of line) ≡ true = grind (arith, nat_tests, cut) in
-    let value = is_end ∙ ap (λ (s : Option ℕ). (unwrap_or s 0 + length shown) - reaching_last (width_of placeholder) inner) is_start ∙ ap (λ t. (unwrap_or (covered_columns left placeholder inner) 0 + length t) - reaching_last (width_of placeholder) inner) is_shown ∙ ap at is_inner in
+    let value = is_end ∙ ap (λ (s : Option ℕ). (unwrap_or s 0 + length shown) - reaching_last (width_of placeholder) inner) is_start
+    ∙ ap (λ t. (unwrap_or (covered_columns left placeholder inner) 0 + length t) - reaching_last (width_of placeholder) inner) is_shown ∙ ap at is_inner in
     ap Some value ∙ sym (ap (λ b. cond b (Some (at (inner_part room left right line))) None) cut_off)
 
 -- a line that ends within the window isn't covered at its end
 pub end_none : (room left right : ℕ) (placeholder line : List ℕ) → width_of line ≤ window_right room left right line
     → None ≡ covered_end room left right placeholder line
 end_none room left right placeholder line uncut =
-    let at : List ℕ → ℕ = λ i. (unwrap_or (covered_columns left placeholder i) 0 + length (uncovered_part left placeholder i)) - reaching_last (width_of placeholder) i in
+    let at : List ℕ → ℕ = λ i. (unwrap_or (covered_columns left placeholder i) 0 + length (uncovered_part left placeholder i)) - reaching_last
+    (width_of placeholder) i in
     let whole : nat_lt (window_right room left right line) (width_of line) ≡ false = grind (arith, nat_tests, uncut) in
     sym (ap (λ b. cond b (Some (at (inner_part room left right line))) None) whole)
 

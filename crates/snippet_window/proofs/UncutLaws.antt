@@ -44,7 +44,8 @@ unmarked_none : (s : Source) (marks : List Annotation) → list_all (λ (a : Ann
 unmarked_none s [] all = refl
 unmarked_none s (a ∷ marks) all =
     let both = and_parts (not (is_marking a.kind)) (list_all (λ (b : Annotation). not (is_marking b.kind)) marks) all in
-    ap (λ b. cond b [] (cond (is_single_line s.text a) (measured columns (single_part s a)) (measured_long columns (long_entry s a))) ++ flat_map (span_columns s) marks) both.0 ∙ unmarked_none s marks both.1
+    ap (λ b. cond b [] (cond (is_single_line s.text a) (measured columns (single_part s a)) (measured_long columns (long_entry s a)))
+    ++ flat_map (span_columns s) marks) both.0 ∙ unmarked_none s marks both.1
 
 -- the column at which a span of several lines ends doesn't depend on the number of the first line
 same_lines : (f a b : ℕ) → eqb (f + a) (f + b) ≡ eqb (0 + a) (0 + b)
@@ -54,11 +55,13 @@ end_display : (s : Source) (start end : ℕ) → (end_location s start end).disp
 unfolding end_location location_of place_of
 end_display s start end =
     let ls = source_lines s.text in
-    ap (λ b. width_of (chars (prefix_at ls (line_of ls end) end)) + cond b 0 (steps_after_text s.text end)) (same_lines s.first (line_of ls start) (line_of ls end))
+    ap (λ b. width_of (chars (prefix_at ls (line_of ls end) end)) + cond b 0 (steps_after_text s.text end))
+    (same_lines s.first (line_of ls start) (line_of ls end))
 
 end_mark : (s : Source) (a : Annotation) → is_single_line s.text a ≡ false → (long_entry s a).end.display - 1 ≡ end_mark_column s.text a
 end_mark s a several =
-    let apart : a.span.start ≡ a.span.end → ⊥ = λ same. eqb-false (last_line s.text a) (first_line s.text a) several (ap (line_of (source_lines s.text)) (sym same)) in
+    let apart : a.span.start ≡ a.span.end → ⊥ = λ same. eqb-false (last_line s.text a) (first_line s.text a) several
+    (ap (line_of (source_lines s.text)) (sym same)) in
     ap (λ (l : Loc). l.display - 1) (locations_of-end s a.span.start a.span.end apart) ∙ ap (λ n. n - 1) (end_display s a.span.start a.span.end)
 
 -- the first column of a span, and that of the mark at the end of one of several lines
@@ -66,13 +69,16 @@ start_among : (s : Source) (a : Annotation) → is_marking a.kind ≡ true → A
 start_among s a marked =
     let start : (long_entry s a).start.display ≡ start_column s.text a = start_column-from s a (locations_of s a.span.start a.span.end) refl in
     elim (cases_Bool (is_single_line s.text a)) [
-      | inl one ↦ subst (λ ns. Among ns (start_column s.text a)) (sym (short_span columns s a (and_from (is_marking a.kind) (is_single_line s.text a) marked one))) (inl start)
-      | inr some ↦ subst (λ ns. Among ns (start_column s.text a)) (sym (long_span columns s a (and_from (is_marking a.kind) (not (is_single_line s.text a)) marked (ap not some)))) (inl start)
+      | inl one ↦ subst (λ ns. Among ns (start_column s.text a)) (sym
+          (short_span columns s a (and_from (is_marking a.kind) (is_single_line s.text a) marked one))) (inl start)
+      | inr some ↦ subst (λ ns. Among ns (start_column s.text a)) (sym
+          (long_span columns s a (and_from (is_marking a.kind) (not (is_single_line s.text a)) marked (ap not some)))) (inl start)
     ]
 
 end_among : (s : Source) (a : Annotation) → is_marking a.kind ≡ true → is_single_line s.text a ≡ false → Among (span_columns s a) (end_mark_column s.text a)
 end_among s a marked some =
-    subst (λ ns. Among ns (end_mark_column s.text a)) (sym (long_span columns s a (and_from (is_marking a.kind) (not (is_single_line s.text a)) marked (ap not some)))) (inr (inr (inl (end_mark s a some))))
+    subst (λ ns. Among ns (end_mark_column s.text a)) (sym (long_span columns s a
+    (and_from (is_marking a.kind) (not (is_single_line s.text a)) marked (ap not some)))) (inr (inr (inl (end_mark s a some))))
 
 near_span : (s : Source) (marks : List Annotation) → list_any (is_near_span s.text) marks ≡ true → unwrap_or (least (flat_map (span_columns s) marks)) 0 ≤ 26
 near_span s marks any =
@@ -83,10 +89,20 @@ near_span s marks any =
     let closes : Bool = leb (end_mark_column s.text a) 26 in
     let both = and_parts (is_marking a.kind) (starts || (not (is_single_line s.text a) && closes)) found.2 in
     elim (or_cases starts (not (is_single_line s.text a) && closes) both.1) [
-      | inl start ↦ omega (arith, leb-true (start_column s.text a) 26 start, least_le all (start_column s.text a) (among_flat_map (span_columns s) marks a (start_column s.text a) found.1 (start_among s a both.0)))
+      | inl start ↦ omega (
+        arith,
+        leb-true (start_column s.text a) 26 start,
+        least_le all (start_column s.text a)
+            (among_flat_map (span_columns s) marks a (start_column s.text a) found.1 (start_among s a both.0)),
+      )
       | inr end ↦
           let parts = and_parts (not (is_single_line s.text a)) closes end in
-          omega (arith, leb-true (end_mark_column s.text a) 26 parts.1, least_le all (end_mark_column s.text a) (among_flat_map (span_columns s) marks a (end_mark_column s.text a) found.1 (end_among s a both.0 (not-true (is_single_line s.text a) parts.0))))
+          omega (
+            arith,
+            leb-true (end_mark_column s.text a) 26 parts.1,
+            least_le all (end_mark_column s.text a)
+                (among_flat_map (span_columns s) marks a (end_mark_column s.text a) found.1 (end_among s a both.0 (not-true (is_single_line s.text a) parts.0))),
+          )
     ]
 
 near_line : (source ks : List ℕ) → list_any (λ k. is_near (leading_whitespace (chars_at source k))) ks ≡ true
@@ -94,7 +110,13 @@ near_line : (source ks : List ℕ) → list_any (λ k. is_near (leading_whitespa
 near_line source ks any =
     let found = any_cases (λ k. is_near (leading_whitespace (chars_at source k))) ks any in
     let near = near_some (leading_whitespace (chars_at source found.0)) found.2 in
-    omega (arith, near.2, least_le (whitespaces_of (map (chars_at source) ks)) near.0 (among_filter_map leading_whitespace (map (chars_at source) ks) (chars_at source found.0) near.0 (among_map (chars_at source) ks found.0 found.1) near.1))
+    omega (
+      arith,
+      near.2,
+      least_le (whitespaces_of (map (chars_at source) ks)) near.0
+          (among_filter_map leading_whitespace (map (chars_at source) ks) (chars_at source found.0) near.0
+          (among_map (chars_at source) ks found.0 found.1) near.1),
+    )
 
 near_left : (s : Source) (marks : List Annotation) (ks : List ℕ) → is_near_left s.text ks marks ≡ true
     → min (unwrap_or (least (whitespaces_of (map (chars_at s.text) ks))) 0) (unwrap_or (least (flat_map (span_columns s) marks)) 0) ≤ 26
@@ -142,11 +164,18 @@ margin_whole room placeholder_width fold s marks k whole =
     let fits = and_parts here fit known.0 in
     let texts = map (chars_at s.text) kept in
     let widest : greatest (widths_of texts) ≤ room = greatest_most (widths_of texts) room (each fits.1) in
-    margin_near _ _ (greatest (flat_map (span_columns s) marks)) (greatest (flat_map (span_ends s) marks)) room (greatest (widths_of texts)) (near_left s marks kept known.1) widest
+    margin_near _ _ (greatest (flat_map (span_columns s) marks)) (greatest (flat_map (span_ends s) marks)) room (greatest (widths_of texts))
+    (near_left s marks kept known.1) widest
   where
     each : list_all (λ j. leb (width_of (chars_at s.text j)) room) (kept_lines fold s.text marks) ≡ true → (n : ℕ)
         → Among (widths_of (map (chars_at s.text) (kept_lines fold s.text marks))) n → n ≤ room
     each all n among =
         let text = map_cases width_of (map (chars_at s.text) (kept_lines fold s.text marks)) n among in
         let line = map_cases (chars_at s.text) (kept_lines fold s.text marks) text.0 text.1 in
-        omega (arith, text.2, ap width_of line.2, leb-true (width_of (chars_at s.text line.0)) room (all_pass (λ j. leb (width_of (chars_at s.text j)) room) (kept_lines fold s.text marks) line.0 all line.1))
+        omega (
+          arith,
+          text.2,
+          ap width_of line.2,
+          leb-true (width_of (chars_at s.text line.0)) room
+              (all_pass (λ j. leb (width_of (chars_at s.text j)) room) (kept_lines fold s.text marks) line.0 all line.1),
+        )

@@ -8,9 +8,11 @@ use Rattle.snippet_window.specs.Window.{leading_whitespace, whitespace_width}
 
 -- what stands from a character on
 leading-drop : (cs : List ℕ) (n c : ℕ) → (n < length cs) × (c ≡ get_or cs n c)
-    → leading_whitespace (drop n cs) ≡ cond (is_whitespace c) (option_map (λ columns. whitespace_width c + columns) (leading_whitespace (drop (n + 1) cs))) (Some 0)
+    → leading_whitespace (drop n cs) ≡ cond (is_whitespace c) (option_map (λ columns. whitespace_width c + columns) (leading_whitespace (drop (n + 1) cs)))
+    (Some 0)
 leading-drop cs n c at =
-    at_drop_more leading_whitespace cs n c at.0 ∙ ap (λ x. cond (is_whitespace x) (option_map (λ columns. whitespace_width x + columns) (leading_whitespace (drop (n + 1) cs))) (Some 0)) (sym at.1)
+    at_drop_more leading_whitespace cs n c at.0 ∙ ap (λ x. cond (is_whitespace x)
+    (option_map (λ columns. whitespace_width x + columns) (leading_whitespace (drop (n + 1) cs))) (Some 0)) (sym at.1)
 
 -- two sums after another are one
 twice : (a b : ℕ) (o : Option ℕ) → option_map (λ n. a + n) (option_map (λ n. b + n) o) ≡ option_map (λ n. (a + b) + n) o
@@ -32,10 +34,13 @@ leading-more cs n c columns more at blank is before =
 pub leading-found : (cs : List ℕ) (n c columns : ℕ) → (n < length cs) × (c ≡ get_or cs n c) → is_whitespace c ≡ false
     → option_map (λ k. columns + k) (leading_whitespace (drop n cs)) ≡ leading_whitespace cs → Some columns ≡ leading_whitespace cs
 leading-found cs n c columns at other before =
-    ap Some (sym (add-zero columns)) ∙ ap (λ (o : Option ℕ). option_map (λ k. columns + k) o) (sym (leading-drop cs n c at ∙ ap (λ b. cond b (option_map (λ k. whitespace_width c + k) (leading_whitespace (drop (n + 1) cs))) (Some 0)) other)) ∙ before
+    ap Some (sym (add-zero columns)) ∙ ap (λ (o : Option ℕ). option_map (λ k. columns + k) o)
+    (sym (leading-drop cs n c at ∙ ap (λ b. cond b (option_map (λ k. whitespace_width c + k) (leading_whitespace (drop (n + 1) cs))) (Some 0)) other))
+    ∙ before
 
 -- a line of nothing else is blank
 pub leading-blank : (cs : List ℕ) (n columns : ℕ) → length cs ≡ n → option_map (λ k. columns + k) (leading_whitespace (drop n cs)) ≡ leading_whitespace cs
     → None ≡ leading_whitespace cs
 leading-blank cs n columns all before =
-    sym (ap (λ (o : Option ℕ). option_map (λ k. columns + k) o) (ap (λ k. leading_whitespace (drop k cs)) (sym all) ∙ ap leading_whitespace (drop_all (length cs) cs (le_refl (length cs))))) ∙ before
+    sym (ap (λ (o : Option ℕ). option_map (λ k. columns + k) o) (ap (λ k. leading_whitespace (drop k cs)) (sym all)
+    ∙ ap leading_whitespace (drop_all (length cs) cs (le_refl (length cs))))) ∙ before

@@ -74,14 +74,16 @@ span_columns source a =
     let at = locations_of source a.span.start a.span.end in
     let start = at.0.display in
     let end = at.1.display in
-    if not (is_marking a.kind) then [] else (if is_single_line source.text a then start ∷ (widened at.0 at.1).display ∷ [] else start ∷ (start + 1) ∷ (end - 1) ∷ end ∷ [])
+    if not (is_marking a.kind) then [] else (if is_single_line source.text a then start ∷ (widened at.0 at.1).display ∷ [] else start ∷ (start + 1) ∷
+    (end - 1) ∷ end ∷ [])
 
 -- the columns after a span's marks: that of its last one with its label
 abbrev pub span_ends : Source → Annotation → List ℕ
 span_ends source a =
     let at = locations_of source a.span.start a.span.end in
     let label = option_map cow_str_bytes a.label in
-    if not (is_marking a.kind) then [] else (if is_single_line source.text a then end_with (widened at.0 at.1).display label ∷ [] else (at.0.display + 1) ∷ end_with at.1.display label ∷ [])
+    if not (is_marking a.kind) then [] else (if is_single_line source.text a then end_with (widened at.0 at.1).display label ∷ [] else
+    (at.0.display + 1) ∷ end_with at.1.display label ∷ [])
 
 -- the bounds of the window of a snippet: of the lines that are kept, and of all spans
 abbrev pub margin_of : ℕ → Bool → Source → List Annotation → Bounds

@@ -138,11 +138,13 @@ is_near_span source a =
 -- columns, or a span does, or none is marked
 abbrev pub is_near_left : List ℕ → List ℕ → List Annotation → Bool
 is_near_left source kept marks =
-    list_all (λ k. is_none (leading_whitespace (chars_at source k))) kept || list_any (λ k. is_near (leading_whitespace (chars_at source k))) kept || list_any (is_near_span source) marks || list_all (λ a. not (is_marking a.kind)) marks
+    list_all (λ k. is_none (leading_whitespace (chars_at source k))) kept || list_any (λ k. is_near (leading_whitespace (chars_at source k))) kept
+    || list_any (is_near_span source) marks || list_all (λ a. not (is_marking a.kind)) marks
 
 -- whether line k stands whole, in a room of so many columns: it and all lines that are kept fit the room, nothing is
 -- cut from the left, and no span on the line is wide
 abbrev pub stands_whole : ℕ → ℕ → Bool → List ℕ → List Annotation → ℕ → Bool
 stands_whole room placeholder_width fold source marks k =
     let kept = kept_lines fold source marks in
-    nat_le (width_of (chars_at source k)) room && list_all (λ j. nat_le (width_of (chars_at source j)) room) kept && is_near_left source kept marks && list_all (λ a. not (is_marked_on source k a && is_wide room placeholder_width source a)) marks
+    nat_le (width_of (chars_at source k)) room && list_all (λ j. nat_le (width_of (chars_at source j)) room) kept && is_near_left source kept marks
+    && list_all (λ a. not (is_marked_on source k a && is_wide room placeholder_width source a)) marks

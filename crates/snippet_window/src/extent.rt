@@ -18,7 +18,8 @@ use snippet_parts::least::{lesser, lesser_of};
 use snippet_parts::shown_line::ShownLine;
 use snippet_text::str_width;
 
-/// The margin for the lines of a snippet, in a room of this many columns: that of the lines that are kept. Bars take no part.
+/// The margin for the lines of a snippet, in a room of this many columns: that of the lines that are kept. Bars take no
+/// part.
 pub fn margin_for(lines: &[ShownLine], room: usize) -> Margin
     requires texts { All (λ line. TextFits line.info.line.now) lines.now }
     requires labels { All (λ line. All (λ e. IfSome e.label (λ t. TextFits t.now)) line.info.annotations.items)
@@ -88,7 +89,12 @@ impl Extent {
         requires label { IfSome entry.now.label (λ t. TextFits t.now) }
         ensures adds { (before : List LineAnnotation) → ReachesEntries before self.old
             → ReachesEntries (before ++ entry.now ∷ []) self.new }
-        ensures lines { self.new ≡ record self.old { first = self.new.first; last = self.new.last; label_end = self.new.label_end } }
+        ensures lines { self.new ≡ record self.old {
+          first = self.new.first;
+          last = self.new.last;
+          label_end =
+              self.new.label_end;
+        } }
     {
         if is_bar(entry.annotation_type) {
             return;

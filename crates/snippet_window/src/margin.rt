@@ -89,7 +89,8 @@ impl Margin {
         Margin::between(left, left.saturating_add(term_width), term_width)
     }
 
-    /// Whether lines are cut on the left: their first columns are dropped, and a placeholder stands in place of the next.
+    /// Whether lines are cut on the left: their first columns are dropped, and a placeholder stands in place of the
+    /// next.
     pub fn was_cut_left(&self) -> bool
         ensures value { result ≡ nat_lt 0 (bounds_of self.now).left }
     {
@@ -103,11 +104,12 @@ impl Margin {
         self.computed_left.min(line_len)
     }
 
-    /// The column after the last one that is shown of a line of this width: its end where the room holds the line from the
-    /// left bound on.
+    /// The column after the last one that is shown of a line of this width: its end where the room holds the line from
+    /// the left bound on.
     pub fn right(&self, line_len: usize) -> usize
         ensures value { let bounds = bounds_of self.now in
-            result ≡ (if nat_le (line_len - bounds.left) self.now.term_width then line_len else min line_len bounds.right) }
+            result ≡ (if nat_le (line_len - bounds.left) self.now.term_width then line_len else min line_len
+            bounds.right) }
         ensures ordered { let bounds = bounds_of self.now in
             bounds.left ≤ bounds.right → min bounds.left line_len ≤ result }
     {

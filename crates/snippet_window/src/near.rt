@@ -28,8 +28,8 @@ pub struct NearPart<'a> {
     pub text: &'a str,
 }
 
-/// The part of a line of this width, in columns, that holds the line's window between the bounds of a margin: it is at most
-/// a few characters longer than the window.
+/// The part of a line of this width, in columns, that holds the line's window between the bounds of a margin: it is at
+/// most a few characters longer than the window.
 pub fn near_part<'a>(margin: Margin, line: &'a str, width: usize) -> NearPart<'a>
     requires width { width ≡ width_of (chars line.now) }
     requires narrow { IsTextWidth width }
@@ -39,7 +39,8 @@ pub fn near_part<'a>(margin: Margin, line: &'a str, width: usize) -> NearPart<'a
     ensures short { length result.text.now ≤ length line.now }
     // Little of the line is kept beside the window.
     ensures few { let bounds = bounds_of margin in
-        width_of (chars result.text.now) < window_columns margin.term_width bounds.left bounds.right (chars line.now) + 12 }
+        width_of (chars result.text.now) < window_columns margin.term_width bounds.left bounds.right
+        (chars line.now) + 12 }
 {
     let left = margin.left(width);
     let columns = margin.right(width).saturating_sub(left);

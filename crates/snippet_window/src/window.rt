@@ -16,8 +16,8 @@ use snippet_text::{char_width, str_width};
 /// The most bytes that a text may have, whose width is asked for.
 const MOST_BYTES: usize = (1 << 56) - 1;
 
-/// The window of a line. It is drawn from left to right: the placeholder where lines are cut on the left, then the text,
-/// then the placeholder over the end of the text where the line is cut on the right.
+/// The window of a line. It is drawn from left to right: the placeholder where lines are cut on the left, then the
+/// text, then the placeholder over the end of the text where the line is cut on the right.
 ///
 /// ```text
 ///     ...d, e);  f(g, h...
@@ -38,8 +38,8 @@ pub struct LineWindow<'a> {
     pub end: Option<usize>,
 }
 
-/// The window of a line of this many columns, between the bounds of a margin. Of the line's normalised text `text` is the part,
-/// after `skipped` columns, that holds the window.
+/// The window of a line of this many columns, between the bounds of a margin. Of the line's normalised text `text` is
+/// the part, after `skipped` columns, that holds the window.
 pub fn window_of<'a>(
     margin: Margin,
     placeholder: &str,
@@ -59,13 +59,16 @@ pub fn window_of<'a>(
     ensures few_dropped { IsWindowColumn result.dropped }
     ensures few_start { IfSome result.start (λ start. IsTextWidth start) }
     ensures few_end { IfSome result.end (λ end. IsWindowColumn end) }
-    ensures start { (line : List ℕ) → IsPartOf margin line width skipped (chars text.now) → let bounds = bounds_of margin in
+    ensures start { (line : List ℕ) → IsPartOf margin line width skipped (chars text.now)
+        → let bounds = bounds_of margin in
         result.start ≡ covered_columns bounds.left (chars placeholder.now)
         (inner_part margin.term_width bounds.left bounds.right line) }
-    ensures text { (line : List ℕ) → IsPartOf margin line width skipped (chars text.now) → let bounds = bounds_of margin in
+    ensures text { (line : List ℕ) → IsPartOf margin line width skipped (chars text.now)
+        → let bounds = bounds_of margin in
         chars result.text.now ≡ uncovered_part bounds.left (chars placeholder.now)
         (inner_part margin.term_width bounds.left bounds.right line) }
-    ensures end { (line : List ℕ) → IsPartOf margin line width skipped (chars text.now) → let bounds = bounds_of margin in
+    ensures end { (line : List ℕ) → IsPartOf margin line width skipped (chars text.now)
+        → let bounds = bounds_of margin in
         result.end ≡ covered_end margin.term_width bounds.left bounds.right (chars placeholder.now) line }
 {
     let left = margin.left(width);
@@ -88,8 +91,8 @@ pub fn window_of<'a>(
     }
 }
 
-/// The columns of a window's first characters that give their place to a placeholder of this width, if lines are cut on the
-/// left, and what stands after them.
+/// The columns of a window's first characters that give their place to a placeholder of this width, if lines are cut on
+/// the left, and what stands after them.
 fn uncovered<'a>(margin: Margin, columns: usize, inner: &'a str) -> (Option<usize>, &'a str)
     requires few { IsColumn columns }
     ensures start { (placeholder : List ℕ) → columns ≡ width_of placeholder
@@ -176,8 +179,8 @@ fn walked_end(text: &str, columns: usize) -> (usize, usize)
     (at, columns - left)
 }
 
-/// The width of a text, if it fits in this many columns and has no more bytes than these, as most texts that fit: then no walk
-/// over its characters is needed.
+/// The width of a text, if it fits in this many columns and has no more bytes than these, as most texts that fit: then
+/// no walk over its characters is needed.
 fn whole_width(text: &str, columns: usize) -> Option<usize>
     ensures value { IfSome result (λ width. width ≡ width_of (chars text.now)) }
     ensures fits { IfSome result (λ width. width ≤ columns) }

@@ -1,5 +1,6 @@
-//! Tests of what the programs run: what no clause can say, no case of `replay`, and no line that `alloc_failures` prints. A report that a
-//! line of JSON can say is a case in `crates/replay/data/`; a call that has to be seen to succeed is made in `crates/alloc_failures/`.
+//! Tests of what the programs run: what no clause can say, no case of `replay`, and no line that `alloc_failures`
+//! prints. A report that a line of JSON can say is a case in `crates/replay/data/`; a call that has to be seen to
+//! succeed is made in `crates/alloc_failures/`.
 #![tactic(auto)]
 
 #[cfg(test)]

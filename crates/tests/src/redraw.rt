@@ -28,7 +28,8 @@ impl SourceFiles for Room {
     }
 }
 
-/// What became of an input: whether it could be read and its form is known, what was drawn, what was told, and the counts.
+/// What became of an input: whether it could be read and its form is known, what was drawn, what was told, and the
+/// counts.
 #[derive(Drop)]
 struct Drawn {
     is_whole: bool,
@@ -46,7 +47,8 @@ const ALL: Choice<'static> = Choice {
     is_quiet: false,
 };
 
-/// Draws an input into two writers, with a file `a` that holds `xy`, and answers whether its form is known, and the counts.
+/// Draws an input into two writers, with a file `a` that holds `xy`, and answers whether its form is known, and the
+/// counts.
 fn draw_into(
     alloc: Global,
     choice: Choice<'_>,
@@ -95,7 +97,9 @@ fn run_choice(alloc: Global, choice: Choice<'_>, input: &[u8]) -> Drawn {
 
 /// A place on line 9 of a file that has one line.
 const PAST_END: &[u8] =
-    b"{\"message\":\"m\",\"code\":null,\"level\":\"error\",\"spans\":[{\"file_name\":\"a\",\"line_start\":9,\"line_end\":9,\"column_start\":1,\"column_end\":2,\"is_primary\":true,\"label\":\"here\",\"text\":[]}],\"children\":[]}\n";
+    b"{\"message\":\"m\",\"code\":null,\"level\":\"error\",\"spans\":[{\"file_name\":\"a\",\"line_start\":9,\
+        \"line_end\":9,\"column_start\":1,\"column_end\":2,\"is_primary\":true,\"label\":\"here\",\"text\":[]}],\
+        \"children\":[]}\n";
 
 /// A level that there isn't, a message without a finding, a text without a level, and a line that isn't JSON.
 const FAULTY: &[u8] = b"{\"message\":\"m\",\"level\":\"loud\",\"spans\":[],\"children\":[]}
@@ -190,8 +194,14 @@ fn what_is_no_finding_passes_or_is_told(rt: HostRuntime) -> Result<(), Fail> {
 
 /// An error of cargo in a file whose name has a comma, twice, in two packages, and a warning that sums up.
 const TWICE: &[u8] =
-    b"{\"reason\":\"compiler-message\",\"package_id\":\"p\",\"message\":{\"message\":\"50% m\",\"code\":{\"code\":\"E0001\"},\"level\":\"error\",\"spans\":[{\"file_name\":\"a,b\",\"line_start\":9,\"line_end\":9,\"column_start\":1,\"column_end\":2,\"is_primary\":true,\"label\":\"here\\nand there\",\"text\":[]}],\"children\":[]}}
-{\"reason\":\"compiler-message\",\"package_id\":\"q\",\"message\":{\"message\":\"50% m\",\"code\":{\"code\":\"E0001\"},\"level\":\"error\",\"spans\":[{\"file_name\":\"a,b\",\"line_start\":9,\"line_end\":9,\"column_start\":1,\"column_end\":2,\"is_primary\":true,\"label\":\"here\\nand there\",\"text\":[]}],\"children\":[]}}
+    b"{\"reason\":\"compiler-message\",\"package_id\":\"p\",\"message\":{\"message\":\"50% m\",\
+        \"code\":{\"code\":\"E0001\"},\"level\":\"error\",\"spans\":[{\"file_name\":\"a,b\",\"line_start\":9,\
+        \"line_end\":9,\"column_start\":1,\"column_end\":2,\"is_primary\":true,\"label\":\"here\\nand there\",\
+        \"text\":[]}],\"children\":[]}}
+{\"reason\":\"compiler-message\",\"package_id\":\"q\",\"message\":{\"message\":\"50% m\",\
+        \"code\":{\"code\":\"E0001\"},\"level\":\"error\",\"spans\":[{\"file_name\":\"a,b\",\"line_start\":9,\
+        \"line_end\":9,\"column_start\":1,\"column_end\":2,\"is_primary\":true,\"label\":\"here\\nand there\",\
+        \"text\":[]}],\"children\":[]}}
 {\"message\":\"1 warning emitted\",\"code\":null,\"level\":\"warning\",\"spans\":[],\"children\":[]}
 ";
 
@@ -271,8 +281,10 @@ const TOLD: [(&[u8], &str); 6] = [
         "redraw: in: runs[0].results[0].message.id: expected a text\n",
     ),
     (
-        b"{\"runs\":[{\"results\":[{\"locations\":[{\"physicalLocation\":{\"artifactLocation\":{\"uri\":\"a\"},\"region\":{\"startLine\":0}}}]}]}]}\n",
-        "redraw: in:1: runs[0].results[0].locations[0].physicalLocation.region.startLine: expected a whole number from 1\n",
+        b"{\"runs\":[{\"results\":[{\"locations\":[\
+            {\"physicalLocation\":{\"artifactLocation\":{\"uri\":\"a\"},\"region\":{\"startLine\":0}}}]}]}]}\n",
+        "redraw: in:1: runs[0].results[0].locations[0].physicalLocation.region.startLine: expected a whole \
+            number from 1\n",
     ),
 ];
 

@@ -123,7 +123,8 @@ const ANSWERED: [(&str, &str, &str); 13] = [
     ),
     ("{\"id\": a}", "", "line 1, column 8: not valid JSON"),
     (
-        "{\"id\": \"a\", \"groups\": [{\"title\": null, \"level\": {\"kind\": \"help\"}, \"elements\": [{\"padding\": {\"x\": 1}}]}]}",
+        "{\"id\": \"a\", \"groups\": [{\"title\": null, \"level\": {\"kind\": \"help\"}, \"elements\": [\
+            {\"padding\": {\"x\": 1}}]}]}",
         "",
         "line 1: groups[0].elements[0].padding.x: unknown, expected no field",
     ),
@@ -135,7 +136,8 @@ const ANSWERED: [(&str, &str, &str); 13] = [
     (
         "{\"id\": \"a\", \"groups\": [], \"settings\": {\"term_width\": 18446744073709551616}}",
         "",
-        "line 1: settings.term_width: expected a whole number from 0 to 18446744073709551615, found 1.8446744073709552e+19",
+        "line 1: settings.term_width: expected a whole number from 0 to 18446744073709551615, found \
+            1.8446744073709552e+19",
     ),
     (
         "{\"id\": \"a\", \"groups\": [], \"settings\": {\"term_width\": 1.0}}",
@@ -148,14 +150,18 @@ const ANSWERED: [(&str, &str, &str); 13] = [
         "line 1: groups[0].level.kind: expected \"error\", \"warning\", \"info\", \"note\" or \"help\", found \"hint\"",
     ),
     (
-        "{\"id\": \"a\", \"groups\": [{\"title\": null, \"level\": {\"kind\": \"help\"}, \"elements\": [{\"padding\": {}, \"message\": {}}]}]}",
+        "{\"id\": \"a\", \"groups\": [{\"title\": null, \"level\": {\"kind\": \"help\"}, \"elements\": [\
+            {\"padding\": {}, \"message\": {}}]}]}",
         "",
-        "line 1: groups[0].elements[0]: expected an object with one of message, cause, suggestion, origin and padding, found an object of size 2",
+        "line 1: groups[0].elements[0]: expected an object with one of message, cause, suggestion, origin and \
+            padding, found an object of size 2",
     ),
     (
-        "{\"id\": \"a\", \"groups\": [{\"title\": null, \"level\": {\"kind\": \"help\"}, \"elements\": [{\"padding\": {}}, {\"cause\": {\"source\": \"\", \"annotations\": [{}]}}]}]}",
+        "{\"id\": \"a\", \"groups\": [{\"title\": null, \"level\": {\"kind\": \"help\"}, \"elements\": [\
+            {\"padding\": {}}, {\"cause\": {\"source\": \"\", \"annotations\": [{}]}}]}]}",
         "",
-        "line 1: groups[0].elements[1].cause.annotations[0].kind: missing, expected \"primary\", \"context\" or \"visible\"",
+        "line 1: groups[0].elements[1].cause.annotations[0].kind: missing, expected \"primary\", \"context\" \
+            or \"visible\"",
     ),
 ];
 
@@ -190,11 +196,20 @@ fn answers_line_by_line(rt: HostRuntime) -> Result<(), Fail> {
 }
 
 /// A report whose span is wrong in three ways, one a line.
-const WRONG_SPANS: &str =
-    r#"{"id": "a", "groups": [{"title": null, "level": {"kind": "help"}, "elements": [{"cause": {"source": "let é", "annotations": [{"kind": "primary", "start": 3, "end": 2}]}}]}]}
-{"id": "b", "groups": [{"title": null, "level": {"kind": "help"}, "elements": [{"suggestion": {"source": "let é", "patches": [{"start": 0, "end": 8, "text": ""}]}}]}]}
-{"id": "c", "groups": [{"title": null, "level": {"kind": "help"}, "elements": [{"cause": {"source": "let é", "annotations": [{"kind": "primary", "start": 5, "end": 6}]}}]}]}
-"#;
+const WRONG_SPANS: &str = concat!(
+    r#"{"id": "a", "groups": [{"title": null, "level": {"kind": "help"}, "#,
+    r#""elements": [{"cause": {"source": "let é", "annotations": [{"kind": "primary", "start": 3, "#,
+    r#""end": 2}]}}]}]}"#,
+    "\n",
+    r#"{"id": "b", "groups": [{"title": null, "level": {"kind": "help"}, "#,
+    r#""elements": [{"suggestion": {"source": "let é", "patches": [{"start": 0, "end": 8, "#,
+    r#""text": ""}]}}]}]}"#,
+    "\n",
+    r#"{"id": "c", "groups": [{"title": null, "level": {"kind": "help"}, "#,
+    r#""elements": [{"cause": {"source": "let é", "annotations": [{"kind": "primary", "start": 5, "#,
+    r#""end": 6}]}}]}]}"#,
+    "\n",
+);
 
 /// What is told of them as texts.
 const REFUSED_SPANS: &str =
@@ -384,45 +399,118 @@ fn tells_the_cases_that_differ(rt: HostRuntime) -> Result<(), Fail> {
 
 /// Worked rows of each subject and each form.
 const ROWS: &str = concat!(
-    r#"{"id": "unused-variable", "groups": [{"title": {"level": {"kind": "error"}, "text": "unused", "primary": true}, "elements": [{"cause": {"source": "let x = 1;", "annotations": [{"kind": "primary", "start": 4, "end": 5, "label": "here"}]}}]}]}
-{"id": "wide-characters", "groups": [{"title": {"level": {"kind": "error"}, "text": "e", "primary": true}, "elements": [{"cause": {"source": "\u65e5\u672c", "annotations": [{"kind": "primary", "start": 3, "end": 6}]}}]}]}
-{"id": "label-below-and-beside", "groups": [{"title": {"level": {"kind": "error"}, "text": "e", "primary": true}, "elements": [{"cause": {"source": "ab cd", "annotations": [{"kind": "context", "start": 0, "end": 2, "label": "a"}, {"kind": "primary", "start": 3, "end": 5, "label": "c"}]}}]}]}
-{"id": "block-of-three-lines", "groups": [{"title": {"level": {"kind": "error"}, "text": "e", "primary": true}, "elements": [{"cause": {"source": "a {\n b\n}", "annotations": [{"kind": "primary", "start": 0, "end": 8}]}}]}]}
-{"id": "elided-lines", "groups": [{"title": {"level": {"kind": "error"}, "text": "e", "primary": true}, "elements": [{"cause": {"source": "a\nb\nc\nd", "annotations": [{"kind": "primary", "start": 0, "end": 1}, {"kind": "context", "start": 6, "end": 7}]}}]}]}
-{"id": "replacement", "groups": [{"title": {"level": {"kind": "help"}, "text": "use this", "primary": false}, "elements": [{"suggestion": {"source": "foo", "patches": [{"start": 0, "end": 3, "text": "bar"}]}}]}]}
-{"id": "note-below-a-snippet", "groups": [{"title": {"level": {"kind": "error"}, "text": "e", "primary": true}, "elements": [{"cause": {"source": "ab", "annotations": [{"kind": "primary", "start": 0, "end": 1}]}}, {"message": {"level": {"kind": "note"}, "text": "m"}}]}]}
-{"id": "two-paths", "groups": [{"title": {"level": {"kind": "error"}, "text": "e", "primary": true}, "elements": [{"cause": {"source": "ab", "annotations": [{"kind": "primary", "start": 0, "end": 1}], "path": "a.rs"}}, "#,
-    r#"{"cause": {"source": "cd", "annotations": [{"kind": "context", "start": 0, "end": 1}], "path": "b.rs"}}]}]}
-{"id": "linked-id", "groups": [{"title": {"level": {"kind": "error"}, "text": "e", "primary": true, "id": "E1", "url": "u"}, "elements": []}], "settings": {"hyperlink": true}}
-{"id": "path-short-form", "groups": [{"title": {"level": {"kind": "error"}, "text": "unused", "primary": true}, "elements": [{"cause": {"source": "let x = 1;", "annotations": [{"kind": "primary", "start": 4, "end": 5, "label": "here"}], "path": "a.rs"}}]}], "settings": {"short_message": true}}
-{"id": "short-form-with-labels", "groups": [{"title": {"level": {"kind": "error"}, "text": "e", "primary": true}, "elements": [{"cause": {"source": "abcdef", "annotations": [{"kind": "primary", "start": 0, "end": 1, "label": "p"}, "#,
-    r#"{"kind": "primary", "start": 2, "end": 3, "label": "q"}, {"kind": "context", "start": 4, "end": 5, "label": "r"}], "path": "a.rs"}}]}], "settings": {"short_message": true}}
-{"id": "path-text-form", "groups": [{"title": {"level": {"kind": "error"}, "text": "unused", "primary": true}, "elements": [{"cause": {"source": "let x = 1;", "annotations": [{"kind": "primary", "start": 4, "end": 5, "label": "here"}], "path": "a.rs"}}]}], "settings": {"no_graphics": true}}
-{"id": "two-offers-text-form", "groups": [{"title": {"level": {"kind": "help"}, "text": "t", "primary": false}, "elements": [{"suggestion": {"source": "foo()", "patches": [{"start": 4, "end": 4, "text": "x"}]}}, "#,
-    r#"{"suggestion": {"source": "foo()", "patches": [{"start": 4, "end": 4, "text": "y"}]}}]}], "settings": {"no_graphics": true}}
-{"id": "text-form-of-two-lines", "groups": [{"title": {"level": {"kind": "error"}, "text": "e", "primary": true}, "elements": [{"cause": {"source": "f(a,\n b)", "annotations": [{"kind": "primary", "start": 1, "end": 8, "label": "x"}]}}]}], "settings": {"no_graphics": true}}
-{"id": "empty-report", "groups": []}
-"#,
+    concat!(
+        r#"{"id": "unused-variable", "groups": [{"title": {"level": {"kind": "error"}, "text": "unused", "#,
+        r#""primary": true}, "elements": [{"cause": {"source": "let x = 1;", "#,
+        r#""annotations": [{"kind": "primary", "start": 4, "end": 5, "label": "here"}]}}]}]}"#,
+        "\n",
+        r#"{"id": "wide-characters", "groups": [{"title": {"level": {"kind": "error"}, "text": "e", "#,
+        r#""primary": true}, "elements": [{"cause": {"source": "\u65e5\u672c", "#,
+        r#""annotations": [{"kind": "primary", "start": 3, "end": 6}]}}]}]}"#,
+        "\n",
+        r#"{"id": "label-below-and-beside", "groups": [{"title": {"level": {"kind": "error"}, "text": "e", "#,
+        r#""primary": true}, "elements": [{"cause": {"source": "ab cd", "annotations": [{"kind": "context", "#,
+        r#""start": 0, "end": 2, "label": "a"}, {"kind": "primary", "start": 3, "end": 5, "label": "c"}]}}]}]}"#,
+        "\n",
+        r#"{"id": "block-of-three-lines", "groups": [{"title": {"level": {"kind": "error"}, "text": "e", "#,
+        r#""primary": true}, "elements": [{"cause": {"source": "a {\n b\n}", "#,
+        r#""annotations": [{"kind": "primary", "start": 0, "end": 8}]}}]}]}"#,
+        "\n",
+        r#"{"id": "elided-lines", "groups": [{"title": {"level": {"kind": "error"}, "text": "e", "#,
+        r#""primary": true}, "elements": [{"cause": {"source": "a\nb\nc\nd", "#,
+        r#""annotations": [{"kind": "primary", "start": 0, "end": 1}, {"kind": "context", "start": 6, "#,
+        r#""end": 7}]}}]}]}"#,
+        "\n",
+        r#"{"id": "replacement", "groups": [{"title": {"level": {"kind": "help"}, "text": "use this", "#,
+        r#""primary": false}, "elements": [{"suggestion": {"source": "foo", "patches": [{"start": 0, "end": 3, "#,
+        r#""text": "bar"}]}}]}]}"#,
+        "\n",
+        r#"{"id": "note-below-a-snippet", "groups": [{"title": {"level": {"kind": "error"}, "text": "e", "#,
+        r#""primary": true}, "elements": [{"cause": {"source": "ab", "annotations": [{"kind": "primary", "#,
+        r#""start": 0, "end": 1}]}}, {"message": {"level": {"kind": "note"}, "text": "m"}}]}]}"#,
+        "\n",
+        r#"{"id": "two-paths", "groups": [{"title": {"level": {"kind": "error"}, "text": "e", "#,
+        r#""primary": true}, "elements": [{"cause": {"source": "ab", "annotations": [{"kind": "primary", "#,
+        r#""start": 0, "end": 1}], "path": "a.rs"}}, "#,
+    ),
+    concat!(
+        r#"{"cause": {"source": "cd", "annotations": [{"kind": "context", "start": 0, "end": 1}], "#,
+        r#""path": "b.rs"}}]}]}"#,
+        "\n",
+        r#"{"id": "linked-id", "groups": [{"title": {"level": {"kind": "error"}, "text": "e", "primary": true, "#,
+        r#""id": "E1", "url": "u"}, "elements": []}], "settings": {"hyperlink": true}}"#,
+        "\n",
+        r#"{"id": "path-short-form", "groups": [{"title": {"level": {"kind": "error"}, "text": "unused", "#,
+        r#""primary": true}, "elements": [{"cause": {"source": "let x = 1;", "#,
+        r#""annotations": [{"kind": "primary", "start": 4, "end": 5, "label": "here"}], "path": "a.rs"}}]}], "#,
+        r#""settings": {"short_message": true}}"#,
+        "\n",
+        r#"{"id": "short-form-with-labels", "groups": [{"title": {"level": {"kind": "error"}, "text": "e", "#,
+        r#""primary": true}, "elements": [{"cause": {"source": "abcdef", "annotations": [{"kind": "primary", "#,
+        r#""start": 0, "end": 1, "label": "p"}, "#,
+    ),
+    concat!(
+        r#"{"kind": "primary", "start": 2, "end": 3, "label": "q"}, {"kind": "context", "start": 4, "end": 5, "#,
+        r#""label": "r"}], "path": "a.rs"}}]}], "settings": {"short_message": true}}"#,
+        "\n",
+        r#"{"id": "path-text-form", "groups": [{"title": {"level": {"kind": "error"}, "text": "unused", "#,
+        r#""primary": true}, "elements": [{"cause": {"source": "let x = 1;", "#,
+        r#""annotations": [{"kind": "primary", "start": 4, "end": 5, "label": "here"}], "path": "a.rs"}}]}], "#,
+        r#""settings": {"no_graphics": true}}"#,
+        "\n",
+        r#"{"id": "two-offers-text-form", "groups": [{"title": {"level": {"kind": "help"}, "text": "t", "#,
+        r#""primary": false}, "elements": [{"suggestion": {"source": "foo()", "patches": [{"start": 4, "#,
+        r#""end": 4, "text": "x"}]}}, "#,
+    ),
+    concat!(
+        r#"{"suggestion": {"source": "foo()", "patches": [{"start": 4, "end": 4, "text": "y"}]}}]}], "#,
+        r#""settings": {"no_graphics": true}}"#,
+        "\n",
+        r#"{"id": "text-form-of-two-lines", "groups": [{"title": {"level": {"kind": "error"}, "text": "e", "#,
+        r#""primary": true}, "elements": [{"cause": {"source": "f(a,\n b)", "#,
+        r#""annotations": [{"kind": "primary", "start": 1, "end": 8, "label": "x"}]}}]}], "#,
+        r#""settings": {"no_graphics": true}}"#,
+        "\n",
+        r#"{"id": "empty-report", "groups": []}"#,
+        "\n",
+    ),
 );
 
 /// The texts that they have to give.
-const ROW_TEXTS: &str =
-    r#"{"id": "unused-variable", "ok": ["error: unused\n  |\n1 | let x = 1;\n  |     ^ here"]}
-{"id": "wide-characters", "ok": ["error: e\n  |\n1 | \u65e5\u672c\n  |   ^^"]}
-{"id": "label-below-and-beside", "ok": ["error: e\n  |\n1 | ab cd\n  | -- ^^ c\n  | |\n  | a"]}
-{"id": "block-of-three-lines", "ok": ["error: e\n  |\n1 | / a {\n2 | |  b\n3 | | }\n  | |_^"]}
-{"id": "elided-lines", "ok": ["error: e\n  |\n1 | a\n  | ^\n...\n4 | d\n  | -"]}
-{"id": "replacement", "ok": ["help: use this\n  |\n1 - foo\n1 + bar\n  |"]}
-{"id": "note-below-a-snippet", "ok": ["error: e\n  |\n1 | ab\n  | ^\n  |\n  = note: m"]}
-{"id": "two-paths", "ok": ["error: e\n --> a.rs:1:1\n  |\n1 | ab\n  | ^\n  |\n ::: b.rs:1:1\n  |\n1 | cd\n  | -"]}
-{"id": "linked-id", "ok": ["error[\u001b]8;;u\u001b\\E1\u001b]8;;\u001b\\]: e"]}
-{"id": "path-short-form", "ok": ["a.rs:1:5: error: unused: here"]}
-{"id": "short-form-with-labels", "ok": ["a.rs:1:1: error: e: p, q"]}
-{"id": "path-text-form", "ok": ["error: unused\n at a.rs:1:5: here"]}
-{"id": "two-offers-text-form", "ok": ["help: t\n option 1\n  on line 1, column 5 add: x\n option 2\n  on line 1, column 5 add: y"]}
-{"id": "text-form-of-two-lines", "ok": ["error: e\n on line 1, column 2 to line 2: x"]}
-{"id": "empty-report", "ok": [""]}
-"#;
+const ROW_TEXTS: &str = concat!(
+    r#"{"id": "unused-variable", "ok": ["error: unused\n  |\n1 | let x = 1;\n  |     ^ here"]}"#,
+    "\n",
+    r#"{"id": "wide-characters", "ok": ["error: e\n  |\n1 | \u65e5\u672c\n  |   ^^"]}"#,
+    "\n",
+    r#"{"id": "label-below-and-beside", "ok": ["error: e\n  |\n1 | ab cd\n  | -- ^^ c\n  | |\n  | a"]}"#,
+    "\n",
+    r#"{"id": "block-of-three-lines", "ok": ["error: e\n  |\n1 | / a {\n2 | |  b\n3 | | }\n  | |_^"]}"#,
+    "\n",
+    r#"{"id": "elided-lines", "ok": ["error: e\n  |\n1 | a\n  | ^\n...\n4 | d\n  | -"]}"#,
+    "\n",
+    r#"{"id": "replacement", "ok": ["help: use this\n  |\n1 - foo\n1 + bar\n  |"]}"#,
+    "\n",
+    r#"{"id": "note-below-a-snippet", "ok": ["error: e\n  |\n1 | ab\n  | ^\n  |\n  = note: m"]}"#,
+    "\n",
+    r#"{"id": "two-paths", "#,
+    r#""ok": ["error: e\n --> a.rs:1:1\n  |\n1 | ab\n  | ^\n  |\n ::: b.rs:1:1\n  |\n1 | cd\n  | -"]}"#,
+    "\n",
+    r#"{"id": "linked-id", "ok": ["error[\u001b]8;;u\u001b\\E1\u001b]8;;\u001b\\]: e"]}"#,
+    "\n",
+    r#"{"id": "path-short-form", "ok": ["a.rs:1:5: error: unused: here"]}"#,
+    "\n",
+    r#"{"id": "short-form-with-labels", "ok": ["a.rs:1:1: error: e: p, q"]}"#,
+    "\n",
+    r#"{"id": "path-text-form", "ok": ["error: unused\n at a.rs:1:5: here"]}"#,
+    "\n",
+    r#"{"id": "two-offers-text-form", "ok": ["help: t\n option 1\n  on line 1, "#,
+    r#"column 5 add: x\n option 2\n  on line 1, column 5 add: y"]}"#,
+    "\n",
+    r#"{"id": "text-form-of-two-lines", "ok": ["error: e\n on line 1, column 2 to line 2: x"]}"#,
+    "\n",
+    r#"{"id": "empty-report", "ok": [""]}"#,
+    "\n",
+);
 
 // Each row gives its text where memory is ample: a library that always answers that it is out of memory fails here.
 #[test]

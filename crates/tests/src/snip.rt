@@ -14,11 +14,15 @@ const UNICODE: &str = "error: unused\n  ╭▸ \n1 │ let x = 1;\n  ╰╴    �
 
 /// The same in colours.
 const STYLED: &str =
-    "\x1b[1m\x1b[91merror\x1b[0m\x1b[1m: unused\x1b[0m\n  \x1b[1m\x1b[94m|\x1b[0m\n\x1b[1m\x1b[94m1\x1b[0m \x1b[1m\x1b[94m|\x1b[0m let x = 1;\n  \x1b[1m\x1b[94m|\x1b[0m     \x1b[1m\x1b[91m^\x1b[0m \x1b[1m\x1b[91mhere\x1b[0m\n";
+    "\x1b[1m\x1b[91merror\x1b[0m\x1b[1m: unused\x1b[0m\n  \x1b[1m\x1b[94m|\x1b[0m\n\
+        \x1b[1m\x1b[94m1\x1b[0m \x1b[1m\x1b[94m|\x1b[0m let x = 1;\n  \x1b[1m\x1b[94m|\x1b[0m     \x1b[1m\x1b[91m\
+        ^\x1b[0m \x1b[1m\x1b[91mhere\x1b[0m\n";
 
 /// The same in both.
 const STYLED_UNICODE: &str =
-    "\x1b[1m\x1b[91merror\x1b[0m\x1b[1m: unused\x1b[0m\n \x1b[1m\x1b[94m ╭▸ \x1b[0m\n\x1b[1m\x1b[94m1\x1b[0m \x1b[1m\x1b[94m│\x1b[0m let x = 1;\n  \x1b[1m\x1b[94m╰╴\x1b[0m    \x1b[1m\x1b[91m━\x1b[0m \x1b[1m\x1b[91mhere\x1b[0m\n";
+    "\x1b[1m\x1b[91merror\x1b[0m\x1b[1m: unused\x1b[0m\n \x1b[1m\x1b[94m ╭▸ \x1b[0m\n\
+        \x1b[1m\x1b[94m1\x1b[0m \x1b[1m\x1b[94m│\x1b[0m let x = 1;\n  \x1b[1m\x1b[94m╰╴\x1b[0m    \x1b[1m\x1b[91m\
+        ━\x1b[0m \x1b[1m\x1b[91mhere\x1b[0m\n";
 
 const USAGE: &str =
     "usage: snip [--unicode] [--text] [--short] [--styled] [--width N] FILE START END TITLE [LABEL]\n";

@@ -27,7 +27,8 @@ const NO_END: &str =
 
 /// Two lines, each with a fault of its own.
 const TWO_LINES: &str =
-    "warning: trailing blanks\n --> a.rs:1:2\n  |\n1 | x  \n  |  ^^\n  |\nhelp: apply this\n  |\n1 | x\n  |\nwarning: tab\n --> a.rs:2:1\n  |\n2 |     y\n  | ^^^^\nhelp: apply this\n  |\n2 |     y\n  | ++++\n";
+    "warning: trailing blanks\n --> a.rs:1:2\n  |\n1 | x  \n  |  ^^\n  |\nhelp: apply this\n  |\n1 | x\n  |\n\
+        warning: tab\n --> a.rs:2:1\n  |\n2 |     y\n  | ^^^^\nhelp: apply this\n  |\n2 |     y\n  | ++++\n";
 
 /// All three rules find something in one line.
 const THREE_RULES: &str = concat!(
@@ -67,11 +68,15 @@ const BEFORE_CR: &str =
 
 /// Nothing but tabs, and a line feed.
 const ONLY_TABS: &str =
-    "warning: trailing blanks\n --> a.rs:1:1\n  |\n1 |         \n  | ^^^^^^^^\n  |\nhelp: apply this\n1 -         \n  |\nwarning: tab\n --> a.rs:1:1\n  |\n1 |         \n  | ^^^^^^^^\nhelp: apply this\n  |\n1 |         \n  | ++++++++\n";
+    "warning: trailing blanks\n --> a.rs:1:1\n  |\n1 |         \n  | ^^^^^^^^\n  |\nhelp: apply this\n\
+        1 -         \n  |\nwarning: tab\n --> a.rs:1:1\n  |\n1 |         \n  | ^^^^^^^^\nhelp: apply this\n  |\n\
+        1 |         \n  | ++++++++\n";
 
 /// A tab at the end of a line, which two rules find.
 const LAST_TAB: &str =
-    "warning: trailing blanks\n --> a.rs:1:2\n  |\n1 | x    \n  |  ^^^^\n  |\nhelp: apply this\n  |\n1 | x\n  |\nwarning: tab\n --> a.rs:1:2\n  |\n1 | x    \n  |  ^^^^\nhelp: apply this\n  |\n1 | x    \n  |  ++++\n";
+    "warning: trailing blanks\n --> a.rs:1:2\n  |\n1 | x    \n  |  ^^^^\n  |\nhelp: apply this\n  |\n\
+        1 | x\n  |\nwarning: tab\n --> a.rs:1:2\n  |\n1 | x    \n  |  ^^^^\nhelp: apply this\n  |\n\
+        1 | x    \n  |  ++++\n";
 
 const USAGE: &str = "usage: tidy [--log LOG] FILE\n";
 
@@ -140,7 +145,8 @@ fn status_of<W: Write, V: Write, L: Write>(
     Ok(run(alloc, &rules, words, file, out, err, log))
 }
 
-/// Whether the run does what is wanted: with LOG, `log` holds the report and a line feed, and `out` the same with codes.
+/// Whether the run does what is wanted: with LOG, `log` holds the report and a line feed, and `out` the same with
+/// codes.
 fn does(alloc: Global, wanted: Run<'_>) -> Result<bool, AllocError> {
     let (words, file, status, printed, told) = wanted;
     let mut out = Vec::new(alloc);

@@ -1,5 +1,5 @@
-//! Looks through a file by three rules: no blanks at a line's end, no tabs, and a line feed at the file's end. It prints
-//! what they find, and how to mend it; with LOG in colours, and without to LOG.
+//! Looks through a file by three rules: no blanks at a line's end, no tabs, and a line feed at the file's end. It
+//! prints what they find, and how to mend it; with LOG in colours, and without to LOG.
 //!
 //! `tidy [--log LOG] FILE`
 #![tactic(auto)]

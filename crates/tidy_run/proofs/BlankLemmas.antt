@@ -9,6 +9,7 @@ use Rattle.tidy_run.proofs.FirstLemmas.{first-none}
 pub blanks-past : (source : List ℕ) → (from : ℕ) → length source ≤ from → first_from trailing_blanks_at source from ≡ None
 blanks-past source from past =
     first-none trailing_blanks_at source from (λ i after.
-    ap (λ b. if is_blank b && not (nat_lt 0 i && is_blank (slice_index_or source (i - 1) 0)) && ends_line (drop (i + prefix_len is_blank (drop i source)) source)
+    ap (λ b. if is_blank b && not (nat_lt 0 i && is_blank (slice_index_or source (i - 1) 0))
+    && ends_line (drop (i + prefix_len is_blank (drop i source)) source)
     then Some record { start = i; end = i + prefix_len is_blank (drop i source); text = [] } else None)
     (get_or_past source i 0 (omega (arith, past, after))))

@@ -27,8 +27,10 @@ end_here source some other =
     elim (eqb_tells (slice_index_or source (length source - 1) 0) 10) [
       | inl (so, is) ↦ absurd (other is)
       | inr (so, is) ↦
-          ap (λ b. if b && nat_lt 0 (length source) && not (slice_index_or source (length source - 1) 0 == 10) then Some (missing_end (length source)) else None) (eq-eqb (length source) (length source) refl)
-          ∙ ap (λ b. if b && not (slice_index_or source (length source - 1) 0 == 10) then Some (missing_end (length source)) else None) (lt-ltb 0 (length source) some)
+          ap (λ b. if b && nat_lt 0 (length source) && not (slice_index_or source (length source - 1) 0 == 10) then Some
+          (missing_end (length source)) else None) (eq-eqb (length source) (length source) refl)
+          ∙ ap (λ b. if b && not (slice_index_or source (length source - 1) 0 == 10) then Some (missing_end (length source)) else None)
+          (lt-ltb 0 (length source) some)
           ∙ ap (λ b. if not b then Some (missing_end (length source)) else None) so
     ]
 
@@ -42,7 +44,8 @@ end_after source zero within here =
     ∙ first-here missing_end_at source (length source) (missing_end (length source)) (omega arith) here
 end_after source (suc k) within here =
     let next : length source - suc k + 1 ≡ length source - k = omega (arith, within) in
-    first-next missing_end_at source (length source - suc k) (omega arith) (end-elsewhere source (length source - suc k) (λ is. absurd (omega (arith, is, within))))
+    first-next missing_end_at source (length source - suc k) (omega arith)
+    (end-elsewhere source (length source - suc k) (λ is. absurd (omega (arith, is, within))))
     ∙ ap (first_from missing_end_at source) next
     ∙ end_after source k (omega (arith, within)) here
 

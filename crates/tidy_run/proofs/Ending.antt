@@ -48,7 +48,8 @@ clean_of_texts line None tells texts reads are none = absurd reads
 clean_of_texts line (Some source) tells texts reads are none = (source, reads, none_told line.file source (tells source) line.log texts are none)
 
 -- texts that there are tell something
-told_by : (line : Line) (file : Option (List ℕ)) (tells : List ℕ → List Told) (source : List ℕ) (told : List Told) (texts : List (List ℕ)) (shown : List ℕ) (logged : Option (List ℕ))
+told_by : (line : Line) (file : Option (List ℕ)) (tells : List ℕ → List Told) (source : List ℕ) (told : List Told) (texts : List (List ℕ)) (shown : List ℕ)
+    (logged : Option (List ℕ))
     → tells source ≡ told → AreTextsOf line.file source told (sheets_for line.log) texts → texts ≡ shown ∷ option_to_list logged → Reads line file source
     → IsReport line file tells shown logged
 told_by line file tells source [] texts shown logged same none is reads =
@@ -103,7 +104,8 @@ ends_bad_usage words file tells Out Err Log is out err log =
     }
 
 -- a run that ends in some way for a line, where the words are that line
-module _ (words : List Word) (file : Option (List ℕ)) (tells : List ℕ → List Told) (line : Line) (is : Some line ≡ line_of words) (Out Err Log : Output → Type 0) where
+module _ (words : List Word) (file : Option (List ℕ)) (tells : List ℕ → List Told) (line : Line) (is : Some line ≡ line_of words)
+    (Out Err Log : Output → Type 0) where
   of_line : (end : End) → MayEnd line file tells end → MatchOption (line_of words) (end ≡ BadUsage) (λ l. MayEnd l file tells end)
   of_line end may = subst (λ o. MatchOption o (end ≡ BadUsage) (λ l. MayEnd l file tells end)) is may
 
@@ -131,14 +133,16 @@ module _ (words : List Word) (file : Option (List ℕ)) (tells : List ℕ → Li
       → IfSome file (λ source. AreTextsOf line.file source (tells source) (sheets_for line.log) texts)
       → AreGiven line.log (λ shown. Out (Whole shown)) Log read → Err Silent → Ends words file tells 1 Out Err Log
   ends_found read texts same_texts reads are given err =
-      let (shown, logged, same, out, log) = given_texts line.log (λ shown. Out (Whole shown)) Log texts (subst (AreGiven line.log (λ shown. Out (Whole shown)) Log) same_texts given) in
+      let (shown, logged, same, out, log) = given_texts line.log (λ shown.
+      Out (Whole shown)) Log texts (subst (AreGiven line.log (λ shown. Out (Whole shown)) Log) same_texts given) in
       ends_as (Found shown logged) (report_of_texts line file tells texts shown logged reads are same) out err log
 
   pub ends_unprinted : (read texts : List (List ℕ)) → read ≡ texts → IsSomeAnd file (Reads line file)
       → IfSome file (λ source. AreTextsOf line.file source (tells source) (sheets_for line.log) texts)
       → AreGiven line.log (λ shown. Out (CutShort shown)) Log read → Err Silent → Ends words file tells 2 Out Err Log
   ends_unprinted read texts same_texts reads are given err =
-      let (shown, logged, same, out, log) = given_texts line.log (λ shown. Out (CutShort shown)) Log texts (subst (AreGiven line.log (λ shown. Out (CutShort shown)) Log) same_texts given) in
+      let (shown, logged, same, out, log) = given_texts line.log (λ shown.
+      Out (CutShort shown)) Log texts (subst (AreGiven line.log (λ shown. Out (CutShort shown)) Log) same_texts given) in
       ends_as (Unprinted shown logged) (report_of_texts line file tells texts shown logged reads are same) out err log
 
 -- a name that is shown is spelled by the characters that are shown for it

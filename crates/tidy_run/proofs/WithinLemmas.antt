@@ -97,7 +97,11 @@ group-within : (level : Level) (text : List ℕ) (trusted : Bool) (element : Ele
 group-within level text trusted element g of name fits element_fits clear =
     record {
       faultless = λ n. subst (λ es. faults_from (element_faults n) 0 es ≡ []) (sym of.elements) (ap (λ l. l ++ []) (clear n));
-      fits = (title_fits level text trusted element g of name fits, subst (All ElementFits) (sym of.elements) (All-cons ElementFits element [] element_fits (All-nil ElementFits)));
+      fits = (
+        title_fits level text trusted element g of name fits,
+        subst (All ElementFits) (sym of.elements)
+            (All-cons ElementFits element [] element_fits (All-nil ElementFits)),
+      );
     }
 
 -- a warning is within bounds

@@ -24,7 +24,8 @@ counted path source [] sheets texts none = inl none
 counted path source (t ∷ ts) sheets texts shown = inr (AllZip-long _ sheets texts shown.shows.printed)
 
 -- so it is of the texts of a file that was read
-pub counted_texts : (P : List ℕ → Type 0) (file : Option (List ℕ)) (path : List ℕ) (told : List ℕ → List Told) (sheets : List Stylesheet) (texts : List (String Global)) → IsSomeAnd file P
+pub counted_texts : (P : List ℕ → Type 0) (file : Option (List ℕ)) (path : List ℕ) (told : List ℕ → List Told) (sheets : List Stylesheet)
+    (texts : List (String Global)) → IsSomeAnd file P
     → IfSome file (λ source. AreTextsOf path source (told source) sheets (map string_bytes texts)) → (texts ≡ []) ⊎ (length texts ≡ length sheets)
 counted_texts P None path told sheets texts read shows = absurd read
 counted_texts P (Some source) path told sheets texts read shows =
@@ -39,7 +40,8 @@ AreDrawn groups sheets texts =
     TextsShown plain_settings groups sheets (map string_bytes texts.items) × AllZip (HasLaws plain_settings groups) sheets (map string_bytes texts.items)
 
 -- the texts of a report that tells all of it are what is written of that
-pub texts_of_told : (path source : List ℕ) (told : List Told) (groups : List Group) (sheets : List Stylesheet) (drawn : Result (Vec (String Global) Global) AllocError)
+pub texts_of_told : (path source : List ℕ) (told : List Told) (groups : List Group) (sheets : List Stylesheet)
+    (drawn : Result (Vec (String Global) Global) AllocError)
     → IsReportOf path source told groups → (groups ≡ [] → IfOk drawn (λ texts. texts.items ≡ []))
     → (groups ≢ [] → IfOk drawn (λ texts. TextsShown plain_settings groups sheets (map string_bytes texts.items)))
     → (groups ≢ [] → IfOk drawn (λ texts. AllZip (HasLaws plain_settings groups) sheets (map string_bytes texts.items)))

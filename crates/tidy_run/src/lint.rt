@@ -8,7 +8,8 @@ use std::alloc::{AllocError, Global};
 
 /// What a rule finds in a source.
 fn findings(alloc: Global, rule: &dyn Rule, source: &str) -> Result<Vec<Edit>, AllocError>
-    ensures value { IfOk result (λ found. map finding_of found.items ≡ findings_of (finds rule.now source.now) source.now) }
+    ensures value { IfOk result (λ found. map finding_of found.items
+        ≡ findings_of (finds rule.now source.now) source.now) }
     ensures inside { IfOk result (λ found. AreInside source.now 0 (map finding_of found.items)) }
 {
     let mut found = Vec::new(alloc);
@@ -44,7 +45,8 @@ pub fn lint(
 
 /// What a rule in a box finds in a source.
 fn box_findings(alloc: Global, rule: &Box<dyn Rule>, source: &str) -> Result<Vec<Edit>, AllocError>
-    ensures value { IfOk result (λ found. map finding_of found.items ≡ findings_of (finds rule.now source.now) source.now) }
+    ensures value { IfOk result (λ found. map finding_of found.items
+        ≡ findings_of (finds rule.now source.now) source.now) }
     ensures inside { IfOk result (λ found. AreInside source.now 0 (map finding_of found.items)) }
 {
     findings(alloc, rule.as_ref(), source)

@@ -4,7 +4,8 @@ use std::fs;
 use std::io::{self, Write};
 use std::rt::Files;
 
-/// A file that is opened when it is first written to, and made or emptied then. Where no path is given, each write fails.
+/// A file that is opened when it is first written to, and made or emptied then. Where no path is given, each write
+/// fails.
 #[derive(Drop)]
 pub struct Log<'a, R: Files> {
     rt: &'a R,

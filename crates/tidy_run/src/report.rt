@@ -109,8 +109,8 @@ fn tell<'a>(
     Ok(())
 }
 
-/// The report of what each rule found in a file: for each rule that found something a warning, which marks each finding,
-/// and the help to it, which mends them.
+/// The report of what each rule found in a file: for each rule that found something a warning, which marks each
+/// finding, and the help to it, which mends them.
 pub fn report<'a>(
     alloc: Global,
     rules: &[Box<dyn Rule>],
@@ -124,7 +124,8 @@ pub fn report<'a>(
     requires path { TextFits path.now }
     requires source { TextFits source.now }
     ensures told { IfOk result (λ groups. IsReportOf path.now source.now
-        (flat_map (λ rule. told_of (title_of rule) (findings_of (finds rule source.now) source.now)) rules.now) groups.items) }
+        (flat_map (λ rule. told_of (title_of rule) (findings_of (finds rule source.now) source.now)) rules.now)
+        groups.items) }
     ensures bounds { IfOk result (λ groups. IsWithinBounds plain_settings groups.items) }
 {
     let mut groups = Vec::new(alloc);

@@ -27,8 +27,8 @@ pub trait Rule: Drop {
         ensures value { result.now ≡ title_of self.now }
         ensures title { IsTitle result.now };
 
-    /// The first of the rule's edits whose start is at `from` or after it. An edit lies inside the source, between characters,
-    /// and takes no byte only where it stands at the source's end; its text has at most 64 bytes.
+    /// The first of the rule's edits whose start is at `from` or after it. An edit lies inside the source, between
+    /// characters, and takes no byte only where it stands at the source's end; its text has at most 64 bytes.
     fn find(&self, source: &str, from: usize) -> Option<Edit>
         ensures value { option_map finding_of result ≡ finds self.now source.now from }
         ensures finding { IfSome result (λ edit. IsFinding source.now from (finding_of edit)) };

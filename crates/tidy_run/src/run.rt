@@ -132,7 +132,8 @@ fn texts_of<'a>(
     command: &Command<'a>,
     file: Option<&'a [u8]>,
 ) -> Result<Vec<String>, Failure<'a>>
-    ensures read { IsOk result → IsSomeAnd (option_copied file.entry) (Reads (said command.now) (option_copied file.entry)) }
+    ensures read { IsOk result → IsSomeAnd (option_copied file.entry)
+        (Reads (said command.now) (option_copied file.entry)) }
     ensures shows { IfOk result (λ texts. IfSome (option_copied file.entry) (λ source.
         AreTextsOf command.now.file.now source
         (flat_map (λ rule. told_of (title_of rule) (findings_of (finds rule source) source)) rules.now)
@@ -223,9 +224,9 @@ fn tell<V: Write>(alloc: Global, failure: Failure<'_>, err: &mut V)
 
 /// Looks through a file by rules and prints what they find, as the words ask for, and answers the status to end with.
 ///
-/// `file` is what FILE holds, or `None` where it can't be read; `log` writes to LOG, and isn't written to where the words
-/// name none. The status is 0 where the rules find nothing, 1 where what they find was printed, else 2. With LOG the
-/// report is printed in colours, once it stands in LOG without. No writer is flushed.
+/// `file` is what FILE holds, or `None` where it can't be read; `log` writes to LOG, and isn't written to where the
+/// words name none. The status is 0 where the rules find nothing, 1 where what they find was printed, else 2. With LOG
+/// the report is printed in colours, once it stands in LOG without. No writer is flushed.
 ///
 /// | Status | `out` | `log` | `err` |
 /// |---|---|---|---|
@@ -233,7 +234,7 @@ fn tell<V: Write>(alloc: Global, failure: Failure<'_>, err: &mut V)
 /// | 1 | the report and a line feed more | with LOG the report and a line feed more | as it was |
 /// | 2, the words, or what was in the way of the report | as it was | as it was | a message and a line feed more |
 /// | 2, LOG couldn't be written | as it was | a first part of the report more | the same |
-/// | 2, the report couldn't be printed | a first part of it more | with LOG the report and a line feed more | as it was |
+/// | 2, printing failed | a first part of it more | with LOG the report and a line feed more | as it was |
 ///
 /// A message that couldn't be written stands there by a first part of it.
 pub fn run<W: Write, V: Write, L: Write>(
@@ -251,7 +252,8 @@ pub fn run<W: Write, V: Write, L: Write>(
     // By cases: which status, what each writer is given, and when that is so.
     ensures ends { Ends (words_at words.now) (option_copied file.entry)
         (λ source. flat_map (λ rule. told_of (title_of rule) (findings_of (finds rule source) source)) rules.now) result
-        (Receives W.contents out.old out.new) (Receives V.contents err.old err.new) (Receives L.contents log.old log.new) }
+        (Receives W.contents out.old out.new) (Receives V.contents err.old err.new)
+        (Receives L.contents log.old log.new) }
 {
     let Some(command) = command_of(words) else {
         write_line(USAGE, err);

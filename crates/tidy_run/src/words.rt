@@ -43,14 +43,16 @@ pub fn command_of<'a>(words: &[&'a str]) -> Option<Command<'a>>
 
 /// The word that names FILE; `None` where the words aren't of the form.
 pub fn file_word<'a>(words: &[&'a str]) -> Option<&'a str>
-    ensures file { option_map (λ file. file.now) result ≡ option_map (λ line. line.file) (line_of (words_at words.now)) }
+    ensures file { option_map (λ file. file.now) result
+        ≡ option_map (λ line. line.file) (line_of (words_at words.now)) }
 {
     command_of(words).map(|command| command.file)
 }
 
 /// The word that names LOG; `None` where there is none, or the words aren't of the form.
 pub fn log_word<'a>(words: &[&'a str]) -> Option<&'a str>
-    ensures log { option_map (λ log. log.now) result ≡ option_and_then (λ line. line.log) (line_of (words_at words.now)) }
+    ensures log { option_map (λ log. log.now) result ≡ option_and_then (λ line.
+        line.log) (line_of (words_at words.now)) }
 {
     command_of(words).and_then(|command| command.log)
 }

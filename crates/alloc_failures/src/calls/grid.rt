@@ -90,8 +90,8 @@ const GROWING: &[Step] = &[
     Show(0),
 ];
 
-/// Only cells that are there get another style: at first the source and the space, and the label where it is overwritten. There
-/// is no last cell, no second row, and no cell from 2 to before 1.
+/// Only cells that are there get another style: at first the source and the space, and the label where it is
+/// overwritten. There is no last cell, no second row, and no cell from 2 to before 1.
 const RESTYLED: &[Step] = &[
     Make(Putc(0, 0, 'a', SOURCE)),
     Make(Putc(0, 1, 'b', SOURCE)),
@@ -108,7 +108,8 @@ const RESTYLED: &[Step] = &[
     Show(3),
 ];
 
-/// Cells give way to a text of another length; nothing happens past the row, nor where there are no cells between the two.
+/// Cells give way to a text of another length; nothing happens past the row, nor where there are no cells between the
+/// two.
 const REPLACED: &[Step] = &[
     Make(Puts(0, 0, "abcdef", SOURCE)),
     Make(Replace(0, 1, 5, "...")),
@@ -119,8 +120,8 @@ const REPLACED: &[Step] = &[
     Show(3),
 ];
 
-/// Each call adds at most two runs, and cells of one role and link are one run: a put in the middle of a text leaves three, and
-/// dots in place of all one. A line's number gives its role up only where it is overwritten.
+/// Each call adds at most two runs, and cells of one role and link are one run: a put in the middle of a text leaves
+/// three, and dots in place of all one. A line's number gives its role up only where it is overwritten.
 const RUNS: &[Step] = &[
     Runs,
     Make(Puts(0, 0, "abc", SOURCE)),

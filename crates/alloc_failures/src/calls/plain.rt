@@ -1,4 +1,5 @@
-//! Plain rows of cells, and their text: what a grid is compared with. They share no code with it but the codes of a style.
+//! Plain rows of cells, and their text: what a grid is compared with. They share no code with it but the codes of a
+//! style.
 
 use crate::calls::grid::Call;
 use annotate_snippets::renderer::parts::{ElementStyle, LevelInner};

@@ -131,7 +131,8 @@ fn make_of_both(
     Ok(buffer.num_runs() <= before.saturating_add(most_new_runs(call)))
 }
 
-/// Whether each of some calls adds no more runs than it may, and whether the grid then holds what plain rows of cells hold.
+/// Whether each of some calls adds no more runs than it may, and whether the grid then holds what plain rows of cells
+/// hold.
 fn list(alloc: Global, numbers: &mut Numbers) -> Result<(bool, bool), AllocError> {
     let mut buffer = StyledBuffer::new(alloc);
     let mut plain = PlainGrid::new(alloc);

@@ -63,7 +63,8 @@ fn draw_cause_head(
     cause: &PreparedCause<'_>,
 ) -> Result<(), AllocError>
     requires prepared { IsCausePrepared cause.now }
-    ensures rows { OnOk result (buffer.new ≡ buffer.old ++ cause_head renderer.now layout around cause.now.snippet.now) }
+    ensures rows { OnOk result (buffer.new ≡ buffer.old
+        ++ cause_head renderer.now layout around cause.now.snippet.now) }
 {
     let origins = origin_layout(renderer, layout);
     let Some(path) = &cause.snippet.path else {
@@ -115,7 +116,8 @@ fn draw_cause_lines(
 ) -> Result<(), AllocError>
     requires prepared { IsCausePrepared cause }
     requires room { HasRoomFor renderer.now layout (Cause cause.snippet.now) }
-    ensures added { OnOk result (AddsCauseLines renderer.now layout closes cause.entry.snippet.now buffer.old buffer.new) }
+    ensures added { OnOk result (AddsCauseLines renderer.now layout closes cause.entry.snippet.now buffer.old
+        buffer.new) }
 {
     let numbers = line_numbers(renderer, cause.snippet.line_numbering);
     let room = renderer.term_width.saturating_sub(layout.code);

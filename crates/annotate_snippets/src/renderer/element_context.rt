@@ -121,15 +121,16 @@ pub fn next_of(elements: &[PreparedElement<'_>]) -> Next
     }
 }
 
-/// What stands around each of a group's elements, in order. The group stands at this place, and this is the file that its
-/// suggestions are for where they name no other.
+/// What stands around each of a group's elements, in order. The group stands at this place, and this is the file that
+/// its suggestions are for where they name no other.
 pub fn contexts_of(
     alloc: Global,
     place: GroupPosition,
     file: Option<&str>,
     elements: &[PreparedElement<'_>],
 ) -> Result<Vec<ElementContext>, AllocError>
-    ensures value { IfOk result (λ around. AreAround place (option_copied file.entry) (map element_of elements.now) around.items) }
+    ensures value { IfOk result (λ around. AreAround place (option_copied file.entry)
+        (map element_of elements.now) around.items) }
 {
     let mut around = Vec::new(alloc);
     let mut primary = true;

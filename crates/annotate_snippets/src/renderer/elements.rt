@@ -23,8 +23,8 @@ use snippet_titles::{
 };
 use std::alloc::{AllocError, Global};
 
-/// Draws a group's elements below all that stands in the grid. The group stands at this place, and this is the file that
-/// its suggestions are for where they name no other.
+/// Draws a group's elements below all that stands in the grid. The group stands at this place, and this is the file
+/// that its suggestions are for where they name no other.
 ///
 /// # Errors
 ///
@@ -40,7 +40,8 @@ pub fn draw_elements<'a>(
 ) -> Result<(), AllocError>
     requires prepared { All IsElementPrepared elements.items }
     requires room { All (λ e. HasRoomFor renderer.now layout (element_of e)) elements.items }
-    ensures added { OnOk result (AddsElements renderer.now layout place (option_copied file.entry) (map element_of elements.entry.items) buffer.old buffer.new) }
+    ensures added { OnOk result (AddsElements renderer.now layout place (option_copied file.entry)
+        (map element_of elements.entry.items) buffer.old buffer.new) }
 {
     let around = contexts_of(alloc, place, file, &elements)?;
     for (i, element) in elements.into_iter().enumerate() {

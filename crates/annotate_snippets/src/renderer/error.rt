@@ -35,8 +35,8 @@ pub enum RenderError {
         element: usize,
         marker: usize,
     },
-    /// Two patches of a snippet overlap: in the order by start, then end, else as given, the one ends after the start of
-    /// the other. Of several such pairs it is the one with the least first number, then the least second.
+    /// Two patches of a snippet overlap: in the order by start, then end, else as given, the one ends after the start
+    /// of the other. Of several such pairs it is the one with the least first number, then the least second.
     PatchesOverlap {
         group: usize,
         element: usize,

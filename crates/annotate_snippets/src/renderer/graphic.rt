@@ -60,8 +60,8 @@ pub fn grids<'a>(
     Ok(grids)
 }
 
-/// The grid of a group, which stands at this place, and this is the file that its suggestions are for where they name no
-/// other.
+/// The grid of a group, which stands at this place, and this is the file that its suggestions are for where they name
+/// no other.
 fn draw_group<'a>(
     alloc: Global,
     renderer: &Renderer,
@@ -73,7 +73,8 @@ fn draw_group<'a>(
     requires prepared { IsGroupPrepared group }
     requires room { All (λ e. HasRoomFor renderer.now layout (element_of e)) group.elements.items }
     ensures level { IfOk result (λ grid. grid.level ≡ group.entry.group.now.level) }
-    ensures drawn { IfOk result (λ grid. IsGroupGrid renderer.now layout place (option_copied file.entry) group.entry.group.now grid.buffer) }
+    ensures drawn { IfOk result (λ grid. IsGroupGrid renderer.now layout place
+        (option_copied file.entry) group.entry.group.now grid.buffer) }
 {
     let level = group.group.level;
     let mut buffer = StyledBuffer::new(alloc);

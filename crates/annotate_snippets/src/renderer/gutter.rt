@@ -20,8 +20,8 @@ pub fn line_numbers(renderer: &Renderer, numbered: bool) -> LineNumbers
     }
 }
 
-/// The width of a report's gutter, in cells: that of the greatest line number that an element counts, or 0 where no lines are
-/// numbered, or that of `LL`, where it stands in place of all numbers.
+/// The width of a report's gutter, in cells: that of the greatest line number that an element counts, or 0 where no
+/// lines are numbered, or that of `LL`, where it stands in place of all numbers.
 pub fn gutter_of(renderer: &Renderer, groups: &[PreparedGroup<'_>]) -> usize
     requires prepared { All IsGroupPrepared groups.now }
     ensures value { result ≡ gutter_of_report renderer.now (map (λ g. g.group.now) groups.now) }

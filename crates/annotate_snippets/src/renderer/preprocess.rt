@@ -1,5 +1,5 @@
-//! What is known of a report before any row is drawn: the lines of each source, the entries on them, the patched texts. Each is
-//! found once, and the gutter's width needs them all.
+//! What is known of a report before any row is drawn: the lines of each source, the entries on them, the patched texts.
+//! Each is found once, and the gutter's width needs them all.
 ghost use Rattle.std.specs.Prelude.{◌≡◌, All, IfOk, IfSome, None, Some, filter, map, if◌then◌else◌};
 ghost use Rattle.std.specs.Option.{option_map};
 ghost use Rattle.annotate_snippets.specs.Around as spec;
@@ -148,7 +148,8 @@ fn prepare_element<'a>(
     element: &'a Element<'a>,
 ) -> Result<Option<PreparedElement<'a>>, AllocError>
     requires drawable { IsElementDrawable element.now }
-    ensures drawn { IfOk result (λ p. option_map element_of p ≡ (if is_drawn element.now then Some element.now else None)) }
+    ensures drawn { IfOk result (λ p. option_map element_of p
+        ≡ (if is_drawn element.now then Some element.now else None)) }
     ensures prepared { IfOk result (λ p. IfSome p IsElementPrepared) }
 {
     let prepared = match element {

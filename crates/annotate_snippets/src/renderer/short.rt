@@ -1,5 +1,5 @@
-//! The short form: the title of a report's first group, after the place of its first annotated snippet and before the labels
-//! of that.
+//! The short form: the title of a report's first group, after the place of its first annotated snippet and before the
+//! labels of that.
 //!
 //! ```text
 //! src/main.rs:1:5: error: unused: here
@@ -81,7 +81,8 @@ fn place_before<'a>(
 ) -> Result<String, AllocError>
     requires drawable { IfSome (option_copied cause) IsDrawable }
     requires fits { IfSome (option_copied cause) (SnippetFits AnnotationFits) }
-    ensures value { IfOk result (λ text. chars (string_bytes text) ≡ place_of_cause renderer.now (option_copied cause.entry)) }
+    ensures value { IfOk result (λ text. chars (string_bytes text)
+        ≡ place_of_cause renderer.now (option_copied cause.entry)) }
     ensures short { IfOk result (λ text. IsTextWidth (length (chars (string_bytes text)))) }
 {
     match cause {
@@ -112,8 +113,8 @@ fn place_of<'a>(
     Ok(text)
 }
 
-/// The place that the head of a primary snippet names, given its source and its spans: that of a byte, so no line is looked
-/// at for its entries.
+/// The place that the head of a primary snippet names, given its source and its spans: that of a byte, so no line is
+/// looked at for its entries.
 fn named_place(source: &SourceMap<'_>, annotations: &[Annotation<'_>]) -> OriginLocation
     requires spans { All (λ a. IsSpan source.now.text a.span.start a.span.end) annotations.now }
     requires utf8 { IsUtf8 source.now.text }

@@ -43,7 +43,8 @@ pub fn draw_patches(
     ensures added { (above tail : List (List Cell)) (found : List Cell) → buffer.old ≡ above ++ tail
         → IsTail layout.decor layout.gutter (begins_in_row_above around) tail
         → (begins_in_row_above around ≡ true → tail ≡ found ∷ [])
-        → OnOk result (AddsElement renderer.now layout around found (Suggestion suggestion.now.snippet.now) above buffer.new) }
+        → OnOk result (AddsElement renderer.now layout around found
+        (Suggestion suggestion.now.snippet.now) above buffer.new) }
 {
     if around.start == SuggestionStart::Path {
         draw_path(alloc, buffer, renderer, layout, around.first, suggestion)?;
@@ -56,8 +57,8 @@ pub fn draw_patches(
     draw_suggestion(alloc, buffer, &suggested, suggestion, around.start, follows)
 }
 
-/// Draws the path of a snippet of patches below all that stands in the grid, and the row that sets it off. A snippet without
-/// a path has neither.
+/// Draws the path of a snippet of patches below all that stands in the grid, and the row that sets it off. A snippet
+/// without a path has neither.
 fn draw_path(
     alloc: Global,
     buffer: &mut StyledBuffer,
@@ -67,7 +68,8 @@ fn draw_path(
     suggestion: &PreparedSuggestion<'_>,
 ) -> Result<(), AllocError>
     requires prepared { IsPrepared suggestion.now }
-    ensures rows { OnOk result (buffer.new ≡ buffer.old ++ spec.path_head renderer.now layout first suggestion.now.snippet.now) }
+    ensures rows { OnOk result (buffer.new ≡ buffer.old
+        ++ spec.path_head renderer.now layout first suggestion.now.snippet.now) }
 {
     let Some(path) = &suggestion.snippet.path else {
         return Ok(());

@@ -63,8 +63,8 @@ pub fn text_form<'a>(
     Ok(form)
 }
 
-/// Adds a group: its title, and its elements that are drawn. This is the file that its suggestions are for where they name
-/// no other.
+/// Adds a group: its title, and its elements that are drawn. This is the file that its suggestions are for where they
+/// name no other.
 fn add_group<'a>(
     alloc: Global,
     form: &mut TextForm<'a>,
@@ -123,7 +123,8 @@ fn add_title<'a>(
     title: &'a Title<'a>,
 ) -> Result<(), AllocError>
     requires fits { TitleFits title.now }
-    ensures added { OnOk result (form.new ≡ form.old ++ heading_form renderer.now.hyperlink kind.Title (heading_of_title title.now)) }
+    ensures added { OnOk result (form.new ≡ form.old ++ heading_form renderer.now.hyperlink kind.Title
+        (heading_of_title title.now)) }
 {
     add_heading(alloc, form, renderer.hyperlink, HeadingKind::Title, title)
 }
@@ -139,7 +140,8 @@ fn add_elements<'a>(
     requires drawable { All (λ d. IsElementDrawable d.element.now) elements.now }
     requires drawn { All (λ d. around.is_drawn d.element.now ≡ true) elements.now }
     ensures added { OnOk result (form.new
-        ≡ form.old ++ elements_form renderer.now (option_copied file.entry) None (map (λ d. d.element.now) elements.now)) }
+        ≡ form.old ++ elements_form renderer.now (option_copied file.entry) None
+        (map (λ d. d.element.now) elements.now)) }
 {
     let mut before = None;
     for (i, drawn) in elements.iter().enumerate() {
@@ -209,7 +211,8 @@ fn add_message<'a>(
     message: &'a Message<'a>,
 ) -> Result<(), AllocError>
     requires fits { MessageFits message.now }
-    ensures added { OnOk result (form.new ≡ form.old ++ heading_form hyperlink kind.Message (heading_of_message message.now)) }
+    ensures added { OnOk result (form.new ≡ form.old ++ heading_form hyperlink kind.Message
+        (heading_of_message message.now)) }
 {
     add_heading(alloc, form, hyperlink, HeadingKind::Message, message)
 }
@@ -254,7 +257,8 @@ fn suggestion_place(
     snippet: &Snippet<'_, Patch<'_>>,
 ) -> SuggestionContext
     requires small { IfSome before (λ b. HasNext b.number) }
-    ensures value { result ≡ spec.suggestion_place (option_copied file.entry) (before_seen before.entry) followed snippet.now }
+    ensures value { result ≡ spec.suggestion_place (option_copied file.entry)
+        (before_seen before.entry) followed snippet.now }
 {
     let path = path_of(&snippet.path);
     let number = option_number(before, path);

@@ -10,7 +10,8 @@ use snippet_model::snippet::Title;
 use snippet_titles::{draw_closing, draw_separator};
 use std::alloc::{AllocError, Global};
 
-/// Draws a group's title below all that stands in the grid, with what sets off a message that follows, or closes the group.
+/// Draws a group's title below all that stands in the grid, with what sets off a message that follows, or closes the
+/// group.
 ///
 /// ```text
 /// error[E0308]: mismatched types

@@ -13,8 +13,8 @@ use snippet_lines::{SpanFault, check_span, line_feed_count, newline_count};
 use snippet_model::snippet::{Annotation, Element, Group, Marker, Patch, Snippet};
 use snippet_splice::check_patches;
 
-/// The refusal of a report in a form, if it is refused: for a missing title where the form needs one, then for its first fault,
-/// which is the same in each form.
+/// The refusal of a report in a form, if it is refused: for a missing title where the form needs one, then for its
+/// first fault, which is the same in each form.
 pub fn first_refusal(form: Form, groups: &[Group]) -> Option<RenderError>
     ensures value { result ≡ spec.refusal_in form groups.now }
 {
@@ -132,7 +132,8 @@ fn patched_end_fault(
     source: &str,
     patches: &[Patch],
 ) -> Option<RenderError>
-    ensures value { result ≡ first_of (number_faults group element (number_after_lines line_start source.now + added_lines patches.now)) }
+    ensures value { result ≡ first_of (number_faults group element
+        (number_after_lines line_start source.now + added_lines patches.now)) }
 {
     match greatest_end(line_start, source, patches) {
         // Where that many would fit, the lines needn't be counted.
@@ -147,10 +148,11 @@ fn patched_end_fault(
     }
 }
 
-/// A number that the one after that of a patched source's last line doesn't exceed, where it fits: that if each byte were a
-/// line end.
+/// A number that the one after that of a patched source's last line doesn't exceed, where it fits: that if each byte
+/// were a line end.
 fn greatest_end(line_start: usize, source: &str, patches: &[Patch]) -> Option<usize>
-    ensures most { IfSome result (λ most. (number_after_lines line_start source.now + added_lines patches.now ≤ most) × IsUsize most) }
+    ensures most { IfSome result (λ most. (number_after_lines line_start source.now + added_lines patches.now ≤ most)
+        × IsUsize most) }
 {
     let mut most = line_start.checked_add(source.len())?.checked_add(1)?;
     for patch in patches {
@@ -212,7 +214,8 @@ fn refusal(group: usize, element: usize, marker: usize, fault: SpanFault) -> Ren
 
 /// The number after that of a source's last line, where it fits.
 fn end_number(line_start: usize, source: &str) -> Option<usize>
-    ensures value { SomeIff result (IsUsize (number_after_lines line_start source.now)) (number_after_lines line_start source.now) }
+    ensures value { SomeIff result (IsUsize (number_after_lines line_start source.now))
+        (number_after_lines line_start source.now) }
 {
     line_start.checked_add(newline_count(source) + 1)
 }

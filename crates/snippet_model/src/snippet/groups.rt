@@ -89,7 +89,8 @@ impl<'a> Group<'a> {
         self.element(Element::Cause(snippet))
     }
 
-    /// The group with source with a suggested edit after the elements that it has. The one error is that memory ran out.
+    /// The group with source with a suggested edit after the elements that it has. The one error is that memory ran
+    /// out.
     pub fn suggestion(self, snippet: Snippet<'a, Patch<'a>>) -> Result<Group<'a>, AllocError>
         ensures title { IfOk result (λ g. g.title ≡ self.entry.title) }
         ensures level { IfOk result (λ g. g.level ≡ self.entry.level) }

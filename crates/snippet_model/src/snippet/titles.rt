@@ -68,7 +68,8 @@ impl<'a> Title<'a> {
         }
     }
 
-    /// The title with this address, to which its identifier links where links are on. An identifier that was given stays.
+    /// The title with this address, to which its identifier links where links are on. An identifier that was given
+    /// stays.
     pub fn id_url(self, url: &'a str) -> Title<'a>
         ensures changed { result ≡ record self.entry {
           id = Some (record { id = option_and_then (λ had. had.id) self.entry.id; url = Some (Borrowed url.entry) });

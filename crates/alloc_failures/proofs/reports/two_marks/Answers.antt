@@ -14,5 +14,6 @@ returns c =
             subst (λ p. IfSome p (λ t. TextFits (cow_str_bytes t))) (sym (path ∙ c.source.ensures.path)) tt,
             subst (All AnnotationFits) (sym (items ∙ ap (λ l. l ++ xs) c.source.ensures.markers ∙ array-drained xs it drains ∙ gives.0)) (search rules),
           ))
-          (IfOk-both _ _ c.annotations.result (IfOk-both _ _ c.annotations.result c.annotations.ensures.source c.annotations.ensures.path) c.annotations.ensures.annotations);
+          (IfOk-both _ _ c.annotations.result (IfOk-both _ _ c.annotations.result c.annotations.ensures.source c.annotations.ensures.path)
+          c.annotations.ensures.annotations);
     }

@@ -18,5 +18,6 @@ returns c =
     let (done, all, each) = c.loop-name.invariant in
     let whole = all ∙ ap (λ l. done ++ l) c.in-None.ensures.steps.0 ∙ append-nil done in
     record {
-      known = λ none name is. named (lent_texts c.args.names.now) c.args.fields.now.entries (subst (AllNamed (lent_texts c.args.names.now)) (sym whole) each) name is;
+      known = λ none name is. named (lent_texts c.args.names.now) c.args.fields.now.entries
+          (subst (AllNamed (lent_texts c.args.names.now)) (sym whole) each) name is;
     }

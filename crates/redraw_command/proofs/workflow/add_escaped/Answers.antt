@@ -32,5 +32,6 @@ returns c =
     c.next.ensures.steps in
     record {
       added =
-          c.loop-character.invariant ∙ ap (λ y. string_bytes c.args.line.now ++ encode_utf8_all (escaped c.args.part y)) (sym (map-id c.loop-character.yielded) ∙ all.0);
+          c.loop-character.invariant ∙ ap (λ y. string_bytes c.args.line.now ++ encode_utf8_all (escaped c.args.part y))
+          (sym (map-id c.loop-character.yielded) ∙ all.0);
     }

@@ -9,6 +9,7 @@ use Rattle.replay_answer.proofs.answer.values_of.Goals as goal
 
 pub returns : goal.returns
 returns c =
-    let all = YieldsList-end (YieldsList-from_vec c.args.texts.items (cc) (cc)) c.loop-text.yielded c.loop-text.text-iterator c.loop-text.yielded_by c.next.result c.next.new.self c.in-None.is c.next.ensures.steps in
+    let all = YieldsList-end (YieldsList-from_vec c.args.texts.items (cc)
+    (cc)) c.loop-text.yielded c.loop-text.text-iterator c.loop-text.yielded_by c.next.result c.next.new.self c.in-None.is c.next.ensures.steps in
     let yielded : c.loop-text.yielded ≡ c.args.texts.items = sym (map-id c.loop-text.yielded) ∙ all.0 in
     record { items = ap items_view c.loop-text.invariant ∙ items_view-texts c.loop-text.yielded ∙ ap (λ texts. text_items (map string_bytes texts)) yielded }

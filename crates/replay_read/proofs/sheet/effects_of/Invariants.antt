@@ -12,4 +12,5 @@ use Rattle.replay_read.proofs.sheet.effects_of.Given as goal
 -- the effects of the names so far
 abbrev pub invariant-loop-index : goal.invariant-loop-index
 invariant-loop-index l =
-    (names : List EffectName) × AllZip (λ e name. as_str e ≡ Some (effect_name name)) (map view (take l.index l.value-items)) names × (l.effects ≡ fold (λ (joined : Effects) name. joined_effects joined (effect_of name)) no_effects names)
+    (names : List EffectName) × AllZip (λ e name. as_str e ≡ Some (effect_name name)) (map view (take l.index l.value-items)) names
+    × (l.effects ≡ fold (λ (joined : Effects) name. joined_effects joined (effect_of name)) no_effects names)

@@ -13,7 +13,8 @@ loop-number-init g c = (
 
 pub returns-in-None-None-clause-counts : goal.returns-in-None-None-clause-counts
 returns-in-None-None-clause-counts g c =
-    checked_all _ _ _ _ _ c.loop-number.invariant.1 (ended _ _ _ c.in-None-None.is-0 c.next.ensures.steps.1) (ended _ _ _ c.in-None-None.is-1 c.next-in-loop-number.ensures.steps.1)
+    checked_all _ _ _ _ _ c.loop-number.invariant.1 (ended _ _ _ c.in-None-None.is-0 c.next.ensures.steps.1)
+    (ended _ _ _ c.in-None-None.is-1 c.next-in-loop-number.ensures.steps.1)
 
 pub loop-number-preserved : goal.loop-number-preserved
 loop-number-preserved g c =
@@ -22,7 +23,9 @@ loop-number-preserved g c =
     let passes = c.in_ok-passes-in-Some-Some.passes in
     let (counted, checked, added, silent) = c.loop-number.invariant in (
       passes_counted passes _ _ _ _ _ passed failed counted,
-      checked_step _ _ _ _ _ _ c.loop-number.counts c.with-counts.result _ _ c.in-Some-Some.answer c.in-Some-Some.line passes checked c.in-Some-Some.is-0 c.in-Some-Some.is-1 c.next.ensures.steps.1 c.next-in-loop-number.ensures.steps.1 c.in_ok-passes-in-Some-Some.ensures.checks passed failed,
+      checked_step _ _ _ _ _ _ c.loop-number.counts c.with-counts.result _ _ c.in-Some-Some.answer c.in-Some-Some.line passes checked c.in-Some-Some.is-0
+          c.in-Some-Some.is-1 c.next.ensures.steps.1 c.next-in-loop-number.ensures.steps.1 c.in_ok-passes-in-Some-Some.ensures.checks passed failed,
       grows_twice _ _ _ added c.in_ok-passes-in-Some-Some.ensures.added,
-      λ none. let (before, here) = passes_if_none passes c.loop-number.counts.failed c.with-counts.result.failed failed none in c.in_ok-passes-in-Some-Some.ensures.silent here ∙ silent before,
+      λ none. let (before, here) = passes_if_none passes c.loop-number.counts.failed c.with-counts.result.failed failed none in
+          c.in_ok-passes-in-Some-Some.ensures.silent here ∙ silent before,
     )

@@ -8,6 +8,7 @@ use Rattle.replay_run.proofs.check.check_lines.Given as goal
 abbrev pub invariant-loop-number : goal.invariant-loop-number
 invariant-loop-number g l =
     (l.counts.passed + l.counts.failed + 1 ≡ l.number)
-    × HaveCheckedKnown (g.B.Read.remaining l.fn.expected) (g.C.Read.remaining l.fn.cases) (lines_known_bytes g.B.Read.remaining l.answers) (lines_known_bytes g.C.Read.remaining l.lines) l.counts
+    × HaveCheckedKnown (g.B.Read.remaining l.fn.expected) (g.C.Read.remaining l.fn.cases) (lines_known_bytes g.B.Read.remaining l.answers)
+    (lines_known_bytes g.C.Read.remaining l.lines) l.counts
     × Grows (g.W.Write.contents l.initial.out) (g.W.Write.contents l.out)
     × (l.counts.failed ≡ 0 → l.out ≡ l.initial.out)

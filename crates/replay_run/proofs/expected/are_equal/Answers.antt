@@ -46,7 +46,8 @@ loop-i-preserved c =
     let there : i < length wanted = omega (arith, c.loop-i-test.true, c.if-wanted-texts.false) in
     let same = told c.is_text.result c.is_text.ensures.value c.if-not-is_text.false in
     let here = same ∙ ap string_bytes c.index-texts-i.is in
-    map_more text_of wanted i no_text there ∙ ap (λ xs. xs ++ text_of (get_or wanted i no_text) ∷ []) c.loop-i.invariant ∙ ap (λ x. map string_bytes (take i texts) ++ x ∷ []) here ∙ sym (map_more string_bytes texts i c.index-texts-i.result c.loop-i-test.true)
+    map_more text_of wanted i no_text there ∙ ap (λ xs. xs ++ text_of (get_or wanted i no_text) ∷ []) c.loop-i.invariant
+    ∙ ap (λ x. map string_bytes (take i texts) ++ x ∷ []) here ∙ sym (map_more string_bytes texts i c.index-texts-i.result c.loop-i-test.true)
 
 pub returns : goal.returns
 returns c =

@@ -10,15 +10,18 @@ loop-line-init g c =
 
 pub loop-line-preserved : goal.loop-line-preserved
 loop-line-preserved g c =
-    answered_step _ _ _ _ _ _ _ _ _ _ _ _ _ _ _ _ c.in-Some.line c.loop-line.invariant c.saturating_add-number.ensures c.in-Some.is c.next.ensures.steps.1 c.in-Ok.ensures.answers c.flush.ensures.bytes c.either-told.ensures.value
+    answered_step _ _ _ _ _ _ _ _ _ _ _ _ _ _ _ _ c.in-Some.line c.loop-line.invariant c.saturating_add-number.ensures c.in-Some.is c.next.ensures.steps.1
+    c.in-Ok.ensures.answers c.flush.ensures.bytes c.either-told.ensures.value
 
 pub returns-in-Err-clause-stops : goal.returns-in-Err-clause-stops
 returns-in-Err-clause-stops g c =
-    stops_within _ _ _ _ _ _ _ _ _ _ _ _ _ _ c.in-Some.line c.loop-line.invariant c.saturating_add-number.ensures c.in-Some.is c.next.ensures.steps.1 c.in-Err.ensures.stops
+    stops_within _ _ _ _ _ _ _ _ _ _ _ _ _ _ c.in-Some.line c.loop-line.invariant c.saturating_add-number.ensures c.in-Some.is c.next.ensures.steps.1
+    c.in-Err.ensures.stops
 
 pub returns-in-Err-flush-clause-stops : goal.returns-in-Err-flush-clause-stops
 returns-in-Err-flush-clause-stops g c =
-    let more = answered_step _ _ _ _ _ _ _ _ _ _ _ _ _ _ _ _ c.in-Some.line c.loop-line.invariant c.saturating_add-number.ensures c.in-Some.is c.next.ensures.steps.1 c.in-Ok.ensures.answers c.flush.ensures.bytes c.either-told.ensures.value in
+    let more = answered_step _ _ _ _ _ _ _ _ _ _ _ _ _ _ _ _ c.in-Some.line c.loop-line.invariant c.saturating_add-number.ensures c.in-Some.is
+    c.next.ensures.steps.1 c.in-Ok.ensures.answers c.flush.ensures.bytes c.either-told.ensures.value in
     stops_after _ _ _ _ _ _ _ _ _ _ _ more (Keeps-refl _) (c.in-Err-flush.error, refl)
 
 pub returns-clause-answers : goal.returns-clause-answers

@@ -5,4 +5,5 @@ use Rattle.replay_run.proofs.lines.answer_lines.Given as goal
 -- each line so far is answered
 abbrev pub invariant-loop-line : goal.invariant-loop-line
 invariant-loop-line g l =
-    HaveAnswered l.way l.told l.initial.is_first l.is_first l.number (g.B.Read.remaining l.fn.input) (lines_known_bytes g.B.Read.remaining l.line-iterator) (g.W.Write.contents l.initial.out) (g.W.Write.contents l.out)
+    HaveAnswered l.way l.told l.initial.is_first l.is_first l.number (g.B.Read.remaining l.fn.input) (lines_known_bytes g.B.Read.remaining l.line-iterator)
+    (g.W.Write.contents l.initial.out) (g.W.Write.contents l.out)

@@ -16,7 +16,8 @@ returns-in-Texts g c =
       answer = (
         c.in_ok-outcome.outcome,
         c.in_ok-outcome.ensures.outcome,
-        subst (λ form. Appends (g.W.Write.contents c.args.out.now) (g.W.Write.contents c.write_report.new.out) (answer_text form c.args.is_first c.args.case.now.id.now c.in_ok-outcome.outcome)) (sym c.in-Texts.is) c.in_ok-write_report.ensures.text,
+        subst (λ form. Appends (g.W.Write.contents c.args.out.now) (g.W.Write.contents c.write_report.new.out)
+            (answer_text form c.args.is_first c.args.case.now.id.now c.in_ok-outcome.outcome)) (sym c.in-Texts.is) c.in_ok-write_report.ensures.text,
       );
     }
 
@@ -26,6 +27,8 @@ returns g c =
       answer = (
         c.in_ok-outcome.outcome,
         c.in_ok-outcome.ensures.outcome,
-        subst (λ form. Appends (g.W.Write.contents c.args.out.now) (g.W.Write.contents c.write_json.new.out) (answer_text form c.args.is_first c.args.case.now.id.now c.in_ok-outcome.outcome)) (sym (not_texts c.args.form c.in_default.not-Texts)) c.in_ok-write_json.ensures.line,
+        subst (λ form. Appends (g.W.Write.contents c.args.out.now) (g.W.Write.contents c.write_json.new.out)
+            (answer_text form c.args.is_first c.args.case.now.id.now c.in_ok-outcome.outcome))
+            (sym (not_texts c.args.form c.in_default.not-Texts)) c.in_ok-write_json.ensures.line,
       );
     }

@@ -11,8 +11,10 @@ returns-in-Err-clause-stops g c =
 
 pub returns-in-Ok-clause-answers : goal.returns-in-Ok-clause-answers
 returns-in-Ok-clause-answers g c =
-    IfOk-weaker c.answer_lines.result _ _ (λ told h. reader_alone g.R.Reader.Read.remaining c.args.way told _ _ _ (reader_inner c.in-Ok.input) (answered_same _ told _ _ _ _ _ _ c.in-Ok.ensures.bytes h)) c.answer_lines.ensures.answers
+    IfOk-weaker c.answer_lines.result _ _ (λ told h. reader_alone g.R.Reader.Read.remaining c.args.way told _ _ _ (reader_inner c.in-Ok.input)
+    (answered_same _ told _ _ _ _ _ _ c.in-Ok.ensures.bytes h)) c.answer_lines.ensures.answers
 
 pub returns-in-Ok-clause-stops : goal.returns-in-Ok-clause-stops
 returns-in-Ok-clause-stops g c =
-    if_err c.answer_lines.result (λ problem h. first_stops g.R.Reader.Read.remaining c.args.way (codes "standard input") _ _ problem (inr (reader_inner c.in-Ok.input, stopped_same _ _ _ _ _ _ problem c.in-Ok.ensures.bytes h))) c.answer_lines.ensures.stops
+    if_err c.answer_lines.result (λ problem h. first_stops g.R.Reader.Read.remaining c.args.way (codes "standard input") _ _ problem
+    (inr (reader_inner c.in-Ok.input, stopped_same _ _ _ _ _ _ problem c.in-Ok.ensures.bytes h))) c.answer_lines.ensures.stops

@@ -8,5 +8,6 @@ pub returns-in-Answer-clause-stops : goal.returns-in-Answer-clause-stops
 returns-in-Answer-clause-stops g c =
     if_err c.answer.result
     (λ stop h. subst
-    (λ command. IfAnswers command (λ way files. 0 < length files → StopsReaders g.row.R-File.Denot g.R.File.Read.remaining way files (g.W.Write.contents c.args.out.now) (g.W.Write.contents c.answer.new.out) stop.file.now stop.problem))
+    (λ command. IfAnswers command (λ way files. 0 < length files → StopsReaders g.row.R-File.Denot g.R.File.Read.remaining way files
+    (g.W.Write.contents c.args.out.now) (g.W.Write.contents c.answer.new.out) stop.file.now stop.problem))
     (sym c.in-Answer.is) h) c.answer.ensures.stops

@@ -8,7 +8,8 @@ use Rattle.replay_run.proofs.run.run.Goals as goal
 pub returns-in-Ok-clause-compares : goal.returns-in-Ok-clause-compares
 returns-in-Ok-clause-compares g c = λ within files is.
     let asks = subst (λ (ws : List Word). Asks ws c.in-Some.command) is c.in-Some.ensures.command in
-    files_compared files c.in-Some.command (λ n. EndsComparison g.row.R-File.Denot g.R.File.Read.remaining n (g.W.Write.contents c.args.out.now) (g.W.Write.contents c.finish.new.out) c.in-Ok.status) asks c.in-Ok.ensures.compares
+    files_compared files c.in-Some.command (λ n. EndsComparison g.row.R-File.Denot g.R.File.Read.remaining n (g.W.Write.contents c.args.out.now)
+    (g.W.Write.contents c.finish.new.out) c.in-Ok.status) asks c.in-Ok.ensures.compares
 
 pub returns-in-Ok-clause-answers : goal.returns-in-Ok-clause-answers
 returns-in-Ok-clause-answers g c = λ done way files asks some.
@@ -43,8 +44,10 @@ returns-in-Err-clause-stops_input g c = λ stopped way asks. (
   c.in-Err.stop.problem,
   c.tell_stop.ensures.told,
   files_answered (words_at c.args.words.now)
-      c.in-Some.command (λ f n. length n ≡ 0 → StopsReaders g.row.R-Reader.Denot g.R.Reader.Read.remaining f (codes "standard input" ∷ []) (g.W.Write.contents c.args.out.now)
-      (g.W.Write.contents c.finish.new.out) c.in-Err.stop.file.now c.in-Err.stop.problem) way [] c.in-Some.ensures.command asks c.in-Err.ensures.stops_input refl,
+      c.in-Some.command (λ f n. length n ≡ 0 → StopsReaders g.row.R-Reader.Denot g.R.Reader.Read.remaining f (codes "standard input" ∷ [])
+      (g.W.Write.contents c.args.out.now)
+      (g.W.Write.contents c.finish.new.out) c.in-Err.stop.file.now c.in-Err.stop.problem) way [] c.in-Some.ensures.command asks
+      c.in-Err.ensures.stops_input refl,
 )
 
 pub returns-in_default-clause-stops : goal.returns-in_default-clause-stops

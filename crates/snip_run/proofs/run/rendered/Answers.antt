@@ -18,7 +18,8 @@ returns c =
     let command : Command = c.args.command.now in
     let source : List ℕ = c.args.source.now in
     let group : Group = c.in_ok-group.group in
-    let given : (P : Group → Type 0) → IfOk c.report_of.result P → P group = λ P holds. ok_had P c.map_err.result group c.in_ok-group.was (IfOk-map_err P _ c.report_of.result c.map_err.result holds c.map_err.ensures.cases) in
+    let given : (P : Group → Type 0) → IfOk c.report_of.result P → P group = λ P holds.
+    ok_had P c.map_err.result group c.in_ok-group.was (IfOk-map_err P _ c.report_of.result c.map_err.result holds c.map_err.ensures.cases) in
     let report = given (λ g. IsReportFor command source (g ∷ [])) c.report_of.ensures.report in
     let fits = given (λ g. ReportFits (g ∷ [])) c.report_of.ensures.fits in
     let made : Renderer = c.renderer_of.result in

@@ -20,7 +20,8 @@ returns-clause-report c =
     let title : Title = c.primary_title.result in
     let group : Group = c.in_ok-group.group in
     let begun : Snippet Annotation = c.source.result in
-    let added : (P : Snippet Annotation → Type 0) → IfOk c.annotation.result P → P snippet = λ P holds. ok_had P c.annotation.result snippet c.in_ok-snippet.was holds in
+    let added : (P : Snippet Annotation → Type 0) → IfOk c.annotation.result P → P snippet = λ P holds.
+    ok_had P c.annotation.result snippet c.in_ok-snippet.was holds in
     let grouped : (P : Group → Type 0) → IfOk c.element.result P → P group = λ P holds. ok_had P c.element.result group c.in_ok-group.was holds in
     let mark_is : IsMarkFor command mark =
     record {
@@ -33,7 +34,8 @@ returns-clause-report c =
     record {
       mark = mark;
       mark_is = mark_is;
-      markers = added (λ s. s.markers.items ≡ begun.markers.items ++ mark ∷ []) c.annotation.ensures.annotations ∙ ap (λ (ms : List Annotation). ms ++ mark ∷ []) c.source.ensures.markers;
+      markers = added (λ s. s.markers.items ≡ begun.markers.items ++ mark ∷ []) c.annotation.ensures.annotations
+          ∙ ap (λ (ms : List Annotation). ms ++ mark ∷ []) c.source.ensures.markers;
       source_is = ap cow_str_bytes (added (λ s. s.source ≡ begun.source) c.annotation.ensures.source ∙ c.source.ensures.source);
       path = added (λ s. s.path ≡ begun.path) c.annotation.ensures.path ∙ c.source.ensures.path;
       line_start = added (λ s. s.line_start ≡ begun.line_start) c.annotation.ensures.line_start ∙ c.source.ensures.line_start;

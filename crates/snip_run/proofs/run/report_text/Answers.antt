@@ -24,7 +24,8 @@ returns-in-Ok-clause-shows c =
         text = some_text (option_copied c.args.file) c.in-Some.source c.in-Some.ensures.value;
         words_fit = c.if-not-words_fit.ensures.value.0 refl;
       };
-      shows = of_text (λ source. ShowsCommand c.args.command.now source (string_bytes c.in-Ok.text)) (option_copied c.args.file) c.in-Some.source c.in-Some.ensures.value c.in-Ok.ensures.shows;
+      shows = of_text (λ source. ShowsCommand c.args.command.now source (string_bytes c.in-Ok.text))
+          (option_copied c.args.file) c.in-Some.source c.in-Some.ensures.value c.in-Ok.ensures.shows;
     }
 
 pub returns-in-Err-clause-fails : goal.returns-in-Err-clause-fails

@@ -11,14 +11,19 @@ returns-in_default-clause-ends g c =
 
 pub returns-then-write_line-clause-ends : goal.returns-then-write_line-clause-ends
 returns-then-write_line-clause-ends g c =
-    ends_printed (words_at c.args.words.now) (option_copied c.args.file) c.in-Some.command (string_bytes c.in-Ok.text) _ _ c.in-Some.ensures.command c.in-Ok.ensures.shows
-    (subst (λ text. Receives g.W.Write.contents c.args.out.now c.write_line-in-Ok.new.out (Whole text)) c.as_str.ensures.value c.if-write_line.ensures.whole) refl
+    ends_printed (words_at c.args.words.now) (option_copied c.args.file) c.in-Some.command
+    (string_bytes c.in-Ok.text) _ _ c.in-Some.ensures.command c.in-Ok.ensures.shows
+    (subst (λ text. Receives g.W.Write.contents c.args.out.now c.write_line-in-Ok.new.out
+    (Whole text)) c.as_str.ensures.value c.if-write_line.ensures.whole) refl
 
 pub returns-in-Ok-clause-ends : goal.returns-in-Ok-clause-ends
 returns-in-Ok-clause-ends g c =
-    ends_unprinted (words_at c.args.words.now) (option_copied c.args.file) c.in-Some.command (string_bytes c.in-Ok.text) _ _ c.in-Some.ensures.command c.in-Ok.ensures.shows
-    (subst (λ text. Receives g.W.Write.contents c.args.out.now c.write_line-in-Ok.new.out (CutShort text)) c.as_str.ensures.value c.if-write_line.ensures.cut) refl
+    ends_unprinted (words_at c.args.words.now) (option_copied c.args.file) c.in-Some.command
+    (string_bytes c.in-Ok.text) _ _ c.in-Some.ensures.command c.in-Ok.ensures.shows
+    (subst (λ text. Receives g.W.Write.contents c.args.out.now c.write_line-in-Ok.new.out
+    (CutShort text)) c.as_str.ensures.value c.if-write_line.ensures.cut) refl
 
 pub returns-clause-ends : goal.returns-clause-ends
 returns-clause-ends g c =
-    ends_failed (words_at c.args.words.now) (option_copied c.args.file) c.in-Some.command c.in-Err.failure _ _ c.in-Some.ensures.command c.in-Err.ensures.fails refl c.tell.ensures.told
+    ends_failed (words_at c.args.words.now) (option_copied c.args.file) c.in-Some.command c.in-Err.failure _ _ c.in-Some.ensures.command c.in-Err.ensures.fails
+    refl c.tell.ensures.told

@@ -28,7 +28,8 @@ words_fit ws false some h = absurd (false≢true h)
 pub returns : goal.returns
 returns c =
     let ws = c.args.words.now in
-    let told = cases_from_all _ _ _ Fits Exceeds c.all.ensures.ran (YieldsList-from_slice ws cc) (λ x q k. search (rules, tests)) (λ x q k. search (rules, tests)) in
+    let told = cases_from_all _ _ _ Fits Exceeds c.all.ensures.ran (YieldsList-from_slice ws cc) (λ x q k. search (rules, tests)) (λ x q k.
+    search (rules, tests)) in
     record {
       value = (
         words_fit ws c.all.result told,

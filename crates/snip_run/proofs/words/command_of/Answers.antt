@@ -36,8 +36,10 @@ after ws at count old new so_far taken =
 pub loop-changed-preserved : goal.loop-changed-preserved
 loop-changed-preserved c =
     record {
-      within = within c.args.words.now c.loop-changed.at c.in-Some.count c.loop-changed.options c.in-Some.changed c.loop-changed.invariant.within c.in-Some.ensures.taken;
-      so_far = after c.args.words.now c.loop-changed.at c.in-Some.count c.loop-changed.options c.in-Some.changed c.loop-changed.invariant.so_far c.in-Some.ensures.taken;
+      within = within c.args.words.now c.loop-changed.at c.in-Some.count c.loop-changed.options c.in-Some.changed c.loop-changed.invariant.within
+          c.in-Some.ensures.taken;
+      so_far = after c.args.words.now c.loop-changed.at c.in-Some.count c.loop-changed.options c.in-Some.changed c.loop-changed.invariant.so_far
+          c.in-Some.ensures.taken;
     }
 
 begins_none : (ws : List (Bor Word)) (at : ℕ) → BeginsNone (words_at (take (length ws - at) (drop at ws))) → BeginsNone (words_at (drop at ws))
@@ -54,7 +56,8 @@ no_line ws at options so_far none no_operands line h =
 
 pub returns-in_err-operands_in-clause-each_line : goal.returns-in_err-operands_in-clause-each_line
 returns-in_err-operands_in-clause-each_line c = λ line h.
-    absurd (no_line c.args.words.now c.loop-changed.at c.loop-changed.options c.loop-changed.invariant.so_far (c.in_default.ensures.none refl) (c.in_err-operands_in.ensures.none refl) line h)
+    absurd (no_line c.args.words.now c.loop-changed.at c.loop-changed.options c.loop-changed.invariant.so_far (c.in_default.ensures.none refl)
+    (c.in_err-operands_in.ensures.none refl) line h)
 
 found : (r : Option Command) (P Q : Command → Type 0) → IsSome r → IfSome r P → ((c : Command) → P c → Q c) → IsSomeAnd r Q
 found None P Q some p q = absurd cc
@@ -71,7 +74,8 @@ said ws at options o r so_far none whole says form line h =
     found r (Says options (line_of o)) (Says no_options line) (form has) says goes
 
 pub returns-clause-each_line : goal.returns-clause-each_line
-returns-clause-each_line c = said c.args.words.now c.loop-changed.at c.loop-changed.options c.in_ok-operands_in.field-0 c.command_with.result c.loop-changed.invariant.so_far (c.in_default.ensures.none refl) c.in_ok-operands_in.ensures.whole c.command_with.ensures.says c.command_with.ensures.form.1
+returns-clause-each_line c = said c.args.words.now c.loop-changed.at c.loop-changed.options c.in_ok-operands_in.field-0 c.command_with.result
+    c.loop-changed.invariant.so_far (c.in_default.ensures.none refl) c.in_ok-operands_in.ensures.whole c.command_with.ensures.says c.command_with.ensures.form.1
 
 commanded : (ws : List (Bor Word)) (at : ℕ) (options : Options) (o : Operands) (r : Option Command)
     → Continues (words_at ws) (words_at (drop at ws)) options → words_at (take (length ws - at) (drop at ws)) ≡ operands_of (line_of o)
@@ -83,4 +87,5 @@ commanded ws at options o (Some c) so_far whole says has =
     (line, h, to_line c says)
 
 pub returns-clause-command : goal.returns-clause-command
-returns-clause-command c = commanded c.args.words.now c.loop-changed.at c.loop-changed.options c.in_ok-operands_in.field-0 c.command_with.result c.loop-changed.invariant.so_far c.in_ok-operands_in.ensures.whole c.command_with.ensures.says c.command_with.ensures.form.0
+returns-clause-command c = commanded c.args.words.now c.loop-changed.at c.loop-changed.options c.in_ok-operands_in.field-0 c.command_with.result
+    c.loop-changed.invariant.so_far c.in_ok-operands_in.ensures.whole c.command_with.ensures.says c.command_with.ensures.form.0

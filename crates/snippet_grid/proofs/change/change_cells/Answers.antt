@@ -19,7 +19,14 @@ use Rattle.snippet_grid.proofs.change.change_cells.Goals as goal
 pub returns-then-last-start-clause-ok : goal.returns-then-last-start-clause-ok
 returns-then-last-start-clause-ok c =
     let rows = grid_shown (string_bytes c.args.text.now) c.args.runs.now.items c.args.widths.now in
-    sym (cells_changed_none (changed_by c.args.change) rows c.args.row c.args.start c.args.end (omega (arith, c.min-last.ensures, c.width_of.ensures.value, width_shown (string_bytes c.args.text.now) c.args.runs.now.items c.args.widths.now c.args.row)))
+    sym (cells_changed_none (changed_by c.args.change) rows c.args.row c.args.start c.args.end
+    (omega (
+      arith,
+      c.min-last.ensures,
+      c.width_of.ensures.value,
+      width_shown
+          (string_bytes c.args.text.now) c.args.runs.now.items c.args.widths.now c.args.row,
+    )))
 
 pub row_bounds-from-requires-clause-ordered : goal.row_bounds-from-requires-clause-ordered
 row_bounds-from-requires-clause-ordered c =
@@ -36,11 +43,14 @@ part_at-requires-clause-runs c =
 
 pub returns-in_err-part-clause-grid : goal.returns-in_err-part-clause-grid
 returns-in_err-part-clause-grid c =
-    IsGrid-grown (string_bytes c.args.text.now) (string_bytes c.part_at.new.text) c.args.runs.now.items c.args.runs.now.items c.args.widths.now c.args.widths.now c.in_err-part.ensures.text refl refl c.requires.grid
+    IsGrid-grown (string_bytes c.args.text.now) (string_bytes c.part_at.new.text) c.args.runs.now.items c.args.runs.now.items c.args.widths.now
+    c.args.widths.now c.in_err-part.ensures.text refl refl c.requires.grid
 
 pub returns-in_err-part-clause-err : goal.returns-in_err-part-clause-err
 returns-in_err-part-clause-err c =
-    on_err_from c.from_residual.result (grid_grown (string_bytes c.args.text.now) (string_bytes c.part_at.new.text) c.args.runs.now.items c.args.runs.now.items c.args.widths.now c.args.widths.now c.in_err-part.ensures.text refl refl c.requires.grid)
+    on_err_from c.from_residual.result (grid_grown (string_bytes c.args.text.now)
+    (string_bytes c.part_at.new.text) c.args.runs.now.items c.args.runs.now.items c.args.widths.now c.args.widths.now c.in_err-part.ensures.text refl refl
+    c.requires.grid)
 
 pub put_run-requires-clause-runs : goal.put_run-requires-clause-runs
 put_run-requires-clause-runs c =
@@ -59,15 +69,34 @@ returns-then-part-last c =
     let to = c.row_bounds-from.result.1 in
     let last = c.min-last.result in
     let is = c.as_slice-old.ensures.value in
-    let at = RowAt-read runs c.as_slice-old.result.now row from to is record { ordered = c.row_bounds-from.ensures.bounds.0; within = c.row_bounds-from.ensures.bounds.1; above = c.row_bounds-from.ensures.above; inside = c.row_bounds-from.ensures.inside; below = c.row_bounds-from.ensures.below } in
-    let same : (k : ℕ) → shown_cell old (stretch c.as_slice-old.result.now from to) row k ≡ shown_cell old runs row k = λ k. ap (λ (l : List Run). shown_cell old (stretch l from to) row k) is ∙ row_shows old runs row from to k at in
-    let part = part_same mid row c.args.start last (λ k. shown_cell old (stretch c.as_slice-old.result.now from to) row k) (λ k. shown_cell old runs row k) c.in_ok-part.part same c.in_ok-part.ensures.ok in
+    let at = RowAt-read runs c.as_slice-old.result.now row from to is record {
+      ordered = c.row_bounds-from.ensures.bounds.0;
+      within = c.row_bounds-from.ensures.bounds.1;
+      above = c.row_bounds-from.ensures.above;
+      inside =
+          c.row_bounds-from.ensures.inside;
+      below = c.row_bounds-from.ensures.below;
+    } in
+    let same : (k : ℕ) → shown_cell old (stretch c.as_slice-old.result.now from to) row k ≡ shown_cell old runs row k = λ k.
+    ap (λ (l : List Run). shown_cell old (stretch l from to) row k) is ∙ row_shows old runs row from to k at in
+    let part = part_same mid row c.args.start last (λ k. shown_cell old (stretch c.as_slice-old.result.now from to) row k) (λ k.
+    shown_cell old runs row k) c.in_ok-part.part same c.in_ok-part.ensures.ok in
     let grows = c.in_ok-part.ensures.text in
     let all = BeginsWith-trans old mid new grows c.put_run.ensures.text in
     let same_row : c.changed.result.row ≡ row = c.changed.ensures.is.row ∙ c.in_ok-part.ensures.ok.row_is in
     let f = changed_by c.args.change in
     let whole : c.args.start + c.in_ok-part.part.count ≡ last = omega (arith, c.if-part-last.true, c.if-last-start.false) in
-    let reach : c.changed.result.cell + c.changed.result.count ≤ get_or w c.changed.result.row 0 = omega (arith, c.changed.ensures.is.cell, c.changed.ensures.is.count, part.cell_is, part.within, c.min-last.ensures, c.width_of.ensures.value, ap (λ r. get_or w r 0) same_row) in
+    let reach : c.changed.result.cell + c.changed.result.count ≤ get_or w c.changed.result.row 0 = omega (
+      arith,
+      c.changed.ensures.is.cell,
+      c.changed.ensures.is.count,
+      part.cell_is,
+      part.within,
+      c.min-last.ensures,
+      c.width_of.ensures.value,
+      ap (λ r.
+          get_or w r 0) same_row,
+    ) in
     let fits : IsPut mid new runs now c.changed.result → FitIn w now = λ put. put.inside w c.requires.grid.inside reach in
     let span = λ (put : IsPut mid new runs now c.changed.result). subst
     (λ n. ShowsSpan old new runs now row c.args.start n (λ k. f (shown_cell old runs row k)))
@@ -83,13 +112,18 @@ returns-then-part-last c =
           (on_ok_weaker c.put_run.result (λ put. record { are_runs = put.are_runs; ordered = put.ordered; apart = put.apart; inside = fits put })
           c.put_run.ensures.ok) (on_err_weaker c.put_run.result (λ same. IsGrid-grown old new runs now w w all same refl c.requires.grid)
           c.put_run.ensures.err);
-      runs_added = on_either c.put_run.result (on_ok_weaker c.put_run.result (λ put. omega (arith, put.few, c.if-last-start.false, c.min-last.ensures)) c.put_run.ensures.ok) (on_err_weaker c.put_run.result (λ same. omega (arith, ap length same)) c.put_run.ensures.err);
+      runs_added = on_either c.put_run.result (on_ok_weaker c.put_run.result (λ put.
+          omega (arith, put.few, c.if-last-start.false, c.min-last.ensures)) c.put_run.ensures.ok)
+          (on_err_weaker c.put_run.result (λ same. omega (arith, ap length same)) c.put_run.ensures.err);
       err = on_err_weaker c.put_run.result (λ same. grid_grown old new runs now w w all same refl c.requires.grid) c.put_run.ensures.err;
     }
 
 pub change_copied-requires : goal.change_copied-requires
 change_copied-requires c =
-    record { grid = IsGrid-grown (string_bytes c.args.text.now) (string_bytes c.part_at.new.text) c.args.runs.now.items c.args.runs.now.items c.args.widths.now c.args.widths.now c.in_ok-part.ensures.text refl refl c.requires.grid }
+    record {
+      grid = IsGrid-grown (string_bytes c.args.text.now) (string_bytes c.part_at.new.text) c.args.runs.now.items c.args.runs.now.items c.args.widths.now
+          c.args.widths.now c.in_ok-part.ensures.text refl refl c.requires.grid;
+    }
 
 pub returns-clause-ok : goal.returns-clause-ok
 returns-clause-ok c =
@@ -101,11 +135,14 @@ returns-clause-ok c =
 
 pub returns-clause-err : goal.returns-clause-err
 returns-clause-err c =
-    on_err_weaker c.change_copied.result (λ is. is ∙ grid_grown (string_bytes c.args.text.now) (string_bytes c.part_at.new.text) c.args.runs.now.items c.args.runs.now.items c.args.widths.now c.args.widths.now c.in_ok-part.ensures.text refl refl c.requires.grid) c.change_copied.ensures.err
+    on_err_weaker c.change_copied.result (λ is. is ∙ grid_grown (string_bytes c.args.text.now)
+    (string_bytes c.part_at.new.text) c.args.runs.now.items c.args.runs.now.items c.args.widths.now c.args.widths.now c.in_ok-part.ensures.text refl refl
+    c.requires.grid) c.change_copied.ensures.err
 
 pub row_bounds-from-requires-clause-fits : goal.row_bounds-from-requires-clause-fits
 row_bounds-from-requires-clause-fits c =
-    subst (λ (l : List Run). All (λ x. x.cell < 2 ^ 64) l) (sym c.as_slice-old.ensures.value) (begins_fit (string_bytes c.args.text.now) c.args.runs.now.items c.requires.grid.are_runs)
+    subst (λ (l : List Run). All (λ x. x.cell < 2 ^ 64) l) (sym c.as_slice-old.ensures.value)
+    (begins_fit (string_bytes c.args.text.now) c.args.runs.now.items c.requires.grid.are_runs)
 
 pub put_run-requires-clause-ordered : goal.put_run-requires-clause-ordered
 put_run-requires-clause-ordered c = c.requires.grid.ordered

@@ -8,13 +8,15 @@ use Rattle.snippet_grid.proofs.change.change_row.Goals as goal
 
 pub put_run-requires-clause-runs : goal.put_run-requires-clause-runs
 put_run-requires-clause-runs c =
-    All-IsRun-grown (string_bytes c.loop-col.text) (string_bytes c.part_at.new.text) c.loop-col.runs.items c.in_ok-part.ensures.text c.loop-col.invariant.is_row.are_runs
+    All-IsRun-grown (string_bytes c.loop-col.text) (string_bytes c.part_at.new.text) c.loop-col.runs.items c.in_ok-part.ensures.text
+    c.loop-col.invariant.is_row.are_runs
 
 pub loop-col-preserved : goal.loop-col-preserved
 loop-col-preserved c =
     let now = string_bytes c.loop-col.text in
     let mid = string_bytes c.part_at.new.text in
-    let part = subst (λ (l : List Run). IsPartOfRow mid c.args.row c.loop-col.col c.args.end (λ k. shown_cell now l c.args.row k) c.in_ok-part.part) c.as_slice.ensures.value c.in_ok-part.ensures.ok in
+    let part = subst (λ (l : List Run). IsPartOfRow mid c.args.row c.loop-col.col c.args.end (λ k.
+    shown_cell now l c.args.row k) c.in_ok-part.part) c.as_slice.ensures.value c.in_ok-part.ensures.ok in
     change_next (string_bytes c.args.text.now) now mid (string_bytes c.put_run.new.text)
     c.args.runs.now.items c.loop-col.runs.items c.put_run.new.runs.items c.in_ok-part.part c.changed.result c.args.row c.args.start c.args.end
     c.args.change c.loop-col.col c.loop-col.invariant c.in_ok-part.ensures.text c.in_ok-put_run.ensures.text part c.changed.ensures.is

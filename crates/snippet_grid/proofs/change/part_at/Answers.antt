@@ -14,8 +14,10 @@ returns-then-from-end-clause-ok c =
     let n : ℕ = c.begun_by-next.result - 1 in
     let within : n < length c.args.runs.now = omega (arith, c.if-next-gt0.true, c.begun_by-next.ensures.within) in
     let low = (c.begun_by-next.ensures.begun n none (omega (arith, c.if-next-gt0.true))).cells (sym (c.requires.runs.in_row n none within)) in
-    let cut = subst (λ (t : List ℕ). IsPart t (get_or c.args.runs.now n none) c.args.from c.min.result c.clipped.result) c.as_str.ensures.value c.clipped.ensures.part in
-    part_held (string_bytes c.args.text.now) c.args.runs.now c.clipped.result none c.args.row c.args.from c.args.to c.min.result n c.requires.runs within low (omega (arith, c.min.ensures, c.if-from-end.true, c.requires.some)) (omega (arith, c.min.ensures)) (omega (arith, c.min.ensures)) cut
+    let cut = subst (λ (t : List ℕ). IsPart t (get_or c.args.runs.now n none) c.args.from c.min.result c.clipped.result) c.as_str.ensures.value
+    c.clipped.ensures.part in
+    part_held (string_bytes c.args.text.now) c.args.runs.now c.clipped.result none c.args.row c.args.from c.args.to c.min.result n c.requires.runs within low
+    (omega (arith, c.min.ensures, c.if-from-end.true, c.requires.some)) (omega (arith, c.min.ensures)) (omega (arith, c.min.ensures)) cut
 
 pub push_gap-requires : goal.push_gap-requires
 push_gap-requires c =
@@ -39,7 +41,8 @@ returns-clause-ok c =
           subst (λ (x : Run). x.cell + x.count ≤ c.args.from) same w.if-from-end.false
       | else-next-gt0 w ↦ absurd (omega (arith, some, w.if-next-gt0.false))
     ] in
-    let after : (d : Run) → n < length c.args.runs.now → c.gap_end.result ≤ (get_or c.args.runs.now n d).cell = λ d more. omega (arith, c.gap_end.ensures.next d more) in
+    let after : (d : Run) → n < length c.args.runs.now → c.gap_end.result ≤ (get_or c.args.runs.now n d).cell = λ d more.
+    omega (arith, c.gap_end.ensures.next d more) in
     IfOk-weaker c.push_gap.result _ _
     (λ gap is. part_free (string_bytes c.args.text.now) (string_bytes c.push_gap.new.text)
     c.args.runs.now gap c.args.row c.args.from c.args.to c.gap_end.result n c.requires.runs c.begun_by-next.ensures.within before after

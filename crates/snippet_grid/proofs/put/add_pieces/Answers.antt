@@ -12,19 +12,25 @@ use Rattle.snippet_grid.proofs.put.add_pieces.Goals.{in-Some+in_ok-push, in_defa
 pub add_run-requires-in-Some-back-clause-run : goal.add_run-requires-in-Some-back-clause-run
 add_run-requires-in-Some-back-clause-run c =
     let text = string_bytes c.args.text.now in
-    let back : IsBack text c.args.touched.now c.args.run.now (c.in-Some-back.right ∷ []) = subst (λ (t : List ℕ). IsBack t c.args.touched.now c.args.run.now (c.in-Some-back.right ∷ [])) c.as_str-2.ensures.value c.in-Some-back.ensures.back in
-    IsRun-grown text (string_bytes c.add_run.new.text) c.in-Some-back.right c.in_ok-add_run.ensures.text (back.is_row.are_runs 0 c.in-Some-back.right (omega arith))
+    let back : IsBack text c.args.touched.now c.args.run.now (c.in-Some-back.right ∷ []) = subst
+    (λ (t : List ℕ). IsBack t c.args.touched.now c.args.run.now (c.in-Some-back.right ∷ [])) c.as_str-2.ensures.value c.in-Some-back.ensures.back in
+    IsRun-grown text (string_bytes c.add_run.new.text) c.in-Some-back.right c.in_ok-add_run.ensures.text
+    (back.is_row.are_runs 0 c.in-Some-back.right (omega arith))
 
 pub returns-in-Some-back-clause-pieces : goal.returns-in-Some-back-clause-pieces
 returns-in-Some-back-clause-pieces c =
     let text = string_bytes c.args.text.now in
     let front : IsFront text c.args.touched.now c.args.run.now c.match-front.pieces.items = elim c.match-front.branch [
       | in-Some+in_ok-push w ↦
-          let items : w.push.new.self.items ≡ w.in-Some.left ∷ [] = w.in_ok-push.ensures.items ∙ ap (λ (l : List Run). l ++ w.in-Some.left ∷ []) c.requires.none in
-          rw (w.pieces-is) (subst (λ (l : List Run). IsFront text c.args.touched.now c.args.run.now l) (sym items) (subst (λ (t : List ℕ). IsFront t c.args.touched.now c.args.run.now (w.in-Some.left ∷ [])) c.as_str.ensures.value w.in-Some.ensures.front))
-      | in_default w ↦ rw (w.pieces-is) (subst (λ (l : List Run). IsFront text c.args.touched.now c.args.run.now l) (sym c.requires.none) (subst (λ (t : List ℕ). IsFront t c.args.touched.now c.args.run.now []) c.as_str.ensures.value w.in_default.ensures.front))
+          let items : w.push.new.self.items ≡ w.in-Some.left ∷ [] = w.in_ok-push.ensures.items
+          ∙ ap (λ (l : List Run). l ++ w.in-Some.left ∷ []) c.requires.none in
+          rw (w.pieces-is) (subst (λ (l : List Run). IsFront text c.args.touched.now c.args.run.now l) (sym items)
+          (subst (λ (t : List ℕ). IsFront t c.args.touched.now c.args.run.now (w.in-Some.left ∷ [])) c.as_str.ensures.value w.in-Some.ensures.front))
+      | in_default w ↦ rw (w.pieces-is) (subst (λ (l : List Run). IsFront text c.args.touched.now c.args.run.now l) (sym c.requires.none)
+          (subst (λ (t : List ℕ). IsFront t c.args.touched.now c.args.run.now []) c.as_str.ensures.value w.in_default.ensures.front))
     ] in
-    let back = subst (λ (t : List ℕ). IsBack t c.args.touched.now c.args.run.now (c.in-Some-back.right ∷ [])) c.as_str-2.ensures.value c.in-Some-back.ensures.back in
+    let back = subst (λ (t : List ℕ). IsBack t c.args.touched.now c.args.run.now
+    (c.in-Some-back.right ∷ [])) c.as_str-2.ensures.value c.in-Some-back.ensures.back in
     on_ok_three c.add_run-in-Some-back.result
     (λ shows are adds. ArePieces-three text (string_bytes c.add_run.new.text) (string_bytes c.add_run-in-Some-back.new.text)
     c.args.touched.now c.match-front.pieces.items c.add_run.new.runs.items c.add_run-in-Some-back.new.runs.items c.args.run.now
@@ -37,12 +43,16 @@ returns-in-None-clause-pieces c =
     let text = string_bytes c.args.text.now in
     let front : IsFront text c.args.touched.now c.args.run.now c.match-front.pieces.items = elim c.match-front.branch [
       | in-Some+in_ok-push w ↦
-          let items : w.push.new.self.items ≡ w.in-Some.left ∷ [] = w.in_ok-push.ensures.items ∙ ap (λ (l : List Run). l ++ w.in-Some.left ∷ []) c.requires.none in
-          rw (w.pieces-is) (subst (λ (l : List Run). IsFront text c.args.touched.now c.args.run.now l) (sym items) (subst (λ (t : List ℕ). IsFront t c.args.touched.now c.args.run.now (w.in-Some.left ∷ [])) c.as_str.ensures.value w.in-Some.ensures.front))
-      | in_default w ↦ rw (w.pieces-is) (subst (λ (l : List Run). IsFront text c.args.touched.now c.args.run.now l) (sym c.requires.none) (subst (λ (t : List ℕ). IsFront t c.args.touched.now c.args.run.now []) c.as_str.ensures.value w.in_default.ensures.front))
+          let items : w.push.new.self.items ≡ w.in-Some.left ∷ [] = w.in_ok-push.ensures.items
+          ∙ ap (λ (l : List Run). l ++ w.in-Some.left ∷ []) c.requires.none in
+          rw (w.pieces-is) (subst (λ (l : List Run). IsFront text c.args.touched.now c.args.run.now l) (sym items)
+          (subst (λ (t : List ℕ). IsFront t c.args.touched.now c.args.run.now (w.in-Some.left ∷ [])) c.as_str.ensures.value w.in-Some.ensures.front))
+      | in_default w ↦ rw (w.pieces-is) (subst (λ (l : List Run). IsFront text c.args.touched.now c.args.run.now l) (sym c.requires.none)
+          (subst (λ (t : List ℕ). IsFront t c.args.touched.now c.args.run.now []) c.as_str.ensures.value w.in_default.ensures.front))
     ] in
     let back = subst (λ (t : List ℕ). IsBack t c.args.touched.now c.args.run.now []) c.as_str-2.ensures.value c.in-None.ensures.back in
-    ArePieces-two text (string_bytes c.add_run.new.text) c.args.touched.now c.match-front.pieces.items c.add_run.new.runs.items c.args.run.now c.requires.touched c.requires.run front back c.in_ok-add_run.ensures.ok c.in_ok-add_run.ensures.are_runs c.in_ok-add_run.ensures.adds
+    ArePieces-two text (string_bytes c.add_run.new.text) c.args.touched.now c.match-front.pieces.items c.add_run.new.runs.items c.args.run.now
+    c.requires.touched c.requires.run front back c.in_ok-add_run.ensures.ok c.in_ok-add_run.ensures.are_runs c.in_ok-add_run.ensures.adds
 
 pub front_of-front-requires : goal.front_of-front-requires
 front_of-front-requires c =
@@ -64,8 +74,10 @@ add_run-requires-clause-runs c =
     let text = string_bytes c.args.text.now in
     elim c.match-front.branch [
       | in-Some+in_ok-push w ↦
-          let items : w.push.new.self.items ≡ w.in-Some.left ∷ [] = w.in_ok-push.ensures.items ∙ ap (λ (l : List Run). l ++ w.in-Some.left ∷ []) c.requires.none in
-          let front : IsFront text c.args.touched.now c.args.run.now (w.in-Some.left ∷ []) = subst (λ (t : List ℕ). IsFront t c.args.touched.now c.args.run.now (w.in-Some.left ∷ [])) c.as_str.ensures.value w.in-Some.ensures.front in
+          let items : w.push.new.self.items ≡ w.in-Some.left ∷ [] = w.in_ok-push.ensures.items
+          ∙ ap (λ (l : List Run). l ++ w.in-Some.left ∷ []) c.requires.none in
+          let front : IsFront text c.args.touched.now c.args.run.now (w.in-Some.left ∷ []) = subst
+          (λ (t : List ℕ). IsFront t c.args.touched.now c.args.run.now (w.in-Some.left ∷ [])) c.as_str.ensures.value w.in-Some.ensures.front in
           rw (w.pieces-is) (subst (λ (l : List Run). All (λ x. IsRun text x) l) (sym items) front.is_row.are_runs)
       | in_default w ↦ rw (w.pieces-is) (subst (λ (l : List Run). All (λ x. IsRun text x) l) (sym c.requires.none) (All-nil _))
     ]
@@ -75,4 +87,5 @@ add_run-requires-in-Some-back-clause-runs c = c.in_ok-add_run.ensures.are_runs
 
 pub returns-in-Some-back-clause-text : goal.returns-in-Some-back-clause-text
 returns-in-Some-back-clause-text c =
-    BeginsWith-trans (string_bytes c.args.text.now) (string_bytes c.add_run.new.text) (string_bytes c.add_run-in-Some-back.new.text) c.in_ok-add_run.ensures.text c.add_run-in-Some-back.ensures.text
+    BeginsWith-trans (string_bytes c.args.text.now) (string_bytes c.add_run.new.text)
+    (string_bytes c.add_run-in-Some-back.new.text) c.in_ok-add_run.ensures.text c.add_run-in-Some-back.ensures.text

@@ -11,8 +11,14 @@ none = record { row = 0; cell = 0; count = 0; start = 0; end = 0; role = MainHea
 
 pub returns-then-last-run : goal.returns-then-last-run
 returns-then-last-run c =
-    record { yes = λ h. all_before c.args.runs.now c.args.run.now none (omega arith) c.requires.ordered record { rows = omega (arith, c.if-last-run.true); cells = λ same. omega arith } }
+    record {
+      yes = λ h. all_before c.args.runs.now c.args.run.now none (omega arith) c.requires.ordered record
+          { rows = omega (arith, c.if-last-run.true); cells = λ same. omega arith };
+    }
 
 pub returns-then-last-run-2 : goal.returns-then-last-run-2
 returns-then-last-run-2 c =
-    record { yes = λ h. all_before c.args.runs.now c.args.run.now none (omega arith) c.requires.ordered record { rows = omega (arith, c.if-last-run-2.true); cells = λ same. leb-true _ _ h } }
+    record {
+      yes = λ h. all_before c.args.runs.now c.args.run.now none (omega arith) c.requires.ordered record
+          { rows = omega (arith, c.if-last-run-2.true); cells = λ same. leb-true _ _ h };
+    }

@@ -6,7 +6,11 @@ use Rattle.snippet_grid.proofs.put.back_of.Goals as goal
 
 pub returns-then-to-from : goal.returns-then-to-from
 returns-then-to-from c =
-    record { back = IsBack-none c.args.text.now c.args.touched.now c.args.run.now (end_before c.args.text.now c.args.run.now c.args.touched.now (c.args.run.now.cell + c.args.run.now.count) (length c.args.touched.now - 1) none c.requires.touched (omega arith) c.if-to-from.true) }
+    record {
+      back = IsBack-none c.args.text.now c.args.touched.now c.args.run.now
+          (end_before c.args.text.now c.args.run.now c.args.touched.now (c.args.run.now.cell + c.args.run.now.count)
+          (length c.args.touched.now - 1) none c.requires.touched (omega arith) c.if-to-from.true);
+    }
 
 pub returns : goal.returns
 returns c =

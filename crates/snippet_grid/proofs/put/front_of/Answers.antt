@@ -6,7 +6,10 @@ use Rattle.snippet_grid.proofs.put.front_of.Goals as goal
 
 pub returns-then-run-first : goal.returns-then-run-first
 returns-then-run-first c =
-    record { front = IsFront-none c.args.text.now c.args.touched.now c.args.run.now (begin_after c.args.text.now c.args.run.now c.args.touched.now c.args.run.now.cell none c.requires.touched c.if-run-first.true) }
+    record {
+      front = IsFront-none c.args.text.now c.args.touched.now c.args.run.now
+          (begin_after c.args.text.now c.args.run.now c.args.touched.now c.args.run.now.cell none c.requires.touched c.if-run-first.true);
+    }
 
 pub returns : goal.returns
 returns c =

@@ -13,7 +13,8 @@ use Rattle.snippet_grid.proofs.put.put_run.Goals as goal
 
 pub returns-then-are_before-clause-ok : goal.returns-then-are_before-clause-ok
 returns-then-are_before-clause-ok c =
-    let before = subst (λ (l : List Run). All (λ x. Precedes x c.args.run.now) l) c.as_slice-old.ensures.value (c.are_before.ensures.yes c.if-are_before.true) in
+    let before = subst (λ (l : List Run). All (λ x. Precedes x c.args.run.now) l) c.as_slice-old.ensures.value
+    (c.are_before.ensures.yes c.if-are_before.true) in
     on_ok_three c.add_run.result
     (λ shows are adds. IsPut-added (string_bytes c.args.text.now) (string_bytes c.add_run.new.text)
     c.args.runs.now.items c.add_run.new.runs.items c.args.run.now shows are c.requires.ordered c.requires.apart before adds)
@@ -30,11 +31,15 @@ returns-then-continues-clause-ok c =
     let run = c.args.run.now in
     let first = c.index_mut.result.now in
     let high : end ≤ length items = subst (λ (l : List Run). end ≤ length l) is c.begun_by-end.ensures.within in
-    let same = ap (λ (l : List Run). get_or l start none) is ∙ get_or_default items start none first (omega (arith, c.if-end-start-eq1.true, high)) ∙ sym c.index_mut.ensures.value in
+    let same = ap (λ (l : List Run). get_or l start none) is ∙ get_or_default items start none first (omega (arith, c.if-end-start-eq1.true, high))
+    ∙ sym c.index_mut.ensures.value in
     let goes = subst (λ x. Continues x run) same (c.continues.ensures.yes c.if-continues.true) in
-    let above : (k : ℕ) (d : Run) → k < start → IsClear (get_or items k d) run = subst (λ (l : List Run). (k : ℕ) (d : Run) → k < start → IsClear (get_or l k d) run) is c.first_touched-start.ensures.before in
-    let touch : (k : ℕ) (d : Run) → start ≤ k → k < end → Touches (get_or items k d) run = subst (λ (l : List Run). (k : ℕ) (d : Run) → start ≤ k → k < end → Touches (get_or l k d) run) is c.first_touched-start.ensures.touch in
-    let below : (k : ℕ) (d : Run) → end ≤ k → k < length items → IsClear run (get_or items k d) = subst (λ (l : List Run). (k : ℕ) (d : Run) → end ≤ k → k < length l → IsClear run (get_or l k d)) is c.begun_by-end.ensures.later in
+    let above : (k : ℕ) (d : Run) → k < start → IsClear (get_or items k d) run = subst
+    (λ (l : List Run). (k : ℕ) (d : Run) → k < start → IsClear (get_or l k d) run) is c.first_touched-start.ensures.before in
+    let touch : (k : ℕ) (d : Run) → start ≤ k → k < end → Touches (get_or items k d) run = subst
+    (λ (l : List Run). (k : ℕ) (d : Run) → start ≤ k → k < end → Touches (get_or l k d) run) is c.first_touched-start.ensures.touch in
+    let below : (k : ℕ) (d : Run) → end ≤ k → k < length items → IsClear run (get_or items k d) = subst
+    (λ (l : List Run). (k : ℕ) (d : Run) → end ≤ k → k < length l → IsClear run (get_or l k d)) is c.begun_by-end.ensures.later in
     on_ok_weaker c.join.result
     (λ joined. IsPut-one old new items run first c.join.new.first start end (omega (arith, c.if-end-start-eq1.true))
     high c.index_mut.ensures.value above touch below c.requires.runs c.requires.ordered c.requires.apart c.join.ensures.text c.requires.run goes
@@ -44,7 +49,8 @@ pub returns-then-continues-clause-err : goal.returns-then-continues-clause-err
 returns-then-continues-clause-err c =
     let items = c.args.runs.now.items in
     let start = c.first_touched-start.result in
-    on_err_weaker c.join.result (λ same. ap (λ (x : Run). set items start x) (same ∙ c.index_mut.ensures.value) ∙ set-get_or items start c.index_mut.result.now) c.join.ensures.err
+    on_err_weaker c.join.result (λ same. ap (λ (x : Run). set items start x) (same ∙ c.index_mut.ensures.value)
+    ∙ set-get_or items start c.index_mut.result.now) c.join.ensures.err
 
 pub add_pieces-requires-clause-touched : goal.add_pieces-requires-clause-touched
 add_pieces-requires-clause-touched c =
@@ -66,11 +72,15 @@ returns-clause-ok c =
     let new = string_bytes c.add_pieces.new.text in
     let pieces = c.add_pieces.new.pieces.items in
     let high : end ≤ length items = subst (λ (l : List Run). end ≤ length l) is c.begun_by-end.ensures.within in
-    let above : (k : ℕ) (d : Run) → k < start → IsClear (get_or items k d) run = subst (λ (l : List Run). (k : ℕ) (d : Run) → k < start → IsClear (get_or l k d) run) is c.first_touched-start.ensures.before in
-    let touch : (k : ℕ) (d : Run) → start ≤ k → k < end → Touches (get_or items k d) run = subst (λ (l : List Run). (k : ℕ) (d : Run) → start ≤ k → k < end → Touches (get_or l k d) run) is c.first_touched-start.ensures.touch in
-    let below : (k : ℕ) (d : Run) → end ≤ k → k < length items → IsClear run (get_or items k d) = subst (λ (l : List Run). (k : ℕ) (d : Run) → end ≤ k → k < length l → IsClear run (get_or l k d)) is c.begun_by-end.ensures.later in
+    let above : (k : ℕ) (d : Run) → k < start → IsClear (get_or items k d) run = subst
+    (λ (l : List Run). (k : ℕ) (d : Run) → k < start → IsClear (get_or l k d) run) is c.first_touched-start.ensures.before in
+    let touch : (k : ℕ) (d : Run) → start ≤ k → k < end → Touches (get_or items k d) run = subst
+    (λ (l : List Run). (k : ℕ) (d : Run) → start ≤ k → k < end → Touches (get_or l k d) run) is c.first_touched-start.ensures.touch in
+    let below : (k : ℕ) (d : Run) → end ≤ k → k < length items → IsClear run (get_or items k d) = subst
+    (λ (l : List Run). (k : ℕ) (d : Run) → end ≤ k → k < length l → IsClear run (get_or l k d)) is c.begun_by-end.ensures.later in
     let are = subst (λ (l : List Run). ArePieces old new (stretch l start end) pieces run) is c.in_ok-add_pieces.ensures.pieces in
-    on_ok_weaker c.exchange.result (λ done. IsPut-touched old new items c.exchange.new.runs.items pieces run start end c.first_touched-start.ensures.ordered high above touch below c.requires.runs c.requires.ordered c.requires.apart c.in_ok-add_pieces.ensures.text are done) c.exchange.ensures.ok
+    on_ok_weaker c.exchange.result (λ done. IsPut-touched old new items c.exchange.new.runs.items pieces run start end c.first_touched-start.ensures.ordered
+    high above touch below c.requires.runs c.requires.ordered c.requires.apart c.in_ok-add_pieces.ensures.text are done) c.exchange.ensures.ok
 
 -- what is asked of the runs holds of the slice that they are read from
 pub are_before-requires-clause-ordered : goal.are_before-requires-clause-ordered
@@ -100,7 +110,9 @@ first_touched-start-requires-clause-reaches c = c.begun_by-end.ensures.begun
 pub join-requires-clause-first : goal.join-requires-clause-first
 join-requires-clause-first c =
     let first = c.index_mut.result.now in
-    let within : c.first_touched-start.result < length c.args.runs.now.items = subst (λ (l : List Run). c.first_touched-start.result < length l) c.as_slice-old.ensures.value (omega (arith, c.if-end-start-eq1.true, c.begun_by-end.ensures.within)) in
+    let within : c.first_touched-start.result < length c.args.runs.now.items = subst
+    (λ (l : List Run). c.first_touched-start.result < length l) c.as_slice-old.ensures.value
+    (omega (arith, c.if-end-start-eq1.true, c.begun_by-end.ensures.within)) in
     subst (λ (x : Run). IsRun (string_bytes c.args.text.now) x) (sym c.index_mut.ensures.value) (c.requires.runs c.first_touched-start.result first within)
 
 pub join-requires-clause-continues : goal.join-requires-clause-continues
@@ -112,6 +124,7 @@ join-requires-clause-continues c =
     let run = c.args.run.now in
     let first = c.index_mut.result.now in
     let high : end ≤ length items = subst (λ (l : List Run). end ≤ length l) is c.begun_by-end.ensures.within in
-    let same = ap (λ (l : List Run). get_or l start none) is ∙ get_or_default items start none first (omega (arith, c.if-end-start-eq1.true, high)) ∙ sym c.index_mut.ensures.value in
+    let same = ap (λ (l : List Run). get_or l start none) is ∙ get_or_default items start none first (omega (arith, c.if-end-start-eq1.true, high))
+    ∙ sym c.index_mut.ensures.value in
     let goes = subst (λ x. Continues x run) same (c.continues.ensures.yes c.if-continues.true) in
     goes

@@ -41,10 +41,12 @@ add_run-requires-clause-run c = c.in_ok-run.ensures.ok.is_run
 
 pub returns-clause-text : goal.returns-clause-text
 returns-clause-text c =
-    BeginsWith-trans (string_bytes c.args.text.now) (string_bytes c.push_word.new.text) (string_bytes c.add_run.new.text) c.in_ok-run.ensures.text c.add_run.ensures.text
+    BeginsWith-trans (string_bytes c.args.text.now) (string_bytes c.push_word.new.text)
+    (string_bytes c.add_run.new.text) c.in_ok-run.ensures.text c.add_run.ensures.text
 
 pub returns-clause-ends : goal.returns-clause-ends
 returns-clause-ends c =
     let run = c.in_ok-run.ensures.ok in
     let long : c.in_ok-run.run'.count ≡ length (chars c.args.word.now) = run.is_run.counted ∙ ap length run.chars_are in
-    on_ok_weaker c.add_run.result (λ adds. adds.ends (c.args.at + length (chars c.args.word.now)) (λ k d within. omega (arith, c.requires.before k d within)) (omega (arith, run.cell_is, long))) c.add_run.ensures.adds
+    on_ok_weaker c.add_run.result (λ adds. adds.ends (c.args.at + length (chars c.args.word.now)) (λ k d within.
+    omega (arith, c.requires.before k d within)) (omega (arith, run.cell_is, long))) c.add_run.ensures.adds

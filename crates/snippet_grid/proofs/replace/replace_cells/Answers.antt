@@ -25,7 +25,8 @@ returns-then-end-start-clause-ok c =
     let lent = ap (λ (w : List ℕ). get_or w c.args.row 0) c.deref.ensures.value in
     elim (cases_lt c.args.start c.args.end) [
       | inr none ↦ sym (cells_replaced_empty rows c.args.row c.args.start c.args.end cells none)
-      | inl some ↦ sym (cells_replaced_past rows c.args.row c.args.start c.args.end cells (omega (arith, c.then-end-start.either, c.width_of-width.ensures.value, width, lent)))
+      | inl some ↦ sym (cells_replaced_past rows c.args.row c.args.start c.args.end cells
+          (omega (arith, c.then-end-start.either, c.width_of-width.ensures.value, width, lent)))
     ]
 
 pub row_bounds-from-requires : goal.row_bounds-from-requires
@@ -33,7 +34,8 @@ row_bounds-from-requires c =
     let is = sym c.as_slice-old.ensures.value in
     record {
       ordered = subst (λ (l : List Run). AreOrdered l) is c.requires.grid.ordered;
-      fits = subst (λ (l : List Run). All (λ x. x.cell < 2 ^ 64) l) is (begins_fit (string_bytes c.args.text.now) c.args.runs.now.items c.requires.grid.are_runs);
+      fits = subst (λ (l : List Run). All (λ x. x.cell < 2 ^ 64) l) is
+          (begins_fit (string_bytes c.args.text.now) c.args.runs.now.items c.requires.grid.are_runs);
     }
 
 pub replaced_row-requires-clause-runs : goal.replaced_row-requires-clause-runs
@@ -47,15 +49,19 @@ replaced_row-requires-clause-runs c =
 
 pub returns-in_err-replaced_row-clause-grid : goal.returns-in_err-replaced_row-clause-grid
 returns-in_err-replaced_row-clause-grid c =
-    IsGrid-grown (string_bytes c.args.text.now) (string_bytes c.replaced_row.new.text) c.args.runs.now.items c.args.runs.now.items c.args.widths.now.items c.args.widths.now.items c.in_err-replaced_row.ensures.text refl refl c.requires.grid
+    IsGrid-grown (string_bytes c.args.text.now) (string_bytes c.replaced_row.new.text) c.args.runs.now.items c.args.runs.now.items c.args.widths.now.items
+    c.args.widths.now.items c.in_err-replaced_row.ensures.text refl refl c.requires.grid
 
 pub returns-in_err-replaced_row-clause-err : goal.returns-in_err-replaced_row-clause-err
 returns-in_err-replaced_row-clause-err c =
-    on_err_from c.from_residual.result (grid_grown (string_bytes c.args.text.now) (string_bytes c.replaced_row.new.text) c.args.runs.now.items c.args.runs.now.items c.args.widths.now.items c.args.widths.now.items c.in_err-replaced_row.ensures.text refl refl c.requires.grid)
+    on_err_from c.from_residual.result (grid_grown (string_bytes c.args.text.now)
+    (string_bytes c.replaced_row.new.text) c.args.runs.now.items c.args.runs.now.items c.args.widths.now.items c.args.widths.now.items
+    c.in_err-replaced_row.ensures.text refl refl c.requires.grid)
 
 pub returns-in_err-exchange-clause-grid : goal.returns-in_err-exchange-clause-grid
 returns-in_err-exchange-clause-grid c =
-    IsGrid-grown (string_bytes c.args.text.now) (string_bytes c.replaced_row.new.text) c.args.runs.now.items c.exchange.new.runs.items c.args.widths.now.items c.args.widths.now.items c.in_ok-replaced_row.ensures.text c.in_err-exchange.ensures.err refl c.requires.grid
+    IsGrid-grown (string_bytes c.args.text.now) (string_bytes c.replaced_row.new.text) c.args.runs.now.items c.exchange.new.runs.items c.args.widths.now.items
+    c.args.widths.now.items c.in_ok-replaced_row.ensures.text c.in_err-exchange.ensures.err refl c.requires.grid
 
 pub returns-in_err-exchange-clause-err : goal.returns-in_err-exchange-clause-err
 returns-in_err-exchange-clause-err c =
@@ -82,14 +88,22 @@ returns c =
     let was : c.width_of-width.result ≡ get_or w row 0 = c.width_of-width.ensures.value ∙ ap (λ (u : List ℕ). get_or u row 0) c.deref.ensures.value in
     let some : c.args.start < c.args.end = omega (arith, c.if-end-start.false) in
     let within : c.args.end ≤ get_or w row 0 = omega (arith, was, c.if-width-end.false) in
-    let wide : c.in-Some.wide ≡ c.args.start + length (chars c.args.word.now) + (get_or w row 0 - c.args.end) = omega (arith, c.in-Some.ensures, c.char_count.ensures.value, was, some, within) in
+    let wide : c.in-Some.wide ≡ c.args.start + length (chars c.args.word.now) + (get_or w row 0 - c.args.end) = omega
+    (arith, c.in-Some.ensures, c.char_count.ensures.value, was, some, within) in
     let there : row < length w = elim (cases_lt row (length w)) [
       | inl h ↦ h
       | inr past ↦ absurd (omega (arith, get_or_past w row 0 past))
     ] in
     let here : get_or v row 0 ≡ c.in-Some.wide = get_or-set_same w row c.in-Some.wide 0 there in
     let others : (r : ℕ) → r ≢ row → get_or v r 0 ≡ get_or w r 0 = λ r other. get_or-set_other w row r c.in-Some.wide 0 other in
-    let at = RowAt-read runs c.as_slice-old.result.now row from to is record { ordered = c.row_bounds-from.ensures.bounds.0; within = c.row_bounds-from.ensures.bounds.1; above = c.row_bounds-from.ensures.above; inside = c.row_bounds-from.ensures.inside; below = c.row_bounds-from.ensures.below } in
+    let at = RowAt-read runs c.as_slice-old.result.now row from to is record {
+      ordered = c.row_bounds-from.ensures.bounds.0;
+      within = c.row_bounds-from.ensures.bounds.1;
+      above = c.row_bounds-from.ensures.above;
+      inside =
+          c.row_bounds-from.ensures.inside;
+      below = c.row_bounds-from.ensures.below;
+    } in
     let put : IsExchanged old new runs now fresh row from to = record {
       at = at;
       grows = c.in_ok-replaced_row.ensures.text;
@@ -99,16 +113,26 @@ returns c =
       is_row = c.in_ok-replaced_row.ensures.row;
       is = c.in_ok-exchange.ensures.ok;
     } in
-    let ends : EndsBy (get_or w row 0) (stretch c.as_slice-old.result.now from to) = subst (λ (l : List Run). EndsBy (get_or w row 0) (stretch l from to)) (sym is) (row_ends w runs row from to at c.requires.grid.inside) in
+    let ends : EndsBy (get_or w row 0) (stretch c.as_slice-old.result.now from to) = subst (λ (l : List Run). EndsBy (get_or w row 0) (stretch l from to))
+    (sym is) (row_ends w runs row from to at c.requires.grid.inside) in
     let new_ends = c.in_ok-replaced_row.ensures.ends (get_or w row 0) ends in
     let all : EndsBy (get_or v row 0) fresh = λ k d inside. omega (arith, new_ends k d inside, wide, here) in
     let fits : FitIn v now = FitIn-replaced old new runs now fresh w v row from to put c.requires.grid.inside all others in
-    let shows = subst (λ (l : List Run). ShowsReplaced old new (stretch l from to) fresh row c.args.start c.args.end cells) is c.in_ok-replaced_row.ensures.ok in
+    let shows = subst (λ (l : List Run). ShowsReplaced old new (stretch l from to) fresh row c.args.start c.args.end cells) is
+    c.in_ok-replaced_row.ensures.ok in
     record {
-      ok = grid_replaced old new runs now fresh w v row c.args.start c.args.end from to cells put some within c.requires.grid.inside fits (length-set w row c.in-Some.wide) (omega (arith, here, wide, long, some, within)) others shows;
+      ok = grid_replaced old new runs now fresh w v row c.args.start c.args.end from to cells put some within c.requires.grid.inside fits
+          (length-set w row c.in-Some.wide) (omega (arith, here, wide, long, some, within)) others shows;
       rows = length-set w row c.in-Some.wide;
       grid = IsGrid-put old new runs now fresh w v row from to put fits;
-      runs_added = omega (arith, put_length runs now fresh row from to at c.in_ok-exchange.ensures.ok, c.in_ok-replaced_row.ensures.count, ap (λ (l : List Run). length (stretch l from to)) is, length-stretch runs row from to at);
+      runs_added = omega (
+        arith,
+        put_length runs now fresh row from to at c.in_ok-exchange.ensures.ok,
+        c.in_ok-replaced_row.ensures.count,
+        ap
+            (λ (l : List Run). length (stretch l from to)) is,
+        length-stretch runs row from to at,
+      );
       empty_succeeds = search rules;
       past_succeeds = search rules;
       err = search rules;
@@ -122,7 +146,15 @@ replaced_row-requires-clause-moved c =
     let row = c.args.row in
     let from = c.row_bounds-from.result.0 in
     let to = c.row_bounds-from.result.1 in
-    let at = RowAt-read runs c.as_slice-old.result.now row from to is record { ordered = c.row_bounds-from.ensures.bounds.0; within = c.row_bounds-from.ensures.bounds.1; above = c.row_bounds-from.ensures.above; inside = c.row_bounds-from.ensures.inside; below = c.row_bounds-from.ensures.below } in
-    let ends : EndsBy (get_or w row 0) (stretch c.as_slice-old.result.now from to) = subst (λ (l : List Run). EndsBy (get_or w row 0) (stretch l from to)) (sym is) (row_ends w runs row from to at c.requires.grid.inside) in
+    let at = RowAt-read runs c.as_slice-old.result.now row from to is record {
+      ordered = c.row_bounds-from.ensures.bounds.0;
+      within = c.row_bounds-from.ensures.bounds.1;
+      above = c.row_bounds-from.ensures.above;
+      inside =
+          c.row_bounds-from.ensures.inside;
+      below = c.row_bounds-from.ensures.below;
+    } in
+    let ends : EndsBy (get_or w row 0) (stretch c.as_slice-old.result.now from to) = subst (λ (l : List Run). EndsBy (get_or w row 0) (stretch l from to))
+    (sym is) (row_ends w runs row from to at c.requires.grid.inside) in
     let was : c.width_of-width.result ≡ get_or w row 0 = c.width_of-width.ensures.value ∙ ap (λ (u : List ℕ). get_or u row 0) c.deref.ensures.value in
     λ k d within. omega (arith, ends k d within, was, c.in-Some.ensures, c.char_count.ensures.value, c.if-end-start.false, c.if-width-end.false)

@@ -25,7 +25,9 @@ pub returns-clause-ok : goal.returns-clause-ok
 returns-clause-ok c =
     let cells = text_cells c.args.role (chars c.args.word.now) in
     let long = sym c.char_count.ensures.value in
-    let word = subst (λ n. ShowsSpan (string_bytes c.copy_cells.new.text) (string_bytes c.add_word.new.text) c.copy_cells.new.out.items c.add_word.new.out.items c.args.row c.args.start (c.args.start + n) (λ k. slice_index_or cells (k - c.args.start) SPACE)) long c.in_ok-add_word.ensures.ok in
+    let word = subst (λ n. ShowsSpan (string_bytes c.copy_cells.new.text)
+    (string_bytes c.add_word.new.text) c.copy_cells.new.out.items c.add_word.new.out.items c.args.row c.args.start (c.args.start + n) (λ k.
+    slice_index_or cells (k - c.args.start) SPACE)) long c.in_ok-add_word.ensures.ok in
     let ends = subst (λ n. EndsBy (c.args.start + n) c.add_word.new.out.items) long c.in_ok-add_word.ensures.ends in
     on_ok_weaker c.copy_cells-2.result
     (λ copies. row_replaced (string_bytes c.args.text.now) (string_bytes c.copy_cells.new.text) (string_bytes c.add_word.new.text)
@@ -56,7 +58,8 @@ returns-clause-count c =
 -- the row is begun with no runs
 pub copy_cells-requires-clause-out : goal.copy_cells-requires-clause-out
 copy_cells-requires-clause-out c =
-    subst (λ (l : List Run). IsRow (string_bytes c.args.text.now) c.args.row l) (sym c.clear.ensures.items) (IsRow-none (string_bytes c.args.text.now) c.args.row)
+    subst (λ (l : List Run). IsRow (string_bytes c.args.text.now) c.args.row l) (sym c.clear.ensures.items)
+    (IsRow-none (string_bytes c.args.text.now) c.args.row)
 
 pub copy_cells-requires-clause-before : goal.copy_cells-requires-clause-before
 copy_cells-requires-clause-before c =
@@ -89,9 +92,11 @@ copy_cells-requires-2-clause-fits c =
 
 pub returns-in_err-add_word-clause-text : goal.returns-in_err-add_word-clause-text
 returns-in_err-add_word-clause-text c =
-    BeginsWith-trans (string_bytes c.args.text.now) (string_bytes c.copy_cells.new.text) (string_bytes c.add_word.new.text) c.in_ok-copy_cells.ensures.text c.in_err-add_word.ensures.text
+    BeginsWith-trans (string_bytes c.args.text.now) (string_bytes c.copy_cells.new.text)
+    (string_bytes c.add_word.new.text) c.in_ok-copy_cells.ensures.text c.in_err-add_word.ensures.text
 
 pub returns-clause-text : goal.returns-clause-text
 returns-clause-text c =
-    let word = BeginsWith-trans (string_bytes c.args.text.now) (string_bytes c.copy_cells.new.text) (string_bytes c.add_word.new.text) c.in_ok-copy_cells.ensures.text c.in_ok-add_word.ensures.text in
+    let word = BeginsWith-trans (string_bytes c.args.text.now) (string_bytes c.copy_cells.new.text)
+    (string_bytes c.add_word.new.text) c.in_ok-copy_cells.ensures.text c.in_ok-add_word.ensures.text in
     BeginsWith-trans (string_bytes c.args.text.now) (string_bytes c.add_word.new.text) (string_bytes c.copy_cells-2.new.text) word c.copy_cells-2.ensures.text

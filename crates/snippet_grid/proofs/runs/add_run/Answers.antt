@@ -38,17 +38,21 @@ returns-clause-ok c =
 
 pub returns-clause-are_runs : goal.returns-clause-are_runs
 returns-clause-are_runs c =
-    subst (λ (xs : List Run). All (λ x. IsRun (string_bytes c.args.text.now) x) xs) (sym c.in_ok-push.ensures.items) (All-push (λ x. IsRun (string_bytes c.args.text.now) x) c.args.runs.now.items c.args.run.now c.requires.runs c.requires.run)
+    subst (λ (xs : List Run). All (λ x. IsRun (string_bytes c.args.text.now) x) xs) (sym c.in_ok-push.ensures.items)
+    (All-push (λ x. IsRun (string_bytes c.args.text.now) x) c.args.runs.now.items c.args.run.now c.requires.runs c.requires.run)
 
 pub returns-then-continues-clause-adds : goal.returns-then-continues-clause-adds
 returns-then-continues-clause-adds c =
-    on_ok_weaker c.join.result (λ joined. AddsRun-joined (string_bytes c.args.text.now) (string_bytes c.join.new.text) c.args.runs.now.items _ c.index_mut.result.now c.args.run.now c.join.new.first (omega arith) c.index_mut.ensures.value (goes_there c) joined) c.join.ensures.ok
+    on_ok_weaker c.join.result (λ joined. AddsRun-joined (string_bytes c.args.text.now)
+    (string_bytes c.join.new.text) c.args.runs.now.items _ c.index_mut.result.now c.args.run.now c.join.new.first (omega arith) c.index_mut.ensures.value
+    (goes_there c) joined) c.join.ensures.ok
 
 pub returns-then-continues-clause-err : goal.returns-then-continues-clause-err
 returns-then-continues-clause-err c =
     let runs = c.args.runs.now.items in
     let i : ℕ = c.len-len.result - 1 in
-    on_err_weaker c.join.result (λ same. ap (λ (x : Run). set runs i x) (same ∙ c.index_mut.ensures.value) ∙ set-get_or runs i c.index_mut.result.now) c.join.ensures.err
+    on_err_weaker c.join.result (λ same. ap (λ (x : Run). set runs i x) (same ∙ c.index_mut.ensures.value)
+    ∙ set-get_or runs i c.index_mut.result.now) c.join.ensures.err
 
 pub returns-clause-adds : goal.returns-clause-adds
 returns-clause-adds c =
@@ -56,7 +60,8 @@ returns-clause-adds c =
     let differs : (d : Run) → 0 < length runs → Differ (get_or runs (length runs - 1) d) c.args.run.now = λ d some. elim c.if-len-gt0.branch [
       | then-len-gt0+else-continues w ↦
           let place : c.len-len.result - 1 ≡ length runs - 1 = omega arith in
-          let read : w.index-last.result.now ≡ get_or runs (length runs - 1) d = w.index-last.ensures ∙ ap (λ k. get_or runs k w.index-last.result.now) place ∙ get_or_default runs (length runs - 1) w.index-last.result.now d (omega arith) in
+          let read : w.index-last.result.now ≡ get_or runs (length runs - 1) d = w.index-last.ensures ∙ ap (λ k. get_or runs k w.index-last.result.now) place
+          ∙ get_or_default runs (length runs - 1) w.index-last.result.now d (omega arith) in
           subst (λ x. Differ x c.args.run.now) read (w.continues.ensures.no w.if-continues.false)
       | else-len-gt0 w ↦ absurd (omega (arith, some, w.if-len-gt0.false))
     ] in

@@ -16,7 +16,8 @@ loop-low-preserved-then-begins_after c =
       ordered = omega (arith);
       within = omega (arith, below, so_far.within);
       begun = so_far.begun;
-      later = later_all c.args.runs.now c.args.row c.args.cell _ mid c.requires.ordered (omega (arith, below, so_far.within)) (c.begins_after.ensures.yes c.if-begins_after.true);
+      later = later_all c.args.runs.now c.args.row c.args.cell _ mid c.requires.ordered (omega (arith, below, so_far.within))
+          (c.begins_after.ensures.yes c.if-begins_after.true);
     }
 
 pub loop-low-preserved : goal.loop-low-preserved
@@ -27,6 +28,7 @@ loop-low-preserved c =
     record {
       ordered = omega (arith, below);
       within = so_far.within;
-      begun = λ k d within. begun_all c.args.runs.now c.args.row c.args.cell _ mid c.requires.ordered (omega (arith, below, so_far.within)) (c.begins_after.ensures.no c.if-begins_after.false) k d (omega (arith, within));
+      begun = λ k d within. begun_all c.args.runs.now c.args.row c.args.cell _ mid c.requires.ordered (omega (arith, below, so_far.within))
+          (c.begins_after.ensures.no c.if-begins_after.false) k d (omega (arith, within));
       later = so_far.later;
     }

@@ -13,7 +13,9 @@ loop-run-init c =
 
 pub clipped-part-requires-clause-run : goal.clipped-part-requires-clause-run
 clipped-part-requires-clause-run c =
-    let is = IsRun-grown (string_bytes c.args.text.now) (string_bytes c.loop-run.text) (get_or c.args.runs.now c.loop-run.run-index none) c.loop-run.invariant.grows (c.requires.runs.are_runs c.loop-run.run-index none c.loop-run-test.true) in
+    let is = IsRun-grown (string_bytes c.args.text.now) (string_bytes c.loop-run.text)
+    (get_or c.args.runs.now c.loop-run.run-index none) c.loop-run.invariant.grows
+    (c.requires.runs.are_runs c.loop-run.run-index none c.loop-run-test.true) in
     subst (λ (t : List ℕ). IsRun t (get_or c.args.runs.now c.loop-run.run-index none)) (sym c.as_str.ensures.value) is
 
 pub loop-run-preserved : goal.loop-run-preserved
@@ -22,7 +24,8 @@ loop-run-preserved c =
     let read : run ≡ get_or c.args.runs.now c.loop-run.run-index run = get_or_default c.args.runs.now c.loop-run.run-index none run c.loop-run-test.true in
     elim c.if-start-end.branch [
       | then-start-end+in_ok-add_run w ↦
-          let part = subst (λ (t : List ℕ). IsPart t run c.max-start.result c.min-end.result w.clipped-part.result) w.as_str.ensures.value w.clipped-part.ensures.part in
+          let part = subst (λ (t : List ℕ). IsPart t run c.max-start.result c.min-end.result w.clipped-part.result) w.as_str.ensures.value
+          w.clipped-part.ensures.part in
           rw (w.text-is, w.out-is)
           (copy_next (string_bytes c.args.text.now) (string_bytes c.loop-run.text) (string_bytes w.add_run.new.text)
           c.args.out.now.items c.loop-run.out.items w.add_run.new.runs.items c.args.runs.now run w.clipped-part.result _ c.args.row c.args.from

@@ -9,8 +9,10 @@ returns-then-stands_at-clause-ok c =
     let text = string_bytes c.args.text.now in
     let second = c.args.second.now in
     let there : take (second.end - second.start) (drop c.args.first.now.end text) ≡ run_bytes text second =
-    subst (λ (t : List ℕ). take (second.end - second.start) (drop c.args.first.now.end t) ≡ run_bytes t second) c.as_str.ensures.value (c.stands_at.ensures.yes c.if-stands_at.true) in
-    IsJoined-here text c.args.first.now second _ (IsUtf8-string_bytes c.args.text.now) c.requires.first c.requires.second c.requires.continues there refl refl refl refl refl refl refl
+    subst (λ (t : List ℕ). take (second.end - second.start) (drop c.args.first.now.end t) ≡ run_bytes t second) c.as_str.ensures.value
+    (c.stands_at.ensures.yes c.if-stands_at.true) in
+    IsJoined-here text c.args.first.now second _ (IsUtf8-string_bytes c.args.text.now) c.requires.first c.requires.second c.requires.continues there refl refl
+    refl refl refl refl refl
 
 pub copied-requires : goal.copied-requires
 copied-requires c =

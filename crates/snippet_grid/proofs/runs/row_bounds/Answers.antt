@@ -9,7 +9,12 @@ returns-else-row-eq0-clause-bounds c =
     let start : ℕ = c.rows_end-start.result in
     let end : ℕ = c.rows_end-end.result in (
       elim (cases_lt end start) [
-        | inl wrong ↦ absurd (omega (arith, c.rows_end-end.ensures.below end none (omega arith) (omega (arith, c.rows_end-start.ensures.within)), c.rows_end-start.ensures.above end none wrong))
+        | inl wrong ↦ absurd (omega (
+          arith,
+          c.rows_end-end.ensures.below end none (omega arith)
+              (omega (arith, c.rows_end-start.ensures.within)),
+          c.rows_end-start.ensures.above end none wrong,
+        ))
         | inr low ↦ low
       ],
       c.rows_end-end.ensures.within,

@@ -18,7 +18,9 @@ pub returns-clause-text : goal.returns-clause-text
 returns-clause-text c =
     let spaces : List ℕ = replicate 64 32 in
     let count : c.args.count - 0 ≡ c.args.count = omega arith in
-    c.in_ok-push_str.ensures.bytes ∙ ap (λ (t : List ℕ). string_bytes c.args.out.now ++ t) (c.range.ensures.value ∙ ap (λ (t : List ℕ). slice_range t 0 c.args.count) c.requires.spaces ∙ ap (λ k. take k spaces) count ∙ take-replicate c.args.count 64 32 c.requires.within)
+    c.in_ok-push_str.ensures.bytes ∙ ap (λ (t : List ℕ). string_bytes c.args.out.now ++ t)
+    (c.range.ensures.value ∙ ap (λ (t : List ℕ). slice_range t 0 c.args.count) c.requires.spaces ∙ ap (λ k. take k spaces) count
+    ∙ take-replicate c.args.count 64 32 c.requires.within)
 
 pub returns-clause-grows : goal.returns-clause-grows
 returns-clause-grows c = BeginsWith-added (string_bytes c.args.out.now) _ (string_bytes c.push_str.new.self) c.in_ok-push_str.ensures.bytes

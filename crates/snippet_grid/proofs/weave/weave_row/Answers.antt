@@ -33,72 +33,99 @@ pub loop-run-preserved : goal.loop-run-preserved
 loop-run-preserved c =
     let i = c.loop-run.run-index in
     let run : Run = get_or c.args.runs.now i none in
-    let ahead : (k : ℕ) (d : Run) → i ≤ k → k < length c.args.runs.now → run.cell ≤ (get_or c.args.runs.now k d).cell = first_ahead c.args.text.now c.args.row c.args.runs.now i none c.requires.runs c.loop-run-test.true in
+    let ahead : (k : ℕ) (d : Run) → i ≤ k → k < length c.args.runs.now
+    → run.cell ≤ (get_or c.args.runs.now k d).cell = first_ahead c.args.text.now c.args.row c.args.runs.now i none c.requires.runs c.loop-run-test.true in
     let kept : c.if-col-run.codes ≡ c.args.codes.now = elim c.if-col-run.branch [
       | then-col-run+in_ok-weave_gap w ↦ w.codes-is ∙ w.in_ok-weave_gap.ensures.sheet ∙ c.loop-run.invariant.sheet
       | else-col-run w ↦ w.codes-is ∙ c.loop-run.invariant.sheet
     ] in
-    let before : WovenTo c.args.codes.now c.args.level c.args.text.now c.args.runs.now c.args.row i run.cell (style_at c.args.codes.now c.if-col-run.last.place) (option_copied c.if-col-run.last.link) (string_bytes c.args.out.now) (string_bytes c.if-col-run.out) = elim c.if-col-run.branch [
+    let before : WovenTo c.args.codes.now c.args.level c.args.text.now c.args.runs.now c.args.row i run.cell
+    (style_at c.args.codes.now c.if-col-run.last.place) (option_copied c.if-col-run.last.link) (string_bytes c.args.out.now)
+    (string_bytes c.if-col-run.out) = elim c.if-col-run.branch [
       | then-col-run+in_ok-weave_gap w ↦
           let gap = subst (λ (s : Stylesheet). PrintsStretch (replicate (run.cell - c.loop-run.col) 32) (style_at s c.loop-run.last.place) s.none
-          (option_copied c.loop-run.last.link) None (string_bytes c.loop-run.out) (string_bytes w.weave_gap.new.out)) c.loop-run.invariant.sheet w.in_ok-weave_gap.ensures.text in
+          (option_copied c.loop-run.last.link) None (string_bytes c.loop-run.out)
+          (string_bytes w.weave_gap.new.out)) c.loop-run.invariant.sheet w.in_ok-weave_gap.ensures.text in
           rw (w.out-is, w.last-is)
-          (woven_gap c.args.codes.now c.args.level c.args.text.now c.args.runs.now c.args.row i c.loop-run.col run.cell _ (style_at c.args.codes.now c.loop-run.last.place)
+          (woven_gap c.args.codes.now c.args.level c.args.text.now c.args.runs.now c.args.row i c.loop-run.col run.cell _
+          (style_at c.args.codes.now c.loop-run.last.place)
           c.args.codes.now.none (option_copied c.loop-run.last.link) (string_bytes c.args.out.now) (string_bytes c.loop-run.out)
           (string_bytes w.weave_gap.new.out) w.if-col-run.true (omega arith) ahead refl gap c.loop-run.invariant.woven)
       | else-col-run w ↦
-          let here : c.loop-run.col ≡ run.cell = omega (arith, w.if-col-run.false, c.loop-run.invariant.woven.ahead i none (omega arith) c.loop-run-test.true) in
+          let here : c.loop-run.col ≡ run.cell = omega (
+            arith,
+            w.if-col-run.false,
+            c.loop-run.invariant.woven.ahead i none
+                (omega arith) c.loop-run-test.true,
+          ) in
           rw (w.out-is, w.last-is) (subst (λ col. WovenTo c.args.codes.now c.args.level c.args.text.now c.args.runs.now c.args.row i col
-          (style_at c.args.codes.now c.loop-run.last.place) (option_copied c.loop-run.last.link) (string_bytes c.args.out.now) (string_bytes c.loop-run.out)) here c.loop-run.invariant.woven)
+          (style_at c.args.codes.now c.loop-run.last.place) (option_copied c.loop-run.last.link) (string_bytes c.args.out.now)
+          (string_bytes c.loop-run.out)) here c.loop-run.invariant.woven)
     ] in
     let bytes : c.range.result.now ≡ run_bytes c.args.text.now run = c.range.ensures.value in
-    let word = subst (λ (t : List ℕ). PrintsStretch (chars t) (style_at c.if-col-run.codes c.if-col-run.last.place) (style_at c.if-col-run.codes c.place_of.result)
-    (option_copied c.if-col-run.last.link) (option_copied run.link) (string_bytes c.if-col-run.out) (string_bytes c.weave_stretch.new.out)) bytes c.in_ok-weave_stretch.ensures.text in
-    let prints = subst (λ (s : Stylesheet). PrintsStretch (chars (run_bytes c.args.text.now run)) (style_at s c.if-col-run.last.place) (style_at s c.place_of.result)
+    let word = subst (λ (t : List ℕ). PrintsStretch (chars t) (style_at c.if-col-run.codes c.if-col-run.last.place)
+    (style_at c.if-col-run.codes c.place_of.result)
+    (option_copied c.if-col-run.last.link) (option_copied run.link) (string_bytes c.if-col-run.out)
+    (string_bytes c.weave_stretch.new.out)) bytes c.in_ok-weave_stretch.ensures.text in
+    let prints = subst (λ (s : Stylesheet). PrintsStretch (chars (run_bytes c.args.text.now run)) (style_at s c.if-col-run.last.place)
+    (style_at s c.place_of.result)
     (option_copied c.if-col-run.last.link) (option_copied run.link) (string_bytes c.if-col-run.out) (string_bytes c.weave_stretch.new.out)) kept word in
     record {
       sheet = c.in_ok-weave_stretch.ensures.sheet ∙ kept;
-      woven = woven_run c.args.codes.now c.args.level c.args.text.now c.args.runs.now c.args.row i run.cell none (style_at c.args.codes.now c.if-col-run.last.place)
+      woven = woven_run c.args.codes.now c.args.level c.args.text.now c.args.runs.now c.args.row i run.cell none
+          (style_at c.args.codes.now c.if-col-run.last.place)
           (style_at c.args.codes.now c.place_of.result) (option_copied c.if-col-run.last.link) (string_bytes c.args.out.now) (string_bytes c.if-col-run.out)
-          (string_bytes c.weave_stretch.new.out) c.requires.runs c.loop-run-test.true refl (c.place_of.ensures.place c.args.codes.now c.args.codes.now.none) prints before;
+          (string_bytes c.weave_stretch.new.out) c.requires.runs c.loop-run-test.true refl
+          (c.place_of.ensures.place c.args.codes.now c.args.codes.now.none) prints before;
       placed = c.place_of.ensures.within;
       inside = c.requires.ends i none c.loop-run-test.true;
     }
 
 pub range-requires-clause-start_boundary : goal.range-requires-clause-start_boundary
 range-requires-clause-start_boundary c =
-    λ _. starts_at_boundary c.args.text.now (get_or c.args.runs.now c.loop-run.run-index none) c.utf8.text (c.requires.runs.are_runs c.loop-run.run-index none c.loop-run-test.true)
+    λ _. starts_at_boundary c.args.text.now (get_or c.args.runs.now c.loop-run.run-index none) c.utf8.text
+    (c.requires.runs.are_runs c.loop-run.run-index none c.loop-run-test.true)
 
 pub range-requires-clause-end_boundary : goal.range-requires-clause-end_boundary
 range-requires-clause-end_boundary c =
-    ends_at_boundary c.args.text.now (get_or c.args.runs.now c.loop-run.run-index none) c.utf8.text (c.requires.runs.are_runs c.loop-run.run-index none c.loop-run-test.true)
+    ends_at_boundary c.args.text.now (get_or c.args.runs.now c.loop-run.run-index none) c.utf8.text
+    (c.requires.runs.are_runs c.loop-run.run-index none c.loop-run-test.true)
 
 pub returns-clause-text : goal.returns-clause-text
 returns-clause-text c =
     let n = c.loop-run.run-index in
-    let past : (k : ℕ) (d : Run) → n ≤ k → k < length c.args.runs.now → c.args.width ≤ (get_or c.args.runs.now k d).cell = λ k d after within. absurd (omega (arith, c.loop-run-test.false)) in
+    let past : (k : ℕ) (d : Run) → n ≤ k → k < length c.args.runs.now → c.args.width ≤ (get_or c.args.runs.now k d).cell = λ k d after within.
+    absurd (omega (arith, c.loop-run-test.false)) in
     let kept : c.if-col-width.codes ≡ c.args.codes.now = elim c.if-col-width.branch [
       | then-col-width+in_ok-weave_gap-2 w ↦ w.codes-is ∙ w.in_ok-weave_gap-2.ensures.sheet ∙ c.loop-run.invariant.sheet
       | else-col-width w ↦ w.codes-is ∙ c.loop-run.invariant.sheet
     ] in
-    let last : WovenTo c.args.codes.now c.args.level c.args.text.now c.args.runs.now c.args.row n c.args.width (style_at c.args.codes.now c.if-col-width.last.place) (option_copied c.if-col-width.last.link) (string_bytes c.args.out.now) (string_bytes c.if-col-width.out) = elim c.if-col-width.branch [
+    let last : WovenTo c.args.codes.now c.args.level c.args.text.now c.args.runs.now c.args.row n c.args.width
+    (style_at c.args.codes.now c.if-col-width.last.place) (option_copied c.if-col-width.last.link) (string_bytes c.args.out.now)
+    (string_bytes c.if-col-width.out) = elim c.if-col-width.branch [
       | then-col-width+in_ok-weave_gap-2 w ↦
           let gap = subst (λ (s : Stylesheet). PrintsStretch (replicate (c.args.width - c.loop-run.col) 32) (style_at s c.loop-run.last.place) s.none
-          (option_copied c.loop-run.last.link) None (string_bytes c.loop-run.out) (string_bytes w.weave_gap-then-col-width.new.out)) c.loop-run.invariant.sheet w.in_ok-weave_gap-2.ensures.text in
+          (option_copied c.loop-run.last.link) None (string_bytes c.loop-run.out)
+          (string_bytes w.weave_gap-then-col-width.new.out)) c.loop-run.invariant.sheet w.in_ok-weave_gap-2.ensures.text in
           rw (w.out-is, w.last-is)
-          (woven_gap c.args.codes.now c.args.level c.args.text.now c.args.runs.now c.args.row n c.loop-run.col c.args.width _ (style_at c.args.codes.now c.loop-run.last.place)
+          (woven_gap c.args.codes.now c.args.level c.args.text.now c.args.runs.now c.args.row n c.loop-run.col c.args.width _
+          (style_at c.args.codes.now c.loop-run.last.place)
           c.args.codes.now.none (option_copied c.loop-run.last.link) (string_bytes c.args.out.now) (string_bytes c.loop-run.out)
           (string_bytes w.weave_gap-then-col-width.new.out) w.if-col-width.true (omega arith) past refl gap c.loop-run.invariant.woven)
       | else-col-width w ↦
           let here : c.loop-run.col ≡ c.args.width = omega (arith, w.if-col-width.false, c.loop-run.invariant.inside) in
           rw (w.out-is, w.last-is) (subst (λ col. WovenTo c.args.codes.now c.args.level c.args.text.now c.args.runs.now c.args.row n col
-          (style_at c.args.codes.now c.loop-run.last.place) (option_copied c.loop-run.last.link) (string_bytes c.args.out.now) (string_bytes c.loop-run.out)) here c.loop-run.invariant.woven)
+          (style_at c.args.codes.now c.loop-run.last.place) (option_copied c.loop-run.last.link) (string_bytes c.args.out.now)
+          (string_bytes c.loop-run.out)) here c.loop-run.invariant.woven)
     ] in
-    let worn : c.style_at.result ≡ style_at c.args.codes.now c.if-col-width.last.place = c.style_at.ensures.value ∙ ap (λ s. style_at s c.if-col-width.last.place) kept in
+    let worn : c.style_at.result ≡ style_at c.args.codes.now c.if-col-width.last.place = c.style_at.ensures.value
+    ∙ ap (λ s. style_at s c.if-col-width.last.place) kept in
     on_ok_weaker c.push_str.result
     (λ bytes. row_closed c.args.codes.now c.args.level c.style_at.result (option_copied c.if-col-width.last.link)
     (cells_to c.args.text.now c.args.runs.now c.args.row c.args.width) (string_bytes c.args.out.now) (string_bytes c.if-col-width.out)
     (string_bytes c.end_link.new.out) _ c.in_ok-end_link.ensures.none c.in_ok-end_link.ensures.ended
     (bytes ∙ ap (λ (t : List ℕ). string_bytes c.end_link.new.out ++ t) c.reset_code.ensures.text)
-    (subst (λ (s : Style). Goes c.args.codes.now c.args.level (Some s) (option_copied c.if-col-width.last.link) (cells_to c.args.text.now c.args.runs.now c.args.row c.args.width) (string_bytes c.args.out.now) (string_bytes c.if-col-width.out)) (sym worn) last.goes))
+    (subst (λ (s : Style). Goes c.args.codes.now c.args.level (Some s) (option_copied c.if-col-width.last.link)
+    (cells_to c.args.text.now c.args.runs.now c.args.row c.args.width) (string_bytes c.args.out.now) (string_bytes c.if-col-width.out))
+    (sym worn) last.goes))
     (on_ok_value c.push_str.result _ _ _ c.push_str.ensures.bytes)

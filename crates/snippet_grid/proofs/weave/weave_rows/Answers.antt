@@ -13,7 +13,8 @@ use Rattle.snippet_grid.proofs.weave.weave_rows.Goals.{then-row-gt0+in_ok-push, 
 pub weave_row-requires-clause-runs : goal.weave_row-requires-clause-runs
 weave_row-requires-clause-runs c =
     let grid = c.requires.grid in
-    IsRow-stretch c.args.text.now c.loop-row.row c.args.runs.now c.loop-row.from c.row_end-to.result c.row_end-to.ensures.bounds.0 c.row_end-to.ensures.bounds.1 grid.are_runs grid.ordered grid.apart c.row_end-to.ensures.inside
+    IsRow-stretch c.args.text.now c.loop-row.row c.args.runs.now c.loop-row.from c.row_end-to.result c.row_end-to.ensures.bounds.0
+    c.row_end-to.ensures.bounds.1 grid.are_runs grid.ordered grid.apart c.row_end-to.ensures.inside
 
 pub weave_row-requires-clause-ends : goal.weave_row-requires-clause-ends
 weave_row-requires-clause-ends c =
@@ -46,7 +47,8 @@ loop-row-preserved c =
       | else-row-gt0 w ↦ absurd (omega (arith, some, w.if-row-gt0.false))
     ] in
     let row = subst (λ (sheet : Stylesheet). WeavesRow sheet c.args.level
-    (cells_to c.args.text.now (stretch c.args.runs.now c.loop-row.from c.row_end-to.result) c.loop-row.row (get_or c.args.widths.now c.loop-row.row 0)) (string_bytes c.if-row-gt0.out) (string_bytes c.weave_row.new.out)) c.loop-row.invariant.sheet c.in_ok-weave_row.ensures.text in
+    (cells_to c.args.text.now (stretch c.args.runs.now c.loop-row.from c.row_end-to.result) c.loop-row.row (get_or c.args.widths.now c.loop-row.row 0))
+    (string_bytes c.if-row-gt0.out) (string_bytes c.weave_row.new.out)) c.loop-row.invariant.sheet c.in_ok-weave_row.ensures.text in
     record {
       sheet = c.in_ok-weave_row.ensures.sheet ∙ c.loop-row.invariant.sheet;
       rows = rows_next c.args.codes.now c.args.level c.args.text.now c.args.runs.now c.args.widths.now c.loop-row.row c.loop-row.from c.row_end-to.result
@@ -57,4 +59,5 @@ loop-row-preserved c =
 
 pub returns-clause-text : goal.returns-clause-text
 returns-clause-text c =
-    rows_all c.args.codes.now c.args.level c.args.text.now c.args.runs.now c.args.widths.now c.loop-row.row c.loop-row.from (string_bytes c.args.out.now) (string_bytes c.loop-row.out) (omega (arith, c.loop-row-test.false, c.loop-row.auto.row-end)) c.loop-row.invariant.rows
+    rows_all c.args.codes.now c.args.level c.args.text.now c.args.runs.now c.args.widths.now c.loop-row.row c.loop-row.from (string_bytes c.args.out.now)
+    (string_bytes c.loop-row.out) (omega (arith, c.loop-row-test.false, c.loop-row.auto.row-end)) c.loop-row.invariant.rows

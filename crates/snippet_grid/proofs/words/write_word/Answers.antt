@@ -9,12 +9,15 @@ use Rattle.snippet_grid.proofs.words.write_word.Goals as goal
 
 pub returns-in_err-run-clause-grid : goal.returns-in_err-run-clause-grid
 returns-in_err-run-clause-grid c =
-    let grows : BeginsWith (string_bytes c.args.text.now) (string_bytes c.push_word.new.text) = subst (λ (t : List ℕ). BeginsWith t (string_bytes c.push_word.new.text)) c.make_first_room.ensures.text c.in_err-run.ensures.text in
-    IsGrid-grown (string_bytes c.args.text.now) (string_bytes c.push_word.new.text) c.args.runs.now.items c.make_first_room.new.runs.items c.args.widths.now.items c.make_first_room.new.widths.items grows c.make_first_room.ensures.runs c.make_first_room.ensures.widths c.requires.grid
+    let grows : BeginsWith (string_bytes c.args.text.now) (string_bytes c.push_word.new.text) = subst
+    (λ (t : List ℕ). BeginsWith t (string_bytes c.push_word.new.text)) c.make_first_room.ensures.text c.in_err-run.ensures.text in
+    IsGrid-grown (string_bytes c.args.text.now) (string_bytes c.push_word.new.text) c.args.runs.now.items c.make_first_room.new.runs.items
+    c.args.widths.now.items c.make_first_room.new.widths.items grows c.make_first_room.ensures.runs c.make_first_room.ensures.widths c.requires.grid
 
 pub returns-in_err-run-clause-err : goal.returns-in_err-run-clause-err
 returns-in_err-run-clause-err c =
-    let grows : BeginsWith (string_bytes c.args.text.now) (string_bytes c.push_word.new.text) = subst (λ (t : List ℕ). BeginsWith t (string_bytes c.push_word.new.text)) c.make_first_room.ensures.text c.in_err-run.ensures.text in
+    let grows : BeginsWith (string_bytes c.args.text.now) (string_bytes c.push_word.new.text) = subst
+    (λ (t : List ℕ). BeginsWith t (string_bytes c.push_word.new.text)) c.make_first_room.ensures.text c.in_err-run.ensures.text in
     on_err_from c.from_residual-in_err-run.result
     (grid_grown (string_bytes c.args.text.now) (string_bytes c.push_word.new.text)
     c.args.runs.now.items c.make_first_room.new.runs.items c.args.widths.now.items c.make_first_room.new.widths.items grows
@@ -22,12 +25,15 @@ returns-in_err-run-clause-err c =
 
 pub place_run-requires-clause-grid : goal.place_run-requires-clause-grid
 place_run-requires-clause-grid c =
-    let grows : BeginsWith (string_bytes c.args.text.now) (string_bytes c.push_word.new.text) = subst (λ (t : List ℕ). BeginsWith t (string_bytes c.push_word.new.text)) c.make_first_room.ensures.text c.in_ok-run.ensures.text in
-    IsGrid-grown (string_bytes c.args.text.now) (string_bytes c.push_word.new.text) c.args.runs.now.items c.make_first_room.new.runs.items c.args.widths.now.items c.make_first_room.new.widths.items grows c.make_first_room.ensures.runs c.make_first_room.ensures.widths c.requires.grid
+    let grows : BeginsWith (string_bytes c.args.text.now) (string_bytes c.push_word.new.text) = subst
+    (λ (t : List ℕ). BeginsWith t (string_bytes c.push_word.new.text)) c.make_first_room.ensures.text c.in_ok-run.ensures.text in
+    IsGrid-grown (string_bytes c.args.text.now) (string_bytes c.push_word.new.text) c.args.runs.now.items c.make_first_room.new.runs.items
+    c.args.widths.now.items c.make_first_room.new.widths.items grows c.make_first_room.ensures.runs c.make_first_room.ensures.widths c.requires.grid
 
 pub returns-clause-err : goal.returns-clause-err
 returns-clause-err c =
-    let grows : BeginsWith (string_bytes c.args.text.now) (string_bytes c.push_word.new.text) = subst (λ (t : List ℕ). BeginsWith t (string_bytes c.push_word.new.text)) c.make_first_room.ensures.text c.in_ok-run.ensures.text in
+    let grows : BeginsWith (string_bytes c.args.text.now) (string_bytes c.push_word.new.text) = subst
+    (λ (t : List ℕ). BeginsWith t (string_bytes c.push_word.new.text)) c.make_first_room.ensures.text c.in_ok-run.ensures.text in
     on_err_weaker c.place_run.result
     (λ same. same ∙ grid_grown (string_bytes c.args.text.now) (string_bytes c.push_word.new.text)
     c.args.runs.now.items c.make_first_room.new.runs.items c.args.widths.now.items c.make_first_room.new.widths.items grows
@@ -35,7 +41,8 @@ returns-clause-err c =
 
 pub returns-clause-ok : goal.returns-clause-ok
 returns-clause-ok c =
-    let grows : BeginsWith (string_bytes c.args.text.now) (string_bytes c.push_word.new.text) = subst (λ (t : List ℕ). BeginsWith t (string_bytes c.push_word.new.text)) c.make_first_room.ensures.text c.in_ok-run.ensures.text in
+    let grows : BeginsWith (string_bytes c.args.text.now) (string_bytes c.push_word.new.text) = subst
+    (λ (t : List ℕ). BeginsWith t (string_bytes c.push_word.new.text)) c.make_first_room.ensures.text c.in_ok-run.ensures.text in
     let run = c.in_ok-run.run' in
     let is = c.in_ok-run.ensures.ok in
     let seen = run_chars (string_bytes c.push_word.new.text) run in
@@ -62,8 +69,10 @@ place_run-requires-clause-row c = omega (arith, c.in_ok-run.ensures.ok.row_is, c
 pub returns-in_err-make_first_room-clause-grid : goal.returns-in_err-make_first_room-clause-grid
 returns-in_err-make_first_room-clause-grid c =
     let text = string_bytes c.args.text.now in
-    let grows : BeginsWith text (string_bytes c.make_first_room.new.text) = subst (λ (t : List ℕ). BeginsWith text t) (sym c.make_first_room.ensures.text) (BeginsWith-same text) in
-    IsGrid-grown text (string_bytes c.make_first_room.new.text) c.args.runs.now.items c.make_first_room.new.runs.items c.args.widths.now.items c.make_first_room.new.widths.items grows c.make_first_room.ensures.runs c.make_first_room.ensures.widths c.requires.grid
+    let grows : BeginsWith text (string_bytes c.make_first_room.new.text) = subst (λ (t : List ℕ). BeginsWith text t) (sym c.make_first_room.ensures.text)
+    (BeginsWith-same text) in
+    IsGrid-grown text (string_bytes c.make_first_room.new.text) c.args.runs.now.items c.make_first_room.new.runs.items c.args.widths.now.items
+    c.make_first_room.new.widths.items grows c.make_first_room.ensures.runs c.make_first_room.ensures.widths c.requires.grid
 
 pub returns-clause-grid : goal.returns-clause-grid
 returns-clause-grid c = c.place_run.ensures.grid

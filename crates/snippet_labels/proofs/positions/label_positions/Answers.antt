@@ -18,9 +18,13 @@ loop-i-preserved c =
     let here : p ≡ position_at reached e others = c.position_at-position.ensures.value ∙ ap (position_at reached e) whole in
     let n = c.max.result - (i + 1) in
     let high : c.askers_end-end.result ≤ c.max.result = search rules in
-    let front : position_after p e (take n others) ≡ position_after p e others = position_after-front p e others n (λ k d past within. ap asks (get_or-drop (i + 1) es k d) ∙ c.askers_end-end.ensures.none (i + 1 + k) d (omega (arith, past, high)) (omega (arith, within, length-drop (i + 1) es))) in
-    let after : q ≡ position_after (position_at reached e others) e others = c.position_after-reached.ensures.value ∙ front ∙ ap (λ x. position_after x e others) here in
-    let more = subst (λ x. (done ++ position_at reached x others ∷ []) ++ positions (position_after (position_at reached x others) x others) others ≡ positions 0 es) (sym c.index-entries-i.is) (positions_more done es (positions 0 es) i reached e c.loop-i-test.true c.loop-i.invariant.0) in (
+    let front : position_after p e (take n others) ≡ position_after p e others = position_after-front p e others n (λ k d past within.
+    ap asks (get_or-drop (i + 1) es k d) ∙ c.askers_end-end.ensures.none (i + 1 + k) d (omega (arith, past, high))
+    (omega (arith, within, length-drop (i + 1) es))) in
+    let after : q ≡ position_after (position_at reached e others) e others = c.position_after-reached.ensures.value ∙ front
+    ∙ ap (λ x. position_after x e others) here in
+    let more = subst (λ x. (done ++ position_at reached x others ∷ []) ++ positions (position_after (position_at reached x others) x others) others
+    ≡ positions 0 es) (sym c.index-entries-i.is) (positions_more done es (positions 0 es) i reached e c.loop-i-test.true c.loop-i.invariant.0) in (
       ap (λ xs. xs ++ positions q others) c.in_ok-push.ensures.items ∙ ap (λ x. (done ++ x ∷ []) ++ positions q others) here
           ∙ ap (λ y. (done ++ position_at reached e others ∷ []) ++ positions y others) after
           ∙ more,

@@ -6,4 +6,5 @@ use Rattle.snippet_labels.proofs.positions.labelled_entries.Given as goal
 -- the entries so far have their labels
 abbrev pub invariant-loop-entry : goal.invariant-loop-entry
 invariant-loop-entry l =
-    (map (λ e. e.entry) l.labelled.items ≡ map (shifted l.dropped) (take l.entry-index l.entries)) × All HasItsLabel l.labelled.items × All HasItsBytes l.labelled.items
+    (map (λ e. e.entry) l.labelled.items ≡ map (shifted l.dropped) (take l.entry-index l.entries)) × All HasItsLabel l.labelled.items
+    × All HasItsBytes l.labelled.items

@@ -13,12 +13,19 @@ pub line_positions-requires : goal.line_positions-requires
 line_positions-requires c =
     let Q : LineAnnotation → Type 0 = λ e. e.end.display < 2 ^ 60 in
     let sorted = c.sort_by_key.new.self.items in
-    let same = subst (λ es. IsPermutation es (map (λ (e : PlacedEntry). e.entry) sorted)) c.in_ok-placed.ensures.entries (IsPermutation-map (λ (e : PlacedEntry). e.entry) _ _ c.in_ok-sort_by_key.ensures.permutation) in
-    record { columns = subst (λ (ps : _). All (λ (e : PlacedEntry). Q e.entry) ps) (sym c.deref.ensures.value) (entries_all Q (map (shifted c.args.dropped) c.args.entries.now) sorted same (shifted_narrow c.args.dropped c.args.entries.now c.requires.columns)) }
+    let same = subst (λ es. IsPermutation es (map (λ (e : PlacedEntry). e.entry) sorted)) c.in_ok-placed.ensures.entries
+    (IsPermutation-map (λ (e : PlacedEntry). e.entry) _ _ c.in_ok-sort_by_key.ensures.permutation) in
+    record {
+      columns = subst (λ (ps : _). All (λ (e : PlacedEntry). Q e.entry) ps) (sym c.deref.ensures.value)
+          (entries_all Q (map (shifted c.args.dropped) c.args.entries.now) sorted same (shifted_narrow c.args.dropped c.args.entries.now c.requires.columns));
+    }
 
 pub set_positions-requires : goal.set_positions-requires
 set_positions-requires c =
-    record { count = ap length (c.deref-2.ensures.value ∙ c.in_ok-positions.ensures.value) ∙ length-line_positions c.deref.result.now ∙ ap length (c.deref.ensures.value ∙ sym c.deref_mut.ensures.value) }
+    record {
+      count = ap length (c.deref-2.ensures.value ∙ c.in_ok-positions.ensures.value) ∙ length-line_positions c.deref.result.now
+          ∙ ap length (c.deref.ensures.value ∙ sym c.deref_mut.ensures.value);
+    }
 
 pub returns : goal.returns
 returns c =

@@ -5,4 +5,5 @@ use Rattle.snippet_labels.proofs.positions.set_positions.Given as goal
 -- the entries so far have their positions
 abbrev pub invariant-loop-i : goal.invariant-loop-i
 invariant-loop-i l =
-    (length l.entries ≡ length l.initial.entries) × (map (λ e. e.position) (take l.i l.entries) ≡ take l.i l.positions) × (map unplaced l.entries ≡ map unplaced l.initial.entries)
+    (length l.entries ≡ length l.initial.entries) × (map (λ e. e.position) (take l.i l.entries) ≡ take l.i l.positions)
+    × (map unplaced l.entries ≡ map unplaced l.initial.entries)

@@ -6,7 +6,8 @@ use Rattle.snippet_lines.proofs.BoundsLemmas.{bounds-around, same_line}
 use Rattle.snippet_lines.proofs.line_bounds.line_bounds.Goals as goal
 
 bounds : (c : goal.After-line_end)
-    → (c.line_start.result ≡ start_of (source_lines c.args.source.now) (line_of (source_lines c.args.source.now) c.args.byte)) × (c.line_end.result ≡ start_of (source_lines c.args.source.now) (line_of (source_lines c.args.source.now) c.args.byte + 1))
+    → (c.line_start.result ≡ start_of (source_lines c.args.source.now) (line_of (source_lines c.args.source.now) c.args.byte))
+    × (c.line_end.result ≡ start_of (source_lines c.args.source.now) (line_of (source_lines c.args.source.now) c.args.byte + 1))
 bounds c =
     let start : ℕ = c.line_start.result in
     let end : ℕ = c.line_end.result in
@@ -14,7 +15,8 @@ bounds c =
     let before = c.line_start.ensures in
     let after = c.line_end.ensures in
     let at : c.min-at.result ≡ min c.args.byte (length bytes - 1) = c.min-at.ensures ∙ ap (min c.args.byte) c.saturating_sub.ensures in
-    subst (λ s. (start ≡ start_of (source_lines s) (line_of (source_lines s) c.args.byte)) × (end ≡ start_of (source_lines s) (line_of (source_lines s) c.args.byte + 1))) c.as_bytes-bytes.ensures.value
+    subst (λ s. (start ≡ start_of (source_lines s) (line_of (source_lines s) c.args.byte))
+    × (end ≡ start_of (source_lines s) (line_of (source_lines s) c.args.byte + 1))) c.as_bytes-bytes.ensures.value
     (bounds-around bytes c.args.byte c.min-at.result start end at before.before before.opens before.none after.within after.after after.closes after.none)
 
 pub returns-clause-start : goal.returns-clause-start

@@ -20,4 +20,5 @@ returns-in-Some-clause-none c = λ j after before is.
 pub returns-in-None-clause-none : goal.returns-in-None-clause-none
 returns-in-None-clause-none c = λ j after before is.
     let within : j < length c.args.bytes.now = omega arith in
-    c.in-None.ensures (j - c.args.at) (omega arith) (omega (arith, length-after c.args.bytes.now c.args.at)) (eq-eqb _ 10 (read_after c.args.bytes.now c.args.at j after within ∙ is))
+    c.in-None.ensures (j - c.args.at) (omega arith) (omega (arith, length-after c.args.bytes.now c.args.at))
+    (eq-eqb _ 10 (read_after c.args.bytes.now c.args.at j after within ∙ is))

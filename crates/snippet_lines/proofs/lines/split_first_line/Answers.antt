@@ -18,5 +18,6 @@ returns-in-Some-clause-one_line c =
     let text : List ℕ = c.args.text.now in
     let same = c.as_bytes.ensures.value in
     let inside : c.in-Some.at < length text = omega (arith, c.in-Some.ensures.0.high, ap length same) in
-    let none : (k : ℕ) → k < c.in-Some.at → get_or text k 0 ≢ 10 = λ k l is. c.in-Some.ensures.0.before k (omega arith) l (eq-eqb _ 10 (ap (λ bs. get_or bs k 0) same ∙ is)) in
+    let none : (k : ℕ) → k < c.in-Some.at → get_or text k 0 ≢ 10 = λ k l is.
+    c.in-Some.ensures.0.before k (omega arith) l (eq-eqb _ 10 (ap (λ bs. get_or bs k 0) same ∙ is)) in
     subst IsLineWithEnd (sym c.split_at.ensures.front) (IsOneLine-cut text c.in-Some.at inside none)

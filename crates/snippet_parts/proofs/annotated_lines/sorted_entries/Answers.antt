@@ -7,7 +7,8 @@ use Rattle.snippet_parts.proofs.ShownLemmas.{stable-on-line}
 use Rattle.snippet_parts.proofs.annotated_lines.sorted_entries.Goals as goal
 
 pub returns-clause-sorted : goal.returns-clause-sorted
-returns-clause-sorted c = IsNonDecreasingBy-from_sort_by_key (λ (e : LineAnnotation). e.start.line) _ c.in_ok-sort_by_key.ensures.sorted (λ a r q k. search rules)
+returns-clause-sorted c = IsNonDecreasingBy-from_sort_by_key (λ (e : LineAnnotation). e.start.line) _ c.in_ok-sort_by_key.ensures.sorted (λ a r q k.
+    search rules)
 
 pub returns-clause-value : goal.returns-clause-value
 returns-clause-value c k = stable-on-line c.in_ok-greatest.entries.items c.sort_by_key.new.self.items (c.args.source.now.first + k)

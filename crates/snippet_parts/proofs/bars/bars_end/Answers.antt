@@ -11,4 +11,5 @@ returns-then-not-is_trivial_line-clause-bars c k past =
 
 pub returns-clause-bars : goal.returns-clause-bars
 returns-clause-bars c k past =
-    bars_none (λ j. not (is_trivial_line c.args.source.now.text j)) c.loop-line.line c.args.first (min (c.args.first + 4) c.args.last) k (omega arith) past c.loop-line.invariant
+    bars_none (λ j. not (is_trivial_line c.args.source.now.text j)) c.loop-line.line c.args.first (min (c.args.first + 4) c.args.last) k
+    (omega arith) past c.loop-line.invariant

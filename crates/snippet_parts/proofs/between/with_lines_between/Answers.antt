@@ -25,7 +25,8 @@ loop-info-init c =
     let given : List AnnotatedLineInfo = into_iter_items c.into_iter-info-iterator.result in
     let all : given ≡ c.args.kept.items = c.into_iter-info-iterator.ensures.into_iter_gives.0 in
     record {
-      lines = ap (λ (ls : List ShownLine). map seen_kept (infos_of ls) ++ filled s None (map seen_kept given)) c.new-shown.ensures.items ∙ ap (λ (is : List AnnotatedLineInfo). filled s None (map seen_kept is)) all;
+      lines = ap (λ (ls : List ShownLine). map seen_kept (infos_of ls) ++ filled s None (map seen_kept given)) c.new-shown.ensures.items
+          ∙ ap (λ (is : List AnnotatedLineInfo). filled s None (map seen_kept is)) all;
       kept = ap (λ (ls : List ShownLine). kept_of ls ++ given) c.new-shown.ensures.items ∙ all;
       texts = subst (All Fits) (sym all) c.requires.texts;
       left = omega (arith, c.into_iter-info-iterator.ensures.into_iter_gives.1, ap length all);
@@ -44,8 +45,11 @@ loop-info-preserved c =
     let old : List KeptLine = map seen_kept (infos_of at.shown.items) in
     let between : List KeptLine = lines_between s at.before x.line_index in
     let info_is : line.info ≡ x = c.new.ensures.info in
-    let lines : map seen_kept (infos_of (mid ++ line ∷ [])) ≡ (old ++ between) ++ seen_kept x ∷ [] = ap (map seen_kept) (infos_of-push mid line ∙ ap (λ i. infos_of mid ++ i ∷ []) info_is) ∙ map_push seen_kept (infos_of mid) x ∙ ap (λ ls. ls ++ seen_kept x ∷ []) c.in_ok-push_between.ensures.value in
-    let kept : kept_of (mid ++ line ∷ []) ≡ kept_of at.shown.items ++ x ∷ [] = kept_of-kept mid line c.new.ensures.between ∙ ap (λ i. kept_of mid ++ i ∷ []) info_is ∙ ap (λ is. is ++ x ∷ []) c.in_ok-push_between.ensures.kept_are in
+    let lines : map seen_kept (infos_of (mid ++ line ∷ [])) ≡ (old ++ between)
+    ++ seen_kept x ∷ [] = ap (map seen_kept) (infos_of-push mid line ∙ ap (λ i. infos_of mid ++ i ∷ []) info_is) ∙ map_push seen_kept (infos_of mid) x
+    ∙ ap (λ ls. ls ++ seen_kept x ∷ []) c.in_ok-push_between.ensures.value in
+    let kept : kept_of (mid ++ line ∷ []) ≡ kept_of at.shown.items ++ x ∷ [] = kept_of-kept mid line c.new.ensures.between
+    ∙ ap (λ i. kept_of mid ++ i ∷ []) info_is ∙ ap (λ is. is ++ x ∷ []) c.in_ok-push_between.ensures.kept_are in
     record {
       lines = ap (λ (ls : List ShownLine). map seen_kept (infos_of ls) ++ later) c.in_ok-push.ensures.items ∙ ap (λ ls. ls ++ later) lines
           ∙ append_assoc (old ++ between) (seen_kept x ∷ []) later ∙ append_assoc old between (seen_kept x ∷ later)
@@ -67,5 +71,6 @@ returns c =
     let empty : into_iter_items at.info-iterator ≡ [] = nothing_left _ (sym at.invariant.left ∙ c.in-None.ensures.steps.0) in
     record {
       kept_are = sym (append-nil (kept_of at.shown.items)) ∙ sym (ap (λ is. kept_of at.shown.items ++ is) empty) ∙ at.invariant.kept;
-      value = λ fold marks spans kept. sym (append-nil lines) ∙ sym (ap (λ is. lines ++ filled s at.before (map seen_kept is)) empty) ∙ at.invariant.lines ∙ ap (filled s None) kept ∙ filled-shown fold s marks spans;
+      value = λ fold marks spans kept. sym (append-nil lines) ∙ sym (ap (λ is. lines ++ filled s at.before (map seen_kept is)) empty) ∙ at.invariant.lines
+          ∙ ap (filled s None) kept ∙ filled-shown fold s marks spans;
     }

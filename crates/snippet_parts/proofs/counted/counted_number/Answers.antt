@@ -6,4 +6,12 @@ use Rattle.snippet_parts.proofs.counted.counted_number.Goals as goal
 
 pub overflow_add-result : goal.overflow_add-result
 overflow_add-result c =
-    omega (arith, c.newline_count_before.ensures.value, newline_count-take c.as_str-source.result.now c.if-snippet.end, length-source_lines c.as_str-source.result.now, ap (λ text. length (source_lines text)) c.as_str-source.ensures.value, c.requires.numbers)
+    omega (
+      arith,
+      c.newline_count_before.ensures.value,
+      newline_count-take c.as_str-source.result.now c.if-snippet.end,
+      length-source_lines
+          c.as_str-source.result.now,
+      ap (λ text. length (source_lines text)) c.as_str-source.ensures.value,
+      c.requires.numbers,
+    )

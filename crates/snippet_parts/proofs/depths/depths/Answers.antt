@@ -7,9 +7,12 @@ use Rattle.snippet_parts.proofs.depths.depths.Goals as goal
 
 pub turn-requires : goal.turn-requires
 turn-requires c =
-    let most : c.greatest-greatest.result ≡ greatest_depth c.args.places.now = c.greatest-greatest.ensures.value ∙ greatest-fold c.args.places.now c.deref.result.now (c.deref.ensures.value ∙ c.in_ok-depths.ensures.value) in
+    let most : c.greatest-greatest.result ≡ greatest_depth c.args.places.now = c.greatest-greatest.ensures.value
+    ∙ greatest-fold c.args.places.now c.deref.result.now (c.deref.ensures.value ∙ c.in_ok-depths.ensures.value) in
     record {
-      most = All-same (λ raw. raw ≤ c.greatest-greatest.result) c.deref_mut.result.now (raw_depths c.args.places.now) (c.deref_mut.ensures.value ∙ c.in_ok-depths.ensures.value) (subst (λ n. All (λ raw. raw ≤ n) (raw_depths c.args.places.now)) (sym most) (raw-most c.args.places.now));
+      most = All-same (λ raw. raw ≤ c.greatest-greatest.result) c.deref_mut.result.now (raw_depths c.args.places.now)
+          (c.deref_mut.ensures.value ∙ c.in_ok-depths.ensures.value) (subst (λ n.
+          All (λ raw. raw ≤ n) (raw_depths c.args.places.now)) (sym most) (raw-most c.args.places.now));
       room = omega (arith, greatest-depth-bound c.args.places.now);
     }
 
@@ -18,7 +21,8 @@ returns-in_err-depths-clause-distinct c = depths-distinct c.args.places.now
 
 pub returns : goal.returns
 returns c =
-    let most : c.greatest-greatest.result ≡ greatest_depth c.args.places.now = c.greatest-greatest.ensures.value ∙ greatest-fold c.args.places.now c.deref.result.now (c.deref.ensures.value ∙ c.in_ok-depths.ensures.value) in
+    let most : c.greatest-greatest.result ≡ greatest_depth c.args.places.now = c.greatest-greatest.ensures.value
+    ∙ greatest-fold c.args.places.now c.deref.result.now (c.deref.ensures.value ∙ c.in_ok-depths.ensures.value) in
     let value : take c.in_ok-depths.depths.len (c.turn.new.depths ++ drop (length c.turn.new.depths) c.in_ok-depths.depths.items)
     ≡ map (depth_among c.args.places.now) c.args.places.now =
     mapped (λ raw. c.greatest-greatest.result - raw + 1)

@@ -8,7 +8,8 @@ use Rattle.snippet_parts.proofs.kept.covered.Goals as goal
 
 pub loop-line-preserved : goal.loop-line-preserved
 loop-line-preserved c =
-    let end : c.max-end.result ≡ greatest (take (c.loop-line.line + 1) c.args.reach.now) = omega (arith, c.max-end.ensures, c.loop-line.invariant.0, greatest-more c.args.reach.now c.loop-line.line 0 (omega arith)) in (
+    let end : c.max-end.result ≡ greatest (take (c.loop-line.line + 1) c.args.reach.now) = omega
+    (arith, c.max-end.ensures, c.loop-line.invariant.0, greatest-more c.args.reach.now c.loop-line.line 0 (omega arith)) in (
       end,
       c.in_ok-push.ensures.items ∙ ap (λ bs. bs ++ ltb c.loop-line.line c.max-end.result ∷ []) c.loop-line.invariant.1
           ∙ ap (λ n. map (is_covered c.args.reach.now) (range_with_len 0 c.loop-line.line) ++ ltb c.loop-line.line n ∷ []) end

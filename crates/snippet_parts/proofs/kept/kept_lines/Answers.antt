@@ -13,8 +13,11 @@ use Rattle.snippet_parts.proofs.KeptLemmas.{covered-more, covered-none, kept-all
 use Rattle.snippet_parts.proofs.kept.kept_lines.Goals as goal
 
 pub loop-span-init : goal.loop-span-init
-loop-span-init c =
-    (omega (arith, c.in_ok-reach.ensures.len, c.line_count.ensures.value, c.in_ok-reach.reach.ok.0), λ k. covered-none c.in_ok-reach.reach.items c.line_count.result k (c.in_ok-reach.ensures.items_if_clones_equal (λ y same. same)))
+loop-span-init c = (
+  omega (arith, c.in_ok-reach.ensures.len, c.line_count.ensures.value, c.in_ok-reach.reach.ok.0),
+  λ k.
+      covered-none c.in_ok-reach.reach.items c.line_count.result k (c.in_ok-reach.ensures.items_if_clones_equal (λ y same. same)),
+)
 
 pub returns : goal.returns
 returns c =
@@ -31,12 +34,14 @@ returns c =
     (range_with_len 0 count) in
     record {
       value = IfOk-weaker c.covered_lines.result _ _ (λ lines is. are lines.items is) c.covered_lines.ensures.value;
-      within = IfOk-weaker c.covered_lines.result _ _ (λ lines is. subst (All (λ k. k < count)) (sym (are lines.items is)) (kept-within (λ k. not c.args.fold || list_any (keeps text k) marks) count)) c.covered_lines.ensures.value;
+      within = IfOk-weaker c.covered_lines.result _ _ (λ lines is. subst (All (λ k. k < count)) (sym (are lines.items is))
+          (kept-within (λ k. not c.args.fold || list_any (keeps text k) marks) count)) c.covered_lines.ensures.value;
     }
 
 pub loop-span-preserved : goal.loop-span-preserved
 loop-span-preserved c =
-    let same : length c.reach_over_kept.new.reach ≡ c.loop-span.reach.len = omega (arith, c.reach_over_kept.auto.reach, c.deref_mut.ensures.len, c.loop-span.reach.ok.0) in
+    let same : length c.reach_over_kept.new.reach ≡ c.loop-span.reach.len = omega
+    (arith, c.reach_over_kept.auto.reach, c.deref_mut.ensures.len, c.loop-span.reach.ok.0) in
     let now : take c.loop-span.reach.len
     (c.reach_over_kept.new.reach ++ drop (length c.reach_over_kept.new.reach) c.loop-span.reach.items) ≡ c.reach_over_kept.new.reach =
     take_at c.reach_over_kept.new.reach (drop (length c.reach_over_kept.new.reach) c.loop-span.reach.items)

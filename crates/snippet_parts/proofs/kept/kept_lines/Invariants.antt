@@ -9,4 +9,5 @@ use Rattle.snippet_parts.proofs.kept.kept_lines.Given as goal
 -- the lines that the spans so far cover
 abbrev pub invariant-loop-span : goal.invariant-loop-span
 invariant-loop-span l =
-    (length l.reach.items ≡ length (source_lines l.source.text)) × ((k : ℕ) → is_covered l.reach.items k ≡ list_any (λ (x : LocatedSpan). keeps l.source.text k x.annotation.now) (take l.span-index l.located))
+    (length l.reach.items ≡ length (source_lines l.source.text)) × ((k : ℕ) → is_covered l.reach.items k
+    ≡ list_any (λ (x : LocatedSpan). keeps l.source.text k x.annotation.now) (take l.span-index l.located))

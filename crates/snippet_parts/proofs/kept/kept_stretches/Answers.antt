@@ -12,7 +12,9 @@ use Rattle.snippet_parts.proofs.kept.kept_stretches.Goals as goal
 -- whether a span keeps line k, by its first and its last line
 abbrev keeps_by : List ℕ → Annotation → ℕ → ℕ → ℕ → Bool
 keeps_by source a k f l =
-    leb f k && leb k l && (eqb k f || eqb k l || not (is_marking a.kind) || (ltb f k && (list_any (λ j. not (is_trivial_line source j)) (range_with_len k (min (f + 4) l - k)) || (eqb (k + 1) l && ltb (min (f + 4) l) k && not (is_trivial_line source k)))))
+    leb f k && leb k l && (eqb k f || eqb k l || not (is_marking a.kind)
+    || (ltb f k && (list_any (λ j. not (is_trivial_line source j)) (range_with_len k (min (f + 4) l - k))
+    || (eqb (k + 1) l && ltb (min (f + 4) l) k && not (is_trivial_line source k)))))
 
 one-at-most : (b : Bool) (n : ℕ) → n ≡ bool_byte b → n ≤ 1
 one-at-most true n is = omega (arith, is)
@@ -40,34 +42,111 @@ returns-clause-value c k =
     ∙ ap (λ n. keeps_by source a k (first_line source a) n) (c.touched-all.ensures.last ∙ c.requires.located.last)
 
 pub returns-then-all-clause-head : goal.returns-then-all-clause-head
-returns-then-all-clause-head c = omega (arith, c.touched-all.ensures.first, c.touched-all.ensures.last, located-ordered c.args.source.now c.args.span.now c.requires.located, located-within c.args.source.now c.args.span.now c.requires.located)
+returns-then-all-clause-head c = omega (
+  arith,
+  c.touched-all.ensures.first,
+  c.touched-all.ensures.last,
+  located-ordered c.args.source.now c.args.span.now
+      c.requires.located,
+  located-within c.args.source.now c.args.span.now c.requires.located,
+)
 
 pub returns-then-all-clause-tail : goal.returns-then-all-clause-tail
-returns-then-all-clause-tail c = omega (arith, c.touched-all.ensures.first, c.touched-all.ensures.last, located-ordered c.args.source.now c.args.span.now c.requires.located, located-within c.args.source.now c.args.span.now c.requires.located)
+returns-then-all-clause-tail c = omega (
+  arith,
+  c.touched-all.ensures.first,
+  c.touched-all.ensures.last,
+  located-ordered c.args.source.now c.args.span.now
+      c.requires.located,
+  located-within c.args.source.now c.args.span.now c.requires.located,
+)
 
 pub returns-then-all-clause-head_last : goal.returns-then-all-clause-head_last
-returns-then-all-clause-head_last c = omega (arith, c.touched-all.ensures.first, c.touched-all.ensures.last, located-ordered c.args.source.now c.args.span.now c.requires.located, located-within c.args.source.now c.args.span.now c.requires.located)
+returns-then-all-clause-head_last c = omega (
+  arith,
+  c.touched-all.ensures.first,
+  c.touched-all.ensures.last,
+  located-ordered c.args.source.now c.args.span.now
+      c.requires.located,
+  located-within c.args.source.now c.args.span.now c.requires.located,
+)
 
 pub returns-then-all-clause-tail_last : goal.returns-then-all-clause-tail_last
-returns-then-all-clause-tail_last c = omega (arith, c.touched-all.ensures.first, c.touched-all.ensures.last, located-ordered c.args.source.now c.args.span.now c.requires.located, located-within c.args.source.now c.args.span.now c.requires.located)
+returns-then-all-clause-tail_last c = omega (
+  arith,
+  c.touched-all.ensures.first,
+  c.touched-all.ensures.last,
+  located-ordered c.args.source.now c.args.span.now
+      c.requires.located,
+  located-within c.args.source.now c.args.span.now c.requires.located,
+)
 
 pub bars_end-requires-clause-ordered : goal.bars_end-requires-clause-ordered
-bars_end-requires-clause-ordered c = omega (arith, c.touched-all.ensures.first, c.touched-all.ensures.last, located-ordered c.args.source.now c.args.span.now c.requires.located)
+bars_end-requires-clause-ordered c = omega (
+  arith,
+  c.touched-all.ensures.first,
+  c.touched-all.ensures.last,
+  located-ordered c.args.source.now c.args.span.now
+      c.requires.located,
+)
 
 pub bars_end-requires-clause-within : goal.bars_end-requires-clause-within
-bars_end-requires-clause-within c = omega (arith, c.touched-all.ensures.first, c.touched-all.ensures.last, located-ordered c.args.source.now c.args.span.now c.requires.located, located-within c.args.source.now c.args.span.now c.requires.located)
+bars_end-requires-clause-within c = omega (
+  arith,
+  c.touched-all.ensures.first,
+  c.touched-all.ensures.last,
+  located-ordered c.args.source.now c.args.span.now
+      c.requires.located,
+  located-within c.args.source.now c.args.span.now c.requires.located,
+)
 
 pub has_closing_bar-requires-clause-within : goal.has_closing_bar-requires-clause-within
-has_closing_bar-requires-clause-within c = omega (arith, c.touched-all.ensures.first, c.touched-all.ensures.last, located-ordered c.args.source.now c.args.span.now c.requires.located, located-within c.args.source.now c.args.span.now c.requires.located)
+has_closing_bar-requires-clause-within c = omega (
+  arith,
+  c.touched-all.ensures.first,
+  c.touched-all.ensures.last,
+  located-ordered c.args.source.now
+      c.args.span.now c.requires.located,
+  located-within c.args.source.now c.args.span.now c.requires.located,
+)
 
 pub returns-clause-head : goal.returns-clause-head
-returns-clause-head c = omega (arith, c.touched-all.ensures.first, c.touched-all.ensures.last, located-ordered c.args.source.now c.args.span.now c.requires.located, located-within c.args.source.now c.args.span.now c.requires.located)
+returns-clause-head c = omega (
+  arith,
+  c.touched-all.ensures.first,
+  c.touched-all.ensures.last,
+  located-ordered c.args.source.now c.args.span.now
+      c.requires.located,
+  located-within c.args.source.now c.args.span.now c.requires.located,
+)
 
 pub returns-clause-tail : goal.returns-clause-tail
-returns-clause-tail c = omega (arith, c.touched-all.ensures.first, c.touched-all.ensures.last, located-ordered c.args.source.now c.args.span.now c.requires.located, located-within c.args.source.now c.args.span.now c.requires.located)
+returns-clause-tail c = omega (
+  arith,
+  c.touched-all.ensures.first,
+  c.touched-all.ensures.last,
+  located-ordered c.args.source.now c.args.span.now
+      c.requires.located,
+  located-within c.args.source.now c.args.span.now c.requires.located,
+)
 
 pub returns-clause-head_last : goal.returns-clause-head_last
-returns-clause-head_last c = omega (arith, c.touched-all.ensures.first, c.touched-all.ensures.last, located-ordered c.args.source.now c.args.span.now c.requires.located, located-within c.args.source.now c.args.span.now c.requires.located, c.bars_end.ensures.to)
+returns-clause-head_last c = omega (
+  arith,
+  c.touched-all.ensures.first,
+  c.touched-all.ensures.last,
+  located-ordered c.args.source.now c.args.span.now
+      c.requires.located,
+  located-within c.args.source.now c.args.span.now c.requires.located,
+  c.bars_end.ensures.to,
+)
 
 pub returns-clause-tail_last : goal.returns-clause-tail_last
-returns-clause-tail_last c = omega (arith, c.touched-all.ensures.first, c.touched-all.ensures.last, located-ordered c.args.source.now c.args.span.now c.requires.located, located-within c.args.source.now c.args.span.now c.requires.located)
+returns-clause-tail_last c = omega (
+  arith,
+  c.touched-all.ensures.first,
+  c.touched-all.ensures.last,
+  located-ordered c.args.source.now c.args.span.now
+      c.requires.located,
+  located-within c.args.source.now c.args.span.now c.requires.located,
+)

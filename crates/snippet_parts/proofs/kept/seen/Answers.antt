@@ -16,13 +16,21 @@ returns-then-has_unmarked c =
     let text = c.args.source.now.text in
     let marks = c.args.located.now in
     let touches : ℕ → Bool = λ j. list_any (λ (l : LocatedSpan). is_seen text j l.annotation.now) marks in
-    let touched : (k : ℕ) → k < length (source_lines text) → get_or (map touches (range_with_len 0 (length (source_lines text)))) k false ≡ touches k = λ k within. get_or-map-range_with_len touches 0 (length (source_lines text)) k k false within (omega arith) in
-    record { value = IfOk-weaker c.touched_lines.result _ _ (λ lines is k within. ap (λ bs. get_or bs k false) is ∙ touched k within) c.touched_lines.ensures.value }
+    let touched : (k : ℕ) → k < length (source_lines text) → get_or (map touches (range_with_len 0 (length (source_lines text)))) k false
+    ≡ touches k = λ k within. get_or-map-range_with_len touches 0 (length (source_lines text)) k k false within (omega arith) in
+    record {
+      value = IfOk-weaker c.touched_lines.result _ _ (λ lines is k within.
+          ap (λ bs. get_or bs k false) is ∙ touched k within) c.touched_lines.ensures.value;
+    }
 
 pub returns-else-has_unmarked : goal.returns-else-has_unmarked
 returns-else-has_unmarked c =
     let text = c.args.source.now.text in
     let of : LocatedSpan → Annotation = λ l. l.annotation.now in
     let marks = c.args.located.now in
-    let none : list_any (λ (a : Annotation). not (is_marking a.kind)) (map of marks) ≡ false = list_any-map (λ (a : Annotation). not (is_marking a.kind)) of marks ∙ sym c.has_unmarked.ensures.value ∙ c.if-has_unmarked.false in
-    record { value = λ k within. ap (λ bs. get_or bs k false) c.new.ensures.items ∙ sym (sym (list_any-map (is_seen text k) of marks) ∙ unseen text k (map of marks) none) }
+    let none : list_any (λ (a : Annotation). not (is_marking a.kind)) (map of marks)
+    ≡ false = list_any-map (λ (a : Annotation). not (is_marking a.kind)) of marks ∙ sym c.has_unmarked.ensures.value ∙ c.if-has_unmarked.false in
+    record {
+      value = λ k within. ap (λ bs. get_or bs k false) c.new.ensures.items
+          ∙ sym (sym (list_any-map (is_seen text k) of marks) ∙ unseen text k (map of marks) none);
+    }

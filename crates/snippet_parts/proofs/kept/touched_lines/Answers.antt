@@ -7,8 +7,11 @@ use Rattle.snippet_parts.proofs.KeptLemmas.{covered-none, covered-all}
 use Rattle.snippet_parts.proofs.kept.touched_lines.Goals as goal
 
 pub loop-span-init : goal.loop-span-init
-loop-span-init c =
-    (omega (arith, c.in_ok-reach.ensures.len, c.line_count.ensures.value, c.in_ok-reach.reach.ok.0), λ k. covered-none c.in_ok-reach.reach.items c.line_count.result k (c.in_ok-reach.ensures.items_if_clones_equal (λ y same. same)))
+loop-span-init c = (
+  omega (arith, c.in_ok-reach.ensures.len, c.line_count.ensures.value, c.in_ok-reach.reach.ok.0),
+  λ k.
+      covered-none c.in_ok-reach.reach.items c.line_count.result k (c.in_ok-reach.ensures.items_if_clones_equal (λ y same. same)),
+)
 
 pub returns : goal.returns
 returns c = record {

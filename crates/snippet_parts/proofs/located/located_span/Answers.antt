@@ -23,8 +23,18 @@ pub returns-clause-located : goal.returns-clause-located
 returns-clause-located c =
     record {
       span = c.requires.span;
-      first = omega (arith, c.line_start.ensures.value, first-from c.args.source.now c.args.annotation.now c.span_to_locations.result c.span_to_locations.ensures.value);
-      last = omega (arith, c.line_start-2.ensures.value, last-from c.args.source.now c.args.annotation.now c.span_to_locations.result c.span_to_locations.ensures.value);
+      first = omega (
+        arith,
+        c.line_start.ensures.value,
+        first-from c.args.source.now c.args.annotation.now c.span_to_locations.result
+            c.span_to_locations.ensures.value,
+      );
+      last = omega (
+        arith,
+        c.line_start-2.ensures.value,
+        last-from c.args.source.now c.args.annotation.now c.span_to_locations.result
+            c.span_to_locations.ensures.value,
+      );
       locations = c.span_to_locations.ensures.value;
       start_display = c.span_to_locations.ensures.start_bound;
       end_display = c.span_to_locations.ensures.end_bound;

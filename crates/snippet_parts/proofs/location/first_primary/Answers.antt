@@ -26,5 +26,6 @@ loop-annotation-preserved c =
           ∙ start-more (λ (a : Annotation). is_primary a.kind)
           c.args.annotations.now c.loop-annotation.annotation-index c.annotation-item.result c.loop-annotation.least c.loop-annotation-test.true
           c.annotation-item.is (is ∙ w.if-eq.true) c.loop-annotation.invariant
-      | else-eq w ↦ w.least-is ∙ start-same (λ (a : Annotation). is_primary a.kind) c.args.annotations.now c.loop-annotation.annotation-index c.annotation-item.result c.loop-annotation.least c.loop-annotation-test.true c.annotation-item.is (is ∙ w.if-eq.false) c.loop-annotation.invariant
+      | else-eq w ↦ w.least-is ∙ start-same (λ (a : Annotation). is_primary a.kind) c.args.annotations.now c.loop-annotation.annotation-index
+          c.annotation-item.result c.loop-annotation.least c.loop-annotation-test.true c.annotation-item.is (is ∙ w.if-eq.false) c.loop-annotation.invariant
     ]

@@ -21,6 +21,8 @@ pub loop-entry-preserved : goal.loop-entry-preserved
 loop-entry-preserved c =
     let is = tested _ c.eq.result c.eq.ensures in
     elim c.if-eq.branch [
-      | then-eq w ↦ w.least-is ∙ w.lesser-least.ensures.value ∙ primary_column-more c.args.entries.now c.loop-entry.entry-index _ c.loop-entry.least c.loop-entry-test.true (is ∙ w.if-eq.true) c.loop-entry.invariant
-      | else-eq w ↦ w.least-is ∙ primary_column-same c.args.entries.now c.loop-entry.entry-index _ c.loop-entry.least c.loop-entry-test.true (is ∙ w.if-eq.false) c.loop-entry.invariant
+      | then-eq w ↦ w.least-is ∙ w.lesser-least.ensures.value ∙ primary_column-more c.args.entries.now c.loop-entry.entry-index _ c.loop-entry.least
+          c.loop-entry-test.true (is ∙ w.if-eq.true) c.loop-entry.invariant
+      | else-eq w ↦ w.least-is ∙ primary_column-same c.args.entries.now c.loop-entry.entry-index _ c.loop-entry.least c.loop-entry-test.true
+          (is ∙ w.if-eq.false) c.loop-entry.invariant
     ]

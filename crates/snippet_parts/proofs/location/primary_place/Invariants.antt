@@ -9,4 +9,5 @@ use Rattle.snippet_parts.proofs.location.primary_place.Given as goal
 -- these lines
 abbrev pub invariant-loop-info : goal.invariant-loop-info
 invariant-loop-info l =
-    option_or (place_from (least_place primary_parts) l.lines l.info-index) (option_or l.first (place_from (least_place all_parts) l.lines l.info-index)) ≡ primary_place (map seen_kept l.lines)
+    option_or (place_from (least_place primary_parts) l.lines l.info-index) (option_or l.first (place_from (least_place all_parts) l.lines l.info-index))
+    ≡ primary_place (map seen_kept l.lines)

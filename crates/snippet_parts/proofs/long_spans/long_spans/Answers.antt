@@ -20,4 +20,5 @@ returns-clause-fit c = λ s located. All-permutation (HasFit s) c.in_ok-spans.sp
 
 pub returns-clause-ordered : goal.returns-clause-ordered
 returns-clause-ordered c =
-    long-ordered c.sort_by.new.self.items (c.in_ok-sort_by.ensures.sorted long_before long_before-order (answers_always _ _ _ (λ f a r g h. search (rules, before-tells))))
+    long-ordered c.sort_by.new.self.items (c.in_ok-sort_by.ensures.sorted long_before long_before-order
+    (answers_always _ _ _ (λ f a r g h. search (rules, before-tells))))

@@ -12,11 +12,15 @@ use Rattle.snippet_parts.proofs.made_entries.made_entries.Goals as goal
 
 pub depths-requires-clause-ordered : goal.depths-requires-clause-ordered
 depths-requires-clause-ordered c =
-    places-ordered c.deref-2.result.now c.in_ok-spans.spans.items no_span (c.deref-2.ensures.value ∙ c.in_ok-places.ensures.value ∙ ap (map (λ (l : LongSpan). long_place (seen_long l))) c.deref.ensures.value) c.in_ok-spans.ensures.ordered
+    places-ordered c.deref-2.result.now c.in_ok-spans.spans.items no_span
+    (c.deref-2.ensures.value ∙ c.in_ok-places.ensures.value ∙ ap (map (λ (l : LongSpan). long_place (seen_long l))) c.deref.ensures.value)
+    c.in_ok-spans.ensures.ordered
 
 pub depths-requires-clause-lines : goal.depths-requires-clause-lines
 depths-requires-clause-lines c =
-    places-lines c.args.source.now c.deref-2.result.now c.in_ok-spans.spans.items no_span (c.deref-2.ensures.value ∙ c.in_ok-places.ensures.value ∙ ap (map (λ (l : LongSpan). long_place (seen_long l))) c.deref.ensures.value) (c.in_ok-spans.ensures.fit c.args.source.now c.requires.located)
+    places-lines c.args.source.now c.deref-2.result.now c.in_ok-spans.spans.items no_span
+    (c.deref-2.ensures.value ∙ c.in_ok-places.ensures.value ∙ ap (map (λ (l : LongSpan). long_place (seen_long l))) c.deref.ensures.value)
+    (c.in_ok-spans.ensures.fit c.args.source.now c.requires.located)
 
 pub push_long_entries-requires-clause-depths : goal.push_long_entries-requires-clause-depths
 push_long_entries-requires-clause-depths c =
@@ -34,13 +38,16 @@ returns-clause-deepest c =
 
 pub push_long_entries-requires-clause-fit : goal.push_long_entries-requires-clause-fit
 push_long_entries-requires-clause-fit c =
-    All-same (HasFit c.args.source.now) c.deref-3.result.now c.in_ok-spans.spans.items c.deref-3.ensures.value (c.in_ok-spans.ensures.fit c.args.source.now c.requires.located)
+    All-same (HasFit c.args.source.now) c.deref-3.result.now c.in_ok-spans.spans.items c.deref-3.ensures.value
+    (c.in_ok-spans.ensures.fit c.args.source.now c.requires.located)
 
 pub returns-clause-value : goal.returns-clause-value
 returns-clause-value c =
     let s = c.args.source.now in
     let ls = c.args.located.now in
-    let spans : map seen_long c.deref-3.result.now ≡ long_spans s (annotations_of ls) = ap (map seen_long) c.deref-3.ensures.value ∙ c.in_ok-spans.ensures.value ∙ long-are s ls c.requires.located in
+    let spans : map seen_long c.deref-3.result.now ≡ long_spans s (annotations_of ls) = ap (map seen_long) c.deref-3.ensures.value
+    ∙ c.in_ok-spans.ensures.value ∙ long-are s ls c.requires.located in
     c.in_ok-push_long_entries.ensures.value
-    ∙ ap (λ ps. ps ++ long_parts s (map long_place (map seen_long c.deref-3.result.now)) [] (map seen_long c.deref-3.result.now)) (c.in_ok-entries.ensures.value ∙ short-parts s ls c.requires.located)
+    ∙ ap (λ ps. ps ++ long_parts s (map long_place (map seen_long c.deref-3.result.now)) [] (map seen_long c.deref-3.result.now))
+    (c.in_ok-entries.ensures.value ∙ short-parts s ls c.requires.located)
     ∙ ap (λ es. map (single_part s) (filter (is_short s.text) (annotations_of ls)) ++ long_parts s (map long_place es) [] es) spans

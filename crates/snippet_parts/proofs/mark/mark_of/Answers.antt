@@ -28,7 +28,8 @@ loop-annotation-preserved c = (
             (best-narrower source marks k p a w.in-Some.mark w.in-Some-best.before (w.in-Some.ensures.marked k here)
             w.in-Some.ensures.width w.in-Some.ensures.kind (w.is_narrower.ensures.narrower w.if-not-is_narrower.false)
             (w.is_narrower.ensures.primary w.if-not-is_narrower.false) (subst Best w.in-Some-best.is before))
-        | in-Some+in_default-best w ↦ rw w.best-is (best-first source marks k p a w.in-Some.mark (w.in-Some.ensures.marked k here) w.in-Some.ensures.width w.in-Some.ensures.kind (subst Best w.in_default-best.is before))
+        | in-Some+in_default-best w ↦ rw w.best-is (best-first source marks k p a w.in-Some.mark
+            (w.in-Some.ensures.marked k here) w.in-Some.ensures.width w.in-Some.ensures.kind (subst Best w.in_default-best.is before))
         | in_default w ↦ rw w.best-is (best-unmarked source marks k p a c.loop-annotation.best (w.in_default.ensures.none k here) before)
       ]),
   elim c.match-mark_at.branch [
@@ -44,11 +45,14 @@ kind_of_best c = search rules
 
 pub returns-clause-mark : goal.returns-clause-mark
 returns-clause-mark c =
-    answer-mark c.args.source.now c.args.annotations.now c.loop-annotation.annotation-index c.args.line c.args.column c.loop-annotation.best c.map.result c.loop-annotation-test.false (kind_of_best c) c.loop-annotation.invariant.0
+    answer-mark c.args.source.now c.args.annotations.now c.loop-annotation.annotation-index c.args.line c.args.column c.loop-annotation.best c.map.result
+    c.loop-annotation-test.false (kind_of_best c) c.loop-annotation.invariant.0
 
 pub returns-clause-number : goal.returns-clause-number
-returns-clause-number c = answer-number c.loop-annotation.best c.map.result (c.args.source.now.first ≤ c.args.line) (kind_of_best c) c.loop-annotation.invariant.1
+returns-clause-number c = answer-number c.loop-annotation.best c.map.result (c.args.source.now.first ≤ c.args.line)
+    (kind_of_best c) c.loop-annotation.invariant.1
 
 pub returns-clause-none : goal.returns-clause-none
 returns-clause-none c =
-    answer-none c.args.source.now c.args.annotations.now c.loop-annotation.annotation-index c.args.line c.args.column c.loop-annotation.best c.map.result c.loop-annotation-test.false (kind_of_best c) c.loop-annotation.invariant.0
+    answer-none c.args.source.now c.args.annotations.now c.loop-annotation.annotation-index c.args.line c.args.column c.loop-annotation.best c.map.result
+    c.loop-annotation-test.false (kind_of_best c) c.loop-annotation.invariant.0

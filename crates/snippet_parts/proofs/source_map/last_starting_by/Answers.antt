@@ -5,7 +5,8 @@ use Rattle.snippet_parts.proofs.source_map.last_starting_by.Goals as goal
 
 parted : (c : goal.After-partition_point) → IsParted c.args.starts.now c.args.byte c.partition_point.result
 parted c =
-    IsPartitionPoint-from_clause (λ (start : ℕ). leb start c.args.byte) c.args.starts.now c.partition_point.result c.partition_point.ensures.partitioned (IsPartitionedBy-leb (λ (start : ℕ). start) c.args.starts.now c.args.byte c.requires.ordered) (λ a r q k. search rules)
+    IsPartitionPoint-from_clause (λ (start : ℕ). leb start c.args.byte) c.args.starts.now c.partition_point.result c.partition_point.ensures.partitioned
+    (IsPartitionedBy-leb (λ (start : ℕ). start) c.args.starts.now c.args.byte c.requires.ordered) (λ a r q k. search rules)
 
 some : (c : goal.After-partition_point) → 1 ≤ c.partition_point.result
 some c = parted-some c.args.starts.now c.args.byte c.partition_point.result c.requires.some c.requires.first (parted c)

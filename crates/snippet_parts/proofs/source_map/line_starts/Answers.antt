@@ -17,12 +17,18 @@ inside end left rest p left_is all =
 
 pub overflow_add-next : goal.overflow_add-next
 overflow_add-next c =
-    omega (arith, c.requires.fits, (inside (length c.args.source.now) c.loop-line_feed.line_feed-iterator c.next.new.self c.in-Some.line_feed c.in-Some.ensures.steps c.loop-line_feed.invariant.3).0)
+    omega (
+      arith,
+      c.requires.fits,
+      (inside (length c.args.source.now) c.loop-line_feed.line_feed-iterator c.next.new.self c.in-Some.line_feed
+          c.in-Some.ensures.steps c.loop-line_feed.invariant.3).0,
+    )
 
 pub loop-line_feed-init : goal.loop-line_feed-init
 loop-line_feed-init c =
     let end = length c.args.source.now in
-    let left = c.into_iter-line_feed-iterator.ensures.into_iter_gives ∙ c.memchr_iter-line_feed-items.ensures.value ∙ ap (places (is_byte 10)) c.as_bytes.ensures.value in (
+    let left = c.into_iter-line_feed-iterator.ensures.into_iter_gives ∙ c.memchr_iter-line_feed-items.ensures.value
+    ∙ ap (places (is_byte 10)) c.as_bytes.ensures.value in (
       tt,
       tt,
       ap (λ ss. ss ++ starts_after end c.into_iter-line_feed-iterator.result) c.in_ok-starts.ensures.items ∙ ap (λ ps. 0 ∷ starts_after end ps) left,
@@ -36,19 +42,25 @@ loop-line_feed-preserved-in-Continue-branch-2 c = (
   starts_after-some (length c.args.source.now)
       c.in-Some.line_feed c.next.new.self c.loop-line_feed.starts.items c.push.new.self.items c.loop-line_feed.line_feed-iterator
       (all_starts c.args.source.now) c.in-Some.ensures.steps c.if-next-source.true c.in_ok-push.ensures.items c.loop-line_feed.invariant.2,
-  (inside (length c.args.source.now) c.loop-line_feed.line_feed-iterator c.next.new.self c.in-Some.line_feed c.in-Some.ensures.steps c.loop-line_feed.invariant.3).1,
+  (inside (length c.args.source.now) c.loop-line_feed.line_feed-iterator c.next.new.self c.in-Some.line_feed c.in-Some.ensures.steps
+      c.loop-line_feed.invariant.3).1,
 )
 
 pub loop-line_feed-preserved : goal.loop-line_feed-preserved
 loop-line_feed-preserved c = (
   tt,
   tt,
-  starts_after-none (length c.args.source.now) c.in-Some.line_feed c.next.new.self c.loop-line_feed.starts.items c.loop-line_feed.line_feed-iterator (all_starts c.args.source.now) c.in-Some.ensures.steps c.if-next-source.false c.loop-line_feed.invariant.2,
-  (inside (length c.args.source.now) c.loop-line_feed.line_feed-iterator c.next.new.self c.in-Some.line_feed c.in-Some.ensures.steps c.loop-line_feed.invariant.3).1,
+  starts_after-none (length c.args.source.now) c.in-Some.line_feed c.next.new.self c.loop-line_feed.starts.items c.loop-line_feed.line_feed-iterator
+      (all_starts c.args.source.now) c.in-Some.ensures.steps c.if-next-source.false c.loop-line_feed.invariant.2,
+  (inside (length c.args.source.now) c.loop-line_feed.line_feed-iterator c.next.new.self c.in-Some.line_feed c.in-Some.ensures.steps
+      c.loop-line_feed.invariant.3).1,
 )
 
 pub returns : goal.returns
 returns c =
     let source = c.args.source.now in
     let starts = c.loop-line_feed.starts.items in
-    record { starts = sym (append-nil starts) ∙ ap (λ ps. starts ++ starts_after (length source) ps) (sym c.in-None.ensures.steps.0) ∙ c.loop-line_feed.invariant.2 ∙ sym (starts_from-source source) }
+    record {
+      starts = sym (append-nil starts) ∙ ap (λ ps. starts ++ starts_after (length source) ps) (sym c.in-None.ensures.steps.0)
+          ∙ c.loop-line_feed.invariant.2 ∙ sym (starts_from-source source);
+    }

@@ -5,7 +5,11 @@ use Rattle.snippet_parts.proofs.EntryLemmas.{bars_more, bars-closed, bars-open, 
 use Rattle.snippet_parts.proofs.span_entries.push_bars.Goals as goal
 
 pub overflow_add-line-end : goal.overflow_add-line-end
-overflow_add-line-end c = omega (arith, c.bars_end-end.ensures.before (omega (arith, c.requires.fit.lines, c.line_start.ensures.value, c.line_start-2.ensures.value)))
+overflow_add-line-end c = omega (
+  arith,
+  c.bars_end-end.ensures.before
+      (omega (arith, c.requires.fit.lines, c.line_start.ensures.value, c.line_start-2.ensures.value)),
+)
 
 pub loop-line-preserved : goal.loop-line-preserved
 loop-line-preserved c =

@@ -12,18 +12,30 @@ loop-c-init c = read-none (chars c.args.line.now)
 
 pub returns-in-Comment : goal.returns-in-Comment
 returns-in-Comment c =
-    let at = YieldsList-turn (YieldsList-from_chars c.args.line.now c.utf8.line cc) c.loop-c.yielded _ c.loop-c.yielded_by _ _ c.in-Some.c c.in-Some.is c.next.ensures.steps in
-    record { value = read-comment (chars c.args.line.now) (length c.loop-c.yielded + 1) (read-more (chars c.args.line.now) (length c.loop-c.yielded) (length c.loop-c.yielded + 1) c.in-Some.c c.loop-c.seen Comment at refl c.in-Comment.ensures.value c.loop-c.invariant) }
+    let at = YieldsList-turn (YieldsList-from_chars c.args.line.now c.utf8.line cc) c.loop-c.yielded _ c.loop-c.yielded_by _ _ c.in-Some.c c.in-Some.is
+    c.next.ensures.steps in
+    record {
+      value = read-comment (chars c.args.line.now) (length c.loop-c.yielded + 1)
+          (read-more (chars c.args.line.now) (length c.loop-c.yielded) (length c.loop-c.yielded + 1) c.in-Some.c c.loop-c.seen Comment at refl
+          c.in-Comment.ensures.value c.loop-c.invariant);
+    }
 
 pub returns-in-Telling : goal.returns-in-Telling
 returns-in-Telling c =
-    let at = YieldsList-turn (YieldsList-from_chars c.args.line.now c.utf8.line cc) c.loop-c.yielded _ c.loop-c.yielded_by _ _ c.in-Some.c c.in-Some.is c.next.ensures.steps in
-    record { value = read-strong (chars c.args.line.now) (length c.loop-c.yielded + 1) (read-more (chars c.args.line.now) (length c.loop-c.yielded) (length c.loop-c.yielded + 1) c.in-Some.c c.loop-c.seen Telling at refl c.in-Telling.ensures.value c.loop-c.invariant) }
+    let at = YieldsList-turn (YieldsList-from_chars c.args.line.now c.utf8.line cc) c.loop-c.yielded _ c.loop-c.yielded_by _ _ c.in-Some.c c.in-Some.is
+    c.next.ensures.steps in
+    record {
+      value = read-strong (chars c.args.line.now) (length c.loop-c.yielded + 1)
+          (read-more (chars c.args.line.now) (length c.loop-c.yielded) (length c.loop-c.yielded + 1) c.in-Some.c c.loop-c.seen Telling at refl
+          c.in-Telling.ensures.value c.loop-c.invariant);
+    }
 
 pub loop-c-preserved : goal.loop-c-preserved
 loop-c-preserved c =
-    let at = YieldsList-turn (YieldsList-from_chars c.args.line.now c.utf8.line cc) c.loop-c.yielded _ c.loop-c.yielded_by _ _ c.in-Some.c c.in-Some.is c.next.ensures.steps in
-    read-more (chars c.args.line.now) (length c.loop-c.yielded) _ c.in-Some.c c.loop-c.seen c.step-seen.result at (length_push c.loop-c.yielded c.in-Some.c) c.step-seen.ensures.value c.loop-c.invariant
+    let at = YieldsList-turn (YieldsList-from_chars c.args.line.now c.utf8.line cc) c.loop-c.yielded _ c.loop-c.yielded_by _ _ c.in-Some.c c.in-Some.is
+    c.next.ensures.steps in
+    read-more (chars c.args.line.now) (length c.loop-c.yielded) _ c.in-Some.c c.loop-c.seen c.step-seen.result at
+    (length_push c.loop-c.yielded c.in-Some.c) c.step-seen.ensures.value c.loop-c.invariant
 
 pub returns : goal.returns
 returns c = record {

@@ -7,5 +7,6 @@ overflow_sub-at c = no-border c.args.text.now c.loop-at.at c.is_char_boundary.re
 
 pub loop-at-smaller : goal.loop-at-smaller
 loop-at-smaller c =
-    let after : 1 ≤ c.loop-at.at = no-border c.args.text.now c.loop-at.at c.is_char_boundary.result c.utf8.text c.is_char_boundary.ensures.test.1 c.loop-at-test.true in
+    let after : 1 ≤ c.loop-at.at = no-border c.args.text.now c.loop-at.at c.is_char_boundary.result c.utf8.text c.is_char_boundary.ensures.test.1
+    c.loop-at-test.true in
     omega (arith, after)

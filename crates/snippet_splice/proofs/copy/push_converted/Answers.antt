@@ -12,8 +12,10 @@ pub loop-front-preserved-in_ok-push : goal.loop-front-preserved-in_ok-push
 loop-front-preserved-in_ok-push c =
     let parts = split_parts 13 c.loop-front.rest.now (Some (c.in-Some.front, c.in-Some.after)) c.in-Some.ensures.cases (lit< tt) in
     let starts = starts_char 10 c.in-Some.after.now c.starts_with.result c.starts_with.ensures.cases (lit< tt) (lit< tt) in
-    let no_lf : eqb (get_or c.in-Some.after.now 0 0) 10 ≡ false = false_from_ne_true _ (λ t. both_ways c.starts_with.result c.if-not-starts_with.true (starts.1 (eqb-true _ 10 t))) in
-    let added : string_bytes c.push.new.self ≡ string_bytes c.push_str.new.self ++ 13 ∷ [] = c.in_ok-push.ensures.bytes ∙ ap (λ l. string_bytes c.push_str.new.self ++ l) (encode_ascii 13 (lit< tt)) in
+    let no_lf : eqb (get_or c.in-Some.after.now 0 0) 10 ≡ false = false_from_ne_true _ (λ t.
+    both_ways c.starts_with.result c.if-not-starts_with.true (starts.1 (eqb-true _ 10 t))) in
+    let added : string_bytes c.push.new.self ≡ string_bytes c.push_str.new.self ++ 13 ∷ [] = c.in_ok-push.ensures.bytes
+    ∙ ap (λ l. string_bytes c.push_str.new.self ++ l) (encode_ascii 13 (lit< tt)) in
     let pushed : string_bytes c.push_str.new.self ≡ string_bytes c.loop-front.out ++ c.in-Some.front.now = c.in_ok-push_str.ensures.bytes in (
       utf8-after c.loop-front.rest.now c.in-Some.front.now c.in-Some.after.now 13 c.loop-front.invariant.0 (lit< tt) parts.0,
       ap (λ l. l ++ with_line_feeds c.in-Some.after.now) (added ∙ ap (λ l. l ++ 13 ∷ []) pushed)
@@ -35,5 +37,9 @@ loop-front-preserved c =
 
 pub returns : goal.returns
 returns c =
-    let none : (i : ℕ) → i < length c.loop-front.rest.now → get_or c.loop-front.rest.now i 0 ≢ 13 = split_parts 13 c.loop-front.rest.now None c.in_default.ensures.cases (lit< tt) in
-    record { written = c.in_ok-push_str-2.ensures.bytes ∙ ap (λ l. string_bytes c.loop-front.out ++ l) (sym (with_line_feeds-none c.loop-front.rest.now none)) ∙ c.loop-front.invariant.1 }
+    let none : (i : ℕ) → i < length c.loop-front.rest.now → get_or c.loop-front.rest.now i 0 ≢ 13 = split_parts 13 c.loop-front.rest.now None
+    c.in_default.ensures.cases (lit< tt) in
+    record {
+      written = c.in_ok-push_str-2.ensures.bytes ∙ ap (λ l. string_bytes c.loop-front.out ++ l) (sym (with_line_feeds-none c.loop-front.rest.now none))
+          ∙ c.loop-front.invariant.1;
+    }

@@ -11,4 +11,5 @@ returns-clause-feeds c =
     let part : c.range-between.result.now ≡ slice_range source (in_text source c.args.from) (in_text source c.args.to) =
     c.range-between.ensures.value ∙ ap (λ n. slice_range source n c.text_place-2.result) c.text_place.ensures.value
     ∙ ap (slice_range source (in_text source c.args.from)) c.text_place-2.ensures.value in
-    c.line_feed_count.ensures.value ∙ ap (count_by is_lf) part ∙ sym (count-with_line_feeds (slice_range source (in_text source c.args.from) (in_text source c.args.to)))
+    c.line_feed_count.ensures.value ∙ ap (count_by is_lf) part ∙ sym
+    (count-with_line_feeds (slice_range source (in_text source c.args.from) (in_text source c.args.to)))

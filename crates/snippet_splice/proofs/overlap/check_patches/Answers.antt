@@ -11,7 +11,8 @@ returns-then-stand_apart-clause-none c = (
 
 pub returns-then-stand_apart-clause-value : goal.returns-then-stand_apart-clause-value
 returns-then-stand_apart-clause-value c =
-    sym (first_overlap-none (map edit_of c.args.patches.now) (disjoint-apart c.args.source.now c.args.patches.now c.requires.spans (c.stand_apart.ensures.apart c.if-stand_apart.true)))
+    sym (first_overlap-none (map edit_of c.args.patches.now) (disjoint-apart c.args.source.now c.args.patches.now c.requires.spans
+    (c.stand_apart.ensures.apart c.if-stand_apart.true)))
 
 pub returns-clause-value : goal.returns-clause-value
 returns-clause-value c =

@@ -12,10 +12,14 @@ loop-i-preserved c = λ k within.
     let es : List Edit = map edit_of ps in
     let i : ℕ = c.loop-i.i in
     let inside : i < length ps = c.loop-i-test.true in
-    let before : get_or es (i - 1) no_edit ≡ edit_of c.index-patches-i-in-loop-i.result = edit-at ps (i - 1) c.index-patches-i-in-loop-i.result (omega arith) c.index-patches-i-in-loop-i.is in
+    let before : get_or es (i - 1) no_edit ≡ edit_of c.index-patches-i-in-loop-i.result = edit-at ps (i - 1) c.index-patches-i-in-loop-i.result
+    (omega arith) c.index-patches-i-in-loop-i.is in
     let here : get_or es i no_edit ≡ edit_of c.index-patches-i.result = edit-at ps i c.index-patches-i.result inside c.index-patches-i.is in
-    let ends : c.index-patches-i-in-loop-i.result.span.end ≤ c.index-patches-i.result.span.start = omega (arith, c.if-patches-i.false, ap (λ p. p.span.end) c.index-patches-i-in-loop-i.is, ap (λ p. p.span.start) c.index-patches-i.is) in
+    let ends : c.index-patches-i-in-loop-i.result.span.end ≤ c.index-patches-i.result.span.start = omega
+    (arith, c.if-patches-i.false, ap (λ p. p.span.end) c.index-patches-i-in-loop-i.is, ap (λ p. p.span.start) c.index-patches-i.is) in
     ⊎_elim
     (λ at. let first : k ≡ i - 1 = omega arith in
-    subst (λ n. (get_or es k no_edit).end ≤ (get_or es n no_edit).start) (sym at) (subst (λ n. (get_or es n no_edit).end ≤ (get_or es i no_edit).start) (sym first) (omega (arith, ends, ap (λ e. e.end) before, ap (λ e. e.start) here))))
+    subst (λ n. (get_or es k no_edit).end ≤ (get_or es n no_edit).start) (sym at)
+    (subst (λ n. (get_or es n no_edit).end ≤ (get_or es i no_edit).start) (sym first)
+    (omega (arith, ends, ap (λ e. e.end) before, ap (λ e. e.start) here))))
     (λ other. c.loop-i.invariant k (omega arith)) (cases_eq (k + 1) i)

@@ -25,8 +25,10 @@ loop-patch-preserved c =
     ∙ ap (λ (r : Range ℕ). (trimmed_edit source (edit_of p), r.start, r.end)) c.trim_patch.ensures.original
     ∙ ap (λ q. seen_edit source (edit_of q)) c.patch-item.is in
     let given : IsSpan source p.span.start p.span.end = subst (λ (q : Patch). IsSpan source q.span.start q.span.end) at (c.requires.spans i p within) in
-    let original : IsSpan source t.original_span.start t.original_span.end = subst (λ (r : Range ℕ). IsSpan source r.start r.end) (sym c.trim_patch.ensures.original) given in
-    subst (AreTrimmed source (take (i + 1) c.args.patches.now)) (sym {A = List TrimmedPatch} c.in_ok-push.ensures.items) (AreTrimmed-more source c.args.patches.now c.loop-patch.trimmed.items i p t within c.loop-patch.invariant one c.trim_patch.ensures.span original)
+    let original : IsSpan source t.original_span.start t.original_span.end = subst (λ (r : Range ℕ). IsSpan source r.start r.end)
+    (sym c.trim_patch.ensures.original) given in
+    subst (AreTrimmed source (take (i + 1) c.args.patches.now)) (sym {A = List TrimmedPatch} c.in_ok-push.ensures.items)
+    (AreTrimmed-more source c.args.patches.now c.loop-patch.trimmed.items i p t within c.loop-patch.invariant one c.trim_patch.ensures.span original)
 
 all_trimmed : (c : goal.In_ok-sort_by) → AreTrimmed c.args.source.now c.args.patches.now c.loop-patch.trimmed.items
 all_trimmed c =
@@ -36,8 +38,10 @@ all_trimmed c =
 in_place : (c : goal.In_ok-sort_by) → map seen c.sort_by.new.self.items ≡ map (seen_edit c.args.source.now) (in_order (map edit_of c.args.patches.now))
 in_place c =
     let order = pair-order (λ (t : TrimmedPatch). t.original_span.start) (λ (t : TrimmedPatch). t.original_span.end) in
-    let sorted : IsSortedBy before c.sort_by.new.self.items = c.in_ok-sort_by.ensures.sorted before order (answers_always _ _ _ (λ f a r g h. search (rules, pair-tells))) in
-    let stable : IsStableBy before c.loop-patch.trimmed.items c.sort_by.new.self.items = c.in_ok-sort_by.ensures.stable before order (answers_always _ _ _ (λ f a r g h. search (rules, pair-tells))) in
+    let sorted : IsSortedBy before c.sort_by.new.self.items = c.in_ok-sort_by.ensures.sorted before order
+    (answers_always _ _ _ (λ f a r g h. search (rules, pair-tells))) in
+    let stable : IsStableBy before c.loop-patch.trimmed.items c.sort_by.new.self.items = c.in_ok-sort_by.ensures.stable before order
+    (answers_always _ _ _ (λ f a r g h. search (rules, pair-tells))) in
     sorted-seen c.args.source.now c.args.patches.now c.loop-patch.trimmed.items c.sort_by.new.self.items (all_trimmed c) sorted stable
 
 pub returns-clause-edits : goal.returns-clause-edits
@@ -48,11 +52,13 @@ returns-clause-originals c = sorted-bounds c.args.source.now c.args.patches.now 
 
 pub returns-clause-spans : goal.returns-clause-spans
 returns-clause-spans c =
-    All-permutation (λ t. IsSpan c.args.source.now t.span.start t.span.end) c.loop-patch.trimmed.items c.sort_by.new.self.items c.in_ok-sort_by.ensures.permutation (all_trimmed c).spans
+    All-permutation (λ t. IsSpan c.args.source.now t.span.start t.span.end) c.loop-patch.trimmed.items c.sort_by.new.self.items
+    c.in_ok-sort_by.ensures.permutation (all_trimmed c).spans
 
 pub returns-clause-original_spans : goal.returns-clause-original_spans
 returns-clause-original_spans c =
-    All-permutation (λ t. IsSpan c.args.source.now t.original_span.start t.original_span.end) c.loop-patch.trimmed.items c.sort_by.new.self.items c.in_ok-sort_by.ensures.permutation (all_trimmed c).originals
+    All-permutation (λ t. IsSpan c.args.source.now t.original_span.start t.original_span.end) c.loop-patch.trimmed.items c.sort_by.new.self.items
+    c.in_ok-sort_by.ensures.permutation (all_trimmed c).originals
 
 pub returns-clause-law : goal.returns-clause-law
 returns-clause-law c = λ apart.

@@ -23,47 +23,65 @@ use Rattle.snippet_splice.proofs.RangeLemmas.{written-ranges}
 use Rattle.snippet_splice.proofs.splice.spliced_lines.Goals as goal
 
 pub returns-in_default-clause-none : goal.returns-in_default-clause-none
-returns-in_default-clause-none c =
-    (λ _. none_given c.args.source.now c.args.patches.now c.in_ok-patches.patches.items c.in_ok-patches.ensures.edits (sym (c.in_default.ensures.value ∙ ap (λ l. slice_get l 0) c.deref.ensures.value)), λ _. refl)
+returns-in_default-clause-none c = (
+  λ _. none_given c.args.source.now c.args.patches.now c.in_ok-patches.patches.items c.in_ok-patches.ensures.edits
+      (sym (c.in_default.ensures.value ∙ ap (λ l. slice_get l 0) c.deref.ensures.value)),
+  λ _. refl,
+)
 
 pub write_patches-requires-clause-from : goal.write_patches-requires-clause-from
 write_patches-requires-clause-from c =
-    inl (subst (IsCharBoundary c.args.source.now) (sym c.shown_start-start.ensures.value) (shown_start-border c.args.fold c.args.source.now c.in-Some.first.now.original_span.start c.utf8.source))
+    inl (subst (IsCharBoundary c.args.source.now) (sym c.shown_start-start.ensures.value)
+    (shown_start-border c.args.fold c.args.source.now c.in-Some.first.now.original_span.start c.utf8.source))
 
 first_is : (c : goal.After-deref-2) → c.in-Some.first.now.original_span.start ≡ first_start (in_order (map edit_of c.args.patches.now))
 first_is c =
-    first-given c.in_ok-patches.patches.items (in_order (map edit_of c.args.patches.now)) c.in-Some.first.now c.in_ok-patches.ensures.originals (sym (c.in-Some.ensures.value ∙ ap (λ l. slice_get l 0) c.deref.ensures.value))
+    first-given c.in_ok-patches.patches.items (in_order (map edit_of c.args.patches.now)) c.in-Some.first.now c.in_ok-patches.ensures.originals
+    (sym (c.in-Some.ensures.value ∙ ap (λ l. slice_get l 0) c.deref.ensures.value))
 
 pub write_patches-requires-clause-apart : goal.write_patches-requires-clause-apart
 write_patches-requires-clause-apart c =
     let source : List ℕ = c.args.source.now in
     let es : List Edit = map edit_of c.args.patches.now in
-    let apart : AreApart (shown_start c.args.fold source (first_start (in_order es))) (trimmed_edits source es) = shown-apart c.args.fold source es (apart-in_order es (ordered-spans source c.args.patches.now c.requires.spans) c.requires.disjoint) in
-    let begin : c.shown_start-start.result ≡ shown_start c.args.fold source (first_start (in_order es)) = c.shown_start-start.ensures.value ∙ ap (shown_start c.args.fold source) (first_is c) in
-    let edits : map trimmed_edit_of c.deref-2.result.now ≡ trimmed_edits source es = ap (map trimmed_edit_of) c.deref-2.ensures.value ∙ c.in_ok-patches.ensures.edits in
-    subst (λ n. AreApart n (map trimmed_edit_of c.deref-2.result.now)) (sym begin) (subst (AreApart (shown_start c.args.fold source (first_start (in_order es)))) (sym edits) apart)
+    let apart : AreApart (shown_start c.args.fold source (first_start (in_order es))) (trimmed_edits source es) = shown-apart c.args.fold source es
+    (apart-in_order es (ordered-spans source c.args.patches.now c.requires.spans) c.requires.disjoint) in
+    let begin : c.shown_start-start.result ≡ shown_start c.args.fold source (first_start (in_order es)) = c.shown_start-start.ensures.value
+    ∙ ap (shown_start c.args.fold source) (first_is c) in
+    let edits : map trimmed_edit_of c.deref-2.result.now ≡ trimmed_edits source es = ap (map trimmed_edit_of) c.deref-2.ensures.value
+    ∙ c.in_ok-patches.ensures.edits in
+    subst (λ n. AreApart n (map trimmed_edit_of c.deref-2.result.now)) (sym begin)
+    (subst (AreApart (shown_start c.args.fold source (first_start (in_order es)))) (sym edits) apart)
 
 pub patch_places-requires-clause-from : goal.patch_places-requires-clause-from
 patch_places-requires-clause-from c =
-    inl (subst (IsCharBoundary c.args.source.now) (sym c.shown_start-start.ensures.value) (shown_start-border c.args.fold c.args.source.now c.in-Some.first.now.original_span.start c.utf8.source))
+    inl (subst (IsCharBoundary c.args.source.now) (sym c.shown_start-start.ensures.value)
+    (shown_start-border c.args.fold c.args.source.now c.in-Some.first.now.original_span.start c.utf8.source))
 
 pub patch_places-requires-clause-apart : goal.patch_places-requires-clause-apart
 patch_places-requires-clause-apart c =
     let source : List ℕ = c.args.source.now in
     let es : List Edit = map edit_of c.args.patches.now in
-    let apart : AreApart (shown_start c.args.fold source (first_start (in_order es))) (trimmed_edits source es) = shown-apart c.args.fold source es (apart-in_order es (ordered-spans source c.args.patches.now c.requires.spans) c.requires.disjoint) in
-    let first : c.in-Some.first.now.original_span.start ≡ first_start (in_order es) = first-given c.in_ok-patches.patches.items (in_order es) c.in-Some.first.now c.in_ok-patches.ensures.originals (sym (c.in-Some.ensures.value ∙ ap (λ l. slice_get l 0) c.deref.ensures.value)) in
-    let begin : c.shown_start-start.result ≡ shown_start c.args.fold source (first_start (in_order es)) = c.shown_start-start.ensures.value ∙ ap (shown_start c.args.fold source) first in
-    let edits : map trimmed_edit_of c.deref-4.result.now ≡ trimmed_edits source es = ap (map trimmed_edit_of) c.deref-4.ensures.value ∙ c.in_ok-patches.ensures.edits in
-    subst (λ n. AreApart n (map trimmed_edit_of c.deref-4.result.now)) (sym begin) (subst (AreApart (shown_start c.args.fold source (first_start (in_order es)))) (sym edits) apart)
+    let apart : AreApart (shown_start c.args.fold source (first_start (in_order es))) (trimmed_edits source es) = shown-apart c.args.fold source es
+    (apart-in_order es (ordered-spans source c.args.patches.now c.requires.spans) c.requires.disjoint) in
+    let first : c.in-Some.first.now.original_span.start ≡ first_start (in_order es) = first-given c.in_ok-patches.patches.items
+    (in_order es) c.in-Some.first.now c.in_ok-patches.ensures.originals (sym (c.in-Some.ensures.value ∙ ap (λ l. slice_get l 0) c.deref.ensures.value)) in
+    let begin : c.shown_start-start.result ≡ shown_start c.args.fold source (first_start (in_order es)) = c.shown_start-start.ensures.value
+    ∙ ap (shown_start c.args.fold source) first in
+    let edits : map trimmed_edit_of c.deref-4.result.now ≡ trimmed_edits source es = ap (map trimmed_edit_of) c.deref-4.ensures.value
+    ∙ c.in_ok-patches.ensures.edits in
+    subst (λ n. AreApart n (map trimmed_edit_of c.deref-4.result.now)) (sym begin)
+    (subst (AreApart (shown_start c.args.fold source (first_start (in_order es)))) (sym edits) apart)
 
 pub returns-clause-splice : goal.returns-clause-splice
 returns-clause-splice c =
     let source : List ℕ = c.args.source.now in
     let es : List Edit = map edit_of c.args.patches.now in
-    let edits : map trimmed_edit_of c.deref-2.result.now ≡ trimmed_edits source es = ap (map trimmed_edit_of) c.deref-2.ensures.value ∙ c.in_ok-patches.ensures.edits in
-    let first : c.in-Some.first.now.original_span.start ≡ first_start (in_order es) = first-given c.in_ok-patches.patches.items (in_order es) c.in-Some.first.now c.in_ok-patches.ensures.originals (sym (c.in-Some.ensures.value ∙ ap (λ l. slice_get l 0) c.deref.ensures.value)) in
-    let same : map trimmed_edit_of c.deref-3.result.now ≡ map trimmed_edit_of c.deref-2.result.now = ap (map trimmed_edit_of) (c.deref-3.ensures.value ∙ sym c.deref-2.ensures.value) in
+    let edits : map trimmed_edit_of c.deref-2.result.now ≡ trimmed_edits source es = ap (map trimmed_edit_of) c.deref-2.ensures.value
+    ∙ c.in_ok-patches.ensures.edits in
+    let first : c.in-Some.first.now.original_span.start ≡ first_start (in_order es) = first-given c.in_ok-patches.patches.items
+    (in_order es) c.in-Some.first.now c.in_ok-patches.ensures.originals (sym (c.in-Some.ensures.value ∙ ap (λ l. slice_get l 0) c.deref.ensures.value)) in
+    let same : map trimmed_edit_of c.deref-3.result.now ≡ map trimmed_edit_of c.deref-2.result.now = ap (map trimmed_edit_of)
+    (c.deref-3.ensures.value ∙ sym c.deref-2.ensures.value) in
     let closed : c.closes_line.result ≡ closes_line (map trimmed_edit_of c.deref-2.result.now) = c.closes_line.ensures.value ∙ ap closes_line same in
     let rest : c.shown_rest-rest.result.now ≡ shown_rest c.args.fold c.closes_line.result
     (drop (min c.in_ok-written.written.end (length source)) source) =
@@ -75,17 +93,22 @@ returns-clause-splice c =
     (string_bytes c.in_ok-written.written.text)
     c.shown_rest-rest.result.now edits first c.shown_start-start.ensures.value c.in_ok-written.ensures.text c.in_ok-written.ensures.end closed
     rest in
-    let whole : string_bytes c.in_ok-complete.complete ≡ without_final_line_feeds (string_bytes c.in_ok-written.written.text ++ c.shown_rest-rest.result.now) = c.in_ok-complete.ensures.value in
-    let begin : c.shown_start-start.result ≡ shown_start c.args.fold source (first_start (in_order es)) = c.shown_start-start.ensures.value ∙ ap (shown_start c.args.fold source) first in
+    let whole : string_bytes c.in_ok-complete.complete ≡ without_final_line_feeds
+    (string_bytes c.in_ok-written.written.text ++ c.shown_rest-rest.result.now) = c.in_ok-complete.ensures.value in
+    let begin : c.shown_start-start.result ≡ shown_start c.args.fold source (first_start (in_order es)) = c.shown_start-start.ensures.value
+    ∙ ap (shown_start c.args.fold source) first in
     let written : c.in_ok-written.written.ranges.items ≡ written_ranges source 0 (shown_start c.args.fold source (first_start (in_order es)))
     (trimmed_edits source es) = c.in_ok-written.ensures.ranges
     ∙ ap (λ n. written_ranges source 0 n (map trimmed_edit_of c.deref-2.result.now)) begin
     ∙ ap (written_ranges source 0 (shown_start c.args.fold source (first_start (in_order es)))) edits in
     let ts : List Edit = map trimmed_edit_of c.deref-4.result.now in
     let trimmed : ts ≡ trimmed_edits source es = ap (map trimmed_edit_of) c.deref-4.ensures.value ∙ c.in_ok-patches.ensures.edits in
-    let places : map extent_of c.deref-6.result.now ≡ extents_from source c.shown_start-start.result c.shown_start-start.result ts = ap (map extent_of) c.deref-6.ensures.value ∙ c.in_ok-places.ensures.value in
+    let places : map extent_of c.deref-6.result.now ≡ extents_from source c.shown_start-start.result c.shown_start-start.result ts = ap
+    (map extent_of) c.deref-6.ensures.value ∙ c.in_ok-places.ensures.value in
     let apart : AreApart 0 (in_order es) = apart-in_order es (ordered-spans source c.args.patches.now c.requires.spans) c.requires.disjoint in
-    let some : trimmed_edits source es ≢ [] = some-trimmed c.in_ok-patches.patches.items (trimmed_edits source es) c.in-Some.first.now c.in_ok-patches.ensures.edits (sym (c.in-Some.ensures.value ∙ ap (λ l. slice_get l 0) c.deref.ensures.value)) in
+    let some : trimmed_edits source es ≢ [] = some-trimmed c.in_ok-patches.patches.items
+    (trimmed_edits source es) c.in-Some.first.now c.in_ok-patches.ensures.edits
+    (sym (c.in-Some.ensures.value ∙ ap (λ l. slice_get l 0) c.deref.ensures.value)) in
     let part : IsPlainSplice source es → IsShownPart c.args.fold source es = λ plain. shown-part c.args.fold source es plain.no_cr plain.before apart some in
     record {
       edits = c.in_ok-patches.ensures.edits;
@@ -96,21 +119,29 @@ returns-clause-splice c =
       value = value;
       ended = ap without_final_line_feeds whole ∙ without_final-twice (string_bytes c.in_ok-written.written.text ++ c.shown_rest-rest.result.now) ∙ sym whole;
       written = written;
-      stretches = λ k. c.in_ok-highlights.ensures.value k ∙ stretches_are c.args.fold source es ts c.shown_start-start.result k (map extent_of c.deref-6.result.now) begin trimmed places;
-      highlighted = c.in_ok-highlights.ensures.lines ∙ ap (λ n. capped (feeds_made (map extent_of c.deref-6.result.now) + n + 1)) c.line_feed_count-more.ensures.value
+      stretches = λ k. c.in_ok-highlights.ensures.value k ∙ stretches_are c.args.fold source es ts c.shown_start-start.result k
+          (map extent_of c.deref-6.result.now) begin trimmed places;
+      highlighted = c.in_ok-highlights.ensures.lines ∙ ap (λ n. capped
+          (feeds_made (map extent_of c.deref-6.result.now) + n + 1)) c.line_feed_count-more.ensures.value
           ∙ num_shown c.args.fold source es ts c.shown_start-start.result c.in_ok-written.written.end c.closes_line.result c.shown_rest-rest.result.now
           (map extent_of c.deref-6.result.now) trimmed begin places
           (c.in_ok-written.ensures.end ∙ ap (end_from c.shown_start-start.result) (edits ∙ sym trimmed)) (closed ∙ ap closes_line (edits ∙ sym trimmed)) rest;
-      replaced = λ k. c.in_ok-replaced_highlights.ensures.value k ∙ replaced_are c.args.fold source es ts c.shown_start-start.result k (map extent_of c.deref-7.result.now) begin trimmed (ap (map extent_of) c.deref-7.ensures.value ∙ c.in_ok-places.ensures.value);
-      replaced_lines = c.in_ok-replaced_highlights.ensures.lines ∙ num_replaced c.args.fold source es ts c.shown_start-start.result (map original_bounds_of c.deref-5.result.now)
+      replaced = λ k. c.in_ok-replaced_highlights.ensures.value k ∙ replaced_are c.args.fold source es ts c.shown_start-start.result k
+          (map extent_of c.deref-7.result.now) begin trimmed (ap (map extent_of) c.deref-7.ensures.value ∙ c.in_ok-places.ensures.value);
+      replaced_lines = c.in_ok-replaced_highlights.ensures.lines ∙ num_replaced c.args.fold source es ts c.shown_start-start.result
+          (map original_bounds_of c.deref-5.result.now)
           c.source_lines_shown-lines.result (map extent_of c.deref-7.result.now) trimmed begin
           (ap (map extent_of) c.deref-7.ensures.value ∙ c.in_ok-places.ensures.value)
           (ap (map original_bounds_of) c.deref-5.ensures.value ∙ c.in_ok-patches.ensures.originals)
           (c.source_lines_shown-lines.ensures.value
-          (inl (subst (IsCharBoundary source) (sym c.shown_start-start.ensures.value) (shown_start-border c.args.fold source c.in-Some.first.now.original_span.start c.utf8.source)))
-          (subst (λ (l : List TrimmedPatch). All (λ t. IsSpanBorder source t.original_span.end) l) (sym c.deref-5.ensures.value) (λ k d within. (c.in_ok-patches.ensures.original_spans k d within).to)));
+          (inl (subst (IsCharBoundary source) (sym c.shown_start-start.ensures.value)
+          (shown_start-border c.args.fold source c.in-Some.first.now.original_span.start c.utf8.source)))
+          (subst (λ (l : List TrimmedPatch). All (λ t. IsSpanBorder source t.original_span.end) l) (sym c.deref-5.ensures.value) (λ k d within.
+          (c.in_ok-patches.ensures.original_spans k d within).to)));
       text = λ plain. value ∙ (part plain).text ∙ sym (part plain).spliced;
       ranges = λ plain. ap (ranges_from (shown_line c.args.fold source es)) written ∙ written-ranges c.args.fold source es plain.no_cr plain.before apart;
-      lines = λ plain texts_none. subst (λ t. AreFrom (shown_line c.args.fold source es) (texts_of (lines_of t)) (texts_of (source_lines (patched source es)))) (sym (value ∙ (part plain).text)) (shown-lines c.args.fold source es plain.no_cr texts_none (part plain));
-      touched = λ plain j touched filled. subst (λ t. (shown_line c.args.fold source es ≤ j) × (j < shown_line c.args.fold source es + length (lines_of t))) (sym (value ∙ (part plain).text)) (shown-touched c.args.fold source es plain.no_cr plain.before apart (part plain) j touched filled);
+      lines = λ plain texts_none. subst (λ t. AreFrom (shown_line c.args.fold source es) (texts_of (lines_of t)) (texts_of (source_lines (patched source es))))
+          (sym (value ∙ (part plain).text)) (shown-lines c.args.fold source es plain.no_cr texts_none (part plain));
+      touched = λ plain j touched filled. subst (λ t. (shown_line c.args.fold source es ≤ j) × (j < shown_line c.args.fold source es + length (lines_of t)))
+          (sym (value ∙ (part plain).text)) (shown-touched c.args.fold source es plain.no_cr plain.before apart (part plain) j touched filled);
     }

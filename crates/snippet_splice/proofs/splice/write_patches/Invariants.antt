@@ -7,4 +7,5 @@ use Rattle.snippet_splice.proofs.splice.write_patches.Given as goal
 -- what is left completes what is to be written
 abbrev pub invariant-loop-patch : goal.invariant-loop-patch
 invariant-loop-patch l =
-    Writes l.source l.from (map trimmed_edit_of l.patches) (string_bytes l.text) l.ranges.items l.feeds l.end (map trimmed_edit_of (drop l.patch-index l.patches))
+    Writes l.source l.from (map trimmed_edit_of l.patches) (string_bytes l.text) l.ranges.items l.feeds l.end
+    (map trimmed_edit_of (drop l.patch-index l.patches))

@@ -19,7 +19,10 @@ returns c =
                 let none : n ≡ 0 = omega (arith, counted, w.if-line_feed_count-eq0.true) in
                 w.before-is ∙ sym (cond-true (eqb n 0) a.before 0 (eq-eqb n 0 none))
             | else-line_feed_count-eq0 w ↦
-                w.before-is ∙ sym (cond-false (eqb n 0) a.before 0 (false_from_ne_true _ (λ t. let none : n ≡ 0 = eqb-true n 0 t in absurd (omega (arith, counted, none, w.if-line_feed_count-eq0.false)))))
+                w.before-is ∙ sym (cond-false (eqb n 0) a.before 0 (false_from_ne_true _ (λ t.
+                let none : n ≡ 0 = eqb-true n 0 t in absurd (omega (arith, counted, none, w.if-line_feed_count-eq0.false)))))
           ] in
-          c.saturating_add.ensures ∙ ap (λ b. capped (b + c.char_count.result)) before ∙ ap (λ m. capped (begun + m)) (c.char_count.ensures.value ∙ ap (λ t. length (chars t)) c.last_line.ensures.value) ∙ chars_on front a.text.now a.before utf8 is;
+          c.saturating_add.ensures ∙ ap (λ b. capped (b + c.char_count.result)) before
+          ∙ ap (λ m. capped (begun + m)) (c.char_count.ensures.value ∙ ap (λ t. length (chars t)) c.last_line.ensures.value)
+          ∙ chars_on front a.text.now a.before utf8 is;
     }

@@ -14,12 +14,14 @@ returns-then-line_feed_count-eq0 c =
           let source = c.args.source.now in
           let e = trimmed_edit_of c.args.patch.now in
           let n : ℕ = count_by is_lf (between source e.start e.end) in
-          let counted : c.line_feed_count.result ≡ n = c.line_feed_count.ensures.value ∙ ap (count_by is_lf) (c.text_between.ensures.value c.requires.span.from c.requires.span.to) in
+          let counted : c.line_feed_count.result ≡ n = c.line_feed_count.ensures.value
+          ∙ ap (count_by is_lf) (c.text_between.ensures.value c.requires.span.from c.requires.span.to) in
           let none : n ≡ 0 = omega (arith, counted, c.if-line_feed_count-eq0.true) in
           let other : e.start ≢ e.end = λ same. absurd (omega (arith, same, c.if-patch.false)) in
           let here : ℕ = characters_before source from e.end in
           let later : ℕ = start_character source from e.end in
-          counts ∙ sym (cond-false (eqb e.start e.end) (start_character source from e.start) (cond (eqb n 0) here later) (false_from_ne_true _ (λ t. other (eqb-true _ _ t))) ∙ cond-true (eqb n 0) here later (eq-eqb n 0 none));
+          counts ∙ sym (cond-false (eqb e.start e.end) (start_character source from e.start) (cond (eqb n 0) here later)
+          (false_from_ne_true _ (λ t. other (eqb-true _ _ t))) ∙ cond-true (eqb n 0) here later (eq-eqb n 0 none));
     }
 
 pub returns-else-line_feed_count-eq0 : goal.returns-else-line_feed_count-eq0
@@ -29,14 +31,17 @@ returns-else-line_feed_count-eq0 c =
           let source = c.args.source.now in
           let e = trimmed_edit_of c.args.patch.now in
           let n : ℕ = count_by is_lf (between source e.start e.end) in
-          let counted : c.line_feed_count.result ≡ n = c.line_feed_count.ensures.value ∙ ap (count_by is_lf) (c.text_between.ensures.value c.requires.span.from c.requires.span.to) in
+          let counted : c.line_feed_count.result ≡ n = c.line_feed_count.ensures.value
+          ∙ ap (count_by is_lf) (c.text_between.ensures.value c.requires.span.from c.requires.span.to) in
           let other : e.start ≢ e.end = λ same. absurd (omega (arith, same, c.if-patch.false)) in
           let here : ℕ = characters_before source from e.end in
           let later : ℕ = start_character source from e.end in
           let steps : ℕ = if nat_lt (in_text source e.end) e.end then 1 else 0 in
-          let some : eqb n 0 ≡ false = false_from_ne_true _ (λ t. let none : n ≡ 0 = eqb-true n 0 t in absurd (omega (arith, counted, none, c.if-line_feed_count-eq0.false))) in
+          let some : eqb n 0 ≡ false = false_from_ne_true _ (λ t. let none : n
+          ≡ 0 = eqb-true n 0 t in absurd (omega (arith, counted, none, c.if-line_feed_count-eq0.false))) in
           let there : cond (eqb e.start e.end) (start_character source from e.start) (cond (eqb n 0) here later) ≡ later =
           cond-false (eqb e.start e.end) (start_character source from e.start) (cond (eqb n 0) here later)
           (false_from_ne_true _ (λ t. other (eqb-true _ _ t))) ∙ cond-false (eqb n 0) here later some in
-          c.saturating_add.ensures ∙ ap (λ m. capped (m + c.steps_after_text.result)) counts ∙ ap (λ m. capped (here + m)) c.steps_after_text.ensures.value ∙ sym there;
+          c.saturating_add.ensures ∙ ap (λ m. capped (m + c.steps_after_text.result)) counts ∙ ap (λ m. capped (here + m)) c.steps_after_text.ensures.value
+          ∙ sym there;
     }

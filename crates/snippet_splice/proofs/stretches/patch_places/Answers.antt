@@ -27,7 +27,12 @@ loop-patch-preserved c =
     let i : ℕ = c.loop-patch.patch-index in
     let at : ℕ = c.loop-patch.at in
     let inv = c.loop-patch.invariant in
-    let none : TrimmedPatch = record { original_span = record { start = 0; end = 0 }; span = record { start = 0; end = 0 }; replacement = record { ref_ptr = (0, 0); now = [] } } in
+    let none : TrimmedPatch = record {
+      original_span = record { start = 0; end = 0 };
+      span = record { start = 0; end = 0 };
+      replacement = record
+          { ref_ptr = (0, 0); now = [] };
+    } in
     let p : TrimmedPatch = get_or ps i none in
     let e : Edit = trimmed_edit_of p in
     let es : List Edit = map trimmed_edit_of (drop (i + 1) ps) in
@@ -39,14 +44,27 @@ loop-patch-preserved c =
     let front = c.text_between-between.ensures.value inv.border span.from in
     let inside = c.text_between-inside.ensures.value span.from span.to in
     let utf8 = utf8_more source c.text_between-between.result.now from at e.start inv.after apart.0 front inv.utf8 c.text_between-between.utf8 in
-    let before : c.chars_after-text_start.result ≡ characters_before source from e.start = counted_more source c.text_between-between.result.now from at e.start c.loop-patch.chars c.chars_after-text_start.result inv.after apart.0 front inv.utf8 inv.counted c.chars_after-text_start.ensures.value in
-    let counted : c.chars_after-chars.result ≡ characters_before source from e.end = counted_more source c.text_between-inside.result.now from e.start e.end c.chars_after-text_start.result c.chars_after-chars.result low apart.1 inside utf8 before c.chars_after-chars.ensures.value in
-    let starts : c.saturating_add-start.result ≡ start_character source from e.start = c.saturating_add-start.ensures ∙ ap (λ n. capped (n + c.steps_after_text.result)) before ∙ ap (λ n. capped (characters_before source from e.start + n)) c.steps_after_text.ensures.value in
+    let before : c.chars_after-text_start.result ≡ characters_before source from e.start = counted_more source c.text_between-between.result.now from at
+    e.start c.loop-patch.chars c.chars_after-text_start.result inv.after apart.0 front inv.utf8 inv.counted c.chars_after-text_start.ensures.value in
+    let counted : c.chars_after-chars.result ≡ characters_before source from e.end = counted_more source c.text_between-inside.result.now from e.start e.end
+    c.chars_after-text_start.result c.chars_after-chars.result low apart.1 inside utf8 before c.chars_after-chars.ensures.value in
+    let starts : c.saturating_add-start.result ≡ start_character source from e.start = c.saturating_add-start.ensures
+    ∙ ap (λ n. capped (n + c.steps_after_text.result)) before ∙ ap (λ n.
+    capped (characters_before source from e.start + n)) c.steps_after_text.ensures.value in
     let ends : c.end_char.result ≡ end_character source from e = c.end_char.ensures.value from starts counted in
     let feeds : c.line_feed_count.result ≡ count_by is_lf (between source at e.start) = c.line_feed_count.ensures.value ∙ ap (count_by is_lf) front in
-    let x : Extent = record { feeds = count_by is_lf (between source at e.start); before = characters_before source from e.start; start = start_character source from e.start; end = end_character source from e; under = between source e.start e.end; text = e.text } in
+    let x : Extent = record {
+      feeds = count_by is_lf (between source at e.start);
+      before = characters_before source from e.start;
+      start = start_character
+          source from e.start;
+      end = end_character source from e;
+      under = between source e.start e.end;
+      text = e.text;
+    } in
     let all : List Extent = extents_from source from from (map trimmed_edit_of ps) in
-    let whole : map extent_of c.loop-patch.places.items ++ (x ∷ extents_from source from e.end es) ≡ all = subst (λ rest. map extent_of c.loop-patch.places.items ++ extents_from source from at rest ≡ all) left inv.whole in
+    let whole : map extent_of c.loop-patch.places.items ++ (x ∷ extents_from source from e.end es)
+    ≡ all = subst (λ rest. map extent_of c.loop-patch.places.items ++ extents_from source from at rest ≡ all) left inv.whole in
     record {
       border = span.to;
       after = omega (arith, low, apart.1);

@@ -15,5 +15,6 @@ invariant-loop-patch l = record {
   utf8 : IsUtf8 (slice_range l.source (in_text l.source l.from) (in_text l.source l.at));
   counted : l.chars ≡ characters_before l.source l.from l.at;
   apart : AreApart l.at (map trimmed_edit_of (drop l.patch-index l.patches));
-  whole : map extent_of l.places.items ++ extents_from l.source l.from l.at (map trimmed_edit_of (drop l.patch-index l.patches)) ≡ extents_from l.source l.from l.from (map trimmed_edit_of l.patches);
+  whole : map extent_of l.places.items ++ extents_from l.source l.from l.at (map trimmed_edit_of (drop l.patch-index l.patches))
+      ≡ extents_from l.source l.from l.from (map trimmed_edit_of l.patches);
 }

@@ -21,17 +21,29 @@ loop-piece-preserved c =
     let start : ℕ = c.loop-piece.start in
     let old = c.loop-piece.lines.items in
     let parts = split_parts 10 rest (Some (c.in-Some.piece, c.in-Some.after)) c.in-Some.ensures.cases (lit< tt) in
-    let end : c.saturating_add-end.result ≡ capped (start + stretch_width piece) = c.saturating_add-end.ensures ∙ ap (λ n. capped (start + n)) c.stretch_width.ensures.value in
+    let end : c.saturating_add-end.result ≡ capped (start + stretch_width piece) = c.saturating_add-end.ensures
+    ∙ ap (λ n. capped (start + n)) c.stretch_width.ensures.value in
     record {
       text = utf8-after rest piece after 10 c.loop-piece.invariant.text (lit< tt) parts.0;
       whole = λ k.
           let later : List SubstitutionHighlight = pieces_on k (capped (line + 1)) 0 (pieces_of after) in
-          let now : line_stretches c.push_stretch.new.lines.items k ≡ line_stretches old k ++ added k line start (capped (start + stretch_width piece)) = c.in_ok-push_stretch.ensures.value k ∙ ap (λ n. line_stretches old k ++ added k line start n) end in
+          let now : line_stretches c.push_stretch.new.lines.items k ≡ line_stretches old k
+          ++ added k line start (capped (start + stretch_width piece)) = c.in_ok-push_stretch.ensures.value k
+          ∙ ap (λ n. line_stretches old k ++ added k line start n) end in
           let one : List SubstitutionHighlight = added k line start (capped (start + stretch_width piece)) in
-          let next : pieces_on k c.saturating_add-line.result 0 (pieces_of after) ≡ later = ap (λ n. pieces_on k n 0 (pieces_of after)) c.saturating_add-line.ensures in
+          let next : pieces_on k c.saturating_add-line.result 0 (pieces_of after)
+          ≡ later = ap (λ n. pieces_on k n 0 (pieces_of after)) c.saturating_add-line.ensures in
           let left : one ++ later ≡ pieces_on k line start (pieces_of rest) = ap (pieces_on k line start) (sym (pieces_cut rest piece after parts.0 parts.1)) in
-          ap (λ ys. line_stretches c.push_stretch.new.lines.items k ++ ys) next ∙ ap (λ ys. ys ++ later) now ∙ append_assoc (line_stretches old k) one later ∙ ap (λ ys. line_stretches old k ++ ys) left ∙ c.loop-piece.invariant.whole k;
-      lines = omega (arith, c.loop-piece.invariant.lines, c.in_ok-push_stretch.ensures.lines, c.saturating_add-line.ensures, feeds_cut rest piece after parts.0 parts.1);
+          ap (λ ys. line_stretches c.push_stretch.new.lines.items k ++ ys) next ∙ ap (λ ys. ys ++ later) now ∙ append_assoc (line_stretches old k) one later
+          ∙ ap (λ ys. line_stretches old k ++ ys) left ∙ c.loop-piece.invariant.whole k;
+      lines = omega (
+        arith,
+        c.loop-piece.invariant.lines,
+        c.in_ok-push_stretch.ensures.lines,
+        c.saturating_add-line.ensures,
+        feeds_cut rest piece after parts.0
+            parts.1,
+      );
     }
 
 pub returns : goal.returns
@@ -41,11 +53,14 @@ returns c =
     let start : ℕ = c.loop-piece.start in
     let old = c.loop-piece.lines.items in
     let none = split_parts 10 rest None c.in_default.ensures.cases (lit< tt) in
-    let end : c.saturating_add-end-2.result ≡ capped (start + stretch_width rest) = c.saturating_add-end-2.ensures ∙ ap (λ n. capped (start + n)) c.stretch_width-2.ensures.value in
+    let end : c.saturating_add-end-2.result ≡ capped (start + stretch_width rest) = c.saturating_add-end-2.ensures
+    ∙ ap (λ n. capped (start + n)) c.stretch_width-2.ensures.value in
     record {
       value = on_ok_weaker c.push_stretch-2.result (λ adds k.
           let one : List SubstitutionHighlight = added k line start (capped (start + stretch_width rest)) in
           let left : one ≡ pieces_on k line start (pieces_of rest) = sym (append-nil one) ∙ ap (pieces_on k line start) (sym (pieces_whole rest none)) in
-          adds k ∙ ap (λ n. line_stretches old k ++ added k line start n) end ∙ ap (λ ys. line_stretches old k ++ ys) left ∙ c.loop-piece.invariant.whole k) c.push_stretch-2.ensures.value;
-      lines = on_ok_weaker c.push_stretch-2.result (λ more. omega (arith, more, c.loop-piece.invariant.lines, feeds_whole rest none)) c.push_stretch-2.ensures.lines;
+          adds k ∙ ap (λ n. line_stretches old k ++ added k line start n) end ∙ ap (λ ys. line_stretches old k ++ ys) left
+          ∙ c.loop-piece.invariant.whole k) c.push_stretch-2.ensures.value;
+      lines = on_ok_weaker c.push_stretch-2.result (λ more. omega (arith, more, c.loop-piece.invariant.lines, feeds_whole rest none))
+          c.push_stretch-2.ensures.lines;
     }

@@ -23,17 +23,29 @@ loop-piece-preserved c =
     let old = c.loop-piece.lines.items in
     let parts = split_parts 10 rest (Some (c.in-Some.piece, c.in-Some.after)) c.in-Some.ensures.cases (lit< tt) in
     let to : ℕ = capped (before + length (chars (without_cr piece))) in
-    let end : c.saturating_add-end.result ≡ to = c.saturating_add-end.ensures ∙ ap (λ n. capped (before + n)) (c.char_count.ensures.value ∙ ap (λ t. length (chars t)) c.without_return.ensures.value) in
+    let end : c.saturating_add-end.result ≡ to = c.saturating_add-end.ensures
+    ∙ ap (λ n. capped (before + n)) (c.char_count.ensures.value ∙ ap (λ t. length (chars t)) c.without_return.ensures.value) in
     record {
       text = utf8-after rest piece after 10 c.loop-piece.invariant.text (lit< tt) parts.0;
       whole = λ k.
           let later : List SubstitutionHighlight = taken_on k (capped (line + 1)) 0 0 last (pieces_of after) in
           let one : List SubstitutionHighlight = added k line start to in
-          let now : line_stretches c.push_stretch.new.lines.items k ≡ line_stretches old k ++ one = c.in_ok-push_stretch.ensures.value k ∙ ap (λ n. line_stretches old k ++ added k line start n) end in
-          let next : taken_on k c.saturating_add-line.result 0 0 last (pieces_of after) ≡ later = ap (λ n. taken_on k n 0 0 last (pieces_of after)) c.saturating_add-line.ensures in
-          let left : one ++ later ≡ taken_on k line before start last (pieces_of rest) = sym (ap (taken_on k line before start last) (pieces_cut rest piece after parts.0 parts.1) ∙ taken_cut k line before start last piece after) in
-          ap (λ ys. line_stretches c.push_stretch.new.lines.items k ++ ys) next ∙ ap (λ ys. ys ++ later) now ∙ append_assoc (line_stretches old k) one later ∙ ap (λ ys. line_stretches old k ++ ys) left ∙ c.loop-piece.invariant.whole k;
-      lines = omega (arith, c.loop-piece.invariant.lines, c.in_ok-push_stretch.ensures.lines, c.saturating_add-line.ensures, feeds_cut rest piece after parts.0 parts.1);
+          let now : line_stretches c.push_stretch.new.lines.items k ≡ line_stretches old k ++ one = c.in_ok-push_stretch.ensures.value k
+          ∙ ap (λ n. line_stretches old k ++ added k line start n) end in
+          let next : taken_on k c.saturating_add-line.result 0 0 last (pieces_of after)
+          ≡ later = ap (λ n. taken_on k n 0 0 last (pieces_of after)) c.saturating_add-line.ensures in
+          let left : one ++ later ≡ taken_on k line before start last (pieces_of rest) = sym
+          (ap (taken_on k line before start last) (pieces_cut rest piece after parts.0 parts.1) ∙ taken_cut k line before start last piece after) in
+          ap (λ ys. line_stretches c.push_stretch.new.lines.items k ++ ys) next ∙ ap (λ ys. ys ++ later) now ∙ append_assoc (line_stretches old k) one later
+          ∙ ap (λ ys. line_stretches old k ++ ys) left ∙ c.loop-piece.invariant.whole k;
+      lines = omega (
+        arith,
+        c.loop-piece.invariant.lines,
+        c.in_ok-push_stretch.ensures.lines,
+        c.saturating_add-line.ensures,
+        feeds_cut rest piece after parts.0
+            parts.1,
+      );
     }
 
 pub returns : goal.returns
@@ -47,7 +59,9 @@ returns c =
     let none = split_parts 10 rest None c.in_default.ensures.cases (lit< tt) in
     record {
       value = on_ok_weaker c.push_stretch-2.result (λ adds k.
-          let left : added k line start last ≡ taken_on k line before start last (pieces_of rest) = ap (taken_on k line before start last) (sym (pieces_whole rest none)) in
+          let left : added k line start last ≡ taken_on k line before start last (pieces_of rest) = ap (taken_on k line before start last)
+          (sym (pieces_whole rest none)) in
           adds k ∙ ap (λ ys. line_stretches old k ++ ys) left ∙ c.loop-piece.invariant.whole k) c.push_stretch-2.ensures.value;
-      lines = on_ok_weaker c.push_stretch-2.result (λ more. omega (arith, more, c.loop-piece.invariant.lines, feeds_whole rest none)) c.push_stretch-2.ensures.lines;
+      lines = on_ok_weaker c.push_stretch-2.result (λ more. omega (arith, more, c.loop-piece.invariant.lines, feeds_whole rest none))
+          c.push_stretch-2.ensures.lines;
     }

@@ -6,7 +6,8 @@ use Rattle.snippet_splice.proofs.stretches.without_return.Goals as goal
 pub returns-in-Some : goal.returns-in-Some
 returns-in-Some c =
     record {
-      value = sym (without_cr-push c.args.piece.now c.in-Some.text.now (strip_suffix_char 13 c.args.piece.now (Some c.in-Some.text) c.in-Some.ensures.cases (lit< tt)));
+      value = sym (without_cr-push c.args.piece.now c.in-Some.text.now
+          (strip_suffix_char 13 c.args.piece.now (Some c.in-Some.text) c.in-Some.ensures.cases (lit< tt)));
     }
 
 pub returns-in-None : goal.returns-in-None

@@ -30,7 +30,8 @@ returns-in-Some-strip_suffix-2-clause-some c =
           c.common_prefix-kept.ensures.same;
       longest = c.common_prefix-kept.ensures.longest;
     } in
-    let e : c.range_from.result.now ≡ c.in-Some-strip_suffix-2.middle.now ++ c.range_from-rest.result.now = found.1 ∙ ap (λ l. l ++ c.range_from-rest.result.now) (sym is) in
+    let e : c.range_from.result.now ≡ c.in-Some-strip_suffix-2.middle.now ++ c.range_from-rest.result.now = found.1
+    ∙ ap (λ l. l ++ c.range_from-rest.result.now) (sym is) in
     let inside : IsSandwich c.args.original.now c.args.replacement.now c.common_prefix-kept.result c.in-Some-strip_suffix-2.middle.now
     (length c.range_from-rest.result.now) = IsSandwich-parts c.args.original.now c.args.replacement.now c.common_prefix-kept.result
     c.in-Some-strip_suffix-2.middle.now c.range_from-rest.result.now c.range_from.result.now common c.in_default.ensures.cases
@@ -48,7 +49,8 @@ returns-in-Some-strip_suffix-2-clause-value c =
           c.common_prefix-kept.ensures.same;
       longest = c.common_prefix-kept.ensures.longest;
     } in
-    let e : c.range_from.result.now ≡ c.in-Some-strip_suffix-2.middle.now ++ c.range_from-rest.result.now = found.1 ∙ ap (λ l. l ++ c.range_from-rest.result.now) (sym is) in
+    let e : c.range_from.result.now ≡ c.in-Some-strip_suffix-2.middle.now ++ c.range_from-rest.result.now = found.1
+    ∙ ap (λ l. l ++ c.range_from-rest.result.now) (sym is) in
     let inside : IsSandwich c.args.original.now c.args.replacement.now c.common_prefix-kept.result c.in-Some-strip_suffix-2.middle.now
     (length c.range_from-rest.result.now) = IsSandwich-parts c.args.original.now c.args.replacement.now c.common_prefix-kept.result
     c.in-Some-strip_suffix-2.middle.now c.range_from-rest.result.now c.range_from.result.now common c.in_default.ensures.cases

@@ -18,4 +18,5 @@ pub returns-clause-other_border : goal.returns-clause-other_border
 returns-clause-other_border c =
     let n : ℕ = c.floor_char_boundary.result in
     let within : n ≤ length c.args.second.now = omega arith in
-    IsCharBoundary-from_take c.args.second.now n c.utf8.second within (subst IsUtf8 (returns-clause-same c) (IsUtf8-take c.args.first.now n c.utf8.first c.floor_char_boundary.ensures.boundary))
+    IsCharBoundary-from_take c.args.second.now n c.utf8.second within
+    (subst IsUtf8 (returns-clause-same c) (IsUtf8-take c.args.first.now n c.utf8.first c.floor_char_boundary.ensures.boundary))

@@ -36,7 +36,8 @@ loop-from-preserved c =
     let from = c.loop-from.from in
     let to = c.side_end-to in
     let first = get_or bars from no_bar in
-    let side : List Cell → List Cell = λ cells. written SPACE cells (layout.gutter + 2 + first.depth) (replicate (to.result - from) (bar_cell_part layout c.args.stroke first)) in
+    let side : List Cell → List Cell = λ cells. written SPACE cells (layout.gutter + 2 + first.depth)
+    (replicate (to.result - from) (bar_cell_part layout c.args.stroke first)) in
     let beside : (k : ℕ) (d : OpenBar) → k < to.result - from → StandsBeside first k (get_or bars (from + k) d) = λ k d low.
     let place : from + k - from ≡ k = omega arith in
     let one = to.ensures.beside (from + k) d (omega arith) (omega (arith, low)) in
@@ -45,7 +46,8 @@ loop-from-preserved c =
       to.ensures.within,
       c.in_ok-draw_side.ensures.value
           ∙ ap (changed_from side c.args.row) c.loop-from.invariant.1
-          ∙ changed-more (with_bars layout c.args.stroke (take from bars)) side (with_bars layout c.args.stroke (take to.result bars)) c.args.row c.args.buffer.now
+          ∙ changed-more (with_bars layout c.args.stroke (take from bars)) side
+          (with_bars layout c.args.stroke (take to.result bars)) c.args.row c.args.buffer.now
           (λ cells. side_drawn layout c.args.stroke bars from to.result first cells to.ensures.more to.ensures.within beside),
     )
 

@@ -9,4 +9,5 @@ abbrev pub invariant-loop-r : goal.invariant-loop-r
 invariant-loop-r l =
     let layout = l.fn.layout in
     let first = l.fn.first in
-    ChangesRows (λ cells. written SPACE cells (layout.gutter + 2 + first.depth) (replicate l.fn.count (bar_cell_part layout l.fn.stroke first))) l.fn.row l.r l.initial.buffer l.buffer
+    ChangesRows (λ cells. written SPACE cells (layout.gutter + 2 + first.depth)
+    (replicate l.fn.count (bar_cell_part layout l.fn.stroke first))) l.fn.row l.r l.initial.buffer l.buffer

@@ -10,7 +10,10 @@ pub loop-entry-preserved : goal.loop-entry-preserved
 loop-entry-preserved c =
     let before : List OpenBar = c.loop-entry.bars.items in
     let pushed : c.match-bar_of.bars.items ≡ before ++ option_to_list c.bar_of.result = elim c.match-bar_of.branch [
-      | in-Some+in_ok-push w ↦ ap (λ bars. bars.items) w.bars-is ∙ w.in_ok-push.ensures.items ∙ ap (λ (o : Option OpenBar). before ++ option_to_list o) (sym w.in-Some.is)
-      | in_default w ↦ ap (λ bars. bars.items) w.bars-is ∙ sym (append-nil before) ∙ ap (λ (o : Option OpenBar). before ++ option_to_list o) (sym w.in_default.is)
+      | in-Some+in_ok-push w ↦ ap (λ bars. bars.items) w.bars-is ∙ w.in_ok-push.ensures.items
+          ∙ ap (λ (o : Option OpenBar). before ++ option_to_list o) (sym w.in-Some.is)
+      | in_default w ↦ ap (λ bars. bars.items) w.bars-is ∙ sym (append-nil before)
+          ∙ ap (λ (o : Option OpenBar). before ++ option_to_list o) (sym w.in_default.is)
     ] in
-    ends_more c.args.entries.now c.loop-entry.entry-index _ before c.match-bar_of.bars.items c.bar_of.result c.loop-entry-test.true c.loop-entry.invariant c.bar_of.ensures.value pushed
+    ends_more c.args.entries.now c.loop-entry.entry-index _ before c.match-bar_of.bars.items c.bar_of.result c.loop-entry-test.true c.loop-entry.invariant
+    c.bar_of.ensures.value pushed

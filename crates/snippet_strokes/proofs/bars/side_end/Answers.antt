@@ -16,6 +16,7 @@ loop-to-preserved c =
       omega (arith, c.loop-to-test.true),
       λ k d low high. elim (cases_lt k to) [
         | inl before ↦ inv.2 k d low before
-        | inr past ↦ beside_next bars c.args.from to k d _ inv.0 (omega (arith, past, high)) (omega (arith, c.loop-to-test.true)) (inv.2 (to - 1) d (omega (arith, inv.0)) (omega (arith, inv.0))) (c.is_next.ensures.yes c.if-is_next.true)
+        | inr past ↦ beside_next bars c.args.from to k d _ inv.0 (omega (arith, past, high)) (omega (arith, c.loop-to-test.true))
+            (inv.2 (to - 1) d (omega (arith, inv.0)) (omega (arith, inv.0))) (c.is_next.ensures.yes c.if-is_next.true)
       ],
     )

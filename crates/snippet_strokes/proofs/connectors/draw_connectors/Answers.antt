@@ -19,7 +19,12 @@ count_kept layout row i es old mid so_far rows =
 
 pub draw_connector-requires-clause-small : goal.draw_connector-requires-clause-small
 draw_connector-requires-clause-small c =
-    omega (arith, count_kept c.args.layout c.args.row c.loop-entry.entry-index c.args.placed.now c.args.buffer.now c.loop-entry.buffer c.loop-entry.invariant c.requires.rows, c.requires.small)
+    omega (
+      arith,
+      count_kept c.args.layout c.args.row c.loop-entry.entry-index c.args.placed.now c.args.buffer.now c.loop-entry.buffer c.loop-entry.invariant
+          c.requires.rows,
+      c.requires.small,
+    )
 
 pub draw_connector-requires-clause-rows : goal.draw_connector-requires-clause-rows
 draw_connector-requires-clause-rows c =
@@ -31,10 +36,12 @@ draw_connector-requires-clause-rows c =
 
 pub loop-entry-preserved : goal.loop-entry-preserved
 loop-entry-preserved c =
-    c.in_ok-draw_connector.ensures.painted ∙ painted_more (connector_of c.args.layout c.args.row) c.args.placed.now c.loop-entry.entry-index c.entry-item.result c.args.buffer.now c.loop-entry.buffer c.loop-entry-test.true c.entry-item.is c.loop-entry.invariant
+    c.in_ok-draw_connector.ensures.painted ∙ painted_more (connector_of c.args.layout c.args.row) c.args.placed.now c.loop-entry.entry-index
+    c.entry-item.result c.args.buffer.now c.loop-entry.buffer c.loop-entry-test.true c.entry-item.is c.loop-entry.invariant
 
 pub returns : goal.returns
 returns c =
     record {
-      painted = c.loop-entry.invariant ∙ ap (λ xs. painted (connectors_of c.args.layout c.args.row xs) c.args.buffer.now) (take_all c.loop-entry.entry-index c.args.placed.now (omega (arith, c.loop-entry-test.false)));
+      painted = c.loop-entry.invariant ∙ ap (λ xs. painted (connectors_of c.args.layout c.args.row xs) c.args.buffer.now)
+          (take_all c.loop-entry.entry-index c.args.placed.now (omega (arith, c.loop-entry-test.false)));
     }

@@ -12,7 +12,9 @@ use Rattle.snippet_strokes.proofs.corners.draw_bottom.Goals as goal
 pub returns : goal.returns
 returns c =
     let strokes = c.underline-strokes in
-    let drawn = subst (λ (l : Layout). c.draw_bar.new.buffer ≡ painted (bar_writes l c.args.placed.now c.args.depth c.args.row (c.args.row + 1 + c.args.placed.now.position)) c.args.buffer.now) (sym c.layout.view_is) c.in_ok-draw_bar.ensures.painted in
+    let drawn = subst (λ (l : Layout). c.draw_bar.new.buffer ≡ painted
+    (bar_writes l c.args.placed.now c.args.depth c.args.row (c.args.row + 1 + c.args.placed.now.position)) c.args.buffer.now)
+    (sym c.layout.view_is) c.in_ok-draw_bar.ensures.painted in
     let is_cell = c.bar_cell-cell.ensures.value ∙ ap (λ (l : Layout). bar_cell l c.args.depth) (sym c.layout.view_is) in
     let wrote = rw is_cell at c.putc.ensures.ok in
     rw (← c.layout.view_is) (record {

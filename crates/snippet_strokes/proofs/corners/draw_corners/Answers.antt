@@ -18,11 +18,17 @@ count_kept : (layout : Layout) (row i : ℕ) (es : List PlacedEntry) (old mid : 
     → All (HasRows (row + 1) (length old)) es → length mid ≡ length old
 count_kept layout row i es old mid so_far bar_cells rows =
     let n = length old in
-    ap length so_far ∙ (DrawsBarCells-corners layout row (take i es) old (All-take (λ (e : PlacedEntry). HasBarCell layout e.entry) i es bar_cells) (All-take (HasRows (row + 1) n) i es rows)).draws.count
+    ap length so_far ∙ (DrawsBarCells-corners layout row (take i es) old (All-take (λ (e : PlacedEntry). HasBarCell layout e.entry) i es bar_cells)
+    (All-take (HasRows (row + 1) n) i es rows)).draws.count
 
 pub draw_corner-requires-clause-small : goal.draw_corner-requires-clause-small
 draw_corner-requires-clause-small c =
-    omega (arith, count_kept c.args.layout c.args.row c.loop-entry.entry-index c.args.placed.now c.args.buffer.now c.loop-entry.buffer c.loop-entry.invariant c.requires.bar_cells c.requires.rows, c.requires.small)
+    omega (
+      arith,
+      count_kept c.args.layout c.args.row c.loop-entry.entry-index c.args.placed.now c.args.buffer.now c.loop-entry.buffer c.loop-entry.invariant
+          c.requires.bar_cells c.requires.rows,
+      c.requires.small,
+    )
 
 pub draw_corner-requires-clause-rows : goal.draw_corner-requires-clause-rows
 draw_corner-requires-clause-rows c =
@@ -36,7 +42,8 @@ pub loop-entry-preserved : goal.loop-entry-preserved
 loop-entry-preserved c =
     let old = c.args.buffer.now in
     let mid = c.loop-entry.buffer in
-    let kept = count_kept c.args.layout c.args.row c.loop-entry.entry-index c.args.placed.now old mid c.loop-entry.invariant c.requires.bar_cells c.requires.rows in
+    let kept = count_kept c.args.layout c.args.row c.loop-entry.entry-index c.args.placed.now old mid c.loop-entry.invariant c.requires.bar_cells
+    c.requires.rows in
     c.in_ok-draw_corner.ensures.painted ∙ ap (λ n. painted (corner_of c.args.layout c.args.row n c.entry-item.result) mid) kept
     ∙ painted_more (corner_of c.args.layout c.args.row (length old))
     c.args.placed.now c.loop-entry.entry-index c.entry-item.result old mid c.loop-entry-test.true c.entry-item.is c.loop-entry.invariant
@@ -45,5 +52,6 @@ pub returns : goal.returns
 returns c =
     let old = c.args.buffer.now in
     record {
-      painted = c.loop-entry.invariant ∙ ap (λ xs. painted (corners_of c.args.layout c.args.row (length old) xs) old) (take_all c.loop-entry.entry-index c.args.placed.now (omega (arith, c.loop-entry-test.false)));
+      painted = c.loop-entry.invariant ∙ ap (λ xs. painted (corners_of c.args.layout c.args.row (length old) xs) old)
+          (take_all c.loop-entry.entry-index c.args.placed.now (omega (arith, c.loop-entry-test.false)));
     }

@@ -16,7 +16,9 @@ returns c =
     let old = c.args.buffer.now in
     let mid = c.putc.new.self in
     let same : c.num_lines-end.result ≡ length old = omega (arith, c.num_lines-end.ensures.count, c.in_ok-putc.ensures.reads.count, c.requires.rows.mark) in
-    let drawn = subst (λ (l : Layout). OnOk c.draw_bar.result (c.draw_bar.new.buffer ≡ painted (bar_writes l c.args.placed.now c.args.depth (c.args.row + 1 + c.args.placed.now.position + 1) c.num_lines-end.result) mid)) (sym c.layout.view_is) c.draw_bar.ensures.painted in
+    let drawn = subst (λ (l : Layout). OnOk c.draw_bar.result (c.draw_bar.new.buffer
+    ≡ painted (bar_writes l c.args.placed.now c.args.depth (c.args.row + 1 + c.args.placed.now.position + 1) c.num_lines-end.result) mid))
+    (sym c.layout.view_is) c.draw_bar.ensures.painted in
     let is_cell = c.bar_cell-cell.ensures.value ∙ ap (λ (l : Layout). bar_cell l c.args.depth) (sym c.layout.view_is) in
     let wrote = rw is_cell at c.in_ok-putc.ensures.ok in
     rw (← c.layout.view_is) (record {

@@ -13,5 +13,6 @@ returns c =
       added = on_ok_weaker c.draw_bars.result
           (λ value. elision_added c.args.layout c.args.open_bars.now c.args.buffer.now begun new row c.num_lines-row.ensures.count
           c.in_ok-begin_elision_row.ensures.place
-          c.in_ok-begin_elision_row.ensures.added (DrawsBars-barred c.args.layout Dotted c.args.open_bars.now row begun new c.requires.room value) value) c.draw_bars.ensures.value;
+          c.in_ok-begin_elision_row.ensures.added (DrawsBars-barred c.args.layout Dotted c.args.open_bars.now row begun new c.requires.room value) value)
+          c.draw_bars.ensures.value;
     }

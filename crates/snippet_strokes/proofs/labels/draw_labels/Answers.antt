@@ -16,11 +16,17 @@ use Rattle.snippet_strokes.proofs.labels.draw_labels.Goals as goal
 count_kept : (layout : Layout) (row i : ℕ) (es : List PlacedEntry) (old mid : List (List Cell)) → mid ≡ painted (labels_of layout row (take i es)) old
     → All (λ e. HasPlace e.entry) es → All (HasRows row (length old)) es → length mid ≡ length old
 count_kept layout row i es old mid so_far places rows =
-    ap length so_far ∙ (DrawsFrom-labels layout row 0 (take i es) old (All-take (λ (e : PlacedEntry). HasPlace e.entry) i es places) (All-take (HasRows row (length old)) i es rows) (λ k d within. omega arith)).count
+    ap length so_far ∙ (DrawsFrom-labels layout row 0 (take i es) old (All-take (λ (e : PlacedEntry). HasPlace e.entry) i es places)
+    (All-take (HasRows row (length old)) i es rows) (λ k d within. omega arith)).count
 
 pub draw_label-requires-clause-small : goal.draw_label-requires-clause-small
 draw_label-requires-clause-small c =
-    omega (arith, count_kept c.args.layout c.args.row c.loop-entry.entry-index c.args.placed.now c.args.buffer.now c.loop-entry.buffer c.loop-entry.invariant c.requires.columns c.requires.rows, c.requires.small)
+    omega (
+      arith,
+      count_kept c.args.layout c.args.row c.loop-entry.entry-index c.args.placed.now c.args.buffer.now c.loop-entry.buffer c.loop-entry.invariant
+          c.requires.columns c.requires.rows,
+      c.requires.small,
+    )
 
 pub draw_label-requires-clause-rows : goal.draw_label-requires-clause-rows
 draw_label-requires-clause-rows c =
@@ -32,10 +38,12 @@ draw_label-requires-clause-rows c =
 
 pub loop-entry-preserved : goal.loop-entry-preserved
 loop-entry-preserved c =
-    c.in_ok-draw_label.ensures.painted ∙ painted_more (label_of c.args.layout c.args.row) c.args.placed.now c.loop-entry.entry-index c.entry-item.result c.args.buffer.now c.loop-entry.buffer c.loop-entry-test.true c.entry-item.is c.loop-entry.invariant
+    c.in_ok-draw_label.ensures.painted ∙ painted_more (label_of c.args.layout c.args.row) c.args.placed.now c.loop-entry.entry-index c.entry-item.result
+    c.args.buffer.now c.loop-entry.buffer c.loop-entry-test.true c.entry-item.is c.loop-entry.invariant
 
 pub returns : goal.returns
 returns c =
     record {
-      painted = c.loop-entry.invariant ∙ ap (λ xs. painted (labels_of c.args.layout c.args.row xs) c.args.buffer.now) (take_all c.loop-entry.entry-index c.args.placed.now (omega (arith, c.loop-entry-test.false)));
+      painted = c.loop-entry.invariant ∙ ap (λ xs. painted (labels_of c.args.layout c.args.row xs) c.args.buffer.now)
+          (take_all c.loop-entry.entry-index c.args.placed.now (omega (arith, c.loop-entry-test.false)));
     }

@@ -15,7 +15,10 @@ puts-requires-clause-end c =
 
 pub returns-then-to-from : goal.returns-then-to-from
 returns-then-to-from c =
-    record { painted = sym (ap (λ ws. painted ws c.args.buffer.now) (stretch_of-none c.args.row c.args.from c.args.to c.args.glyph c.args.role (omega (arith, c.if-to-from.true)))) }
+    record {
+      painted = sym (ap (λ ws. painted ws c.args.buffer.now)
+          (stretch_of-none c.args.row c.args.from c.args.to c.args.glyph c.args.role (omega (arith, c.if-to-from.true))));
+    }
 
 pub returns : goal.returns
 returns c =
@@ -24,5 +27,6 @@ returns c =
     let is : chars c.as_str.result.now ≡ replicate n c.args.glyph = ap chars c.as_str.ensures.value ∙ c.in_ok-text.ensures.value in
     let bytes = some_bytes c.as_str.result.now n c.args.glyph is (omega (arith, some)) in
     record {
-      painted = on_ok_weaker c.puts.result (λ writes. stretch_painted c.args.row c.args.from c.args.to c.args.glyph c.args.role (chars c.as_str.result.now) c.args.buffer.now c.puts.new.self some is (writes bytes)) c.puts.ensures.ok;
+      painted = on_ok_weaker c.puts.result (λ writes. stretch_painted c.args.row c.args.from c.args.to c.args.glyph c.args.role
+          (chars c.as_str.result.now) c.args.buffer.now c.puts.new.self some is (writes bytes)) c.puts.ensures.ok;
     }

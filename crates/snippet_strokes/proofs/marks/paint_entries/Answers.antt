@@ -7,10 +7,12 @@ use Rattle.snippet_strokes.proofs.marks.paint_entries.Goals as goal
 
 pub loop-entry-preserved : goal.loop-entry-preserved
 loop-entry-preserved c =
-    c.in_ok-paint_entry.ensures.painted ∙ painted_more (mark_of c.args.layout c.args.row) c.args.placed.now c.loop-entry.entry-index c.entry-item.result c.args.buffer.now c.loop-entry.buffer c.loop-entry-test.true c.entry-item.is c.loop-entry.invariant
+    c.in_ok-paint_entry.ensures.painted ∙ painted_more (mark_of c.args.layout c.args.row) c.args.placed.now c.loop-entry.entry-index c.entry-item.result
+    c.args.buffer.now c.loop-entry.buffer c.loop-entry-test.true c.entry-item.is c.loop-entry.invariant
 
 pub returns : goal.returns
 returns c =
     record {
-      painted = c.loop-entry.invariant ∙ ap (λ xs. painted (marks_of c.args.layout c.args.row xs) c.args.buffer.now) (take_all c.loop-entry.entry-index c.args.placed.now (omega (arith, c.loop-entry-test.false)));
+      painted = c.loop-entry.invariant ∙ ap (λ xs. painted (marks_of c.args.layout c.args.row xs) c.args.buffer.now)
+          (take_all c.loop-entry.entry-index c.args.placed.now (omega (arith, c.loop-entry-test.false)));
     }

@@ -6,4 +6,5 @@ use Rattle.snippet_strokes.proofs.row.begin_row.Goals as goal
 pub returns-clause-added : goal.returns-clause-added
 returns-clause-added c =
     let ok = rw (c.separator_cell.ensures.value ∙ ap separator_cell (sym c.layout.view_is)) at c.in_ok-putc.ensures.ok in
-    rw (← c.layout.view_is) (begun c.args.buffer.now c.putc.new.self c.num_lines-row.result c.layout.inside.gutter c.separator.result c.layout.inside.decor c.num_lines-row.ensures.count c.separator.ensures.value ok)
+    rw (← c.layout.view_is) (begun c.args.buffer.now c.putc.new.self c.num_lines-row.result c.layout.inside.gutter c.separator.result c.layout.inside.decor
+    c.num_lines-row.ensures.count c.separator.ensures.value ok)

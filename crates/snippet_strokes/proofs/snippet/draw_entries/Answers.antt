@@ -25,15 +25,19 @@ pub returns-then-is_whole_line : goal.returns-then-is_whole_line
 returns-then-is_whole_line c =
     let es = c.args.info.now.annotations.items in
     let text = norm (chars c.args.info.now.line.now) in
-    let whole : is_whole_line text es ≡ true = ap (is_whole_line text) (sym c.deref.ensures.value) ∙ sym c.is_whole_line.ensures.value ∙ c.if-is_whole_line.true in
+    let whole : is_whole_line text es ≡ true = ap (is_whole_line text) (sym c.deref.ensures.value) ∙ sym c.is_whole_line.ensures.value
+    ∙ c.if-is_whole_line.true in
     record {
       added = on_ok_weaker c.draw_bars.result (λ value above plain is bare.
-          let room : All (HasBarRoom c.args.layout) c.args.ends.now = All-same (HasBarRoom c.args.layout) c.args.ends.now (ends_of_bars es) c.requires.ends (room_ends c.args.layout es c.requires.bar_cells) in
+          let room : All (HasBarRoom c.args.layout) c.args.ends.now = All-same (HasBarRoom c.args.layout) c.args.ends.now (ends_of_bars es) c.requires.ends
+          (room_ends c.args.layout es c.requires.bar_cells) in
           let draws = DrawsBars-barred c.args.layout Top c.args.ends.now c.args.row c.args.buffer.now c.draw_bars.new.buffer room value in
-          whole_added c.args.layout text c.args.room c.args.dropped c.args.closes es above plain c.args.buffer.now c.draw_bars.new.buffer c.args.row whole c.requires.last draws is bare) c.draw_bars.ensures.value;
+          whole_added c.args.layout text c.args.room c.args.dropped c.args.closes es above plain c.args.buffer.now c.draw_bars.new.buffer c.args.row whole
+          c.requires.last draws is bare) c.draw_bars.ensures.value;
       own = on_ok_weaker c.draw_bars.result (λ value above plain is.
           let last : c.args.row ≡ length above = omega (arith, c.requires.last, ap length is, length_push above plain) in
-          own_whole c.args.layout c.args.room c.args.closes text c.args.dropped es above plain c.args.buffer.now c.draw_bars.new.buffer c.args.row whole is last (value ∙ ap (λ bars. barred c.args.layout Top bars c.args.row c.args.buffer.now) c.requires.ends)) c.draw_bars.ensures.value;
+          own_whole c.args.layout c.args.room c.args.closes text c.args.dropped es above plain c.args.buffer.now c.draw_bars.new.buffer c.args.row whole is
+          last (value ∙ ap (λ bars. barred c.args.layout Top bars c.args.row c.args.buffer.now) c.requires.ends)) c.draw_bars.ensures.value;
     }
 
 pub returns-clause-own : goal.returns-clause-own
@@ -41,9 +45,13 @@ returns-clause-own c =
     let es = c.args.info.now.annotations.items in
     let text = norm (chars c.args.info.now.line.now) in
     let given = c.deref-2.ensures.value in
-    let other : is_whole_line text es ≡ false = ap (is_whole_line text) (sym c.deref.ensures.value) ∙ sym c.is_whole_line.ensures.value ∙ c.if-is_whole_line.false in
+    let other : is_whole_line text es ≡ false = ap (is_whole_line text) (sym c.deref.ensures.value) ∙ sym c.is_whole_line.ensures.value
+    ∙ c.if-is_whole_line.false in
     let new = c.draw_strokes.new.buffer in
-    let Painted : List LineAnnotation → List (List Cell) → List Cell → Type 0 = λ xs above source. AddsPainted c.args.layout c.args.room c.args.closes (map (shifted c.args.dropped) xs) above source new in
+    let Painted : List LineAnnotation → List (List Cell) → List Cell → Type 0 = λ xs above source.
+    AddsPainted c.args.layout c.args.room c.args.closes (map (shifted c.args.dropped) xs) above source new in
     on_ok_two c.draw_strokes.result (λ none painted above source is.
-    let strokes : 0 < length es → Painted es above source = λ some. subst (λ xs. Painted xs above source) given (painted (omega (arith, some, ap length given)) above source is) in
-    own_strokes c.args.layout c.args.room c.args.closes text c.args.dropped es above source c.args.buffer.now new other is (λ empty. none (ap length given ∙ empty)) strokes) c.draw_strokes.ensures.none c.draw_strokes.ensures.painted
+    let strokes : 0 < length es → Painted es above source = λ some.
+    subst (λ xs. Painted xs above source) given (painted (omega (arith, some, ap length given)) above source is) in
+    own_strokes c.args.layout c.args.room c.args.closes text c.args.dropped es above source c.args.buffer.now new other is (λ empty.
+    none (ap length given ∙ empty)) strokes) c.draw_strokes.ensures.none c.draw_strokes.ensures.painted

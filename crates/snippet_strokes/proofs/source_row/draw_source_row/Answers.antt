@@ -28,12 +28,23 @@ window_of-window-requires-clause-narrow c =
 
 pub window_of-window-requires-clause-short : goal.window_of-window-requires-clause-short
 window_of-window-requires-clause-short c =
-    omega (arith, ap length (ap chars c.as_str.ensures.value ∙ c.in_ok-text.ensures.value), norm_short c.near_part-near.result.text.now (omega (arith, c.near_part-near.ensures.short, c.requires.text)))
+    omega (
+      arith,
+      ap length (ap chars c.as_str.ensures.value ∙ c.in_ok-text.ensures.value),
+      norm_short c.near_part-near.result.text.now
+          (omega (arith, c.near_part-near.ensures.short, c.requires.text)),
+    )
 
 pub write_source_row-requires-clause-number : goal.write_source_row-requires-clause-number
 write_source_row-requires-clause-number c =
-    let short = subst (λ (l : Layout). length (shown_number c.args.numbers l.gutter c.args.line.now.info.line_index) ≤ l.gutter + 1) (sym c.layout.view_is) c.requires.number in
-    rw (← c.layout.view_is) (omega (arith, short, ap length (ap chars (c.as_str-2.ensures.value ∙ c.in_ok-number.ensures.text) ∙ chars-shown_number c.args.numbers c.layout.inside.gutter c.args.line.now.info.line_index (omega arith))))
+    let short = subst (λ (l : Layout). length (shown_number c.args.numbers l.gutter c.args.line.now.info.line_index) ≤ l.gutter + 1)
+    (sym c.layout.view_is) c.requires.number in
+    rw (← c.layout.view_is) (omega (
+      arith,
+      short,
+      ap length (ap chars (c.as_str-2.ensures.value ∙ c.in_ok-number.ensures.text)
+          ∙ chars-shown_number c.args.numbers c.layout.inside.gutter c.args.line.now.info.line_index (omega arith)),
+    ))
 
 pub write_source_row-requires-clause-number_free : goal.write_source_row-requires-clause-number_free
 write_source_row-requires-clause-number_free c =
@@ -47,8 +58,15 @@ write_source_row-requires-clause-text c =
     let bounds = bounds_of c.args.margin in
     let line = chars c.args.line.now.info.line.now in
     let text = ap chars c.as_str.ensures.value ∙ c.in_ok-text.ensures.value in
-    let part = part_of_norm c.args.margin c.args.line.now.width c.near_part-near.result.skipped line (chars c.near_part-near.result.text.now) (chars c.as_str.result.now) c.args.line.now.measured text c.near_part-near.ensures.holds in
-    omega (arith, ap length (c.window_of-window.ensures.text (norm line) part), part_few bounds.left c.args.margin.term_width bounds.left bounds.right (chars c.placeholder-placeholder.result.now) (norm line), norm_short c.args.line.now.info.line.now c.requires.text)
+    let part = part_of_norm c.args.margin c.args.line.now.width c.near_part-near.result.skipped line (chars c.near_part-near.result.text.now)
+    (chars c.as_str.result.now) c.args.line.now.measured text c.near_part-near.ensures.holds in
+    omega (
+      arith,
+      ap length (c.window_of-window.ensures.text (norm line) part),
+      part_few bounds.left c.args.margin.term_width bounds.left bounds.right
+          (chars c.placeholder-placeholder.result.now) (norm line),
+      norm_short c.args.line.now.info.line.now c.requires.text,
+    )
 
 pub write_source_row-requires-clause-text_free : goal.write_source_row-requires-clause-text_free
 write_source_row-requires-clause-text_free c =
@@ -56,24 +74,31 @@ write_source_row-requires-clause-text_free c =
     let line = chars c.args.line.now.info.line.now in
     let placeholder = chars c.placeholder-placeholder.result.now in
     let text = ap chars c.as_str.ensures.value ∙ c.in_ok-text.ensures.value in
-    let within = part_of_norm c.args.margin c.args.line.now.width c.near_part-near.result.skipped line (chars c.near_part-near.result.text.now) (chars c.as_str.result.now) c.args.line.now.measured text c.near_part-near.ensures.holds in
+    let within = part_of_norm c.args.margin c.args.line.now.width c.near_part-near.result.skipped line (chars c.near_part-near.result.text.now)
+    (chars c.as_str.result.now) c.args.line.now.measured text c.near_part-near.ensures.holds in
     let part = uncovered_part bounds.left placeholder (inner_part c.args.margin.term_width bounds.left bounds.right (norm line)) in
-    ap (list_any is_listed) (c.window_of-window.ensures.text (norm line) within) ∙ list_any_none is_listed part (unlisted_part bounds.left c.args.margin.term_width bounds.left bounds.right placeholder (norm line) (each_fails is_listed (norm line) (list_any-norm line)))
+    ap (list_any is_listed) (c.window_of-window.ensures.text (norm line) within)
+    ∙ list_any_none is_listed part (unlisted_part bounds.left c.args.margin.term_width bounds.left bounds.right placeholder (norm line)
+    (each_fails is_listed (norm line) (list_any-norm line)))
 
 pub returns-clause-added : goal.returns-clause-added
 returns-clause-added c =
     let args = c.args in
     let layout = layout_of c.layout.inside in
     let line = chars args.line.now.info.line.now in
-    let number = ap chars (c.as_str-2.ensures.value ∙ c.in_ok-number.ensures.text) ∙ chars-shown_number args.numbers layout.gutter args.line.now.info.line_index (omega arith) in
+    let number = ap chars (c.as_str-2.ensures.value ∙ c.in_ok-number.ensures.text)
+    ∙ chars-shown_number args.numbers layout.gutter args.line.now.info.line_index (omega arith) in
     let text = ap chars c.as_str.ensures.value ∙ c.in_ok-text.ensures.value in
-    let part = part_of_norm args.margin c.args.line.now.width c.near_part-near.result.skipped line (chars c.near_part-near.result.text.now) (chars c.as_str.result.now) c.args.line.now.measured text c.near_part-near.ensures.holds in
+    let part = part_of_norm args.margin c.args.line.now.width c.near_part-near.result.skipped line (chars c.near_part-near.result.text.now)
+    (chars c.as_str.result.now) c.args.line.now.measured text c.near_part-near.ensures.holds in
     let window = c.window_of-window in
     let cells = cells_are layout.decor args.margin window.result.start window.result.end (chars window.result.text.now)
     (chars c.placeholder-placeholder.result.now) (norm line) (norm line)
     c.placeholder-placeholder.ensures.value refl (window.ensures.start (norm line) part) (window.ensures.text (norm line) part)
     (window.ensures.end (norm line) part) in
-    let added = subst (λ (l : Layout). AddsSourceRow l (chars c.as_str-2.result.now) (shown_cells l.decor window.result.start (chars window.result.text.now) window.result.end) args.buffer.now c.write_source_row.new.buffer) (sym c.layout.view_is) c.in_ok-row.ensures.added in
+    let added = subst (λ (l : Layout). AddsSourceRow l (chars c.as_str-2.result.now)
+    (shown_cells l.decor window.result.start (chars window.result.text.now) window.result.end) args.buffer.now c.write_source_row.new.buffer)
+    (sym c.layout.view_is) c.in_ok-row.ensures.added in
     rw (← c.layout.view_is) (AddsSourceRow-same layout _ _ _ _ args.buffer.now c.write_source_row.new.buffer number cells added)
 
 pub returns-clause-short : goal.returns-clause-short
@@ -82,17 +107,20 @@ returns-clause-short c =
     let decor = c.layout.inside.decor in
     let line = chars args.line.now.info.line.now in
     let text = ap chars c.as_str.ensures.value ∙ c.in_ok-text.ensures.value in
-    let part = part_of_norm args.margin c.args.line.now.width c.near_part-near.result.skipped line (chars c.near_part-near.result.text.now) (chars c.as_str.result.now) c.args.line.now.measured text c.near_part-near.ensures.holds in
+    let part = part_of_norm args.margin c.args.line.now.width c.near_part-near.result.skipped line (chars c.near_part-near.result.text.now)
+    (chars c.as_str.result.now) c.args.line.now.measured text c.near_part-near.ensures.holds in
     let window = c.window_of-window in
     let cells = cells_are decor args.margin window.result.start window.result.end (chars window.result.text.now)
     (chars c.placeholder-placeholder.result.now) (norm line) (norm line)
     c.placeholder-placeholder.ensures.value refl (window.ensures.start (norm line) part) (window.ensures.text (norm line) part)
     (window.ensures.end (norm line) part) in
-    let short = subst (λ (l : Layout). length (shown_cells l.decor window.result.start (chars window.result.text.now) window.result.end) < 2 ^ 61 + 4) (sym c.layout.view_is) c.in_ok-row.ensures.short in
+    let short = subst (λ (l : Layout). length (shown_cells l.decor window.result.start (chars window.result.text.now) window.result.end) < 2 ^ 61 + 4)
+    (sym c.layout.view_is) c.in_ok-row.ensures.short in
     rw (← c.layout.view_is) (omega (arith, ap length cells, short))
 
 pub returns-clause-dropped : goal.returns-clause-dropped
 returns-clause-dropped c =
     let line = chars c.args.line.now.info.line.now in
     let text = ap chars c.as_str.ensures.value ∙ c.in_ok-text.ensures.value in
-    c.window_of-window.ensures.dropped (norm line) (part_of_norm c.args.margin c.args.line.now.width c.near_part-near.result.skipped line (chars c.near_part-near.result.text.now) (chars c.as_str.result.now) c.args.line.now.measured text c.near_part-near.ensures.holds)
+    c.window_of-window.ensures.dropped (norm line) (part_of_norm c.args.margin c.args.line.now.width c.near_part-near.result.skipped line
+    (chars c.near_part-near.result.text.now) (chars c.as_str.result.now) c.args.line.now.measured text c.near_part-near.ensures.holds)

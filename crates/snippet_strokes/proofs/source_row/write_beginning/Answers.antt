@@ -10,7 +10,8 @@ returns-in-None c =
     let decor = c.layout.inside.decor in
     rw (← c.layout.view_is) (record {
       writes = on_ok_weaker c.puts.result (λ writes above row last ends before.
-          begun_plain decor c.args.start above c.args.buffer.now c.puts.new.self row c.args.row c.layout.inside.code c.args.text.now c.in-None.is c.utf8.text writes c.puts.ensures.empty last ends before) c.puts.ensures.ok;
+          begun_plain decor c.args.start above c.args.buffer.now c.puts.new.self row c.args.row c.layout.inside.code c.args.text.now c.in-None.is c.utf8.text
+          writes c.puts.ensures.empty last ends before) c.puts.ensures.ok;
     })
 
 pub returns-in_ok-puts-in-Some : goal.returns-in_ok-puts-in-Some
@@ -23,6 +24,7 @@ returns-in_ok-puts-in-Some c =
       writes = on_ok_weaker c.puts-in-Some-2.result
           (λ writes above row last ends before. begun_cut decor c.args.start c.in-Some.columns above c.args.buffer.now c.puts-in-Some.new.self
           c.puts-in-Some-2.new.self row c.args.row layout.inside.code c.args.placeholder.now c.args.text.now c.in-Some.is c.utf8.placeholder c.utf8.text
-          (c.requires.placeholder ∙ ap (λ (l : Layout). placeholder_of l.decor) (sym layout.view_is)) c.in_ok-puts-in-Some.ensures.ok c.puts-in-Some.ensures.empty writes c.puts-in-Some-2.ensures.empty last ends before)
+          (c.requires.placeholder ∙ ap (λ (l : Layout). placeholder_of l.decor)
+          (sym layout.view_is)) c.in_ok-puts-in-Some.ensures.ok c.puts-in-Some.ensures.empty writes c.puts-in-Some-2.ensures.empty last ends before)
           wrote;
     })

@@ -15,7 +15,8 @@ returns-clause-added c =
     let text = chars window.text.now in
     let start = front layout shown in
     let ends = front_short layout shown c.in_ok-row.ensures.place c.requires.number in
-    let numbered = number_written layout c.args.number.now old c.begin_row.new.buffer c.puts.new.self c.in_ok-row.row c.in_ok-row.ensures.row c.in_ok-row.ensures.added c.in_ok-puts.ensures.ok c.puts.ensures.empty in
+    let numbered = number_written layout c.args.number.now old c.begin_row.new.buffer c.puts.new.self c.in_ok-row.row c.in_ok-row.ensures.row
+    c.in_ok-row.ensures.added c.in_ok-puts.ensures.ok c.puts.ensures.empty in
     let begun = c.in_ok-write_beginning.ensures.writes old start c.in_ok-row.ensures.row ends numbered in
     let ended = c.in_ok-write_end.ensures.writes old start (begun_cells layout.decor window.start text) c.in_ok-row.ensures.row ends begun in
     source_row_added layout c.args.number.now (shown_cells layout.decor window.start text window.end)

@@ -20,7 +20,8 @@ loop-i-preserved c =
     let hidden : c.is_stem_covered.result ≡ is_stem_covered e later = c.is_stem_covered.ensures.value ∙ ap (is_stem_covered e) whole in
     let rest : drop i es ≡ e ∷ later = drop_more es i e c.loop-i-test.true ∙ ap (λ x. x ∷ later) (sym c.index-placed-i.is) in
     let so_far = sym (ap (λ xs. painted (stems_of layout row xs) mid) rest) ∙ c.loop-i.invariant.0 in
-    let has : HasRows row (length mid) e = subst (λ n. HasRows row n e) (sym c.loop-i.invariant.1) (subst (HasRows row (length c.args.buffer.now)) (sym c.index-placed-i.is) (c.requires.rows i e c.loop-i-test.true)) in
+    let has : HasRows row (length mid) e = subst (λ n. HasRows row n e) (sym c.loop-i.invariant.1)
+    (subst (HasRows row (length c.args.buffer.now)) (sym c.index-placed-i.is) (c.requires.rows i e c.loop-i-test.true)) in
     elim c.if-not-is_stem_covered.branch [
       | then-not-is_stem_covered+in_ok-draw_stem w ↦
           let shown : is_stem_covered e later ≡ false = sym hidden ∙ cc in (
@@ -30,8 +31,11 @@ loop-i-preserved c =
                 ∙ ap length (cc w.in_ok-draw_stem.ensures.painted) ∙ stem_count layout row e mid has ∙ c.loop-i.invariant.1,
           )
       | else-not-is_stem_covered w ↦
-          let covered : is_stem_covered e later ≡ true = sym hidden ∙ cc in
-          (ap (painted (stems_of layout row later)) w.buffer-is ∙ stems_skip layout row e later mid covered ∙ so_far, ap length w.buffer-is ∙ c.loop-i.invariant.1)
+          let covered : is_stem_covered e later ≡ true = sym hidden ∙ cc in (
+            ap (painted (stems_of layout row later)) w.buffer-is ∙ stems_skip layout row e later mid covered ∙ so_far,
+            ap length w.buffer-is
+                ∙ c.loop-i.invariant.1,
+          )
     ]
 
 pub returns : goal.returns

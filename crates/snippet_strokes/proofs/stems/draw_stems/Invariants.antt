@@ -6,4 +6,5 @@ use Rattle.snippet_strokes.proofs.stems.draw_stems.Given as goal
 -- with the stems from this entry on all are written; and no row is added
 abbrev pub invariant-loop-i : goal.invariant-loop-i
 invariant-loop-i l =
-    (painted (stems_of l.layout l.row (drop l.i l.placed)) l.buffer ≡ painted (stems_of l.layout l.row l.placed) l.initial.buffer) × (length l.buffer ≡ length l.initial.buffer)
+    (painted (stems_of l.layout l.row (drop l.i l.placed)) l.buffer ≡ painted (stems_of l.layout l.row l.placed) l.initial.buffer)
+    × (length l.buffer ≡ length l.initial.buffer)

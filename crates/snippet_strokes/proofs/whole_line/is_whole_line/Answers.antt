@@ -8,6 +8,8 @@ pub loop-entry-preserved : goal.loop-entry-preserved
 loop-entry-preserved c =
     let text = norm (chars c.args.line.now) in
     elim c.match-entry.branch [
-      | in-MultilineLine w ↦ bar_passed text c.args.entries.now _ c.loop-entry.last_start _ _ _ c.loop-entry-test.true w.in-MultilineLine.is w.last_start-is c.loop-entry.invariant
-      | in-MultilineStart w ↦ start_passed text c.args.entries.now _ c.loop-entry.last_start _ _ _ c.loop-entry-test.true w.in-MultilineStart.is (w.last_start-is ∙ w.max-last_start.ensures) c.loop-entry.invariant
+      | in-MultilineLine w ↦ bar_passed text c.args.entries.now _ c.loop-entry.last_start _ _ _ c.loop-entry-test.true w.in-MultilineLine.is w.last_start-is
+          c.loop-entry.invariant
+      | in-MultilineStart w ↦ start_passed text c.args.entries.now _ c.loop-entry.last_start _ _ _ c.loop-entry-test.true w.in-MultilineStart.is
+          (w.last_start-is ∙ w.max-last_start.ensures) c.loop-entry.invariant
     ]

@@ -38,16 +38,20 @@ returns c =
           let counts : count ≡ length infos - bool_byte stays = c.saturating_sub-count.ensures ∙ ap (λ (n : ℕ). length infos - n) c.from.ensures in
           let left : List LineInfo = take count infos in
           let begun = others_begun l a.first lines begin above a.buffer.now last is shown in
-          let drawn = others_removed l a.first lines (begin ∷ []) i (counted_from a.first 0 (texts_at left)) above a.buffer.now c.draw_diff_removed.new.buffer begun c.in_ok-draw_diff_removed.ensures.added in
+          let drawn = others_removed l a.first lines (begin ∷ []) i (counted_from a.first 0
+          (texts_at left)) above a.buffer.now c.draw_diff_removed.new.buffer begun c.in_ok-draw_diff_removed.ensures.added in
           let texts : List (List ℕ) = unless_stays (bytes_eq line (last_removed infos)) (texts_at infos) in
-          let left_is : texts_at left ≡ texts = left_texts infos left count stays refl counts ∙ ap (λ b. unless_stays b (texts_at infos)) (c.is_last-stays.ensures.value c.requires.some) in
+          let left_is : texts_at left ≡ texts = left_texts infos left count stays refl counts
+          ∙ ap (λ b. unless_stays b (texts_at infos)) (c.is_last-stays.ensures.value c.requires.some) in
           let removed : List SuggestionRow = removed_from i (counted_from a.first 0 texts) in
           let rows : List SuggestionRow = begin ∷ removed in
           let Stands : List (List Cell) → Type 0 = λ now. AddsOthers l a.first lines rows above now in
-          let shows : Stands c.draw_diff_removed.new.buffer = subst (λ (ts : List (List ℕ)). AddsOthers l a.first lines (begin ∷ removed_from i (counted_from a.first 0 ts)) above c.draw_diff_removed.new.buffer) left_is drawn in
+          let shows : Stands c.draw_diff_removed.new.buffer = subst (λ (ts : List (List ℕ)). AddsOthers l a.first lines
+          (begin ∷ removed_from i (counted_from a.first 0 ts)) above c.draw_diff_removed.new.buffer) left_is drawn in
           let stands : Stands mid = elim c.if-stays.branch [
             | then-stays+in_ok-paint_last w ↦
-                subst Stands (sym w.buffer-is) (others_painted l a.first lines rows above c.draw_diff_removed.new.buffer w.paint_last.new.buffer shows (w.in_ok-paint_last.ensures.repaints (above ++ shows.before) shows.last.row shows.last.added))
+                subst Stands (sym w.buffer-is) (others_painted l a.first lines rows above c.draw_diff_removed.new.buffer w.paint_last.new.buffer shows
+                (w.in_ok-paint_last.ensures.repaints (above ++ shows.before) shows.last.row shows.last.added))
             | else-stays w ↦ subst Stands (sym w.buffer-is) shows
           ] in
           let Drawn : Bool → Type 0 = λ left_out. OnOk result (AddsRows l a.first lines (begin ∷ changed_rows true left_out removed) above new) in
@@ -59,7 +63,9 @@ returns c =
                 (rows_of_others l a.first lines rows above new (others_painted l a.first lines rows above mid new stands paints))) painted)
             | inr offers ↦
                 let offered = c.draw_diff_line.ensures.added offers fits in
-                subst Drawn (sym offers ∙ c.is_left_out-left_out.ensures.value c.requires.some) (on_ok_weaker result (rows_append l a.first lines rows (Offers 0 ∷ []) above mid new (rows_of_others l a.first lines rows above mid stands)) offered)
+                subst Drawn (sym offers ∙ c.is_left_out-left_out.ensures.value c.requires.some)
+                (on_ok_weaker result (rows_append l a.first lines rows (Offers 0 ∷ []) above mid new
+                (rows_of_others l a.first lines rows above mid stands)) offered)
           ];
       cells = λ above last is.
           let a = c.args in
@@ -76,7 +82,9 @@ returns c =
           let counts : count ≡ length infos - bool_byte stays = c.saturating_sub-count.ensures ∙ ap (λ (n : ℕ). length infos - n) c.from.ensures in
           let taken : List (List Cell) = taken_cells l a.first replaced 0 (unless_stays stays infos) in
           let rows : List (List Cell) = last ∷ taken in
-          let drawn : one ≡ above ++ rows = c.in_ok-draw_diff_removed.ensures.cells ∙ ap (λ is. a.buffer.now ++ taken_cells l a.first replaced 0 is) (left_infos infos count stays counts) ∙ ap (λ rs. rs ++ taken) is ∙ append_assoc above (last ∷ []) taken in
+          let drawn : one ≡ above ++ rows = c.in_ok-draw_diff_removed.ensures.cells
+          ∙ ap (λ is. a.buffer.now ++ taken_cells l a.first replaced 0 is) (left_infos infos count stays counts) ∙ ap (λ rs. rs ++ taken) is
+          ∙ append_assoc above (last ∷ []) taken in
           let end = last_of last taken in
           let stands : one ≡ (above ++ end.front) ++ end.end ∷ [] = drawn ∙ ap (λ rs. above ++ rs) end.is ∙ sym (append_assoc above end.front (end.end ∷ [])) in
           let gone = gone_of stays a.first replaced infos in
@@ -89,7 +97,8 @@ returns c =
                 ∙ ap (λ (row : List Cell). (above ++ end.front) ++ row ∷ [])
                 (some_gone l.base.gutter line stays a.first replaced infos end.end count _ w.diff_stretches-stretches.result.now w.if-stays.true counts
                 within w.diff_stretches-stretches.ensures.value)
-            | else-stays w ↦ w.buffer-is ∙ stands ∙ ap (λ (row : List Cell). (above ++ end.front) ++ row ∷ []) (sym (none_gone l.base.gutter line stays a.first replaced infos end.end w.if-stays.false))
+            | else-stays w ↦ w.buffer-is ∙ stands ∙ ap (λ (row : List Cell). (above ++ end.front) ++ row ∷ [])
+                (sym (none_gone l.base.gutter line stays a.first replaced infos end.end w.if-stays.false))
           ] in
           let is_stays : stays ≡ bytes_eq line (last_removed infos) = c.is_last-stays.ensures.value c.requires.some in
           let left_is = c.is_left_out-left_out.ensures.value c.requires.some in
@@ -109,8 +118,11 @@ returns c =
                       absurd (cc)
                   | inr other ↦ other
                 ] in
-                let whole : mid ≡ above ++ rows = painted ∙ ap (λ (row : List Cell). (above ++ end.front) ++ row ∷ []) (none_gone l.base.gutter line stays a.first replaced infos end.end keeps) ∙ sym stands ∙ drawn in
+                let whole : mid ≡ above ++ rows = painted ∙ ap (λ (row : List Cell). (above ++ end.front) ++ row ∷ [])
+                (none_gone l.base.gutter line stays a.first replaced infos end.end keeps) ∙ sym stands ∙ drawn in
                 let row : List Cell = offered_cells l Diff 1 a.first line added in
-                on_ok_weaker c.draw_diff_line.result (λ done. done ∙ ap (λ rs. rs ++ row ∷ []) whole ∙ append_assoc above rows (row ∷ []) ∙ ap (λ rs. above ++ rs) (diff_shown l a.first infos replaced line added last stays is_stays (sym left_is ∙ offers))) (c.draw_diff_line.ensures.cells offers)
+                on_ok_weaker c.draw_diff_line.result (λ done. done ∙ ap (λ rs. rs ++ row ∷ []) whole ∙ append_assoc above rows (row ∷ [])
+                ∙ ap (λ rs. above ++ rs) (diff_shown l a.first infos replaced line added last stays is_stays (sym left_is ∙ offers)))
+                (c.draw_diff_line.ensures.cells offers)
           ];
     }

@@ -12,7 +12,8 @@ returns-clause-added c = λ drawn fits.
     elim c.if-not-left_out.branch [
       | then-not-left_out+in_ok-draw_line w ↦
           let adds = w.in_ok-draw_line.ensures.added (first_fits a.layout.now a.first c.ranges.first.fits fits) in
-          on_ok_weaker _ (λ painted. line_lines a.layout.now a.first a.line.now a.buffer.now w.draw_line.new.buffer c.paint_last.new.buffer c.ranges.first.fits adds painted) (c.paint_last.ensures.repaints a.buffer.now adds.row (w.buffer-is ∙ adds.added))
+          on_ok_weaker _ (λ painted. line_lines a.layout.now a.first a.line.now a.buffer.now w.draw_line.new.buffer c.paint_last.new.buffer c.ranges.first.fits
+          adds painted) (c.paint_last.ensures.repaints a.buffer.now adds.row (w.buffer-is ∙ adds.added))
       | else-not-left_out w ↦ absurd (cc)
     ]
 
@@ -28,6 +29,8 @@ returns-clause-cells c = λ shown.
     let a = c.args in
     elim c.if-not-left_out.branch [
       | then-not-left_out+in_ok-draw_line w ↦
-          on_ok_weaker c.paint_last.result (λ painted. painted ∙ ap (λ (row : List Cell). a.buffer.now ++ row ∷ []) (diff_offered a.layout.now a.first a.line.now a.added.now)) (c.paint_last.ensures.cells a.buffer.now _ (w.buffer-is ∙ w.in_ok-draw_line.ensures.cells))
+          on_ok_weaker c.paint_last.result (λ painted. painted ∙ ap (λ (row : List Cell). a.buffer.now ++ row ∷ [])
+          (diff_offered a.layout.now a.first a.line.now a.added.now))
+          (c.paint_last.ensures.cells a.buffer.now _ (w.buffer-is ∙ w.in_ok-draw_line.ensures.cells))
       | else-not-left_out w ↦ absurd (cc)
     ]

@@ -38,5 +38,6 @@ returns c =
     let a = c.args in
     record {
       added = removed_all a.layout.now a.first a.removed.now _ a.buffer.now c.loop-i.buffer (omega arith) c.loop-i.invariant.added;
-      cells = c.loop-i.invariant.cells ∙ ap (λ (infos : List LineInfo). a.buffer.now ++ taken_cells a.layout.now a.first (line_stretches a.replaced.now) 0 infos) (take_all c.loop-i.i a.removed.now (omega arith));
+      cells = c.loop-i.invariant.cells ∙ ap (λ (infos : List LineInfo). a.buffer.now
+          ++ taken_cells a.layout.now a.first (line_stretches a.replaced.now) 0 infos) (take_all c.loop-i.i a.removed.now (omega arith));
     }

@@ -16,10 +16,14 @@ puts-requires-clause-end c =
 pub returns : goal.returns
 returns c =
     let shown = c.text.ensures.value ∙ ap (λ (l : Layout). suggestion_glyph_of l.decor c.args.glyph) c.base.view_is in
-    let drawn = c.in_ok-puts.ensures.ok c.text.ensures.some ∙ ap (λ n. cells_written c.args.buffer.now c.args.row n (text_cells LineNumber (chars c.text.result.now))) c.separator_cell.ensures.value in
+    let drawn = c.in_ok-puts.ensures.ok c.text.ensures.some ∙ ap (λ n.
+    cells_written c.args.buffer.now c.args.row n (text_cells LineNumber (chars c.text.result.now))) c.separator_cell.ensures.value in
     record {
-      added = λ other above tail shares. glyph_added c.args.layout.now shares c.args.glyph above tail c.args.buffer.now c.puts.new.self c.args.row c.text.result.now other shown drawn;
+      added = λ other above tail shares. glyph_added c.args.layout.now shares c.args.glyph above tail c.args.buffer.now c.puts.new.self c.args.row
+          c.text.result.now other shown drawn;
       end = λ other skipped. end_added c.args.layout.now c.args.glyph skipped c.args.buffer.now c.puts.new.self c.args.row c.text.result.now other shown drawn;
-      over = λ above tail here is few. glyph_over LineNumber c.args.layout.now.base.decor c.args.glyph (chars c.text.result.now) (c.args.layout.now.base.gutter + 1) c.args.row above tail c.args.buffer.now c.puts.new.self shown here is few drawn;
-      below = λ skipped here. glyph_below LineNumber c.args.layout.now.base.decor c.args.glyph (chars c.text.result.now) (c.args.layout.now.base.gutter + 1) c.args.row skipped c.args.buffer.now c.puts.new.self shown here drawn;
+      over = λ above tail here is few. glyph_over LineNumber c.args.layout.now.base.decor c.args.glyph (chars c.text.result.now)
+          (c.args.layout.now.base.gutter + 1) c.args.row above tail c.args.buffer.now c.puts.new.self shown here is few drawn;
+      below = λ skipped here. glyph_below LineNumber c.args.layout.now.base.decor c.args.glyph (chars c.text.result.now)
+          (c.args.layout.now.base.gutter + 1) c.args.row skipped c.args.buffer.now c.puts.new.self shown here drawn;
     }

@@ -11,8 +11,16 @@ returns-then-deletes_or_destroys c =
     let source : List ℕ = c.args.source.now in
     let patches : List TrimmedPatch = c.args.patches.now in
     let i : ℕ = c.loop-patch.patch-index in
-    let none : TrimmedPatch = record { original_span = record { start = 0; end = 0 }; span = record { start = 0; end = 0 }; replacement = record { ref_ptr = (0, 0); now = [] } } in
+    let none : TrimmedPatch = record {
+      original_span = record { start = 0; end = 0 };
+      span = record { start = 0; end = 0 };
+      replacement = record
+          { ref_ptr = (0, 0); now = [] };
+    } in
     let e : Edit = trimmed_edit_of none in
     let within : i < length patches = c.loop-patch-test.true in
     let at = ap (takes_away source) (get_or-map trimmed_edit_of patches i none e within) in
-    record { value = sym (list_any_at (takes_away source) (map trimmed_edit_of patches) i e (omega (arith, within, length-map patches trimmed_edit_of)) (at ∙ sym c.deletes_or_destroys.ensures.value ∙ c.if-deletes_or_destroys.true)) }
+    record {
+      value = sym (list_any_at (takes_away source) (map trimmed_edit_of patches) i e (omega (arith, within, length-map patches trimmed_edit_of))
+          (at ∙ sym c.deletes_or_destroys.ensures.value ∙ c.if-deletes_or_destroys.true));
+    }

@@ -17,5 +17,6 @@ returns c =
           (c.in_ok-draw_shown.ensures.added
           (subst (All (NumberFits a.layout.now a.first)) (sym is)
           (rooms_shown a.layout.now a.first (length a.lines.now) (is_touched a.fold a.ranges.now) rooms)));
-      cells = c.in_ok-draw_shown.ensures.cells ∙ ap (λ (s : List SuggestionLine). a.buffer.now ++ map (suggestion_row a.layout.now a.kind a.first (map (λ l. l.now) a.lines.now) (line_stretches a.stretches.now)) s) is;
+      cells = c.in_ok-draw_shown.ensures.cells ∙ ap (λ (s : List SuggestionLine). a.buffer.now
+          ++ map (suggestion_row a.layout.now a.kind a.first (map (λ l. l.now) a.lines.now) (line_stretches a.stretches.now)) s) is;
     }

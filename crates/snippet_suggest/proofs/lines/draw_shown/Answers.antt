@@ -19,6 +19,9 @@ loop-line-preserved c =
     let i = c.loop-line.line-index in
     let lines = map (λ t. t.now) a.lines.now in
     record {
-      added = λ rooms. shown-next a.layout.now a.first lines a.shown.now i _ a.buffer.now c.loop-line.buffer c.draw_shown_line.new.buffer c.loop-line-test.true (c.loop-line.invariant.added rooms) (c.in_ok-draw_shown_line.ensures.added (rooms i _ c.loop-line-test.true));
-      cells = drawn_next (suggestion_row a.layout.now a.kind a.first lines (line_stretches a.stretches.now)) a.shown.now i _ a.buffer.now c.loop-line.buffer c.draw_shown_line.new.buffer c.loop-line-test.true c.loop-line.invariant.cells c.in_ok-draw_shown_line.ensures.cells;
+      added = λ rooms. shown-next a.layout.now a.first lines a.shown.now i _ a.buffer.now c.loop-line.buffer c.draw_shown_line.new.buffer c.loop-line-test.true
+          (c.loop-line.invariant.added rooms) (c.in_ok-draw_shown_line.ensures.added (rooms i _ c.loop-line-test.true));
+      cells = drawn_next (suggestion_row a.layout.now a.kind a.first lines
+          (line_stretches a.stretches.now)) a.shown.now i _ a.buffer.now c.loop-line.buffer c.draw_shown_line.new.buffer c.loop-line-test.true
+          c.loop-line.invariant.cells c.in_ok-draw_shown_line.ensures.cells;
     }

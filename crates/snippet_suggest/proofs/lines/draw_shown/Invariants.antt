@@ -9,5 +9,6 @@ abbrev pub invariant-loop-line : goal.invariant-loop-line
 invariant-loop-line l = record {
   added : All (NumberFits l.layout l.first) l.shown
       → AddsShown l.layout l.first (map (λ t. t.now) l.lines) (take l.line-index l.shown) l.initial.buffer l.buffer;
-  cells : l.buffer ≡ l.initial.buffer ++ map (suggestion_row l.layout l.kind l.first (map (λ t. t.now) l.lines) (line_stretches l.stretches)) (take l.line-index l.shown);
+  cells : l.buffer ≡ l.initial.buffer ++ map (suggestion_row l.layout l.kind l.first (map (λ t. t.now) l.lines) (line_stretches l.stretches))
+      (take l.line-index l.shown);
 }

@@ -12,7 +12,8 @@ loop-column-init c =
     record {
       marked = λ above last left here is stroke mark. record { row = last; added = is; is = stroke };
       within = omega arith;
-      cells = λ above last here is. marks_begun c.args.mark (c.args.layout.now.base.gutter + 3 + c.args.start) (c.args.start - c.args.start) above last c.args.buffer.now (omega arith) is;
+      cells = λ above last here is. marks_begun c.args.mark (c.args.layout.now.base.gutter + 3 + c.args.start)
+          (c.args.start - c.args.start) above last c.args.buffer.now (omega arith) is;
     }
 
 pub loop-column-preserved : goal.loop-column-preserved
@@ -20,11 +21,14 @@ loop-column-preserved c =
     let inv = c.loop-column.invariant in
     let column = c.loop-column.column in
     let start = c.args.start in
-    let written = c.in_ok-putc.ensures.ok ∙ ap (λ n. cells_written c.loop-column.buffer c.args.row (n + column) (unlinked_cell Addition c.args.mark ∷ [])) c.inner_cell.ensures.value in
+    let written = c.in_ok-putc.ensures.ok ∙ ap (λ n. cells_written c.loop-column.buffer c.args.row (n + column)
+    (unlinked_cell Addition c.args.mark ∷ [])) c.inner_cell.ensures.value in
     record {
-      marked = λ above last left here is bare mark. marks_more c.args.layout.now.base.decor c.args.layout.now.base.gutter _ Addition c.args.mark left above c.loop-column.buffer c.putc.new.self c.args.row here (omega arith) mark (inv.marked above last left here is bare mark) written;
+      marked = λ above last left here is bare mark. marks_more c.args.layout.now.base.decor c.args.layout.now.base.gutter _ Addition c.args.mark left above
+          c.loop-column.buffer c.putc.new.self c.args.row here (omega arith) mark (inv.marked above last left here is bare mark) written;
       within = omega arith;
-      cells = λ above last here is. marks_next c.args.mark (c.args.layout.now.base.gutter + 3 + start) (c.args.layout.now.base.gutter + 3 + column) (column - start)
+      cells = λ above last here is. marks_next c.args.mark (c.args.layout.now.base.gutter + 3 + start) (c.args.layout.now.base.gutter + 3 + column)
+          (column - start)
           (column + 1 - start) c.args.row above last c.loop-column.buffer c.putc.new.self here (omega arith) (omega arith)
           (inv.cells above last here is) written;
     }

@@ -24,19 +24,26 @@ loop-patch-preserved c =
     let i : ℕ = c.loop-patch.patch-index in
     let ps : List TrimmedPatch = a.patches.now in
     let within : i < length ps = c.loop-patch-test.true in
-    let d : TrimmedPatch = record { original_span = record { start = 0; end = 0 }; span = record { start = 0; end = 0 }; replacement = record { ref_ptr = (0, 0); now = [] } } in
+    let d : TrimmedPatch = record {
+      original_span = record { start = 0; end = 0 };
+      span = record { start = 0; end = 0 };
+      replacement = record
+          { ref_ptr = (0, 0); now = [] };
+    } in
     let f : TrimmedPatch → PatchColumns = λ p. edit_columns m (trimmed_edit_of p) in
     let e : Edit = trimmed_edit_of (get_or ps i d) in
     let earlier : List PatchColumns = map f (take i ps) in
     let columns = c.patch_columns-columns.ensures.value in
-    let more : map f (take (i + 1) ps) ≡ earlier ++ edit_columns m e ∷ [] = ap (map f) (take_more ps i d within) ∙ map-append f (take i ps) (get_or ps i d ∷ []) in
+    let more : map f (take (i + 1) ps) ≡ earlier ++ edit_columns m e ∷ [] = ap (map f) (take_more ps i d within)
+    ∙ map-append f (take i ps) (get_or ps i d ∷ []) in
     let shift = c.before-in-loop-patch.ensures.value earlier inv.of in
     let bounds = c.marked_columns-start.ensures.value earlier shift in
     record {
       marked = λ above last left here is stroke.
           let so_far = inv.marked above last left here is stroke in
           c.in_ok-draw_mark.ensures.marked above so_far.row left here so_far.added so_far.is c.patch_mark-mark.ensures.mark;
-      of = subst (λ (cs : List PatchColumns). AreMoves cs c.push.new.self) (sym (more ∙ ap (λ (x : PatchColumns). earlier ++ x ∷ []) (sym columns))) (c.in_ok-push.ensures.of earlier inv.of);
+      of = subst (λ (cs : List PatchColumns). AreMoves cs c.push.new.self) (sym (more ∙ ap (λ (x : PatchColumns). earlier ++ x ∷ []) (sym columns)))
+          (c.in_ok-push.ensures.of earlier inv.of);
       cells = λ above last here is.
           let so_far = inv.cells above last here is in
           marked_next a.layout.now m earlier (map f (take (i + 1) ps)) e (map trimmed_edit_of (drop i ps)) (map trimmed_edit_of (drop (i + 1) ps))
@@ -53,5 +60,7 @@ pub returns : goal.returns
 returns c =
     record {
       marked = c.loop-patch.invariant.marked;
-      cells = λ above last here is. marked_done c.args.layout.now c.args.map.now _ _ _ above c.loop-patch.buffer (ap (map trimmed_edit_of) (drop_all c.loop-patch.patch-index c.args.patches.now c.loop-patch-test.false)) (c.loop-patch.invariant.cells above last here is);
+      cells = λ above last here is. marked_done c.args.layout.now c.args.map.now _ _ _ above c.loop-patch.buffer
+          (ap (map trimmed_edit_of) (drop_all c.loop-patch.patch-index c.args.patches.now c.loop-patch-test.false))
+          (c.loop-patch.invariant.cells above last here is);
     }

@@ -17,20 +17,27 @@ returns c =
     let parts : ◌≡◌ {A = ℕ × ℕ} c.if-is_blank.lead (lead_of text, inner_width cols text) = elim c.if-is_blank.branch [
       | then-is_blank w ↦
           let blank : is_blank text ≡ true = sym c.is_blank.ensures.value ∙ w.if-is_blank.true in
-          w.lead-is ∙ ap (λ m. Pair m cols.width) (sym (cond-true (is_blank text) 0 (length text - length (trim_start text)) blank)) ∙ ap (Pair (lead_of text)) (sym (cond-true (is_blank text) cols.width (text_width (trim text)) blank))
+          w.lead-is ∙ ap (λ m. Pair m cols.width) (sym (cond-true (is_blank text) 0 (length text - length (trim_start text)) blank))
+          ∙ ap (Pair (lead_of text)) (sym (cond-true (is_blank text) cols.width (text_width (trim text)) blank))
       | else-is_blank w ↦
           let other : is_blank text ≡ false = sym c.is_blank.ensures.value ∙ w.if-is_blank.false in
-          let lead : w.saturating_sub-lead.result ≡ lead_of text = w.saturating_sub-lead.ensures ∙ ap (λ t. length text - length t) w.trim_start.ensures.trim ∙ sym (cond-false (is_blank text) 0 (length text - length (trim_start text)) other) in
-          let width : w.text_width.result ≡ inner_width cols text = w.text_width.ensures.value ∙ ap text_width w.trim.ensures.trim ∙ sym (cond-false (is_blank text) cols.width (text_width (trim text)) other) in
+          let lead : w.saturating_sub-lead.result ≡ lead_of text = w.saturating_sub-lead.ensures ∙ ap (λ t. length text - length t) w.trim_start.ensures.trim
+          ∙ sym (cond-false (is_blank text) 0 (length text - length (trim_start text)) other) in
+          let width : w.text_width.result ≡ inner_width cols text = w.text_width.ensures.value ∙ ap text_width w.trim.ensures.trim
+          ∙ sym (cond-false (is_blank text) cols.width (text_width (trim text)) other) in
           w.lead-is ∙ ap (λ m. Pair m w.text_width.result) lead ∙ ap (Pair (lead_of text)) width
     ] in
-    let from : c.saturating_add-from.result ≡ capped (cols.start + lead_of text) = c.saturating_add-from.ensures ∙ ap (λ (p : ℕ × ℕ). capped (cols.start + p.0)) parts in
-    let to : c.saturating_add.result ≡ capped (capped (cols.start + lead_of text) + inner_width cols text) = c.saturating_add.ensures ∙ ap (λ n. capped (n + c.if-is_blank.lead.1)) from ∙ ap (λ (p : ℕ × ℕ). capped (capped (cols.start + lead_of text) + p.1)) parts in
+    let from : c.saturating_add-from.result ≡ capped (cols.start + lead_of text) = c.saturating_add-from.ensures
+    ∙ ap (λ (p : ℕ × ℕ). capped (cols.start + p.0)) parts in
+    let to : c.saturating_add.result ≡ capped (capped (cols.start + lead_of text) + inner_width cols text) = c.saturating_add.ensures
+    ∙ ap (λ n. capped (n + c.if-is_blank.lead.1)) from ∙ ap (λ (p : ℕ × ℕ). capped (capped (cols.start + lead_of text) + p.1)) parts in
     let At : Shift → ℕ → ℕ = λ s n. capped (n + s.right) - s.left in
     record {
       value = λ earlier is.
           let shift = shift_of (left_of cols.start earlier) in
-          let start : c.moved.result ≡ mark_start earlier cols text = c.moved.ensures.value ∙ ap (At c.args.shift) from ∙ ap (λ s. At s (capped (cols.start + lead_of text))) is in
-          let end : c.moved-2.result ≡ patch_mark_end earlier cols text = c.moved-2.ensures.value ∙ ap (At c.args.shift) to ∙ ap (λ s. At s (capped (capped (cols.start + lead_of text) + inner_width cols text))) is in
+          let start : c.moved.result ≡ mark_start earlier cols text = c.moved.ensures.value ∙ ap (At c.args.shift) from
+          ∙ ap (λ s. At s (capped (cols.start + lead_of text))) is in
+          let end : c.moved-2.result ≡ patch_mark_end earlier cols text = c.moved-2.ensures.value ∙ ap (At c.args.shift) to
+          ∙ ap (λ s. At s (capped (capped (cols.start + lead_of text) + inner_width cols text))) is in
           ap (λ m. Pair m c.moved-2.result) start ∙ ap (Pair (mark_start earlier cols text)) end;
     }

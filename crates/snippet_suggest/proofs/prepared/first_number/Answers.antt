@@ -13,5 +13,6 @@ returns-in-Some c =
     let located = ap (λ p. p.0.line) c.span_to_locations.ensures.value ∙ start-line s start c.in-Some.patch.now.original_span.end in
     let first : start ≡ first_original c.args.patches.now = first_original-of c.args.patches.now c.in-Some.patch.now (sym c.in-Some.ensures.value) in
     record {
-      value = located ∙ ap (λ b. s.first + line_of (source_lines s.text) b) first ∙ ap (λ (b : Bool). s.first + (if b then line_of (source_lines s.text) (first_original c.args.patches.now) else 0)) (sym c.if-fold.true);
+      value = located ∙ ap (λ b. s.first + line_of (source_lines s.text) b) first
+          ∙ ap (λ (b : Bool). s.first + (if b then line_of (source_lines s.text) (first_original c.args.patches.now) else 0)) (sym c.if-fold.true);
     }

@@ -25,7 +25,8 @@ new-requires-clause-numbers c =
 pub counted_line-counted-requires-clause-some : goal.counted_line-counted-requires-clause-some
 counted_line-counted-requires-clause-some c =
     let none = rw c.in-Some.is at c.in_ok-splice.ensures.none in
-    let splice : IsSplice c.in_ok-map.map.text (map edit_of c.deref.result.now) c.args.snippet.now.fold c.in-Some.splice = rw c.in-Some.is at c.in_ok-splice.ensures.splice in
+    let splice : IsSplice c.in_ok-map.map.text (map edit_of c.deref.result.now) c.args.snippet.now.fold c.in-Some.splice = rw c.in-Some.is at
+    c.in_ok-splice.ensures.splice in
     let given : c.deref.result.now ≢ [] = λ e. let other = none.1 e in cc in
     some_left c.in_ok-map.map.text c.deref.result.now c.in-Some.splice.patches.items given splice.edits
 
@@ -34,14 +35,19 @@ returns-clause-prepared c =
     let s : Snippet Patch = c.args.snippet.now in
     let source : List ℕ = cow_str_bytes s.source in
     let ps : List TrimmedPatch = c.in-Some.splice.patches.items in
-    let lines : c.in_ok-map.map ≡ numbered_source s = c.in_ok-map.ensures.ok ∙ ap (λ (t : List ℕ). record { text = t; first = s.line_start }) c.as_str.ensures.value in
+    let lines : c.in_ok-map.map ≡ numbered_source s = c.in_ok-map.ensures.ok
+    ∙ ap (λ (t : List ℕ). record { text = t; first = s.line_start }) c.as_str.ensures.value in
     let of : c.in_ok-map.map.text ≡ source = ap (λ (m : Source). m.text) lines in
     let given : c.deref.result.now ≡ s.markers.items = c.deref.ensures.value in
     let none = rw c.in-Some.is at c.in_ok-splice.ensures.none in
     let splice : IsSplice c.in_ok-map.map.text (map edit_of c.deref.result.now) s.fold c.in-Some.splice = rw c.in-Some.is at c.in_ok-splice.ensures.splice in
-    let text : string_bytes c.in-Some.splice.complete ≡ given_text s = splice.value ∙ ap (λ (t : List ℕ). shown_text s.fold t (map edit_of c.deref.result.now)) of ∙ ap (λ (ms : List Patch). shown_text s.fold source (map edit_of ms)) given in
-    let edits : map trimmed_edit_of ps ≡ trimmed_of s = splice.edits ∙ ap (λ (t : List ℕ). trimmed_edits t (map edit_of c.deref.result.now)) of ∙ ap (λ (ms : List Patch). trimmed_edits source (map edit_of ms)) given in
-    let originals : map original_bounds_of ps ≡ map edit_bounds (in_order (edits_of s)) = splice.originals ∙ ap (λ (ms : List Patch). map edit_bounds (in_order (map edit_of ms))) given in
+    let text : string_bytes c.in-Some.splice.complete ≡ given_text s = splice.value
+    ∙ ap (λ (t : List ℕ). shown_text s.fold t (map edit_of c.deref.result.now)) of
+    ∙ ap (λ (ms : List Patch). shown_text s.fold source (map edit_of ms)) given in
+    let edits : map trimmed_edit_of ps ≡ trimmed_of s = splice.edits ∙ ap (λ (t : List ℕ). trimmed_edits t (map edit_of c.deref.result.now)) of
+    ∙ ap (λ (ms : List Patch). trimmed_edits source (map edit_of ms)) given in
+    let originals : map original_bounds_of ps ≡ map edit_bounds (in_order (edits_of s)) = splice.originals
+    ∙ ap (λ (ms : List Patch). map edit_bounds (in_order (map edit_of ms))) given in
     let ranges : c.in-Some.splice.ranges.items ≡ given_ranges s =
     splice.written ∙ ap (λ (t : List ℕ). written_ranges t 0 (shown_start s.fold t (first_start (in_order (map edit_of c.deref.result.now))))
     (trimmed_edits t (map edit_of c.deref.result.now))) of
@@ -60,8 +66,11 @@ returns-clause-prepared c =
       edits = edits;
       originals = originals;
       ranges = ranges;
-      new = λ k. splice.stretches k ∙ ap (λ (t : List ℕ). new_stretches s.fold t (map edit_of c.deref.result.now) k) of ∙ ap (λ (ms : List Patch). new_stretches s.fold source (map edit_of ms) k) given;
-      replaced = λ k. splice.replaced k ∙ ap (λ (t : List ℕ). replaced_stretches s.fold t (map edit_of c.deref.result.now) k) of ∙ ap (λ (ms : List Patch). replaced_stretches s.fold source (map edit_of ms) k) given;
+      new = λ k. splice.stretches k ∙ ap (λ (t : List ℕ). new_stretches s.fold t (map edit_of c.deref.result.now) k) of
+          ∙ ap (λ (ms : List Patch). new_stretches s.fold source (map edit_of ms) k) given;
+      replaced = λ k. splice.replaced k ∙ ap (λ (t : List ℕ). replaced_stretches s.fold t (map edit_of c.deref.result.now) k) of
+          ∙ ap (λ (ms : List Patch). replaced_stretches s.fold source (map edit_of ms) k) given;
       kind = kind;
-      counted = counted-is s c.in_ok-map.map ps (string_bytes c.in-Some.splice.complete) c.new-kind.result c.counted_line-counted.result c.requires.suggestible lines text edits originals kind c.counted_line-counted.ensures.value;
+      counted = counted-is s c.in_ok-map.map ps (string_bytes c.in-Some.splice.complete) c.new-kind.result c.counted_line-counted.result c.requires.suggestible
+          lines text edits originals kind c.counted_line-counted.ensures.value;
     }

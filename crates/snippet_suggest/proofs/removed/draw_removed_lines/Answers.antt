@@ -9,7 +9,8 @@ pub loop-info-init : goal.loop-info-init
 loop-info-init c =
     record {
       small = c.requires.row;
-      drawn = λ above tail shares here stands is. removes_begun c.args.layout.now above tail shares c.args.lines.now c.args.row c.args.buffer.now here stands is;
+      drawn = λ above tail shares here stands is. removes_begun c.args.layout.now above tail shares c.args.lines.now c.args.row c.args.buffer.now here
+          stands is;
       cells = λ above tail here is few. emptied_begun c.args.layout.now above tail (numbered_at c.args.lines.now) c.args.row c.args.buffer.now here is few;
     }
 
@@ -21,14 +22,16 @@ loop-info-preserved c =
           let l = c.args.layout.now in
           let so_far = c.loop-info.invariant.drawn above tail shares here stands is in
           let adds = c.in_ok-draw_removed_line.ensures.added (above ++ so_far.rows) so_far.tail so_far.shares so_far.here so_far.stands so_far.tail_is in
-          removes_more l above c.args.lines.now _ c.loop-info.row c.loop-info.info-index c.num_lines-row.result c.loop-info.buffer c.draw_removed_line.new.buffer so_far c.loop-info-test.true adds c.num_lines-row.ensures.count;
+          removes_more l above c.args.lines.now _ c.loop-info.row c.loop-info.info-index c.num_lines-row.result c.loop-info.buffer
+          c.draw_removed_line.new.buffer so_far c.loop-info-test.true adds c.num_lines-row.ensures.count;
       cells = λ above tail here is few.
           let l = c.args.layout.now in
           let i = c.loop-info.info-index in
           let infos = c.args.lines.now in
           let so_far = c.loop-info.invariant.cells above tail here is few in
           let adds = c.in_ok-draw_removed_line.ensures.cells (above ++ so_far.rows) so_far.tail so_far.here so_far.stands so_far.few in
-          emptied_next l above (row_at tail 0) infos _ c.loop-info.row i c.num_lines-row.result c.loop-info.buffer c.draw_removed_line.new.buffer so_far c.loop-info-test.true adds c.num_lines-row.ensures.count;
+          emptied_next l above (row_at tail 0) infos _ c.loop-info.row i c.num_lines-row.result c.loop-info.buffer c.draw_removed_line.new.buffer so_far
+          c.loop-info-test.true adds c.num_lines-row.ensures.count;
     }
 
 pub returns : goal.returns

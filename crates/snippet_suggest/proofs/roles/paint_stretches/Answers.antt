@@ -18,7 +18,8 @@ loop-stretch-init c =
       at = c.new-tabs.ensures.at;
       line = c.new-tabs.ensures.line;
       painted = λ above last here is. repaint_none above last c.args.buffer.now is;
-      cells = λ above last here is. painted_begun c.args.role c.args.layout.now.base.gutter (chars c.args.line.now) c.args.stretches.now above last c.args.buffer.now is;
+      cells = λ above last here is. painted_begun c.args.role c.args.layout.now.base.gutter
+          (chars c.args.line.now) c.args.stretches.now above last c.args.buffer.now is;
     }
 
 pub loop-stretch-preserved : goal.loop-stretch-preserved
@@ -35,8 +36,10 @@ loop-stretch-preserved c =
     elim c.if-stretch.branch [
       | then-stretch+in_ok-set_style_range w ↦
           let line : w.before-then-stretch.new.self.line.now ≡ a.line.now = w.before-then-stretch.ensures.line ∙ inv.line in
-          let starts : w.stretch_cell-start.result ≡ stretch_cell g cs s.start = w.stretch_cell-start.ensures.value (Tabs s.start a.line.now) (w.before-then-stretch.ensures.value ∙ ap (λ t. capped (Tabs s.start t)) inv.line) in
-          let ends : w.stretch_cell-end.result ≡ stretch_cell g cs s.end = w.stretch_cell-end.ensures.value (Tabs s.end a.line.now) (w.before-then-stretch-2.ensures.value ∙ ap (λ t. capped (Tabs s.end t)) line) in
+          let starts : w.stretch_cell-start.result ≡ stretch_cell g cs s.start = w.stretch_cell-start.ensures.value (Tabs s.start a.line.now)
+          (w.before-then-stretch.ensures.value ∙ ap (λ t. capped (Tabs s.start t)) inv.line) in
+          let ends : w.stretch_cell-end.result ≡ stretch_cell g cs s.end = w.stretch_cell-end.ensures.value (Tabs s.end a.line.now)
+          (w.before-then-stretch-2.ensures.value ∙ ap (λ t. capped (Tabs s.end t)) line) in
           record {
             at = subst IsCursor (sym w.tabs-is) w.before-then-stretch-2.ensures.at;
             line = ap (λ (t : TabCursor). t.line.now) w.tabs-is ∙ w.before-then-stretch-2.ensures.line ∙ line;
@@ -52,11 +55,14 @@ loop-stretch-preserved c =
             at = subst IsCursor (sym w.tabs-is) inv.at;
             line = ap (λ (t : TabCursor). t.line.now) w.tabs-is ∙ inv.line;
             painted = λ above last here is. subst (λ (rows : List (List Cell)). IsRepainted above last rows) (sym w.buffer-is) (inv.painted above last here is);
-            cells = λ above last here is. w.buffer-is ∙ passed_next a.role g cs ss i d above last c.loop-stretch.buffer c.loop-stretch-test.true (inv.cells above last here is) w.if-stretch.false;
+            cells = λ above last here is. w.buffer-is ∙ passed_next a.role g cs ss i d above last c.loop-stretch.buffer c.loop-stretch-test.true
+                (inv.cells above last here is) w.if-stretch.false;
           }
     ]
 
 pub returns-clause-cells : goal.returns-clause-cells
 returns-clause-cells c = λ above last here is.
     let a = c.args in
-    c.loop-stretch.invariant.cells above last here is ∙ ap (λ (ss : List SubstitutionHighlight). above ++ with_stretches a.role a.layout.now.base.gutter (chars a.line.now) ss last ∷ []) (take_all c.loop-stretch.stretch-index a.stretches.now c.loop-stretch-test.false)
+    c.loop-stretch.invariant.cells above last here is ∙ ap (λ (ss : List SubstitutionHighlight). above
+    ++ with_stretches a.role a.layout.now.base.gutter (chars a.line.now) ss last ∷ [])
+    (take_all c.loop-stretch.stretch-index a.stretches.now c.loop-stretch-test.false)

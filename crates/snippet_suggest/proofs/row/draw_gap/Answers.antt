@@ -9,9 +9,12 @@ use Rattle.snippet_suggest.proofs.row.draw_gap.Goals as goal
 pub returns : goal.returns
 returns c =
     let is = c.placeholder-placeholder.ensures.value ∙ ap (λ (l : Layout). placeholder_of l.decor) c.base.view_is in
-    let cell = c.saturating_sub-cell.ensures ∙ ap (λ (n : ℕ). c.base.inside.gutter - n) (c.str_width.ensures.value ∙ ap width_of c.placeholder-placeholder.ensures.value) ∙ ap (λ (l : Layout). l.gutter - width_of (placeholder_of l.decor)) c.base.view_is in
+    let cell = c.saturating_sub-cell.ensures ∙ ap (λ (n : ℕ). c.base.inside.gutter - n)
+    (c.str_width.ensures.value ∙ ap width_of c.placeholder-placeholder.ensures.value)
+    ∙ ap (λ (l : Layout). l.gutter - width_of (placeholder_of l.decor)) c.base.view_is in
     record {
-      added = gap_added c.args.layout.now.base.gutter c.args.layout.now.base.decor c.args.buffer.now c.puts.new.self c.num_lines-row.result c.saturating_sub-cell.result
+      added = gap_added c.args.layout.now.base.gutter c.args.layout.now.base.decor c.args.buffer.now c.puts.new.self c.num_lines-row.result
+          c.saturating_sub-cell.result
           c.placeholder-placeholder.result.now c.num_lines-row.ensures.count cell is c.in_ok-puts.ensures.ok;
       cells = gap_drawn c.args.layout.now c.placeholder-placeholder.result.now c.num_lines-row.result c.saturating_sub-cell.result c.args.buffer.now
           c.puts.new.self c.num_lines-row.ensures.count cell is c.in_ok-puts.ensures.ok;

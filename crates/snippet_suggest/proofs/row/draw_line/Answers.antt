@@ -36,15 +36,20 @@ returns-clause-added c fits =
     let is_sign = c.text-sign.ensures.value ∙ ap (λ (l : Layout). suggestion_glyph_of l.decor c.args.glyph) c.base.view_is in
     let led = sign_row g c.role.result sign in
     let numbered = texted number led 0 (text_cells LineNumber (chars number)) in
-    let is_number : chars number ≡ shown = ap chars (c.as_str.ensures.value ∙ c.in_ok-number.ensures.text) ∙ chars-shown_number c.args.layout.now.numbers c.base-2.inside.gutter c.args.number (omega arith)
+    let is_number : chars number ≡ shown = ap chars (c.as_str.ensures.value ∙ c.in_ok-number.ensures.text)
+    ∙ chars-shown_number c.args.layout.now.numbers c.base-2.inside.gutter c.args.number (omega arith)
     ∙ ap (λ (l : Layout). shown_number c.args.layout.now.numbers l.gutter c.args.number) c.base-2.view_is in
     let is_text : chars text ≡ norm (chars c.args.line.now) = ap chars c.as_str-2.ensures.value ∙ c.in_ok-text.ensures.value in
     let gutter : c.base-2.inside.gutter ≡ g = ap (λ (l : Layout). l.gutter) c.base-2.view_is in
-    let signed = c.in_ok-puts.ensures.ok c.text-sign.ensures.some ∙ ap (λ n. cells_written old c.num_lines-row.result n (text_cells c.role.result sign)) c.separator_cell.ensures.value in
-    let lines = λ (some : 0 < length c.as_str-2.result.now). c.in_ok-puts-3.ensures.ok some ∙ ap (λ n. cells_written c.puts-2.new.self c.num_lines-row.result n (text_cells NoStyle (chars text))) c.inner_cell.ensures.value in
+    let signed = c.in_ok-puts.ensures.ok c.text-sign.ensures.some ∙ ap (λ n.
+    cells_written old c.num_lines-row.result n (text_cells c.role.result sign)) c.separator_cell.ensures.value in
+    let lines = λ (some : 0 < length c.as_str-2.result.now). c.in_ok-puts-3.ensures.ok some
+    ∙ ap (λ n. cells_written c.puts-2.new.self c.num_lines-row.result n (text_cells NoStyle (chars text))) c.inner_cell.ensures.value in
     let begun = begun_by old c.puts.new.self c.num_lines-row.result (g + 1) (text_cells c.role.result sign) below signed in
-    let put = text_put old c.puts.new.self c.puts-2.new.self led c.num_lines-row.result 0 number (text_cells LineNumber (chars number)) begun below c.in_ok-puts-2.ensures.ok c.puts-2.ensures.empty in
-    let lined = text_put old c.puts-2.new.self c.puts-3.new.self numbered c.num_lines-row.result (g + 3) text (text_cells NoStyle (chars text)) put below lines c.puts-3.ensures.empty in
+    let put = text_put old c.puts.new.self c.puts-2.new.self led c.num_lines-row.result 0 number
+    (text_cells LineNumber (chars number)) begun below c.in_ok-puts-2.ensures.ok c.puts-2.ensures.empty in
+    let lined = text_put old c.puts-2.new.self c.puts-3.new.self numbered c.num_lines-row.result (g + 3) text
+    (text_cells NoStyle (chars text)) put below lines c.puts-3.ensures.empty in
     record {
       row = line_row g c.role.result LineNumber NoStyle sign number text;
       added = lined;
@@ -56,12 +61,15 @@ returns-clause-added c fits =
 pub returns-clause-cells : goal.returns-clause-cells
 returns-clause-cells c =
     let a = c.args in
-    let is_number : chars c.as_str.result.now ≡ shown_number a.layout.now.numbers a.layout.now.base.gutter a.number = ap chars (c.as_str.ensures.value ∙ c.in_ok-number.ensures.text) ∙ chars-shown_number a.layout.now.numbers c.base-2.inside.gutter a.number (omega arith)
+    let is_number : chars c.as_str.result.now ≡ shown_number a.layout.now.numbers a.layout.now.base.gutter a.number = ap chars
+    (c.as_str.ensures.value ∙ c.in_ok-number.ensures.text) ∙ chars-shown_number a.layout.now.numbers c.base-2.inside.gutter a.number (omega arith)
     ∙ ap (λ (l : Layout). shown_number a.layout.now.numbers l.gutter a.number) c.base-2.view_is in
     let is_text : chars c.as_str-2.result.now ≡ norm (chars a.line.now) = ap chars c.as_str-2.ensures.value ∙ c.in_ok-text.ensures.value in
     let is_sign = c.text-sign.ensures.value ∙ ap (λ (l : Layout). suggestion_glyph_of l.decor c.args.glyph) c.base.view_is in
-    let signed = c.in_ok-puts.ensures.ok c.text-sign.ensures.some ∙ ap (λ n. cells_written a.buffer.now c.num_lines-row.result n (text_cells c.role.result (chars c.text-sign.result.now))) c.separator_cell.ensures.value in
-    let lined = λ (some : 0 < length c.as_str-2.result.now). c.in_ok-puts-3.ensures.ok some ∙ ap (λ n. cells_written c.puts-2.new.self c.num_lines-row.result n (text_cells NoStyle (chars c.as_str-2.result.now))) c.inner_cell.ensures.value in
+    let signed = c.in_ok-puts.ensures.ok c.text-sign.ensures.some ∙ ap (λ n.
+    cells_written a.buffer.now c.num_lines-row.result n (text_cells c.role.result (chars c.text-sign.result.now))) c.separator_cell.ensures.value in
+    let lined = λ (some : 0 < length c.as_str-2.result.now). c.in_ok-puts-3.ensures.ok some
+    ∙ ap (λ n. cells_written c.puts-2.new.self c.num_lines-row.result n (text_cells NoStyle (chars c.as_str-2.result.now))) c.inner_cell.ensures.value in
     line_drawn a.layout.now a.glyph a.number a.line.now c.role.result c.text-sign.result.now c.as_str.result.now c.as_str-2.result.now
     c.num_lines-row.result a.buffer.now c.puts.new.self c.puts-2.new.self c.puts-3.new.self c.num_lines-row.ensures.count c.role.ensures.value
     is_sign is_number is_text c.as_str.utf8 c.as_str-2.utf8 signed

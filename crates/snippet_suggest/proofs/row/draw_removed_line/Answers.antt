@@ -33,16 +33,22 @@ returns c =
     let gutter : c.base.inside.gutter ≡ g = ap (λ (l : Layout). l.gutter) c.base.view_is in
     let number = c.as_str.result.now in
     let text = c.as_str-2.result.now in
-    let is_number : chars number ≡ shown_number a.layout.now.numbers g a.number = ap chars (c.as_str.ensures.value ∙ c.in_ok-number.ensures.text) ∙ chars-shown_number a.layout.now.numbers c.base.inside.gutter a.number (omega arith)
+    let is_number : chars number ≡ shown_number a.layout.now.numbers g a.number = ap chars (c.as_str.ensures.value ∙ c.in_ok-number.ensures.text)
+    ∙ chars-shown_number a.layout.now.numbers c.base.inside.gutter a.number (omega arith)
     ∙ ap (λ (l : Layout). shown_number a.layout.now.numbers l.gutter a.number) c.base.view_is in
     let is_text : chars text ≡ norm (chars a.line.now) = ap chars c.as_str-2.ensures.value ∙ c.in_ok-text.ensures.value in
-    let free_number : All (λ ch. is_listed ch ≡ false) (chars number) = subst (λ (t : List ℕ). All (λ ch. is_listed ch ≡ false) t) (sym is_number) (shown_number_unlisted a.layout.now.numbers g a.number (omega (arith, gutter))) in
-    let before_number : All (IsBeforeSign a.layout.now.numbers a.layout.now.base.decor) (chars number) = subst (λ (t : List ℕ). All (IsBeforeSign a.layout.now.numbers a.layout.now.base.decor) t) (sym is_number)
+    let free_number : All (λ ch. is_listed ch ≡ false) (chars number) = subst (λ (t : List ℕ). All (λ ch. is_listed ch ≡ false) t) (sym is_number)
+    (shown_number_unlisted a.layout.now.numbers g a.number (omega (arith, gutter))) in
+    let before_number : All (IsBeforeSign a.layout.now.numbers a.layout.now.base.decor) (chars number) = subst
+    (λ (t : List ℕ). All (IsBeforeSign a.layout.now.numbers a.layout.now.base.decor) t) (sym is_number)
     (number_before a.layout.now.base.decor a.layout.now.numbers g a.number (omega (arith, gutter))) in
-    let left_number : StaysLeft a.layout.now.base.decor g (chars number) = subst (StaysLeft a.layout.now.base.decor g) (sym is_number) (number_left a.layout.now.base.decor a.layout.now.numbers g a.number (omega (arith, gutter))) in
+    let left_number : StaysLeft a.layout.now.base.decor g (chars number) = subst (StaysLeft a.layout.now.base.decor g) (sym is_number)
+    (number_left a.layout.now.base.decor a.layout.now.numbers g a.number (omega (arith, gutter))) in
     let free_text = All-from_none is_listed (chars text) (ap (list_any is_listed) is_text ∙ list_any-norm (chars a.line.now)) in
-    let signed = c.in_ok-puts-2.ensures.ok (omega arith) ∙ ap (λ n. cells_written c.puts.new.self a.row n (text_cells Removal (chars (45 ∷ 32 ∷ [])))) c.separator_cell.ensures.value in
-    let lined = λ (some : 0 < length c.as_str-2.result.now). c.in_ok-puts-3.ensures.ok some ∙ ap (λ n. cells_written c.puts-2.new.self a.row n (text_cells a.role (chars text))) c.inner_cell.ensures.value in
+    let signed = c.in_ok-puts-2.ensures.ok (omega arith) ∙ ap (λ n.
+    cells_written c.puts.new.self a.row n (text_cells Removal (chars (45 ∷ 32 ∷ [])))) c.separator_cell.ensures.value in
+    let lined = λ (some : 0 < length c.as_str-2.result.now). c.in_ok-puts-3.ensures.ok some
+    ∙ ap (λ n. cells_written c.puts-2.new.self a.row n (text_cells a.role (chars text))) c.inner_cell.ensures.value in
     record {
       added = λ above tail shares here is shared. subst
           (λ (t : List ℕ). AddsRow (IsRemovedRow a.layout.now.numbers a.layout.now.base.decor g (shown_number a.layout.now.numbers g a.number) t)

@@ -16,15 +16,19 @@ loop-line-preserved c =
     let next = c.if-index in
     let at : touched l.line ≡ get_or c.in_ok-touched.touched.items l.line false = sym (c.in_ok-touched.ensures.value l.line c.loop-line-test.true) in
     let within : l.line < length c.in_ok-touched.touched.items = omega (arith, c.loop-line-test.true, c.in_ok-touched.ensures.size) in
-    let told : touched l.line ≡ c.index.result.now = at ∙ get_or_default c.in_ok-touched.touched.items l.line false c.index.result.now within ∙ sym c.index.ensures in
+    let told : touched l.line ≡ c.index.result.now = at ∙ get_or_default c.in_ok-touched.touched.items l.line false c.index.result.now within
+    ∙ sym c.index.ensures in
     elim c.if-index.branch [
       | then-index+in_ok-push_run+in_ok-push w ↦
-          subst (λ (b : ℕ). Shows touched count b (l.line + 1) next.shown.items) (sym w.after-is) (subst (λ (v : Vec SuggestionLine Global). Shows touched count (l.line + 1) (l.line + 1) v.items) (sym w.shown-is) (record {
+          subst (λ (b : ℕ). Shows touched count b (l.line + 1) next.shown.items) (sym w.after-is)
+          (subst (λ (v : Vec SuggestionLine Global). Shows touched count (l.line + 1) (l.line + 1) v.items) (sym w.shown-is) (record {
             before = omega arith;
-            whole = touched_step touched l.shown.items w.push_run.new.shown.items w.push.new.self.items _ l.after l.line count c.loop-line-test.true (told ∙ w.if-index.true) w.in_ok-push_run.ensures.added w.in_ok-push.ensures.items l.invariant.whole;
+            whole = touched_step touched l.shown.items w.push_run.new.shown.items w.push.new.self.items _ l.after l.line count c.loop-line-test.true
+                (told ∙ w.if-index.true) w.in_ok-push_run.ensures.added w.in_ok-push.ensures.items l.invariant.whole;
           }))
       | else-index w ↦
-          subst (λ (b : ℕ). Shows touched count b (l.line + 1) next.shown.items) (sym w.after-is) (subst (λ (v : Vec SuggestionLine Global). Shows touched count l.after (l.line + 1) v.items) (sym w.shown-is) (record {
+          subst (λ (b : ℕ). Shows touched count b (l.line + 1) next.shown.items) (sym w.after-is)
+          (subst (λ (v : Vec SuggestionLine Global). Shows touched count l.after (l.line + 1) v.items) (sym w.shown-is) (record {
             before = omega (arith, l.invariant.before);
             whole = untouched_step touched l.shown.items _ l.after l.line count c.loop-line-test.true (told ∙ w.if-index.false) l.invariant.whole;
           }))
@@ -34,12 +38,14 @@ pub returns-clause-rising : goal.returns-clause-rising
 returns-clause-rising c =
     let touched = is_touched c.args.fold c.args.ranges.now in
     let l = c.loop-line in
-    let all = shown_all touched l.shown.items (lines_suggested touched c.args.count) l.after l.line c.args.count (omega (arith, c.loop-line-test.false)) l.invariant.whole in
+    let all = shown_all touched l.shown.items (lines_suggested touched c.args.count) l.after l.line c.args.count
+    (omega (arith, c.loop-line-test.false)) l.invariant.whole in
     subst (λ (shown : List SuggestionLine). AreRising 0 c.args.count (numbers_shown shown)) (sym all) (rising_shown touched c.args.count)
 
 pub returns-clause-touched : goal.returns-clause-touched
 returns-clause-touched c = λ k below holds.
     let touched = is_touched c.args.fold c.args.ranges.now in
     let l = c.loop-line in
-    let all = shown_all touched l.shown.items (lines_suggested touched c.args.count) l.after l.line c.args.count (omega (arith, c.loop-line-test.false)) l.invariant.whole in
+    let all = shown_all touched l.shown.items (lines_suggested touched c.args.count) l.after l.line c.args.count
+    (omega (arith, c.loop-line-test.false)) l.invariant.whole in
     subst (λ (shown : List SuggestionLine). Contains (numbers_shown shown) k) (sym all) (touched_shown touched c.args.count k below holds)

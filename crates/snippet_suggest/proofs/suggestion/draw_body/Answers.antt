@@ -38,7 +38,8 @@ pub returns-in_default-clause-added : goal.returns-in_default-clause-added
 returns-in_default-clause-added c = λ room above tail is shared.
     let a = c.args in
     let s = a.suggestion.now.snippet.now in
-    none_empty a.layout.now (s.line_start + first_given s) (given_lines s) (rows_of_suggestion a.start s) above c.draw_emptied.new.buffer (c.in_ok-draw_emptied.ensures.added above tail is shared)
+    none_empty a.layout.now (s.line_start + first_given s) (given_lines s) (rows_of_suggestion a.start s) above c.draw_emptied.new.buffer
+    (c.in_ok-draw_emptied.ensures.added above tail is shared)
 
 pub first_number-first-requires-clause-some : goal.first_number-first-requires-clause-some
 first_number-first-requires-clause-some c =
@@ -46,7 +47,8 @@ first_number-first-requires-clause-some c =
 
 pub first_number-first-requires-clause-originals : goal.first_number-first-requires-clause-originals
 first_number-first-requires-clause-originals c =
-    subst (λ (ps : List TrimmedPatch). All (λ p. IsSpan c.args.suggestion.now.map.text p.original_span.start p.original_span.end) ps) (sym c.deref.ensures.value) (known_originals c.args.suggestion.now c.requires.prepared)
+    subst (λ (ps : List TrimmedPatch). All (λ p. IsSpan c.args.suggestion.now.map.text p.original_span.start p.original_span.end) ps)
+    (sym c.deref.ensures.value) (known_originals c.args.suggestion.now c.requires.prepared)
 
 pub draw_changed-requires : goal.draw_changed-requires
 draw_changed-requires c =
@@ -56,7 +58,8 @@ draw_changed-requires c =
       prepared = c.requires.prepared;
       line = known_one p c.requires.prepared diff (λ l. l.now) c.args.lines.now c.in-Some.line.now (sym c.in-Some.ensures.value) c.requires.lines;
       diff = diff;
-      first = c.first_number-first.ensures.value ∙ ap (λ ps. p.map.first + (if p.snippet.now.fold then line_of (source_lines p.map.text) (first_original ps) else 0)) c.deref.ensures.value ∙ known_first p c.requires.prepared;
+      first = c.first_number-first.ensures.value ∙ ap (λ ps. p.map.first +
+          (if p.snippet.now.fold then line_of (source_lines p.map.text) (first_original ps) else 0)) c.deref.ensures.value ∙ known_first p c.requires.prepared;
     }
 
 pub returns-then-eq-clause-added : goal.returns-then-eq-clause-added
@@ -67,12 +70,16 @@ returns-then-eq-clause-added c = λ room above tail is shared.
     let lines = given_lines s in
     let new = c.draw_changed.new.buffer in
     let n : ℕ = c.first_number-first.result in
-    let first : n ≡ s.line_start + first_given s = c.first_number-first.ensures.value ∙ ap (λ ps. p.map.first + (if s.fold then line_of (source_lines p.map.text) (first_original ps) else 0)) c.deref.ensures.value ∙ known_first p c.requires.prepared in
+    let first : n ≡ s.line_start + first_given s = c.first_number-first.ensures.value
+    ∙ ap (λ ps. p.map.first + (if s.fold then line_of (source_lines p.map.text) (first_original ps) else 0)) c.deref.ensures.value
+    ∙ known_first p c.requires.prepared in
     let some : 0 < length lines = omega (arith, ap length c.requires.lines, length-map a.lines.now (λ l. l.now), c.in-Some.ensures.item.3.0) in
-    let fits : NumberFits a.layout.now n (Line 0) = subst (λ (m : ℕ). NumberFits a.layout.now m (Line 0)) (sym first) (numbers_fit a.layout.now s c.requires.prepared.suggestible room 0 some) in
+    let fits : NumberFits a.layout.now n (Line 0) = subst (λ (m : ℕ). NumberFits a.layout.now m (Line 0)) (sym first)
+    (numbers_fit a.layout.now s c.requires.prepared.suggestible room 0 some) in
     let head = c.in_ok-draw_head.ensures.added above tail is shared in
     let Adds : ℕ → ℕ → Type 0 = λ m skipped. AddsRows a.layout.now m lines (rows_of_suggestion a.start s) above (new ++ replicate skipped []) in
-    IfOk-weaker c.draw_changed.result (Adds n) (Adds (s.line_start + first_given s)) (λ skipped adds. subst (λ (m : ℕ). Adds m skipped) first adds) (c.draw_changed.ensures.added fits above head.row a.start head.added head.is)
+    IfOk-weaker c.draw_changed.result (Adds n) (Adds (s.line_start + first_given s)) (λ skipped adds.
+    subst (λ (m : ℕ). Adds m skipped) first adds) (c.draw_changed.ensures.added fits above head.row a.start head.added head.is)
 
 pub returns-clause-added : goal.returns-clause-added
 returns-clause-added c = λ room above tail is shared.
@@ -85,15 +92,20 @@ returns-clause-added c = λ room above tail is shared.
     let mid = c.draw_head.new.buffer in
     let new = c.draw_lines.new.buffer in
     let n : ℕ = c.first_number-first.result in
-    let first : n ≡ at = c.first_number-first.ensures.value ∙ ap (λ ps. p.map.first + (if s.fold then line_of (source_lines p.map.text) (first_original ps) else 0)) c.deref.ensures.value ∙ known_first p c.requires.prepared in
+    let first : n ≡ at = c.first_number-first.ensures.value ∙ ap (λ ps.
+    p.map.first + (if s.fold then line_of (source_lines p.map.text) (first_original ps) else 0)) c.deref.ensures.value
+    ∙ known_first p c.requires.prepared in
     let count : length a.lines.now ≡ length lines = sym (length-map a.lines.now (λ l. l.now)) ∙ ap length c.requires.lines in
-    let fits : (k : ℕ) → k < length a.lines.now → NumberFits l n (Line k) = λ k within. subst (λ (m : ℕ). NumberFits l m (Line k)) (sym first) (numbers_fit l s c.requires.prepared.suggestible room k (omega (arith, within, count))) in
+    let fits : (k : ℕ) → k < length a.lines.now → NumberFits l n (Line k) = λ k within.
+    subst (λ (m : ℕ). NumberFits l m (Line k)) (sym first) (numbers_fit l s c.requires.prepared.suggestible room k (omega (arith, within, count))) in
     let other : p.kind ≢ Diff = λ same. cc (c.if-eq.false, c.eq.ensures, true_same the_type p.kind Diff same) in
     let Shown : List LineRange → ℕ → List SuggestionRow = λ ranges m. map row_of_shown (lines_suggested (is_touched s.fold ranges) m) in
     let ranges : c.deref-2.result.now ≡ given_ranges s = c.deref-2.ensures.value ∙ c.requires.prepared.ranges in
-    let shown : Shown c.deref-2.result.now (length a.lines.now) ≡ Shown (given_ranges s) (length lines) = ap (λ rs. Shown rs (length a.lines.now)) ranges ∙ ap (Shown (given_ranges s)) count in
+    let shown : Shown c.deref-2.result.now (length a.lines.now) ≡ Shown (given_ranges s) (length lines) = ap (λ rs. Shown rs (length a.lines.now)) ranges
+    ∙ ap (Shown (given_ranges s)) count in
     let Adds : ℕ → List (List ℕ) → List SuggestionRow → Type 0 = λ m ls rs. AddsRows l m ls rs mid new in
-    let drawn : Adds n (map (λ l. l.now) a.lines.now) (Shown c.deref-2.result.now (length a.lines.now)) = rows_shown l n (map (λ l. l.now) a.lines.now) (lines_suggested (is_touched s.fold c.deref-2.result.now) (length a.lines.now)) mid new (c.in_ok-draw_lines.ensures.added fits) in
+    let drawn : Adds n (map (λ l. l.now) a.lines.now) (Shown c.deref-2.result.now (length a.lines.now)) = rows_shown l n (map (λ l. l.now) a.lines.now)
+    (lines_suggested (is_touched s.fold c.deref-2.result.now) (length a.lines.now)) mid new (c.in_ok-draw_lines.ensures.added fits) in
     let below : Adds at lines (Shown (given_ranges s) (length lines)) =
     subst (Adds at lines) shown
     (subst (λ (m : ℕ). Adds m lines
@@ -102,7 +114,9 @@ returns-clause-added c = λ room above tail is shared.
     let head = row_alone l at lines (Begins a.start) above mid (c.in_ok-draw_head.ensures.added above tail is shared) in
     let line = lines_some (λ l. l.now) a.lines.now lines c.in-Some.line.now (sym c.in-Some.ensures.value) c.requires.lines in
     let rows = rows_others a.start s _ line.0 line.1 (λ diff. other (c.requires.prepared.kind ∙ diff)) in
-    none_empty l at lines (rows_of_suggestion a.start s) above new (subst (λ rs. AddsRows l at lines rs above new) (sym rows) (rows_append l at lines (Begins a.start ∷ []) (Shown (given_ranges s) (length lines)) above mid new head below))
+    none_empty l at lines (rows_of_suggestion a.start s) above new (subst (λ rs.
+    AddsRows l at lines rs above new) (sym rows) (rows_append l at lines (Begins a.start ∷ [])
+    (Shown (given_ranges s) (length lines)) above mid new head below))
 
 pub returns-in_default-clause-cells : goal.returns-in_default-clause-cells
 returns-in_default-clause-cells c = λ above tail is count.
@@ -122,7 +136,9 @@ returns-clause-cells c = λ above tail is count.
     let lines = given_lines s in
     let new = c.draw_lines.new.buffer in
     let n : ℕ = c.first_number-first.result in
-    let first : n ≡ at = c.first_number-first.ensures.value ∙ ap (λ ps. p.map.first + (if p.snippet.now.fold then line_of (source_lines p.map.text) (first_original ps) else 0)) c.deref.ensures.value ∙ known_first p c.requires.prepared in
+    let first : n ≡ at = c.first_number-first.ensures.value ∙ ap (λ ps.
+    p.map.first + (if p.snippet.now.fold then line_of (source_lines p.map.text) (first_original ps) else 0)) c.deref.ensures.value
+    ∙ known_first p c.requires.prepared in
     let size : length a.lines.now ≡ length lines = sym (length-map a.lines.now (λ l. l.now)) ∙ ap length c.requires.lines in
     let other : p.kind ≢ Diff = λ same. cc (c.if-eq.false, c.eq.ensures, true_same the_type p.kind Diff same) in
     let ranges : c.deref-2.result.now ≡ given_ranges s = c.deref-2.ensures.value ∙ c.requires.prepared.ranges in
@@ -130,13 +146,15 @@ returns-clause-cells c = λ above tail is count.
     let begin : List Cell = begin_cells l a.start (row_at tail 0) in
     let stretches : ℕ → List SubstitutionHighlight = line_stretches c.deref-3.result.now in
     let same : (k : ℕ) → stretches k ≡ new_on s k = λ k. ap (λ vs. line_stretches vs k) c.deref-3.ensures.value ∙ c.requires.prepared.new k in
-    let Rows : DisplaySuggestion → ℕ → List (List ℕ) → List LineRange → ℕ → List (List Cell) = λ kind m ls rs k. map (suggestion_row l kind m ls stretches) (lines_suggested (is_touched s.fold rs) k) in
+    let Rows : DisplaySuggestion → ℕ → List (List ℕ) → List LineRange → ℕ → List (List Cell) = λ kind m ls rs k.
+    map (suggestion_row l kind m ls stretches) (lines_suggested (is_touched s.fold rs) k) in
     let drawn : Rows p.kind n (map (λ l. l.now) a.lines.now) c.deref-2.result.now (length a.lines.now) ≡ Rows (shown_kind s) at lines (given_ranges s)
     (length lines) = ap (λ kind. Rows kind n (map (λ l. l.now) a.lines.now) c.deref-2.result.now (length a.lines.now)) c.requires.prepared.kind
     ∙ ap (λ m. Rows (shown_kind s) m (map (λ l. l.now) a.lines.now) c.deref-2.result.now (length a.lines.now)) first
     ∙ ap (λ ls. Rows (shown_kind s) at ls c.deref-2.result.now (length a.lines.now)) c.requires.lines
     ∙ ap (λ rs. Rows (shown_kind s) at lines rs (length a.lines.now)) ranges ∙ ap (Rows (shown_kind s) at lines (given_ranges s)) size in
-    let below : Rows (shown_kind s) at lines (given_ranges s) (length lines) ≡ map (suggestion_row l (shown_kind s) at lines (new_on s)) shown = shown_same l (shown_kind s) at lines stretches (new_on s) shown same in
+    let below : Rows (shown_kind s) at lines (given_ranges s) (length lines)
+    ≡ map (suggestion_row l (shown_kind s) at lines (new_on s)) shown = shown_same l (shown_kind s) at lines stretches (new_on s) shown same in
     let line = lines_some (λ l. l.now) a.lines.now lines c.in-Some.line.now (sym c.in-Some.ensures.value) c.requires.lines in
     let kind : shown_kind s ≢ Diff = λ diff. other (c.requires.prepared.kind ∙ diff) in
     let rows = rows_others a.start s _ line.0 line.1 kind in

@@ -29,16 +29,21 @@ use Rattle.snippet_suggest.proofs.suggestion.draw_emptied.Goals as goal
 pub given_span-requires : goal.given_span-requires
 given_span-requires c =
     record {
-      originals = subst (λ (ps : List TrimmedPatch). All (λ p. IsSpan c.args.suggestion.now.map.text p.original_span.start p.original_span.end) ps) (sym c.deref.ensures.value) (known_originals c.args.suggestion.now c.requires.prepared);
+      originals = subst (λ (ps : List TrimmedPatch). All (λ p. IsSpan c.args.suggestion.now.map.text p.original_span.start p.original_span.end) ps)
+          (sym c.deref.ensures.value) (known_originals c.args.suggestion.now c.requires.prepared);
     }
 
 pub draw_removed_lines-requires-clause-some : goal.draw_removed_lines-requires-clause-some
 draw_removed_lines-requires-clause-some c =
-    subst (λ (infos : List LineInfo). 0 < length infos) (sym c.deref-then-eq.ensures.value) (touched_some c.args.suggestion.now.map c.in_ok-removed.removed.items c.given_span.result.start c.given_span.result.end c.given_span.ensures.span.ordered c.in_ok-removed.ensures.lines)
+    subst (λ (infos : List LineInfo). 0 < length infos) (sym c.deref-then-eq.ensures.value)
+    (touched_some c.args.suggestion.now.map c.in_ok-removed.removed.items c.given_span.result.start c.given_span.result.end
+    c.given_span.ensures.span.ordered c.in_ok-removed.ensures.lines)
 
 pub draw_removed_lines-requires-2-clause-some : goal.draw_removed_lines-requires-2-clause-some
 draw_removed_lines-requires-2-clause-some c =
-    subst (λ (infos : List LineInfo). 0 < length infos) (sym c.deref-2.ensures.value) (touched_some c.args.suggestion.now.map c.in_ok-removed.removed.items c.given_span.result.start c.given_span.result.end c.given_span.ensures.span.ordered c.in_ok-removed.ensures.lines)
+    subst (λ (infos : List LineInfo). 0 < length infos) (sym c.deref-2.ensures.value)
+    (touched_some c.args.suggestion.now.map c.in_ok-removed.removed.items c.given_span.result.start c.given_span.result.end
+    c.given_span.ensures.span.ordered c.in_ok-removed.ensures.lines)
 
 pub returns-then-eq : goal.returns-then-eq
 returns-then-eq c =
@@ -54,7 +59,8 @@ returns-then-eq c =
           let i : ℕ = line_of (source_lines p.map.text) span.start in
           let infos = c.in_ok-removed.removed.items in
           let diff : p.kind ≡ Diff = same_true the_type (search rules) p.kind Diff (sym c.if-eq.ensures) in
-          let some : 0 < length c.deref.result.now = subst (λ (ps : List TrimmedPatch). 0 < length ps) (sym c.deref.ensures.value) (known_some p c.requires.prepared) in
+          let some : 0 < length c.deref.result.now = subst (λ (ps : List TrimmedPatch). 0 < length ps) (sym c.deref.ensures.value)
+          (known_some p c.requires.prepared) in
           let starts = c.given_span.ensures.start ∙ ap (λ ps. if s.fold then first_original ps else 0) c.deref.ensures.value in
           let ends = c.given_span.ensures.end some ∙ ap (λ ps. if s.fold then first_original_end ps else length p.map.text) c.deref.ensures.value in
           let removed : removed_from i (numbered_at c.deref-then-eq.result.now) ≡ map (removed_row s) (removed_lines s) =
@@ -78,10 +84,12 @@ returns-then-eq c =
           let infos = c.in_ok-removed.removed.items in
           let lines : List (ℕ × List ℕ) = numbered_at c.deref-then-eq.result.now in
           let diff : p.kind ≡ Diff = same_true the_type (search rules) p.kind Diff (sym c.if-eq.ensures) in
-          let some : 0 < length c.deref.result.now = subst (λ (ps : List TrimmedPatch). 0 < length ps) (sym c.deref.ensures.value) (known_some p c.requires.prepared) in
+          let some : 0 < length c.deref.result.now = subst (λ (ps : List TrimmedPatch). 0 < length ps) (sym c.deref.ensures.value)
+          (known_some p c.requires.prepared) in
           let starts = c.given_span.ensures.start ∙ ap (λ ps. if s.fold then first_original ps else 0) c.deref.ensures.value in
           let ends = c.given_span.ensures.end some ∙ ap (λ ps. if s.fold then first_original_end ps else length p.map.text) c.deref.ensures.value in
-          let removed : removed_from i lines ≡ map (removed_row s) (removed_lines s) = ap (λ is. removed_from i (numbered_at is)) c.deref-then-eq.ensures.value ∙ known_emptied_rows p c.requires.prepared infos span.start span.end c.requires.none starts ends c.in_ok-removed.ensures.lines in
+          let removed : removed_from i lines ≡ map (removed_row s) (removed_lines s) = ap (λ is. removed_from i (numbered_at is)) c.deref-then-eq.ensures.value
+          ∙ known_emptied_rows p c.requires.prepared infos span.start span.end c.requires.none starts ends c.in_ok-removed.ensures.lines in
           let rows = rows_none_diff a.start s c.requires.none (sym c.requires.prepared.kind ∙ diff) ∙ ap (λ rs. Begins a.start ∷ rs) (sym removed) in
           let begun = c.in_ok-draw_head.ensures.cells above tail is count in
           let begin : List Cell = begin_cells a.layout.now a.start (row_at tail 0) in
@@ -105,7 +113,8 @@ returns c =
           let i : ℕ = line_of (source_lines p.map.text) span.start in
           let infos = c.in_ok-removed.removed.items in
           let other : p.kind ≢ Diff = λ same. cc (c.if-eq.false, c.eq.ensures, true_same the_type p.kind Diff same) in
-          let some : 0 < length c.deref.result.now = subst (λ (ps : List TrimmedPatch). 0 < length ps) (sym c.deref.ensures.value) (known_some p c.requires.prepared) in
+          let some : 0 < length c.deref.result.now = subst (λ (ps : List TrimmedPatch). 0 < length ps) (sym c.deref.ensures.value)
+          (known_some p c.requires.prepared) in
           let starts = c.given_span.ensures.start ∙ ap (λ ps. if s.fold then first_original ps else 0) c.deref.ensures.value in
           let ends = c.given_span.ensures.end some ∙ ap (λ ps. if s.fold then first_original_end ps else length p.map.text) c.deref.ensures.value in
           let removed : removed_from i (numbered_at c.deref-2.result.now) ≡ map (removed_row s) (removed_lines s) =
@@ -113,7 +122,8 @@ returns c =
           ∙ known_emptied_rows p c.requires.prepared infos span.start span.end c.requires.none starts ends c.in_ok-removed.ensures.lines in
           let rows = rows_none a.start s c.requires.none (λ diff. other (c.requires.prepared.kind ∙ diff)) in
           let Adds : List SuggestionRow → Type 0 = λ rs. AddsRows a.layout.now first (given_lines s) rs above new in
-          let row = tail_row a.layout.now (begins_in_last a.start) above tail a.buffer.now c.first_row-row.result is (start_tail a.layout.now a.start tail shared) c.first_row-row.ensures.value in
+          let row = tail_row a.layout.now (begins_in_last a.start) above tail a.buffer.now c.first_row-row.result is
+          (start_tail a.layout.now a.start tail shared) c.first_row-row.ensures.value in
           on_ok_weaker c.draw_removed_lines-2.result
           (λ adds. subst Adds (removed ∙ sym rows)
           (removed_rows a.layout.now first (given_lines s) i (numbered_at c.deref-2.result.now) above new adds))
@@ -127,12 +137,16 @@ returns c =
           let infos = c.in_ok-removed.removed.items in
           let lines : List (ℕ × List ℕ) = numbered_at c.deref-2.result.now in
           let other : p.kind ≢ Diff = λ same. cc (c.if-eq.false, c.eq.ensures, true_same the_type p.kind Diff same) in
-          let some : 0 < length c.deref.result.now = subst (λ (ps : List TrimmedPatch). 0 < length ps) (sym c.deref.ensures.value) (known_some p c.requires.prepared) in
+          let some : 0 < length c.deref.result.now = subst (λ (ps : List TrimmedPatch). 0 < length ps) (sym c.deref.ensures.value)
+          (known_some p c.requires.prepared) in
           let starts = c.given_span.ensures.start ∙ ap (λ ps. if s.fold then first_original ps else 0) c.deref.ensures.value in
           let ends = c.given_span.ensures.end some ∙ ap (λ ps. if s.fold then first_original_end ps else length p.map.text) c.deref.ensures.value in
-          let removed : removed_from i lines ≡ map (removed_row s) (removed_lines s) = ap (λ is. removed_from i (numbered_at is)) c.deref-2.ensures.value ∙ known_emptied_rows p c.requires.prepared infos span.start span.end c.requires.none starts ends c.in_ok-removed.ensures.lines in
+          let removed : removed_from i lines ≡ map (removed_row s) (removed_lines s) = ap (λ is. removed_from i (numbered_at is)) c.deref-2.ensures.value
+          ∙ known_emptied_rows p c.requires.prepared infos span.start span.end c.requires.none starts ends c.in_ok-removed.ensures.lines in
           let rows = rows_none a.start s c.requires.none (λ diff. other (c.requires.prepared.kind ∙ diff)) ∙ sym removed in
           let row : c.first_row-row.result ≡ length above = omega (arith, c.first_row-row.ensures.value, ap length is, count, length-append above tail) in
           let few : length tail ≤ 1 = shared_few a.start (length tail) count in
-          on_ok_weaker c.draw_removed_lines-2.result (λ drawn. drawn ∙ ap (λ rs. above ++ rs) (body_emptied a.layout.now a.start s (row_at tail 0) i lines c.requires.none rows)) (c.draw_removed_lines-2.ensures.cells above tail row is few);
+          on_ok_weaker c.draw_removed_lines-2.result (λ drawn. drawn ∙ ap (λ rs.
+          above ++ rs) (body_emptied a.layout.now a.start s (row_at tail 0) i lines c.requires.none rows))
+          (c.draw_removed_lines-2.ensures.cells above tail row is few);
     }

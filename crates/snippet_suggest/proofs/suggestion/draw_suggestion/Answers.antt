@@ -21,7 +21,8 @@ use Rattle.snippet_suggest.proofs.suggestion.draw_suggestion.Goals.{then-eq+in_o
 
 pub draw_marks-requires-clause-spans : goal.draw_marks-requires-clause-spans
 draw_marks-requires-clause-spans c =
-    subst (λ (ps : List TrimmedPatch). All (λ p. IsSpan c.args.suggestion.now.map.text p.span.start p.span.end) ps) (sym c.deref-then-eq.ensures.value) (known_spans c.args.suggestion.now c.requires.prepared)
+    subst (λ (ps : List TrimmedPatch). All (λ p. IsSpan c.args.suggestion.now.map.text p.span.start p.span.end) ps) (sym c.deref-then-eq.ensures.value)
+    (known_spans c.args.suggestion.now c.requires.prepared)
 
 pub returns : goal.returns
 returns c =
@@ -39,7 +40,8 @@ returns c =
           let ended : Ended c.draw_end.new.buffer = end_row l glyph skipped mid c.draw_end.new.buffer c.in_ok-row.ensures.added in
           let last : Ended c.if-eq.buffer = elim c.if-eq.branch [
             | then-eq+in_ok-draw_marks w ↦
-                subst Ended (sym w.buffer-is) (w.in_ok-draw_marks.ensures.marked before ended.row left (end_number skipped c.in_ok-row.row mid c.in_ok-row.ensures.row.0) ended.added ended.is)
+                subst Ended (sym w.buffer-is) (w.in_ok-draw_marks.ensures.marked before ended.row left
+                (end_number skipped c.in_ok-row.row mid c.in_ok-row.ensures.row.0) ended.added ended.is)
             | else-eq w ↦ subst Ended (sym w.buffer-is) ended
           ] in
           suggestion_added l a.start a.follows s skipped above mid c.if-eq.buffer (c.in_ok-skipped.ensures.added room above tail is shared) last;
@@ -58,13 +60,19 @@ returns c =
             | then-eq+in_ok-draw_marks w ↦
                 let kind : p.kind ≡ Underline = same_true the_type (search rules) p.kind Underline (sym w.if-eq.ensures) in
                 let marks : shown_kind s ≡ Underline = sym c.requires.prepared.kind ∙ kind in
-                let edits : map trimmed_edit_of w.deref-then-eq.result.now ≡ trimmed_of s = ap (map trimmed_edit_of) w.deref-then-eq.ensures.value ∙ c.requires.prepared.edits in
+                let edits : map trimmed_edit_of w.deref-then-eq.result.now ≡ trimmed_of s = ap (map trimmed_edit_of) w.deref-then-eq.ensures.value
+                ∙ c.requires.prepared.edits in
                 w.buffer-is ∙ w.in_ok-draw_marks.ensures.cells before row (end_number skipped c.in_ok-row.row mid c.in_ok-row.ensures.row.0) ended
                 ∙ ap (λ es. before ++ with_marks l p.map [] es row ∷ []) edits
                 ∙ ap (λ m. before ++ with_marks l m [] (trimmed_of s) row ∷ []) c.requires.prepared.lines
                 ∙ ap (λ (r : List Cell). before ++ r ∷ []) (ends_marked l s a.follows marks)
             | else-eq w ↦
-                let other : shown_kind s ≢ Underline = λ same. cc (w.if-eq.false, c.eq.ensures, true_same the_type p.kind Underline (c.requires.prepared.kind ∙ same)) in
+                let other : shown_kind s ≢ Underline = λ same. cc (
+                  w.if-eq.false,
+                  c.eq.ensures,
+                  true_same the_type p.kind Underline
+                      (c.requires.prepared.kind ∙ same),
+                ) in
                 w.buffer-is ∙ ended ∙ ap (λ (r : List Cell). before ++ r ∷ []) (ends_plain l s a.follows other)
           ] in
           suggestion_is l a.start a.follows s (row_at tail 0) above before c.if-eq.buffer (c.in_ok-skipped.ensures.cells above tail is count) last;

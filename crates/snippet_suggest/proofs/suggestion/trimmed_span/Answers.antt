@@ -16,7 +16,8 @@ returns-in-len1-clause-start c = λ some apart. first_begin c.args.patches.now _
 
 pub returns-in-len2-up-clause-span : goal.returns-in-len2-up-clause-span
 returns-in-len2-up-clause-span c =
-    joined_span c.args.source.now.text _ _ _ _ c.min.result c.min.ensures (c.requires.spans 0 _ (omega arith)) (c.requires.spans (length c.args.patches.now - 1) _ (omega arith))
+    joined_span c.args.source.now.text _ _ _ _ c.min.result c.min.ensures (c.requires.spans 0 _ (omega arith))
+    (c.requires.spans (length c.args.patches.now - 1) _ (omega arith))
 
 pub returns-in-len2-up-clause-end : goal.returns-in-len2-up-clause-end
 returns-in-len2-up-clause-end c = λ some apart. last_end 0 c.args.patches.now _ some

@@ -11,5 +11,6 @@ returns-then-is_plain-clause-value c = width_of-plain c.args.text.now (c.is_plai
 
 pub returns-clause-value : goal.returns-clause-value
 returns-clause-value c =
-    let all = YieldsList-end (YieldsList-from_chars c.args.text.now c.utf8.text cc) c.loop-c.yielded _ c.loop-c.yielded_by _ _ c.in-None.is c.next.ensures.steps in
+    let all = YieldsList-end (YieldsList-from_chars c.args.text.now c.utf8.text cc) c.loop-c.yielded _ c.loop-c.yielded_by _ _ c.in-None.is
+    c.next.ensures.steps in
     c.loop-c.invariant.0 ∙ ap width_of (sym (map-id _) ∙ all.0)

@@ -19,7 +19,8 @@ returns c =
     let ends : Bool = is_blank_after (line_at c.args.map.now end.line) end.char in
     let text : List ℕ = codes " to line " ++ line ++ column_words (column_unless ends end) in
     let other = cond-false (eqb start.line end.line) [] text (ne_eqb start.line end.line c.if-start-end.false) in
-    let column = c.column_unless.ensures.value ∙ ap (λ plain. column_unless plain end) (c.is_blank_after-ends.ensures.value ∙ ap (λ l. is_blank_after l end.char) c.get_line.ensures.value) in
+    let column = c.column_unless.ensures.value ∙ ap (λ plain. column_unless plain end)
+    (c.is_blank_after-ends.ensures.value ∙ ap (λ l. is_blank_after l end.char) c.get_line.ensures.value) in
     record {
       added = on_ok_weaker c.add_column.result
           (λ last. bare-three c.args.form.now c.add_text.new.self c.add_line.new.form c.add_column.new.form (codes " to line ")

@@ -6,7 +6,10 @@ use Rattle.snippet_text_form.proofs.cause.add_further_span.Goals as goal
 pub returns-in_ok-add_span : goal.returns-in_ok-add_span
 returns-in_ok-add_span c =
     let some = ap (λ label. ltb 0 (length label)) (sym c.in_ok-label.ensures.value) ∙ sym c.is_shown.ensures.value ∙ c.if-is_shown.true in
-    record { added = further-one (span_form c.args.anonymized c.args.map.now (chars c.args.indent.now) None) c.args.form.now c.add_span.new.form c.args.span.now some c.in_ok-add_span.ensures.added }
+    record {
+      added = further-one (span_form c.args.anonymized c.args.map.now
+          (chars c.args.indent.now) None) c.args.form.now c.add_span.new.form c.args.span.now some c.in_ok-add_span.ensures.added;
+    }
 
 pub returns-else-is_shown : goal.returns-else-is_shown
 returns-else-is_shown c =

@@ -7,4 +7,5 @@ use Rattle.snippet_text_form.proofs.cause.add_spans.Given as goal
 
 abbrev pub invariant-loop-span : goal.invariant-loop-span
 invariant-loop-span l =
-    l.form ≡ l.initial.form ++ flat_map (span_form l.anonymized l.source (chars l.indent) None) (filter is_labelled (map annotation_of (take l.span-index l.others)))
+    l.form ≡ l.initial.form ++ flat_map (span_form l.anonymized l.source (chars l.indent) None)
+    (filter is_labelled (map annotation_of (take l.span-index l.others)))

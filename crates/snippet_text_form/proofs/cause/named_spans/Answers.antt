@@ -7,7 +7,8 @@ use Rattle.snippet_text_form.proofs.cause.named_spans.Goals as goal
 
 pub returns : goal.returns
 returns c =
-    let are : map annotation_of c.loop-annotation.spans.items ≡ filter (λ a. is_marking a.kind) c.args.annotations.now = c.loop-annotation.invariant ∙ ap (filter (λ a. is_marking a.kind)) (take_all c.loop-annotation.annotation-index c.args.annotations.now (omega arith)) in
+    let are : map annotation_of c.loop-annotation.spans.items ≡ filter (λ a. is_marking a.kind) c.args.annotations.now = c.loop-annotation.invariant
+    ∙ ap (filter (λ a. is_marking a.kind)) (take_all c.loop-annotation.annotation-index c.args.annotations.now (omega arith)) in
     record {
       value = named_spans-is c.loop-annotation.spans.items c.sort_by.new.self.items c.args.annotations.now
           (c.in_ok-sort_by.ensures.sorted span_before span_before-order (answers_always _ _ _ (λ f a r g h. search (rules, compare-tells))))

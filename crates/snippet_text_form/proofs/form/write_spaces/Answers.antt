@@ -9,7 +9,9 @@ loop-init c = sym (append-nil (string_bytes c.args.out.now))
 pub loop-preserved : goal.loop-preserved
 loop-preserved c =
     let old : List ℕ = string_bytes c.args.out.now in
-    c.in_ok-push.ensures.bytes ∙ ap (λ (bs : List ℕ). string_bytes c.loop.out ++ bs) (encode_ascii 32 (omega arith)) ∙ ap (λ (bs : List ℕ). bs ++ 32 ∷ []) c.loop.invariant ∙ append_assoc old (replicate c.loop.counter 32) (32 ∷ []) ∙ ap (λ (bs : List ℕ). old ++ bs) (replicate_more c.loop.counter 32)
+    c.in_ok-push.ensures.bytes ∙ ap (λ (bs : List ℕ). string_bytes c.loop.out ++ bs) (encode_ascii 32 (omega arith))
+    ∙ ap (λ (bs : List ℕ). bs ++ 32 ∷ []) c.loop.invariant ∙ append_assoc old (replicate c.loop.counter 32) (32 ∷ [])
+    ∙ ap (λ (bs : List ℕ). old ++ bs) (replicate_more c.loop.counter 32)
 
 pub returns : goal.returns
 returns c =

@@ -10,7 +10,8 @@ use Rattle.snippet_text_form.proofs.heading.add_colon.Goals.{else-hidden-via-the
 pub returns : goal.returns
 returns c =
     let known : styled c.args.role (chars (58 ∷ 32 ∷ [])) ≡ colon_form c.args.role c.args.hidden (option_copied c.args.id) = elim c.else-hidden.branch [
-      | else-hidden-via-then-hidden+else-not-is_set w ↦ colon_set c.args.role c.args.hidden (option_copied c.args.id) (sym w.is_set.ensures.value ∙ w.if-not-is_set.false)
+      | else-hidden-via-then-hidden+else-not-is_set w ↦ colon_set c.args.role c.args.hidden (option_copied c.args.id)
+          (sym w.is_set.ensures.value ∙ w.if-not-is_set.false)
       | else-hidden-via-else-hidden w ↦ colon_named c.args.role c.args.hidden (option_copied c.args.id) w.if-hidden.false
     ] in
     record {

@@ -12,7 +12,8 @@ loop-index-init g c = (sym (append-nil c.args.form.now), tt)
 
 pub loop-index-preserved : goal.loop-index-preserved
 loop-index-preserved g c =
-    let turn = YieldsList-turn (YieldsList-from_enumerate (YieldsList-from_str_split 10 c.text.result.now (lit< tt) (cc) (cc) (cc)) (cc)) c.loop-index.yielded _ c.loop-index.yielded_by _ _ _ c.in-Some.is c.next.ensures.steps in
+    let turn = YieldsList-turn (YieldsList-from_enumerate (YieldsList-from_str_split 10 c.text.result.now (lit< tt) (cc) (cc) (cc))
+    (cc)) c.loop-index.yielded _ c.loop-index.yielded_by _ _ _ c.in-Some.is c.next.ensures.steps in
     let added = line_added _ _ _ _ c.args.role _ _ c.allows_styling-trusted.result c.loop-index.yielded c.in-Some.line _
     (number_is (lines_at c.text.result.now) _ _ _ turn.0 turn.1)
     c.loop-index.invariant.0 c.in_ok-width.ensures.added c.in_ok-add_styled.ensures.added c.in_ok-shown_line.ensures.value in
@@ -20,8 +21,10 @@ loop-index-preserved g c =
 
 pub returns : goal.returns
 returns g c =
-    let all = YieldsList-end (YieldsList-from_enumerate (YieldsList-from_str_split 10 c.text.result.now (lit< tt) (cc) (cc) (cc)) (cc)) c.loop-index.yielded _ c.loop-index.yielded_by _ _ c.in-None.is c.next.ensures.steps in
-    let lines = shown_lines-all _ c.allows_styling-trusted.result _ c.text.result.now c.loop-index.yielded c.allows_styling-trusted.ensures c.text.utf8 c.text.ensures all.0 in
+    let all = YieldsList-end (YieldsList-from_enumerate (YieldsList-from_str_split 10 c.text.result.now (lit< tt) (cc) (cc) (cc))
+    (cc)) c.loop-index.yielded _ c.loop-index.yielded_by _ _ c.in-None.is c.next.ensures.steps in
+    let lines = shown_lines-all _ c.allows_styling-trusted.result _ c.text.result.now c.loop-index.yielded c.allows_styling-trusted.ensures c.text.utf8
+    c.text.ensures all.0 in
     record {
       added = all_added _ _ _ _ _ _ _ c.loop-index.invariant.0 lines;
     }

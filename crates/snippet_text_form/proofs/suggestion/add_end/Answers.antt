@@ -26,15 +26,24 @@ returns c =
       added = on_ok_weaker {Q = Added} c.add_number.result (λ last.
           elim c.if-start-end.branch [
             | then-start-end+in_ok-add_text w ↦
-                let first : mid ≡ old ++ bare (codes " to column ") = w.form-is ∙ w.in_ok-add_text.ensures.added ∙ ap (λ text. old ++ bare text) (chars-encodes (codes " to column ") refl) in
-                text-two old mid new (codes " to column ") digits first last ∙ ap (λ text. old ++ bare text) (sym (cond-true (a.start.line == a.end.line) column place (eq-eqb a.start.line a.end.line w.if-start-end.true)))
+                let first : mid ≡ old ++ bare (codes " to column ") = w.form-is ∙ w.in_ok-add_text.ensures.added
+                ∙ ap (λ text. old ++ bare text) (chars-encodes (codes " to column ") refl) in
+                text-two old mid new (codes " to column ") digits first last
+                ∙ ap (λ text. old ++ bare text) (sym (cond-true (a.start.line == a.end.line) column place
+                (eq-eqb a.start.line a.end.line w.if-start-end.true)))
             | else-start-end+in_ok-add_text-2+in_ok-add_line+in_ok-add_text-3 w ↦
                 let led : List FormPiece = w.add_text-else-start-end.new.self in
                 let named : List FormPiece = w.add_line.new.form in
-                let first : led ≡ old ++ bare (codes " to line ") = w.in_ok-add_text-2.ensures.added ∙ ap (λ text. old ++ bare text) (chars-encodes (codes " to line ") refl) in
-                let second : named ≡ old ++ bare (codes " to line " ++ name) = text-two old led named (codes " to line ") name first w.in_ok-add_line.ensures.added in
-                let third : mid ≡ named ++ bare (codes ", column ") = w.form-is ∙ w.in_ok-add_text-3.ensures.added ∙ ap (λ text. named ++ bare text) (chars-encodes (codes ", column ") refl) in
-                let front : mid ≡ old ++ bare (codes " to line " ++ name ++ codes ", column ") = text-two old named mid (codes " to line " ++ name) (codes ", column ") second third in
-                text-two old mid new (codes " to line " ++ name ++ codes ", column ") digits front last ∙ ap (λ text. old ++ bare text) (sym (cond-false (a.start.line == a.end.line) column place (ne_eqb a.start.line a.end.line w.if-start-end.false)))
+                let first : led ≡ old ++ bare (codes " to line ") = w.in_ok-add_text-2.ensures.added
+                ∙ ap (λ text. old ++ bare text) (chars-encodes (codes " to line ") refl) in
+                let second : named ≡ old ++ bare (codes " to line " ++ name) = text-two old led named
+                (codes " to line ") name first w.in_ok-add_line.ensures.added in
+                let third : mid ≡ named ++ bare (codes ", column ") = w.form-is ∙ w.in_ok-add_text-3.ensures.added
+                ∙ ap (λ text. named ++ bare text) (chars-encodes (codes ", column ") refl) in
+                let front : mid ≡ old ++ bare (codes " to line " ++ name ++ codes ", column ") = text-two old named mid (codes " to line " ++ name)
+                (codes ", column ") second third in
+                text-two old mid new (codes " to line " ++ name ++ codes ", column ") digits front last
+                ∙ ap (λ text. old ++ bare text) (sym (cond-false (a.start.line == a.end.line) column place
+                (ne_eqb a.start.line a.end.line w.if-start-end.false)))
           ]) c.add_number.ensures.added;
     }

@@ -16,7 +16,8 @@ returns c =
     let named : List FormPiece = c.add_text.new.self in
     let new : List FormPiece = c.add_number.new.self in
     let digits : List ℕ = decimal c.in-Some.number in
-    let name : named ≡ begun ++ bare (codes " option ") = c.in_ok-add_text.ensures.added ∙ ap (λ text. begun ++ bare text) (chars-encodes (codes " option ") refl) in
+    let name : named ≡ begun ++ bare (codes " option ") = c.in_ok-add_text.ensures.added
+    ∙ ap (λ text. begun ++ bare text) (chars-encodes (codes " option ") refl) in
     record {
       added = on_ok_weaker c.add_number.result
           (λ last. adds_line old begun new (bare (codes " option " ++ digits))

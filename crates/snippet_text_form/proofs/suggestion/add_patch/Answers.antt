@@ -21,8 +21,10 @@ returns c =
     let indented : List FormPiece = c.add_text.new.self in
     let placed : List FormPiece = c.add_patch_place.new.form in
     let new : List FormPiece = c.add_replacement.new.form in
-    let stands : placed ≡ indented ++ bare (place at) = c.in_ok-add_patch_place.ensures.added ∙ ap (λ l. indented ++ bare (place l)) c.span_to_locations.ensures.value in
-    let front : placed ≡ begun ++ bare (chars a.indent.now ++ place at) = text-two begun indented placed (chars a.indent.now) (place at) c.in_ok-add_text.ensures.added stands in
+    let stands : placed ≡ indented ++ bare (place at) = c.in_ok-add_patch_place.ensures.added
+    ∙ ap (λ l. indented ++ bare (place l)) c.span_to_locations.ensures.value in
+    let front : placed ≡ begun ++ bare (chars a.indent.now ++ place at) = text-two begun indented placed (chars a.indent.now)
+    (place at) c.in_ok-add_text.ensures.added stands in
     record {
       added = on_ok_weaker c.add_replacement.result
           (λ last. adds_line a.form.now begun new (bare (chars a.indent.now ++ place at) ++ added)

@@ -22,7 +22,8 @@ returns-in_ok-add_place c =
     let old : List FormPiece = a.form.now in
     let mid : List FormPiece = c.add_place.new.form in
     let new : List FormPiece = c.add_end.new.form in
-    let over : overwrites a.map.now.text e ≡ true = sym (seen_over c.source.result.now a.map.now.text e c.overwrites.result c.source.ensures.value c.requires.span c.overwrites.ensures.value) ∙ c.if-overwrites.true in
+    let over : overwrites a.map.now.text e ≡ true = sym (seen_over c.source.result.now a.map.now.text e c.overwrites.result c.source.ensures.value
+    c.requires.span c.overwrites.ensures.value) ∙ c.if-overwrites.true in
     let given : is_blank e.text ≡ false = sym c.is_blank.ensures.value ∙ c.if-not-is_blank.true in
     record {
       added = on_ok_weaker c.add_end.result
@@ -38,14 +39,18 @@ returns-else-overwrites c =
     let path : Option (List ℕ) = option_copied a.path in
     let old : List FormPiece = a.form.now in
     let over = overwrites a.map.now.text e in
-    let seen : c.overwrites.result ≡ over = seen_over c.source.result.now a.map.now.text e c.overwrites.result c.source.ensures.value c.requires.span c.overwrites.ensures.value in
+    let seen : c.overwrites.result ≡ over = seen_over c.source.result.now a.map.now.text e c.overwrites.result c.source.ensures.value c.requires.span
+    c.overwrites.ensures.value in
     let other : replaces a.map.now.text e ≡ false = elim c.else-overwrites.branch [
       | else-overwrites-via-then-overwrites+else-not-is_blank w ↦
           and_right over (not (is_blank e.text)) (ap not (sym w.is_blank.ensures.value ∙ w.if-not-is_blank.false))
       | else-overwrites-via-else-overwrites w ↦
           and_left over (not (is_blank e.text)) (sym seen ∙ w.if-overwrites.false)
     ] in
-    let column : c.column_unless-column.result ≡ column_unless (replaces_whole_line a.map.now a.start a.end e) a.start = c.column_unless-column.ensures.value ∙ ap (λ whole. column_unless whole a.start) c.is_whole_line-whole.ensures.value in
+    let column : c.column_unless-column.result ≡ column_unless (replaces_whole_line a.map.now a.start a.end e) a.start = c.column_unless-column.ensures.value
+    ∙ ap (λ whole. column_unless whole a.start) c.is_whole_line-whole.ensures.value in
     record {
-      added = on_ok_weaker c.add_place-else-overwrites.result (λ added. added ∙ ap (λ to. old ++ bare (place a.anonymized path a.start.line to)) column ∙ ap (λ text. old ++ bare text) (sym (other_place a.anonymized a.map.now path e a.start a.end other))) c.add_place-else-overwrites.ensures.added;
+      added = on_ok_weaker c.add_place-else-overwrites.result (λ added.
+          added ∙ ap (λ to. old ++ bare (place a.anonymized path a.start.line to)) column
+          ∙ ap (λ text. old ++ bare text) (sym (other_place a.anonymized a.map.now path e a.start a.end other))) c.add_place-else-overwrites.ensures.added;
     }

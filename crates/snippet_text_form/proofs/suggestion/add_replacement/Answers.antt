@@ -28,12 +28,16 @@ returns c =
     let given : is_blank e.text ≡ false = sym c.is_blank.ensures.value ∙ c.if-is_blank.false in
     let led : chars c.if-overwrites.add_text.now ≡ lead = elim c.if-overwrites.branch [
       | then-overwrites w ↦
-          ap (λ (t : Bor (List ℕ)). chars t.now) w.add_text-is ∙ chars-encodes (codes " replace with: ") refl ∙ sym (cond-true over (codes " replace with: ") (codes " add: ") (sym (c.overwrites.ensures.value c.requires.span) ∙ w.if-overwrites.true))
+          ap (λ (t : Bor (List ℕ)). chars t.now) w.add_text-is ∙ chars-encodes (codes " replace with: ") refl
+          ∙ sym (cond-true over (codes " replace with: ") (codes " add: ") (sym (c.overwrites.ensures.value c.requires.span) ∙ w.if-overwrites.true))
       | else-overwrites w ↦
-          ap (λ (t : Bor (List ℕ)). chars t.now) w.add_text-is ∙ chars-encodes (codes " add: ") refl ∙ sym (cond-false over (codes " replace with: ") (codes " add: ") (sym (c.overwrites.ensures.value c.requires.span) ∙ w.if-overwrites.false))
+          ap (λ (t : Bor (List ℕ)). chars t.now) w.add_text-is ∙ chars-encodes (codes " add: ") refl
+          ∙ sym (cond-false over (codes " replace with: ") (codes " add: ") (sym (c.overwrites.ensures.value c.requires.span) ∙ w.if-overwrites.false))
     ] in
     let front : mid ≡ old ++ bare lead = c.in_ok-add_text.ensures.added ∙ ap (λ text. old ++ bare text) led in
-    let shown : chars (cow_str_bytes c.in_ok-normalized.field-0) ≡ norm (chars (without_final_line_feeds e.text)) = c.in_ok-normalized.ensures.value ∙ ap (λ text. norm (chars text)) c.without_final_line_feeds-text.ensures.value in
+    let shown : chars (cow_str_bytes c.in_ok-normalized.field-0) ≡ norm (chars (without_final_line_feeds e.text)) = c.in_ok-normalized.ensures.value
+    ∙ ap (λ text. norm (chars text)) c.without_final_line_feeds-text.ensures.value in
     record {
-      added = on_ok_weaker c.add_styled.result (λ last. added-two old mid new (bare lead) form front (last ∙ ap (λ text. mid ++ styled Addition text) shown) ∙ ap (λ pieces. old ++ pieces) (sym (cond-false (is_blank e.text) [] (bare lead ++ form) given))) c.add_styled.ensures.added;
+      added = on_ok_weaker c.add_styled.result (λ last. added-two old mid new (bare lead) form front (last ∙ ap (λ text. mid ++ styled Addition text) shown)
+          ∙ ap (λ pieces. old ++ pieces) (sym (cond-false (is_blank e.text) [] (bare lead ++ form) given))) c.add_styled.ensures.added;
     }

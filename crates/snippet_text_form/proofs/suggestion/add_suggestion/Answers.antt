@@ -19,13 +19,17 @@ loop-patch-init c =
 pub add_patch-requires : goal.add_patch-requires
 add_patch-requires c =
     let p = c.args.suggestion.now in
-    let spans : All (λ (t : TrimmedPatch). IsSpan p.map.text t.span.start t.span.end) c.deref-patch-items.result.now = subst (λ (ts : List TrimmedPatch). All (λ t. IsSpan p.map.text t.span.start t.span.end) ts) (sym c.deref-patch-items.ensures.value) (known_spans p c.requires.prepared) in
+    let spans : All (λ (t : TrimmedPatch). IsSpan p.map.text t.span.start t.span.end) c.deref-patch-items.result.now = subst
+    (λ (ts : List TrimmedPatch). All (λ t. IsSpan p.map.text t.span.start t.span.end) ts) (sym c.deref-patch-items.ensures.value)
+    (known_spans p c.requires.prepared) in
     record { span = spans c.loop-patch.patch-index _ c.loop-patch-test.true }
 
 pub loop-patch-preserved : goal.loop-patch-preserved
 loop-patch-preserved c =
-    let added : Edit → List FormPiece = edit_form c.args.anonymized c.args.suggestion.now.map (chars c.indent_below-indent.result.now) (option_copied c.shown_path-path.result) in
-    edits_more added c.add_option.new.form c.loop-patch.form c.add_patch.new.form c.deref-patch-items.result.now c.loop-patch.patch-index _ c.loop-patch-test.true c.loop-patch.invariant c.in_ok-add_patch.ensures.added
+    let added : Edit → List FormPiece = edit_form c.args.anonymized c.args.suggestion.now.map (chars c.indent_below-indent.result.now)
+    (option_copied c.shown_path-path.result) in
+    edits_more added c.add_option.new.form c.loop-patch.form c.add_patch.new.form c.deref-patch-items.result.now c.loop-patch.patch-index _
+    c.loop-patch-test.true c.loop-patch.invariant c.in_ok-add_patch.ensures.added
 
 pub returns : goal.returns
 returns c =
@@ -34,7 +38,9 @@ returns c =
     let begun : List FormPiece = c.add_option.new.form in
     let indent : List ℕ = chars c.indent_below-indent.result.now in
     let path : Option (List ℕ) = option_copied c.shown_path-path.result in
-    let all : take c.loop-patch.patch-index c.deref-patch-items.result.now ≡ p.splice.patches.items = take_all c.loop-patch.patch-index c.deref-patch-items.result.now c.loop-patch-test.false ∙ c.deref-patch-items.ensures.value in
+    let all : take c.loop-patch.patch-index c.deref-patch-items.result.now
+    ≡ p.splice.patches.items = take_all c.loop-patch.patch-index c.deref-patch-items.result.now c.loop-patch-test.false
+    ∙ c.deref-patch-items.ensures.value in
     record {
       added = suggestion_added a.anonymized a.place p indent path a.form.now begun c.loop-patch.form c.requires.prepared
           c.indent_below-indent.ensures.value c.shown_path-path.ensures.value c.in_ok-add_option.ensures.added

@@ -11,7 +11,8 @@ overflow_add-start g c =
 
 pub draw_id-requires-clause-start : goal.draw_id-requires-clause-start
 draw_id-requires-clause-start g c =
-    name_start _ _ c.args.row _ _ _ (chars c.as_str.result.now) c.requires.start c.in_ok-extend_row.ensures.extended (c.char_count.ensures.value ∙ ap (λ bytes. length (chars bytes)) (c.as_str-2.ensures.value ∙ sym c.as_str.ensures.value))
+    name_start _ _ c.args.row _ _ _ (chars c.as_str.result.now) c.requires.start c.in_ok-extend_row.ensures.extended
+    (c.char_count.ensures.value ∙ ap (λ bytes. length (chars bytes)) (c.as_str-2.ensures.value ∙ sym c.as_str.ensures.value))
 
 pub draw_id-requires-clause-short : goal.draw_id-requires-clause-short
 draw_id-requires-clause-short g c =
@@ -22,5 +23,6 @@ pub returns : goal.returns
 returns g c =
     let name : chars c.as_str.result.now ≡ norm (chars (name_of c.level-level.result.now)) = ap chars c.as_str.ensures.value ∙ c.in_ok-name.ensures.value in
     record {
-      extended = label_drawn _ _ _ _ _ c.args.hyperlink c.args.roles _ _ _ _ _ _ _ c.level-level.ensures c.is_hidden-hidden.ensures.value name c.id.ensures c.colon.ensures.value c.id-2.ensures c.in_ok-extend_row.ensures.extended c.in_ok-draw_id.ensures.extended c.in_ok-extend_row-2.ensures.extended;
+      extended = label_drawn _ _ _ _ _ c.args.hyperlink c.args.roles _ _ _ _ _ _ _ c.level-level.ensures c.is_hidden-hidden.ensures.value name c.id.ensures
+          c.colon.ensures.value c.id-2.ensures c.in_ok-extend_row.ensures.extended c.in_ok-draw_id.ensures.extended c.in_ok-extend_row-2.ensures.extended;
     }

@@ -9,5 +9,6 @@ returns c =
     let wrote = rw (c.separator_cell.ensures.value ∙ ap separator_cell (sym c.layout.view_is)) at c.puts.ensures.ok in
     rw (← c.layout.view_is) (record {
       row = on_ok_weaker c.puts.result
-          (λ writes. closing_row-begun c.args.buffer.now c.puts.new.self c.num_lines-row.result c.layout.inside.gutter c.closing.result.now c.layout.inside.decor c.num_lines-row.ensures.count c.closing.ensures.value writes) wrote;
+          (λ writes. closing_row-begun c.args.buffer.now c.puts.new.self c.num_lines-row.result c.layout.inside.gutter c.closing.result.now
+          c.layout.inside.decor c.num_lines-row.ensures.count c.closing.ensures.value writes) wrote;
     })

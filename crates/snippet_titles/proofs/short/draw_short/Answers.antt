@@ -8,7 +8,8 @@ use Rattle.snippet_titles.proofs.short.draw_short.Goals as goal
 
 pub draw_label-requires-clause-start : goal.draw_label-requires-clause-start
 draw_label-requires-clause-start g c =
-    sign_begun _ _ _ _ _ c.num_lines-row.ensures.count c.in_ok-extend_row.ensures.extended (c.char_count.ensures.value ∙ sym (length-text_cells LineAndColumn (chars c.args.before.now)))
+    sign_begun _ _ _ _ _ c.num_lines-row.ensures.count c.in_ok-extend_row.ensures.extended
+    (c.char_count.ensures.value ∙ sym (length-text_cells LineAndColumn (chars c.args.before.now)))
 
 pub draw_text-requires-clause-last : goal.draw_text-requires-clause-last
 draw_text-requires-clause-last g c =

@@ -7,4 +7,7 @@ use Rattle.snippet_window.proofs.extent.label_end.Goals as goal
 pub returns-in-Some : goal.returns-in-Some
 returns-in-Some c =
     let end = c.args.entry.now.end.display in
-    record { value = c.saturating_add.ensures ∙ ap (λ n. capped_sum end (n + 1)) c.str_width.ensures.value ∙ ap (λ l. end_with end (option_copied l)) (sym c.in-Some.is) }
+    record {
+      value = c.saturating_add.ensures ∙ ap (λ n. capped_sum end (n + 1)) c.str_width.ensures.value
+          ∙ ap (λ l. end_with end (option_copied l)) (sym c.in-Some.is);
+    }

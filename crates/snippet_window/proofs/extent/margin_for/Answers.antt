@@ -29,7 +29,9 @@ loop-line-preserved c =
     elim c.if-not-line.branch [
       | then-not-line w ↦
           let next = kept_of-next lines i line c.loop-line-test.true c.line-item.is w.if-not-line.true in
-          subst (λ is. ReachesLines is c.if-not-line.extent) (sym next) (subst (ReachesLines (kept_of (take i lines) ++ line.info ∷ [])) (sym w.extent-is) (w.add_line.ensures.adds (kept_of (take i lines)) c.loop-line.invariant))
+          subst (λ is. ReachesLines is c.if-not-line.extent) (sym next)
+          (subst (ReachesLines (kept_of (take i lines) ++ line.info ∷ [])) (sym w.extent-is)
+          (w.add_line.ensures.adds (kept_of (take i lines)) c.loop-line.invariant))
       | else-not-line w ↦
           let past = kept_of-past lines i line c.loop-line-test.true c.line-item.is w.if-not-line.false in
           subst (λ is. ReachesLines is c.if-not-line.extent) (sym past) (subst (ReachesLines (kept_of (take i lines))) (sym w.extent-is) c.loop-line.invariant)

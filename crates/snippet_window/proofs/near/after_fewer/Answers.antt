@@ -19,4 +19,6 @@ returns-else-columns-eq0-clause-near c most =
 pub returns-else-columns-eq0-clause-rest : goal.returns-else-columns-eq0-clause-rest
 returns-else-columns-eq0-clause-rest c =
     let cs = chars c.args.text.now in
-    ap chars c.range_from.ensures.value ∙ cut_back c.args.text.now (fitting (c.args.columns - 1) cs) c.fitting_end-at.result.0 c.utf8.text c.fitting_end-at.ensures.bytes ∙ ap (λ n. drop n cs) (sym (falling_short-some c.args.columns cs (omega arith)))
+    ap chars c.range_from.ensures.value ∙ cut_back c.args.text.now (fitting
+    (c.args.columns - 1) cs) c.fitting_end-at.result.0 c.utf8.text c.fitting_end-at.ensures.bytes
+    ∙ ap (λ n. drop n cs) (sym (falling_short-some c.args.columns cs (omega arith)))

@@ -8,7 +8,8 @@ use Rattle.snippet_window.proofs.near.near_part.Goals as goal
 
 pub part_reaching-requires-clause-width : goal.part_reaching-requires-clause-width
 part_reaching-requires-clause-width c =
-    width_left (falling_short c.left-left.result (chars c.args.line.now)) c.after_fewer-skipped.result.0 c.args.width (chars c.args.line.now) (chars c.after_fewer-skipped.result.1.now) c.requires.width c.after_fewer-skipped.ensures.width c.after_fewer-skipped.ensures.rest
+    width_left (falling_short c.left-left.result (chars c.args.line.now)) c.after_fewer-skipped.result.0 c.args.width (chars c.args.line.now)
+    (chars c.after_fewer-skipped.result.1.now) c.requires.width c.after_fewer-skipped.ensures.width c.after_fewer-skipped.ensures.rest
 
 pub returns-clause-holds : goal.returns-clause-holds
 returns-clause-holds c =
@@ -18,4 +19,5 @@ returns-clause-holds c =
     let skipped = c.after_fewer-skipped.ensures.width ∙ ap (λ n. width_of (take (falling_short n cs) cs)) left in
     let rest = c.after_fewer-skipped.ensures.rest ∙ ap (λ n. drop (falling_short n cs) cs) left in
     let right = right_is c.args.margin.term_width bounds.left bounds.right c.args.width c.right.result cs c.requires.width c.right.ensures.value in
-    near_holds c.args.margin.term_width bounds.left bounds.right c.after_fewer-skipped.result.0 _ cs (chars c.after_fewer-skipped.result.1.now) (chars c.part_reaching.result.now) skipped rest (omega (arith, left, c.saturating_sub-columns.ensures, right)) c.part_reaching.ensures.value
+    near_holds c.args.margin.term_width bounds.left bounds.right c.after_fewer-skipped.result.0 _ cs (chars c.after_fewer-skipped.result.1.now)
+    (chars c.part_reaching.result.now) skipped rest (omega (arith, left, c.saturating_sub-columns.ensures, right)) c.part_reaching.ensures.value

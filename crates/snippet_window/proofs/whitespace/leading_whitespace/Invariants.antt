@@ -7,4 +7,5 @@ use Rattle.snippet_window.proofs.whitespace.leading_whitespace.Given as goal
 
 abbrev pub invariant-loop-c : goal.invariant-loop-c
 invariant-loop-c l =
-    (option_map (λ columns. l.columns + columns) (leading_whitespace (drop (length l.yielded) (chars l.line))) ≡ leading_whitespace (chars l.line)) × (l.columns + 4 * length l.c-iterator.rest.now ≤ 4 * length l.line)
+    (option_map (λ columns. l.columns + columns) (leading_whitespace (drop (length l.yielded) (chars l.line))) ≡ leading_whitespace (chars l.line))
+    × (l.columns + 4 * length l.c-iterator.rest.now ≤ 4 * length l.line)

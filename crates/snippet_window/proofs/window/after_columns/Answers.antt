@@ -9,4 +9,5 @@ range_from-requires c _ =
 
 pub returns-clause-rest : goal.returns-clause-rest
 returns-clause-rest c =
-    ap chars c.range_from.ensures.value ∙ cut_back c.args.text.now (reaching c.args.columns (chars c.args.text.now)) c.reaching_end-at.result.0 c.utf8.text c.reaching_end-at.ensures.bytes
+    ap chars c.range_from.ensures.value ∙ cut_back c.args.text.now (reaching c.args.columns
+    (chars c.args.text.now)) c.reaching_end-at.result.0 c.utf8.text c.reaching_end-at.ensures.bytes

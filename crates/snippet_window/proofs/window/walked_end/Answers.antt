@@ -13,25 +13,36 @@ loop-c-init c = fits_start c.args.columns (chars c.args.text.now)
 pub returns-then-width-left-clause-bytes : goal.returns-then-width-left-clause-bytes
 returns-then-width-left-clause-bytes c =
     let cs = chars c.args.text.now in
-    let at = YieldsList-turn (YieldsList-from_chars c.args.text.now c.utf8.text cc) c.loop-c.yielded _ c.loop-c.yielded_by _ _ c.in-Some.c c.in-Some.is c.next.ensures.steps in
-    c.loop-c.invariant.bytes ∙ ap (λ n. bytes_of (take n cs)) (sym (fits_enough c.args.columns cs (length c.loop-c.yielded) c.loop-c.at c.loop-c.left c.in-Some.c c.char_width-width.result at c.char_width-width.ensures.value c.if-width-left.true c.loop-c.invariant))
+    let at = YieldsList-turn (YieldsList-from_chars c.args.text.now c.utf8.text cc) c.loop-c.yielded _ c.loop-c.yielded_by _ _ c.in-Some.c c.in-Some.is
+    c.next.ensures.steps in
+    c.loop-c.invariant.bytes ∙ ap (λ n. bytes_of (take n cs)) (sym (fits_enough c.args.columns cs
+    (length c.loop-c.yielded) c.loop-c.at c.loop-c.left c.in-Some.c c.char_width-width.result at c.char_width-width.ensures.value c.if-width-left.true
+    c.loop-c.invariant))
 
 pub returns-then-width-left-clause-width : goal.returns-then-width-left-clause-width
 returns-then-width-left-clause-width c =
     let cs = chars c.args.text.now in
-    let at = YieldsList-turn (YieldsList-from_chars c.args.text.now c.utf8.text cc) c.loop-c.yielded _ c.loop-c.yielded_by _ _ c.in-Some.c c.in-Some.is c.next.ensures.steps in
-    let n_is = fits_enough c.args.columns cs (length c.loop-c.yielded) c.loop-c.at c.loop-c.left c.in-Some.c c.char_width-width.result at c.char_width-width.ensures.value c.if-width-left.true c.loop-c.invariant in
+    let at = YieldsList-turn (YieldsList-from_chars c.args.text.now c.utf8.text cc) c.loop-c.yielded _ c.loop-c.yielded_by _ _ c.in-Some.c c.in-Some.is
+    c.next.ensures.steps in
+    let n_is = fits_enough c.args.columns cs (length c.loop-c.yielded) c.loop-c.at c.loop-c.left c.in-Some.c c.char_width-width.result at
+    c.char_width-width.ensures.value c.if-width-left.true c.loop-c.invariant in
     let width : c.args.columns - c.loop-c.left ≡ width_of (take (length c.loop-c.yielded) cs) = omega (arith, c.loop-c.invariant.width_is) in
     width ∙ ap (λ n. width_of (take n cs)) (sym n_is)
 
 pub overflow_add-at : goal.overflow_add-at
 overflow_add-at c =
-    let at = YieldsList-turn (YieldsList-from_chars c.args.text.now c.utf8.text cc) c.loop-c.yielded _ c.loop-c.yielded_by _ _ c.in-Some.c c.in-Some.is c.next.ensures.steps in
-    omega (arith, bytes_next c.args.text.now (length c.loop-c.yielded) c.loop-c.at c.in-Some.c c.utf8.text at c.loop-c.invariant.bytes, c.len_utf8-at.ensures.len)
+    let at = YieldsList-turn (YieldsList-from_chars c.args.text.now c.utf8.text cc) c.loop-c.yielded _ c.loop-c.yielded_by _ _ c.in-Some.c c.in-Some.is
+    c.next.ensures.steps in
+    omega (
+      arith,
+      bytes_next c.args.text.now (length c.loop-c.yielded) c.loop-c.at c.in-Some.c c.utf8.text at c.loop-c.invariant.bytes,
+      c.len_utf8-at.ensures.len,
+    )
 
 pub loop-c-preserved : goal.loop-c-preserved
 loop-c-preserved c =
-    let at = YieldsList-turn (YieldsList-from_chars c.args.text.now c.utf8.text cc) c.loop-c.yielded _ c.loop-c.yielded_by _ _ c.in-Some.c c.in-Some.is c.next.ensures.steps in
+    let at = YieldsList-turn (YieldsList-from_chars c.args.text.now c.utf8.text cc) c.loop-c.yielded _ c.loop-c.yielded_by _ _ c.in-Some.c c.in-Some.is
+    c.next.ensures.steps in
     fits_next c.args.columns (chars c.args.text.now) (length c.loop-c.yielded)
     _ c.loop-c.at c.loop-c.left c.in-Some.c c.len_utf8-at.result c.char_width-width.result at (length_push c.loop-c.yielded c.in-Some.c)
     c.if-width-left.false c.len_utf8-at.ensures.len c.char_width-width.ensures.value c.loop-c.invariant
@@ -39,19 +50,23 @@ loop-c-preserved c =
 pub returns-clause-bytes : goal.returns-clause-bytes
 returns-clause-bytes c =
     let cs = chars c.args.text.now in
-    let end = YieldsList-end (YieldsList-from_chars c.args.text.now c.utf8.text cc) c.loop-c.yielded _ c.loop-c.yielded_by _ _ c.in-None.is c.next.ensures.steps in
-    c.loop-c.invariant.bytes ∙ ap (λ n. bytes_of (take n cs)) (sym (fits_all c.args.columns cs (length c.loop-c.yielded) c.loop-c.at c.loop-c.left end.1 c.loop-c.invariant))
+    let end = YieldsList-end (YieldsList-from_chars c.args.text.now c.utf8.text cc) c.loop-c.yielded _ c.loop-c.yielded_by _ _ c.in-None.is
+    c.next.ensures.steps in
+    c.loop-c.invariant.bytes ∙ ap (λ n. bytes_of (take n cs)) (sym (fits_all c.args.columns cs
+    (length c.loop-c.yielded) c.loop-c.at c.loop-c.left end.1 c.loop-c.invariant))
 
 pub returns-clause-width : goal.returns-clause-width
 returns-clause-width c =
     let cs = chars c.args.text.now in
-    let end = YieldsList-end (YieldsList-from_chars c.args.text.now c.utf8.text cc) c.loop-c.yielded _ c.loop-c.yielded_by _ _ c.in-None.is c.next.ensures.steps in
+    let end = YieldsList-end (YieldsList-from_chars c.args.text.now c.utf8.text cc) c.loop-c.yielded _ c.loop-c.yielded_by _ _ c.in-None.is
+    c.next.ensures.steps in
     let width : c.args.columns - c.loop-c.left ≡ width_of (take (length c.loop-c.yielded) cs) = omega (arith, c.loop-c.invariant.width_is) in
     width ∙ ap (λ n. width_of (take n cs)) (sym (fits_all c.args.columns cs (length c.loop-c.yielded) c.loop-c.at c.loop-c.left end.1 c.loop-c.invariant))
 
 pub returns-clause-near : goal.returns-clause-near
 returns-clause-near c less =
     let cs = chars c.args.text.now in
-    let end = YieldsList-end (YieldsList-from_chars c.args.text.now c.utf8.text cc) c.loop-c.yielded _ c.loop-c.yielded_by _ _ c.in-None.is c.next.ensures.steps in
+    let end = YieldsList-end (YieldsList-from_chars c.args.text.now c.utf8.text cc) c.loop-c.yielded _ c.loop-c.yielded_by _ _ c.in-None.is
+    c.next.ensures.steps in
     let all : take (length c.loop-c.yielded) cs ≡ cs = take_all (length c.loop-c.yielded) cs (omega (arith, end.1)) in
     absurd (omega (arith, less, c.loop-c.invariant.width_is, ap width_of all))

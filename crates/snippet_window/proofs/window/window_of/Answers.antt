@@ -12,7 +12,12 @@ pub overflow_add-at : goal.overflow_add-at
 overflow_add-at c =
     let bounds = bounds_of c.args.margin in
     let inner = chars c.within_columns-inner_width.result.0.now in
-    let short : length inner < 2 ^ 60 = omega (arith, c.requires.short, part_short _ _ (chars c.args.text.now) (chars c.after_columns-reached.result.1.now) inner c.after_columns-reached.ensures.rest c.within_columns-inner_width.ensures.value) in
+    let short : length inner < 2 ^ 60 = omega (
+      arith,
+      c.requires.short,
+      part_short _ _ (chars c.args.text.now)
+          (chars c.after_columns-reached.result.1.now) inner c.after_columns-reached.ensures.rest c.within_columns-inner_width.ensures.value,
+    ) in
     omega (
       arith,
       cells_few c.uncovered-start.result.0 c.str_width-columns.result bounds.left (chars c.args.placeholder.now)
@@ -25,17 +30,26 @@ overflow_add-at c =
 pub returns-clause-uncut : goal.returns-clause-uncut
 returns-clause-uncut c none =
     let left : c.left-left.result ≡ 0 = omega (arith, c.left-left.ensures.value, none) in
-    omega (arith, left, c.requires.skipped, none, none_reached (c.left-left.result - c.args.skipped) c.after_columns-reached.result.0 (chars c.args.text.now) (omega (arith, left)) c.after_columns-reached.ensures.width)
+    omega (
+      arith,
+      left,
+      c.requires.skipped,
+      none,
+      none_reached (c.left-left.result - c.args.skipped) c.after_columns-reached.result.0 (chars c.args.text.now)
+          (omega (arith, left)) c.after_columns-reached.ensures.width,
+    )
 
 pub returns-clause-dropped : goal.returns-clause-dropped
 returns-clause-dropped c line part =
     let bounds = bounds_of c.args.margin in
     let left : c.left-left.result ≡ window_left bounds.left line = c.left-left.ensures.value ∙ ap (min bounds.left) part.0 in
-    ap (λ n. c.args.skipped + n) c.after_columns-reached.ensures.width ∙ window_dropped c.args.margin.term_width bounds.left bounds.right c.args.skipped c.left-left.result line (chars c.args.text.now) part.1 left
+    ap (λ n. c.args.skipped + n) c.after_columns-reached.ensures.width
+    ∙ window_dropped c.args.margin.term_width bounds.left bounds.right c.args.skipped c.left-left.result line (chars c.args.text.now) part.1 left
 
 pub returns-clause-few_start : goal.returns-clause-few_start
 returns-clause-few_start c =
-    start_is_few c.uncovered-start.result.0 c.str_width-columns.result (omega (arith, c.str_width-columns.ensures.bound, c.requires.placeholder)) c.uncovered-start.ensures.bound
+    start_is_few c.uncovered-start.result.0 c.str_width-columns.result
+    (omega (arith, c.str_width-columns.ensures.bound, c.requires.placeholder)) c.uncovered-start.ensures.bound
 
 pub returns-clause-start : goal.returns-clause-start
 returns-clause-start c line part =
@@ -48,7 +62,8 @@ returns-clause-start c line part =
     (chars c.after_columns-reached.result.1.now) (chars c.within_columns-inner_width.result.0.now)
     part.1 left columns (omega (arith, c.after_columns-reached.ensures.width, c.after_columns-reached.ensures.near))
     c.after_columns-reached.ensures.rest c.within_columns-inner_width.ensures.value in
-    c.uncovered-start.ensures.start (chars c.args.placeholder.now) c.str_width-columns.ensures.value ∙ ap (covered_columns bounds.left (chars c.args.placeholder.now)) inner
+    c.uncovered-start.ensures.start (chars c.args.placeholder.now) c.str_width-columns.ensures.value
+    ∙ ap (covered_columns bounds.left (chars c.args.placeholder.now)) inner
 
 pub returns-clause-text : goal.returns-clause-text
 returns-clause-text c line part =
@@ -61,7 +76,8 @@ returns-clause-text c line part =
     (chars c.after_columns-reached.result.1.now) (chars c.within_columns-inner_width.result.0.now)
     part.1 left columns (omega (arith, c.after_columns-reached.ensures.width, c.after_columns-reached.ensures.near))
     c.after_columns-reached.ensures.rest c.within_columns-inner_width.ensures.value in
-    c.uncovered-start.ensures.text (chars c.args.placeholder.now) c.str_width-columns.ensures.value ∙ ap (uncovered_part bounds.left (chars c.args.placeholder.now)) inner
+    c.uncovered-start.ensures.text (chars c.args.placeholder.now) c.str_width-columns.ensures.value
+    ∙ ap (uncovered_part bounds.left (chars c.args.placeholder.now)) inner
 
 pub returns-clause-end : goal.returns-clause-end
 returns-clause-end c line part =
@@ -80,8 +96,10 @@ returns-clause-end c line part =
     elim c.if-right-width.branch [
       | then-right-width w ↦
           let cut : window_right room bounds.left bounds.right line < width_of line = omega (arith, right, part.0, w.if-right-width.true) in
-          let last : w.last_reaching.result ≡ reaching_last (width_of placeholder) found = w.last_reaching.ensures.value ∙ ap (λ n. reaching_last n found) c.str_width-columns.ensures.value in
-          let end : w.saturating_sub-then-right-width.result ≡ (unwrap_or c.uncovered-start.result.0 0 + length shown) - reaching_last (width_of placeholder) found = omega (arith, w.saturating_sub-then-right-width.ensures, last, w.unwrap_or.ensures, w.char_count.ensures.value) in
+          let last : w.last_reaching.result ≡ reaching_last (width_of placeholder) found = w.last_reaching.ensures.value
+          ∙ ap (λ n. reaching_last n found) c.str_width-columns.ensures.value in
+          let end : w.saturating_sub-then-right-width.result ≡ (unwrap_or c.uncovered-start.result.0 0 + length shown) - reaching_last
+          (width_of placeholder) found = omega (arith, w.saturating_sub-then-right-width.ensures, last, w.unwrap_or.ensures, w.char_count.ensures.value) in
           w.end-is ∙ end_some room bounds.left bounds.right w.saturating_sub-then-right-width.result c.uncovered-start.result.0 placeholder line found
           shown inner cut (c.uncovered-start.ensures.start placeholder c.str_width-columns.ensures.value)
           (c.uncovered-start.ensures.text placeholder c.str_width-columns.ensures.value) end
@@ -94,7 +112,12 @@ pub returns-clause-few_end : goal.returns-clause-few_end
 returns-clause-few_end c =
     let bounds = bounds_of c.args.margin in
     let inner = chars c.within_columns-inner_width.result.0.now in
-    let short : length inner < 2 ^ 60 = omega (arith, c.requires.short, part_short _ _ (chars c.args.text.now) (chars c.after_columns-reached.result.1.now) inner c.after_columns-reached.ensures.rest c.within_columns-inner_width.ensures.value) in
+    let short : length inner < 2 ^ 60 = omega (
+      arith,
+      c.requires.short,
+      part_short _ _ (chars c.args.text.now)
+          (chars c.after_columns-reached.result.1.now) inner c.after_columns-reached.ensures.rest c.within_columns-inner_width.ensures.value,
+    ) in
     elim c.if-right-width.branch [
       | then-right-width w ↦
           let few = cells_few c.uncovered-start.result.0 c.str_width-columns.result bounds.left (chars c.args.placeholder.now)

@@ -12,10 +12,12 @@ pub returns-clause-value : goal.returns-clause-value
 returns-clause-value c =
     let n = c.fitting_end-at.result.0 in
     let same : n - 0 ≡ n = omega arith in
-    ap chars (c.range.ensures.value ∙ ap (λ k. take k c.args.text.now) same) ∙ cut_front c.args.text.now (fitting c.args.columns (chars c.args.text.now)) c.fitting_end-at.result.0 c.utf8.text c.fitting_end-at.ensures.bytes
+    ap chars (c.range.ensures.value ∙ ap (λ k. take k c.args.text.now) same)
+    ∙ cut_front c.args.text.now (fitting c.args.columns (chars c.args.text.now)) c.fitting_end-at.result.0 c.utf8.text c.fitting_end-at.ensures.bytes
 
 pub returns-clause-width : goal.returns-clause-width
 returns-clause-width c =
     let n = c.fitting_end-at.result.0 in
     let same : n - 0 ≡ n = omega arith in
-    c.fitting_end-at.ensures.width ∙ ap width_of (sym (ap chars (c.range.ensures.value ∙ ap (λ k. take k c.args.text.now) same) ∙ cut_front c.args.text.now (fitting c.args.columns (chars c.args.text.now)) c.fitting_end-at.result.0 c.utf8.text c.fitting_end-at.ensures.bytes))
+    c.fitting_end-at.ensures.width ∙ ap width_of (sym (ap chars (c.range.ensures.value ∙ ap (λ k. take k c.args.text.now) same)
+    ∙ cut_front c.args.text.now (fitting c.args.columns (chars c.args.text.now)) c.fitting_end-at.result.0 c.utf8.text c.fitting_end-at.ensures.bytes))

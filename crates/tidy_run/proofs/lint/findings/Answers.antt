@@ -11,7 +11,8 @@ pub loop-edit-init : goal.loop-edit-init
 loop-edit-init g c =
     let find : ℕ → Option Finding = (goal.Rule-dyn g c.args.rule.now).finds c.args.rule.now.1 c.args.source.now in
     record {
-      so_far = subst (λ (l : List Edit). FoundSoFar find c.args.source.now (map finding_of l) 0) (sym c.new-found.ensures.items) (found-none-yet find c.args.source.now);
+      so_far = subst (λ (l : List Edit). FoundSoFar find c.args.source.now (map finding_of l) 0) (sym c.new-found.ensures.items)
+          (found-none-yet find c.args.source.now);
       reach = subst (λ (l : List Edit). ReachesTo c.args.source.now (map finding_of l) 0) (sym c.new-found.ensures.items) (reaches-none-yet c.args.source.now);
     }
 
@@ -21,7 +22,8 @@ loop-edit-preserved g c =
     let edit = c.in-Some.edit in
     let from = c.loop-edit.from in
     let some : find from ≡ Some (finding_of edit) = sym c.find.ensures.0 ∙ ap (option_map finding_of) c.in-Some.is in
-    let is : IsFinding c.args.source.now from (finding_of edit) = subst (λ r. IfSome r (λ e. IsFinding c.args.source.now from (finding_of e))) c.in-Some.is c.find.ensures.1 in
+    let is : IsFinding c.args.source.now from (finding_of edit) = subst (λ r.
+    IfSome r (λ e. IsFinding c.args.source.now from (finding_of e))) c.in-Some.is c.find.ensures.1 in
     let takes : edit.span.start < edit.span.end = grind (arith, c.if-last.ensures) in
     let found = map finding_of c.loop-edit.found.items in
     let more = sym (ap (map finding_of) c.in_ok-push.ensures.items ∙ map-append finding_of c.loop-edit.found.items (edit ∷ [])) in

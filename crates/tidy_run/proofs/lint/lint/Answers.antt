@@ -22,7 +22,8 @@ loop-rule-preserved g c =
           ∙ mapped-next (λ (edits : Vec Edit Global). map finding_of edits.items) _ c.loop-rule.all.items c.args.rules.now c.loop-rule.rule-index
           found c.rule-item.result c.loop-rule.invariant.value c.loop-rule-test.true c.rule-item.is c.in_ok-box_findings.ensures.value;
       inside = subst (All (λ (edits : Vec Edit Global). AreInside c.args.source.now 0 (map finding_of edits.items))) (sym c.in_ok-push.ensures.items)
-          (All-push (λ (edits : Vec Edit Global). AreInside c.args.source.now 0 (map finding_of edits.items)) c.loop-rule.all.items found c.loop-rule.invariant.inside c.in_ok-box_findings.ensures.inside);
+          (All-push (λ (edits : Vec Edit Global). AreInside c.args.source.now 0
+          (map finding_of edits.items)) c.loop-rule.all.items found c.loop-rule.invariant.inside c.in_ok-box_findings.ensures.inside);
     }
 
 pub returns : goal.returns

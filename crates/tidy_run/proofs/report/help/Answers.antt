@@ -16,7 +16,8 @@ returns c =
     let is = group_of c.element.result help_level (codes "apply this") true c.secondary_title.result c.from.result
     c.element.ensures.title c.element.ensures.level c.element.ensures.elements title.level (ap cow_str_bytes title.text) title.id title.trusted in
     record {
-      told = IfOk-weaker c.element.result (IsGroupOf help_level (codes "apply this") true c.from.result) (IsHelp c.args.path.now c.args.source.now (map finding_of c.args.edits.now))
+      told = IfOk-weaker c.element.result (IsGroupOf help_level (codes "apply this") true c.from.result)
+          (IsHelp c.args.path.now c.args.source.now (map finding_of c.args.edits.now))
           (λ g of. record {
             snippet = snippet;
             of_file = c.in_ok-snippet.ensures.of_file;

@@ -20,20 +20,28 @@ loop-i-preserved g c =
     let edits = c.index-findings-i.result in
     let dyn = goal.Rule-dyn g (rule.vtable, rule.value) in
     let found : map finding_of edits.items ≡ findings_of (dyn.finds rule.value source) source =
-    mapped-at (λ (v : Vec Edit Global). map finding_of v.items) _ c.args.findings.now rules i edits rule c.requires.findings c.loop-i-test.true c.index-findings-i.is c.index-rules-i.is in
+    mapped-at (λ (v : Vec Edit Global). map finding_of v.items) _ c.args.findings.now rules i edits rule c.requires.findings c.loop-i-test.true
+    c.index-findings-i.is c.index-rules-i.is in
     let told = c.in_ok-tell.ensures.told in
-    let same : told_of c.box_title.result.now (map finding_of c.deref.result.now) ≡ told_of (dyn.title_of rule.value) (findings_of (dyn.finds rule.value source) source) =
+    let same : told_of c.box_title.result.now (map finding_of c.deref.result.now)
+    ≡ told_of (dyn.title_of rule.value) (findings_of (dyn.finds rule.value source) source) =
     ap (λ t. told_of t (map finding_of c.deref.result.now)) c.box_title.ensures.value
     ∙ ap (λ (l : List Edit). told_of (dyn.title_of rule.value) (map finding_of l)) c.deref.ensures.value
     ∙ ap (told_of (dyn.title_of rule.value)) found in
     let count : length (map finding_of c.deref.result.now) ≤ length source + 1 =
-    subst (λ (l : List Finding). length l ≤ length source + 1) (sym (ap (map finding_of) c.deref.ensures.value ∙ found)) (few-findings (dyn.finds rule.value source) source) in
+    subst (λ (l : List Finding). length l ≤ length source + 1) (sym (ap (map finding_of) c.deref.ensures.value ∙ found))
+    (few-findings (dyn.finds rule.value source) source) in
     let inside : AreInside source 0 (map finding_of c.deref.result.now) =
     subst (λ (l : List Edit). AreInside source 0 (map finding_of l)) (sym c.deref.ensures.value)
     (subst (λ (v : Vec Edit Global). AreInside source 0 (map finding_of v.items)) (sym c.index-findings-i.is)
-    (c.requires.inside i edits (omega (arith, mapped-length (λ (v : Vec Edit Global). map finding_of v.items) _ c.args.findings.now rules c.requires.findings, c.loop-i-test.true)))) in
+    (c.requires.inside i edits (omega (
+      arith,
+      mapped-length (λ (v : Vec Edit Global). map finding_of v.items) _ c.args.findings.now rules c.requires.findings,
+      c.loop-i-test.true,
+    )))) in
     record {
-      told = told-next path source _ rules i rule c.loop-i.groups.items told.0 c.tell.new.groups.items c.loop-i.invariant.told c.loop-i-test.true c.index-rules-i.is
+      told = told-next path source _ rules i rule c.loop-i.groups.items told.0 c.tell.new.groups.items c.loop-i.invariant.told c.loop-i-test.true
+          c.index-rules-i.is
           (subst (λ t. IsReportOf path source t told.0) same told.2) told.1;
       within = subst (All IsGroupWithinBounds) (sym told.1)
           (All-append IsGroupWithinBounds c.loop-i.groups.items told.0 c.loop-i.invariant.within
@@ -48,7 +56,12 @@ tell-requires g c =
     record {
       inside = subst (λ (l : List Edit). AreInside source 0 (map finding_of l)) (sym c.deref.ensures.value)
           (subst (λ (v : Vec Edit Global). AreInside source 0 (map finding_of v.items)) (sym c.index-findings-i.is)
-          (c.requires.inside c.loop-i.i edits (omega (arith, mapped-length (λ (v : Vec Edit Global). map finding_of v.items) _ c.args.findings.now c.args.rules.now c.requires.findings, c.loop-i-test.true))));
+          (c.requires.inside c.loop-i.i edits (omega (
+            arith,
+            mapped-length
+                (λ (v : Vec Edit Global). map finding_of v.items) _ c.args.findings.now c.args.rules.now c.requires.findings,
+            c.loop-i-test.true,
+          ))));
     }
 
 pub loop-i-init : goal.loop-i-init

@@ -9,7 +9,8 @@ abbrev pub invariant-loop-i : goal.invariant-loop-i
 invariant-loop-i g l =
     record {
       told : IsReportOf l.path l.source
-          (flat_map (λ rule. let dyn = goal.Rule-dyn g (rule.vtable, rule.value) in told_of (dyn.title_of rule.value) (findings_of (dyn.finds rule.value l.source) l.source)) (take l.i l.rules))
+          (flat_map (λ rule. let dyn = goal.Rule-dyn g (rule.vtable, rule.value) in told_of (dyn.title_of rule.value)
+          (findings_of (dyn.finds rule.value l.source) l.source)) (take l.i l.rules))
           l.groups.items;
       within : All IsGroupWithinBounds l.groups.items;
     }

@@ -15,7 +15,8 @@ returns c =
     let is = group_of c.element.result warning_level c.args.title.now false c.primary_title.result c.from.result
     c.element.ensures.title c.element.ensures.level c.element.ensures.elements title.level (ap cow_str_bytes title.text) title.id title.untrusted in
     record {
-      told = IfOk-weaker c.element.result (IsGroupOf warning_level c.args.title.now false c.from.result) (IsWarning c.args.path.now c.args.source.now c.args.title.now (map finding_of c.args.edits.now))
+      told = IfOk-weaker c.element.result (IsGroupOf warning_level c.args.title.now false c.from.result)
+          (IsWarning c.args.path.now c.args.source.now c.args.title.now (map finding_of c.args.edits.now))
           (λ g of. record {
             snippet = snippet;
             of_file = c.in_ok-snippet.ensures.of_file;

@@ -10,6 +10,7 @@ returns c =
     record {
       message = IfOk-weaker c.format.result (λ text. string_bytes text ≡ codes "tidy: cannot " ++ (c.args.verb.now ++ (codes " " ++ string_bytes shown)))
           (λ text. string_bytes text ≡ codes "tidy: cannot " ++ (c.args.verb.now ++ (codes " " ++ shown_name c.args.name.now)))
-          (λ text same. same ∙ ap (λ name. codes "tidy: cannot " ++ (c.args.verb.now ++ (codes " " ++ name))) (shown_text shown c.args.name.now c.in_ok-shown.ensures.value))
+          (λ text same. same ∙ ap (λ name. codes "tidy: cannot " ++ (c.args.verb.now ++ (codes " " ++ name)))
+          (shown_text shown c.args.name.now c.in_ok-shown.ensures.value))
           c.format.ensures.ok;
     }

@@ -9,7 +9,8 @@ use Rattle.tidy_run.proofs.run.run.Goals as goal
 pub write_texts-requires : goal.write_texts-requires
 write_texts-requires g c =
     let sheets = sheets_for (said c.in-Some.command).log in
-    let many = counted_texts (Reads (said c.in-Some.command) (option_copied c.args.file)) (option_copied c.args.file) _ _ sheets c.in-Ok.texts.items (c.in-Ok.ensures.read refl) c.in-Ok.ensures.shows in
+    let many = counted_texts (Reads (said c.in-Some.command) (option_copied c.args.file)) (option_copied c.args.file) _ _ sheets c.in-Ok.texts.items
+    (c.in-Ok.ensures.read refl) c.in-Ok.ensures.shows in
     record { count = subst (λ (texts : List (String Global)). (texts ≡ []) ⊎ (length texts ≡ length sheets)) (sym c.deref.ensures.value) many }
 
 pub returns-in_default-clause-ends : goal.returns-in_default-clause-ends
@@ -26,7 +27,8 @@ returns-in-Nothing-clause-ends g c =
     let (none, out, log) = c.in-Nothing.ensures.written in
     let texts = subst (λ (ts : List (String Global)). map string_bytes ts ≡ []) c.deref.ensures.value none in
     ends_as (words_at c.args.words.now) (option_copied c.args.file) _ (said c.in-Some.command) c.in-Some.ensures.command _ _ _
-    Clean (clean_of_texts (said c.in-Some.command) (option_copied c.args.file) _ (map string_bytes c.in-Ok.texts.items) (c.in-Ok.ensures.read refl) c.in-Ok.ensures.shows texts) out refl log
+    Clean (clean_of_texts (said c.in-Some.command) (option_copied c.args.file) _ (map string_bytes c.in-Ok.texts.items)
+    (c.in-Ok.ensures.read refl) c.in-Ok.ensures.shows texts) out refl log
 
 pub returns-in-All-clause-ends : goal.returns-in-All-clause-ends
 returns-in-All-clause-ends g c =

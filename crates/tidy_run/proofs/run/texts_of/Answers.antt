@@ -19,10 +19,13 @@ returns-then-not-text_fits-clause-fails g c =
 
 pub returns-in-Ok-clause-read : goal.returns-in-Ok-clause-read
 returns-in-Ok-clause-read g c =
-    λ ok. reads_file (said c.args.command.now) (option_copied c.args.file) c.in-Some.source.now _ c.in-Some.ensures.value (λ none. cc) (c.if-not-text_fits.ensures.fits.0 refl)
+    λ ok. reads_file (said c.args.command.now) (option_copied c.args.file) c.in-Some.source.now _ c.in-Some.ensures.value (λ none.
+    cc) (c.if-not-text_fits.ensures.fits.0 refl)
 
 pub returns-in-Ok-clause-shows : goal.returns-in-Ok-clause-shows
 returns-in-Ok-clause-shows g c =
-    let told : List ℕ → List Told = λ s. flat_map (λ rule. let dyn = goal.Rule-dyn g (rule.vtable, rule.value) in told_of (dyn.title_of rule.value) (findings_of (dyn.finds rule.value s) s)) c.args.rules.now in
-    let Are : List ℕ → Type 0 = λ s. AreTextsOf c.args.command.now.file.now s (told s) (sheets_for (said c.args.command.now).log) (map string_bytes c.in-Ok.texts.items) in
+    let told : List ℕ → List Told = λ s. flat_map (λ rule. let dyn = goal.Rule-dyn g (rule.vtable, rule.value) in told_of (dyn.title_of rule.value)
+    (findings_of (dyn.finds rule.value s) s)) c.args.rules.now in
+    let Are : List ℕ → Type 0 = λ s. AreTextsOf c.args.command.now.file.now s (told s) (sheets_for (said c.args.command.now).log)
+    (map string_bytes c.in-Ok.texts.items) in
     for-file (option_copied c.args.file) c.in-Some.source.now Are _ c.in-Some.ensures.value c.in-Ok.ensures.shows

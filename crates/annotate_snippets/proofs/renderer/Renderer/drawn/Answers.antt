@@ -7,6 +7,7 @@ pub draw-requires : goal.draw-requires
 draw-requires c =
     let none : refusal_in c.form_of-form.result c.args.groups.now ≡ None = sym c.first_refusal.ensures.value ∙ c.in_default.is in
     record {
-      drawable = groups-drawable c.args.groups.now c.requires.fits (unrefused (missing_title c.form_of-form.result c.args.groups.now) (first_fault c.args.groups.now) none);
+      drawable = groups-drawable c.args.groups.now c.requires.fits (unrefused (missing_title c.form_of-form.result c.args.groups.now)
+          (first_fault c.args.groups.now) none);
       titled = titled (missing_title c.form_of-form.result c.args.groups.now) (first_fault c.args.groups.now) none;
     }

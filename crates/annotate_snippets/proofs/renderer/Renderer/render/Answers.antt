@@ -37,7 +37,8 @@ returns-clause-laws c =
     _ c.text_under.result c.map_err.result
     (IfOk-weaker c.text_under.result (λ text. IsPrintedAs report sheet (string_bytes text))
     (λ text. HasLaws r groups sheet (string_bytes text))
-    (λ text printed. (laws-hold r groups (sheet ∷ []) (string_bytes text ∷ []) report c.in_ok-drawn.ensures.laws drawable c.in_ok-drawn.ensures.drawn (printed, tt)).0)
+    (λ text printed. (laws-hold r groups (sheet ∷ []) (string_bytes text ∷ []) report c.in_ok-drawn.ensures.laws drawable c.in_ok-drawn.ensures.drawn
+    (printed, tt)).0)
     c.text_under.ensures.printed) c.map_err.ensures.cases
 
 pub returns-clause-free : goal.returns-clause-free

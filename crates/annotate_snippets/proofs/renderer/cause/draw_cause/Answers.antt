@@ -22,7 +22,8 @@ returns c =
     record {
       added = on_ok_weaker c.draw_after.result (λ below. record {
         rows = head ++ (drawn.rows ++ after);
-        added = pieces c.args.buffer.now head drawn.rows after c.draw_cause_head.new.buffer c.draw_cause_lines.new.buffer c.draw_after.new.buffer c.in_ok-draw_cause_head.ensures.rows drawn.added below;
+        added = pieces c.args.buffer.now head drawn.rows after c.draw_cause_head.new.buffer c.draw_cause_lines.new.buffer c.draw_after.new.buffer
+            c.in_ok-draw_cause_head.ensures.rows drawn.added below;
         is = record {
           lines = drawn.rows;
           rows_are = refl;

@@ -11,5 +11,9 @@ pub location-place-requires : goal.location-place-requires
 location-place-requires c =
     let p = c.requires.prepared in
     let s = c.args.cause.now.snippet.now in
-    let kept : map seen_kept c.deref.result.now ≡ annotated_lines s.fold (numbered_source s) s.markers.items = ap (map seen_kept) c.deref.ensures.value ∙ p.kept_are in
-    record { room = characters-fit (numbered_source s) s.markers.items (kept_lines s.fold (cow_str_bytes s.source) s.markers.items) c.deref.result.now kept p.drawable.source }
+    let kept : map seen_kept c.deref.result.now ≡ annotated_lines s.fold (numbered_source s) s.markers.items = ap (map seen_kept) c.deref.ensures.value
+    ∙ p.kept_are in
+    record {
+      room = characters-fit (numbered_source s) s.markers.items
+          (kept_lines s.fold (cow_str_bytes s.source) s.markers.items) c.deref.result.now kept p.drawable.source;
+    }

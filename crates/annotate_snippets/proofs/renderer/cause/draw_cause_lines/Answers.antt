@@ -39,17 +39,23 @@ shown_of cause prepared source is shown infos same between =
     let marks : List Annotation = s.markers.items in
     let Spans : Source → Type 0 = λ x. All (λ a. IsSpan x.text a.span.start a.span.end) marks in
     let source_is : source ≡ numbered_source s = is ∙ prepared.map_is in
-    ap (map seen_kept) same ∙ between s.fold marks (subst Spans (sym source_is) prepared.drawable.spans) (prepared.kept_are ∙ ap (λ (x : Source). annotated_lines s.fold x marks) (sym source_is)) ∙ ap (λ (x : Source). map (kept_line x marks) (shown_lines s.fold x.text marks)) source_is
+    ap (map seen_kept) same ∙ between s.fold marks (subst Spans (sym source_is) prepared.drawable.spans)
+    (prepared.kept_are ∙ ap (λ (x : Source). annotated_lines s.fold x marks) (sym source_is))
+    ∙ ap (λ (x : Source). map (kept_line x marks) (shown_lines s.fold x.text marks)) source_is
 
 shown_first : (c : After-deref) → map seen_kept (infos_of c.deref.result.now)
-    ≡ map (kept_line (numbered_source c.args.cause.snippet.now) c.args.cause.snippet.now.markers.items) (shown_lines c.args.cause.snippet.now.fold (cow_str_bytes c.args.cause.snippet.now.source) c.args.cause.snippet.now.markers.items)
+    ≡ map (kept_line (numbered_source c.args.cause.snippet.now) c.args.cause.snippet.now.markers.items)
+    (shown_lines c.args.cause.snippet.now.fold (cow_str_bytes c.args.cause.snippet.now.source) c.args.cause.snippet.now.markers.items)
 shown_first c =
-    shown_of c.args.cause c.requires.prepared c.args.cause.map refl (infos_of c.in_ok-lines.lines.items) (infos_of c.deref.result.now) (ap infos_of c.deref.ensures.value) c.in_ok-lines.ensures.value
+    shown_of c.args.cause c.requires.prepared c.args.cause.map refl (infos_of c.in_ok-lines.lines.items) (infos_of c.deref.result.now)
+    (ap infos_of c.deref.ensures.value) c.in_ok-lines.ensures.value
 
 shown_is : (c : After-deref-2) → map seen_kept (infos_of c.deref-2.result.now)
-    ≡ map (kept_line (numbered_source c.args.cause.snippet.now) c.args.cause.snippet.now.markers.items) (shown_lines c.args.cause.snippet.now.fold (cow_str_bytes c.args.cause.snippet.now.source) c.args.cause.snippet.now.markers.items)
+    ≡ map (kept_line (numbered_source c.args.cause.snippet.now) c.args.cause.snippet.now.markers.items)
+    (shown_lines c.args.cause.snippet.now.fold (cow_str_bytes c.args.cause.snippet.now.source) c.args.cause.snippet.now.markers.items)
 shown_is c =
-    shown_of c.args.cause c.requires.prepared c.args.cause.map refl (infos_of c.in_ok-lines.lines.items) (infos_of c.deref-2.result.now) (ap infos_of c.deref-2.ensures.value) c.in_ok-lines.ensures.value
+    shown_of c.args.cause c.requires.prepared c.args.cause.map refl (infos_of c.in_ok-lines.lines.items) (infos_of c.deref-2.result.now)
+    (ap infos_of c.deref-2.ensures.value) c.in_ok-lines.ensures.value
 
 -- a line's text fits, and its labels do
 abbrev TextFits : AnnotatedLineInfo → Type 0
@@ -62,26 +68,31 @@ pub with_lines_between-requires-clause-texts : goal.with_lines_between-requires-
 with_lines_between-requires-clause-texts c =
     let s = c.args.cause.snippet.now in
     let drawable = c.requires.prepared.drawable in
-    lines_texts (numbered_source s) s.markers.items drawable.spans (kept_lines s.fold (cow_str_bytes s.source) s.markers.items) c.args.cause.kept.items c.requires.prepared.kept_are drawable.source
+    lines_texts (numbered_source s) s.markers.items drawable.spans (kept_lines s.fold
+    (cow_str_bytes s.source) s.markers.items) c.args.cause.kept.items c.requires.prepared.kept_are drawable.source
 
 pub margin_for-margin-requires-clause-texts : goal.margin_for-margin-requires-clause-texts
 margin_for-margin-requires-clause-texts c =
     let s = c.args.cause.snippet.now in
     let drawable = c.requires.prepared.drawable in
-    infos_all TextFits c.deref.result.now (lines_texts (numbered_source s) s.markers.items drawable.spans (shown_lines s.fold (cow_str_bytes s.source) s.markers.items) (infos_of c.deref.result.now) (shown_first c) drawable.source)
+    infos_all TextFits c.deref.result.now (lines_texts (numbered_source s) s.markers.items drawable.spans
+    (shown_lines s.fold (cow_str_bytes s.source) s.markers.items) (infos_of c.deref.result.now) (shown_first c) drawable.source)
 
 pub margin_for-margin-requires-clause-labels : goal.margin_for-margin-requires-clause-labels
 margin_for-margin-requires-clause-labels c =
     let s = c.args.cause.snippet.now in
     let drawable = c.requires.prepared.drawable in
-    infos_all LabelsFit c.deref.result.now (lines_labels (numbered_source s) s.markers.items drawable.spans (shown_lines s.fold (cow_str_bytes s.source) s.markers.items) (infos_of c.deref.result.now) (shown_first c) drawable.labels)
+    infos_all LabelsFit c.deref.result.now (lines_labels (numbered_source s) s.markers.items drawable.spans
+    (shown_lines s.fold (cow_str_bytes s.source) s.markers.items) (infos_of c.deref.result.now) (shown_first c) drawable.labels)
 
 pub draw_snippet-requires-clause-numbers : goal.draw_snippet-requires-clause-numbers
 draw_snippet-requires-clause-numbers c =
     let s = c.args.cause.snippet.now in
     let lines = c.deref-2.result.now in
-    let Fits : LineNumbers → AnnotatedLineInfo → Type 0 = λ numbers info. length (shown_number numbers c.args.layout.gutter info.line_index) ≤ c.args.layout.gutter + 1 in
-    infos_all (Fits c.line_numbers-numbers.result) lines (subst (λ (numbers : LineNumbers). All (Fits numbers) (infos_of lines)) (sym c.line_numbers-numbers.ensures.value)
+    let Fits : LineNumbers → AnnotatedLineInfo → Type 0 = λ numbers info.
+    length (shown_number numbers c.args.layout.gutter info.line_index) ≤ c.args.layout.gutter + 1 in
+    infos_all (Fits c.line_numbers-numbers.result) lines (subst (λ (numbers : LineNumbers). All (Fits numbers) (infos_of lines))
+    (sym c.line_numbers-numbers.ensures.value)
     (numbers_fit c.args.renderer.now c.args.layout s (infos_of lines) c.requires.room c.requires.prepared.drawable (shown_is c)))
 
 pub draw_snippet-requires-clause-texts : goal.draw_snippet-requires-clause-texts
@@ -89,18 +100,21 @@ draw_snippet-requires-clause-texts c =
     let s = c.args.cause.snippet.now in
     let drawable = c.requires.prepared.drawable in
     let lines = c.deref-2.result.now in
-    infos_all TextFits lines (lines_texts (numbered_source s) s.markers.items drawable.spans (shown_lines s.fold (cow_str_bytes s.source) s.markers.items) (infos_of lines) (shown_is c) drawable.source)
+    infos_all TextFits lines (lines_texts (numbered_source s) s.markers.items drawable.spans (shown_lines s.fold (cow_str_bytes s.source) s.markers.items)
+    (infos_of lines) (shown_is c) drawable.source)
 
 pub draw_snippet-requires-clause-columns : goal.draw_snippet-requires-clause-columns
 draw_snippet-requires-clause-columns c =
     let s = c.args.cause.snippet.now in
     let drawable = c.requires.prepared.drawable in
     let lines = c.deref-2.result.now in
-    infos_all (λ info. All HasPlace info.annotations.items) lines (lines_places (numbered_source s) s.markers.items drawable.spans (shown_lines s.fold (cow_str_bytes s.source) s.markers.items) (infos_of lines) (shown_is c) drawable.source)
+    infos_all (λ info. All HasPlace info.annotations.items) lines (lines_places (numbered_source s) s.markers.items drawable.spans
+    (shown_lines s.fold (cow_str_bytes s.source) s.markers.items) (infos_of lines) (shown_is c) drawable.source)
 
 -- the lines that are kept, as the margin sees them
 kept_is : (c : After-deref-2)
-    → map seen_kept (kept_of c.deref.result.now) ≡ annotated_lines c.args.cause.snippet.now.fold (numbered_source c.args.cause.snippet.now) c.args.cause.snippet.now.markers.items
+    → map seen_kept (kept_of c.deref.result.now) ≡ annotated_lines c.args.cause.snippet.now.fold
+    (numbered_source c.args.cause.snippet.now) c.args.cause.snippet.now.markers.items
 kept_is c =
     ap (map seen_kept) (ap kept_of c.deref.ensures.value ∙ c.in_ok-lines.ensures.kept_are) ∙ c.requires.prepared.kept_are
 
@@ -109,14 +123,17 @@ draw_snippet-requires-clause-clear c =
     let s = c.args.cause.snippet.now in
     let lines = c.deref-2.result.now in
     let margin = c.margin_for-margin.result in
-    infos_all (λ info. All (StandsClear margin) info.annotations.items) lines (shown_clear (numbered_source s) s.markers.items c.requires.prepared.drawable.spans s.fold (kept_of c.deref.result.now) (infos_of lines) margin (kept_is c) (shown_is c) c.margin_for-margin.ensures.clear)
+    infos_all (λ info. All (StandsClear margin) info.annotations.items) lines
+    (shown_clear (numbered_source s) s.markers.items c.requires.prepared.drawable.spans s.fold (kept_of c.deref.result.now) (infos_of lines) margin
+    (kept_is c) (shown_is c) c.margin_for-margin.ensures.clear)
 
 pub draw_snippet-requires-clause-bar_cells : goal.draw_snippet-requires-clause-bar_cells
 draw_snippet-requires-clause-bar_cells c =
     let s = c.args.cause.snippet.now in
     let lines = c.deref-2.result.now in
     let layout : Layout = c.args.layout in
-    infos_all (λ info. All (HasBarCell layout) info.annotations.items) lines (lines_bar_cells (numbered_source s) s.markers.items c.requires.prepared.drawable.spans
+    infos_all (λ info. All (HasBarCell layout) info.annotations.items) lines
+    (lines_bar_cells (numbered_source s) s.markers.items c.requires.prepared.drawable.spans
     (shown_lines s.fold (cow_str_bytes s.source) s.markers.items) (infos_of lines) (shown_is c) layout c.requires.room.bars)
 
 pub draw_snippet-requires-clause-labels : goal.draw_snippet-requires-clause-labels
@@ -124,7 +141,8 @@ draw_snippet-requires-clause-labels c =
     let s = c.args.cause.snippet.now in
     let drawable = c.requires.prepared.drawable in
     let lines = c.deref-2.result.now in
-    infos_all LabelsFit lines (lines_labels (numbered_source s) s.markers.items drawable.spans (shown_lines s.fold (cow_str_bytes s.source) s.markers.items) (infos_of lines) (shown_is c) drawable.labels)
+    infos_all LabelsFit lines (lines_labels (numbered_source s) s.markers.items drawable.spans (shown_lines s.fold (cow_str_bytes s.source) s.markers.items)
+    (infos_of lines) (shown_is c) drawable.labels)
 
 pub returns : goal.returns
 returns c =
@@ -132,8 +150,10 @@ returns c =
     let prepared = c.requires.prepared in
     let layout = c.args.layout in
     let lines = infos_of c.deref-2.result.now in
-    let kept : map seen_kept (kept_of c.deref.result.now) ≡ annotated_lines s.fold (numbered_source s) s.markers.items = ap (map seen_kept) (ap kept_of c.deref.ensures.value ∙ c.in_ok-lines.ensures.kept_are) ∙ prepared.kept_are in
-    let room : c.saturating_sub-room.result ≡ c.args.renderer.now.term_width - layout.code = c.saturating_sub-room.ensures ∙ ap (λ (l : Layout). c.args.renderer.now.term_width - l.code) c.layout.view_is in
+    let kept : map seen_kept (kept_of c.deref.result.now) ≡ annotated_lines s.fold (numbered_source s) s.markers.items = ap (map seen_kept)
+    (ap kept_of c.deref.ensures.value ∙ c.in_ok-lines.ensures.kept_are) ∙ prepared.kept_are in
+    let room : c.saturating_sub-room.result ≡ c.args.renderer.now.term_width - layout.code = c.saturating_sub-room.ensures
+    ∙ ap (λ (l : Layout). c.args.renderer.now.term_width - l.code) c.layout.view_is in
     let bounds : bounds_of c.margin_for-margin.result ≡ margin_of (c.args.renderer.now.term_width - layout.code) s.fold (numbered_source s)
     s.markers.items = c.margin_for-margin.ensures.bounds
     ∙ bounds_of_kept c.saturating_sub-room.result s.fold (numbered_source s) s.markers.items (kept_of c.deref.result.now) prepared.drawable.spans kept
@@ -145,12 +165,14 @@ returns c =
         are = record {
           utf8 = prepared.utf8;
           infos = lines;
-          lines = shown_of c.args.cause prepared c.args.cause.map refl (infos_of c.in_ok-lines.lines.items) lines (ap infos_of c.deref-2.ensures.value) c.in_ok-lines.ensures.value;
+          lines = shown_of c.args.cause prepared c.args.cause.map refl (infos_of c.in_ok-lines.lines.items) lines
+              (ap infos_of c.deref-2.ensures.value) c.in_ok-lines.ensures.value;
           margin = c.margin_for-margin.result;
           room = c.margin_for-margin.ensures.room ∙ room;
           bounds = bounds;
           ordered = c.margin_for-margin.ensures.ordered;
-          shown = subst (λ (numbers : LineNumbers). AreLinesShown layout c.margin_for-margin.result numbers c.args.closes [] lines adds.rows) c.line_numbers-numbers.ensures.value adds.shown;
+          shown = subst (λ (numbers : LineNumbers). AreLinesShown layout c.margin_for-margin.result numbers c.args.closes [] lines adds.rows)
+              c.line_numbers-numbers.ensures.value adds.shown;
         };
       }) c.draw_snippet.ensures.added;
     }

@@ -16,7 +16,8 @@ returns c =
           grid = w.in_ok-short_grid.field-0;
           first = sym c.first.ensures.value ∙ ap option_copied w.in-Some.is;
           titled = w.in-Some-title.is;
-          grids_are = ap (λ (grids : Vec GroupGrid Global). grids.items) w.grids-is ∙ w.in_ok-push.ensures.items ∙ ap (λ (grids : List GroupGrid). grids ++ w.in_ok-short_grid.field-0 ∷ []) c.new-grids.ensures.items;
+          grids_are = ap (λ (grids : Vec GroupGrid Global). grids.items) w.grids-is ∙ w.in_ok-push.ensures.items
+              ∙ ap (λ (grids : List GroupGrid). grids ++ w.in_ok-short_grid.field-0 ∷ []) c.new-grids.ensures.items;
           level = w.in_ok-short_grid.ensures.level;
           rows = w.in_ok-short_grid.ensures.rows;
         };

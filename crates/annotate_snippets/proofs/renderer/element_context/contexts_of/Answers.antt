@@ -10,7 +10,8 @@ use Rattle.annotate_snippets.proofs.renderer.element_context.contexts_of.Goals a
 
 pub loop-i-init : goal.loop-i-init
 loop-i-init c =
-    subst (λ (around : List ElementContext). AreAroundBefore c.args.place (option_copied c.args.file) (map element_of c.args.elements.now) 0 true false around) (sym c.new-around.ensures.items) (none_around c.args.place (option_copied c.args.file) (map element_of c.args.elements.now))
+    subst (λ (around : List ElementContext). AreAroundBefore c.args.place (option_copied c.args.file) (map element_of c.args.elements.now) 0 true false around)
+    (sym c.new-around.ensures.items) (none_around c.args.place (option_copied c.args.file) (map element_of c.args.elements.now))
 
 pub loop-i-preserved : goal.loop-i-preserved
 loop-i-preserved c =
@@ -36,4 +37,8 @@ loop-i-preserved c =
 
 pub returns : goal.returns
 returns c =
-    record { value = all_around c.args.place (option_copied c.args.file) (map element_of c.args.elements.now) c.loop-i.i c.loop-i.primary c.loop-i.shares c.loop-i.around.items c.loop-i.invariant (omega (arith, length-map c.args.elements.now element_of, c.loop-i-test.false, c.loop-i.auto.i-end)) }
+    record {
+      value = all_around c.args.place (option_copied c.args.file)
+          (map element_of c.args.elements.now) c.loop-i.i c.loop-i.primary c.loop-i.shares c.loop-i.around.items c.loop-i.invariant
+          (omega (arith, length-map c.args.elements.now element_of, c.loop-i-test.false, c.loop-i.auto.i-end));
+    }

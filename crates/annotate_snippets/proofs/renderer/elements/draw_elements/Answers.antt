@@ -12,7 +12,9 @@ loop-i-init c = drawn_none c.args.renderer.now c.args.layout c.args.place (optio
 
 pub draw_element-requires-clause-around : goal.draw_element-requires-clause-around
 draw_element-requires-clause-around c =
-    let turn = YieldsList-turn (YieldsList-from_enumerate (YieldsList-from_vec c.args.elements.items (cc) (cc)) (cc)) c.loop-i.yielded c.loop-i.i-iterator c.loop-i.yielded_by c.next.result c.next.new.self (c.in-Some.i, c.in-Some.element) c.in-Some.is c.next.ensures.steps in
+    let turn = YieldsList-turn (YieldsList-from_enumerate (YieldsList-from_vec c.args.elements.items (cc) (cc))
+    (cc)) c.loop-i.yielded c.loop-i.i-iterator c.loop-i.yielded_by c.next.result c.next.new.self
+    (c.in-Some.i, c.in-Some.element) c.in-Some.is c.next.ensures.steps in
     turn_stands c.args.place (option_copied c.args.file) c.args.elements.items c.in_ok-around.around.items (length c.loop-i.yielded)
     c.in-Some.i c.in-Some.element c.index.result.now
     (subst (λ xs. AreAround c.args.place (option_copied c.args.file) (map element_of xs) c.in_ok-around.around.items)
@@ -20,7 +22,9 @@ draw_element-requires-clause-around c =
 
 pub loop-i-preserved : goal.loop-i-preserved
 loop-i-preserved c =
-    let turn = YieldsList-turn (YieldsList-from_enumerate (YieldsList-from_vec c.args.elements.items (cc) (cc)) (cc)) c.loop-i.yielded c.loop-i.i-iterator c.loop-i.yielded_by c.next.result c.next.new.self (c.in-Some.i, c.in-Some.element) c.in-Some.is c.next.ensures.steps in
+    let turn = YieldsList-turn (YieldsList-from_enumerate (YieldsList-from_vec c.args.elements.items (cc) (cc))
+    (cc)) c.loop-i.yielded c.loop-i.i-iterator c.loop-i.yielded_by c.next.result c.next.new.self
+    (c.in-Some.i, c.in-Some.element) c.in-Some.is c.next.ensures.steps in
     turn_drawn c.args.renderer.now c.args.layout c.args.place (option_copied c.args.file)
     c.args.elements.items c.in_ok-around.around.items (length c.loop-i.yielded)
     _ c.in-Some.i c.in-Some.element c.index.result.now c.args.buffer.now c.loop-i.buffer c.draw_element.new.buffer
@@ -30,7 +34,9 @@ loop-i-preserved c =
 
 pub returns : goal.returns
 returns c =
-    let end = YieldsList-end (YieldsList-from_enumerate (YieldsList-from_vec c.args.elements.items (cc) (cc)) (cc)) c.loop-i.yielded c.loop-i.i-iterator c.loop-i.yielded_by c.next.result c.next.new.self c.in-None.is c.next.ensures.steps in
+    let end = YieldsList-end (YieldsList-from_enumerate (YieldsList-from_vec c.args.elements.items (cc) (cc))
+    (cc)) c.loop-i.yielded c.loop-i.i-iterator c.loop-i.yielded_by c.next.result c.next.new.self c.in-None.is c.next.ensures.steps in
     record {
-      added = turns_all c.args.renderer.now c.args.layout c.args.place (option_copied c.args.file) c.args.elements.items (length c.loop-i.yielded) c.args.buffer.now c.loop-i.buffer end.1 c.loop-i.invariant;
+      added = turns_all c.args.renderer.now c.args.layout c.args.place (option_copied c.args.file) c.args.elements.items
+          (length c.loop-i.yielded) c.args.buffer.now c.loop-i.buffer end.1 c.loop-i.invariant;
     }

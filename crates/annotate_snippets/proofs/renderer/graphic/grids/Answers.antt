@@ -15,18 +15,25 @@ loop-i-init c = grids_none c.args.renderer.now c.args.groups.now c.new-grids.res
 
 pub draw_group-requires-clause-room : goal.draw_group-requires-clause-room
 draw_group-requires-clause-room c =
-    let turn = YieldsList-turn (YieldsList-from_enumerate (YieldsList-from_vec c.in_ok-prepared.prepared.items (cc) (cc)) (cc)) c.loop-i.yielded c.loop-i.i-iterator c.loop-i.yielded_by c.next.result c.next.new.self (c.in-Some.i, c.in-Some.group) c.in-Some.is c.next.ensures.steps in
+    let turn = YieldsList-turn (YieldsList-from_enumerate (YieldsList-from_vec c.in_ok-prepared.prepared.items (cc) (cc))
+    (cc)) c.loop-i.yielded c.loop-i.i-iterator c.loop-i.yielded_by c.next.result c.next.new.self
+    (c.in-Some.i, c.in-Some.group) c.in-Some.is c.next.ensures.steps in
     let same : map group_of c.deref.result.now ≡ c.args.groups.now = ap (map group_of) c.deref.ensures.value ∙ c.in_ok-prepared.ensures.groups in
     let layout : c.layout_for-layout.result ≡ layout_of_group c.args.renderer.now c.args.groups.now c.in-Some.group.group.now =
     layout_is c.args.renderer.now c.args.groups.now (map group_of c.deref.result.now)
     c.in-Some.group.group.now c.layout_for-layout.result c.gutter_of-gutter.result c.depth.result same c.gutter_of-gutter.ensures.value
     c.depth.ensures.value c.layout_for-layout.ensures.gutter c.layout_for-layout.ensures.code c.layout_for-layout.ensures.decor in
-    let prepared : IsGroupPrepared c.in-Some.group = turn_prepared c.in_ok-prepared.prepared.items (length c.loop-i.yielded) c.in-Some.i c.in-Some.group c.in_ok-prepared.ensures.prepared turn in
-    turn_room c.args.renderer.now c.args.groups.now c.in_ok-prepared.prepared.items (length c.loop-i.yielded) c.in-Some.i c.in-Some.group c.layout_for-layout.result c.requires.drawable prepared c.in_ok-prepared.ensures.groups turn layout
+    let prepared : IsGroupPrepared c.in-Some.group = turn_prepared c.in_ok-prepared.prepared.items
+    (length c.loop-i.yielded) c.in-Some.i c.in-Some.group c.in_ok-prepared.ensures.prepared turn in
+    turn_room c.args.renderer.now c.args.groups.now c.in_ok-prepared.prepared.items
+    (length c.loop-i.yielded) c.in-Some.i c.in-Some.group c.layout_for-layout.result c.requires.drawable prepared c.in_ok-prepared.ensures.groups
+    turn layout
 
 pub loop-i-preserved : goal.loop-i-preserved
 loop-i-preserved c =
-    let turn = YieldsList-turn (YieldsList-from_enumerate (YieldsList-from_vec c.in_ok-prepared.prepared.items (cc) (cc)) (cc)) c.loop-i.yielded c.loop-i.i-iterator c.loop-i.yielded_by c.next.result c.next.new.self (c.in-Some.i, c.in-Some.group) c.in-Some.is c.next.ensures.steps in
+    let turn = YieldsList-turn (YieldsList-from_enumerate (YieldsList-from_vec c.in_ok-prepared.prepared.items (cc) (cc))
+    (cc)) c.loop-i.yielded c.loop-i.i-iterator c.loop-i.yielded_by c.next.result c.next.new.self
+    (c.in-Some.i, c.in-Some.group) c.in-Some.is c.next.ensures.steps in
     let same : map group_of c.deref.result.now ≡ c.args.groups.now = ap (map group_of) c.deref.ensures.value ∙ c.in_ok-prepared.ensures.groups in
     let layout : c.layout_for-layout.result ≡ layout_of_group c.args.renderer.now c.args.groups.now c.in-Some.group.group.now =
     layout_is c.args.renderer.now c.args.groups.now (map group_of c.deref.result.now)
@@ -43,7 +50,9 @@ loop-i-preserved c =
 
 pub returns : goal.returns
 returns c =
-    let end = YieldsList-end (YieldsList-from_enumerate (YieldsList-from_vec c.in_ok-prepared.prepared.items (cc) (cc)) (cc)) c.loop-i.yielded c.loop-i.i-iterator c.loop-i.yielded_by c.next.result c.next.new.self c.in-None.is c.next.ensures.steps in
+    let end = YieldsList-end (YieldsList-from_enumerate (YieldsList-from_vec c.in_ok-prepared.prepared.items (cc) (cc))
+    (cc)) c.loop-i.yielded c.loop-i.i-iterator c.loop-i.yielded_by c.next.result c.next.new.self c.in-None.is c.next.ensures.steps in
     record {
-      drawn = grids_all c.args.renderer.now c.args.groups.now c.in_ok-prepared.prepared.items (length c.loop-i.yielded) c.loop-i.grids.items c.in_ok-prepared.ensures.groups end.1 c.loop-i.invariant;
+      drawn = grids_all c.args.renderer.now c.args.groups.now c.in_ok-prepared.prepared.items
+          (length c.loop-i.yielded) c.loop-i.grids.items c.in_ok-prepared.ensures.groups end.1 c.loop-i.invariant;
     }

@@ -14,15 +14,18 @@ loop-i-preserved c =
     let old = string_bytes c.loop-i.text in
     let new = string_bytes c.in_ok-text.text in
     let grid = c.index-grids-i.result in
-    let adds = subst (λ codes. WeavesRows codes grid.level grid.buffer (string_bytes c.if-i-gt0.text) new) c.loop-i.invariant.sheet c.in_ok-text.ensures.added in
+    let adds = subst (λ codes. WeavesRows codes grid.level grid.buffer
+    (string_bytes c.if-i-gt0.text) new) c.loop-i.invariant.sheet c.in_ok-text.ensures.added in
     let part = flat_map piece_text adds.pieces in
     let pushed : new ≡ string_bytes c.if-i-gt0.text ++ part = adds.text_is in
     let prints = subst (λ grid. IsPart sheet grid part) c.index-grids-i.is (IsPart-added sheet c.index-grids-i.result _ _ adds) in
     let printed : PrintsGrids sheet (take (c.loop-i.i + 1) c.args.grids.now) new = elim c.if-i-gt0.branch [
       | then-i-gt0+in_ok-push w ↦
           let fed = w.in_ok-push.ensures.bytes ∙ ap (λ t. old ++ t) (encode_ascii 10 (lit< tt)) in
-          PrintsGrids-next sheet c.args.grids.now c.loop-i.i c.index-grids-i.result old new part (omega arith) (omega arith) c.loop-i.invariant.prints prints (pushed ∙ ap (λ t. string_bytes t ++ part) w.text-is ∙ ap (λ t. t ++ part) fed ∙ append_assoc old (10 ∷ []) part)
+          PrintsGrids-next sheet c.args.grids.now c.loop-i.i c.index-grids-i.result old new part (omega arith) (omega arith) c.loop-i.invariant.prints prints
+          (pushed ∙ ap (λ t. string_bytes t ++ part) w.text-is ∙ ap (λ t. t ++ part) fed ∙ append_assoc old (10 ∷ []) part)
       | else-i-gt0 w ↦
-          PrintsGrids-first sheet c.args.grids.now c.loop-i.i c.index-grids-i.result old new part (omega arith) (omega arith) c.loop-i.invariant.prints prints (pushed ∙ ap (λ t. string_bytes t ++ part) w.text-is)
+          PrintsGrids-first sheet c.args.grids.now c.loop-i.i c.index-grids-i.result old new part (omega arith) (omega arith) c.loop-i.invariant.prints prints
+          (pushed ∙ ap (λ t. string_bytes t ++ part) w.text-is)
     ] in
     record { sheet = c.render_after.ensures.sheet ∙ c.loop-i.invariant.sheet; prints = printed }

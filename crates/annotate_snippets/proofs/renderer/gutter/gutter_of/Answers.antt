@@ -27,7 +27,8 @@ loop-group-preserved c =
     let more = widest-more_groups width_wanted ps c.loop-group.group-index p c.loop-group-test.true c.group-item.is in
     let own = widest-prepared width_wanted width-undrawn c.loop-group.gutter p c.deref.result.now c.deref.ensures.value prepared in
     record {
-      value = c.widened-gutter.ensures.value ∙ own ∙ ap (λ most. fold (greater width_wanted) most p.group.now.elements.items) c.loop-group.invariant.value ∙ sym more;
+      value = c.widened-gutter.ensures.value ∙ own ∙ ap (λ most. fold (greater width_wanted) most p.group.now.elements.items) c.loop-group.invariant.value
+          ∙ sym more;
       small = c.widened-gutter.ensures.small;
     }
 
@@ -35,5 +36,8 @@ pub returns-clause-value : goal.returns-clause-value
 returns-clause-value c =
     let ps = c.args.groups.now in
     let gs : List Group = map (λ (p : PreparedGroup). p.group.now) ps in
-    let all : c.loop-group.gutter ≡ fold (greater width_wanted) 0 (flat_map elements_in ps) = c.loop-group.invariant.value ∙ ap (λ (qs : List PreparedGroup). fold (greater width_wanted) 0 (flat_map elements_in qs)) (take_all c.loop-group.group-index ps c.loop-group-test.false) in
-    all ∙ sym (ap (λ b. cond b 2 (greatest_wanted (flat_map (λ (g : Group). g.elements.items) gs))) c.if-renderer.false ∙ ap (fold (greater width_wanted) 0) (flat_map-map (λ (g : Group). g.elements.items) (λ (p : PreparedGroup). p.group.now) ps))
+    let all : c.loop-group.gutter ≡ fold (greater width_wanted) 0 (flat_map elements_in ps) = c.loop-group.invariant.value
+    ∙ ap (λ (qs : List PreparedGroup). fold (greater width_wanted) 0 (flat_map elements_in qs))
+    (take_all c.loop-group.group-index ps c.loop-group-test.false) in
+    all ∙ sym (ap (λ b. cond b 2 (greatest_wanted (flat_map (λ (g : Group). g.elements.items) gs))) c.if-renderer.false
+    ∙ ap (fold (greater width_wanted) 0) (flat_map-map (λ (g : Group). g.elements.items) (λ (p : PreparedGroup). p.group.now) ps))

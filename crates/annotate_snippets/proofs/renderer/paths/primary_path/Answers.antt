@@ -21,8 +21,12 @@ returns-in-Origin c =
 
 pub loop-element-preserved : goal.loop-element-preserved
 loop-element-preserved c =
-    filter_map-passed file_of_element c.deref-element-items.result.now c.loop-element.element-index c.element-item.result c.loop-element.invariant c.loop-element-test.true c.element-item.is (no_file c.element-item.result c.in_default.not-Cause c.in_default.not-Origin)
+    filter_map-passed file_of_element c.deref-element-items.result.now c.loop-element.element-index c.element-item.result c.loop-element.invariant
+    c.loop-element-test.true c.element-item.is (no_file c.element-item.result c.in_default.not-Cause c.in_default.not-Origin)
 
 pub returns : goal.returns
 returns c =
-    record { value = primary_path-none c.args.group.now c.deref-element-items.result.now c.loop-element.element-index c.deref-element-items.ensures.value c.loop-element.invariant c.loop-element-test.false }
+    record {
+      value = primary_path-none c.args.group.now c.deref-element-items.result.now c.loop-element.element-index c.deref-element-items.ensures.value
+          c.loop-element.invariant c.loop-element-test.false;
+    }

@@ -17,7 +17,10 @@ loop-element-init c =
 
 pub prepare_element-requires : goal.prepare_element-requires
 prepare_element-requires c =
-    record { drawable = subst IsElementDrawable (sym c.element-item.is) (c.requires.drawable c.loop-element.element-index c.element-item.result c.loop-element-test.true) }
+    record {
+      drawable = subst IsElementDrawable (sym c.element-item.is)
+          (c.requires.drawable c.loop-element.element-index c.element-item.result c.loop-element-test.true);
+    }
 
 pub loop-element-preserved : goal.loop-element-preserved
 loop-element-preserved c =
@@ -27,14 +30,20 @@ loop-element-preserved c =
     elim c.match-branch-2.branch [
       | in-Some+in_ok-push w ↦
           let p = w.in-Some.element in
-          let items : c.match-branch-2.prepared.items ≡ before ++ p ∷ [] = ap (λ (v : Vec PreparedElement Global). v.items) w.prepared-is ∙ w.in_ok-push.ensures.items in
-          let drawn = subst (λ (q : Option PreparedElement). option_map element_of q ≡ cond (is_drawn e) (Some e) None) w.in-Some.is c.in_ok-element.ensures.drawn in
+          let items : c.match-branch-2.prepared.items ≡ before ++ p ∷ [] = ap (λ (v : Vec PreparedElement Global). v.items) w.prepared-is
+          ∙ w.in_ok-push.ensures.items in
+          let drawn = subst (λ (q : Option PreparedElement). option_map element_of q
+          ≡ cond (is_drawn e) (Some e) None) w.in-Some.is c.in_ok-element.ensures.drawn in
           let prepared = subst (λ (q : Option PreparedElement). IfSome q IsElementPrepared) w.in-Some.is c.in_ok-element.ensures.prepared in
-          AreDrawnPrepared-push es c.loop-element.element-index e before c.match-branch-2.prepared.items (Some p) items c.loop-element-test.true c.element-item.is drawn prepared c.loop-element.invariant
+          AreDrawnPrepared-push es c.loop-element.element-index e before c.match-branch-2.prepared.items
+          (Some p) items c.loop-element-test.true c.element-item.is drawn prepared c.loop-element.invariant
       | in_default w ↦
-          let items : c.match-branch-2.prepared.items ≡ before ++ [] = ap (λ (v : Vec PreparedElement Global). v.items) w.prepared-is ∙ sym (append-nil before) in
-          let drawn = subst (λ (q : Option PreparedElement). option_map element_of q ≡ cond (is_drawn e) (Some e) None) w.in_default.is c.in_ok-element.ensures.drawn in
-          AreDrawnPrepared-push es c.loop-element.element-index e before c.match-branch-2.prepared.items None items c.loop-element-test.true c.element-item.is drawn tt c.loop-element.invariant
+          let items : c.match-branch-2.prepared.items ≡ before ++ [] = ap (λ (v : Vec PreparedElement Global). v.items) w.prepared-is
+          ∙ sym (append-nil before) in
+          let drawn = subst (λ (q : Option PreparedElement). option_map element_of q
+          ≡ cond (is_drawn e) (Some e) None) w.in_default.is c.in_ok-element.ensures.drawn in
+          AreDrawnPrepared-push es c.loop-element.element-index e before c.match-branch-2.prepared.items None items c.loop-element-test.true c.element-item.is
+          drawn tt c.loop-element.invariant
     ]
 
 pub returns-clause-elements : goal.returns-clause-elements

@@ -12,8 +12,12 @@ pub loop-annotation-preserved : goal.loop-annotation-preserved
 loop-annotation-preserved c =
     let marks = c.args.annotations.now in
     let i = c.loop-annotation.annotation-index in
-    c.in_ok-push_label.ensures.added (primary_labels (take i marks)) c.loop-annotation.invariant ∙ ap joined_labels (primary_labels-more marks i c.annotation-item.result c.loop-annotation-test.true c.annotation-item.is)
+    c.in_ok-push_label.ensures.added (primary_labels (take i marks)) c.loop-annotation.invariant
+    ∙ ap joined_labels (primary_labels-more marks i c.annotation-item.result c.loop-annotation-test.true c.annotation-item.is)
 
 pub returns : goal.returns
 returns c =
-    record { value = c.loop-annotation.invariant ∙ ap (λ marks. joined_labels (primary_labels marks)) (take_all c.loop-annotation.annotation-index c.args.annotations.now c.loop-annotation-test.false) }
+    record {
+      value = c.loop-annotation.invariant ∙ ap (λ marks. joined_labels (primary_labels marks))
+          (take_all c.loop-annotation.annotation-index c.args.annotations.now c.loop-annotation-test.false);
+    }

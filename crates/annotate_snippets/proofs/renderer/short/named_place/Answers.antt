@@ -16,5 +16,9 @@ pub returns-in-Some : goal.returns-in-Some
 unfolding named
 returns-in-Some c =
     let s = c.args.source.now in
-    let at : c.span_to_locations.result.0 ≡ start_location s c.in-Some.start = ap (λ l. l.0) c.span_to_locations.ensures.value ∙ locations_of-start s c.in-Some.start c.in-Some.start in
-    record { value = λ fold. ap named at ∙ sym (ap place_found (c.naming_start.ensures.named fold s c.requires.utf8 c.requires.spans ∙ ap (option_map (place_at s)) c.in-Some.is)) }
+    let at : c.span_to_locations.result.0 ≡ start_location s c.in-Some.start = ap (λ l. l.0) c.span_to_locations.ensures.value
+    ∙ locations_of-start s c.in-Some.start c.in-Some.start in
+    record {
+      value = λ fold. ap named at ∙ sym (ap place_found (c.naming_start.ensures.named fold s c.requires.utf8 c.requires.spans
+          ∙ ap (option_map (place_at s)) c.in-Some.is));
+    }

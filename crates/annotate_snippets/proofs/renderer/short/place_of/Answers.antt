@@ -21,7 +21,8 @@ new-requires-2-clause-numbers c =
 
 pub named_place-place-requires : goal.named_place-place-requires
 named_place-place-requires c =
-    let spans = subst (All (λ a. IsSpan (cow_str_bytes c.args.snippet.now.source) a.span.start a.span.end)) (sym c.deref.ensures.value) c.requires.drawable.spans in
+    let spans = subst (All (λ a. IsSpan (cow_str_bytes c.args.snippet.now.source) a.span.start a.span.end))
+    (sym c.deref.ensures.value) c.requires.drawable.spans in
     let text : c.in_ok-map.map.text ≡ c.as_str.result.now = ap (λ (m : Source). m.text) c.in_ok-map.ensures.ok in
     record {
       spans = subst (λ t. All (λ a. IsSpan t a.span.start a.span.end) c.deref.result.now) (sym (text ∙ c.as_str.ensures.value)) spans;
@@ -44,8 +45,10 @@ returns c =
     let own : place ≡ place_named true (annotated_lines s.fold (numbered_source s) s.markers.items) =
     c.named_place-place.ensures.value s.fold ∙ ap (λ source. place_named true (annotated_lines s.fold source c.deref.result.now)) map_is
     ∙ ap (λ marks. place_named true (annotated_lines s.fold (numbered_source s) marks)) c.deref.ensures.value in
-    let text : chars (string_bytes c.in_ok-text.text) ≡ origin_text c.args.renderer.now.anonymized_origin_line_numbers path place = c.in_ok-text.ensures.value ∙ ap (λ bs. origin_text c.args.renderer.now.anonymized_origin_line_numbers bs place) c.as_str-2.ensures.value in
-    let is = place-added (string_bytes c.in_ok-text.text) (string_bytes c.push_str.new.self) _ (IsUtf8-string_bytes c.in_ok-text.text) text c.in_ok-push_str.ensures.bytes in
+    let text : chars (string_bytes c.in_ok-text.text) ≡ origin_text c.args.renderer.now.anonymized_origin_line_numbers path place = c.in_ok-text.ensures.value
+    ∙ ap (λ bs. origin_text c.args.renderer.now.anonymized_origin_line_numbers bs place) c.as_str-2.ensures.value in
+    let is = place-added (string_bytes c.in_ok-text.text) (string_bytes c.push_str.new.self) _
+    (IsUtf8-string_bytes c.in_ok-text.text) text c.in_ok-push_str.ensures.bytes in
     let short : TextFits path = subst (λ p. IfSome p (λ t. TextFits (cow_str_bytes t))) c.in-Some.is c.requires.fits.1 in
     let fits : PlaceFits place = search rules in
     record {

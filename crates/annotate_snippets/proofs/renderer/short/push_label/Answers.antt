@@ -14,16 +14,20 @@ pub returns-then-is_blank : goal.returns-then-is_blank
 returns-then-is_blank c =
     let label : List ℕ = chars (cow_str_bytes c.in_ok-label.label) in
     let is : label ≡ norm (chars (cow_str_bytes c.in-Primary-Some.label)) = c.in_ok-label.ensures.value ∙ ap (λ bs. norm (chars bs)) c.as_str.ensures.value in
-    let blank : list_all is_whitespace label ≡ true = sym (c.is_blank.ensures.value ∙ ap (λ bs. list_all is_whitespace (chars bs)) c.deref.ensures.value) ∙ c.if-is_blank.true in
-    let none : primary_labels (c.args.annotation.now ∷ []) ≡ [] = primary_labels-one c.args.annotation.now c.in-Primary-Some.label label true c.in-Primary-Some.is-0 c.in-Primary-Some.is-1 is blank in
+    let blank : list_all is_whitespace label ≡ true = sym (c.is_blank.ensures.value ∙ ap (λ bs. list_all is_whitespace (chars bs)) c.deref.ensures.value)
+    ∙ c.if-is_blank.true in
+    let none : primary_labels (c.args.annotation.now ∷ []) ≡ [] = primary_labels-one c.args.annotation.now c.in-Primary-Some.label label true
+    c.in-Primary-Some.is-0 c.in-Primary-Some.is-1 is blank in
     record { added = λ labels are. are ∙ ap joined_labels (sym (append-nil labels) ∙ ap (λ ls. labels ++ ls) (sym none)) }
 
 pub returns : goal.returns
 returns c =
     let label : List ℕ = chars (cow_str_bytes c.in_ok-label.label) in
     let is : label ≡ norm (chars (cow_str_bytes c.in-Primary-Some.label)) = c.in_ok-label.ensures.value ∙ ap (λ bs. norm (chars bs)) c.as_str.ensures.value in
-    let shown : list_all is_whitespace label ≡ false = sym (c.is_blank.ensures.value ∙ ap (λ bs. list_all is_whitespace (chars bs)) c.deref.ensures.value) ∙ c.if-is_blank.false in
-    let one : primary_labels (c.args.annotation.now ∷ []) ≡ label ∷ [] = primary_labels-one c.args.annotation.now c.in-Primary-Some.label label false c.in-Primary-Some.is-0 c.in-Primary-Some.is-1 is shown in
+    let shown : list_all is_whitespace label ≡ false = sym (c.is_blank.ensures.value ∙ ap (λ bs. list_all is_whitespace (chars bs)) c.deref.ensures.value)
+    ∙ c.if-is_blank.false in
+    let one : primary_labels (c.args.annotation.now ∷ []) ≡ label ∷ [] = primary_labels-one c.args.annotation.now c.in-Primary-Some.label label false
+    c.in-Primary-Some.is-0 c.in-Primary-Some.is-1 is shown in
     let led : c.if-is_empty.push_str.now ≡ lead c.is_empty.result = elim c.if-is_empty.branch [
       | then-is_empty w ↦ ap (λ (b : Bor (List ℕ)). b.now) w.push_str-is ∙ ap lead (sym w.if-is_empty.true)
       | else-is_empty w ↦ ap (λ (b : Bor (List ℕ)). b.now) w.push_str-is ∙ ap lead (sym w.if-is_empty.false)

@@ -16,11 +16,13 @@ loop-i-init c =
 
 pub add_element-requires-clause-drawable : goal.add_element-requires-clause-drawable
 add_element-requires-clause-drawable c =
-    subst (λ (d : DrawnElement). IsElementDrawable (seen d)) (sym c.index-elements-i.is) (c.requires.drawable c.loop-i.i c.index-elements-i.result c.loop-i-test.true)
+    subst (λ (d : DrawnElement). IsElementDrawable (seen d)) (sym c.index-elements-i.is)
+    (c.requires.drawable c.loop-i.i c.index-elements-i.result c.loop-i-test.true)
 
 pub add_element-requires-clause-drawn : goal.add_element-requires-clause-drawn
 add_element-requires-clause-drawn c =
-    subst (λ (d : DrawnElement). is_drawn (seen d) ≡ true) (sym c.index-elements-i.is) (c.requires.drawn c.loop-i.i c.index-elements-i.result c.loop-i-test.true)
+    subst (λ (d : DrawnElement). is_drawn (seen d) ≡ true) (sym c.index-elements-i.is)
+    (c.requires.drawn c.loop-i.i c.index-elements-i.result c.loop-i-test.true)
 
 pub add_element-requires-clause-small : goal.add_element-requires-clause-small
 add_element-requires-clause-small c =
@@ -37,4 +39,7 @@ loop-i-preserved c =
 
 pub returns : goal.returns
 returns c =
-    record { added = all_added c.args.renderer.now (option_copied c.args.file) (map seen c.args.elements.now) c.loop-i.i c.args.form.now c.loop-i.form (before_seen c.loop-i.before) (omega (arith, length-map c.args.elements.now seen, c.loop-i-test.false, c.loop-i.auto.i-end)) c.loop-i.invariant }
+    record {
+      added = all_added c.args.renderer.now (option_copied c.args.file) (map seen c.args.elements.now) c.loop-i.i c.args.form.now c.loop-i.form
+          (before_seen c.loop-i.before) (omega (arith, length-map c.args.elements.now seen, c.loop-i-test.false, c.loop-i.auto.i-end)) c.loop-i.invariant;
+    }

@@ -16,7 +16,8 @@ pub returns-in-Some : goal.returns-in-Some
 returns-in-Some c =
     let same = subst (λ (t : Option PreparedSuggestion). IfSome t (λ p. p.snippet.now ≡ c.args.snippet.now)) c.in-Some.is c.in_ok-suggestion.ensures.snippet in
     record {
-      added = subst (λ (s : Snippet Patch). OnOk c.add_suggestion.result (c.add_suggestion.new.form ≡ c.args.form.now ++ suggestion_form c.args.anonymized c.args.place s)) same c.add_suggestion.ensures.added;
+      added = subst (λ (s : Snippet Patch). OnOk c.add_suggestion.result
+          (c.add_suggestion.new.form ≡ c.args.form.now ++ suggestion_form c.args.anonymized c.args.place s)) same c.add_suggestion.ensures.added;
     }
 
 pub returns-in-None : goal.returns-in-None

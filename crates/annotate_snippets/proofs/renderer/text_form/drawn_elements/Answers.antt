@@ -19,11 +19,13 @@ loop-element-preserved c =
       | then-is_drawn+in_ok-push w ↦
           let items = ap (λ (v : Vec DrawnElement Global). v.items) w.drawn-is ∙ w.in_ok-push.ensures.items in
           let one = ap (λ b. cond b (e ∷ []) []) (sym w.if-is_drawn.true) in
-          drawn_more es c.loop-element.element-index e before c.if-is_drawn.drawn.items _ c.is_drawn.result c.loop-element-test.true c.element-item.is c.is_drawn.ensures.value items one c.loop-element.invariant
+          drawn_more es c.loop-element.element-index e before c.if-is_drawn.drawn.items _ c.is_drawn.result c.loop-element-test.true c.element-item.is
+          c.is_drawn.ensures.value items one c.loop-element.invariant
       | else-is_drawn w ↦
           let items : c.if-is_drawn.drawn.items ≡ before ++ [] = ap (λ (v : Vec DrawnElement Global). v.items) w.drawn-is ∙ sym (append-nil before) in
           let one : [] ≡ cond c.is_drawn.result (e ∷ []) [] = ap (λ b. cond b (e ∷ []) []) (sym w.if-is_drawn.false) in
-          drawn_more es c.loop-element.element-index e before c.if-is_drawn.drawn.items [] c.is_drawn.result c.loop-element-test.true c.element-item.is c.is_drawn.ensures.value items one c.loop-element.invariant
+          drawn_more es c.loop-element.element-index e before c.if-is_drawn.drawn.items [] c.is_drawn.result c.loop-element-test.true c.element-item.is
+          c.is_drawn.ensures.value items one c.loop-element.invariant
     ]
 
 pub returns : goal.returns

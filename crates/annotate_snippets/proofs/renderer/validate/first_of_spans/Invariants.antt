@@ -5,4 +5,5 @@ use Rattle.annotate_snippets.proofs.renderer.validate.first_of_spans.Given as go
 
 abbrev pub invariant-loop-number : goal.invariant-loop-number
 invariant-loop-number g l =
-    faults_from (λ n m. span_faults l.group l.element l.source n (g.T.Marker.span_of m)) 0 l.markers ≡ faults_from (λ n m. span_faults l.group l.element l.source n (g.T.Marker.span_of m)) l.number (drop l.number l.markers)
+    faults_from (λ n m. span_faults l.group l.element l.source n (g.T.Marker.span_of m)) 0 l.markers
+    ≡ faults_from (λ n m. span_faults l.group l.element l.source n (g.T.Marker.span_of m)) l.number (drop l.number l.markers)

@@ -8,13 +8,19 @@ use Rattle.annotate_snippets.proofs.FaultLemmas.{none_first, spans-faultless, ov
 use Rattle.annotate_snippets.proofs.renderer.validate.first_of_suggestion.Goals as goal
 
 pub check_patches-requires : goal.check_patches-requires
-check_patches-requires c = record { spans = spans-faultless (λ (p : Patch). p.span) c.args.group c.args.element 0 c.as_str-source.result.now c.deref-patches.result.now (none_first _ (sym c.first_of_spans.ensures.value ∙ c.in_default.is)) }
+check_patches-requires c = record {
+  spans = spans-faultless (λ (p : Patch). p.span) c.args.group c.args.element 0 c.as_str-source.result.now
+      c.deref-patches.result.now (none_first _ (sym c.first_of_spans.ensures.value ∙ c.in_default.is));
+}
 
 pub returns-in-Some-check_patches : goal.returns-in-Some-check_patches
 returns-in-Some-check_patches c =
     let patches : List Patch = c.args.snippet.now.markers.items in
     let source : List ℕ = cow_str_bytes c.args.snippet.now.source in
     let faults = λ (s : List ℕ) (ps : List Patch). faults_from (λ n (p : Patch). span_faults c.args.group c.args.element s n p.span) 0 ps in
-    let none : faults source patches ≡ [] = ap (λ (s : List ℕ). faults s patches) (sym c.as_str-source.ensures.value) ∙ ap (faults c.as_str-source.result.now) (sym c.deref-patches.ensures.value) ∙ none_first _ (sym c.first_of_spans.ensures.value ∙ c.in_default.is) in
-    let pair : first_overlap (map edit_of patches) ≡ Some (c.in-Some-check_patches.first, c.in-Some-check_patches.second) = ap (λ (ps : List Patch). first_overlap (map edit_of ps)) (sym c.deref-patches.ensures.value) ∙ sym c.check_patches.ensures.value ∙ c.in-Some-check_patches.is in
+    let none : faults source patches ≡ [] = ap (λ (s : List ℕ). faults s patches) (sym c.as_str-source.ensures.value)
+    ∙ ap (faults c.as_str-source.result.now) (sym c.deref-patches.ensures.value) ∙ none_first _ (sym c.first_of_spans.ensures.value ∙ c.in_default.is) in
+    let pair : first_overlap (map edit_of patches) ≡ Some (c.in-Some-check_patches.first, c.in-Some-check_patches.second) = ap
+    (λ (ps : List Patch). first_overlap (map edit_of ps)) (sym c.deref-patches.ensures.value) ∙ sym c.check_patches.ensures.value
+    ∙ c.in-Some-check_patches.is in
     record { value = overlap-first _ _ c.args.group c.args.element patches c.in-Some-check_patches.first c.in-Some-check_patches.second none pair }

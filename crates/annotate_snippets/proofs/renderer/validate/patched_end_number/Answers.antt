@@ -7,5 +7,6 @@ use Rattle.annotate_snippets.proofs.renderer.validate.patched_end_number.Goals a
 pub returns : goal.returns
 returns c =
     let all = take_all c.loop-patch.patch-index c.args.patches.now (omega arith) in
-    let value : c.loop-patch.end ≡ number_after_lines c.args.line_start c.args.source.now + added_lines c.args.patches.now = c.loop-patch.invariant.0 ∙ ap (λ (patches : List Patch). number_after_lines c.args.line_start c.args.source.now + added_lines patches) all in
+    let value : c.loop-patch.end ≡ number_after_lines c.args.line_start c.args.source.now + added_lines c.args.patches.now = c.loop-patch.invariant.0
+    ∙ ap (λ (patches : List Patch). number_after_lines c.args.line_start c.args.source.now + added_lines patches) all in
     record { value = (omega arith, value) }

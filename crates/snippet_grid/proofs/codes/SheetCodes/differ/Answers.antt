@@ -4,7 +4,8 @@ use Rattle.snippet_grid.proofs.codes.SheetCodes.differ.Goals as goal
 
 pub returns-then-a-b-clause-yes : goal.returns-then-a-b-clause-yes
 returns-then-a-b-clause-yes c =
-    λ yes same. differs_told c.style_at.result c.style_at-then-a-b.result (sym yes ∙ c.ne.ensures) (c.style_at.ensures.value ∙ same ∙ sym c.style_at-then-a-b.ensures.value)
+    λ yes same. differs_told c.style_at.result c.style_at-then-a-b.result (sym yes ∙ c.ne.ensures)
+    (c.style_at.ensures.value ∙ same ∙ sym c.style_at-then-a-b.ensures.value)
 
 pub returns-then-a-b-clause-no : goal.returns-then-a-b-clause-no
 returns-then-a-b-clause-no c =

@@ -10,7 +10,8 @@ returns-in-Some-clause-text c =
     let sheet = c.self.inside.sheet in
     let code = c.self.invariant.codes.each c.args.place c.in-Some.code c.index-self-place.result sheet.none c.requires.within c.in-Some.is in
     let opens = c.as_str.ensures.value ∙ code ∙ ap opening_bytes (ap (λ s. style_at s c.args.place) c.self.view_is) in
-    on_ok_weaker c.push_str.result (λ bytes. bytes ∙ ap (λ (t : List ℕ). string_bytes c.args.out.now ++ t) opens) (on_ok_value c.push_str.result _ _ _ c.push_str.ensures.bytes)
+    on_ok_weaker c.push_str.result (λ bytes. bytes ∙ ap (λ (t : List ℕ). string_bytes c.args.out.now ++ t) opens)
+    (on_ok_value c.push_str.result _ _ _ c.push_str.ensures.bytes)
 
 pub invariant_of-self : goal.invariant_of-self
 invariant_of-self c =
@@ -18,5 +19,6 @@ invariant_of-self c =
     let style = c.style_at.ensures.value ∙ sym (ap (λ s. style_at s c.args.place) c.self.view_is) in
     record {
       styles = c.self.invariant.styles;
-      codes = openings_set c.self.inside.codes (styles_in sheet) c.args.place c.in_ok-code.code sheet.none c.self.invariant.codes c.requires.within (c.in_ok-code.ensures.text ∙ ap opening_bytes style);
+      codes = openings_set c.self.inside.codes (styles_in sheet) c.args.place c.in_ok-code.code sheet.none c.self.invariant.codes c.requires.within
+          (c.in_ok-code.ensures.text ∙ ap opening_bytes style);
     }

@@ -22,7 +22,8 @@ returns-clause-ok c =
     c.width_of-end.ensures.value ∙ ap (λ (w : List ℕ). slice_index_or w c.args.row 0) c.deref.ensures.value
     ∙ sym (width_shown (string_bytes c.self.inside.text) c.self.inside.runs.items c.self.inside.widths.items c.args.row)
     ∙ ap (λ (rows : List (List Cell)). length (row_at rows c.args.row)) c.self.view_is in
-    on_ok_weaker c.puts.result (λ is some. is some ∙ ap (λ at. cells_written c.args.self.now c.args.row at (text_cells c.args.role (chars c.args.text.now))) end) c.puts.ensures.ok
+    on_ok_weaker c.puts.result (λ is some. is some ∙ ap (λ at. cells_written c.args.self.now c.args.row at
+    (text_cells c.args.role (chars c.args.text.now))) end) c.puts.ensures.ok
 
 pub returns-clause-reads : goal.returns-clause-reads
 returns-clause-reads c =
@@ -30,4 +31,5 @@ returns-clause-reads c =
     c.width_of-end.ensures.value ∙ ap (λ (w : List ℕ). slice_index_or w c.args.row 0) c.deref.ensures.value
     ∙ sym (width_shown (string_bytes c.self.inside.text) c.self.inside.runs.items c.self.inside.widths.items c.args.row)
     ∙ ap (λ (rows : List (List Cell)). length (row_at rows c.args.row)) c.self.view_is in
-    on_ok_weaker c.puts.result (λ reads some. subst (λ at. WritesCells c.args.self.now c.puts.new.self c.args.row at (text_cells c.args.role (chars c.args.text.now))) end (reads some)) c.puts.ensures.reads
+    on_ok_weaker c.puts.result (λ reads some. subst (λ at. WritesCells c.args.self.now c.puts.new.self c.args.row at
+    (text_cells c.args.role (chars c.args.text.now))) end (reads some)) c.puts.ensures.reads

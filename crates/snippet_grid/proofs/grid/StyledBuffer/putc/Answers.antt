@@ -13,9 +13,11 @@ puts-requires-clause-end c =
 pub returns-clause-ok : goal.returns-clause-ok
 returns-clause-ok c =
     let one : chars c.encode_utf8.result.now ≡ c.args.ch ∷ [] = one_char c.args.ch c.encode_utf8.result.now c.encode_utf8.utf8 c.encode_utf8.ensures.value in
-    on_ok_weaker c.puts.result (λ is. is (omega (arith, c.encode_utf8.ensures.lower_bound)) ∙ ap (λ (cs : List ℕ). cells_written c.args.self.now c.args.row c.args.cell (text_cells c.args.role cs)) one) c.puts.ensures.ok
+    on_ok_weaker c.puts.result (λ is. is (omega (arith, c.encode_utf8.ensures.lower_bound))
+    ∙ ap (λ (cs : List ℕ). cells_written c.args.self.now c.args.row c.args.cell (text_cells c.args.role cs)) one) c.puts.ensures.ok
 
 pub returns-clause-reads : goal.returns-clause-reads
 returns-clause-reads c =
     let one : chars c.encode_utf8.result.now ≡ c.args.ch ∷ [] = one_char c.args.ch c.encode_utf8.result.now c.encode_utf8.utf8 c.encode_utf8.ensures.value in
-    on_ok_weaker c.puts.result (λ reads. subst (λ (cs : List ℕ). WritesCells c.args.self.now c.puts.new.self c.args.row c.args.cell (text_cells c.args.role cs)) one (reads (omega (arith, c.encode_utf8.ensures.lower_bound)))) c.puts.ensures.reads
+    on_ok_weaker c.puts.result (λ reads. subst (λ (cs : List ℕ). WritesCells c.args.self.now c.puts.new.self c.args.row c.args.cell
+    (text_cells c.args.role cs)) one (reads (omega (arith, c.encode_utf8.ensures.lower_bound)))) c.puts.ensures.reads

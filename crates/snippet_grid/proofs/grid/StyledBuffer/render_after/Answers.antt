@@ -5,9 +5,17 @@ use Rattle.snippet_grid.proofs.grid.StyledBuffer.render_after.Goals as goal
 
 pub weave_rows-requires : goal.weave_rows-requires
 weave_rows-requires c =
-    record { grid = IsGrid-read (string_bytes c.self.inside.text) c.as_str.result.now c.self.inside.runs.items c.deref.result.now c.self.inside.widths.items c.deref-2.result.now c.as_str.ensures.value c.deref.ensures.value c.deref-2.ensures.value c.self.invariant.0 }
+    record {
+      grid = IsGrid-read (string_bytes c.self.inside.text) c.as_str.result.now c.self.inside.runs.items c.deref.result.now c.self.inside.widths.items
+          c.deref-2.result.now c.as_str.ensures.value c.deref.ensures.value c.deref-2.ensures.value c.self.invariant.0;
+    }
 
 pub returns : goal.returns
 returns c =
-    let shown = grid_read (string_bytes c.self.inside.text) c.as_str.result.now c.self.inside.runs.items c.deref.result.now c.self.inside.widths.items c.deref-2.result.now c.as_str.ensures.value c.deref.ensures.value c.deref-2.ensures.value ∙ c.self.view_is in
-    record { sheet = c.in_ok-weave_rows.ensures.sheet; added = AddsRows-same c.args.codes.now c.args.level c.args.self.now _ _ _ _ shown c.in_ok-reserve.ensures.bytes c.in_ok-weave_rows.ensures.text }
+    let shown = grid_read (string_bytes c.self.inside.text) c.as_str.result.now c.self.inside.runs.items c.deref.result.now c.self.inside.widths.items
+    c.deref-2.result.now c.as_str.ensures.value c.deref.ensures.value c.deref-2.ensures.value ∙ c.self.view_is in
+    record {
+      sheet = c.in_ok-weave_rows.ensures.sheet;
+      added = AddsRows-same c.args.codes.now c.args.level c.args.self.now _ _ _ _ shown
+          c.in_ok-reserve.ensures.bytes c.in_ok-weave_rows.ensures.text;
+    }

@@ -20,4 +20,11 @@ returns-clause-reads c =
 
 pub returns-clause-past_succeeds : goal.returns-clause-past_succeeds
 returns-clause-past_succeeds c =
-    λ past. c.replace_cells.ensures.past_succeeds (omega (arith, past, width_shown (string_bytes c.self.inside.text) c.self.inside.runs.items c.self.inside.widths.items c.args.row, ap (λ rows. length (row_at rows c.args.row)) c.self.view_is))
+    λ past. c.replace_cells.ensures.past_succeeds (omega (
+      arith,
+      past,
+      width_shown
+          (string_bytes c.self.inside.text) c.self.inside.runs.items c.self.inside.widths.items c.args.row,
+      ap (λ rows.
+          length (row_at rows c.args.row)) c.self.view_is,
+    ))

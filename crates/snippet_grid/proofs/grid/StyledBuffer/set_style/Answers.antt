@@ -15,7 +15,8 @@ returns-then-cell-width c =
     c.width_of-width.ensures.value ∙ ap (λ (w : List ℕ). slice_index_or w c.args.row 0) c.deref.ensures.value
     ∙ sym (width_shown (string_bytes c.self.inside.text) c.self.inside.runs.items c.self.inside.widths.items c.args.row)
     ∙ ap (λ (l : List (List Cell)). length (row_at l c.args.row)) c.self.view_is in
-    let same : rows ≡ cells_restyled rows c.args.row c.args.cell (c.args.cell + 1) c.args.style c.args.overwrite = sym (cells_changed_none f rows c.args.row c.args.cell (c.args.cell + 1) (omega (arith, c.if-cell-width.true, width))) in
+    let same : rows ≡ cells_restyled rows c.args.row c.args.cell (c.args.cell + 1) c.args.style c.args.overwrite = sym
+    (cells_changed_none f rows c.args.row c.args.cell (c.args.cell + 1) (omega (arith, c.if-cell-width.true, width))) in
     record {
       ok = same;
       reads = ChangesCells-from_equal f rows rows c.args.row c.args.cell (c.args.cell + 1) same;

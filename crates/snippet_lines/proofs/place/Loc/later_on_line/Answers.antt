@@ -10,10 +10,13 @@ use Rattle.snippet_lines.proofs.place.Loc.later_on_line.Goals as goal
 
 -- what stands before the byte is what stands before the earlier one, and what is walked
 walked : (c : goal.After-struct_known-3-1)
-    → chars (take (c.args.byte - c.args.start) c.args.text.now) ≡ chars (take (c.args.self.byte - c.args.start) c.args.text.now) ++ chars c.range-between.result.now
+    → chars (take (c.args.byte - c.args.start) c.args.text.now) ≡ chars (take (c.args.self.byte - c.args.start) c.args.text.now)
+    ++ chars c.range-between.result.now
 walked c =
     let order : c.args.self.byte - c.args.start ≤ c.args.byte - c.args.start = omega (arith, c.requires.later) in
-    chars-later c.args.text.now c.range-between.result.now (c.args.self.byte - c.args.start) (c.args.byte - c.args.start) c.min-from.result c.min-to.result c.utf8.text c.requires.here_border order c.min-from.ensures c.min-to.ensures c.range-between.ensures.value
+    chars-later c.args.text.now c.range-between.result.now (c.args.self.byte - c.args.start)
+    (c.args.byte - c.args.start) c.min-from.result c.min-to.result c.utf8.text c.requires.here_border order c.min-from.ensures c.min-to.ensures
+    c.range-between.ensures.value
 
 characters : (c : goal.After-struct_known-3-1) → c.args.self.char + c.char_count.result ≡ length (chars (take (c.args.byte - c.args.start) c.args.text.now))
 characters c =
@@ -37,7 +40,16 @@ narrow n text = omega (arith, width_of-chars (take n text), length-take n text)
 pub overflow_add-result : goal.overflow_add-result
 overflow_add-result c =
     let few : length c.range-between.result.now ≤ length c.args.text.now = grind (arith, common_steps) in
-    omega (arith, c.requires.fits, c.requires.here_char, c.char_count.ensures.value, short (c.args.self.byte - c.args.start) c.args.text.now, length-chars_le c.range-between.result.now, few)
+    omega (
+      arith,
+      c.requires.fits,
+      c.requires.here_char,
+      c.char_count.ensures.value,
+      short
+          (c.args.self.byte - c.args.start) c.args.text.now,
+      length-chars_le c.range-between.result.now,
+      few,
+    )
 
 pub overflow_add-result-2 : goal.overflow_add-result-2
 overflow_add-result-2 c =

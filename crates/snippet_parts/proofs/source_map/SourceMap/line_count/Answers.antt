@@ -7,7 +7,8 @@ use Rattle.snippet_parts.proofs.source_map.SourceMap.line_count.Goals as goal
 pub returns-clause-value : goal.returns-clause-value
 returns-clause-value c =
     let m = c.self.inside in
-    c.len.ensures ∙ m.starts.ok.0 ∙ length-table m.source.now m.starts.items c.self.invariant.starts_are ∙ ap (λ (s : Source). length (source_lines s.text)) c.self.view_is
+    c.len.ensures ∙ m.starts.ok.0 ∙ length-table m.source.now m.starts.items c.self.invariant.starts_are
+    ∙ ap (λ (s : Source). length (source_lines s.text)) c.self.view_is
 
 pub returns-clause-lines : goal.returns-clause-lines
 returns-clause-lines c = AreLinesOf-source_lines c.args.self.now.text

@@ -12,7 +12,9 @@ returns-in-Some c =
     let inside : c.args.index + 1 < length c.deref.result.now = ltb-true (c.args.index + 1) (length c.deref.result.now) (sym c.in-Some.ensures.lookup.0) in
     let within : c.args.index + 1 < length m.starts.items = omega (arith, inside, ap length starts) in
     record {
-      value = c.in-Some.ensures.lookup.1 ∙ ap (λ ss. get_or ss (c.args.index + 1) next) starts ∙ table-start m.source.now m.starts.items c.self.invariant.starts_are (c.args.index + 1) next within ∙ ap (λ (s : Source). start_of (source_lines s.text) (c.args.index + 1)) c.self.view_is;
+      value = c.in-Some.ensures.lookup.1 ∙ ap (λ ss. get_or ss (c.args.index + 1) next) starts
+          ∙ table-start m.source.now m.starts.items c.self.invariant.starts_are (c.args.index + 1) next within
+          ∙ ap (λ (s : Source). start_of (source_lines s.text) (c.args.index + 1)) c.self.view_is;
     }
 
 pub returns-in-None : goal.returns-in-None
@@ -21,5 +23,6 @@ returns-in-None c =
     let outside : length c.deref.result.now ≤ c.args.index + 1 = ltb-false (c.args.index + 1) (length c.deref.result.now) (sym c.in-None.ensures.lookup.0) in
     let after : length m.starts.items ≤ c.args.index + 1 = omega (arith, outside, ap length c.deref.ensures.value) in
     record {
-      value = sym (table-end m.source.now m.starts.items c.self.invariant.starts_are (c.args.index + 1) after) ∙ ap (λ (s : Source). start_of (source_lines s.text) (c.args.index + 1)) c.self.view_is;
+      value = sym (table-end m.source.now m.starts.items c.self.invariant.starts_are (c.args.index + 1) after)
+          ∙ ap (λ (s : Source). start_of (source_lines s.text) (c.args.index + 1)) c.self.view_is;
     }

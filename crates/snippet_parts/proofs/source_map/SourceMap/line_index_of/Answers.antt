@@ -15,7 +15,8 @@ last_starting_by-requires c =
     record {
       some = subst (λ ss. 0 < length ss) same (table-some m.source.now m.starts.items c.self.invariant.starts_are);
       ordered = subst (IsNonDecreasingBy (λ (start : ℕ). start)) same (table-ordered m.source.now m.starts.items c.self.invariant.starts_are);
-      first = subst (λ ss. HoldsAt (λ (start : ℕ). start ≤ c.args.byte) ss 0) same (table-first m.source.now m.starts.items c.self.invariant.starts_are c.args.byte);
+      first = subst (λ ss. HoldsAt (λ (start : ℕ). start ≤ c.args.byte) ss 0) same
+          (table-first m.source.now m.starts.items c.self.invariant.starts_are c.args.byte);
     }
 
 pub returns : goal.returns

@@ -10,7 +10,8 @@ pub later_on_line-requires-clause-here_char : goal.later_on_line-requires-clause
 later_on_line-requires-clause-here_char c = located-char c.args.self.now c.args.known.byte c.args.line.now c.requires.known_line c.args.known c.requires.known
 
 pub later_on_line-requires-clause-here_display : goal.later_on_line-requires-clause-here_display
-later_on_line-requires-clause-here_display c = located-display c.args.self.now c.args.known.byte c.args.line.now c.requires.known_line c.args.known c.requires.known
+later_on_line-requires-clause-here_display c = located-display c.args.self.now c.args.known.byte c.args.line.now c.requires.known_line c.args.known
+    c.requires.known
 
 pub later_on_line-requires-clause-here_border : goal.later_on_line-requires-clause-here_border
 later_on_line-requires-clause-here_border c = located-border c.args.self.now c.args.known.byte c.args.line.now c.requires.known_line c.requires.known_border

@@ -17,11 +17,22 @@ pub line_info-requires : goal.line_info-requires
 line_info-requires c =
     let text = c.args.self.now.text in
     let le = ordered text c.args.span.start c.args.span.end c.requires.span.ordered in
-    record { within = omega (arith, le, c.loop-index-test.true, c.loop-index.auto.index-end, c.line_index_of-first.ensures.value, c.line_index_of-last.ensures.value, line_of-within text c.args.span.end) }
+    record {
+      within = omega (
+        arith,
+        le,
+        c.loop-index-test.true,
+        c.loop-index.auto.index-end,
+        c.line_index_of-first.ensures.value,
+        c.line_index_of-last.ensures.value,
+        line_of-within text c.args.span.end,
+      );
+    }
 
 pub loop-index-preserved : goal.loop-index-preserved
 loop-index-preserved c =
-    entries-more c.args.self.now.first (source_lines c.args.self.now.text) c.loop-index.lines.items c.push.new.self.items c.line_info.result c.line_index_of-first.result c.loop-index.index c.loop-index.auto.index c.in_ok-push.ensures.items c.line_info.ensures.entry c.loop-index.invariant
+    entries-more c.args.self.now.first (source_lines c.args.self.now.text) c.loop-index.lines.items c.push.new.self.items c.line_info.result
+    c.line_index_of-first.result c.loop-index.index c.loop-index.auto.index c.in_ok-push.ensures.items c.line_info.ensures.entry c.loop-index.invariant
 
 pub returns : goal.returns
 returns c =
@@ -31,5 +42,9 @@ returns c =
     let first : ℕ = line_of ls c.args.span.start in
     let from = c.line_index_of-first.ensures.value in
     let le = ordered text c.args.span.start c.args.span.end c.requires.span.ordered in
-    let size : c.loop-index.index - first ≡ line_of ls c.args.span.end + 1 - first = omega (arith, le, from, c.line_index_of-last.ensures.value, c.loop-index-test.false, c.loop-index.auto.index, c.loop-index.auto.index-end) in
-    record { lines = c.loop-index.invariant ∙ ap (λ (i : ℕ). map at (range_with_len i (c.loop-index.index - i))) from ∙ ap (λ (n : ℕ). map at (range_with_len first n)) size }
+    let size : c.loop-index.index - first ≡ line_of ls c.args.span.end + 1 - first = omega
+    (arith, le, from, c.line_index_of-last.ensures.value, c.loop-index-test.false, c.loop-index.auto.index, c.loop-index.auto.index-end) in
+    record {
+      lines = c.loop-index.invariant ∙ ap (λ (i : ℕ). map at (range_with_len i (c.loop-index.index - i))) from
+          ∙ ap (λ (n : ℕ). map at (range_with_len first n)) size;
+    }

@@ -9,7 +9,8 @@ bool_byte-cond false = refl
 
 pub returns-clause-value : goal.returns-clause-value
 returns-clause-value c =
-    located-steps c.args.self.now c.args.byte c.args.line.now c.requires.line c.from.result (c.from.ensures ∙ bool_byte-cond (ltb (c.args.line.now.start_byte + length c.args.line.now.line.now) c.args.byte))
+    located-steps c.args.self.now c.args.byte c.args.line.now c.requires.line c.from.result
+    (c.from.ensures ∙ bool_byte-cond (ltb (c.args.line.now.start_byte + length c.args.line.now.line.now) c.args.byte))
 
 pub overflow_add-line : goal.overflow_add-line
 overflow_add-line c = omega (arith, located-end c.args.self.now c.args.byte c.args.line.now c.requires.line, c.requires.short)

@@ -13,9 +13,11 @@ returns-in-Ascii-default-clause-value c =
 pub returns-in-Unicode-true-clause-value : goal.returns-in-Unicode-true-clause-value
 unfolding lib.Utf8.encode
 returns-in-Unicode-true-clause-value c =
-    chars-encodes (codes "├ ") refl ∙ sym (ap (λ (d : DecorStyle). note_sign_of d c.args.followed) c.in-Unicode-true.is-0 ∙ ap (note_sign_of Unicode) c.in-Unicode-true.is-1)
+    chars-encodes (codes "├ ") refl ∙ sym (ap (λ (d : DecorStyle). note_sign_of d c.args.followed) c.in-Unicode-true.is-0
+    ∙ ap (note_sign_of Unicode) c.in-Unicode-true.is-1)
 
 pub returns-in-Unicode-false-clause-value : goal.returns-in-Unicode-false-clause-value
 unfolding lib.Utf8.encode
 returns-in-Unicode-false-clause-value c =
-    chars-encodes (codes "╰ ") refl ∙ sym (ap (λ (d : DecorStyle). note_sign_of d c.args.followed) c.in-Unicode-false.is-0 ∙ ap (note_sign_of Unicode) c.in-Unicode-false.is-1)
+    chars-encodes (codes "╰ ") refl ∙ sym (ap (λ (d : DecorStyle). note_sign_of d c.args.followed) c.in-Unicode-false.is-0
+    ∙ ap (note_sign_of Unicode) c.in-Unicode-false.is-1)

@@ -10,7 +10,8 @@ use Rattle.snippet_suggest.proofs.marks.Moves.before.Goals.{then-columns-start, 
 pub returns-then-self-start : goal.returns-then-self-start
 returns-then-self-start c =
     record {
-      value = λ earlier are. are.all ∙ ap shift_of (sym (left_all c.args.start earlier (λ k d within. let low = are.ends k d within in omega (arith, low, c.if-self-start.true))));
+      value = λ earlier are. are.all ∙ ap shift_of (sym (left_all c.args.start earlier (λ k d within.
+          let low = are.ends k d within in omega (arith, low, c.if-self-start.true))));
     }
 
 pub loop-columns-preserved : goal.loop-columns-preserved
@@ -20,10 +21,12 @@ loop-columns-preserved c =
     let cs : List PatchColumns = c.deref-columns-items.result.now in
     let items = c.deref-columns-items.ensures.value in
     let d : PatchColumns = record { start = 0; end = 0; width = 0 } in
-    let so_far : c.loop-columns.shift ≡ shift_of (left_of start (take i cs)) = c.loop-columns.invariant ∙ ap (λ xs. shift_of (left_of start (take i xs))) (sym items) in
+    let so_far : c.loop-columns.shift ≡ shift_of (left_of start (take i cs)) = c.loop-columns.invariant
+    ∙ ap (λ xs. shift_of (left_of start (take i xs))) (sym items) in
     let next : c.if-columns-start.shift ≡ shift_of (left_of start (take (i + 1) cs)) = elim c.if-columns-start.branch [
       | then-columns-start w ↦
-          w.shift-is ∙ w.with-shift.ensures.value (left_of start (take i cs)) so_far ∙ ap shift_of (sym (left_next start cs i d c.loop-columns-test.true w.if-columns-start.true))
+          w.shift-is ∙ w.with-shift.ensures.value (left_of start (take i cs)) so_far
+          ∙ ap shift_of (sym (left_next start cs i d c.loop-columns-test.true w.if-columns-start.true))
       | else-columns-start w ↦
           w.shift-is ∙ so_far ∙ ap shift_of (sym (left_passed start cs i d c.loop-columns-test.true w.if-columns-start.false))
     ] in

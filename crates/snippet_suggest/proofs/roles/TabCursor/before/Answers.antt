@@ -42,7 +42,8 @@ returns-clause-value c =
     let inv = c.loop-self.invariant in
     let k = c.args.character in
     let tabs : TabCursor → ℕ = λ t. t.tabs in
-    let there : capped (count_by (λ c. c == 9) (take k (chars c.loop-self.self.line.now))) ≡ capped (count_by (λ c. c == 9) (take k (chars c.args.self.now.line.now))) = ap (λ t. capped (count_by (λ c. c == 9) (take k (chars t)))) inv.line in
+    let there : capped (count_by (λ c. c == 9) (take k (chars c.loop-self.self.line.now)))
+    ≡ capped (count_by (λ c. c == 9) (take k (chars c.args.self.now.line.now))) = ap (λ t. capped (count_by (λ c. c == 9) (take k (chars t)))) inv.line in
     elim c.loop-self-test.branch [
       | else-loop-self-test w ↦
           let here : c.loop-self.self.passed ≡ k = omega (arith, inv.few, w.loop-self-test.false) in

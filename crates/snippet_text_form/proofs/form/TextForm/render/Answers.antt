@@ -18,17 +18,20 @@ loop-part-preserved c =
       | then-begun w ↦ w.begun-is ∙ w.if-begun.true ∙ sym (ap (λ (b : Bool). b || has) w.if-begun.true)
       | else-begun w ↦ w.begun-is ∙ w.has_text-begun.ensures.value ∙ sym (ap (λ (b : Bool). b || has) w.if-begun.false)
     ] in
-    IsRendered-more c.args.sheet.now c.deref-part-items.result.now c.loop-part.part-index c.part-item.result _ _ c.loop-part.begun c.if-begun.begun c.loop-part-test.true c.part-item.is c.loop-part.invariant c.in_ok-write_part.ensures.added after
+    IsRendered-more c.args.sheet.now c.deref-part-items.result.now c.loop-part.part-index c.part-item.result _ _ c.loop-part.begun c.if-begun.begun
+    c.loop-part-test.true c.part-item.is c.loop-part.invariant c.in_ok-write_part.ensures.added after
 
 -- the text is that of the form
 rendered : (c : goal.After-loop-part) → string_bytes c.loop-part.text ≡ form_bytes c.args.sheet.now c.args.self.now
 rendered c =
     let form = ap (λ (ps : List TextPart). flat_map pieces_of_part ps) c.deref-part-items.ensures.value ∙ c.self.view_is in
-    IsRendered-all c.args.sheet.now c.deref-part-items.result.now c.loop-part.part-index _ c.loop-part.begun c.args.self.now c.loop-part-test.false form c.loop-part.invariant
+    IsRendered-all c.args.sheet.now c.deref-part-items.result.now c.loop-part.part-index _ c.loop-part.begun c.args.self.now c.loop-part-test.false form
+    c.loop-part.invariant
 
 pub returns-clause-text : goal.returns-clause-text
 returns-clause-text c = rendered c
 
 pub returns-clause-woven : goal.returns-clause-woven
 returns-clause-woven c =
-    subst (λ (text : List ℕ). IsWoven c.args.sheet.now text (form_text c.args.self.now) (form_links c.args.self.now)) (sym (rendered c)) (form-woven c.args.sheet.now c.args.self.now)
+    subst (λ (text : List ℕ). IsWoven c.args.sheet.now text (form_text c.args.self.now) (form_links c.args.self.now)) (sym (rendered c))
+    (form-woven c.args.sheet.now c.args.self.now)

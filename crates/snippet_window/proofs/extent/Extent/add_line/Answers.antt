@@ -9,7 +9,8 @@ use Rattle.snippet_window.proofs.extent.Extent.add_line.Goals as goal
 pub returns : goal.returns
 returns c =
     let items = c.deref-entry-items.result.now in
-    let all : take c.loop-entry.entry-index items ≡ c.args.line.now.info.annotations.items = take_all c.loop-entry.entry-index items (omega arith) ∙ c.deref-entry-items.ensures.value in
+    let all : take c.loop-entry.entry-index items ≡ c.args.line.now.info.annotations.items = take_all c.loop-entry.entry-index items (omega arith)
+    ∙ c.deref-entry-items.ensures.value in
     record {
       adds = λ before reaches. line_added before c.args.line.now.info c.args.self.now c.loop-entry.self reaches
           (subst (λ es. ReachesEntries (entries_of before ++ es) c.loop-entry.self)

@@ -12,7 +12,8 @@ returns-then-bytes-at-eq9-clause-value c =
     let bytes = c.as_bytes-bytes.ensures.value in
     let within : c.loop-at.at < length c.args.source.now = subst (λ (l : List ℕ). c.loop-at.at < length l) bytes c.loop-at-test.true in
     let is : slice_index_or c.args.source.now c.loop-at.at 0 ≡ 9 = subst (λ (l : List ℕ). slice_index_or l c.loop-at.at 0 ≡ 9) bytes c.if-bytes-at-eq9.true in
-    sym (c.loop-at.invariant ∙ first-here tab_at c.args.source.now c.loop-at.at (tab c.loop-at.at) (omega (arith, within)) (tab-here c.args.source.now c.loop-at.at is))
+    sym (c.loop-at.invariant ∙ first-here tab_at c.args.source.now c.loop-at.at (tab c.loop-at.at) (omega (arith, within))
+    (tab-here c.args.source.now c.loop-at.at is))
 
 pub returns-then-bytes-at-eq9-clause-finding : goal.returns-then-bytes-at-eq9-clause-finding
 returns-then-bytes-at-eq9-clause-finding c =
@@ -30,4 +31,5 @@ loop-at-preserved c =
 
 pub returns-clause-value : goal.returns-clause-value
 returns-clause-value c =
-    sym (c.loop-at.invariant ∙ tab-past c.args.source.now c.loop-at.at (subst (λ (l : List ℕ). length l ≤ c.loop-at.at) c.as_bytes-bytes.ensures.value c.loop-at-test.false))
+    sym (c.loop-at.invariant ∙ tab-past c.args.source.now c.loop-at.at
+    (subst (λ (l : List ℕ). length l ≤ c.loop-at.at) c.as_bytes-bytes.ensures.value c.loop-at-test.false))

@@ -30,4 +30,5 @@ loop-at-preserved c =
 
 pub returns-clause-value : goal.returns-clause-value
 returns-clause-value c =
-    sym (c.loop-at.invariant ∙ blanks-past c.args.source.now c.loop-at.at (subst (λ (l : List ℕ). length l ≤ c.loop-at.at) c.as_bytes-bytes.ensures.value c.loop-at-test.false))
+    sym (c.loop-at.invariant ∙ blanks-past c.args.source.now c.loop-at.at
+    (subst (λ (l : List ℕ). length l ≤ c.loop-at.at) c.as_bytes-bytes.ensures.value c.loop-at-test.false))
