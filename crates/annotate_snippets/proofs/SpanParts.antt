@@ -75,7 +75,7 @@ kind_drawn before e later last =
 -- the entries of some spans have a start and an end of this place, with its bar
 pub record HasEnds (places : List LongExtent) (all : List Entry) (parts : List PartEntry) (place : LongExtent) : Type 0 where
   pub span : Entry
-  pub place-is : long_place span ≡ place
+  pub place_is : long_place span ≡ place
   pub primary : is_primary span.kind ≡ is_primary_at all place
   pub start : Among parts (start_part span (depth_among places place))
   pub end : Among parts (end_part span (MultilineEnd (depth_among places place)))
@@ -85,7 +85,7 @@ further : (places : List LongExtent) (all : List Entry) (own parts : List PartEn
 further places all own parts place ends =
     record {
       span = ends.span;
-      place-is = ends.place_is;
+      place_is = ends.place_is;
       primary = ends.primary;
       start = among_right own parts (start_part ends.span (depth_among places place)) ends.start;
       end = among_right own parts (end_part ends.span (MultilineEnd (depth_among places place))) ends.end;
@@ -103,7 +103,7 @@ last_ends s places before e later others last =
     let end : PartEntry = end_part drawn (MultilineEnd depth) in
     record {
       span = drawn;
-      place-is = promoted_place before e;
+      place_is = promoted_place before e;
       primary = kind_drawn before e later last;
       start = among_left (span_parts s depth (stands_among e later) drawn) others start
           (subst (λ b. Among (span_parts s depth b drawn) start) (sym last) (inl refl));

@@ -4,7 +4,6 @@
 
 pub mod choice;
 pub mod line;
-pub mod output;
 pub mod relative;
 pub mod seen;
 pub mod stop;

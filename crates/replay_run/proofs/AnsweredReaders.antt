@@ -10,7 +10,7 @@ use Rattle.std.proofs.lemmas.List.{append-nil, length_push}
 use Rattle.std.proofs.lemmas.List.Concat.{flat_map-append}
 use Rattle.std.proofs.lemmas.List.Elements.{All-push}
 use Rattle.replay_run.specs.Answer.{AnswersLines, Numbered, first_after}
-use Rattle.replay_run.specs.Answered.{AnswersReader, AnswersReaders, AppendsFirst, AreRead, IsEndTrouble, StopsAfter, StopsAt, StopsFor, StopsReader}
+use Rattle.replay_run.specs.Answered.{AnswersReader, AnswersReaders, AppendsFirst, AreRead, IsEndProblem, StopsAfter, StopsAt, StopsFor, StopsReader}
 use Rattle.replay_run.specs.Answered.{StopsReaders}
 use Rattle.replay_run.specs.Problem.{IsWrite}
 use Rattle.replay_run.specs.Words.{Word}
@@ -196,7 +196,7 @@ first_stops bytes way name old new problem stops =
 pub all_stop : {Reader : Type 0} (bytes : Reader → Option (List ℕ)) (way : Way) (told : Bool) (names : List Word) (old mid new : Option (List ℕ))
     (problem : Problem)
     → AnswersReaders Reader bytes way told (length names) old mid
-    → Keeps mid new → IsEndTrouble told problem → StopsReaders Reader bytes way names old new (codes "standard output") problem
+    → Keeps mid new → IsEndProblem told problem → StopsReaders Reader bytes way names old new (codes "standard output") problem
 all_stop bytes way told names old mid new problem h kept end =
     record {
       before = names;
@@ -212,7 +212,7 @@ stops_kept {Reader} bytes way names old mid new name problem h kept = kept_at h.
   where
     kept_at : ((after : List Word) × (names ≡ h.before ++ name ∷ after)
         × StopsAt Reader bytes way (first_after true (lines_of h.answered.readers)) h.mid mid problem)
-        ⊎ ((names ≡ h.before) × (name ≡ codes "standard output") × IsEndTrouble h.told problem × Keeps h.mid mid)
+        ⊎ ((names ≡ h.before) × (name ≡ codes "standard output") × IsEndProblem h.told problem × Keeps h.mid mid)
         → StopsReaders Reader bytes way names old new name problem
     kept_at (inl at) =
         record {

@@ -143,16 +143,19 @@ not_texts true xs rest are is = apart (codes "--text") (codes "--keep-going") re
 -- words ask for one kind of answers, of one list of files
 same_answers : (ws : List Word) (f g : Form) (j k : Bool) (xs ys : List Word) → ws ≡ form_options f ++ (keep_going_options j ++ xs) → AreFiles xs
     → ws ≡ form_options g ++ (keep_going_options k ++ ys) → AreFiles ys → (f ≡ g) × (j ≡ k) × (xs ≡ ys)
-same_answers ws Json Json j k xs ys one xs_are two ys_are = (refl, same_files ws j k xs ys one xs_are two ys_are)
+same_answers ws Json Json j k xs ys one xs_are two ys_are =
+    let same = same_files ws j k xs ys one xs_are two ys_are in
+    (refl, same.0, same.1)
 same_answers ws Texts Texts j k xs ys one xs_are two ys_are =
     let both : codes "--text" ∷ (keep_going_options j ++ xs) ≡ codes "--text" ∷ (keep_going_options k ++ ys) = sym one ∙ two in
-    (refl, same_files (keep_going_options j ++ xs) j k xs ys refl xs_are (cc both) ys_are)
+    let same = same_files (keep_going_options j ++ xs) j k xs ys refl xs_are (cc both) ys_are in
+    (refl, same.0, same.1)
 same_answers ws Json Texts j k xs ys one xs_are two ys_are =
     absurd (not_texts j xs (keep_going_options k ++ ys) xs_are (sym two ∙ one))
 same_answers ws Texts Json j k xs ys one xs_are two ys_are =
     absurd (not_texts k ys (keep_going_options j ++ xs) ys_are (sym one ∙ two))
 
-made : Form → Bool → Way
+abbrev made : Form → Bool → Way
 made form keep_going = record { form = form; keep_going = keep_going }
 
 way_is : (v w : Way) → v.form ≡ w.form → v.keep_going ≡ w.keep_going → v ≡ w
@@ -211,17 +214,18 @@ none_first ws none more is =
     cc never
 
 -- references to the words after so many options
-after_one : (refs : List (Bor Word)) (option : Word) (files : List Word) → words_at refs ≡ option ∷ files → (rest : List (Bor Word)) × (words_at rest ≡ files)
+abbrev after_one : (refs : List (Bor Word)) (option : Word) (files : List Word) → words_at refs ≡ option ∷ files → (rest : List (Bor Word))
+    × (words_at rest ≡ files)
 after_one [] option files is = cc
 after_one (word ∷ refs) option files is =
     let both : word.now ∷ words_at refs ≡ option ∷ files = is in
     (refs, cc both)
 
-lent : (place : ℕ × ℕ) (refs : List (Bor Word)) → Bor (List (Bor Word))
+abbrev lent : (place : ℕ × ℕ) (refs : List (Bor Word)) → Bor (List (Bor Word))
 lent place refs = record { ref_ptr = place; now = refs }
 
 -- words that ask for answers ask for a command
-asked_in : (place : ℕ × ℕ) (refs : List (Bor Word)) (form : Form) (keep : Bool) (files : List Word)
+abbrev asked_in : (place : ℕ × ℕ) (refs : List (Bor Word)) (form : Form) (keep : Bool) (files : List Word)
     → words_at refs ≡ form_options form ++ (keep_going_options keep ++ files) → AreFiles files → (rest : List (Bor Word)) × (words_at rest ≡ files)
 asked_in place refs Json false files is are = (refs, is)
 asked_in place refs Json true files is are = after_one refs (codes "--keep-going") files is
@@ -237,3 +241,30 @@ asked refs way files asks =
       Answer way (lent refs.ref_ptr rest),
       (asks.0 ∙ ap (λ (l : List Word). form_options way.form ++ (keep_going_options way.keep_going ++ l)) (sym is), subst AreFiles (sym is) asks.1),
     )
+
+-- words that begin with no option's word, and don't all name files, ask for nothing
+pub asks_nothing : (ws rest : List Word) (first : Word) (c : Command) → ws ≡ first ∷ rest → (first ≡ codes "--text" → ⊥)
+    → (first ≡ codes "--keep-going" → ⊥) → (first ≡ codes "--check" → ⊥) → (first ≡ codes "--repeat" → ⊥) → (first ≡ codes "--help" → ⊥)
+    → (AreFiles ws → ⊥) → Asks ws c → ⊥
+asks_nothing ws rest first (Answer way files) begins text keep check repeat help none h =
+    no_way ws rest first way.form way.keep_going (words_at files.now) begins text keep none h.0 h.1
+  where
+    no_way : (ws rest : List Word) (first : Word) (form : Form) (on : Bool) (files : List Word) → ws ≡ first ∷ rest → (first ≡ codes "--text" → ⊥)
+        → (first ≡ codes "--keep-going" → ⊥) → (AreFiles ws → ⊥) → ws ≡ form_options form ++ (keep_going_options on ++ files)
+        → AreFiles files → ⊥
+    no_way ws rest first Json false files begins text keep none is are = none (subst AreFiles (sym is) are)
+    no_way ws rest first Json true files begins text keep none is are =
+        let both : first ∷ rest ≡ codes "--keep-going" ∷ files = sym begins ∙ is in
+        keep (cc both)
+    no_way ws rest first Texts on files begins text keep none is are =
+        let both : first ∷ rest ≡ codes "--text" ∷ (keep_going_options on ++ files) = sym begins ∙ is in
+        text (cc both)
+asks_nothing ws rest first (Check files) begins text keep check repeat help none h =
+    let both : first ∷ rest ≡ codes "--check" ∷ words_at files.now = sym begins ∙ h.0 in
+    check (cc both)
+asks_nothing ws rest first (Repeat times files) begins text keep check repeat help none h =
+    let both : first ∷ rest ≡ codes "--repeat" ∷ (h.0 ∷ words_at files.now) = sym begins ∙ h.1 in
+    repeat (cc both)
+asks_nothing ws rest first Help begins text keep check repeat help none h =
+    let both : first ∷ rest ≡ codes "--help" ∷ [] = sym begins ∙ h in
+    help (cc both)

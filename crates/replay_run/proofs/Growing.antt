@@ -1,5 +1,5 @@
 -- A writer that grows twice has grown.
-use Rattle.std.proofs.Common.{List, ℕ, [], ◌++◌, Option, Some, None, ap, sym, ◌∙◌, append_assoc, take, drop, take-append-drop}
+use Rattle.std.proofs.Common.{List, ℕ, [], ◌++◌, Option, Some, None, ap, refl, sym, ◌∙◌, append_assoc, take, drop, take-append-drop}
 use Rattle.std.specs.Io.KnownBytes.{Appends, Keeps}
 use Rattle.std.proofs.lemmas.List.{append-nil}
 use Rattle.program.specs.Stream.{AppendsPart}
@@ -30,6 +30,11 @@ appends_twice (Some x) None c first then one two = absurd one
 appends_twice (Some x) (Some y) None first then one two = absurd two
 appends_twice (Some x) (Some y) (Some z) first then one two =
     two ∙ ap (λ (l : List ℕ). l ++ then) one ∙ append_assoc x first then
+
+-- what is held stays as it is
+pub kept_same : (held : Option (List ℕ)) → Keeps held held
+kept_same None = tt
+kept_same (Some bytes) = refl
 
 -- a text that was added is still added where nothing more is
 pub appends_kept : (a b c : Option (List ℕ)) (text : List ℕ) → Appends a b text → Keeps b c → Appends a c text

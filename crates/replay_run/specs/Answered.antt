@@ -101,8 +101,8 @@ StopsAt Reader bytes way is_first old new problem =
     (Keeps old new × IsRead problem) ⊎ ((reader : Reader) × StopsReader way is_first (bytes reader) old new problem)
 
 -- the problem with readers that are all answered: what was written can't be handed on, or an answer tells that its line is no case
-abbrev pub IsEndTrouble : Bool → Problem → Type 0
-IsEndTrouble told problem = IsWrite problem ⊎ (IsTrue told × (problem ≡ NotCases))
+abbrev pub IsEndProblem : Bool → Problem → Type 0
+IsEndProblem told problem = IsWrite problem ⊎ (IsTrue told × (problem ≡ NotCases))
 
 -- answering the readers of these names stops: those of the first names are answered, each to its end, and it stops at the next; or all
 -- are answered, and there is problem with that
@@ -114,4 +114,4 @@ pub record StopsReaders (Reader : Type 0) (bytes : Reader → Option (List ℕ))
   pub answered : AnswersReaders Reader bytes way told (length before) old mid
   pub stops : ((after : List Word) × (names ≡ before ++ name ∷ after)
       × StopsAt Reader bytes way (first_after true (flat_map (λ reader. reader.1) answered.readers)) mid new problem)
-      ⊎ ((names ≡ before) × (name ≡ codes "standard output") × IsEndTrouble told problem × Keeps mid new)
+      ⊎ ((names ≡ before) × (name ≡ codes "standard output") × IsEndProblem told problem × Keeps mid new)

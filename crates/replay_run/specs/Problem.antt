@@ -56,12 +56,12 @@ TellsStop name problem Err =
     ((said : List ℕ) × Err (Told (shown (stop_text name problem said)))) ⊎ Err (Told (codes "replay: out of memory"))
 
 -- what is told of words that aren't of the form, where this is said of them: that, and how words are to be written
-abbrev pub usage_text : List ℕ → List ℕ
-usage_text said = codes "replay: " ++ (said ++ (codes "\n" ++ usage_text))
+abbrev pub usage_error_text : List ℕ → List ℕ
+usage_error_text said = codes "replay: " ++ (said ++ (codes "\n" ++ usage_text))
 
 -- that is told; or that there was no memory for it
 abbrev pub TellsUsageError : (Output → Type 0) → Type 0
-TellsUsageError Err = ((said : List ℕ) × Err (Told (shown (usage_text said)))) ⊎ Err (Told (codes "replay: out of memory"))
+TellsUsageError Err = ((said : List ℕ) × Err (Told (shown (usage_error_text said)))) ⊎ Err (Told (codes "replay: out of memory"))
 
 -- the problem is a write that failed
 abbrev pub IsWrite : Problem → Type 0

@@ -11,7 +11,7 @@ ghost use Rattle.replay_run.specs.Compared.{EndsComparison, count_line};
 ghost use Rattle.replay_run.specs.Growth.{Grows};
 ghost use Rattle.replay_run.specs.Checked.{CountsLines};
 ghost use Rattle.replay_run.specs.Answer.{line_of};
-ghost use Rattle.replay_run.specs.Problem.{IsRead, TellsUsageError, TellsStop, usage_text, shown, stop_text};
+ghost use Rattle.replay_run.specs.Problem.{IsRead, TellsUsageError, TellsStop, usage_error_text, shown, stop_text};
 ghost use Rattle.replay_run.specs.Words.{Word, words_at, usage_text, AsksAnswers, IsCommandLine, IsComparison};
 ghost use Rattle.replay_run.specs.Words.{IfAnswers, IfComparison, Compares};
 ghost use Rattle.replay_run.specs.declared.command.Command.{Command};
@@ -160,7 +160,7 @@ fn tell_usage_error<V: Write>(alloc: Global, usage_error: UsageError<'_>, err: &
 
 /// What is told of words that aren't of the form.
 fn usage_message(alloc: Global, usage_error: UsageError<'_>) -> Result<String, AllocError>
-    ensures message { IfOk result (λ text. (said : List ℕ) × (string_bytes text ≡ shown (usage_text said))) }
+    ensures message { IfOk result (λ text. (said : List ℕ) × (string_bytes text ≡ shown (usage_error_text said))) }
 {
     let said = format!(in alloc; "{usage_error}")?;
     let message = format!(in alloc; "replay: {said}\n{USAGE}")?;

@@ -20,4 +20,4 @@ mod snip;
 #[cfg(test)]
 mod tidy;
 #[cfg(test)]
-mod written;
+mod to_writer;

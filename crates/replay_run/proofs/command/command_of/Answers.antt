@@ -1,7 +1,7 @@
 use Rattle.std.proofs.Common.{◌≡◌, List, ◌∷◌, refl, subst}
 use Rattle.std.specs.Prelude.{codes}
 use Rattle.replay_run.specs.Words.{Word, words_at, Asks}
-use Rattle.replay_run.proofs.Commands.{asks_texts, asks_keep_going, asks_check, asks_repeat, asks_help}
+use Rattle.replay_run.proofs.Commands.{asks_texts, asks_keep_going, asks_check, asks_repeat, asks_help, asks_nothing}
 use Rattle.replay_run.proofs.command.command_of.Goals as goal
 
 pub returns-in-text-clause-none : goal.returns-in-text-clause-none
@@ -31,3 +31,9 @@ pub returns-in-text-5-clause-none : goal.returns-in-text-5-clause-none
 returns-in-text-5-clause-none c = λ none command asks.
     let begins : words_at c.args.words.now ≡ codes "--help" ∷ words_at c.in-Some.rest.now = cc (c.in-Some.ensures.parts, c.in-text-5.is) in
     c.help_of.ensures.none none (asks_help (words_at c.in-Some.rest.now) command (subst (λ (ws : List Word). Asks ws command) begins asks)).0
+
+pub returns-in_default-first-clause-none : goal.returns-in_default-first-clause-none
+returns-in_default-first-clause-none c = λ none command asks.
+    asks_nothing (words_at c.args.words.now) (words_at c.in-Some.rest.now) c.in-Some.first.now command c.in-Some.ensures.parts
+    c.in_default-first.not-text c.in_default-first.not-text-2 c.in_default-first.not-text-3 c.in_default-first.not-text-4
+    c.in_default-first.not-text-5 (c.answer_of-in_default-first.ensures.none none) asks

@@ -1,4 +1,4 @@
-use Rattle.std.proofs.Common.{◌≡◌, ◌<◌, [], ◌∷◌, codes, inl, length, refl}
+use Rattle.std.proofs.Common.{◌≡◌, false, ◌<◌, [], ◌∷◌, codes, inl, length, refl}
 use Rattle.replay_run.specs.Answered.{AnswersReaders, StopsReaders}
 use Rattle.replay_run.specs.Compared.{EndsComparison}
 use Rattle.replay_run.proofs.AnsweredReaders.{all_stop, readers_kept, stops_kept}

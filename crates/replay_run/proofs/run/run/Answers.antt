@@ -1,4 +1,4 @@
-use Rattle.std.proofs.Common.{◌≡◌, ◌<◌, List, [], ◌∷◌, codes, inr, length, refl, rules, subst}
+use Rattle.std.proofs.Common.{◌≡◌, false, ◌<◌, List, [], ◌∷◌, codes, inr, length, refl, rules, subst}
 use Rattle.replay_run.specs.Answered.{AnswersReaders, StopsReaders}
 use Rattle.replay_run.specs.Compared.{EndsComparison}
 use Rattle.replay_run.specs.Words.{Word, Asks, words_at}
