@@ -19,9 +19,16 @@ fn number(number: usize, out: &mut Vec<u8>) {
     out.extend_from_slice(&(number as u64).to_le_bytes());
 }
 
+/// How many bytes of a text are copied at once: what a vector copy takes, and not yet a copy by the string instructions of the
+/// processor, which begins slowly.
+const PIECE: usize = 1024;
+
 fn text(text: &str, out: &mut Vec<u8>) {
     number(text.len(), out);
-    out.extend_from_slice(text.as_bytes());
+    out.reserve(text.len());
+    for piece in text.as_bytes().chunks(PIECE) {
+        out.extend_from_slice(piece);
+    }
 }
 
 fn cow(cow: &Cow<'_, str>, out: &mut Vec<u8>) {

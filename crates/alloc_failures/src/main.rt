@@ -2,8 +2,8 @@
 //! holds.
 //!
 //! A line is printed for each subject that came out right, the same whatever was refused. Before the line `what follows
-//! takes memory` no call takes any but those that build reports; `scripts/starve` runs the program with each request
-//! refused in turn, and with all refused after the first line.
+//! takes memory` no call takes any but those that build reports; `scripts/alloc-failures` runs the program with each
+//! request refused in turn, and with all refused after the first line.
 //!
 //! Given a word, it then makes each call of the library that no case of `replay` makes, and whose answer isn't compared
 //! above, and prints what it answers. No memory is refused then.
