@@ -2,8 +2,6 @@
 ghost use Rattle.std.specs.Prelude.{◌≡◌, ◌≤◌, ◌==◌, count_by, length, take};
 ghost use Rattle.snippet_lines.specs.Lines.{is_lf, last_byte, newline_count};
 
-use std::simd::prelude::*;
-
 /// The number of line feeds in a text.
 pub fn line_feed_count(text: &str) -> usize
     ensures value { result ≡ count_by is_lf text.now }
@@ -28,8 +26,8 @@ pub fn ends_with_line_feed(bytes: &[u8]) -> bool
     matches!(bytes, [.., b'\n'])
 }
 
-/// How many bytes are looked at together.
-const LANES: usize = 64;
+/// How many bytes are counted together: as many line feeds as these can be fit in a byte.
+const TOGETHER: usize = 192;
 
 /// The number of line feeds in some bytes.
 fn count_line_feeds(bytes: &[u8]) -> usize
@@ -38,28 +36,22 @@ fn count_line_feeds(bytes: &[u8]) -> usize
 {
     let mut rest = bytes;
     let mut count = 0;
-    while LANES <= rest.len() {
-        let (lanes, after) = rest.split_at(LANES);
-        count += line_feeds_among(lanes);
+    while TOGETHER <= rest.len() {
+        let (front, after) = rest.split_at(TOGETHER);
+        count += usize::from(few_line_feeds(front));
         rest = after;
     }
-    count + line_feeds_one_by_one(rest)
+    count + usize::from(few_line_feeds(rest))
 }
 
-/// The number of line feeds among bytes that are looked at together.
-fn line_feeds_among(lanes: &[u8]) -> usize
-    requires full { length lanes.now ≡ 64 }
-    ensures value { result ≡ count_by is_lf lanes.now }
-{
-    let feeds = u8x64::from_slice(lanes)
-        .simd_eq(u8x64::splat(b'\n'))
-        .to_bitmask();
-    feeds.count_ones() as usize
-}
-
-/// The number of line feeds in a few bytes.
-fn line_feeds_one_by_one(bytes: &[u8]) -> usize
+/// The number of line feeds in a few bytes. It is counted in a byte, so that many bytes are compared at once.
+fn few_line_feeds(bytes: &[u8]) -> u8
+    requires few { length bytes.now ≤ 192 }
     ensures value { result ≡ count_by is_lf bytes.now }
 {
-    bytes.iter().filter(|byte| **byte == b'\n').count()
+    let mut count = 0;
+    for byte in bytes {
+        count += u8::from(*byte == b'\n');
+    }
+    count
 }

@@ -1,0 +1,6 @@
+use Rattle.std.proofs.Common.{◌≡◌, count_by, take}
+use Rattle.snippet_lines.specs.Lines.{is_lf}
+use Rattle.snippet_lines.proofs.counts.few_line_feeds.Given as goal
+
+abbrev pub invariant-loop-byte : goal.invariant-loop-byte
+invariant-loop-byte l = l.count ≡ count_by is_lf (take l.byte-index l.bytes)
