@@ -1,6 +1,7 @@
 pub mod BoundsLemmas
 pub mod CountLemmas
 pub mod CursorLemmas
+pub mod IndexLemmas
 pub mod LinesLemmas
 pub mod NumberLemmas
 pub mod OrderLemmas

@@ -3,6 +3,7 @@ ghost use Rattle.std.specs.Prelude.{◌≡◌, ◌≢◌, ℕ, ◌+◌, ◌-◌,
 ghost use Rattle.snippet_lines.specs.Lines.{source_lines, start_of};
 ghost use Rattle.snippet_lines.specs.Place.{HoldsByte, line_of};
 
+use crate::counts::newline_count_before;
 use memchr::{memchr, memrchr};
 use std::ops::Range;
 
@@ -24,6 +25,14 @@ pub fn line_bounds(source: &str, byte: usize) -> Range<usize>
     let bytes = source.as_bytes();
     let at = byte.min(bytes.len().saturating_sub(1));
     line_start(bytes, at)..line_end(bytes, at)
+}
+
+/// The line that holds a byte, from 0: as many lines stand before it as line feeds. A byte after the source is on its
+/// last line.
+pub fn line_index(source: &str, byte: usize) -> usize
+    ensures value { result ≡ line_of (source_lines source.now) byte }
+{
+    newline_count_before(source, byte.min(source.len()) + 1)
 }
 
 /// The byte after the last line feed before `at`, or 0.

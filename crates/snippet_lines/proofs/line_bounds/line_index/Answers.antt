@@ -1,0 +1,22 @@
+use Rattle.std.proofs.Common.{◌≡◌, ◌+◌, ◌<◌, ◌≤◌, ◌∙◌, ℕ, List, min, take, length, ap, sym, arith, inl, inr}
+use Rattle.std.proofs.lemmas.Bool.{cases_lt}
+use Rattle.std.proofs.lemmas.List.{take_all}
+use Rattle.snippet_lines.specs.Lines.{newline_count}
+use Rattle.snippet_lines.proofs.IndexLemmas.{line_of-count}
+use Rattle.snippet_lines.proofs.line_bounds.line_index.Goals as goal
+
+-- a front that ends after the text is the text, wherever it ends
+same : (source : List ℕ) (byte at : ℕ) → at ≡ min byte (length source) → take (at + 1) source ≡ take (byte + 1) source
+same source byte at is =
+    elim (cases_lt (length source) byte) [
+      | inl after ↦ take_all (at + 1) source (omega (arith, is)) ∙ sym (take_all (byte + 1) source (omega arith))
+      | inr within ↦ let here : at ≡ byte = omega (arith, is) in ap (λ n. take (n + 1) source) here
+    ]
+
+pub returns : goal.returns
+returns c =
+    let source : List ℕ = c.args.source.now in
+    record {
+      value = c.newline_count_before.ensures.value
+          ∙ ap newline_count (same source c.args.byte c.min.result c.min.ensures) ∙ line_of-count source c.args.byte;
+    }
