@@ -97,6 +97,18 @@ start_of-inside source k more =
     ))
     are.lines
 
+-- a line holds the byte at which it starts
+pub line_of-start : (source : List ℕ) (k : ℕ) → k < length (source_lines source) → line_of (source_lines source) (start_of (source_lines source) k) ≡ k
+line_of-start source k within =
+    let ls : List Line = source_lines source in
+    let are : AreLinesOf source ls = AreLinesOf-source_lines source in
+    line_of-is ls (start_of ls k) k (record {
+      within = within;
+      from = omega arith;
+      to = λ more. ⊎_elim (λ one. absurd (omega (arith, ap length one)))
+          (λ (some, lines). omega (arith, start_of-next ls k ([], Eof) within, line_bytes-some ls k lines within)) are.lines;
+    })
+
 -- ---- the place of a byte
 
 -- the bytes of a line's text are those of the source from the line's start on

@@ -18,6 +18,7 @@ pub mod MarkLemmas
 pub mod NamingLaws
 pub mod OnLineLemmas
 pub mod PartLemmas
+pub mod PartLines
 pub mod PlaceBounds
 pub mod RawDepthLemmas
 pub mod ShownFacts

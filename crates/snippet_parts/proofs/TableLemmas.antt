@@ -1,19 +1,21 @@
 -- What the table of a source's lines says of each of them.
-use Rattle.std.proofs.Common.{◌≡◌, ℕ, zero, suc, ◌+◌, ◌-◌, ◌<◌, ◌≤◌, true, false, ◌&&◌, cond, leb, ltb, min, take, Some, None, List, [], ◌∷◌, ◌++◌, map, length}
+use Rattle.std.proofs.Common.{◌≡◌, ℕ, zero, suc, ◌+◌, ◌-◌, ◌<◌, ◌≤◌, true, false, ◌&&◌, cond, leb, ltb, min, take, drop, inl, inr, Some, None, List, [], ◌∷◌, ◌++◌, map, length}
 use Rattle.std.proofs.Common.{get_or, refl, sym, ap, subst, ◌∙◌, arith}
-use Rattle.std.proofs.lemmas.List.{map_push}
-use Rattle.std.proofs.lemmas.Bool.{leb-true, leb-false, le-leb, lt-ltb, le-ltb, and_from, and_right, cond-true, cond-false}
+use Rattle.std.proofs.lemmas.List.{map_push, length-append, length-drop, length-take, take-take}
+use Rattle.std.proofs.Math.Seq.{take-add}
+use Rattle.std.proofs.lemmas.List.Concat.{flat_map-append}
+use Rattle.std.proofs.lemmas.Bool.{cases_lt, leb-true, leb-false, le-leb, lt-ltb, le-ltb, and_from, and_right, cond-true, cond-false}
 use Rattle.std.specs.List.{HoldsAt, range_with_len}
 use Rattle.std.proofs.lemmas.List.FromFn.{map-range_with_len_more}
 use Rattle.std.specs.List.Sorted.{IsNonDecreasingBy, IsPartitionPoint}
 use Rattle.snippet_parts.specs.declared.source_map.LineInfo.{LineInfo}
-use Rattle.snippet_lines.specs.Lines.{Line, line_bytes, source_lines, text_at, start_of, line_at, StandsAt, Source}
+use Rattle.snippet_lines.specs.Lines.{Line, line_bytes, joined, source_lines, text_at, start_of, line_at, StandsAt, Source}
 use Rattle.snippet_text.specs.Width.{width_of}
 use Rattle.snippet_lines.specs.declared.place.Loc.{Loc}
 use Rattle.snippet_lines.specs.Place.{HoldsByte, line_of, place_of, prefix_at, location_of, steps_after_text}
 use Rattle.snippet_lines.specs.Span.{IsSpanBorder}
 use Rattle.std.specs.Str.{IsCharBoundary, chars}
-use Rattle.snippet_parts.specs.LineTable.{LineEntry, table_entry, entry_at, starts_from}
+use Rattle.snippet_parts.specs.LineTable.{LineEntry, IsLineTable, table_entry, entry_at, starts_from}
 use Rattle.snippet_lines.proofs.LinesLemmas.{start_of-zero, start_of-cons, start_of-end, start_of-le, joined-source_lines, length-source_lines, text_at-stands}
 use Rattle.snippet_lines.proofs.PlaceLemmas.{line_of-is, line_of-within, HoldsByte-source, text_at-end, IsCharBoundary-prefix}
 
@@ -35,19 +37,73 @@ starts_from-at start (l ∷ ls) (suc k) d within =
     let here : start_of (l ∷ ls) (suc k) ≡ length (line_bytes l) + start_of ls k = sym (ap (start_of (l ∷ ls)) n) ∙ start_of-cons l ls k in
     omega (arith, here, starts_from-at (start + length (line_bytes l)) ls k d (omega arith))
 
-module _ (source starts : List ℕ) (table : starts ≡ starts_from 0 (source_lines source)) where
-  -- as many starts as lines
-  pub length-table : length starts ≡ length (source_lines source)
-  length-table = ap length table ∙ length-starts_from 0 (source_lines source)
+-- where lines start among the first of some lines, and among those after the first
+start_of-take : (ls : List Line) (n k : ℕ) → k ≤ n → start_of (take n ls) k ≡ start_of ls k
+unfolding start_of
+start_of-take ls n k le = ap (λ ms. length (joined ms)) (take-take k n ls le)
 
-  -- each is where its line starts
-  pub table-start : (k d : ℕ) → k < length starts → get_or starts k d ≡ start_of (source_lines source) k
+pub start_of-drop : (ls : List Line) (k n : ℕ) → start_of ls (k + n) ≡ start_of ls k + start_of (drop k ls) n
+unfolding start_of
+start_of-drop ls k n =
+    ap (λ ms. length (joined ms)) (take-add k n ls) ∙ ap length (flat_map-append line_bytes (take k ls) (take n (drop k ls)))
+    ∙ length-append (joined (take k ls)) (joined (take n (drop k ls)))
+
+module _ (source starts : List ℕ) (first skipped from end : ℕ) (table : IsLineTable source first skipped from end starts) where
+  abbrev kept_lines : List Line
+  kept_lines = take (length starts) (drop skipped (source_lines source))
+
+  length-kept : length starts ≡ length kept_lines
+  length-kept = ap length table.starts_are ∙ length-starts_from 0 kept_lines
+
+  -- the lines that are kept are lines of the source
+  pub table-within : skipped + length starts ≤ length (source_lines source)
+  table-within =
+      omega (
+        arith,
+        length-kept,
+        table.some,
+        length-take (length starts) (drop skipped (source_lines source)),
+        length-drop skipped (source_lines source),
+      )
+
+  -- each start is where its line starts
+  pub table-start : (k d : ℕ) → k < length starts → from + get_or starts k d ≡ start_of (source_lines source) (skipped + k)
   table-start k d within =
-      omega (arith, ap (λ ss. get_or ss k d) table, starts_from-at 0 (source_lines source) k d (omega (arith, length-table)))
+      let ls : List Line = source_lines source in
+      let at : get_or starts k d ≡ 0 + start_of kept_lines k = ap (λ ss. get_or ss k d) table.starts_are
+      ∙ starts_from-at 0 kept_lines k d (omega (arith, length-kept)) in
+      omega (arith, at, table.from_is, start_of-take (drop skipped ls) (length starts) k (omega arith), start_of-drop ls skipped k)
 
-  -- after the last line the source ends
-  pub table-end : (k : ℕ) → length starts ≤ k → start_of (source_lines source) k ≡ length source
-  table-end k after = start_of-end (source_lines source) k (omega (arith, length-table)) ∙ ap length (joined-source_lines source)
+  -- lines that follow start later
+  pub table-ordered : IsNonDecreasingBy (λ (start : ℕ). start) starts
+  table-ordered = λ i j d le within.
+      omega (arith, table-start i d (omega arith), table-start j d within, start_of-le (source_lines source) (skipped + i) (skipped + j) (omega arith))
+
+  -- the first starts where it does
+  pub table-first : (byte : ℕ) → HoldsAt (λ (start : ℕ). start ≤ byte) starts 0
+  table-first byte = λ d.
+      let same : skipped + 0 ≡ skipped = omega arith in
+      omega (arith, table-start 0 d table.some, table.from_is, ap (start_of (source_lines source)) same)
+
+  -- the last line that starts at a byte or before it holds the byte, where that stands before the end
+  pub table-holding : (byte k : ℕ) → from ≤ byte → byte < end → k < length starts → HoldsAt (λ (start : ℕ). start ≤ byte - from) starts k
+      → (k + 1 < length starts → HoldsAt (λ (start : ℕ). byte - from < start) starts (k + 1)) → skipped + k ≡ line_of (source_lines source) byte
+  table-holding byte k after before within at next =
+      let ls : List Line = source_lines source in
+      let ends : byte < start_of ls (skipped + k + 1) = elim (cases_lt (k + 1) (length starts)) [
+        | inl inside ↦
+            let same : skipped + (k + 1) ≡ skipped + k + 1 = omega arith in
+            omega (arith, next inside 0, table-start (k + 1) 0 inside, ap (start_of ls) same)
+        | inr last ↦
+            let same : skipped + length starts ≡ skipped + k + 1 = omega arith in
+            omega (arith, table.end_is, ap (start_of ls) same)
+      ] in
+      let holds : HoldsByte ls byte (skipped + k) = record {
+        within = omega (arith, table-within);
+        from = omega (arith, at 0, table-start k 0 within);
+        to = λ _. ends;
+      } in
+      sym (line_of-is ls byte (skipped + k) holds)
 
 -- the entry of a line by its parts
 pub entry_at-is : (info : LineInfo) (first : ℕ) (ls : List Line) (k : ℕ) → info.line.now ≡ text_at ls k → info.line_index ≡ first + k
@@ -85,33 +141,6 @@ parted-from starts byte i some parted = λ d. leb-true (get_or starts (i - 1) d)
 pub parted-to : (starts : List ℕ) (byte i : ℕ) → 1 ≤ i → IsParted starts byte i → (i - 1) + 1 < length starts
     → HoldsAt (λ (start : ℕ). byte < start) starts ((i - 1) + 1)
 parted-to starts byte i some parted within = λ d. leb-false (get_or starts ((i - 1) + 1) d) byte (parted.1 ((i - 1) + 1) d (omega arith) within)
-
-module _ (source starts : List ℕ) (table : starts ≡ starts_from 0 (source_lines source)) where
-  -- lines that follow start later
-  pub table-ordered : IsNonDecreasingBy (λ (start : ℕ). start) starts
-  table-ordered = λ i j d le within.
-      omega (arith, table-start source starts table i d (omega arith), table-start source starts table j d within, start_of-le (source_lines source) i j le)
-
-  -- a table has a start
-  pub table-some : 0 < length starts
-  table-some = omega (arith, length-table source starts table, length-source_lines source)
-
-  -- the first start is at any byte or before it
-  pub table-first : (byte : ℕ) → HoldsAt (λ (start : ℕ). start ≤ byte) starts 0
-  table-first byte = λ d. omega (arith, table-start source starts table 0 d table-some, start_of-zero (source_lines source))
-
-  -- the last line that starts at a byte or before it holds the byte
-  pub table-holding : (byte k : ℕ) → k < length starts → HoldsAt (λ (start : ℕ). start ≤ byte) starts k
-      → (k + 1 < length starts → HoldsAt (λ (start : ℕ). byte < start) starts (k + 1)) → k ≡ line_of (source_lines source) byte
-  table-holding byte k within from to =
-      let ls : List Line = source_lines source in
-      let same : length starts ≡ length ls = length-table source starts table in
-      let holds : HoldsByte ls byte k = record {
-        within = omega arith;
-        from = omega (arith, from 0, table-start source starts table k 0 within);
-        to = λ more. omega (arith, to (omega arith) 0, table-start source starts table (k + 1) 0 (omega arith));
-      } in
-      sym (line_of-is ls byte k holds)
 
 -- the line of a number
 pub line_at-some : (s : Source) (number index : ℕ) (text : List ℕ) → s.first ≤ number → index ≡ number - s.first

@@ -1,5 +1,5 @@
 -- The table of a source's lines.
-use Rattle.std.specs.Prelude.{◌≡◌, ℕ, ◌+◌, ◌-◌, List, [], ◌∷◌, length, map}
+use Rattle.std.specs.Prelude.{◌≡◌, ℕ, ◌+◌, ◌-◌, ◌<◌, List, [], ◌∷◌, length, map, take, drop}
 use Rattle.std.specs.List.{range_with_len}
 use Rattle.std.specs.Str.{IsUtf8}
 use Rattle.snippet_parts.specs.declared.source_map.LineInfo.{LineInfo}
@@ -34,9 +34,13 @@ abbrev pub starts_from : ℕ → List Line → List ℕ
 starts_from start [] = []
 starts_from start (l ∷ ls) = start ∷ starts_from (start + length (line_bytes l)) ls
 
--- this is where the lines of a source start, which is UTF-8, and the numbers of the lines and of its bytes fit
-pub record IsLineTable (source : List ℕ) (first : ℕ) (starts : List ℕ) : Type 0 where
-  pub starts_are : starts ≡ starts_from 0 (source_lines source)
+-- some lines of a source, one or more that follow those that are skipped: they stand between these two bytes, and start at these, counted
+-- from the first of them; the source is UTF-8, and the numbers of its lines and of its bytes fit
+pub record IsLineTable (source : List ℕ) (first skipped from end : ℕ) (starts : List ℕ) : Type 0 where
+  pub starts_are : starts ≡ starts_from 0 (take (length starts) (drop skipped (source_lines source)))
+  pub some : 0 < length starts
+  pub from_is : from ≡ start_of (source_lines source) skipped
+  pub end_is : end ≡ start_of (source_lines source) (skipped + length starts)
   pub utf8 : IsUtf8 source
   pub short : TextFits source
   pub numbers : IsUsize (first + length (source_lines source))

@@ -1,6 +1,6 @@
 //! A source whose lines are known by number and by byte.
 ghost use Rattle.std.specs.Prelude.{◌≡◌, ◌↔◌, ℕ, List, [], ◌+◌, ◌-◌, ◌<◌, ◌≤◌, true, All, Contains, map, length};
-ghost use Rattle.std.specs.Prelude.{IfOk, IfSome, IsNone};
+ghost use Rattle.std.specs.Prelude.{IfOk, IfSome, IsNone, nat_lt};
 ghost use Rattle.std.specs.Option.{option_copied};
 ghost use Rattle.std.specs.List.{HoldsAt, list_any};
 ghost use Rattle.std.specs.List.Sorted.{IsNonDecreasingBy};
@@ -26,7 +26,8 @@ ghost use Rattle.snippet_style.specs.Bounds.{HasNext, IsSourceColumn, IsSourceEn
 use crate::annotated_lines::annotated_lines;
 use crate::entries::AnnotatedLineInfo;
 use memchr::memchr_iter;
-use snippet_lines::lines::without_line_end;
+use snippet_lines::line_bounds::{line_bounds, line_index};
+use snippet_lines::lines::{newline_count, without_line_end};
 use snippet_lines::place::Loc;
 use snippet_model::snippet::{Annotation, Patch};
 use snippet_splice::{SplicedLines, spliced_lines};
@@ -48,10 +49,19 @@ pub struct LineInfo<'a> {
 }
 
 /// A source, cut into lines that have numbers.
+///
+/// Where lines start is kept for some lines that follow one another, all of them or those that are shown; any other
+/// line is looked for where it is asked for.
 #[derive(Drop)]
 pub struct SourceMap<'a> {
-    /// The byte at which each line starts.
+    /// The byte at which each line that is kept starts, counted from the first of them; at least one line is kept.
     starts: Vec<usize>,
+    /// How many lines stand before these.
+    skipped: usize,
+    /// The byte at which the first of these starts.
+    from: usize,
+    /// The byte after the last of these, line end counted.
+    end: usize,
     source: &'a str,
     line_start: usize,
 }
@@ -65,7 +75,7 @@ impl<'a> Model for SourceMap<'a> {
 
     ghost view = { λ m. record { text = m.source.now; first = m.line_start } };
 
-    ghost invariant = { λ m. IsLineTable m.source.now m.line_start m.starts.items };
+    ghost invariant = { λ m. IsLineTable m.source.now m.line_start m.skipped m.from m.end m.starts.items };
 }
 
 impl<'a> SourceMap<'a> {
@@ -81,8 +91,31 @@ impl<'a> SourceMap<'a> {
         requires numbers { HasNext (line_start + newline_count source.now) }
         ensures ok { IfOk result (λ m. m ≡ record { text = source.now; first = line_start }) }
     {
+        SourceMap::near(alloc, source, line_start, 0..source.len())
+    }
+
+    /// The same map, which keeps where the lines start from the one that holds the start of a range of bytes to the one
+    /// that holds its end: it is cheaper where no others are asked for.
+    ///
+    /// The one error is that memory ran out.
+    pub fn near(
+        alloc: Global,
+        source: &'a str,
+        line_start: usize,
+        bytes: Range<usize>,
+    ) -> Result<SourceMap<'a>, AllocError>
+        requires fits { TextFits source.now }
+        requires numbers { HasNext (line_start + newline_count source.now) }
+        requires ordered { bytes.start ≤ bytes.end }
+        ensures ok { IfOk result (λ m. m ≡ record { text = source.now; first = line_start }) }
+    {
+        let from = line_bounds(source, bytes.start).start;
+        let end = line_bounds(source, bytes.end).end;
         Ok(SourceMap {
-            starts: line_starts(alloc, source)?,
+            starts: line_starts(alloc, &source[from..end])?,
+            skipped: line_index(source, bytes.start),
+            from,
+            end,
             source,
             line_start,
         })
@@ -110,7 +143,7 @@ impl<'a> SourceMap<'a> {
         ensures only { (ls : List Line) → AreLinesOf self.now.text ls
             → ls ≡ source_lines self.now.text }
     {
-        self.starts.len()
+        newline_count(self.source) + 1
     }
 
     /// The text of the line of a number, without its end; `None` where the source has no such line.
@@ -120,7 +153,7 @@ impl<'a> SourceMap<'a> {
             IfSome result (λ t. StandsAt self.now.text t.now at) }
     {
         let index = number.checked_sub(self.line_start)?;
-        if index < self.starts.len() {
+        if self.has_line(index) {
             Some(self.text_of_line(index))
         } else {
             None
@@ -295,7 +328,23 @@ impl<'a> SourceMap<'a> {
         ensures bound { HasNext result }
         ensures short { TextFits self.now.text }
     {
-        last_starting_by(&self.starts, byte)
+        if self.from <= byte && byte < self.end {
+            self.skipped + last_starting_by(&self.starts, byte - self.from)
+        } else {
+            line_index(self.source, byte)
+        }
+    }
+
+    /// Whether a byte is on a line whose start is kept.
+    fn keeps_byte(&self, byte: usize) -> bool {
+        self.starts[0] <= byte && byte < self.end
+    }
+
+    /// Whether the source has a line `index`, from 0.
+    fn has_line(&self, index: usize) -> bool
+        ensures value { result ≡ nat_lt index (length (source_lines self.now.text)) }
+    {
+        index < self.skipped + self.starts.len() || index < self.line_count()
     }
 
     /// The text of line `index`, from 0, without its end.
@@ -311,9 +360,10 @@ impl<'a> SourceMap<'a> {
         requires within { index < length (source_lines self.now.text) }
         ensures entry { table_entry result ≡ entry_at self.now.first (source_lines self.now.text) index }
     {
-        let start = self.starts[index];
-        let end = self.line_end(index);
-        let (line, _) = without_line_end(&self.source[start..end]);
+        let source = self.source;
+        let start = self.start_of_line(index);
+        let end = self.start_of_line(index + 1);
+        let (line, _) = without_line_end(&source[start..end]);
         LineInfo {
             line,
             line_index: self.line_number_of(index),
@@ -322,15 +372,27 @@ impl<'a> SourceMap<'a> {
         }
     }
 
-    /// The byte after line `index`, from 0, line end counted: the one at which the next line starts, if there is one.
-    fn line_end(&self, index: usize) -> usize
-        requires within { index < length (source_lines self.now.text) }
-        ensures value { result ≡ start_of (source_lines self.now.text) (index + 1) }
+    /// The byte at which line `index` starts, from 0; of the number of lines, the byte after the source.
+    fn start_of_line(&self, index: usize) -> usize
+        requires within { index ≤ length (source_lines self.now.text) }
+        ensures value { result ≡ start_of (source_lines self.now.text) index }
     {
-        match self.starts.get(index + 1) {
-            Some(next) => *next,
-            None => self.source.len(),
+        match self.kept_start(index) {
+            Some(start) => start,
+            None => nth_line_start(self.source, index),
         }
+    }
+
+    /// The same, where it is kept.
+    fn kept_start(&self, index: usize) -> Option<usize>
+        ensures value { IfSome result (λ start. start ≡ start_of (source_lines self.now.text) index) }
+    {
+        let at = index.checked_sub(self.skipped)?;
+        if at == self.starts.len() {
+            return Some(self.end);
+        }
+        let start = self.starts.get(at)?;
+        Some(self.from + *start)
     }
 
     /// The number of line `index`, from 0.
@@ -361,6 +423,18 @@ fn last_starting_by(starts: &[usize], byte: usize) -> usize
     ensures to { result + 1 < length starts.now → HoldsAt (λ start. byte < start) starts.now (result + 1) }
 {
     starts.partition_point(|start| *start <= byte) - 1
+}
+
+/// The byte at which line `index` of a source starts, from 0; of the number of lines, the byte after the source.
+fn nth_line_start(source: &str, index: usize) -> usize
+    requires within { index ≤ length (source_lines source.now) }
+    ensures value { result ≡ start_of (source_lines source.now) index }
+{
+    let mut start = 0;
+    for line in 0..index {
+        start = line_bounds(source, start).end;
+    }
+    start
 }
 
 /// The byte at which each line of a source starts. An empty source has one line.

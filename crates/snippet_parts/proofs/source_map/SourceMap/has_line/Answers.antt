@@ -1,0 +1,33 @@
+use Rattle.std.proofs.Common.{◌≡◌, ◌<◌, ◌≤◌, ◌+◌, ◌^◌, ◌∙◌, length, List, ℕ, sym, ap, arith}
+use Rattle.std.proofs.lemmas.Bool.{lt-ltb}
+use Rattle.snippet_lines.specs.Lines.{Source, source_lines}
+use Rattle.snippet_lines.proofs.LinesLemmas.{length-source_lines, newline_count-le}
+use Rattle.snippet_parts.proofs.TableLemmas.{table-within}
+use Rattle.snippet_parts.proofs.source_map.SourceMap.has_line.Goals as goal
+
+pub overflow_add-self-inside : goal.overflow_add-self-inside
+overflow_add-self-inside c =
+    let m = c.self.inside in
+    let source : List ℕ = m.source.now in
+    omega (
+      arith,
+      table-within source m.starts.items m.line_start m.skipped m.from m.end c.self.invariant,
+      m.starts.ok.0,
+      c.len.ensures,
+      length-source_lines source,
+      newline_count-le source,
+      c.self.invariant.short,
+    )
+
+pub returns-then-index-self : goal.returns-then-index-self
+returns-then-index-self c =
+    let m = c.self.inside in
+    let n : ℕ = m.skipped + c.len.result in
+    let lines : ℕ = length (source_lines c.args.self.now.text) in
+    let within : n ≤ length (source_lines m.source.now) = omega
+    (arith, table-within m.source.now m.starts.items m.line_start m.skipped m.from m.end c.self.invariant, m.starts.ok.0, c.len.ensures) in
+    let same : length (source_lines m.source.now) ≡ lines = ap (λ (s : Source). length (source_lines s.text)) c.self.view_is in
+    record {
+      value = lt-ltb c.args.index n c.if-index-self.true
+          ∙ sym (lt-ltb c.args.index lines (omega (arith, c.if-index-self.true, within, same)));
+    }

@@ -1,0 +1,16 @@
+use Rattle.std.proofs.Common.{◌≡◌, ◌<◌, ◌+◌, ◌∙◌, ℕ, List, ap, sym, arith}
+use Rattle.snippet_lines.specs.Lines.{Line, source_lines, start_of}
+use Rattle.snippet_lines.specs.Place.{line_of}
+use Rattle.snippet_lines.proofs.LinesLemmas.{start_of-zero}
+use Rattle.snippet_lines.proofs.PlaceLemmas.{line_of-start}
+use Rattle.snippet_parts.proofs.source_map.nth_line_start.Goals as goal
+
+pub loop-line-init : goal.loop-line-init
+loop-line-init c = sym (start_of-zero (source_lines c.args.source.now))
+
+pub loop-line-preserved : goal.loop-line-preserved
+loop-line-preserved c =
+    let ls : List Line = source_lines c.args.source.now in
+    let here : line_of ls c.loop-line.start ≡ c.loop-line.line = ap (line_of ls) c.loop-line.invariant
+    ∙ line_of-start c.args.source.now c.loop-line.line (omega (arith, c.loop-line-test.true, c.loop-line.auto.line-end, c.requires.within)) in
+    c.line_bounds-start.ensures.end ∙ ap (λ k. start_of ls (k + 1)) here
