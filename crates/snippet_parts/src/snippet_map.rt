@@ -1,6 +1,7 @@
 //! The map of a snippet's source.
 ghost use Rattle.std.specs.Prelude.{◌≡◌, ◌+◌, ◌≤◌, IfOk};
 ghost use Rattle.std.specs.Cow.{cow_str_bytes};
+ghost use Rattle.std.specs.Str.{IsUtf8};
 ghost use Rattle.snippet_lines.specs.Lines.{newline_count};
 ghost use Rattle.snippet_parts.specs.Numbered.{numbered_source};
 ghost use Rattle.snippet_style.specs.Bounds.{HasNext};
@@ -22,6 +23,7 @@ pub fn map_of<'a, T: Marker>(
     requires fits { TextFits (cow_str_bytes snippet.now.source) }
     requires numbers { HasNext (snippet.now.line_start + newline_count (cow_str_bytes snippet.now.source)) }
     ensures ok { IfOk result (λ m. m ≡ numbered_source snippet.now) }
+    ensures utf8 { IfOk result (λ m. IsUtf8 m.text) }
 {
     let source = snippet.source.as_str();
     let bytes = if snippet.fold {

@@ -12,7 +12,7 @@ ghost use Rattle.snippet_style.specs.Bounds.{IsUsize};
 use crate::kind::DisplaySuggestion;
 use snippet_lines::newline_count;
 use snippet_model::{Patch, Snippet};
-use snippet_parts::SourceMap;
+use snippet_parts::{SourceMap, map_of};
 use snippet_splice::{SplicedLines, TrimmedPatch};
 use std::alloc::{AllocError, Global};
 
@@ -45,7 +45,7 @@ pub fn prepare_suggestion<'a>(
     ensures snippet { IfOk result (λ t. IfSome t (λ p. p.snippet.now ≡ snippet.now)) }
     ensures prepared { IfOk result (λ t. IfSome t IsPrepared) }
 {
-    let map = SourceMap::new(alloc, snippet.source.as_str(), snippet.line_start)?;
+    let map = map_of(alloc, snippet)?;
     let Some(splice) = map.splice_lines(&snippet.markers, snippet.fold)? else {
         return Ok(None);
     };

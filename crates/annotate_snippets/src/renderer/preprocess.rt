@@ -14,7 +14,7 @@ use crate::renderer::paths::{is_same_file, path_of};
 use snippet_model::snippet::{
     Annotation, Element, Group, Message, Origin, Padding, Patch, Snippet,
 };
-use snippet_parts::{AnnotatedLineInfo, SourceMap};
+use snippet_parts::{AnnotatedLineInfo, SourceMap, map_of};
 use snippet_suggest::{PreparedSuggestion, prepare_suggestion};
 use std::alloc::{AllocError, Global};
 
@@ -174,7 +174,7 @@ fn prepare_cause<'a>(
     ensures snippet { IfOk result (λ c. c.snippet.now ≡ snippet.now) }
     ensures prepared { IfOk result IsCausePrepared }
 {
-    let map = SourceMap::new(alloc, snippet.source.as_str(), snippet.line_start)?;
+    let map = map_of(alloc, snippet)?;
     let (depth, kept) = map.annotated_lines(&snippet.markers, snippet.fold)?;
     Ok(PreparedCause {
         snippet,

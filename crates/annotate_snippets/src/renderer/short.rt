@@ -21,7 +21,7 @@ use crate::renderer::Renderer;
 use crate::renderer::graphic::GroupGrid;
 use snippet_grid::StyledBuffer;
 use snippet_model::snippet::{Annotation, AnnotationKind, Element, Group, Snippet, Title};
-use snippet_parts::{SourceMap, naming_start};
+use snippet_parts::{SourceMap, map_of, naming_start};
 use snippet_suggest::is_blank;
 use snippet_text::normalized;
 use snippet_titles::{OriginLocation, draw_short, origin_text};
@@ -105,7 +105,7 @@ fn place_of<'a>(
     let Some(path) = &snippet.path else {
         return Ok(String::new(alloc));
     };
-    let map = SourceMap::new(alloc, snippet.source.as_str(), snippet.line_start)?;
+    let map = map_of(alloc, snippet)?;
     let place = named_place(&map, &snippet.markers);
     let anonymized = renderer.anonymized_origin_line_numbers;
     let mut text = origin_text(alloc, path.as_str(), place, anonymized)?;

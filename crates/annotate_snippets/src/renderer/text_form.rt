@@ -25,7 +25,7 @@ ghost use Rattle.snippet_style.specs.Bounds.{HasNext};
 use crate::renderer::Renderer;
 use crate::renderer::paths::{is_same_file, path_of, primary_path, report_file};
 use snippet_model::snippet::{Annotation, Element, Group, Message, Patch, Snippet, Title};
-use snippet_parts::SourceMap;
+use snippet_parts::map_of;
 use snippet_suggest::prepare_suggestion;
 use snippet_text_form::{
     HeadingKind, SuggestionContext, TextForm, add_cause, add_heading, add_origin, add_suggestion,
@@ -227,7 +227,7 @@ fn add_snippet<'a>(
     requires drawable { IsDrawable snippet.now }
     ensures added { OnOk result (form.new ≡ form.old ++ cause_form anonymized snippet.now) }
 {
-    let map = SourceMap::new(alloc, snippet.source.as_str(), snippet.line_start)?;
+    let map = map_of(alloc, snippet)?;
     add_cause(alloc, form, anonymized, snippet, &map)
 }
 

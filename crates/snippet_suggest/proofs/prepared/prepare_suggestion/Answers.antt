@@ -18,9 +18,9 @@ use Rattle.snippet_suggest.specs.Kind.{kind_of}
 use Rattle.snippet_suggest.proofs.PreparedLemmas.{counted-is, some_left}
 use Rattle.snippet_suggest.proofs.prepared.prepare_suggestion.Goals as goal
 
-pub new-requires-clause-numbers : goal.new-requires-clause-numbers
-new-requires-clause-numbers c =
-    omega (arith, c.requires.suggestible.lines, length-source_lines (cow_str_bytes c.args.snippet.now.source), ap newline_count c.as_str.ensures.value)
+pub map_of-requires-clause-numbers : goal.map_of-requires-clause-numbers
+map_of-requires-clause-numbers c =
+    omega (arith, c.requires.suggestible.lines, length-source_lines (cow_str_bytes c.args.snippet.now.source))
 
 pub counted_line-counted-requires-clause-some : goal.counted_line-counted-requires-clause-some
 counted_line-counted-requires-clause-some c =
@@ -35,8 +35,7 @@ returns-clause-prepared c =
     let s : Snippet Patch = c.args.snippet.now in
     let source : List ℕ = cow_str_bytes s.source in
     let ps : List TrimmedPatch = c.in-Some.splice.patches.items in
-    let lines : c.in_ok-map.map ≡ numbered_source s = c.in_ok-map.ensures.ok
-    ∙ ap (λ (t : List ℕ). record { text = t; first = s.line_start }) c.as_str.ensures.value in
+    let lines : c.in_ok-map.map ≡ numbered_source s = c.in_ok-map.ensures.ok in
     let of : c.in_ok-map.map.text ≡ source = ap (λ (m : Source). m.text) lines in
     let given : c.deref.result.now ≡ s.markers.items = c.deref.ensures.value in
     let none = rw c.in-Some.is at c.in_ok-splice.ensures.none in
@@ -59,7 +58,7 @@ returns-clause-prepared c =
     ∙ ap (kind_of source (trimmed_of s)) text in
     record {
       suggestible = c.requires.suggestible;
-      utf8 = subst IsUtf8 c.as_str.ensures.value c.as_str.utf8;
+      utf8 = subst IsUtf8 of c.in_ok-map.ensures.utf8;
       some = λ e. let other = none.1 (given ∙ e) in cc;
       lines = lines;
       text = text;

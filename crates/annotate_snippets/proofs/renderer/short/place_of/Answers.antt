@@ -2,7 +2,7 @@ use Rattle.std.proofs.Common.{◌≡◌, ◌∙◌, All, IfSome, ℕ, List, ap, 
 use Rattle.std.specs.Cow.{cow_str_bytes}
 use Rattle.std.specs.Str.{IsUtf8}
 use Rattle.std.proofs.lemmas.Str.{IsUtf8-string_bytes, chars-nil}
-use Rattle.snippet_lines.specs.Lines.{Source, newline_count}
+use Rattle.snippet_lines.specs.Lines.{Source}
 use Rattle.snippet_lines.specs.Span.{IsSpan}
 use Rattle.snippet_lines.proofs.LinesLemmas.{length-source_lines}
 use Rattle.snippet_model.specs.Fits.{TextFits}
@@ -15,18 +15,18 @@ use Rattle.annotate_snippets.specs.Rows.{place_named}
 use Rattle.annotate_snippets.proofs.ShortLemmas.{PlaceFits, place-added, place-of_none, place-of_path, place-short}
 use Rattle.annotate_snippets.proofs.renderer.short.place_of.Goals as goal
 
-pub new-requires-2-clause-numbers : goal.new-requires-2-clause-numbers
-new-requires-2-clause-numbers c =
-    omega (arith, ap newline_count c.as_str.ensures.value, length-source_lines (cow_str_bytes c.args.snippet.now.source), c.requires.drawable.numbers)
+pub map_of-requires-clause-numbers : goal.map_of-requires-clause-numbers
+map_of-requires-clause-numbers c =
+    omega (arith, length-source_lines (cow_str_bytes c.args.snippet.now.source), c.requires.drawable.numbers)
 
 pub named_place-place-requires : goal.named_place-place-requires
 named_place-place-requires c =
     let spans = subst (All (λ a. IsSpan (cow_str_bytes c.args.snippet.now.source) a.span.start a.span.end))
     (sym c.deref.ensures.value) c.requires.drawable.spans in
-    let text : c.in_ok-map.map.text ≡ c.as_str.result.now = ap (λ (m : Source). m.text) c.in_ok-map.ensures.ok in
+    let text : c.in_ok-map.map.text ≡ cow_str_bytes c.args.snippet.now.source = ap (λ (m : Source). m.text) c.in_ok-map.ensures.ok in
     record {
-      spans = subst (λ t. All (λ a. IsSpan t a.span.start a.span.end) c.deref.result.now) (sym (text ∙ c.as_str.ensures.value)) spans;
-      utf8 = subst IsUtf8 (sym text) c.as_str.utf8;
+      spans = subst (λ t. All (λ a. IsSpan t a.span.start a.span.end) c.deref.result.now) (sym text) spans;
+      utf8 = c.in_ok-map.ensures.utf8;
     }
 
 pub returns-in_default-clause-value : goal.returns-in_default-clause-value
@@ -41,12 +41,12 @@ returns c =
     let s = c.args.snippet.now in
     let path : List ℕ = cow_str_bytes c.in-Some.path in
     let place : OriginLocation = c.named_place-place.result in
-    let map_is : c.in_ok-map.map ≡ numbered_source s = c.in_ok-map.ensures.ok ∙ ap (λ t. record { text = t; first = s.line_start }) c.as_str.ensures.value in
+    let map_is : c.in_ok-map.map ≡ numbered_source s = c.in_ok-map.ensures.ok in
     let own : place ≡ place_named true (annotated_lines s.fold (numbered_source s) s.markers.items) =
     c.named_place-place.ensures.value s.fold ∙ ap (λ source. place_named true (annotated_lines s.fold source c.deref.result.now)) map_is
     ∙ ap (λ marks. place_named true (annotated_lines s.fold (numbered_source s) marks)) c.deref.ensures.value in
     let text : chars (string_bytes c.in_ok-text.text) ≡ origin_text c.args.renderer.now.anonymized_origin_line_numbers path place = c.in_ok-text.ensures.value
-    ∙ ap (λ bs. origin_text c.args.renderer.now.anonymized_origin_line_numbers bs place) c.as_str-2.ensures.value in
+    ∙ ap (λ bs. origin_text c.args.renderer.now.anonymized_origin_line_numbers bs place) c.as_str.ensures.value in
     let is = place-added (string_bytes c.in_ok-text.text) (string_bytes c.push_str.new.self) _
     (IsUtf8-string_bytes c.in_ok-text.text) text c.in_ok-push_str.ensures.bytes in
     let short : TextFits path = subst (λ p. IfSome p (λ t. TextFits (cow_str_bytes t))) c.in-Some.is c.requires.fits.1 in
