@@ -1,3 +1,1 @@
-pub mod Again
-pub mod Members
-pub mod Texts
+pub mod Whole

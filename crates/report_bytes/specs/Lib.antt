@@ -1,4 +1,1 @@
-pub mod Bytes
-pub mod Fits
-pub mod Reading
-pub mod Report
+pub mod Request

@@ -2,15 +2,12 @@
 
 ghost use Rattle.std.specs.Prelude.{◌≡◌, [], IfOk, IsOkUnless};
 ghost use Rattle.snippet_model.specs.Fits.{ReportFits};
-ghost use Rattle.report_bytes.specs.Bytes.{request_bytes};
-ghost use Rattle.report_bytes.specs.Reading.{Gives, after_request};
-ghost use Rattle.report_bytes.specs.Report.{IsReport};
-ghost use Rattle.report_bytes.specs.declared.fault.ReadError.TheVariants.{Memory};
+ghost use Rattle.report_bytes.specs.Request.{IsReport, after_request, request_bytes};
 ghost use Rattle.report_bytes.specs.declared.request.Request.{Request};
+ghost use Rattle.report_fields.specs.Reading.{Gives};
+ghost use Rattle.report_fields.specs.declared.fault.ReadError.TheVariants.{Memory};
 
-use crate::fault::{ReadError, Wrong};
-use crate::part::list;
-use crate::settings::{Settings, settings_at};
+use report_fields::{ReadError, Settings, Wrong, list, settings_at};
 use snippet_model::Group;
 use snippet_style::Stylesheet;
 use std::alloc::Global;
@@ -45,7 +42,7 @@ pub fn read(alloc: Global, bytes: &[u8]) -> Result<Request<'_>, ReadError>
 }
 
 /// The report at the front, after which there is nothing.
-#[tactic(auto, unfolding(crate::specs::Reading::after_request))]
+#[tactic(auto, unfolding(crate::specs::Request::after_request))]
 fn whole(alloc: Global, bytes: &[u8]) -> Result<Request<'_>, ReadError>
     ensures spelled { IfOk result (λ request. bytes.now ≡ request_bytes request) }
     ensures left { Gives (λ request. []) result (after_request bytes.now) }

@@ -1,10 +1,13 @@
-//! Bytes that are written whole, or up to where a write failed.
+//! Bytes that are written whole, or up to where a write failed; and bytes that are given as far as there is room.
 #![tactic(auto)]
 
 ghost use Rattle.std.specs.Prelude.{◌≤◌, IfOk, OnErr, OnOk, length, take};
 ghost use Rattle.std.specs.Io.KnownBytes.{Appends, Keeps};
 ghost use Rattle.written.specs.Part.{AppendsPart};
 
+mod room;
+
+pub use room::give;
 use std::io::{self, ErrorKind, Write};
 
 /// Writes these bytes. Where a write failed a first part of them was written, and the error is its own.

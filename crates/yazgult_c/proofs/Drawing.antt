@@ -11,7 +11,7 @@ use Rattle.annotate_snippets.specs.Fits.{ReportFits}
 use Rattle.annotate_snippets.specs.declared.renderer.Renderer.{Renderer}
 use Rattle.annotate_snippets.specs.declared.renderer.error.RenderError.{RenderError}
 use Rattle.annotate_snippets.specs.declared.renderer.error.RenderError.TheVariants as refusal
-use Rattle.report_bytes.specs.Bytes.{request_bytes}
+use Rattle.report_bytes.specs.Request.{request_bytes}
 use Rattle.report_bytes.specs.declared.request.Request.{Request}
 use Rattle.yazgult_c.specs.Answer.{IsAnswerTo, IsDrawn, answer_of, renderer_of}
 use Rattle.yazgult_c.specs.declared.answer.Answer.{Answer}

@@ -1,2 +1,1 @@
 pub mod Answer
-pub mod Given

@@ -6,7 +6,8 @@ ghost use Rattle.yazgult_c.specs.Answer.{IsAnswerTo, IsDrawn, answer_of, answer_
 
 use annotate_snippets::Renderer;
 use annotate_snippets::renderer::{RenderError, Stylesheet};
-use report_bytes::{ReadError, Request, Settings, Wrong, read};
+use report_bytes::{Request, read};
+use report_fields::{ReadError, Settings, Wrong};
 use std::alloc::Global;
 
 /// What becomes of the bytes of a report.

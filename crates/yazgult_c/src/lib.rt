@@ -4,18 +4,17 @@
 
 ghost use Rattle.std.specs.Prelude.{ℕ, List, codes};
 ghost use Rattle.yazgult_c.specs.Answer.{IsAnswerTo, IsLineAnswerTo, answer_bytes};
-ghost use Rattle.yazgult_c.specs.Given.{IsGiven};
+ghost use Rattle.written.specs.Given.{IsGiven};
 ghost use Rattle.yazgult_c.specs.declared.answer.Answer.{Answer};
 
 mod answer;
-mod give;
 mod write;
 
 use answer::answer_to;
-use give::give;
 use replay_answer::line::line_answer;
 use std::alloc::Global;
 use write::{NO_MEMORY, written};
+use written::give;
 
 /// Draws the report that stands in `input`, in the form of `docs/BINDINGS.md`, and gives the answer: texts, or why
 /// there are none.

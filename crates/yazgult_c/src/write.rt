@@ -7,7 +7,7 @@ ghost use Rattle.yazgult_c.specs.Answer.{refusal_bytes, refusal_fields, text_byt
 
 use crate::answer::Answer;
 use annotate_snippets::renderer::RenderError;
-use report_bytes::Wrong;
+use report_fields::Wrong;
 use std::alloc::{AllocError, Global};
 
 /// The answer that there was no memory.

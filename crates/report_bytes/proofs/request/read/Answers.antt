@@ -1,4 +1,4 @@
-use Rattle.report_bytes.proofs.Again.{no_fault}
+use Rattle.report_bytes.proofs.Whole.{no_fault}
 use Rattle.report_bytes.proofs.request.read.Goals as goal
 
 pub returns-clause-only : goal.returns-clause-only

@@ -15,7 +15,6 @@ use Rattle.snippet_model.specs.declared.snippet.Id.{Id}
 use Rattle.snippet_model.specs.declared.snippet.Patch.{Patch}
 use Rattle.snippet_model.specs.declared.snippet.Snippet.{Snippet}
 use Rattle.snippet_model.specs.declared.snippet.Title.{Title}
-use Rattle.report_bytes.specs.declared.request.Request.{Request}
 use Rattle.snippet_text.specs.Bounds.{TextFits}
 
 -- a text: UTF-8, and fewer than 2^56 bytes
@@ -55,7 +54,3 @@ IsElement (element.Padding padding) = Unit {0}
 
 abbrev pub IsGroup : Group → Type 0
 IsGroup group = IfSome group.title IsTitle × IsListOf IsElement group.elements.items
-
--- a report that has bytes
-abbrev pub IsReport : Request → Type 0
-IsReport request = (length request.sheets.items < 2 ^ 64) × IsListOf IsGroup request.groups.items

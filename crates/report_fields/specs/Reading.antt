@@ -2,11 +2,11 @@
 use Rattle.std.specs.Prelude.{◌≡◌, ℕ, zero, suc, ◌^◌, Bool, true, false, List, [], ◌∷◌, length, take, drop, Result, Ok, Err, nat_lt, if◌then◌else◌}
 use Rattle.std.specs.Int.{w64, from_le_bytes}
 use Rattle.std.specs.Str.{is_utf8}
-use Rattle.report_bytes.specs.declared.fault.Fault.{Fault}
-use Rattle.report_bytes.specs.declared.fault.Wrong.{Wrong}
-use Rattle.report_bytes.specs.declared.fault.Wrong.TheVariants.{Short, Flag, Kind, Long, NotText, Trailing}
-use Rattle.report_bytes.specs.declared.fault.ReadError.{ReadError}
-use Rattle.report_bytes.specs.declared.fault.ReadError.TheVariants as errors
+use Rattle.report_fields.specs.declared.fault.Fault.{Fault}
+use Rattle.report_fields.specs.declared.fault.Wrong.{Wrong}
+use Rattle.report_fields.specs.declared.fault.Wrong.TheVariants.{Short, Flag, Kind, Long, NotText, Trailing}
+use Rattle.report_fields.specs.declared.fault.ReadError.{ReadError}
+use Rattle.report_fields.specs.declared.fault.ReadError.TheVariants as errors
 
 infixl 10 ◌>>=◌
 -- the next step, where there was no fault
@@ -223,18 +223,3 @@ after_group bytes = do
   rest ← after_kind 5 bytes
   rest ← after_option after_title rest
   after_list after_element rest
-
--- ---- the whole
-
--- nothing is left
-abbrev pub ended : List ℕ → Result (List ℕ) Fault
-ended [] = Ok []
-ended (byte ∷ rest) = Err (fault_at Trailing (byte ∷ rest))
-
--- what is left of the bytes of a whole report, nothing, or the first fault
-unfoldable pub after_request : List ℕ → Result (List ℕ) Fault
-after_request bytes = do
-  rest ← after_settings bytes
-  rest ← after_list after_sheet rest
-  rest ← after_list after_group rest
-  ended rest

@@ -32,8 +32,7 @@ use Rattle.snippet_model.specs.declared.snippet.Origin.{Origin}
 use Rattle.snippet_model.specs.declared.snippet.Patch.{Patch}
 use Rattle.snippet_model.specs.declared.snippet.Snippet.{Snippet}
 use Rattle.snippet_model.specs.declared.snippet.Title.{Title}
-use Rattle.report_bytes.specs.declared.settings.Settings.{Settings}
-use Rattle.report_bytes.specs.declared.request.Request.{Request}
+use Rattle.report_fields.specs.declared.settings.Settings.{Settings}
 
 -- ---- numbers, texts, what may be missing, lists
 
@@ -172,9 +171,3 @@ element_then (element.Padding padding) rest = 4 ∷ rest
 abbrev pub group_then : Group → List ℕ → List ℕ
 group_then g rest =
     severity_number g.level ∷ option_then title_then g.title (list_then element_then g.elements.items rest)
-
--- ---- the whole
-
--- the bytes of a report: its settings, its sheets, its groups, and nothing else
-abbrev pub request_bytes : Request → List ℕ
-request_bytes r = settings_then r.settings (list_then sheet_then r.sheets.items (list_then group_then r.groups.items []))

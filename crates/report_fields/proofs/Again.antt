@@ -15,25 +15,23 @@ use Rattle.snippet_style.specs.declared.role.LevelInner.TheVariants as severity
 use Rattle.snippet_style.specs.declared.style.AnsiColor.{AnsiColor}
 use Rattle.snippet_style.specs.declared.style.AnsiColor.TheVariants as ansi
 use Rattle.snippet_style.specs.declared.style.Color.TheVariants.{Ansi, Ansi256, Rgb}
-use Rattle.report_bytes.specs.Bytes.{number_then, flag_then, text_then, option_then, members_then, list_then, severity_number, mark_number, decor_number}
-use Rattle.report_bytes.specs.Bytes.{ansi_number, settings_then, color_then, effects_then, style_then, sheet_then, name_then, level_then, id_then}
-use Rattle.report_bytes.specs.Bytes.{title_then, message_then, span_then, annotation_then, patch_then, snippet_then, origin_then, element_then, group_then}
-use Rattle.report_bytes.specs.Bytes.{request_bytes}
-use Rattle.report_bytes.specs.Reading.{◌>>=◌, fault_at, number_at, after_number, after_flag, after_kind, after_text, after_option, after_members, after_list}
-use Rattle.report_bytes.specs.Reading.{after_settings, after_color, after_effects, after_style, after_levels, after_parts, after_sheet, after_name}
-use Rattle.report_bytes.specs.Reading.{after_level, after_id, after_title, after_message, after_span, after_annotation, after_patch, after_snippet}
-use Rattle.report_bytes.specs.Reading.{after_origin, after_element, after_group, after_request, Gives}
-use Rattle.report_bytes.specs.Report.{IsText, IsListOf, IsName, IsId, IsTitle, IsAnnotation, IsPatch, IsSnippet, IsElement, IsGroup, IsReport}
-use Rattle.report_bytes.specs.declared.fault.Fault.{Fault}
-use Rattle.report_bytes.specs.declared.fault.Wrong.TheVariants.{Short}
-use Rattle.report_bytes.specs.declared.fault.ReadError.{ReadError}
-use Rattle.report_bytes.specs.declared.fault.ReadError.TheVariants as errors
-use Rattle.report_bytes.specs.declared.request.Request.{Request}
+use Rattle.report_fields.specs.Bytes.{number_then, flag_then, text_then, option_then, members_then, list_then, severity_number, mark_number, decor_number}
+use Rattle.report_fields.specs.Bytes.{ansi_number, settings_then, color_then, effects_then, style_then, sheet_then, name_then, level_then, id_then}
+use Rattle.report_fields.specs.Bytes.{title_then, message_then, span_then, annotation_then, patch_then, snippet_then, origin_then, element_then, group_then}
+use Rattle.report_fields.specs.Reading.{◌>>=◌, fault_at, number_at, after_number, after_flag, after_kind, after_text, after_option, after_members, after_list}
+use Rattle.report_fields.specs.Reading.{after_settings, after_color, after_effects, after_style, after_levels, after_parts, after_sheet, after_name}
+use Rattle.report_fields.specs.Reading.{after_level, after_id, after_title, after_message, after_span, after_annotation, after_patch, after_snippet}
+use Rattle.report_fields.specs.Reading.{after_origin, after_element, after_group}
+use Rattle.report_fields.specs.Report.{IsText, IsListOf, IsName, IsId, IsTitle, IsAnnotation, IsPatch, IsSnippet, IsElement, IsGroup}
+use Rattle.report_fields.specs.declared.fault.Fault.{Fault}
+use Rattle.report_fields.specs.declared.fault.Wrong.TheVariants.{Short}
+use Rattle.report_fields.specs.declared.fault.ReadError.{ReadError}
+use Rattle.report_fields.specs.declared.fault.ReadError.TheVariants as errors
 use Rattle.snippet_model.specs.declared.level.LevelName.TheVariants.{Standard, Hidden, Own}
 use Rattle.snippet_model.specs.declared.snippet.AnnotationKind.{AnnotationKind}
 use Rattle.snippet_model.specs.declared.snippet.AnnotationKind.TheVariants as mark
 use Rattle.snippet_model.specs.declared.snippet.Element.TheVariants as element
-use Rattle.report_bytes.proofs.Texts.{a_text}
+use Rattle.report_fields.proofs.Texts.{a_text}
 
 -- a thing's bytes are read as such a thing, and what follows is left
 abbrev pub Again : {X : Type 0} → (X → List ℕ → List ℕ) → (List ℕ → Result (List ℕ) Fault) → (X → Type 0) → Type 0
@@ -42,7 +40,7 @@ Again {X} f after P = (x : X) (rest : List ℕ) → P x → after (f x rest) ≡
 abbrev ok : List ℕ → Result (List ℕ) Fault
 ok x = Ok x
 
-clash : {x : List ℕ} {f : Fault} → ok x ≡ Err f → ⊥
+pub clash : {x : List ℕ} {f : Fault} → ok x ≡ Err f → ⊥
 clash e = cc
 
 abbrev pub Any : {X : Type 0} → X → Type 0
@@ -249,28 +247,8 @@ element_again (element.Suggestion snippet) rest is = snippet_again patch_then af
 element_again (element.Origin origin) rest is = origin_again origin rest is
 element_again (element.Padding padding) rest is = refl
 
-group_again : Again group_then after_group IsGroup
+pub group_again : Again group_then after_group IsGroup
 unfolding after_group
 group_again g rest is =
     seq _ (severity_again g.level _) (seq _ (option_again title_then after_title IsTitle title_again g.title _ is.0)
     (list_again element_then after_element IsElement element_again g.elements.items rest is.1))
-
--- ---- the whole
-
-any_all : {X : Type 0} (xs : List X) → AllByRecursion Any xs
-any_all [] = tt
-any_all (x ∷ xs) = (tt, any_all xs)
-
--- nothing is left of the bytes of a report
-pub request_again : (r : Request) → IsReport r → after_request (request_bytes r) ≡ Ok []
-unfolding after_request
-request_again r is =
-    seq _ (settings_again r.settings _ tt) (seq _ (list_again sheet_then after_sheet Any sheet_again r.sheets.items _ (is.0, any_all r.sheets.items))
-    (seq _ (list_again group_then after_group IsGroup group_again r.groups.items [] is.1) refl))
-
--- what was returned for the bytes of a report is a value, or memory ran out
-pub no_fault : {X : Type 0} (result : Result X ReadError) (bytes : List ℕ) (r : Request)
-    → Gives (λ x. []) result (after_request bytes) → IsReport r → bytes ≡ request_bytes r → IsOkUnless result errors.Memory
-no_fault (Ok x) bytes r gives is same = tt
-no_fault (Err errors.Memory) bytes r gives is same = refl
-no_fault (Err (errors.Fault fault)) bytes r gives is same = absurd (clash (sym (request_again r is) ∙ ap after_request (sym same) ∙ gives))

@@ -1,0 +1,4 @@
+pub mod Bytes
+pub mod Fits
+pub mod Reading
+pub mod Report
