@@ -1,5 +1,6 @@
 -- What the table of a source's lines says of each of them.
-use Rattle.std.proofs.Common.{◌≡◌, ℕ, zero, suc, ◌+◌, ◌-◌, ◌<◌, ◌≤◌, true, false, ◌&&◌, cond, leb, ltb, min, take, drop, inl, inr, Some, None, List, [], ◌∷◌, ◌++◌, map, length}
+use Rattle.std.proofs.Common.{◌≡◌, ℕ, zero, suc, ◌+◌, ◌-◌, ◌<◌, ◌≤◌, ◌&&◌, cond, leb, ltb, min, take, drop, List, [], ◌∷◌, ◌++◌, map, length}
+use Rattle.std.proofs.Common.{inl, inr, true, false, Some, None}
 use Rattle.std.proofs.Common.{get_or, refl, sym, ap, subst, ◌∙◌, arith}
 use Rattle.std.proofs.lemmas.List.{map_push, length-append, length-drop, length-take, take-take}
 use Rattle.std.proofs.Math.Seq.{take-add}

@@ -32,7 +32,8 @@ found c =
     let k : ℕ = c.last_starting_by.result in
     let is = c.last_starting_by.ensures in
     let same = c.deref.ensures.value in
-    table-holding m.source.now m.starts.items m.line_start m.skipped m.from m.end c.self.invariant byte k (omega (arith, c.if-self-byte.true)) (omega (arith, c.if-byte-self.true))
+    table-holding m.source.now m.starts.items m.line_start m.skipped m.from m.end c.self.invariant byte k (omega (arith, c.if-self-byte.true))
+    (omega (arith, c.if-byte-self.true))
     (omega (arith, is.within, ap length same)) (subst (λ ss. HoldsAt (λ (start : ℕ). start ≤ byte - m.from) ss k) same is.from)
     (subst (λ ss. k + 1 < length ss → HoldsAt (λ (start : ℕ). byte - m.from < start) ss (k + 1)) same is.to)
 
