@@ -132,41 +132,8 @@ fn change_row<'a>(
     Ok(())
 }
 
-/// Changes the cells of a row from `start` to before `end`, as far as they are there, whatever runs they are part of:
-/// the row is changed in a copy, for which `fresh` has room, and then put in its place at once.
-fn change_copied<'a>(
-    text: &mut String,
-    spare: &mut Spare<'a>,
-    fresh: &mut Vec<Run<'a>>,
-    runs: &mut Vec<Run<'a>>,
-    widths: &[usize],
-    row: usize,
-    start: usize,
-    end: usize,
-    change: Change<'a>,
-) -> Result<(), AllocError>
-    requires grid { IsGrid (string_bytes text.old) runs.old.items widths.now }
-    ensures ok { OnOk result (grid_shown (string_bytes text.new) runs.new.items widths.now
-        ≡ cells_changed (changed_by change.entry) (grid_shown
-        (string_bytes text.old) runs.old.items widths.now) row start end) }
-    ensures grid { IsGrid (string_bytes text.new) runs.new.items widths.now }
-    ensures runs_added { length runs.new.items ≤ length runs.old.items + 2 * (end - start) }
-    ensures err { OnErr result (grid_shown (string_bytes text.new) runs.new.items widths.now
-        ≡ grid_shown (string_bytes text.old) runs.old.items widths.now) }
-{
-    let last = end.min(width_of(widths, row));
-    if last <= start {
-        return Ok(());
-    }
-    let old = runs.as_slice();
-    let (from, to) = row_bounds(old, row);
-    fresh.clear();
-    fresh.extend_from_slice(&old[from..to])?;
-    change_row(text, spare, fresh, row, start, last, change)?;
-    exchange(runs, from, to, fresh)
-}
-
-/// Changes the cells of a row from `start` to before `end`, as far as they are there.
+/// Changes the cells of a row from `start` to before `end`, as far as they are there: where one run holds them all, or
+/// none does, at once; else in a copy of the row, for which `fresh` has room, and which is then put in its place.
 pub(crate) fn change_cells<'a>(
     text: &mut String,
     spare: &mut Spare<'a>,
@@ -197,5 +164,8 @@ pub(crate) fn change_cells<'a>(
     if part.count == last - start {
         return put_run(text, spare, runs, &changed(change, &part));
     }
-    change_copied(text, spare, fresh, runs, widths, row, start, end, change)
+    fresh.clear();
+    fresh.extend_from_slice(&runs.as_slice()[from..to])?;
+    change_row(text, spare, fresh, row, start, last, change)?;
+    exchange(runs, from, to, fresh)
 }

@@ -14,6 +14,10 @@ use Rattle.snippet_grid.specs.Grid.{cells_changed}
 use Rattle.snippet_style.specs.Cell.{Cell}
 use Rattle.snippet_grid.specs.Runs.{IsRun, IsPut, FitIn, grid_shown, shown_cell}
 use Rattle.snippet_grid.specs.declared.runs.Run.{Run}
+use Rattle.std.proofs.Common.{◌++◌, ◌-◌, ◌*◌, take, drop}
+use Rattle.snippet_grid.proofs.GridChanged.{IsExchanged, IsGrid-put, FitIn-put, grid_changed}
+use Rattle.snippet_grid.proofs.RowPut.{put_length, length-stretch}
+use Rattle.snippet_grid.specs.Runs.{IsRow, EndsBy}
 use Rattle.snippet_grid.proofs.change.change_cells.Goals as goal
 
 pub returns-then-last-start-clause-ok : goal.returns-then-last-start-clause-ok
@@ -118,26 +122,107 @@ returns-then-part-last c =
       err = on_err_weaker c.put_run.result (λ same. grid_grown old new runs now w w all same refl c.requires.grid) c.put_run.ensures.err;
     }
 
-pub change_copied-requires : goal.change_copied-requires
-change_copied-requires c =
-    record {
-      grid = IsGrid-grown (string_bytes c.args.text.now) (string_bytes c.part_at.new.text) c.args.runs.now.items c.args.runs.now.items c.args.widths.now
-          c.args.widths.now c.in_ok-part.ensures.text refl refl c.requires.grid;
-    }
+-- a call that fails after spaces were added to the text leaves the grid as it was
+pub returns-in_err-extend_from_slice-clause-grid : goal.returns-in_err-extend_from_slice-clause-grid
+returns-in_err-extend_from_slice-clause-grid c =
+    IsGrid-grown (string_bytes c.args.text.now) (string_bytes c.part_at.new.text) c.args.runs.now.items c.args.runs.now.items c.args.widths.now
+    c.args.widths.now c.in_ok-part.ensures.text refl refl c.requires.grid
 
-pub returns-clause-ok : goal.returns-clause-ok
-returns-clause-ok c =
-    on_ok_weaker c.change_copied.result
-    (λ is. is ∙ ap (λ (rows : List (List Cell)). cells_changed (changed_by c.args.change) rows c.args.row c.args.start c.args.end)
-    (grid_grown (string_bytes c.args.text.now) (string_bytes c.part_at.new.text)
-    c.args.runs.now.items c.args.runs.now.items c.args.widths.now c.args.widths.now c.in_ok-part.ensures.text refl refl c.requires.grid))
-    c.change_copied.ensures.ok
-
-pub returns-clause-err : goal.returns-clause-err
-returns-clause-err c =
-    on_err_weaker c.change_copied.result (λ is. is ∙ grid_grown (string_bytes c.args.text.now)
+pub returns-in_err-extend_from_slice-clause-err : goal.returns-in_err-extend_from_slice-clause-err
+returns-in_err-extend_from_slice-clause-err c =
+    on_err_from c.from_residual-in_err-extend_from_slice.result (grid_grown (string_bytes c.args.text.now)
     (string_bytes c.part_at.new.text) c.args.runs.now.items c.args.runs.now.items c.args.widths.now c.args.widths.now c.in_ok-part.ensures.text refl refl
-    c.requires.grid) c.change_copied.ensures.err
+    c.requires.grid)
+
+pub change_row-requires-clause-runs : goal.change_row-requires-clause-runs
+change_row-requires-clause-runs c =
+    let is = c.as_slice.ensures.value in
+    let mid = string_bytes c.part_at.new.text in
+    let grid = IsGrid-grown (string_bytes c.args.text.now) mid c.args.runs.now.items c.args.runs.now.items c.args.widths.now c.args.widths.now
+    c.in_ok-part.ensures.text refl refl c.requires.grid in
+    let copied = c.in_ok-extend_from_slice.ensures.items ∙ ap (λ (l : List Run). l
+    ++ stretch c.as_slice.result.now c.row_bounds-from.result.0 c.row_bounds-from.result.1) c.clear.ensures.items
+    ∙ ap (λ (l : List Run). stretch l c.row_bounds-from.result.0 c.row_bounds-from.result.1) (is ∙ sym c.as_slice-old.ensures.value) in
+    subst (λ (l : List Run). IsRow mid c.args.row l) (sym copied)
+    (IsRow-stretch mid c.args.row c.as_slice-old.result.now c.row_bounds-from.result.0 c.row_bounds-from.result.1 c.row_bounds-from.ensures.bounds.0
+    c.row_bounds-from.ensures.bounds.1
+    (subst (λ (l : List Run). All (λ x. IsRun mid x) l) (sym c.as_slice-old.ensures.value) grid.are_runs)
+    (subst (λ (l : List Run). AreOrdered l) (sym c.as_slice-old.ensures.value) grid.ordered)
+    (subst (λ (l : List Run). AreApart l) (sym c.as_slice-old.ensures.value) grid.apart) c.row_bounds-from.ensures.inside)
+
+pub returns-in_err-change_row-clause-grid : goal.returns-in_err-change_row-clause-grid
+returns-in_err-change_row-clause-grid c =
+    IsGrid-grown (string_bytes c.args.text.now) (string_bytes c.change_row.new.text) c.args.runs.now.items c.args.runs.now.items c.args.widths.now
+    c.args.widths.now (BeginsWith-trans _ _ _ c.in_ok-part.ensures.text c.in_err-change_row.ensures.text) refl refl c.requires.grid
+
+pub returns-in_err-change_row-clause-err : goal.returns-in_err-change_row-clause-err
+returns-in_err-change_row-clause-err c =
+    on_err_from c.from_residual-in_err-change_row.result (grid_grown (string_bytes c.args.text.now)
+    (string_bytes c.change_row.new.text) c.args.runs.now.items c.args.runs.now.items c.args.widths.now c.args.widths.now
+    (BeginsWith-trans _ _ _ c.in_ok-part.ensures.text c.in_err-change_row.ensures.text) refl refl c.requires.grid)
+
+pub returns : goal.returns
+returns c =
+    let is = c.as_slice-old.ensures.value in
+    let from = c.row_bounds-from.result.0 in
+    let to = c.row_bounds-from.result.1 in
+    let old = string_bytes c.args.text.now in
+    let mid = string_bytes c.part_at.new.text in
+    let new = string_bytes c.change_row.new.text in
+    let row = c.args.row in
+    let runs = c.args.runs.now.items in
+    let now = c.exchange.new.runs.items in
+    let fresh = c.change_row.new.runs.items in
+    let w = c.args.widths.now in
+    let f = changed_by c.args.change in
+    let grid = IsGrid-grown old mid runs runs w w c.in_ok-part.ensures.text refl refl c.requires.grid in
+    let grows = c.in_ok-change_row.ensures.text in
+    let all = BeginsWith-trans old mid new c.in_ok-part.ensures.text grows in
+    let copied = c.in_ok-extend_from_slice.ensures.items ∙ ap (λ (l : List Run). l ++ stretch c.as_slice.result.now from to) c.clear.ensures.items
+    ∙ ap (λ (l : List Run). stretch l from to) c.as_slice.ensures.value in
+    let at = RowAt-read runs c.as_slice-old.result.now row from to is record {
+      ordered = c.row_bounds-from.ensures.bounds.0;
+      within = c.row_bounds-from.ensures.bounds.1;
+      above = c.row_bounds-from.ensures.above;
+      inside =
+          c.row_bounds-from.ensures.inside;
+      below = c.row_bounds-from.ensures.below;
+    } in
+    let width : ℕ = get_or w row 0 in
+    let high : c.min-last.result ≤ width = omega (arith, c.min-last.ensures, c.width_of.ensures.value) in
+    let shows = subst (λ (l : List Run). ShowsSpan mid new l fresh row c.args.start c.min-last.result (λ k.
+    f (shown_cell mid l row k))) copied c.in_ok-change_row.ensures.ok in
+    let ends = λ (all : EndsBy width (stretch runs from to)). c.in_ok-change_row.ensures.ends width
+    (subst (λ (l : List Run). EndsBy width l) (sym copied) all) high in
+    let put : now ≡ take from runs ++ fresh ++ drop to runs → IsExchanged mid new runs now fresh row from to =
+    λ done. record {
+      at = at;
+      grows = grows;
+      are_runs = grid.are_runs;
+      ordered = grid.ordered;
+      apart =
+          grid.apart;
+      is_row = c.in_ok-change_row.ensures.row;
+      is = done;
+    } in
+    let fits : now ≡ take from runs ++ fresh ++ drop to runs → FitIn w now = λ done.
+    FitIn-put mid new runs now fresh w row from to (put done) grid.inside ends in
+    let long : length fresh ≤ length (stretch runs from to) + 2 * (c.args.end - c.args.start) = omega
+    (arith, c.in_ok-change_row.ensures.count, ap length copied, c.min-last.ensures) in
+    record {
+      ok = on_ok_weaker c.exchange.result (λ done. grid_changed f mid new runs now fresh w row c.args.start c.args.end c.min-last.result from to (put done)
+          (c.min-last.ensures ∙ ap (min c.args.end) c.width_of.ensures.value) grid.inside (fits done) shows
+          ∙ ap (λ (rows : List (List Cell)). cells_changed f rows row c.args.start c.args.end)
+          (grid_grown old mid runs runs w w c.in_ok-part.ensures.text refl refl c.requires.grid)) c.exchange.ensures.ok;
+      grid = on_either c.exchange.result
+          (on_ok_weaker c.exchange.result (λ done. IsGrid-put mid new runs now fresh w w row from to (put done) (fits done)) c.exchange.ensures.ok)
+          (on_err_weaker c.exchange.result (λ same. IsGrid-grown old new runs now w w all same refl c.requires.grid) c.exchange.ensures.err);
+      runs_added = on_either c.exchange.result
+          (on_ok_weaker c.exchange.result
+          (λ done. omega (arith, put_length runs now fresh row from to at done, long, length-stretch runs row from to at)) c.exchange.ensures.ok)
+          (on_err_weaker c.exchange.result (λ same. omega (arith, ap length same)) c.exchange.ensures.err);
+      err = on_err_weaker c.exchange.result (λ same. grid_grown old new runs now w w all same refl c.requires.grid) c.exchange.ensures.err;
+    }
 
 pub row_bounds-from-requires-clause-fits : goal.row_bounds-from-requires-clause-fits
 row_bounds-from-requires-clause-fits c =
