@@ -1,18 +1,21 @@
 -- Where edits stand in their lines of the source, one after the other.
-use Rattle.std.proofs.Common.{◌≡◌, ◌∙◌, ℕ, ◌-◌, ◌≤◌, inl, inr, Bool, List, [], ◌∷◌, ◌++◌, length, map, take, drop, refl, sym, ap, arith, append_assoc, subst}
+use Rattle.std.proofs.Common.{nat_lt, if◌then◌else◌, true, false, subst}
+use Rattle.std.proofs.Common.{◌≡◌, ◌∙◌, ℕ, ◌+◌, ◌-◌, ◌≤◌, inl, inr, Bool, List, [], ◌∷◌, ◌++◌, length, map, take, drop, refl, sym, ap, arith, append_assoc}
 use Rattle.std.specs.List.{slice_range}
 use Rattle.std.specs.Str.{IsUtf8, chars}
 use Rattle.std.proofs.lemmas.Bool.{cases_lt}
-use Rattle.std.proofs.lemmas.List.{map-append}
+use Rattle.std.proofs.lemmas.List.{length-drop, length-take, map-append}
 use Rattle.std.proofs.lemmas.Str.{IsUtf8-append, IsUtf8-nil}
 use Rattle.snippet_splice.specs.declared.stretches.PatchExtent.{PatchExtent}
 use Rattle.snippet_splice.specs.Copied.{in_text}
 use Rattle.snippet_splice.specs.Edits.{Edit, in_order, trimmed_edits}
 use Rattle.snippet_splice.specs.Shown.{first_start, shown_start}
-use Rattle.snippet_splice.specs.Stretches.{Extent, after_last_lf, capped, characters_before, extent_of, extents_from, new_stretches, replaced_on}
-use Rattle.snippet_splice.specs.Stretches.{replaced_stretches, stretches_on}
+use Rattle.snippet_splice.specs.Stretches.{Extent, after_last_lf, characters_before, extent_of, extents_from, new_stretches, replaced_on}
+use Rattle.snippet_splice.specs.Stretches.{replaced_stretches, start_character, stretches_on}
 use Rattle.snippet_splice.proofs.EditLemmas.{slice_split}
+use Rattle.snippet_splice.proofs.StretchLemmas.{after_few}
 use Rattle.snippet_splice.proofs.WriteLemmas.{in_text-mono}
+use Rattle.snippet_style.specs.Bounds.{IsUsize}
 
 -- a source from one byte of its text to another
 abbrev pub between : List ℕ → ℕ → ℕ → List ℕ
@@ -36,14 +39,35 @@ between_reversed source from to i j is js none =
 pub between_utf8 : (source : List ℕ) (from : ℕ) → IsUtf8 (between source from from)
 between_utf8 source from = subst IsUtf8 (sym (between_none source from from (omega arith))) IsUtf8-nil
 
-nothing : capped (length (chars (after_last_lf []))) ≡ 0
+nothing : length (chars (after_last_lf [])) ≡ 0
 unfolding chars
 nothing = refl
 
 -- no character stands between a place and itself
 pub none_before : (source : List ℕ) (from : ℕ) → 0 ≡ characters_before source from from
 none_before source from =
-    sym (ap (λ t. capped (length (chars (after_last_lf t)))) (between_none source from from (omega arith)) ∙ nothing)
+    sym (ap (λ t. length (chars (after_last_lf t))) (between_none source from from (omega arith)) ∙ nothing)
+
+-- what stands between two bytes is a part of the source
+pub between_few : (source : List ℕ) (from to : ℕ) → length (between source from to) ≤ length source
+between_few source from to =
+    let i = in_text source from in
+    let n : ℕ = in_text source to - i in
+    omega (arith, length-take n (drop i source), length-drop i source)
+
+-- so no more characters stand before a byte than the source has bytes
+pub characters_few : (source : List ℕ) (from b : ℕ) → characters_before source from b ≤ length source
+characters_few source from b = omega (arith, after_few (between source from b), between_few source from b)
+
+-- and where a span starts, or ends, at most one more
+pub start_few : (source : List ℕ) (from b : ℕ) → start_character source from b ≤ length source + 1
+start_few source from b =
+    let step : (later : Bool) → (if later then 1 else 0) ≤ 1 = one_step in
+    omega (arith, characters_few source from b, step (nat_lt (in_text source b) b))
+  where
+    one_step : (later : Bool) → (if later then 1 else 0) ≤ 1
+    one_step true = omega arith
+    one_step false = omega arith
 
 -- up to a later byte
 between_more : (source : List ℕ) (from at to : ℕ) → from ≤ at → at ≤ to → between source from to ≡ between source from at ++ between source at to
@@ -60,14 +84,17 @@ utf8_more source part from at to low high is front utf8 =
 -- counting goes on over a part: from the characters of a text's last line to those of the last line of both
 abbrev pub CountsOn : List ℕ → ℕ → ℕ → Type 0
 CountsOn part before after =
-    (front : List ℕ) → IsUtf8 front → before ≡ capped (length (chars (after_last_lf front))) → after ≡ capped (length (chars (after_last_lf (front ++ part))))
+    (front : List ℕ) → IsUtf8 front → before ≡ length (chars (after_last_lf front)) → IsUsize (length (front ++ part))
+    → after ≡ length (chars (after_last_lf (front ++ part)))
 
 -- what counts on from the characters before a byte gives those before a later one
 pub counted_more : (source part : List ℕ) (from at to before after : ℕ) → from ≤ at → at ≤ to → part ≡ between source at to → IsUtf8 (between source from at)
-    → before ≡ characters_before source from at → CountsOn part before after → after ≡ characters_before source from to
-counted_more source part from at to before after low high is front counted counts =
-    counts (between source from at) front counted ∙ ap (λ t. capped (length (chars (after_last_lf t))))
-    (ap (λ t. between source from at ++ t) is ∙ sym (between_more source from at to low high))
+    → before ≡ characters_before source from at → CountsOn part before after → IsUsize (length source) → after ≡ characters_before source from to
+counted_more source part from at to before after low high is front counted counts fits =
+    let all : between source from at ++ part ≡ between source from to = ap (λ t. between source from at ++ t) is
+    ∙ sym (between_more source from at to low high) in
+    counts (between source from at) front counted (omega (arith, fits, ap length all, between_few source from to))
+    ∙ ap (λ t. length (chars (after_last_lf t))) all
 
 -- where an edit stands
 pub extent_is : (x : Extent) (feeds before start end : ℕ) (under : List ℕ) → feeds ≡ x.feeds → before ≡ x.before → start ≡ x.start → end ≡ x.end

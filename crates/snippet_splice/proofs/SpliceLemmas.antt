@@ -218,9 +218,9 @@ first-split xs =
 -- ---- the parts
 
 -- where the last text ends
-pub last-end : (source : List ℕ) (s : ℕ) (t : Edit) (ts : List Edit) → HasNoCr source → AreBeforeFinalLf source (t ∷ ts) → AreApart s (t ∷ ts)
+pub last_end-stands : (source : List ℕ) (s : ℕ) (t : Edit) (ts : List Edit) → HasNoCr source → AreBeforeFinalLf source (t ∷ ts) → AreApart s (t ∷ ts)
     → length (slice_range source 0 s) ≡ s → last_end 0 (stands source (t ∷ ts)) ≡ s + length (written source s (t ∷ ts))
-last-end source s t ts none before apart size =
+last_end-stands source s t ts none before apart size =
     ap (last_end 0) (stands_from-earlier source 0 s 0 t ts (omega arith) apart.0)
     ∙ last_end-written source s (0 + length (slice_range source 0 s)) (t ∷ ts) none before apart ∙ omega (arith, size)
 
@@ -316,4 +316,4 @@ shown-part true source es none before apart some =
         + length (written source (shown_start true source (first_start (in_order es))) ts)
     last_of [] some before apart size = absurd (some refl)
     last_of (t ∷ ts) some before apart size =
-        last-end source (shown_start true source (first_start (in_order es))) t ts none before apart size
+        last_end-stands source (shown_start true source (first_start (in_order es))) t ts none before apart size

@@ -1,6 +1,6 @@
 -- Tables of stretches, the pieces of a text, and what stands in a line before a byte.
 use Rattle.std.proofs.Common.{◌≡◌, ◌≢◌, ◌∙◌, ◌⊎◌, inl, inr, ℕ, zero, suc, ◌+◌, ◌-◌, ◌<◌, ◌==◌, cond, eqb, List, [], ◌∷◌, ◌++◌, Vec, count_by, length, map, take}
-use Rattle.std.proofs.Common.{set, get_or, chars, lit<, refl, sym, ap, arith, if◌then◌else◌, subst}
+use Rattle.std.proofs.Common.{◌≤◌, set, get_or, chars, lit<, refl, sym, ap, arith, if◌then◌else◌, subst}
 use Rattle.std.specs.List.{onto_first, slice_split}
 use Rattle.std.specs.Str.{IsUtf8}
 use Rattle.std.specs.declared.alloc.Global.{Global}
@@ -13,6 +13,7 @@ use Rattle.std.proofs.lemmas.List.Sums.{sum_by-cons}
 use Rattle.std.proofs.lemmas.Str.{chars-append}
 use Rattle.snippet_lines.specs.Lines.{is_lf, last_byte}
 use Rattle.snippet_lines.proofs.CursorLemmas.{last_byte-not}
+use Rattle.snippet_style.proofs.CellLemmas.{length-chars_le}
 use Rattle.snippet_splice.specs.declared.stretches.SubstitutionHighlight.{SubstitutionHighlight}
 use Rattle.snippet_splice.specs.Stretches.{after_last_lf, capped, line_stretches, pieces_of, taken_on, without_cr}
 use Rattle.snippet_splice.proofs.RangeLemmas.{feeds-append}
@@ -151,6 +152,15 @@ cut (b ∷ bs) some =
           absurd (omega (arith, none, some))
     ]
 
+-- what stands after the last LF has no more bytes, and so no more characters, than there are bytes
+pub after_few : (text : List ℕ) → length (chars (after_last_lf text)) ≤ length text
+after_few text = elim (zero_or (count_by is_lf text)) [
+  | inl zeros ↦ omega (arith, length-chars_le (after_last_lf text), ap length (after_none text zeros))
+  | inr some ↦
+      let c = cut text some in
+      omega (arith, length-chars_le (after_last_lf text), ap length c.whole, length-append c.front (10 ∷ after_last_lf text))
+]
+
 after_utf8 : (text : List ℕ) → IsUtf8 text → IsUtf8 (after_last_lf text)
 after_utf8 text utf8 = elim (zero_or (count_by is_lf text)) [
   | inl zeros ↦ subst IsUtf8 (sym (after_none text zeros)) utf8
@@ -160,8 +170,8 @@ after_utf8 text utf8 = elim (zero_or (count_by is_lf text)) [
 -- ---- characters of a line
 
 -- before the end of a text stand those of its last line, and if that is its only one, those that stand before it
-pub chars_on : (front text : List ℕ) (before : ℕ) → IsUtf8 front → before ≡ capped (length (chars (after_last_lf front)))
-    → capped ((if count_by is_lf text == 0 then before else 0) + length (chars (after_last_lf text))) ≡ capped (length (chars (after_last_lf (front ++ text))))
+pub chars_on : (front text : List ℕ) (before : ℕ) → IsUtf8 front → before ≡ length (chars (after_last_lf front))
+    → (if count_by is_lf text == 0 then before else 0) + length (chars (after_last_lf text)) ≡ length (chars (after_last_lf (front ++ text)))
 chars_on front text before utf8 is =
     elim (zero_or (count_by is_lf text)) [
       | inl zeros ↦

@@ -21,7 +21,7 @@ use Rattle.snippet_splice.specs.declared.splice.LineRange.{LineRange}
 use Rattle.snippet_splice.specs.Spliced.{Stand, stands_from, stands, last_end, IsInLine, IsTouchedBy, IsTouched, HasNoCr, lines_of_stand, line_ranges}
 use Rattle.snippet_splice.proofs.ShownLemmas.{shown-apart}
 use Rattle.snippet_splice.proofs.RangeLemmas.{feeds, feeds-append, feeds-none, feeds-front, feeds-shown}
-use Rattle.snippet_splice.proofs.SpliceLemmas.{AreBeforeFinalLf, Stops, IsShownPart, last-end, front-size, stands_from-earlier}
+use Rattle.snippet_splice.proofs.SpliceLemmas.{AreBeforeFinalLf, Stops, IsShownPart, last_end-stands, front-size, stands_from-earlier}
 use Rattle.snippet_splice.proofs.LineLemmas.{Shortens, Shortens-final, IsLinesFront, shown-front}
 
 feeds-take : (n : ℕ) (xs : List ℕ) → feeds (take n xs) ≤ feeds xs
@@ -247,7 +247,7 @@ shown-touched fold source es none before apart h j touched some =
         let same : stands source (t ∷ ts) ≡ stands_from source first first (t ∷ ts) = stands_from-earlier source 0 first 0 t ts (omega arith) after.0
         ∙ (let e : 0 + length (slice_range source 0 first) ≡ first = omega (arith, size) in ap (λ n. stands_from source first n (t ∷ ts)) e) in
         let end : last_end first (stands_from source first first (t ∷ ts)) ≡ first + length (written source first (t ∷ ts)) = sym (ap (last_end 0) same)
-        ∙ last-end source first t ts none before after size in
+        ∙ last_end-stands source first t ts none before after size in
         let there : Contains (stands_from source first first (t ∷ ts)) s = subst (λ l. Contains l s) same among in (
           All-contains (IsWithin first (first + length (written source first (t ∷ ts)))) (stands_from source first first (t ∷ ts)) s
               (subst (λ n. All (IsWithin first n) (stands_from source first first (t ∷ ts))) end (stands-within source first first (t ∷ ts))) there,

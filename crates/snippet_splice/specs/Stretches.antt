@@ -43,10 +43,10 @@ after_last_lf (b ∷ bs) = if count_by is_lf (b ∷ bs) == 0 then b ∷ bs else 
 -- before a span that starts there: one more where it stands after that text
 abbrev pub characters_before : List ℕ → ℕ → ℕ → ℕ
 characters_before source from b =
-    capped (length (chars (after_last_lf (slice_range source (in_text source from) (in_text source b)))))
+    length (chars (after_last_lf (slice_range source (in_text source from) (in_text source b))))
 
 abbrev pub start_character : List ℕ → ℕ → ℕ → ℕ
-start_character source from b = capped (characters_before source from b + (if nat_lt (in_text source b) b then 1 else 0))
+start_character source from b = characters_before source from b + (if nat_lt (in_text source b) b then 1 else 0)
 
 -- how many stand before the end of an edit: as many as before its start if it stands over nothing; one more where it ends on a later
 -- line, after the text of that
@@ -136,7 +136,7 @@ last_end_of at (bounds ∷ others) = last_end_of (max at bounds.1) others
 abbrev pub source_lines_shown : Bool → List ℕ → ℕ → List (ℕ × ℕ) → ℕ
 source_lines_shown fold source start bounds =
     let end = last_end_of start bounds in
-    capped (if fold then count_by is_lf (slice_range source (in_text source start) (in_text source end)) + 1 else length (source_lines source))
+    if fold then count_by is_lf (slice_range source (in_text source start) (in_text source end)) + 1 else length (source_lines source)
 
 -- the text of a line that an LF ends: without the CR before that
 abbrev pub without_cr : List ℕ → List ℕ

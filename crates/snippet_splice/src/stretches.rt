@@ -12,6 +12,7 @@ ghost use Rattle.snippet_splice.specs.Stretches.{extents_from, feeds_made, line_
 ghost use Rattle.snippet_splice.specs.Stretches.{pieces_on, replaced_on, start_character, stretches_on, taken_on};
 ghost use Rattle.snippet_splice.specs.Stretches.{without_cr};
 ghost use Rattle.snippet_splice.specs.Stretches as spec;
+ghost use Rattle.snippet_style.specs.Bounds.{IsUsize};
 
 use crate::copy::text_place;
 use crate::patches::TrimmedPatch;
@@ -117,8 +118,8 @@ fn steps_after_text(source: &str, byte: usize) -> usize
 
 /// The characters of a line before the end of a text, if this many stand before its beginning.
 fn chars_after(before: usize, text: &str) -> usize
-    ensures value { (front : List ℕ) → IsUtf8 front → before ≡ capped (length (chars (after_last_lf front)))
-        → result ≡ capped (length (chars (after_last_lf (front ++ text.now)))) }
+    ensures value { (front : List ℕ) → IsUtf8 front → before ≡ length (chars (after_last_lf front))
+        → IsUsize (length (front ++ text.now)) → result ≡ length (chars (after_last_lf (front ++ text.now))) }
 {
     let before = if line_feed_count(text) == 0 {
         before

@@ -8,7 +8,7 @@ use Rattle.snippet_lines.specs.Span.{IsSpanBorder}
 use Rattle.snippet_splice.specs.declared.patches.TrimmedPatch.{TrimmedPatch}
 use Rattle.snippet_splice.specs.Copied.{in_text}
 use Rattle.snippet_splice.specs.Edits.{original_bounds_of}
-use Rattle.snippet_splice.specs.Stretches.{capped, last_end_of}
+use Rattle.snippet_splice.specs.Stretches.{last_end_of}
 use Rattle.snippet_splice.proofs.splice.source_lines_shown.Goals as goal
 
 border_max : (source : List ℕ) (a b m : ℕ) → m ≡ max a b → IsSpanBorder source a → IsSpanBorder source b → IsSpanBorder source m
@@ -55,8 +55,7 @@ returns c =
           let feeds : c.line_feed_count-feeds.result
           ≡ count_by is_lf (slice_range source begin (in_text source (last_end_of c.args.start (map original_bounds_of ps)))) =
           c.line_feed_count-feeds.ensures.value ∙ ap (count_by is_lf) text ∙ ap (λ n. count_by is_lf (slice_range source begin (in_text source n))) greatest in
-          c.saturating_add-2.ensures ∙ ap (λ n. capped (n + 1)) feeds
-          ∙ ap (λ b. capped (if b then count_by is_lf
-          (slice_range source begin (in_text source (last_end_of c.args.start (map original_bounds_of ps)))) + 1 else length (source_lines source)))
-          (sym c.if-not-fold.false);
+          let count : ℕ = count_by is_lf (slice_range source begin (in_text source (last_end_of c.args.start (map original_bounds_of ps)))) in
+          let added : c.saturating_add-2.result ≡ count + 1 = omega (arith, c.saturating_add-2.ensures, feeds, c.line_feed_count-feeds.ensures.bound) in
+          added ∙ ap (λ b. if b then count + 1 else length (source_lines source)) (sym c.if-not-fold.false);
     }

@@ -3,8 +3,8 @@ use Rattle.std.proofs.lemmas.Bool.{cond-false, cond-true, eq-eqb, eqb-true, fals
 use Rattle.snippet_lines.specs.Lines.{is_lf}
 use Rattle.snippet_splice.specs.Copied.{in_text}
 use Rattle.snippet_splice.specs.Edits.{trimmed_edit_of}
-use Rattle.snippet_splice.specs.Stretches.{capped, characters_before, start_character}
-use Rattle.snippet_splice.proofs.PlaceLemmas.{between}
+use Rattle.snippet_splice.specs.Stretches.{characters_before, start_character}
+use Rattle.snippet_splice.proofs.PlaceLemmas.{between, start_few}
 use Rattle.snippet_splice.proofs.stretches.end_char.Goals as goal
 
 pub returns-then-line_feed_count-eq0 : goal.returns-then-line_feed_count-eq0
@@ -42,6 +42,7 @@ returns-else-line_feed_count-eq0 c =
           let there : cond (eqb e.start e.end) (start_character source from e.start) (cond (eqb n 0) here later) ≡ later =
           cond-false (eqb e.start e.end) (start_character source from e.start) (cond (eqb n 0) here later)
           (false_from_ne_true _ (λ t. other (eqb-true _ _ t))) ∙ cond-false (eqb n 0) here later some in
-          c.saturating_add.ensures ∙ ap (λ m. capped (m + c.steps_after_text.result)) counts ∙ ap (λ m. capped (here + m)) c.steps_after_text.ensures.value
-          ∙ sym there;
+          let added : c.saturating_add.result ≡ here + steps = omega
+          (arith, c.saturating_add.ensures, counts, c.steps_after_text.ensures.value, start_few source from e.end) in
+          added ∙ sym there;
     }

@@ -3,8 +3,8 @@ use Rattle.std.proofs.lemmas.List.{drop_more}
 use Rattle.snippet_lines.specs.Lines.{is_lf}
 use Rattle.snippet_splice.specs.declared.patches.TrimmedPatch.{TrimmedPatch}
 use Rattle.snippet_splice.specs.Edits.{AreApart, Edit, trimmed_edit_of}
-use Rattle.snippet_splice.specs.Stretches.{Extent, capped, characters_before, end_character, extent_of, extents_from, start_character}
-use Rattle.snippet_splice.proofs.PlaceLemmas.{between, between_utf8, counted_more, extent_is, none_before, places_more, utf8_more}
+use Rattle.snippet_splice.specs.Stretches.{Extent, characters_before, end_character, extent_of, extents_from, start_character}
+use Rattle.snippet_splice.proofs.PlaceLemmas.{between, between_utf8, counted_more, extent_is, none_before, places_more, start_few, utf8_more}
 use Rattle.snippet_splice.proofs.stretches.patch_places.Goals as goal
 
 pub loop-patch-init : goal.loop-patch-init
@@ -45,12 +45,12 @@ loop-patch-preserved c =
     let inside = c.text_between-inside.ensures.value span.from span.to in
     let utf8 = utf8_more source c.text_between-between.result.now from at e.start inv.after apart.0 front inv.utf8 c.text_between-between.utf8 in
     let before : c.chars_after-text_start.result ≡ characters_before source from e.start = counted_more source c.text_between-between.result.now from at
-    e.start c.loop-patch.chars c.chars_after-text_start.result inv.after apart.0 front inv.utf8 inv.counted c.chars_after-text_start.ensures.value in
+    e.start c.loop-patch.chars c.chars_after-text_start.result inv.after apart.0 front inv.utf8 inv.counted c.chars_after-text_start.ensures.value
+    (omega arith) in
     let counted : c.chars_after-chars.result ≡ characters_before source from e.end = counted_more source c.text_between-inside.result.now from e.start e.end
-    c.chars_after-text_start.result c.chars_after-chars.result low apart.1 inside utf8 before c.chars_after-chars.ensures.value in
-    let starts : c.saturating_add-start.result ≡ start_character source from e.start = c.saturating_add-start.ensures
-    ∙ ap (λ n. capped (n + c.steps_after_text.result)) before ∙ ap (λ n.
-    capped (characters_before source from e.start + n)) c.steps_after_text.ensures.value in
+    c.chars_after-text_start.result c.chars_after-chars.result low apart.1 inside utf8 before c.chars_after-chars.ensures.value (omega arith) in
+    let starts : c.saturating_add-start.result ≡ start_character source from e.start = omega
+    (arith, c.saturating_add-start.ensures, before, c.steps_after_text.ensures.value, start_few source from e.start) in
     let ends : c.end_char.result ≡ end_character source from e = c.end_char.ensures.value from starts counted in
     let feeds : c.line_feed_count.result ≡ count_by is_lf (between source at e.start) = c.line_feed_count.ensures.value ∙ ap (count_by is_lf) front in
     let x : Extent = record {
