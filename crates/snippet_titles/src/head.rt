@@ -4,7 +4,7 @@ ghost use Rattle.snippet_titles.specs.Origin.{nameless_head, opening_head, prima
 ghost use Rattle.snippet_titles.specs.Origin as spec;
 
 use crate::origin::{FileStart, OriginLayout, OriginLocation, begin_file_row, draw_origin};
-use crate::padding::draw_separator;
+use crate::separators::draw_separator;
 use snippet_grid::StyledBuffer;
 use snippet_style::DecorStyle;
 use std::alloc::{AllocError, Global};

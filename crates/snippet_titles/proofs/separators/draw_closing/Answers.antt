@@ -2,7 +2,7 @@ use Rattle.std.proofs.Common.{◌∙◌, ap, sym}
 use Rattle.snippet_grid.specs.Layout.{separator_cell}
 use Rattle.std.proofs.lemmas.Result.{on_ok_weaker}
 use Rattle.snippet_titles.proofs.FileRowLemmas.{closing_row-begun}
-use Rattle.snippet_titles.proofs.padding.draw_closing.Goals as goal
+use Rattle.snippet_titles.proofs.separators.draw_closing.Goals as goal
 
 pub returns : goal.returns
 returns c =

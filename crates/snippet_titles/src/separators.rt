@@ -1,4 +1,4 @@
-//! The rows that set others off.
+//! The rows that set others off: of a separator alone, or of the closing glyph alone.
 ghost use Rattle.std.specs.Prelude.{◌≡◌, ◌+◌, ◌^◌, ◌<◌, ◌∷◌, ◌++◌, [], OnOk};
 ghost use Rattle.snippet_titles.specs.Origin.{padding_row};
 ghost use Rattle.snippet_style.specs.Separators.{closing_row, separator_row};
