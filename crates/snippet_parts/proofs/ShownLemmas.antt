@@ -1,10 +1,10 @@
 -- The lines that are kept, each with its entries.
 use Rattle.std.proofs.Common.{None, ◌≡◌, ℕ, zero, suc, ◌+◌, ◌-◌, ◌<◌, ◌≤◌, Bool, true, false, ◌&&◌, ◌||◌, cond, not, eqb, List, [], ◌∷◌, ◌++◌, map, length}
-use Rattle.std.proofs.Common.{take, drop, get_or, inl, inr, refl, sym, ap, ◌∙◌, arith}
+use Rattle.std.proofs.Common.{take, drop, get_or, inl, inr, refl, sym, ap, ◌∙◌, arith, leb, ltb}
 use Rattle.std.specs.List.{Contains, filter, list_any, range_with_len}
-use Rattle.std.specs.List.Sorted.{IsStableByKey, ties}
+use Rattle.std.specs.List.Sorted.{IsPartitionPoint, IsStableByKey, ties}
 use Rattle.std.specs.Ordering.{is_lt, nat_cmp}
-use Rattle.std.proofs.lemmas.Bool.{cases_Bool, cases_lt, or_left, or_right, cond-true, cond-false, eq-eqb, ne_eqb}
+use Rattle.std.proofs.lemmas.Bool.{cases_Bool, cases_lt, or_left, or_right, cond-true, cond-false, eq-eqb, ne_eqb, leb-true, leb-false, ltb-true, ltb-false}
 use Rattle.std.proofs.lemmas.Bool.Decides.{nat_tests}
 use Rattle.std.proofs.lemmas.List.{map-append, map-id, map_push, append-nil}
 use Rattle.std.proofs.lemmas.List.Elements.{filter-append, filter_agree}
@@ -131,6 +131,23 @@ from-to line none xs n from to within below after =
       | inr le ↦ le
       | inl less ↦ absurd (omega (arith, below to none less (omega arith), after to none (omega arith) (omega arith)))
     ]
+
+-- in a list that is in order by lines, the elements on a line stand between two partition points: that of the lines below it, and that
+-- of those up to it
+pub on_line-partitioned : {X : Type 0} (line : X → ℕ) (none : X) (xs : List X) (n from to : ℕ) → from ≤ length xs
+    → IsPartitionPoint (λ e. ltb (line e) n ≡ true) (λ e. ltb (line e) n ≡ false) xs from
+    → IsPartitionPoint (λ e. leb (line e) n ≡ true) (λ e. leb (line e) n ≡ false) xs to
+    → (from ≤ to) × (take (to - from) (drop from xs) ≡ filter (λ e. eqb (line e) n) xs)
+on_line-partitioned {X} line none xs n from to within below upto =
+    let low : (j : ℕ) (d : X) → j < from → j < length xs → line (get_or xs j d) < n = λ j d a b.
+    ltb-true (line (get_or xs j d)) n (below.0 j d (omega arith) a) in
+    let high : (j : ℕ) (d : X) → to ≤ j → j < length xs → n < line (get_or xs j d) = λ j d a b.
+    leb-false (line (get_or xs j d)) n (upto.1 j d a b) in
+    let ordered : from ≤ to = from-to line none xs n from to within low high in (
+      ordered,
+      on_line line xs n from to (to - from) (omega (arith, ordered)) low (λ j d a b. ltb-false (line (get_or xs j d)) n (below.1 j d a b))
+      (λ j d a b. leb-true (line (get_or xs j d)) n (upto.0 j d (omega arith) a)) high,
+    )
 
 -- ---- depths of annotations
 
