@@ -238,6 +238,19 @@ window_inner room left right skipped l n line part rest inner holds is_left is_c
     let here = is_rest ∙ ap (λ k. drop (reaching (k - skipped) part) part) is_left in
     is_inner ∙ ap (λ k. take (fitting k rest) rest) is_columns ∙ ap (λ xs. take (fitting columns xs) xs) here ∙ sym found
 
+-- so what is found between the bounds of a margin is the inner part of a line
+pub inner_found : (margin : Margin) (skipped width l r n : ℕ) (line part rest inner : List ℕ) → IsPartOf margin line width skipped part
+    → l ≡ min (bounds_of margin).left width
+    → r ≡ cond (nat_le (width - (bounds_of margin).left) margin.term_width) width (min width (bounds_of margin).right) → n ≡ r - l
+    → width_of (take (reaching (l - skipped) part) part) < (l - skipped) + 4 → rest ≡ drop (reaching (l - skipped) part) part
+    → inner ≡ take (fitting n rest) rest → inner ≡ inner_part margin.term_width (bounds_of margin).left (bounds_of margin).right line
+inner_found margin skipped width l r n line part rest inner is is_left is_right is_columns near is_rest is_inner =
+    let bounds = bounds_of margin in
+    let room = margin.term_width in
+    let left : l ≡ window_left bounds.left line = is_left ∙ ap (min bounds.left) is.0 in
+    let right = right_is room bounds.left bounds.right width r line is.0 is_right in
+    window_inner room bounds.left bounds.right skipped l n line part rest inner is.1 left (omega (arith, is_columns, left, right)) near is_rest is_inner
+
 -- the cell of the placeholder on the right
 pub end_some : (room left right end : ℕ) (start : Option ℕ) (placeholder line inner shown : List ℕ) → inner ≡ inner_part room left right line
     → window_right room left right line < width_of line → start ≡ covered_columns left placeholder inner

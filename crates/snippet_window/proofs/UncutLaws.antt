@@ -101,7 +101,8 @@ near_span s marks any =
             arith,
             leb-true (end_mark_column s.text a) 26 parts.1,
             least_le all (end_mark_column s.text a)
-                (among_flat_map (span_columns s) marks a (end_mark_column s.text a) found.1 (end_among s a both.0 (not-true (is_single_line s.text a) parts.0))),
+                (among_flat_map (span_columns s) marks a (end_mark_column s.text a) found.1
+                (end_among s a both.0 (not-true (is_single_line s.text a) parts.0))),
           )
     ]
 

@@ -1,10 +1,9 @@
 use Rattle.std.proofs.Common.{Option, IfSome, ℕ, sym, subst, ◌≡◌, ◌<◌, ◌≤◌, ◌+◌, ◌-◌, ◌^◌, ◌∙◌, min, ap, arith, length, unwrap_or, chars}
 use Rattle.snippet_text.specs.Width.{width_of}
 use Rattle.snippet_window.specs.Margin.{bounds_of}
-use Rattle.snippet_window.specs.NearPart.{window_columns}
 use Rattle.snippet_window.specs.Window.{reaching_last, covered_columns, uncovered_part, window_left, window_right}
 use Rattle.snippet_window.proofs.LineWindowLemmas.{cells_few, start_is_few, part_short}
-use Rattle.snippet_window.proofs.NearLemmas.{none_reached, right_is, window_dropped, window_inner, end_some, end_none}
+use Rattle.snippet_window.proofs.NearLemmas.{none_reached, right_is, window_dropped, inner_found, end_some, end_none}
 use Rattle.snippet_window.proofs.window.window_of.Goals as goal
 use Rattle.snippet_window.proofs.window.window_of.Goals.{then-right-width, else-right-width}
 
@@ -54,28 +53,22 @@ returns-clause-few_start c =
 pub returns-clause-start : goal.returns-clause-start
 returns-clause-start c line part =
     let bounds = bounds_of c.args.margin in
-    let room = c.args.margin.term_width in
-    let left : c.left-left.result ≡ window_left bounds.left line = c.left-left.ensures.value ∙ ap (min bounds.left) part.0 in
-    let right = right_is room bounds.left bounds.right c.args.width c.right-right.result line part.0 c.right-right.ensures.value in
-    let columns : c.saturating_sub.result ≡ window_columns room bounds.left bounds.right line = omega (arith, c.saturating_sub.ensures, left, right) in
-    let inner = window_inner room bounds.left bounds.right c.args.skipped c.left-left.result c.saturating_sub.result line (chars c.args.text.now)
-    (chars c.after_columns-reached.result.1.now) (chars c.within_columns-inner_width.result.0.now)
-    part.1 left columns (omega (arith, c.after_columns-reached.ensures.width, c.after_columns-reached.ensures.near))
-    c.after_columns-reached.ensures.rest c.within_columns-inner_width.ensures.value in
+    let inner = inner_found c.args.margin c.args.skipped c.args.width c.left-left.result c.right-right.result c.saturating_sub.result line
+    (chars c.args.text.now) (chars c.after_columns-reached.result.1.now) (chars c.within_columns-inner_width.result.0.now) part
+    c.left-left.ensures.value c.right-right.ensures.value (omega (arith, c.saturating_sub.ensures))
+    (omega (arith, c.after_columns-reached.ensures.width, c.after_columns-reached.ensures.near)) c.after_columns-reached.ensures.rest
+    c.within_columns-inner_width.ensures.value in
     c.uncovered-start.ensures.start (chars c.args.placeholder.now) c.str_width-columns.ensures.value
     ∙ ap (covered_columns bounds.left (chars c.args.placeholder.now)) inner
 
 pub returns-clause-text : goal.returns-clause-text
 returns-clause-text c line part =
     let bounds = bounds_of c.args.margin in
-    let room = c.args.margin.term_width in
-    let left : c.left-left.result ≡ window_left bounds.left line = c.left-left.ensures.value ∙ ap (min bounds.left) part.0 in
-    let right = right_is room bounds.left bounds.right c.args.width c.right-right.result line part.0 c.right-right.ensures.value in
-    let columns : c.saturating_sub.result ≡ window_columns room bounds.left bounds.right line = omega (arith, c.saturating_sub.ensures, left, right) in
-    let inner = window_inner room bounds.left bounds.right c.args.skipped c.left-left.result c.saturating_sub.result line (chars c.args.text.now)
-    (chars c.after_columns-reached.result.1.now) (chars c.within_columns-inner_width.result.0.now)
-    part.1 left columns (omega (arith, c.after_columns-reached.ensures.width, c.after_columns-reached.ensures.near))
-    c.after_columns-reached.ensures.rest c.within_columns-inner_width.ensures.value in
+    let inner = inner_found c.args.margin c.args.skipped c.args.width c.left-left.result c.right-right.result c.saturating_sub.result line
+    (chars c.args.text.now) (chars c.after_columns-reached.result.1.now) (chars c.within_columns-inner_width.result.0.now) part
+    c.left-left.ensures.value c.right-right.ensures.value (omega (arith, c.saturating_sub.ensures))
+    (omega (arith, c.after_columns-reached.ensures.width, c.after_columns-reached.ensures.near)) c.after_columns-reached.ensures.rest
+    c.within_columns-inner_width.ensures.value in
     c.uncovered-start.ensures.text (chars c.args.placeholder.now) c.str_width-columns.ensures.value
     ∙ ap (uncovered_part bounds.left (chars c.args.placeholder.now)) inner
 
@@ -86,13 +79,12 @@ returns-clause-end c line part =
     let placeholder = chars c.args.placeholder.now in
     let found = chars c.within_columns-inner_width.result.0.now in
     let shown = chars c.uncovered-start.result.1.now in
-    let left : c.left-left.result ≡ window_left bounds.left line = c.left-left.ensures.value ∙ ap (min bounds.left) part.0 in
     let right = right_is room bounds.left bounds.right c.args.width c.right-right.result line part.0 c.right-right.ensures.value in
-    let columns : c.saturating_sub.result ≡ window_columns room bounds.left bounds.right line = omega (arith, c.saturating_sub.ensures, left, right) in
-    let inner = window_inner room bounds.left bounds.right c.args.skipped c.left-left.result c.saturating_sub.result line (chars c.args.text.now)
-    (chars c.after_columns-reached.result.1.now)
-    found part.1 left columns (omega (arith, c.after_columns-reached.ensures.width, c.after_columns-reached.ensures.near))
-    c.after_columns-reached.ensures.rest c.within_columns-inner_width.ensures.value in
+    let inner = inner_found c.args.margin c.args.skipped c.args.width c.left-left.result c.right-right.result c.saturating_sub.result line
+    (chars c.args.text.now) (chars c.after_columns-reached.result.1.now) (chars c.within_columns-inner_width.result.0.now) part
+    c.left-left.ensures.value c.right-right.ensures.value (omega (arith, c.saturating_sub.ensures))
+    (omega (arith, c.after_columns-reached.ensures.width, c.after_columns-reached.ensures.near)) c.after_columns-reached.ensures.rest
+    c.within_columns-inner_width.ensures.value in
     elim c.if-right-width.branch [
       | then-right-width w ↦
           let cut : window_right room bounds.left bounds.right line < width_of line = omega (arith, right, part.0, w.if-right-width.true) in
