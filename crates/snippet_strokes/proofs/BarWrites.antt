@@ -4,7 +4,7 @@ use Rattle.std.proofs.Common.{All}
 use Rattle.std.specs.List.{range_with_len}
 use Rattle.std.proofs.lemmas.List.Elements.{All-append, All-cons, All-head, All-map, All-nil, All-replicate, All-tail}
 use Rattle.std.proofs.lemmas.List.FromFn.{get_or-range_with_len, length-range_with_len}
-use Rattle.snippet_grid.specs.Grid.{WritesCells, cells_written}
+use Rattle.snippet_grid.specs.Grid.{WritesCells}
 use Rattle.snippet_grid.proofs.GridLemmas.{WritesCells-cells_written}
 use Rattle.snippet_model.specs.AnnotationKind.{is_primary}
 use Rattle.snippet_style.specs.Cell.{Cell, text_cells, unlinked_cell}
@@ -19,7 +19,7 @@ use Rattle.snippet_grid.specs.Layout.{Layout}
 use Rattle.snippet_labels.specs.declared.positions.PlacedEntry.{PlacedEntry}
 use Rattle.snippet_strokes.specs.EntryMarks.{HasBarCell, HasBarCellAt, IsBarCell, is_single}
 use Rattle.snippet_strokes.specs.Drawing.{DrawsBarCells, DrawsFrom, HasRows, KeepsBarCells}
-use Rattle.snippet_strokes.specs.Strokes.{bar_writes, bottom_of, connector_by, connector_of, connectors_of, corner_by, corner_of, corners_of, line_to, top_of}
+use Rattle.snippet_strokes.specs.Strokes.{bar_writes, connector_by, connector_of, connectors_of, corner_by, corner_of, corners_of, line_to}
 use Rattle.snippet_strokes.specs.Strokes.{column_of}
 use Rattle.snippet_strokes.specs.Painting.{stroke_role}
 use Rattle.snippet_strokes.specs.Reach.{IsWithin}
@@ -27,8 +27,6 @@ use Rattle.snippet_strokes.specs.Writes.{Write, glyph_at, painted, stretch_of, w
 use Rattle.snippet_strokes.proofs.DrawLemmas.{DrawsBarCells-more, DrawsBarCells-none, DrawsBarCells-writes, free_bar, bar_bottom, bar_horizontal, bar_top}
 use Rattle.snippet_strokes.proofs.DrawLemmas.{bar_vertical}
 use Rattle.snippet_strokes.proofs.WriteLaws.{All-flat_map, DrawsFrom-painted, flat_map-none, painted-cell}
-use Rattle.snippet_strokes.proofs.StrokeWrites.{column_of-none, column_painted}
-use Rattle.snippet_strokes.proofs.WriteLemmas.{painted-append}
 
 -- each character of a write is a part of a bar
 abbrev pub IsBarCellWrite : DecorStyle → Write → Type 0
@@ -241,48 +239,3 @@ corners_none layout row count es single =
     by_part e (MultilineStart depth) is = cc is
     by_part e (MultilineEnd depth) is = cc is
     by_part e (MultilineLine depth) is = refl
-
--- a bar grows by a row, in the glyph and in the role of its entry
-pub bar_painted : (layout : Layout) (e : PlacedEntry) (depth start row glyph : ℕ) (role : ElementStyle) (old mid new : List (List Cell))
-    → glyph ≡ (strokes_of layout.decor (is_primary e.entry.kind)).bar → role ≡ stroke_role e → start ≤ row
-    → mid ≡ painted (bar_writes layout e depth start row) old → new ≡ cells_written mid row (layout.gutter + 2 + depth) (text_cells role (glyph ∷ []))
-    → new ≡ painted (bar_writes layout e depth start (row + 1)) old
-bar_painted layout e depth start row glyph role old mid new is_glyph is_role below so_far writes =
-    let line : ℕ = (strokes_of layout.decor (is_primary e.entry.kind)).bar in
-    let cell = layout.gutter + 2 + depth in
-    column_painted start row cell line (stroke_role e) old mid new below so_far
-    (writes ∙ ap (λ g. cells_written mid row cell (text_cells role (g ∷ []))) is_glyph
-    ∙ ap (λ r. cells_written mid row cell (text_cells r (line ∷ []))) is_role)
-
--- a bar with no rows is no write
-pub bar_of-none : (layout : Layout) (e : PlacedEntry) (depth start : ℕ) → bar_writes layout e depth start start ≡ []
-bar_of-none layout e depth start =
-    column_of-none start (layout.gutter + 2 + depth) (strokes_of layout.decor (is_primary e.entry.kind)).bar (stroke_role e)
-
--- the corner of a start, and the bar below it
-pub top_painted : (layout : Layout) (row count : ℕ) (e : PlacedEntry) (depth end glyph : ℕ) (role : ElementStyle) (old mid new : List (List Cell))
-    → glyph ≡ (strokes_of layout.decor (is_primary e.entry.kind)).bar_top → role ≡ stroke_role e → end ≡ count
-    → mid ≡ cells_written old (row + 1 + e.position) (layout.gutter + 2 + depth) (text_cells role (glyph ∷ []))
-    → new ≡ painted (bar_writes layout e depth (row + 1 + e.position + 1) end) mid → new ≡ painted (top_of layout row count e depth) old
-top_painted layout row count e depth end glyph role old mid new is_glyph is_role is_end begins continues =
-    let corner = row + 1 + e.position in
-    let cell = layout.gutter + 2 + depth in
-    continues ∙ ap (λ n. painted (bar_writes layout e depth (corner + 1) n) mid) is_end
-    ∙ ap (painted (bar_writes layout e depth (corner + 1) count))
-    (begins ∙ ap (λ g. cells_written old corner cell (text_cells role (g ∷ []))) is_glyph
-    ∙ ap (λ r. cells_written old corner cell (text_cells r ((strokes_of layout.decor (is_primary e.entry.kind)).bar_top ∷ []))) is_role)
-
--- the bar of an end, and the corner below it
-pub bottom_painted : (layout : Layout) (row : ℕ) (e : PlacedEntry) (depth glyph : ℕ) (role : ElementStyle) (old mid new : List (List Cell))
-    → glyph ≡ (strokes_of layout.decor (is_primary e.entry.kind)).bar_bottom → role ≡ stroke_role e
-    → mid ≡ painted (bar_writes layout e depth row (row + 1 + e.position)) old
-    → new ≡ cells_written mid (row + 1 + e.position) (layout.gutter + 2 + depth) (text_cells role (glyph ∷ []))
-    → new ≡ painted (bottom_of layout row e depth) old
-bottom_painted layout row e depth glyph role old mid new is_glyph is_role begins ends =
-    let corner = row + 1 + e.position in
-    let cell = layout.gutter + 2 + depth in
-    let last : ℕ = (strokes_of layout.decor (is_primary e.entry.kind)).bar_bottom in
-    let w : Write = glyph_at corner cell last (stroke_role e) in
-    ends ∙ ap (λ g. cells_written mid corner cell (text_cells role (g ∷ []))) is_glyph
-    ∙ ap (λ r. cells_written mid corner cell (text_cells r (last ∷ []))) is_role ∙ ap (λ rows. written_by rows w) begins
-    ∙ sym (painted-append (bar_writes layout e depth row corner) (w ∷ []) old)

@@ -1,16 +1,19 @@
 //! The bars of spans of several lines, beside the lines on which they begin and end.
-ghost use Rattle.std.specs.Prelude.{◌≡◌, ◌+◌, ◌<◌, ◌≤◌, All, OnOk, length};
+ghost use Rattle.std.specs.Prelude.{◌≡◌, ◌+◌, ◌<◌, ◌≤◌, ◌++◌, ◌∷◌, [], All, OnOk, length};
 ghost use Rattle.snippet_strokes.specs.EntryMarks.{HasBarCell};
 ghost use Rattle.snippet_strokes.specs.Drawing.{HasRows};
-ghost use Rattle.snippet_strokes.specs.Strokes.{bar_writes, bottom_of, corner_of, corners_of, top_of};
-ghost use Rattle.snippet_strokes.specs.Writes.{painted};
-ghost use Rattle.snippet_grid.specs.Layout.{inner_cell};
-ghost use Rattle.snippet_style.specs.Bounds.{AreRows};
+ghost use Rattle.snippet_strokes.specs.Strokes.{column_of, corner_of, corners_of};
+ghost use Rattle.snippet_strokes.specs.Writes.{glyph_at, painted};
+ghost use Rattle.snippet_grid.specs.Layout.{bar_cell};
+ghost use Rattle.snippet_model.specs.AnnotationKind.{is_primary};
+ghost use Rattle.snippet_style.specs.Bounds.{AreRows, IsCodeCell, IsRowNumber};
+ghost use Rattle.snippet_style.specs.Glyphs.{strokes_of};
 
 use crate::roles::is_primary;
 use snippet_grid::{Layout, StyledBuffer};
 use snippet_labels::PlacedEntry;
 use snippet_parts::LineAnnotationType;
+use snippet_style::Strokes;
 use std::alloc::AllocError;
 
 /// Draws the bars of the spans that begin or end on a line whose source row has this number, with the corners where
@@ -58,77 +61,92 @@ fn draw_corner(
         (length buffer.old) placed.now) buffer.old) }
 {
     match placed.entry.annotation_type {
-        LineAnnotationType::MultilineStart(depth) => draw_top(buffer, layout, row, depth, placed),
-        LineAnnotationType::MultilineEnd(depth) => draw_bottom(buffer, layout, row, depth, placed),
+        LineAnnotationType::MultilineStart(depth) => {
+            let top = bar_at(layout, row, depth, placed);
+            draw_top(buffer, top)
+        }
+        LineAnnotationType::MultilineEnd(depth) => {
+            let bottom = bar_at(layout, row, depth, placed);
+            draw_bottom(buffer, bottom, row)
+        }
         LineAnnotationType::Singleline | LineAnnotationType::MultilineLine(_) => Ok(()),
     }
 }
 
-/// Draws the top of a start's bar: the corner in the row of its position, and the bar in all rows below it.
-fn draw_top(
-    buffer: &mut StyledBuffer,
-    layout: Layout,
-    row: usize,
-    depth: usize,
-    placed: &PlacedEntry,
-) -> Result<(), AllocError>
-    requires some { 0 < depth }
-    requires depth { inner_cell layout + depth < layout.code }
-    requires small { AreRows (length buffer.old) }
-    requires rows { HasRows (row + 1) (length buffer.old) placed.now }
-    ensures painted { OnOk result (buffer.new ≡ painted (top_of layout row
-        (length buffer.old) placed.now depth) buffer.old) }
+/// A bar beside the line on which its span begins or ends.
+#[derive(Clone, Copy)]
+struct BarAt {
+    /// The cell in which it stands.
+    cell: usize,
+    /// The row of its corner, where its line to the marks begins.
+    corner: usize,
+    /// Its glyphs, and their role.
+    strokes: Strokes,
+}
+
+/// The bar of an entry at this depth, with its corner in the row of the entry's position.
+fn bar_at(layout: Layout, row: usize, depth: usize, placed: &PlacedEntry) -> BarAt
+    requires depth { bar_cell layout depth < layout.code }
+    requires row { IsRowNumber (row + 1 + placed.now.position) }
+    ensures cell { result.cell ≡ bar_cell layout depth }
+    ensures corner { result.corner ≡ row + 1 + placed.now.position }
+    ensures strokes { result.strokes ≡ strokes_of layout.decor (is_primary placed.now.entry.kind) }
+    ensures left { IsCodeCell result.cell }
 {
-    let strokes = layout.decor.underline(is_primary(placed.entry.kind));
-    let corner = row + 1 + placed.position;
-    let cell = layout.bar_cell(depth);
-    buffer.putc(corner, cell, strokes.bar_top, strokes.style)?;
+    BarAt {
+        cell: layout.bar_cell(depth),
+        corner: row + 1 + placed.position,
+        strokes: layout.decor.underline(is_primary(placed.entry.kind)),
+    }
+}
+
+/// Draws the top of a start's bar: the corner, and the bar in all rows below it.
+fn draw_top(buffer: &mut StyledBuffer, bar: BarAt) -> Result<(), AllocError>
+    requires cell { IsCodeCell bar.cell }
+    requires rows { bar.corner < length buffer.old }
+    requires small { AreRows (length buffer.old) }
+    ensures painted { OnOk result (buffer.new ≡ painted
+        (glyph_at bar.corner bar.cell bar.strokes.bar_top bar.strokes.style
+        ∷ column_of (bar.corner + 1) (length buffer.old) bar.cell bar.strokes.bar bar.strokes.style) buffer.old) }
+{
+    let strokes = bar.strokes;
+    buffer.putc(bar.corner, bar.cell, strokes.bar_top, strokes.style)?;
     let end = buffer.num_lines();
-    draw_bar(buffer, layout, corner + 1, end, depth, placed)
+    draw_bar(buffer, bar, bar.corner + 1, end)
 }
 
-/// Draws the bottom of an end's bar: the corner in the row of its position, and the bar in all rows from the source row
-/// down to it.
-fn draw_bottom(
-    buffer: &mut StyledBuffer,
-    layout: Layout,
-    row: usize,
-    depth: usize,
-    placed: &PlacedEntry,
-) -> Result<(), AllocError>
-    requires some { 0 < depth }
-    requires depth { inner_cell layout + depth < layout.code }
+/// Draws the bottom of an end's bar: the bar in all rows from the source row down to the corner, and this.
+fn draw_bottom(buffer: &mut StyledBuffer, bar: BarAt, row: usize) -> Result<(), AllocError>
+    requires cell { IsCodeCell bar.cell }
+    requires rows { bar.corner < length buffer.old }
+    requires ordered { row ≤ bar.corner }
     requires small { AreRows (length buffer.old) }
-    requires rows { HasRows (row + 1) (length buffer.old) placed.now }
-    ensures painted { OnOk result (buffer.new ≡ painted (bottom_of layout row placed.now depth) buffer.old) }
+    ensures painted { OnOk result (buffer.new ≡ painted
+        (column_of row bar.corner bar.cell bar.strokes.bar bar.strokes.style
+        ++ glyph_at bar.corner bar.cell bar.strokes.bar_bottom bar.strokes.style ∷ []) buffer.old) }
 {
-    let strokes = layout.decor.underline(is_primary(placed.entry.kind));
-    let corner = row + 1 + placed.position;
-    let cell = layout.bar_cell(depth);
-    draw_bar(buffer, layout, row, corner, depth, placed)?;
-    buffer.putc(corner, cell, strokes.bar_bottom, strokes.style)
+    draw_bar(buffer, bar, row, bar.corner)?;
+    let strokes = bar.strokes;
+    buffer.putc(bar.corner, bar.cell, strokes.bar_bottom, strokes.style)
 }
 
-/// Draws the bar of an entry at this depth in the rows from `start` to before `end`.
+/// Draws a bar in the rows from `start` to before `end`.
 fn draw_bar(
     buffer: &mut StyledBuffer,
-    layout: Layout,
+    bar: BarAt,
     start: usize,
     end: usize,
-    depth: usize,
-    placed: &PlacedEntry,
 ) -> Result<(), AllocError>
-    requires some { 0 < depth }
-    requires depth { inner_cell layout + depth < layout.code }
-    requires small { AreRows (length buffer.old) }
+    requires cell { IsCodeCell bar.cell }
     requires rows { end ≤ length buffer.old }
     requires ordered { start ≤ end }
-    ensures painted { OnOk result (buffer.new ≡ painted (bar_writes layout placed.now depth start end) buffer.old) }
+    requires small { AreRows (length buffer.old) }
+    ensures painted { OnOk result (buffer.new ≡ painted
+        (column_of start end bar.cell bar.strokes.bar bar.strokes.style) buffer.old) }
 {
-    let strokes = layout.decor.underline(is_primary(placed.entry.kind));
-    let cell = layout.bar_cell(depth);
+    let strokes = bar.strokes;
     for row in start..end {
-        buffer.putc(row, cell, strokes.bar, strokes.style)?;
+        buffer.putc(row, bar.cell, strokes.bar, strokes.style)?;
     }
     Ok(())
 }
