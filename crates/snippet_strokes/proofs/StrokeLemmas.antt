@@ -46,7 +46,7 @@ use Rattle.snippet_strokes.proofs.BarWrites.{DrawsBarCells-corners, DrawsFrom-co
 use Rattle.snippet_strokes.proofs.StemWrites.{DrawsFrom-stems, stems_none, stems_start}
 use Rattle.snippet_strokes.proofs.LabelWrites.{DrawsFrom-labels, label_lone, labels_none, labels_unmarked}
 use Rattle.snippet_strokes.proofs.LabelLaw.{labels_stand}
-use Rattle.snippet_strokes.proofs.StrokeWrites.{strokes_painted}
+use Rattle.snippet_strokes.proofs.StrokeWrites.{marks_painted, under_painted}
 use Rattle.snippet_strokes.proofs.PositionLemmas.{HasRows-row_count, line_positions_low, of_positions, positions-unlabelled, positions_sole, row_count_one}
 use Rattle.snippet_strokes.proofs.PositionLemmas.{row_count_some, stemless_bare, stemless_beside}
 use Rattle.snippet_strokes.proofs.RowLemmas.{bare_row_short, bare_row_right, free_bare_row}
@@ -157,8 +157,9 @@ module _ (layout : Layout) (room : ℕ) (closes : Bool) (es : List LineAnnotatio
   -- all strokes, as one list
   new_is : new ≡ painted (line_strokes layout (length above_rows) (length begun) placed (painting_order placed)) begun
   new_is =
-      strokes_painted layout (length above_rows) row (length joined) (length begun) placed
-      (painting_order placed) begun begun joined barred stemmed labelled new refl lines.count refl lines_are bars_are stems_are labels_are marks_are
+      marks_painted layout (length above_rows) (length begun) placed (painting_order placed) begun labelled new
+      (under_painted layout (length above_rows) (length joined) (length begun) placed begun joined barred stemmed labelled lines.count
+      lines_are bars_are stems_are labels_are) marks_are
 
   -- ---- the rows once all are drawn
 

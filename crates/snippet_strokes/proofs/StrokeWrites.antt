@@ -14,7 +14,8 @@ use Rattle.snippet_labels.specs.Entries.{label_role, label_text}
 use Rattle.snippet_strokes.specs.Drawing.{foot_glyph}
 use Rattle.snippet_labels.specs.Positions.{has_label, label_place}
 use Rattle.snippet_strokes.specs.Writes.{Write, glyph_at, painted, written_by}
-use Rattle.snippet_strokes.specs.Strokes.{column_of, connectors_of, corners_of, label_write, label_of, labels_of, stem_write, stems_of, line_strokes}
+use Rattle.snippet_strokes.specs.Strokes.{column_of, connectors_of, corners_of, label_write, label_of, labels_of, stem_write, stems_of}
+use Rattle.snippet_strokes.specs.Strokes.{line_strokes, strokes_under_marks}
 use Rattle.snippet_strokes.specs.Painting.{marks_of}
 use Rattle.snippet_strokes.proofs.WriteLemmas.{painted-append}
 
@@ -68,27 +69,26 @@ pub column_of-none : (start cell glyph : ℕ) (role : ElementStyle) → column_o
 column_of-none start cell glyph role =
     ap (λ n. map (λ r. glyph_at r cell glyph role) (range_with_len start n)) (let none : start - start ≡ 0 = omega arith in none)
 
--- the strokes of a line, painted one list after another
-pub strokes_painted : (layout : Layout) (row below count all : ℕ) (placed order : List PlacedEntry)
-    (rows begun joined barred stemmed labelled new : List (List Cell)) → below ≡ row + 1 → count ≡ all → begun ≡ rows
-    → joined ≡ painted (connectors_of layout below placed) begun → barred ≡ painted (corners_of layout row count placed) joined
-    → stemmed ≡ painted (stems_of layout below placed) barred → labelled ≡ painted (labels_of layout below placed) stemmed
-    → new ≡ painted (marks_of layout below order) labelled → new ≡ painted (line_strokes layout row all placed order) rows
-strokes_painted layout row below count all placed order rows begun joined barred stemmed labelled new is_below is_all is_begun lines bars stems labels marks =
+-- the strokes of a line but its marks, painted one list after another
+pub under_painted : (layout : Layout) (row count all : ℕ) (placed : List PlacedEntry) (begun joined barred stemmed labelled : List (List Cell))
+    → count ≡ all → joined ≡ painted (connectors_of layout (row + 1) placed) begun → barred ≡ painted (corners_of layout row count placed) joined
+    → stemmed ≡ painted (stems_of layout (row + 1) placed) barred → labelled ≡ painted (labels_of layout (row + 1) placed) stemmed
+    → labelled ≡ painted (strokes_under_marks layout row all placed) begun
+under_painted layout row count all placed begun joined barred stemmed labelled is_all lines bars stems labels =
     let one : List Write = connectors_of layout (row + 1) placed in
     let two : List Write = corners_of layout row all placed in
     let three : List Write = stems_of layout (row + 1) placed in
     let four : List Write = labels_of layout (row + 1) placed in
-    let five : List Write = marks_of layout (row + 1) order in
-    let after_one : joined ≡ painted one rows = lines ∙ ap (λ n. painted (connectors_of layout n placed) begun) is_below ∙ ap (painted one) is_begun in
-    let after_two : barred ≡ painted two (painted one rows) = bars ∙ ap (λ n. painted (corners_of layout row n placed) joined) is_all
-    ∙ ap (painted two) after_one in
-    let after_three : stemmed ≡ painted three (painted two (painted one rows)) = stems ∙ ap (λ n. painted (stems_of layout n placed) barred) is_below
-    ∙ ap (painted three) after_two in
-    let after_four : labelled ≡ painted four (painted three (painted two (painted one rows))) = labels
-    ∙ ap (λ n. painted (labels_of layout n placed) stemmed) is_below ∙ ap (painted four) after_three in
-    let after_five : new ≡ painted five (painted four (painted three (painted two (painted one rows)))) = marks
-    ∙ ap (λ n. painted (marks_of layout n order) labelled) is_below ∙ ap (painted five) after_four in
-    after_five ∙ sym (painted-append (one ++ two ++ three ++ four) five rows
-    ∙ ap (painted five) (painted-append (one ++ two ++ three) four rows
-    ∙ ap (painted four) (painted-append (one ++ two) three rows ∙ ap (painted three) (painted-append one two rows))))
+    let after_two : barred ≡ painted two (painted one begun) = bars ∙ ap (λ n. painted (corners_of layout row n placed) joined) is_all
+    ∙ ap (painted two) lines in
+    let after_three : stemmed ≡ painted three (painted two (painted one begun)) = stems ∙ ap (painted three) after_two in
+    labels ∙ ap (painted four) after_three ∙ sym (painted-append (one ++ two ++ three) four begun
+    ∙ ap (painted four) (painted-append (one ++ two) three begun ∙ ap (painted three) (painted-append one two begun)))
+
+-- and the marks over them
+pub marks_painted : (layout : Layout) (row all : ℕ) (placed order : List PlacedEntry) (begun labelled new : List (List Cell))
+    → labelled ≡ painted (strokes_under_marks layout row all placed) begun → new ≡ painted (marks_of layout (row + 1) order) labelled
+    → new ≡ painted (line_strokes layout row all placed order) begun
+marks_painted layout row all placed order begun labelled new under marks =
+    marks ∙ ap (painted (marks_of layout (row + 1) order)) under
+    ∙ sym (painted-append (strokes_under_marks layout row all placed) (marks_of layout (row + 1) order) begun)

@@ -127,12 +127,15 @@ corners_of layout row count placed = flat_map (corner_of layout row count) place
 
 -- ---- all of them
 
--- all strokes of a line, of which the source row is `row`, and below it come as many rows that there are `count` in all: the lines
--- to bars, the bars, the stems, the labels, and the marks in the order in which they are painted
-abbrev pub line_strokes : Layout → ℕ → ℕ → List PlacedEntry → List PlacedEntry → List Write
-line_strokes layout row count placed order =
+-- the strokes of a line but its marks. The source row of the line is `row`, and below it come as many rows that there are `count` in
+-- all: the lines to bars, the bars, the stems, and the labels
+abbrev pub strokes_under_marks : Layout → ℕ → ℕ → List PlacedEntry → List Write
+strokes_under_marks layout row count placed =
     connectors_of layout (row + 1) placed ++ corners_of layout row count placed ++ stems_of layout (row + 1) placed ++ labels_of layout (row + 1) placed
-    ++ marks_of layout (row + 1) order
+
+-- all strokes of a line: last, over all others, the marks in the order in which they are painted
+abbrev pub line_strokes : Layout → ℕ → ℕ → List PlacedEntry → List PlacedEntry → List Write
+line_strokes layout row count placed order = strokes_under_marks layout row count placed ++ marks_of layout (row + 1) order
 
 -- the source row of a line with the rows of its strokes below it, before they are drawn: separators, with the last row as the window
 -- closes or goes on

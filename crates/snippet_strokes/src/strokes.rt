@@ -1,17 +1,20 @@
 //! All that stands below the source row of a line, and the bars beside it of spans that begin or end there.
 ghost use Rattle.std.specs.Prelude.{◌≡◌, ◌+◌, ◌<◌, ◌≤◌, ◌++◌, ◌∷◌, [], if◌then◌else◌, All, IfSome, List, OnOk};
 ghost use Rattle.std.specs.Prelude.{false, length, map, true};
-ghost use Rattle.snippet_labels.specs.Entries.{HasPlace, shifted};
+ghost use Rattle.snippet_labels.specs.Entries.{HasPlace, label_text, shifted};
+ghost use Rattle.snippet_labels.specs.Positions.{HasItsLabel};
 ghost use Rattle.snippet_strokes.specs.EntryMarks.{HasBarCell};
 ghost use Rattle.snippet_parts.specs.Entries.{is_bar};
 ghost use Rattle.snippet_style.specs.Cell.{Cell};
 ghost use Rattle.snippet_strokes.specs.Drawing as spec;
+ghost use Rattle.snippet_strokes.specs.Drawing.{AreEnough};
 ghost use Rattle.snippet_strokes.specs.Rows.{AddsStrokes, HasNoBars};
-ghost use Rattle.snippet_strokes.specs.Strokes.{AddsPainted};
+ghost use Rattle.snippet_strokes.specs.Strokes.{AddsPainted, strokes_under_marks};
+ghost use Rattle.snippet_strokes.specs.Writes.{painted};
 ghost use Rattle.snippet_style.specs.Separators.{closing_row};
 ghost use Rattle.snippet_grid.specs.Layout.{inner_cell};
 ghost use Rattle.snippet_text.specs.Bounds.{TextFits};
-ghost use Rattle.snippet_style.specs.Bounds.{IsCount};
+ghost use Rattle.snippet_style.specs.Bounds.{FitsRow, IsCount};
 
 use crate::connectors::draw_connectors;
 use crate::corners::draw_corners;
@@ -74,13 +77,32 @@ pub(crate) fn draw_strokes(
     }
     let mut placed = placed_entries(alloc, dropped, entries)?;
     let overlapped = overlapping(alloc, layout.decor, room, &placed)?;
-    let below = begin_rows(buffer, layout, closes, row_count(&placed))?;
-    draw_connectors(alloc, buffer, layout, below, &placed)?;
-    draw_corners(buffer, layout, row, &placed)?;
-    draw_stems(buffer, layout, below, &placed)?;
-    draw_labels(buffer, layout, below, &placed)?;
-    draw_marks(alloc, buffer, layout, below, &mut placed)?;
+    begin_rows(buffer, layout, closes, row_count(&placed))?;
+    draw_under_marks(alloc, buffer, layout, row, &placed)?;
+    draw_marks(alloc, buffer, layout, row + 1, &mut placed)?;
     cut_wide(buffer, layout, row, room, &placed, &overlapped)
+}
+
+/// Draws the strokes of a line but its marks into the rows that are begun for them below its source row, which has this
+/// number.
+fn draw_under_marks(
+    alloc: Global,
+    buffer: &mut StyledBuffer,
+    layout: Layout,
+    row: usize,
+    placed: &[PlacedEntry],
+) -> Result<(), AllocError>
+    requires enough { AreEnough layout row (length buffer.old) placed.now }
+    requires labels { All HasItsLabel placed.now }
+    requires short { All (λ e. FitsRow (label_text e.entry)) placed.now }
+    ensures painted { OnOk result (buffer.new ≡ painted (strokes_under_marks layout row
+        (length buffer.old) placed.now) buffer.old) }
+    ensures count { OnOk result (length buffer.new ≡ length buffer.old) }
+{
+    draw_connectors(alloc, buffer, layout, row + 1, placed)?;
+    draw_corners(buffer, layout, row, placed)?;
+    draw_stems(buffer, layout, row + 1, placed)?;
+    draw_labels(buffer, layout, row + 1, placed)
 }
 
 /// Adds a closing row where the window closes with a line that has no entries.
