@@ -9,13 +9,13 @@ use Rattle.std.proofs.lemmas.Bool.{cases_lt, cond_both, ltb-true, ltb-false, eqb
 use Rattle.snippet_lines.specs.declared.lines.EndLine.{EndLine}
 use Rattle.snippet_lines.specs.declared.lines.EndLine.TheVariants.{Eof, Lf, Crlf}
 use Rattle.snippet_lines.specs.Lines.{Line, end_bytes, line_bytes, joined, last_byte, IsLineWithEnd, AreLines, AreLinesOf, lines_of, source_lines, is_lf}
-use Rattle.snippet_lines.specs.Lines.{newline_count}
+use Rattle.snippet_lines.specs.Lines.{newline_count, start_of}
 use Rattle.snippet_lines.specs.Place.{line_of}
 use Rattle.snippet_lines.proofs.LinesLemmas.{split_last, last_byte-push, lines_of-joined, lines_of-append, length-lines_of, length-source_lines}
 use Rattle.snippet_lines.proofs.LinesLemmas.{ending_newlines}
-use Rattle.snippet_lines.proofs.LinesLemmas.{length-lines_of-pos, AreLines-lines_of, joined-lines_of, source_lines-some}
+use Rattle.snippet_lines.proofs.LinesLemmas.{start_of-zero, length-lines_of-pos, AreLines-lines_of, joined-lines_of, source_lines-some}
 use Rattle.snippet_lines.proofs.CursorLemmas.{count_by-none}
-use Rattle.snippet_lines.proofs.PlaceLemmas.{line_of-within}
+use Rattle.snippet_lines.proofs.PlaceLemmas.{line_of-start, line_of-within}
 use Rattle.snippet_lines.proofs.BoundsLemmas.{IsOneLine-line}
 
 -- bytes that are no line feed have none
@@ -106,3 +106,21 @@ line_of-count (c ∷ cs) b =
   where
     filled : (n : ℕ) → 0 < length (take (n + 1) (c ∷ cs))
     filled n = omega (arith, length-take (n + 1) (c ∷ cs))
+
+-- so the newlines of a front are as many as lines stand before the one that holds its last byte
+pub line_of-last : (source : List ℕ) (end : ℕ) → line_of (source_lines source) (end - 1) ≡ newline_count (take end source)
+line_of-last source end =
+    elim (cases_lt 0 end) [
+      | inl some ↦
+          let same : end - 1 + 1 ≡ end = omega arith in
+          sym (line_of-count source (end - 1)) ∙ ap (λ n. newline_count (take n source)) same
+      | inr none ↦
+          let first : end - 1 ≡ 0 = omega arith in
+          let nothing : end ≡ 0 = omega arith in
+          let start : start_of (source_lines source) 0 ≡ 0 = start_of-zero (source_lines source) in
+          let here : line_of (source_lines source) 0 ≡ 0 = sym (ap (line_of (source_lines source)) start)
+          ∙ line_of-start source 0 (omega (arith, line_of-within source 0)) in
+          let whole : length (source_lines []) ≡ newline_count [] + 1 = length-source_lines [] in
+          ap (line_of (source_lines source)) first ∙ here
+          ∙ omega (arith, whole, ap (λ n. newline_count (take n source)) nothing)
+    ]

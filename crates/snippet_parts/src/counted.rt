@@ -1,26 +1,30 @@
 //! What is known of a snippet before it is drawn.
-ghost use Rattle.std.specs.Prelude.{◌≡◌, ◌+◌, length};
+ghost use Rattle.std.specs.Prelude.{◌≡◌, take};
 ghost use Rattle.std.specs.Cow.{cow_str_bytes};
-ghost use Rattle.snippet_lines.specs.Lines.{source_lines};
 ghost use Rattle.snippet_parts.specs.Counted as spec;
-ghost use Rattle.snippet_style.specs.Bounds.{IsUsize};
+ghost use Rattle.snippet_parts.specs.Numbered.{numbered_source};
 
-use snippet_lines::counts::newline_count_before;
+use crate::source_map::SourceMap;
 use snippet_model::snippet::{Annotation, Snippet};
 
 /// The line number that an annotated snippet counts for the gutter's width: that of the last line that its spans
-/// reach, or of its last line where it isn't folded or has no spans.
-pub fn counted_number(snippet: &Snippet<Annotation>) -> usize
-    requires numbers { IsUsize (snippet.now.line_start + length (source_lines (cow_str_bytes snippet.now.source))) }
+/// reach, or of its last line where it isn't folded or has no spans. The map is that of its source.
+pub fn counted_number(map: &SourceMap<'_>, snippet: &Snippet<Annotation>) -> usize
+    requires map { map.now ≡ numbered_source snippet.now }
     ensures value { result ≡ spec.counted_number snippet.now }
 {
-    let source = snippet.source.as_str();
-    let end = if snippet.fold && !snippet.markers.is_empty() {
-        greatest_end(&snippet.markers)
-    } else {
-        source.len()
-    };
-    snippet.line_start + newline_count_before(source, end)
+    let end = reached_end(snippet);
+    map.line_number_of(map.line_index_of(end.saturating_sub(1)))
+}
+
+/// The byte up to which a snippet's spans reach, or the end of its source where it isn't folded or has no spans.
+fn reached_end(snippet: &Snippet<Annotation>) -> usize
+    ensures value { take result (cow_str_bytes snippet.now.source) ≡ spec.reached_source snippet.now }
+{
+    if snippet.fold && !snippet.markers.is_empty() {
+        return greatest_end(&snippet.markers);
+    }
+    snippet.source.len()
 }
 
 /// The greatest byte at which an annotation ends, or 0 without annotations.

@@ -59,7 +59,7 @@ fn wanted(element: &PreparedElement<'_>) -> usize
 {
     match element {
         PreparedElement::Cause(cause) if cause.snippet.line_numbering => {
-            LineNumbers::Shown.width(counted_number(cause.snippet))
+            LineNumbers::Shown.width(counted_number(&cause.map, cause.snippet))
         }
         PreparedElement::Suggestion(suggestion) if suggestion.snippet.line_numbering => {
             LineNumbers::Shown.width(suggestion.counted)

@@ -1,17 +1,17 @@
-use Rattle.std.proofs.Common.{ap, arith, length}
-use Rattle.snippet_lines.specs.Lines.{source_lines}
-use Rattle.snippet_lines.proofs.LinesLemmas.{length-source_lines}
-use Rattle.snippet_lines.proofs.CountLemmas.{newline_count-take}
+use Rattle.std.proofs.Common.{◌≡◌, ◌+◌, ◌-◌, ◌∙◌, List, ℕ, ap, take, arith}
+use Rattle.snippet_lines.specs.Lines.{Source, newline_count, source_lines}
+use Rattle.snippet_lines.specs.Place.{line_of}
+use Rattle.snippet_lines.proofs.IndexLemmas.{line_of-last}
 use Rattle.snippet_parts.proofs.counted.counted_number.Goals as goal
 
-pub overflow_add-result : goal.overflow_add-result
-overflow_add-result c =
-    omega (
-      arith,
-      c.newline_count_before.ensures.value,
-      newline_count-take c.as_str-source.result.now c.if-snippet.end,
-      length-source_lines
-          c.as_str-source.result.now,
-      ap (λ text. length (source_lines text)) c.as_str-source.ensures.value,
-      c.requires.numbers,
-    )
+pub returns : goal.returns
+returns c =
+    let s : Source = c.args.map.now in
+    let end : ℕ = c.reached_end-end.result in
+    let last : c.saturating_sub.result ≡ end - 1 = omega (arith, c.saturating_sub.ensures) in
+    let counted : c.line_index_of.result ≡ newline_count (take end s.text) = c.line_index_of.ensures.value
+    ∙ ap (line_of (source_lines s.text)) last ∙ line_of-last s.text end in
+    record {
+      value = c.line_number_of.ensures.value ∙ ap (λ n. s.first + n) counted ∙ ap (λ (t : Source). t.first + newline_count (take end t.text)) c.requires.map
+          ∙ ap (λ (bytes : List ℕ). c.args.snippet.now.line_start + newline_count bytes) c.reached_end-end.ensures.value;
+    }
