@@ -11,7 +11,7 @@ use Rattle.snippet_text.specs.Normalized.{norm}
 use Rattle.snippet_text.specs.Width.{width_of}
 use Rattle.snippet_lines.specs.Number.{shown_number}
 use Rattle.snippet_splice.specs.declared.stretches.SubstitutionHighlight.{SubstitutionHighlight}
-use Rattle.snippet_splice.specs.Stretches.{capped}
+use Rattle.snippet_splice.specs.Stretches.{capped, line_stretches}
 use Rattle.snippet_style.specs.declared.glyphs.SuggestionGlyph.{SuggestionGlyph}
 use Rattle.snippet_style.specs.declared.glyphs.SuggestionGlyph.TheVariants as sign
 use Rattle.snippet_suggest.specs.declared.kind.DisplaySuggestion.{DisplaySuggestion}
@@ -20,6 +20,7 @@ use Rattle.snippet_suggest.specs.declared.layout.SuggestionLayout.{SuggestionLay
 use Rattle.snippet_suggest.specs.declared.layout.SuggestionStart.{SuggestionStart}
 use Rattle.snippet_suggest.specs.declared.layout.SuggestionStart.TheVariants.{Opening, Next, Path}
 use Rattle.snippet_parts.specs.declared.source_map.LineInfo.{LineInfo}
+use Rattle.snippet_suggest.specs.declared.lines.SuggestedText.{SuggestedText}
 use Rattle.snippet_suggest.specs.declared.shown.SuggestionLine.{SuggestionLine}
 use Rattle.snippet_suggest.specs.declared.shown.SuggestionLine.TheVariants.{Line, Gap}
 use Rattle.snippet_suggest.specs.Given.{is_left_out, last_removed, unless_stays}
@@ -113,6 +114,14 @@ abbrev pub suggestion_row : SuggestionLayout → DisplaySuggestion → ℕ → L
 suggestion_row layout kind first lines stretches (Line k) =
     offered_cells layout kind (length lines) (number_after first k) (slice_index_or lines k []) (stretches k)
 suggestion_row layout kind first lines stretches Gap = gap_cells layout
+
+-- the lines of a text of a suggestion
+abbrev pub lines_shown : SuggestedText → List (List ℕ)
+lines_shown text = map (λ l. l.now) text.lines.now
+
+-- and the row of one of them, or one in place of some that are left out
+abbrev pub row_shown : SuggestionLayout → SuggestedText → SuggestionLine → List Cell
+row_shown layout text line = suggestion_row layout text.kind text.first (lines_shown text) (line_stretches text.stretches.now) line
 
 -- ---- rows of several lines
 

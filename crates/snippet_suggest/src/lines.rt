@@ -5,8 +5,7 @@ ghost use Rattle.std.specs.List.{slice_index_or};
 ghost use Rattle.snippet_text.specs.Normalized.{norm};
 ghost use Rattle.snippet_lines.specs.Lines.{lines_of};
 ghost use Rattle.snippet_splice.specs.Spliced.{texts_of};
-ghost use Rattle.snippet_splice.specs.Stretches.{line_stretches};
-ghost use Rattle.snippet_suggest.specs.Cells.{suggestion_row, sign_alone, sign_of, sign_touched};
+ghost use Rattle.snippet_suggest.specs.Cells.{sign_alone, sign_of, sign_touched, lines_shown, row_shown};
 ghost use Rattle.snippet_suggest.specs.Glyphs.{is_sign};
 ghost use Rattle.snippet_suggest.specs.declared.shown.SuggestionLine.TheVariants.{Line};
 ghost use Rattle.snippet_suggest.specs.Shown.{is_touched, lines_suggested};
@@ -37,8 +36,20 @@ pub(crate) fn text_lines<'a>(alloc: Global, text: &'a str) -> Result<Vec<&'a str
     Ok(lines)
 }
 
-/// Draws the lines of a spliced text that are shown, below all that stands in the grid; the first line has the number
-/// `first`.
+/// The text of a suggestion as its rows show it.
+#[derive(Clone, Copy)]
+pub(crate) struct SuggestedText<'a> {
+    /// How it is shown.
+    pub(crate) kind: DisplaySuggestion,
+    /// The number of its first line.
+    pub(crate) first: usize,
+    /// Its lines, without their ends.
+    pub(crate) lines: &'a [&'a str],
+    /// Of each line, the characters that come from patches.
+    pub(crate) stretches: &'a [Vec<SubstitutionHighlight>],
+}
+
+/// Draws the lines of a spliced text that are shown, below all that stands in the grid.
 ///
 /// ```text
 ///     1 ~ let x = 2;
@@ -55,22 +66,18 @@ pub(crate) fn draw_lines(
     alloc: Global,
     buffer: &mut StyledBuffer,
     layout: &SuggestionLayout,
-    kind: DisplaySuggestion,
-    first: usize,
-    lines: &[&str],
+    text: &SuggestedText<'_>,
     ranges: &[LineRange],
-    stretches: &[Vec<SubstitutionHighlight>],
     fold: bool,
 ) -> Result<(), AllocError>
-    ensures added { let shown = lines_suggested (is_touched fold ranges.now) (length lines.now) in
-        ((k : ℕ) → k < length lines.now → NumberFits layout.now first (Line k))
-        → OnOk result (AddsShown layout.now first (map (λ l. l.now) lines.now) shown buffer.old buffer.new) }
-    ensures cells { OnOk result (buffer.new ≡ buffer.old ++ map
-        (suggestion_row layout.now kind first (map (λ l. l.now) lines.now) (line_stretches stretches.now))
-        (lines_suggested (is_touched fold ranges.now) (length lines.now))) }
+    ensures added { let shown = lines_suggested (is_touched fold ranges.now) (length text.now.lines.now) in
+        ((k : ℕ) → k < length text.now.lines.now → NumberFits layout.now text.now.first (Line k))
+        → OnOk result (AddsShown layout.now text.now.first (lines_shown text.now) shown buffer.old buffer.new) }
+    ensures cells { OnOk result (buffer.new ≡ buffer.old ++ map (row_shown layout.now text.now)
+        (lines_suggested (is_touched fold ranges.now) (length text.now.lines.now))) }
 {
-    let shown = shown_lines(alloc, lines.len(), ranges, fold)?;
-    draw_shown(alloc, buffer, layout, kind, first, lines, stretches, &shown)?;
+    let shown = shown_lines(alloc, text.lines.len(), ranges, fold)?;
+    draw_shown(alloc, buffer, layout, text, &shown)?;
     Ok(())
 }
 
@@ -79,19 +86,15 @@ fn draw_shown(
     alloc: Global,
     buffer: &mut StyledBuffer,
     layout: &SuggestionLayout,
-    kind: DisplaySuggestion,
-    first: usize,
-    lines: &[&str],
-    stretches: &[Vec<SubstitutionHighlight>],
+    text: &SuggestedText<'_>,
     shown: &[SuggestionLine],
 ) -> Result<(), AllocError>
-    ensures added { All (NumberFits layout.now first) shown.now
-        → OnOk result (AddsShown layout.now first (map (λ l. l.now) lines.now) shown.now buffer.old buffer.new) }
-    ensures cells { OnOk result (buffer.new ≡ buffer.old ++ map
-        (suggestion_row layout.now kind first (map (λ l. l.now) lines.now) (line_stretches stretches.now)) shown.now) }
+    ensures added { All (NumberFits layout.now text.now.first) shown.now
+        → OnOk result (AddsShown layout.now text.now.first (lines_shown text.now) shown.now buffer.old buffer.new) }
+    ensures cells { OnOk result (buffer.new ≡ buffer.old ++ map (row_shown layout.now text.now) shown.now) }
 {
     for line in shown {
-        draw_shown_line(alloc, buffer, layout, kind, first, lines, stretches, *line)?;
+        draw_shown_line(alloc, buffer, layout, text, *line)?;
     }
     Ok(())
 }
@@ -101,21 +104,16 @@ fn draw_shown_line(
     alloc: Global,
     buffer: &mut StyledBuffer,
     layout: &SuggestionLayout,
-    kind: DisplaySuggestion,
-    first: usize,
-    lines: &[&str],
-    stretches: &[Vec<SubstitutionHighlight>],
+    text: &SuggestedText<'_>,
     line: SuggestionLine,
 ) -> Result<(), AllocError>
-    ensures added { NumberFits layout.now first line
-        → OnOk result (AddsRow (IsShownRow layout.now first (map (λ l. l.now) lines.now) line) buffer.old buffer.new) }
-    ensures cells { OnOk result (buffer.new ≡ buffer.old
-        ++ suggestion_row layout.now kind first (map (λ l. l.now) lines.now) (line_stretches stretches.now) line ∷ []) }
+    ensures added { NumberFits layout.now text.now.first line
+        → OnOk result (AddsRow (IsShownRow layout.now text.now.first (lines_shown text.now) line)
+        buffer.old buffer.new) }
+    ensures cells { OnOk result (buffer.new ≡ buffer.old ++ row_shown layout.now text.now line ∷ []) }
 {
     match line {
-        SuggestionLine::Line(k) => {
-            draw_text_line(alloc, buffer, layout, kind, first, lines, stretches, k)
-        }
+        SuggestionLine::Line(k) => draw_text_line(alloc, buffer, layout, text, k),
         SuggestionLine::Gap => draw_gap(buffer, layout),
     }
 }
@@ -125,25 +123,20 @@ fn draw_text_line(
     alloc: Global,
     buffer: &mut StyledBuffer,
     layout: &SuggestionLayout,
-    kind: DisplaySuggestion,
-    first: usize,
-    lines: &[&str],
-    stretches: &[Vec<SubstitutionHighlight>],
+    text: &SuggestedText<'_>,
     k: usize,
 ) -> Result<(), AllocError>
     ensures added { length (shown_number layout.now.numbers layout.now.base.gutter
-        (number_after first k)) ≤ separator_cell layout.now.base
+        (number_after text.now.first k)) ≤ separator_cell layout.now.base
         → OnOk result (AddsRow (IsLineRow layout.now.base.decor layout.now.base.gutter
-        (shown_number layout.now.numbers layout.now.base.gutter (number_after first k))
-        (norm (chars (slice_index_or (map (λ l. l.now) lines.now) k [])))) buffer.old buffer.new) }
-    ensures cells { OnOk result (buffer.new ≡ buffer.old
-        ++ suggestion_row layout.now kind first (map (λ l. l.now) lines.now) (line_stretches stretches.now)
-        (Line k) ∷ []) }
+        (shown_number layout.now.numbers layout.now.base.gutter (number_after text.now.first k))
+        (norm (chars (slice_index_or (lines_shown text.now) k [])))) buffer.old buffer.new) }
+    ensures cells { OnOk result (buffer.new ≡ buffer.old ++ row_shown layout.now text.now (Line k) ∷ []) }
 {
-    let line = line_at(lines, k);
-    let stretches = stretches_of(stretches, k);
-    let glyph = glyph_of(kind, lines.len(), line, stretches);
-    let number = number_after(first, k);
+    let line = line_at(text.lines, k);
+    let stretches = stretches_of(text.stretches, k);
+    let glyph = glyph_of(text.kind, text.lines.len(), line, stretches);
+    let number = number_after(text.first, k);
     let row = draw_line(alloc, buffer, layout, glyph, number, line)?;
     paint_stretches(buffer, layout, row, line, stretches, ElementStyle::Addition)?;
     Ok(())

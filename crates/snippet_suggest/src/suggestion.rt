@@ -23,7 +23,7 @@ use crate::diff::draw_diff;
 use crate::ends::{draw_end, draw_head};
 use crate::kind::DisplaySuggestion;
 use crate::layout::{SuggestionLayout, SuggestionStart};
-use crate::lines::{draw_lines, text_lines};
+use crate::lines::{SuggestedText, draw_lines, text_lines};
 use crate::marks::draw_marks;
 use crate::prepared::{PreparedSuggestion, first_number};
 use crate::removed::draw_removed_lines;
@@ -112,17 +112,13 @@ fn draw_body(
     if suggestion.kind == DisplaySuggestion::Diff {
         return draw_changed(alloc, buffer, layout, suggestion, first, *line);
     }
-    draw_lines(
-        alloc,
-        buffer,
-        layout,
-        suggestion.kind,
+    let text = SuggestedText {
+        kind: suggestion.kind,
         first,
         lines,
-        &splice.ranges,
-        &splice.highlights,
-        fold,
-    )?;
+        stretches: &splice.highlights,
+    };
+    draw_lines(alloc, buffer, layout, &text, &splice.ranges, fold)?;
     Ok(0)
 }
 

@@ -100,17 +100,17 @@ returns-clause-added c = λ room above tail is shared.
     subst (λ (m : ℕ). NumberFits l m (Line k)) (sym first) (numbers_fit l s c.requires.prepared.suggestible room k (omega (arith, within, count))) in
     let other : p.kind ≢ Diff = λ same. cc (c.if-eq.false, c.eq.ensures, true_same the_type p.kind Diff same) in
     let Shown : List LineRange → ℕ → List SuggestionRow = λ ranges m. map row_of_shown (lines_suggested (is_touched s.fold ranges) m) in
-    let ranges : c.deref-2.result.now ≡ given_ranges s = c.deref-2.ensures.value ∙ c.requires.prepared.ranges in
-    let shown : Shown c.deref-2.result.now (length a.lines.now) ≡ Shown (given_ranges s) (length lines) = ap (λ rs. Shown rs (length a.lines.now)) ranges
+    let ranges : c.deref-3.result.now ≡ given_ranges s = c.deref-3.ensures.value ∙ c.requires.prepared.ranges in
+    let shown : Shown c.deref-3.result.now (length a.lines.now) ≡ Shown (given_ranges s) (length lines) = ap (λ rs. Shown rs (length a.lines.now)) ranges
     ∙ ap (Shown (given_ranges s)) count in
     let Adds : ℕ → List (List ℕ) → List SuggestionRow → Type 0 = λ m ls rs. AddsRows l m ls rs mid new in
-    let drawn : Adds n (map (λ l. l.now) a.lines.now) (Shown c.deref-2.result.now (length a.lines.now)) = rows_shown l n (map (λ l. l.now) a.lines.now)
-    (lines_suggested (is_touched s.fold c.deref-2.result.now) (length a.lines.now)) mid new (c.in_ok-draw_lines.ensures.added fits) in
+    let drawn : Adds n (map (λ l. l.now) a.lines.now) (Shown c.deref-3.result.now (length a.lines.now)) = rows_shown l n (map (λ l. l.now) a.lines.now)
+    (lines_suggested (is_touched s.fold c.deref-3.result.now) (length a.lines.now)) mid new (c.in_ok-draw_lines.ensures.added fits) in
     let below : Adds at lines (Shown (given_ranges s) (length lines)) =
     subst (Adds at lines) shown
     (subst (λ (m : ℕ). Adds m lines
-    (Shown c.deref-2.result.now (length a.lines.now)))
-    first (subst (λ (ls : List (List ℕ)). Adds n ls (Shown c.deref-2.result.now (length a.lines.now))) c.requires.lines drawn)) in
+    (Shown c.deref-3.result.now (length a.lines.now)))
+    first (subst (λ (ls : List (List ℕ)). Adds n ls (Shown c.deref-3.result.now (length a.lines.now))) c.requires.lines drawn)) in
     let head = row_alone l at lines (Begins a.start) above mid (c.in_ok-draw_head.ensures.added above tail is shared) in
     let line = lines_some (λ l. l.now) a.lines.now lines c.in-Some.line.now (sym c.in-Some.ensures.value) c.requires.lines in
     let rows = rows_others a.start s _ line.0 line.1 (λ diff. other (c.requires.prepared.kind ∙ diff)) in
@@ -141,17 +141,17 @@ returns-clause-cells c = λ above tail is count.
     ∙ known_first p c.requires.prepared in
     let size : length a.lines.now ≡ length lines = sym (length-map a.lines.now (λ l. l.now)) ∙ ap length c.requires.lines in
     let other : p.kind ≢ Diff = λ same. cc (c.if-eq.false, c.eq.ensures, true_same the_type p.kind Diff same) in
-    let ranges : c.deref-2.result.now ≡ given_ranges s = c.deref-2.ensures.value ∙ c.requires.prepared.ranges in
+    let ranges : c.deref-3.result.now ≡ given_ranges s = c.deref-3.ensures.value ∙ c.requires.prepared.ranges in
     let shown = lines_suggested (is_touched s.fold (given_ranges s)) (length lines) in
     let begin : List Cell = begin_cells l a.start (row_at tail 0) in
-    let stretches : ℕ → List SubstitutionHighlight = line_stretches c.deref-3.result.now in
-    let same : (k : ℕ) → stretches k ≡ new_on s k = λ k. ap (λ vs. line_stretches vs k) c.deref-3.ensures.value ∙ c.requires.prepared.new k in
+    let stretches : ℕ → List SubstitutionHighlight = line_stretches c.deref-2.result.now in
+    let same : (k : ℕ) → stretches k ≡ new_on s k = λ k. ap (λ vs. line_stretches vs k) c.deref-2.ensures.value ∙ c.requires.prepared.new k in
     let Rows : DisplaySuggestion → ℕ → List (List ℕ) → List LineRange → ℕ → List (List Cell) = λ kind m ls rs k.
     map (suggestion_row l kind m ls stretches) (lines_suggested (is_touched s.fold rs) k) in
-    let drawn : Rows p.kind n (map (λ l. l.now) a.lines.now) c.deref-2.result.now (length a.lines.now) ≡ Rows (shown_kind s) at lines (given_ranges s)
-    (length lines) = ap (λ kind. Rows kind n (map (λ l. l.now) a.lines.now) c.deref-2.result.now (length a.lines.now)) c.requires.prepared.kind
-    ∙ ap (λ m. Rows (shown_kind s) m (map (λ l. l.now) a.lines.now) c.deref-2.result.now (length a.lines.now)) first
-    ∙ ap (λ ls. Rows (shown_kind s) at ls c.deref-2.result.now (length a.lines.now)) c.requires.lines
+    let drawn : Rows p.kind n (map (λ l. l.now) a.lines.now) c.deref-3.result.now (length a.lines.now) ≡ Rows (shown_kind s) at lines (given_ranges s)
+    (length lines) = ap (λ kind. Rows kind n (map (λ l. l.now) a.lines.now) c.deref-3.result.now (length a.lines.now)) c.requires.prepared.kind
+    ∙ ap (λ m. Rows (shown_kind s) m (map (λ l. l.now) a.lines.now) c.deref-3.result.now (length a.lines.now)) first
+    ∙ ap (λ ls. Rows (shown_kind s) at ls c.deref-3.result.now (length a.lines.now)) c.requires.lines
     ∙ ap (λ rs. Rows (shown_kind s) at lines rs (length a.lines.now)) ranges ∙ ap (Rows (shown_kind s) at lines (given_ranges s)) size in
     let below : Rows (shown_kind s) at lines (given_ranges s) (length lines)
     ≡ map (suggestion_row l (shown_kind s) at lines (new_on s)) shown = shown_same l (shown_kind s) at lines stretches (new_on s) shown same in
@@ -159,6 +159,6 @@ returns-clause-cells c = λ above tail is count.
     let kind : shown_kind s ≢ Diff = λ diff. other (c.requires.prepared.kind ∙ diff) in
     let rows = rows_others a.start s _ line.0 line.1 kind in
     append-nil new ∙ c.in_ok-draw_lines.ensures.cells
-    ∙ ap (λ rs. rs ++ Rows p.kind n (map (λ l. l.now) a.lines.now) c.deref-2.result.now (length a.lines.now))
+    ∙ ap (λ rs. rs ++ Rows p.kind n (map (λ l. l.now) a.lines.now) c.deref-3.result.now (length a.lines.now))
     (c.in_ok-draw_head.ensures.cells above tail is count) ∙ append_assoc above (begin ∷ []) _ ∙ ap (λ rs. above ++ (begin ∷ rs)) (drawn ∙ below)
     ∙ ap (λ rs. above ++ rs) (body_shown l a.start s (row_at tail 0) _ line.0 shown line.1 kind rows)
