@@ -1,90 +1,20 @@
 -- Which lines are kept.
-use Rattle.std.proofs.Common.{◌≡◌, ℕ, zero, suc, ◌+◌, ◌-◌, ◌<◌, ◌≤◌, Bool, true, false, ◌&&◌, ◌||◌, cond, not, eqb, leb, ltb, max, List, [], ◌∷◌, ◌++◌, map}
-use Rattle.std.proofs.Common.{length, take, set, get_or, replicate, inl, inr, ◌⊎◌, refl, sym, ap, ◌∙◌, arith}
+use Rattle.std.proofs.Common.{◌≡◌, ℕ, zero, suc, ◌+◌, ◌-◌, ◌^◌, ◌<◌, ◌≤◌, Bool, true, false, ◌&&◌, ◌||◌, cond, not, eqb, leb, ltb, min, max, List, [], ◌∷◌, ◌++◌}
+use Rattle.std.proofs.Common.{length, take, get_or, inl, inr, ◌⊎◌, Result, Ok, Err, nat_cmp, refl, sym, ap, subst, ◌∙◌, arith}
 use Rattle.std.specs.List.{All, filter, list_any, range_with_len}
-use Rattle.std.proofs.lemmas.Bool.{cases_Bool, cases_lt, cases_eq, and_left, or_from, or_parts, le-leb, lt-leb, lt-ltb, le-ltb, eq-eqb, ne_eqb, or_left}
-use Rattle.std.proofs.lemmas.Bool.{or_right}
-use Rattle.std.proofs.lemmas.List.{append-nil, take_more, take_all, take-set-le}
-use Rattle.std.proofs.lemmas.List.Elements.{All-filter, All-weaker, filter-append, filter_agree}
+use Rattle.std.specs.List.Sorted.{IsNonDecreasingBy, IsBinarySearchResult, IsPermutation}
+use Rattle.std.specs.Result.{is_ok}
+use Rattle.std.proofs.lemmas.Bool.{cases_Bool, cases_lt, cases_eq, or_from, le-leb, lt-leb, lt-ltb, eq-eqb, ne_eqb, eqb-true, or_left, or_right}
+use Rattle.std.proofs.lemmas.List.{append-nil, take_more, take_all, get_or-take, length-take}
+use Rattle.std.proofs.lemmas.List.Elements.{All-nil, All-cons, All-head, All-tail, All-filter, All-from_get_or, All-weaker, filter-append, filter_agree}
+use Rattle.std.proofs.lemmas.List.Folds.{list_any_more, list_any_at, list_any_none, list_any-append}
+use Rattle.std.proofs.lemmas.List.FromFn.{length-range_with_len, get_or-range_with_len}
+use Rattle.std.proofs.lemmas.List.Kept.{IsNonDecreasingBy-filter}
+use Rattle.std.proofs.lemmas.List.Sorted.{list_any-IsPermutation, searched}
+use Rattle.std.proofs.lemmas.Map.Views.{any-filter_same}
 use Rattle.snippet_parts.proofs.PartLemmas.{All-range}
-use Rattle.std.proofs.lemmas.List.Folds.{list_any_more}
-use Rattle.snippet_model.specs.declared.snippet.Annotation.{Annotation}
 use Rattle.snippet_parts.specs.declared.kept.Stretch.{Stretch}
-use Rattle.snippet_parts.specs.Mark.{is_marking, touches}
-use Rattle.snippet_parts.specs.Least.{greatest}
-use Rattle.snippet_parts.specs.Stretches.{holds_line, is_covered, is_seen}
-use Rattle.snippet_parts.proofs.LeastLemmas.{greatest-push}
-use Rattle.snippet_parts.proofs.RawDepthLemmas.{greatest-cons}
-use Rattle.snippet_parts.proofs.ShownLemmas.{range-more}
-
--- ---- how far stretches reach
-
-reach-below : (xs : List ℕ) (f n v : ℕ) → f < length xs → f < n → get_or xs f 0 ≤ v → greatest (take n (set xs f v)) ≡ max (greatest (take n xs)) v
-reach-below [] f n v within below more = absurd (omega arith)
-reach-below (x ∷ xs) f zero v within below more = absurd (omega arith)
-reach-below (x ∷ xs) zero (suc n) v within below more = omega (arith, greatest-cons x (take n xs), greatest-cons v (take n xs))
-reach-below (x ∷ xs) (suc f) (suc n) v within below more =
-    let h : greatest (take n (set xs f v)) ≡ max (greatest (take n xs)) v = reach-below xs f n v (omega arith) (omega arith) more in
-    omega (arith, h, greatest-cons x (take n (set xs f v)), greatest-cons x (take n xs))
-
--- a stretch that is noted covers its lines
-pub covered-set : (reach : List ℕ) (s : Stretch) (k v : ℕ) → s.first < length reach → v ≡ max (get_or reach s.first 0) (s.last + 1)
-    → is_covered (set reach s.first v) k ≡ (is_covered reach k || holds_line s k)
-covered-set reach s k v within is =
-    elim (cases_lt k s.first) [
-      | inl before ↦
-          ap (λ xs. ltb k (greatest xs)) (take-set-le (k + 1) reach s.first v (omega arith))
-          ∙ sym (ap (λ b. is_covered reach k || (b && leb k s.last)) (lt-leb s.first k before) ∙ plain (is_covered reach k))
-      | inr after ↦
-          ap (λ n. ltb k n) (reach-below reach s.first (k + 1) v within (omega arith) (omega arith) ∙ old after)
-          ∙ both (greatest (take (k + 1) reach)) k s.last ∙ sym (ap (λ b. is_covered reach k || (b && leb k s.last)) (le-leb s.first k after))
-    ]
-  where
-    plain : (b : Bool) → (b || false) ≡ b
-    plain true = refl
-    plain false = refl
-
-    at_most : (xs : List ℕ) (f n : ℕ) → f < length xs → f < n → get_or xs f 0 ≤ greatest (take n xs)
-    at_most [] f n a b = absurd (omega arith)
-    at_most (x ∷ xs) f zero a b = absurd (omega arith)
-    at_most (x ∷ xs) zero (suc n) a b = omega (arith, greatest-cons x (take n xs))
-    at_most (x ∷ xs) (suc f) (suc n) a b = omega (arith, at_most xs f n (omega arith) (omega arith), greatest-cons x (take n xs))
-
-    old : s.first ≤ k → max (greatest (take (k + 1) reach)) v ≡ max (greatest (take (k + 1) reach)) (s.last + 1)
-    old after = omega (arith, at_most reach s.first (k + 1) within (omega arith))
-
-    both : (a k l : ℕ) → ltb k (max a (l + 1)) ≡ (ltb k a || leb k l)
-    both a k l =
-        elim (cases_lt k a) [
-          | inl in-a ↦ lt-ltb k (max a (l + 1)) (omega arith) ∙ sym (or_left (ltb k a) (leb k l) (lt-ltb k a in-a))
-          | inr past ↦ elim (cases_lt l k) [
-            | inl out ↦ le-ltb k (max a (l + 1)) (omega arith) ∙ sym (or_from (ltb k a) (leb k l) (le-ltb k a past) (lt-leb k l out))
-            | inr in-l ↦ lt-ltb k (max a (l + 1)) (omega arith) ∙ sym (or_right (ltb k a) (leb k l) (le-leb k l in-l))
-          ]
-        ]
-
--- the greatest of one number more is the greater of that one and the greatest so far
-pub greatest-more : (xs : List ℕ) (i d : ℕ) → i < length xs → greatest (take (i + 1) xs) ≡ max (greatest (take i xs)) (get_or xs i d)
-greatest-more xs i d within = ap greatest (take_more xs i d within) ∙ greatest-push (take i xs) (get_or xs i d)
-
-greatest-zeros : (n : ℕ) → greatest (replicate n 0) ≡ 0
-greatest-zeros zero = refl
-greatest-zeros (suc n) = omega (arith, greatest-zeros n, greatest-cons 0 (replicate n 0))
-
-take-zeros : (m n : ℕ) → greatest (take m (replicate n 0)) ≡ 0
-take-zeros zero n = refl
-take-zeros (suc m) zero = refl
-take-zeros (suc m) (suc n) = omega (arith, take-zeros m n, greatest-cons 0 (take m (replicate n 0)))
-
--- no line is covered where nothing reaches past one
-pub covered-none : (reach : List ℕ) (n k : ℕ) → reach ≡ replicate n 0 → is_covered reach k ≡ false
-covered-none reach n k is = le-ltb k (greatest (take (k + 1) reach)) (omega (arith, ap (λ xs. greatest (take (k + 1) xs)) is, take-zeros (k + 1) n))
-
--- two tests that agree on lines
-pub map-range-agree : {X : Type 0} (f g : ℕ → X) (from n : ℕ) → ((k : ℕ) → f k ≡ g k) → map f (range_with_len from n) ≡ map g (range_with_len from n)
-map-range-agree f g from zero same = refl
-map-range-agree f g from (suc n) same = let h = same from in let t = map-range-agree f g (from + 1) n same in ap (λ x.
-    x ∷ map f (range_with_len (from + 1) n)) h ∙ ap (λ xs. g from ∷ xs) t
+use Rattle.snippet_parts.specs.Stretches.{holds_line, is_held}
 
 -- ---- which lines a span keeps
 
@@ -207,62 +137,250 @@ last_bar-is l k m trivial closing b some is one none' next =
 pub last_bar-apart : (l k m : ℕ) (trivial : ℕ → Bool) → (k + 1 ≡ l → ⊥) → (eqb (k + 1) l && ltb m k && not (trivial k)) ≡ false
 last_bar-apart l k m trivial apart = ap (λ z. z && ltb m k && not (trivial k)) (ne_eqb (k + 1) l apart)
 
--- the order in which three tests are joined doesn't matter
-pub or-assoc : (a b c : Bool) → (a || b || c) ≡ (a || (b || c))
-or-assoc true b c = refl
-or-assoc false b c = refl
+-- ---- ranges, of which a test keeps some numbers
 
--- one more span
-pub covered-more : {A : Type 0} (p : ℕ → A → Bool) (marks : List A) (i : ℕ) (d : A) (before after : List ℕ) → i < length marks
-    → ((k : ℕ) → is_covered after k ≡ (is_covered before k || p k (get_or marks i d)))
-    → ((k : ℕ) → is_covered before k ≡ list_any (p k) (take i marks)) → (k : ℕ) → is_covered after k ≡ list_any (p k) (take (i + 1) marks)
-covered-more p marks i d before after within more so_far k = more k ∙ ap (λ b. b || p k (get_or marks i d)) (so_far k)
-    ∙ sym (list_any_more (p k) marks i d within)
+range-split : (a m n : ℕ) → range_with_len a (m + n) ≡ range_with_len a m ++ range_with_len (a + m) n
+range-split a zero n =
+    let none : 0 + n ≡ n = omega arith in
+    let same : a ≡ a + 0 = omega arith in ap (range_with_len a) none ∙ ap (λ b. range_with_len b n) same
+range-split a (suc m) n =
+    let more : suc m + n ≡ suc (m + n) = omega arith in
+    let same : (a + 1) + m ≡ a + suc m = omega arith in
+    ap (range_with_len a) more ∙ ap (λ ks. a ∷ ks) (range-split (a + 1) m n ∙ ap (λ b. range_with_len (a + 1) m ++ range_with_len b n) same)
 
--- all spans
-pub covered-all : {A : Type 0} (p : ℕ → A → Bool) (marks : List A) (i n : ℕ) (reach : List ℕ) (lent : List ℕ) → length marks ≤ i
-    → length reach ≡ n → lent ≡ reach → ((k : ℕ) → is_covered reach k ≡ list_any (p k) (take i marks))
-    → map (is_covered lent) (range_with_len 0 (length lent)) ≡ map (λ k. list_any (p k) marks) (range_with_len 0 n)
-covered-all p marks i n reach lent all len is so_far =
-    ap (λ xs. map (is_covered xs) (range_with_len 0 (length xs))) is ∙ ap (λ m. map (is_covered reach) (range_with_len 0 m)) len
-    ∙ map-range-agree (is_covered reach) (λ k. list_any (p k) marks) 0 n (λ k. so_far k ∙ ap (list_any (p k)) (take_all i marks all))
+lines-split : (m n : ℕ) → range_with_len 0 (m + n) ≡ range_with_len 0 m ++ range_with_len m n
+lines-split m n =
+    let same : 0 + m ≡ m = omega arith in range-split 0 m n ∙ ap (λ b. range_with_len 0 m ++ range_with_len b n) same
 
--- where all spans are marked, none that isn't touches a line
-pub unseen : (text : List ℕ) (k : ℕ) (marks : List Annotation) → list_any (λ (a : Annotation). not (is_marking a.kind)) marks ≡ false
-    → list_any (is_seen text k) marks ≡ false
-unseen text k [] none = refl
-unseen text k (a ∷ marks) none =
-    let parts = or_parts (not (is_marking a.kind)) (list_any (λ (b : Annotation). not (is_marking b.kind)) marks) none in
-    or_from (is_seen text k a) (list_any (is_seen text k) marks) (and_left (not (is_marking a.kind)) (touches text a k) parts.0) (unseen text k marks parts.1)
+range-agree : (p q : ℕ → Bool) (a n : ℕ) → ((k : ℕ) → a ≤ k → k < a + n → p k ≡ q k) → filter p (range_with_len a n) ≡ filter q (range_with_len a n)
+range-agree p q a zero same = refl
+range-agree p q a (suc n) same =
+    ap (λ b. cond b (a ∷ filter p (range_with_len (a + 1) n)) (filter p (range_with_len (a + 1) n))) (same a (omega arith) (omega arith))
+    ∙ ap (λ ks. cond (q a) (a ∷ ks) ks) (range-agree p q (a + 1) n (λ k from to. same k (omega arith) (omega arith)))
 
--- ---- the lines that are kept, in order
+filter-true : (ks : List ℕ) → filter (λ k. true) ks ≡ ks
+filter-true [] = refl
+filter-true (k ∷ ks) = ap (λ js. k ∷ js) (filter-true ks)
 
-filter-more : (p : ℕ → Bool) (i : ℕ) → filter p (range_with_len 0 (i + 1)) ≡ filter p (range_with_len 0 i) ++ cond (p i) (i ∷ []) []
-filter-more p i = ap (filter p) (range-more i) ∙ filter-append p (range_with_len 0 i) (i ∷ [])
+filter-false : (ks : List ℕ) → filter (λ k. false) ks ≡ []
+filter-false [] = refl
+filter-false (k ∷ ks) = filter-false ks
 
--- one more line that passes a test, and one that doesn't
-pub line_kept : (p : ℕ → Bool) (i : ℕ) (now new : List ℕ) → p i ≡ true → new ≡ now ++ i ∷ [] → now ≡ filter p (range_with_len 0 i)
-    → new ≡ filter p (range_with_len 0 (i + 1))
-line_kept p i now new passes pushed before =
-    pushed ∙ ap (λ ks. ks ++ i ∷ []) before ∙ sym (filter-more p i ∙ ap (λ b. filter p (range_with_len 0 i) ++ cond b (i ∷ []) []) passes)
+range-all : (p : ℕ → Bool) (a n : ℕ) → ((k : ℕ) → a ≤ k → k < a + n → p k ≡ true) → filter p (range_with_len a n) ≡ range_with_len a n
+range-all p a n all = range-agree p (λ k. true) a n all ∙ filter-true (range_with_len a n)
 
--- a line that doesn't pass leaves the list as it is
-pub line-left : (p : ℕ → Bool) (i : ℕ) (now : List ℕ) → p i ≡ false → now ≡ filter p (range_with_len 0 i) → now ≡ filter p (range_with_len 0 (i + 1))
-line-left p i now fails before =
-    before ∙ sym (filter-more p i ∙ ap (λ b. filter p (range_with_len 0 i) ++ cond b (i ∷ []) []) fails ∙ append-nil (filter p (range_with_len 0 i)))
+range-none : (p : ℕ → Bool) (a n : ℕ) → ((k : ℕ) → a ≤ k → k < a + n → p k ≡ false) → filter p (range_with_len a n) ≡ []
+range-none p a n none = range-agree p (λ k. false) a n none ∙ filter-false (range_with_len a n)
+
+-- a range in three parts, of which a test keeps what another one keeps of the first, nothing of the second, and all of the third
+range-parts : (p q : ℕ → Bool) (a b c : ℕ) → a ≤ b → b ≤ c → ((k : ℕ) → k < a → q k ≡ p k) → ((k : ℕ) → a ≤ k → k < b → q k ≡ false)
+    → ((k : ℕ) → b ≤ k → k < c → q k ≡ true) → filter q (range_with_len 0 c) ≡ filter p (range_with_len 0 a) ++ range_with_len b (c - b)
+range-parts p q a b c ab bc first second third =
+    let all : c ≡ a + ((b - a) + (c - b)) = omega arith in
+    ap (λ n. filter q (range_with_len 0 n)) all ∙ ap (filter q) (lines-split a ((b - a) + (c - b)))
+    ∙ filter-append q (range_with_len 0 a) (range_with_len a ((b - a) + (c - b)))
+    ∙ ap (λ ks. ks ++ filter q (range_with_len a ((b - a) + (c - b)))) (range-agree q p 0 a (λ k from to. first k (omega arith)))
+    ∙ ap (λ ks. filter p (range_with_len 0 a) ++ ks) rest
+  where
+    rest : filter q (range_with_len a ((b - a) + (c - b))) ≡ range_with_len b (c - b)
+    rest =
+        let at : a + (b - a) ≡ b = omega arith in
+        ap (filter q) (range-split a (b - a) (c - b)) ∙ filter-append q (range_with_len a (b - a)) (range_with_len (a + (b - a)) (c - b))
+        ∙ ap (λ ks. ks ++ filter q (range_with_len (a + (b - a)) (c - b))) (range-none q a (b - a) (λ k from to. second k from (omega arith)))
+        ∙ ap (λ n. filter q (range_with_len n (c - b))) at ∙ range-all q b (c - b) (λ k from to. third k from (omega arith))
+
+-- ---- the lines that stretches hold
+
+-- some stretches are merged up to a line: these are the lines above it that they hold, none from it on is held, and all
+-- are held from the last of their first lines on
+pub record IsMerged (stretches : List Stretch) (count next : ℕ) (ks : List ℕ) : Type 0 where
+  pub lines : ks ≡ filter (is_held stretches) (range_with_len 0 next)
+  pub within : next ≤ count
+  pub above : (k : ℕ) → next ≤ k → k < count → is_held stretches k ≡ false
+  pub filled : (m k : ℕ) → All (λ (s : Stretch). s.first ≤ m) stretches → m ≤ k → k < next → is_held stretches k ≡ true
+
+holds : (s : Stretch) (k : ℕ) → s.first ≤ k → k ≤ s.last → holds_line s k ≡ true
+holds s k from to = ap (λ b. b && leb k s.last) (le-leb s.first k from) ∙ le-leb k s.last to
+
+holds-not_above : (s : Stretch) (k : ℕ) → k < s.first → holds_line s k ≡ false
+holds-not_above s k before = ap (λ b. b && leb k s.last) (lt-leb s.first k before)
+
+holds-not_below : (s : Stretch) (k : ℕ) → s.last < k → holds_line s k ≡ false
+holds-not_below s k after = ap (λ b. leb s.first k && b) (lt-leb k s.last after) ∙ and-false (leb s.first k)
+  where
+    and-false : (b : Bool) → (b && false) ≡ false
+    and-false true = refl
+    and-false false = refl
+
+unpushed : {X : Type 0} (P : X → Type 0) (xs : List X) (y : X) → All P (xs ++ y ∷ []) → All P xs × P y
+unpushed P [] y all = (All-nil P, All-head P y [] all)
+unpushed P (x ∷ xs) y all =
+    let rest = unpushed P xs y (All-tail P x (xs ++ y ∷ []) all) in (All-cons P x xs (All-head P x (xs ++ y ∷ []) all) rest.0, rest.1)
+
+-- one more stretch, which starts no earlier than those so far: of its lines those that aren't there yet come after them
+merged-more : (stretches : List Stretch) (count i : ℕ) (s d : Stretch) (next from to : ℕ) (now new : List ℕ) → i < length stretches
+    → s ≡ get_or stretches i d → IsNonDecreasingBy (λ (t : Stretch). t.first) stretches → IsMerged (take i stretches) count next now
+    → from ≡ min (max next s.first) count → to ≡ max (min (s.last + 1) count) from → new ≡ now ++ range_with_len from (to - from)
+    → IsMerged (take (i + 1) stretches) count to new
+merged-more stretches count i s d next from to now new among at sorted before from-is to-is pushed =
+    let ordered : from ≤ to = omega arith in
+    let reached : next ≤ from = omega (arith, before.within) in record {
+      lines = pushed ∙ ap (λ ks. ks ++ range_with_len from (to - from)) before.lines ∙ sym (range-parts old held next from to reached ordered
+          first (λ k a b. more k ∙ or_from (old k) (holds_line s k) (before.above k a (omega arith)) (holds-not_above s k (omega arith)))
+          (λ k a b. more k ∙ or_right (old k) (holds_line s k) (holds s k (omega arith) (omega arith))));
+      within = omega arith;
+      above = λ k a b. more k ∙ or_from (old k) (holds_line s k) (before.above k (omega arith) b) (holds-not_below s k (omega arith));
+      filled = filled;
+    }
+  where
+    old : ℕ → Bool
+    old = is_held (take i stretches)
+
+    held : ℕ → Bool
+    held = is_held (take (i + 1) stretches)
+
+    more : (k : ℕ) → held k ≡ (old k || holds_line s k)
+    more k = list_any_more (λ (t : Stretch). holds_line t k) stretches i d among ∙ ap (λ (t : Stretch). old k || holds_line t k) (sym at)
+
+    upto : All (λ (t : Stretch). t.first ≤ s.first) (take i stretches)
+    upto = All-from_get_or (λ (t : Stretch). t.first ≤ s.first) (take i stretches) d (λ j within.
+        omega (
+          arith,
+          ap (λ (t : Stretch). t.first) (get_or-take i stretches j d (omega (arith, length-take i stretches))),
+          sorted j i d (omega (arith, length-take i stretches)) among,
+          ap (λ (t : Stretch). t.first) at,
+        ))
+
+    or-false : (b : Bool) → (b || false) ≡ b
+    or-false true = refl
+    or-false false = refl
+
+    first : (k : ℕ) → k < next → held k ≡ old k
+    first k below =
+        elim (cases_lt k s.first) [
+          | inl above ↦ more k ∙ ap (λ b. old k || b) (holds-not_above s k above) ∙ or-false (old k)
+          | inr from ↦ let there = before.filled s.first k upto from below in more k ∙ or_left (old k) (holds_line s k) there ∙ sym there
+        ]
+
+    filled : (m k : ℕ) → All (λ (t : Stretch). t.first ≤ m) (take (i + 1) stretches) → m ≤ k → k < to → held k ≡ true
+    filled m k all a b =
+        let parts = unpushed (λ (t : Stretch). t.first ≤ m) (take i stretches) (get_or stretches i d)
+        (subst (All (λ (t : Stretch). t.first ≤ m)) (take_more stretches i d among) all) in
+        let low : s.first ≤ m = omega (arith, parts.1, ap (λ (t : Stretch). t.first) at) in
+        elim (cases_lt k next) [
+          | inl below ↦ more k ∙ or_left (old k) (holds_line s k) (before.filled m k parts.0 a below)
+          | inr past ↦ more k ∙ or_right (old k) (holds_line s k) (holds s k (omega arith) (omega arith))
+        ]
+
+-- the same as it is computed
+pub merged-step : (stretches : List Stretch) (count i : ℕ) (d : Stretch) (next start from after cut to : ℕ) (now new : List ℕ) → i < length stretches
+    → IsNonDecreasingBy (λ (t : Stretch). t.first) stretches → IsMerged (take i stretches) count next now
+    → start ≡ max (get_or stretches i d).first next → from ≡ min start count → after ≡ min ((get_or stretches i d).last + 1) (2 ^ 64 - 1)
+    → cut ≡ min after count → to ≡ max cut from → count < 2 ^ 64 → new ≡ now ++ range_with_len from (to - from)
+    → IsMerged (take (i + 1) stretches) count to new
+merged-step stretches count i d next start from after cut to now new among sorted before start-is from-is after-is cut-is to-is fits pushed =
+    merged-more stretches count i (get_or stretches i d) d next from to now new among refl sorted before (omega arith) (omega arith) pushed
+
+-- all stretches
+pub merged-all : (stretches : List Stretch) (count i next : ℕ) (lines : List ℕ) → length stretches ≤ i → IsMerged (take i stretches) count next lines
+    → lines ≡ filter (is_held stretches) (range_with_len 0 count)
+merged-all stretches count i next lines all merged =
+    let are : take i stretches ≡ stretches = take_all i stretches all in
+    let upto : count ≡ next + (count - next) = omega (arith, merged.within) in
+    merged.lines ∙ ap (λ ss. filter (is_held ss) (range_with_len 0 next)) are
+    ∙ sym (ap (λ n. filter (is_held stretches) (range_with_len 0 n)) upto ∙ ap (filter (is_held stretches)) (lines-split next (count - next))
+    ∙ filter-append (is_held stretches) (range_with_len 0 next) (range_with_len next (count - next))
+    ∙ ap (λ ks. filter (is_held stretches) (range_with_len 0 next) ++ ks) (range-none (is_held stretches) next (count - next)
+    (λ k from to. sym (ap (λ ss. is_held ss k) are) ∙ merged.above k from (omega (arith, merged.within))))
+    ∙ append-nil (filter (is_held stretches) (range_with_len 0 next)))
+
+-- the order of stretches doesn't matter
+pub held-permuted : (stretches sorted : List Stretch) (count : ℕ) → IsPermutation stretches sorted
+    → filter (is_held sorted) (range_with_len 0 count) ≡ filter (is_held stretches) (range_with_len 0 count)
+held-permuted stretches sorted count same =
+    filter_agree (is_held sorted) (is_held stretches) (λ k. sym (list_any-IsPermutation (λ (s : Stretch). holds_line s k) stretches sorted same))
+    (range_with_len 0 count)
+
+-- one more stretch
+pub held-push : (stretches : List Stretch) (s : Stretch) (k : ℕ) → is_held (stretches ++ s ∷ []) k ≡ (is_held stretches k || holds_line s k)
+held-push stretches s k =
+    list_any-append (λ (t : Stretch). holds_line t k) stretches (s ∷ []) ∙ ap (λ b. is_held stretches k || b) (or-false (holds_line s k))
+  where
+    or-false : (b : Bool) → (b || false) ≡ b
+    or-false true = refl
+    or-false false = refl
+
+-- the two stretches of one more span
+pub held-two : {A : Type 0} (p : ℕ → A → Bool) (spans : List A) (i : ℕ) (x : A) (old mid new : List Stretch) (s t : Stretch) → i < length spans
+    → mid ≡ old ++ s ∷ [] → new ≡ mid ++ t ∷ [] → ((k : ℕ) → (holds_line s k || holds_line t k) ≡ p k (get_or spans i x))
+    → ((k : ℕ) → is_held old k ≡ list_any (p k) (take i spans)) → (k : ℕ) → is_held new k ≡ list_any (p k) (take (i + 1) spans)
+held-two p spans i x old mid new s t within first second are so_far k =
+    ap (λ ss. is_held ss k) second ∙ held-push mid t k ∙ ap (λ ss. is_held ss k || holds_line t k) first
+    ∙ ap (λ b. b || holds_line t k) (held-push old s k) ∙ or-assoc (is_held old k) (holds_line s k) (holds_line t k)
+    ∙ ap (λ b. is_held old k || b) (are k) ∙ ap (λ b. b || p k (get_or spans i x)) (so_far k) ∙ sym (list_any_more (p k) spans i x within)
+  where
+    or-assoc : (a b c : Bool) → (a || b || c) ≡ (a || (b || c))
+    or-assoc true b c = refl
+    or-assoc false b c = refl
 
 -- with all spans
-pub kept-all : {A : Type 0} (p : ℕ → A → Bool) (marks : List A) (fold : Bool) (i n : ℕ) (reach lent : List ℕ) → length marks ≤ i
-    → length reach ≡ n → lent ≡ reach → ((k : ℕ) → is_covered reach k ≡ list_any (p k) (take i marks))
-    → filter (λ k. not fold || is_covered lent k) (range_with_len 0 (length lent)) ≡ filter (λ k. not fold || list_any (p k) marks)
-    (range_with_len 0 n)
-kept-all p marks fold i n reach lent all len is so_far =
-    ap (λ xs. filter (λ k. not fold || is_covered xs k) (range_with_len 0 (length xs))) is
-    ∙ ap (λ m. filter (λ k. not fold || is_covered reach k) (range_with_len 0 m)) len
-    ∙ filter_agree (λ k. not fold || is_covered reach k) (λ k. not fold || list_any (p k) marks)
-    (λ k. ap (λ b. not fold || b) (so_far k ∙ ap (list_any (p k)) (take_all i marks all))) (range_with_len 0 n)
+pub held-all : {A : Type 0} (p : ℕ → A → Bool) (q : ℕ → Bool) (spans : List A) (i count : ℕ) (stretches : List Stretch) → length spans ≤ i
+    → ((k : ℕ) → is_held stretches k ≡ list_any (p k) (take i spans)) → ((k : ℕ) → list_any (p k) spans ≡ q k)
+    → filter (is_held stretches) (range_with_len 0 count) ≡ filter q (range_with_len 0 count)
+held-all p q spans i count stretches all so_far are =
+    filter_agree (is_held stretches) q (λ k. so_far k ∙ ap (list_any (p k)) (take_all i spans all) ∙ are k) (range_with_len 0 count)
+
+-- one more line
+pub range-pushed : (from line : ℕ) → from ≤ line → range_with_len from (line + 1 - from) ≡ range_with_len from (line - from) ++ line ∷ []
+range-pushed from line le =
+    let one : line + 1 - from ≡ (line - from) + 1 = omega arith in
+    let at : from + (line - from) ≡ line = omega arith in
+    ap (range_with_len from) one ∙ range-split from (line - from) 1 ∙ ap (λ n. range_with_len from (line - from) ++ n ∷ []) at
+
+-- ---- lines in order
+
+range-ascends : (a n : ℕ) → IsNonDecreasingBy (λ (k : ℕ). k) (range_with_len a n)
+range-ascends a n i j d le within =
+    let len = length-range_with_len a n in
+    omega (arith, le, len, within, get_or-range_with_len a n i d (omega arith), get_or-range_with_len a n j d (omega arith))
+
+-- lines that pass a test ascend
+pub kept-ascend : (p : ℕ → Bool) (n : ℕ) → IsNonDecreasingBy (λ (k : ℕ). k) (filter p (range_with_len 0 n))
+kept-ascend p n = IsNonDecreasingBy-filter (λ (k : ℕ). k) p (range_with_len 0 n) (range-ascends 0 n)
+
+-- a line is among those that pass a test if it passes
+pub among-kept : (p : ℕ → Bool) (n k : ℕ) → k < n → list_any (λ j. eqb j k) (filter p (range_with_len 0 n)) ≡ p k
+among-kept p n k within =
+    any-filter_same (λ j. eqb j k) p (p k) (λ j same. ap p (eqb-true j k same)) (range_with_len 0 n)
+    ∙ ap (λ b. p k && b) (list_any_at (λ j. eqb j k) (range_with_len 0 n) k 0 (omega (arith, length-range_with_len 0 n))
+    (eq-eqb (get_or (range_with_len 0 n) k 0) k (omega (arith, get_or-range_with_len 0 n k 0 within)))) ∙ and-true (p k)
+  where
+    and-true : (b : Bool) → (b && true) ≡ b
+    and-true true = refl
+    and-true false = refl
+
+-- what is found by halves is among lines in order
+pub among-found : (ks : List ℕ) (k : ℕ) (r : Result ℕ ℕ) → IsBinarySearchResult (λ y. nat_cmp y k) ks r → IsNonDecreasingBy (λ (j : ℕ). j) ks
+    → is_ok r ≡ list_any (λ j. eqb j k) ks
+among-found ks k (Ok i) found up =
+    let at = searched ks k (Ok i) found (λ a b le lt. up a b 0 le lt) in
+    sym (list_any_at (λ j. eqb j k) ks i 0 at.0 (eq-eqb (get_or ks i 0) k at.1))
+among-found ks k (Err i) found up =
+    let at = searched ks k (Err i) found (λ a b le lt. up a b 0 le lt) in
+    sym (list_any_none (λ j. eqb j k) ks (All-from_get_or (λ j. eqb j k ≡ false) ks 0 (λ j within. ne_eqb (get_or ks j 0) k
+    (λ same. elim (cases_lt j i) [
+      | inl below ↦ omega (arith, same, at.1 j below)
+      | inr from ↦ omega (arith, same, at.2 j from within)
+    ]))))
 
 -- each line that is kept is one of the lines
 pub kept-within : (p : ℕ → Bool) (n : ℕ) → All (λ k. k < n) (filter p (range_with_len 0 n))
 kept-within p n = All-filter p (λ k. k < n) (range_with_len 0 n)
     (All-weaker (λ k. (0 ≤ k) × (k < 0 + n)) (λ k. k < n) (λ k within. omega (arith, within.1)) (range_with_len 0 n) (All-range 0 n))
+
+-- all lines pass a test that each passes
+pub all-kept : (p : ℕ → Bool) (n count : ℕ) (none new : List ℕ) → ((k : ℕ) → p k ≡ true) → count ≡ n → none ≡ []
+    → new ≡ none ++ range_with_len 0 (count - 0) → new ≡ filter p (range_with_len 0 n)
+all-kept p n count none new all are empty pushed =
+    let same : count - 0 ≡ n = omega arith in
+    pushed ∙ ap (λ ks. ks ++ range_with_len 0 (count - 0)) empty ∙ ap (range_with_len 0) same ∙ sym (range-all p 0 n (λ k from to. all k))

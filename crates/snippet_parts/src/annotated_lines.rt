@@ -1,5 +1,5 @@
 //! The lines of a snippet that are kept, each with its entries.
-ghost use Rattle.std.specs.Prelude.{◌≡◌, ℕ, ◌+◌, ◌-◌, ◌<◌, ◌≤◌, ◌==◌, take, drop, false, slice_index_or, All, length};
+ghost use Rattle.std.specs.Prelude.{◌≡◌, ℕ, ◌+◌, ◌-◌, ◌<◌, ◌≤◌, ◌==◌, take, drop, All, length};
 ghost use Rattle.std.specs.Prelude.{map, filter, IfOk};
 ghost use Rattle.std.specs.List.Sorted.{IsNonDecreasingBy};
 ghost use Rattle.snippet_parts.specs.Annotated as spec;
@@ -9,7 +9,7 @@ ghost use Rattle.snippet_lines.specs.Span.{IsSpan};
 ghost use Rattle.snippet_parts.specs.Located.{IsLocated, annotations_of};
 
 use crate::entries::{AnnotatedLineInfo, LineAnnotation};
-use crate::kept::{kept_lines, seen};
+use crate::kept::{is_among, kept_lines, seen_lines};
 use crate::located::{LocatedSpan, located_spans};
 use crate::made_entries::made_entries;
 use crate::source_map::SourceMap;
@@ -48,23 +48,13 @@ fn located_lines<'a>(
 {
     let (greatest, entries) = sorted_entries(alloc, source, located)?;
     let kept = kept_lines(alloc, source, located, fold)?;
-    let keep = seen(alloc, source, located)?;
+    let seen = seen_lines(alloc, source, located)?;
     let mut lines = Vec::with_capacity(alloc, kept.len())?;
     for line in &kept {
         let index = *line;
-        lines.push(annotated_line(alloc, source, index, flag_at(&keep, index), &entries)?)?;
+        lines.push(annotated_line(alloc, source, index, is_among(&seen, index), &entries)?)?;
     }
     Ok((greatest, lines))
-}
-
-/// The flag of line `index`, which is not set where the line has none.
-fn flag_at(flags: &[bool], index: usize) -> bool
-    ensures value { result ≡ slice_index_or flags.now index false }
-{
-    match flags.get(index) {
-        Some(flag) => *flag,
-        None => false,
-    }
 }
 
 /// The greatest depth, and all entries in the order of their lines.

@@ -1,19 +1,19 @@
 //! Which lines of a snippet are kept. Lines count from 0.
-ghost use Rattle.std.specs.Prelude.{◌≡◌, ℕ, ◌+◌, ◌<◌, ◌≤◌, ◌||◌, nat_lt, false, not, slice_index_or, All, filter};
-ghost use Rattle.std.specs.Prelude.{length, map, max, IfOk};
+ghost use Rattle.std.specs.Prelude.{◌≡◌, ℕ, ◌++◌, ◌-◌, ◌<◌, ◌≤◌, ◌==◌, ◌||◌, true, false, All, List, filter, length, IfOk, OnOk};
 ghost use Rattle.std.specs.List.{list_any, range_with_len};
+ghost use Rattle.std.specs.List.Sorted.{IsNonDecreasingBy};
 ghost use Rattle.snippet_parts.specs.Kept as kept;
 ghost use Rattle.snippet_parts.specs.Kept.{keeps};
-ghost use Rattle.snippet_parts.specs.Mark as spec;
 ghost use Rattle.snippet_lines.specs.Lines.{source_lines};
 ghost use Rattle.snippet_parts.specs.Marked.{first_line, last_line};
 ghost use Rattle.snippet_parts.specs.Located.{IsLocated, annotations_of};
-ghost use Rattle.snippet_parts.specs.Stretches.{holds_line, is_covered, is_seen};
+ghost use Rattle.snippet_parts.specs.Stretches.{holds_line, is_held, is_seen};
 
 use crate::bars::{bars_end, has_closing_bar};
 use crate::located::LocatedSpan;
 use crate::location::is_marking;
 use crate::source_map::SourceMap;
+use snippet_model::snippet::Annotation;
 use std::alloc::{AllocError, Global};
 
 /// Lines from the first to the last, both counted.
@@ -37,81 +37,77 @@ pub(crate) fn kept_lines(
         (annotations_of located.now)) }
     ensures within { IfOk result (λ lines. All (λ k. k < length (source_lines source.now.text)) lines.items) }
 {
-    let mut reach = vec![in alloc; 0; source.line_count()]?;
-    for span in located {
-        reach_over_kept(&mut reach, source, span);
-    }
-    covered_lines(alloc, &reach, fold)
-}
-
-/// Of each line of a source, whether a span that isn't marked touches it. Where all are marked, no line has a flag.
-///
-/// The one error is that memory ran out.
-pub(crate) fn seen(
-    alloc: Global,
-    source: &SourceMap<'_>,
-    located: &[LocatedSpan<'_>],
-) -> Result<Vec<bool>, AllocError>
-    requires located { All (IsLocated source.now) located.now }
-    ensures value { IfOk result (λ seen. (k : ℕ) → k < length (source_lines source.now.text)
-        → slice_index_or seen.items k false ≡ list_any (λ l. is_seen source.now.text k l.annotation.now) located.now) }
-{
-    if has_unmarked(located) {
-        touched_lines(alloc, source, located)
+    if fold {
+        folded_lines(alloc, source, located)
     } else {
-        Ok(Vec::new(alloc))
+        all_lines(alloc, source)
     }
 }
 
-/// Whether one of some spans isn't marked.
-fn has_unmarked(located: &[LocatedSpan<'_>]) -> bool
-    ensures value { result ≡ list_any (λ l. not (spec.is_marking l.annotation.now.kind)) located.now }
-{
-    located.iter().any(|span| !is_marking(span.annotation.kind))
-}
-
-/// Of each line of a source, whether a span that isn't marked touches it.
+/// All lines of a source, which are kept where lines aren't folded.
 ///
 /// The one error is that memory ran out.
-fn touched_lines(
+fn all_lines(alloc: Global, source: &SourceMap<'_>) -> Result<Vec<usize>, AllocError>
+    ensures value { IfOk result (λ lines. (marks : List Annotation)
+        → lines.items ≡ kept.kept_lines false source.now.text marks) }
+    ensures within { IfOk result (λ lines. All (λ k. k < length (source_lines source.now.text)) lines.items) }
+{
+    let count = source.line_count();
+    let mut lines = Vec::with_capacity(alloc, count)?;
+    push_lines(&mut lines, 0, count)?;
+    Ok(lines)
+}
+
+/// The lines that a span keeps, in order.
+///
+/// The one error is that memory ran out.
+fn folded_lines(
     alloc: Global,
     source: &SourceMap<'_>,
     located: &[LocatedSpan<'_>],
-) -> Result<Vec<bool>, AllocError>
+) -> Result<Vec<usize>, AllocError>
     requires located { All (IsLocated source.now) located.now }
-    ensures value { IfOk result (λ seen. seen.items ≡ map
+    ensures value { IfOk result (λ lines. lines.items ≡ kept.kept_lines true source.now.text
+        (annotations_of located.now)) }
+    ensures within { IfOk result (λ lines. All (λ k. k < length (source_lines source.now.text)) lines.items) }
+{
+    let mut stretches = Vec::with_capacity(alloc, located.len())?;
+    for span in located {
+        let (head, tail) = kept_stretches(source, span);
+        stretches.push(head)?;
+        stretches.push(tail)?;
+    }
+    held_lines(alloc, stretches, source.line_count())
+}
+
+/// The lines that spans touch which aren't marked, in order.
+///
+/// The one error is that memory ran out.
+pub(crate) fn seen_lines(
+    alloc: Global,
+    source: &SourceMap<'_>,
+    located: &[LocatedSpan<'_>],
+) -> Result<Vec<usize>, AllocError>
+    requires located { All (IsLocated source.now) located.now }
+    ensures value { IfOk result (λ lines. lines.items ≡ filter
         (λ k. list_any (λ l. is_seen source.now.text k l.annotation.now) located.now)
         (range_with_len 0 (length (source_lines source.now.text)))) }
 {
-    let mut reach = vec![in alloc; 0; source.line_count()]?;
+    let mut stretches = Vec::new(alloc);
     for span in located {
-        reach_over_seen(&mut reach, source, span);
+        if !is_marking(span.annotation.kind) {
+            stretches.push(touched(span))?;
+        }
     }
-    covered(alloc, &reach)
+    held_lines(alloc, stretches, source.line_count())
 }
 
-/// Reaches over the lines that a span keeps.
-fn reach_over_kept(reach: &mut [usize], source: &SourceMap<'_>, span: &LocatedSpan<'_>)
-    requires located { IsLocated source.now span.now }
-    requires lines { length reach.old ≡ length (source_lines source.now.text) }
-    ensures covered { (k : ℕ) → is_covered reach.new k ≡ (is_covered reach.old k
-        || keeps source.now.text k span.now.annotation.now) }
+/// Whether a line is one of some lines in order.
+pub(crate) fn is_among(lines: &[usize], line: usize) -> bool
+    requires ascending { IsNonDecreasingBy (λ k. k) lines.now }
+    ensures value { result ≡ list_any (λ k. k == line) lines.now }
 {
-    let (head, tail) = kept_stretches(source, span);
-    reach_over(reach, head);
-    reach_over(reach, tail);
-}
-
-/// Reaches over the lines of a span that isn't marked.
-fn reach_over_seen(reach: &mut [usize], source: &SourceMap<'_>, span: &LocatedSpan<'_>)
-    requires located { IsLocated source.now span.now }
-    requires lines { length reach.old ≡ length (source_lines source.now.text) }
-    ensures covered { (k : ℕ) → is_covered reach.new k ≡ (is_covered reach.old k
-        || is_seen source.now.text k span.now.annotation.now) }
-{
-    if !is_marking(span.annotation.kind) {
-        reach_over(reach, touched(span));
-    }
+    lines.binary_search(&line).is_ok()
 }
 
 /// The lines that a span keeps: those of its beginning, and those of its end.
@@ -151,48 +147,48 @@ fn touched(span: &LocatedSpan<'_>) -> Stretch
     }
 }
 
-/// Notes, at the first line of a stretch, that it reaches to its last.
-fn reach_over(reach: &mut [usize], stretch: Stretch)
-    requires first { stretch.first < length reach.old }
-    requires last { stretch.last < length reach.old }
-    ensures covered { (k : ℕ) → is_covered reach.new k ≡ (is_covered reach.old k || holds_line stretch k) }
+/// The lines of a source of `count` lines that one of some stretches holds, in order.
+///
+/// The one error is that memory ran out.
+fn held_lines(
+    alloc: Global,
+    mut stretches: Vec<Stretch>,
+    count: usize,
+) -> Result<Vec<usize>, AllocError>
+    ensures value { IfOk result (λ lines. lines.items
+        ≡ filter (is_held stretches.items) (range_with_len 0 count)) }
 {
-    reach[stretch.first] = reach[stretch.first].max(stretch.last + 1);
+    stretches.sort_by_key(|stretch| stretch.first)?;
+    merged_lines(alloc, &stretches, count)
 }
 
-/// The lines that are covered, in order, and where lines aren't folded the others too.
-fn covered_lines(alloc: Global, reach: &[usize], fold: bool) -> Result<Vec<usize>, AllocError>
+/// The same of stretches that are sorted by their first lines.
+fn merged_lines(
+    alloc: Global,
+    stretches: &[Stretch],
+    count: usize,
+) -> Result<Vec<usize>, AllocError>
+    requires sorted { IsNonDecreasingBy (λ s. s.first) stretches.now }
     ensures value { IfOk result (λ lines. lines.items
-        ≡ filter (λ k. not fold || is_covered reach.now k) (range_with_len 0 (length reach.now))) }
+        ≡ filter (is_held stretches.now) (range_with_len 0 count)) }
 {
     let mut lines = Vec::new(alloc);
-    let mut end = 0;
-    for line in 0..reach.len() {
-        end = reach[line].max(end);
-        if is_shown(fold, line, end) {
-            lines.push(line)?;
-        }
+    let mut next = 0;
+    for stretch in stretches {
+        let from = stretch.first.max(next).min(count);
+        next = stretch.last.saturating_add(1).min(count).max(from);
+        push_lines(&mut lines, from, next)?;
     }
     Ok(lines)
 }
 
-/// Whether a line is kept: where lines are folded, it stands before the line to which stretches from above reach.
-fn is_shown(fold: bool, line: usize, end: usize) -> bool
-    ensures value { result ≡ (not fold || nat_lt line end) }
+/// Adds the lines from one to before another.
+fn push_lines(lines: &mut Vec<usize>, from: usize, to: usize) -> Result<(), AllocError>
+    requires ordered { from ≤ to }
+    ensures value { OnOk result (lines.new.items ≡ lines.old.items ++ range_with_len from (to - from)) }
 {
-    !fold || line < end
-}
-
-/// Of each line, whether it is covered.
-fn covered(alloc: Global, reach: &[usize]) -> Result<Vec<bool>, AllocError>
-    ensures value { IfOk result (λ covered. covered.items
-        ≡ map (is_covered reach.now) (range_with_len 0 (length reach.now))) }
-{
-    let mut covered = Vec::new(alloc);
-    let mut end = 0;
-    for line in 0..reach.len() {
-        end = reach[line].max(end);
-        covered.push(line < end)?;
+    for line in from..to {
+        lines.push(line)?;
     }
-    Ok(covered)
+    Ok(())
 }

@@ -1,0 +1,35 @@
+use Rattle.std.proofs.Common.{◌≡◌, ◌<◌, ◌∷◌, [], ◌++◌, ◌||◌, ℕ, List, true, not, length, ap, subst, sym, take, ◌∙◌}
+use Rattle.std.specs.List.{All, filter, list_any, range_with_len}
+use Rattle.std.proofs.lemmas.Result.{IfOk-weaker}
+use Rattle.snippet_lines.specs.Lines.{source_lines}
+use Rattle.snippet_parts.specs.Kept.{keeps}
+use Rattle.snippet_parts.specs.Located.{annotations_of}
+use Rattle.snippet_parts.specs.declared.located.LocatedSpan.{LocatedSpan}
+use Rattle.snippet_parts.specs.Stretches.{holds_line, is_held}
+use Rattle.snippet_parts.proofs.PartLemmas.{list_any-map}
+use Rattle.snippet_parts.proofs.KeptLemmas.{held-all, held-two, kept-within}
+use Rattle.snippet_parts.proofs.kept.folded_lines.Goals as goal
+
+pub loop-span-preserved : goal.loop-span-preserved
+loop-span-preserved c k =
+    held-two (λ j (x : LocatedSpan). keeps c.args.source.now.text j x.annotation.now) c.args.located.now c.loop-span.span-index c.span-item.result
+    c.loop-span.stretches.items c.push.new.self.items c.push-in-loop-span.new.self.items c.kept_stretches.result.0 c.kept_stretches.result.1
+    c.loop-span-test.true c.in_ok-push.ensures.items c.in_ok-push-2.ensures.items
+    (λ j. c.kept_stretches.ensures.value j ∙ ap (λ (x : LocatedSpan). keeps c.args.source.now.text j x.annotation.now) c.span-item.is)
+    c.loop-span.invariant k
+
+pub returns : goal.returns
+returns c =
+    let text = c.args.source.now.text in
+    let marks = annotations_of c.args.located.now in
+    let count : ℕ = length (source_lines text) in
+    let are = λ (lines : List ℕ) (is : lines ≡ filter (is_held c.loop-span.stretches.items) (range_with_len 0 c.line_count.result)).
+    is ∙ ap (λ n. filter (is_held c.loop-span.stretches.items) (range_with_len 0 n)) c.line_count.ensures.value
+    ∙ held-all (λ k (x : LocatedSpan). keeps text k x.annotation.now) (λ k. not true || list_any (keeps text k) marks) c.args.located.now
+    c.loop-span.span-index count c.loop-span.stretches.items c.loop-span-test.false c.loop-span.invariant
+    (λ k. sym (list_any-map (keeps text k) (λ (x : LocatedSpan). x.annotation.now) c.args.located.now)) in
+    record {
+      value = IfOk-weaker c.held_lines.result _ _ (λ lines is. are lines.items is) c.held_lines.ensures.value;
+      within = IfOk-weaker c.held_lines.result _ _ (λ lines is. subst (All (λ k. k < count)) (sym (are lines.items is))
+          (kept-within (λ k. not true || list_any (keeps text k) marks) count)) c.held_lines.ensures.value;
+    }

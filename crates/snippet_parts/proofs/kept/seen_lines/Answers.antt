@@ -1,0 +1,20 @@
+use Rattle.std.proofs.Common.{◌≡◌, ℕ, length, ap, refl, ◌∙◌}
+use Rattle.std.specs.List.{filter, list_any, range_with_len}
+use Rattle.std.proofs.lemmas.Result.{IfOk-weaker}
+use Rattle.snippet_lines.specs.Lines.{source_lines}
+use Rattle.snippet_parts.specs.declared.located.LocatedSpan.{LocatedSpan}
+use Rattle.snippet_parts.specs.Stretches.{is_held, is_seen}
+use Rattle.snippet_parts.proofs.KeptLemmas.{held-all}
+use Rattle.snippet_parts.proofs.kept.seen_lines.Goals as goal
+
+pub returns : goal.returns
+returns c =
+    let text = c.args.source.now.text in
+    record {
+      value = IfOk-weaker c.held_lines.result _ _
+          (λ lines is. is ∙ ap (λ n. filter (is_held c.loop-span.stretches.items) (range_with_len 0 n)) c.line_count.ensures.value
+          ∙ held-all (λ k (x : LocatedSpan). is_seen text k x.annotation.now)
+          (λ k. list_any (λ (x : LocatedSpan). is_seen text k x.annotation.now) c.args.located.now) c.args.located.now
+          c.loop-span.span-index (length (source_lines text)) c.loop-span.stretches.items c.loop-span-test.false c.loop-span.invariant
+          (λ k. refl)) c.held_lines.ensures.value;
+    }
