@@ -1,6 +1,6 @@
 -- Which lines are kept.
-use Rattle.std.proofs.Common.{◌≡◌, ℕ, zero, suc, ◌+◌, ◌-◌, ◌^◌, ◌<◌, ◌≤◌, Bool, true, false, ◌&&◌, ◌||◌, cond, not, eqb, leb, ltb, min, max, List, [], ◌∷◌, ◌++◌}
-use Rattle.std.proofs.Common.{length, take, get_or, inl, inr, ◌⊎◌, Result, Ok, Err, nat_cmp, refl, sym, ap, subst, ◌∙◌, arith}
+use Rattle.std.proofs.Common.{◌≡◌, ℕ, zero, suc, ◌+◌, ◌-◌, ◌^◌, ◌<◌, ◌≤◌, Bool, true, false, ◌&&◌, ◌||◌, cond, not, eqb, leb, ltb, min, max, List}
+use Rattle.std.proofs.Common.{[], ◌∷◌, ◌++◌, length, take, get_or, inl, inr, ◌⊎◌, Result, Ok, Err, nat_cmp, refl, sym, ap, subst, ◌∙◌, arith}
 use Rattle.std.specs.List.{All, filter, list_any, range_with_len}
 use Rattle.std.specs.List.Sorted.{IsNonDecreasingBy, IsBinarySearchResult, IsPermutation}
 use Rattle.std.specs.Result.{is_ok}
@@ -13,8 +13,14 @@ use Rattle.std.proofs.lemmas.List.Kept.{IsNonDecreasingBy-filter}
 use Rattle.std.proofs.lemmas.List.Sorted.{list_any-IsPermutation, searched}
 use Rattle.std.proofs.lemmas.Map.Views.{any-filter_same}
 use Rattle.snippet_parts.proofs.PartLemmas.{All-range}
+use Rattle.snippet_model.specs.declared.snippet.Annotation.{Annotation}
 use Rattle.snippet_parts.specs.declared.kept.Stretch.{Stretch}
-use Rattle.snippet_parts.specs.Stretches.{holds_line, is_held}
+use Rattle.snippet_parts.specs.Kept.{has_bar, keeps}
+use Rattle.snippet_parts.specs.Mark.{is_marking, touches}
+use Rattle.snippet_parts.specs.Marked.{first_line, last_line}
+use Rattle.snippet_lines.specs.Lines.{source_lines}
+use Rattle.snippet_lines.proofs.PlaceLemmas.{line_of-within}
+use Rattle.snippet_parts.specs.Stretches.{holds_line, is_held, is_seen}
 
 -- ---- which lines a span keeps
 
@@ -384,3 +390,40 @@ pub all-kept : (p : ℕ → Bool) (n count : ℕ) (none new : List ℕ) → ((k 
 all-kept p n count none new all are empty pushed =
     let same : count - 0 ≡ n = omega arith in
     pushed ∙ ap (λ ks. ks ++ range_with_len 0 (count - 0)) empty ∙ ap (range_with_len 0) same ∙ sym (range-all p 0 n (λ k from to. all k))
+
+-- ---- lines after a source
+
+-- no span touches a line after the source, nor keeps or sees it
+untouched : (source : List ℕ) (k : ℕ) (a : Annotation) → length (source_lines source) ≤ k → touches source a k ≡ false
+untouched source k a after =
+    let last : last_line source a < k = omega (arith, line_of-within source a.span.end) in
+    ap (λ b. leb (first_line source a) k && b) (lt-leb k (last_line source a) last) ∙ and-none (leb (first_line source a) k)
+  where
+    and-none : (b : Bool) → (b && false) ≡ false
+    and-none true = refl
+    and-none false = refl
+
+pub unkept : (source : List ℕ) (k : ℕ) (marks : List Annotation) → length (source_lines source) ≤ k → list_any (keeps source k) marks ≡ false
+unkept source k marks after =
+    list_any_none (keeps source k) marks (λ i d within.
+    let a : Annotation = get_or marks i d in
+    ap (λ b. b && (eqb k (first_line source a) || eqb k (last_line source a) || not (is_marking a.kind) || has_bar source a k)) (untouched source k a after))
+
+pub unseen : {A : Type 0} (source : List ℕ) (k : ℕ) (f : A → Annotation) (xs : List A) → length (source_lines source) ≤ k
+    → list_any (λ x. is_seen source k (f x)) xs ≡ false
+unseen {A} source k f xs after =
+    list_any_none (λ (x : A). is_seen source k (f x)) xs (λ i d within.
+    ap (λ b. not (is_marking (f (get_or xs i d)).kind) && b) (untouched source k (f (get_or xs i d)) after) ∙ and-none (not (is_marking (f (get_or xs i d)).kind)))
+  where
+    and-none : (b : Bool) → (b && false) ≡ false
+    and-none true = refl
+    and-none false = refl
+
+-- where a test keeps none of the lines from n on, it keeps those of the first n
+pub filter-cut : (q : ℕ → Bool) (n m : ℕ) → n ≤ m → ((k : ℕ) → n ≤ k → q k ≡ false) → filter q (range_with_len 0 m) ≡ filter q (range_with_len 0 n)
+filter-cut q n m le none =
+    let all : m ≡ n + (m - n) = omega arith in
+    ap (λ i. filter q (range_with_len 0 i)) all ∙ ap (filter q) (lines-split n (m - n))
+    ∙ filter-append q (range_with_len 0 n) (range_with_len n (m - n))
+    ∙ ap (λ ks. filter q (range_with_len 0 n) ++ ks) (range-none q n (m - n) (λ k from to. none k from))
+    ∙ append-nil (filter q (range_with_len 0 n))

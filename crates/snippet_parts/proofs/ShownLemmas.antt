@@ -146,7 +146,7 @@ on_line-partitioned {X} line none xs n from to within below upto =
     let ordered : from ≤ to = from-to line none xs n from to within low high in (
       ordered,
       on_line line xs n from to (to - from) (omega (arith, ordered)) low (λ j d a b. ltb-false (line (get_or xs j d)) n (below.1 j d a b))
-      (λ j d a b. leb-true (line (get_or xs j d)) n (upto.0 j d (omega arith) a)) high,
+          (λ j d a b. leb-true (line (get_or xs j d)) n (upto.0 j d (omega arith) a)) high,
     )
 
 -- ---- depths of annotations

@@ -1,5 +1,6 @@
 //! Which lines of a snippet are kept. Lines count from 0.
-ghost use Rattle.std.specs.Prelude.{◌≡◌, ℕ, ◌++◌, ◌-◌, ◌<◌, ◌≤◌, ◌==◌, ◌||◌, true, false, All, List, filter, length, IfOk, OnOk};
+ghost use Rattle.std.specs.Prelude.{◌≡◌, ℕ, ◌++◌, ◌-◌, ◌<◌, ◌≤◌, ◌==◌, ◌||◌, true, false, All, List, filter, length};
+ghost use Rattle.std.specs.Prelude.{IfOk, OnOk};
 ghost use Rattle.std.specs.List.{list_any, range_with_len};
 ghost use Rattle.std.specs.List.Sorted.{IsNonDecreasingBy};
 ghost use Rattle.snippet_parts.specs.Kept as kept;
@@ -71,13 +72,13 @@ fn folded_lines(
         (annotations_of located.now)) }
     ensures within { IfOk result (λ lines. All (λ k. k < length (source_lines source.now.text)) lines.items) }
 {
-    let mut stretches = Vec::with_capacity(alloc, located.len())?;
+    let mut stretches = Vec::with_capacity(alloc, located.len().saturating_mul(2))?;
     for span in located {
         let (head, tail) = kept_stretches(source, span);
         stretches.push(head)?;
         stretches.push(tail)?;
     }
-    held_lines(alloc, stretches, source.line_count())
+    held_lines(alloc, stretches, most_lines(source))
 }
 
 /// The lines that spans touch which aren't marked, in order.
@@ -99,7 +100,14 @@ pub(crate) fn seen_lines(
             stretches.push(touched(span))?;
         }
     }
-    held_lines(alloc, stretches, source.line_count())
+    held_lines(alloc, stretches, most_lines(source))
+}
+
+/// How many lines a source has at most: one more than bytes. It is for those who needn't count them.
+fn most_lines(source: &SourceMap<'_>) -> usize
+    ensures enough { length (source_lines source.now.text) ≤ result }
+{
+    source.source().len() + 1
 }
 
 /// Whether a line is one of some lines in order.

@@ -7,7 +7,7 @@ use Rattle.snippet_parts.specs.Located.{annotations_of}
 use Rattle.snippet_parts.specs.declared.located.LocatedSpan.{LocatedSpan}
 use Rattle.snippet_parts.specs.Stretches.{holds_line, is_held}
 use Rattle.snippet_parts.proofs.PartLemmas.{list_any-map}
-use Rattle.snippet_parts.proofs.KeptLemmas.{held-all, held-two, kept-within}
+use Rattle.snippet_parts.proofs.KeptLemmas.{filter-cut, held-all, held-two, kept-within, unkept}
 use Rattle.snippet_parts.proofs.kept.folded_lines.Goals as goal
 
 pub loop-span-preserved : goal.loop-span-preserved
@@ -23,11 +23,11 @@ returns c =
     let text = c.args.source.now.text in
     let marks = annotations_of c.args.located.now in
     let count : ℕ = length (source_lines text) in
-    let are = λ (lines : List ℕ) (is : lines ≡ filter (is_held c.loop-span.stretches.items) (range_with_len 0 c.line_count.result)).
-    is ∙ ap (λ n. filter (is_held c.loop-span.stretches.items) (range_with_len 0 n)) c.line_count.ensures.value
-    ∙ held-all (λ k (x : LocatedSpan). keeps text k x.annotation.now) (λ k. not true || list_any (keeps text k) marks) c.args.located.now
-    c.loop-span.span-index count c.loop-span.stretches.items c.loop-span-test.false c.loop-span.invariant
-    (λ k. sym (list_any-map (keeps text k) (λ (x : LocatedSpan). x.annotation.now) c.args.located.now)) in
+    let are = λ (lines : List ℕ) (is : lines ≡ filter (is_held c.loop-span.stretches.items) (range_with_len 0 c.most_lines.result)).
+    is ∙ held-all (λ k (x : LocatedSpan). keeps text k x.annotation.now) (λ k. not true || list_any (keeps text k) marks) c.args.located.now
+    c.loop-span.span-index c.most_lines.result c.loop-span.stretches.items c.loop-span-test.false c.loop-span.invariant
+    (λ k. sym (list_any-map (keeps text k) (λ (x : LocatedSpan). x.annotation.now) c.args.located.now))
+    ∙ filter-cut (λ k. not true || list_any (keeps text k) marks) count c.most_lines.result c.most_lines.ensures.enough (λ k after. unkept text k marks after) in
     record {
       value = IfOk-weaker c.held_lines.result _ _ (λ lines is. are lines.items is) c.held_lines.ensures.value;
       within = IfOk-weaker c.held_lines.result _ _ (λ lines is. subst (All (λ k. k < count)) (sym (are lines.items is))

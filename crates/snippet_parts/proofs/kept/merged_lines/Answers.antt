@@ -4,8 +4,8 @@ use Rattle.snippet_parts.proofs.kept.merged_lines.Goals as goal
 
 pub loop-stretch-preserved : goal.loop-stretch-preserved
 loop-stretch-preserved c =
-    merged-step c.args.stretches.now c.args.count c.loop-stretch.stretch-index (record { first = 0; last = 0 }) c.loop-stretch.next c.max.result c.min-from.result
-    c.saturating_add.result c.min.result c.max-next.result c.loop-stretch.lines.items c.push_lines.new.lines.items c.loop-stretch-test.true
+    merged-step c.args.stretches.now c.args.count c.loop-stretch.stretch-index (record { first = 0; last = 0 }) c.loop-stretch.next c.max.result
+    c.min-from.result c.saturating_add.result c.min.result c.max-next.result c.loop-stretch.lines.items c.push_lines.new.lines.items c.loop-stretch-test.true
     c.requires.sorted c.loop-stretch.invariant c.max.ensures c.min-from.ensures c.saturating_add.ensures c.min.ensures c.max-next.ensures
     c.ranges.count.fits c.in_ok-push_lines.ensures.value
 

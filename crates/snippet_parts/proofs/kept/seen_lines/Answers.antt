@@ -4,7 +4,7 @@ use Rattle.std.proofs.lemmas.Result.{IfOk-weaker}
 use Rattle.snippet_lines.specs.Lines.{source_lines}
 use Rattle.snippet_parts.specs.declared.located.LocatedSpan.{LocatedSpan}
 use Rattle.snippet_parts.specs.Stretches.{is_held, is_seen}
-use Rattle.snippet_parts.proofs.KeptLemmas.{held-all}
+use Rattle.snippet_parts.proofs.KeptLemmas.{filter-cut, held-all, unseen}
 use Rattle.snippet_parts.proofs.kept.seen_lines.Goals as goal
 
 pub returns : goal.returns
@@ -12,9 +12,11 @@ returns c =
     let text = c.args.source.now.text in
     record {
       value = IfOk-weaker c.held_lines.result _ _
-          (λ lines is. is ∙ ap (λ n. filter (is_held c.loop-span.stretches.items) (range_with_len 0 n)) c.line_count.ensures.value
-          ∙ held-all (λ k (x : LocatedSpan). is_seen text k x.annotation.now)
+          (λ lines is. is ∙ held-all (λ k (x : LocatedSpan). is_seen text k x.annotation.now)
           (λ k. list_any (λ (x : LocatedSpan). is_seen text k x.annotation.now) c.args.located.now) c.args.located.now
-          c.loop-span.span-index (length (source_lines text)) c.loop-span.stretches.items c.loop-span-test.false c.loop-span.invariant
-          (λ k. refl)) c.held_lines.ensures.value;
+          c.loop-span.span-index c.most_lines.result c.loop-span.stretches.items c.loop-span-test.false c.loop-span.invariant
+          (λ k. refl)
+          ∙ filter-cut (λ k. list_any (λ (x : LocatedSpan). is_seen text k x.annotation.now) c.args.located.now) (length (source_lines text))
+          c.most_lines.result c.most_lines.ensures.enough (λ k after. unseen text k (λ (x : LocatedSpan). x.annotation.now) c.args.located.now after))
+          c.held_lines.ensures.value;
     }

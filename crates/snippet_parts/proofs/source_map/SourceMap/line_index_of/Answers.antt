@@ -52,8 +52,12 @@ returns-then-byte-self-clause-bound c = omega (arith, found c, small c.self.insi
 
 pub returns-else-self-byte-clause-within : goal.returns-else-self-byte-clause-within
 returns-else-self-byte-clause-within c =
-    omega (arith, ap (λ (s : Source). line_of (source_lines s.text) c.args.byte) c.self.view_is, c.line_index.ensures.value,
-    line_of-within c.args.self.now.text c.args.byte)
+    omega (
+      arith,
+      ap (λ (s : Source). line_of (source_lines s.text) c.args.byte) c.self.view_is,
+      c.line_index.ensures.value,
+      line_of-within c.args.self.now.text c.args.byte,
+    )
 
 pub returns-else-self-byte-clause-bound : goal.returns-else-self-byte-clause-bound
 returns-else-self-byte-clause-bound c =
