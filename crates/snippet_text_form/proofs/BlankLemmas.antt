@@ -1,51 +1,10 @@
--- Whitespace at the front of a line and after a place of it, as it is looked for.
-use Rattle.std.proofs.Common.{◌≡◌, ℕ, zero, suc, ◌+◌, ◌-◌, ◌<◌, Bool, true, false, not, ◌&&◌, eqb, leb, List, [], ◌∷◌, length, take, drop, get_or, refl, sym}
+-- Whitespace after a place of a line, as it is looked for.
+use Rattle.std.proofs.Common.{◌≡◌, ℕ, zero, suc, ◌+◌, ◌-◌, ◌<◌, Bool, true, false, not, ◌&&◌, eqb, leb, List, [], ◌∷◌, length, drop, get_or, sym}
 use Rattle.std.proofs.Common.{ap, ◌∙◌, arith}
 use Rattle.std.proofs.lemmas.Bool.Decides.{nat_tests}
 use Rattle.std.proofs.lemmas.List.{at_drop_more, drop_all}
 use Rattle.std.specs.Char.{is_whitespace}
 use Rattle.std.specs.List.{list_all}
-
--- ---- before a place
-
--- whether the first so many characters are whitespace
-abbrev pub blank_to : List ℕ → ℕ → Bool
-blank_to cs left = list_all is_whitespace (take left cs)
-
--- a text is blank up to its start
-pub blank_to-none : (cs : List ℕ) (left : ℕ) → left ≡ 0 → blank_to cs left ≡ true
-blank_to-none cs left none = ap (blank_to cs) none
-
-to-here : (cs : List ℕ) (n c left : ℕ) → (n < length cs) × (c ≡ get_or cs n c) → blank_to (drop n cs) left ≡ blank_to (c ∷ drop (n + 1) cs) left
-to-here cs n c left at =
-    at_drop_more (λ l. blank_to l left) cs n c at.0 ∙ ap (λ d. blank_to (d ∷ drop (n + 1) cs) left) (sym at.1)
-
--- one character more of which this is known
-first-to : (cs : List ℕ) (c left : ℕ) (blank : Bool) → (left ≡ 0 → ⊥) → is_whitespace c ≡ blank → blank_to (c ∷ cs) left ≡ (blank && blank_to cs (left - 1))
-first-to cs c zero blank some is = absurd (some refl)
-first-to cs c (suc left) blank some is =
-    let fewer : suc left - 1 ≡ left = omega arith in
-    ap (λ b. b && blank_to cs left) is ∙ ap (λ n. blank && blank_to cs n) (sym fewer)
-
--- a character that is no white space, left of the place, ends what is blank
-pub blank_to-stop : (cs : List ℕ) (n c left : ℕ) → (n < length cs) × (c ≡ get_or cs n c) → (left ≡ 0 → ⊥) → is_whitespace c ≡ false
-    → blank_to (drop n cs) left ≡ false
-blank_to-stop cs n c left at some visible =
-    to-here cs n c left at ∙ first-to (drop (n + 1) cs) c left false some visible
-
--- white space left of the place is passed
-pub blank_to-step : (cs : List ℕ) (n c left : ℕ) → (n < length cs) × (c ≡ get_or cs n c) → (left ≡ 0 → ⊥) → is_whitespace c ≡ true
-    → blank_to (drop (n + 1) cs) (left - 1) ≡ blank_to (drop n cs) left
-blank_to-step cs n c left at some blank =
-    sym (to-here cs n c left at ∙ first-to (drop (n + 1) cs) c left true some blank)
-
--- a text that has ended is blank
-pub blank_to-end : (cs : List ℕ) (n left : ℕ) → length cs ≡ n → blank_to (drop n cs) left ≡ true
-blank_to-end cs n left all = ap (λ l. blank_to l left) (drop_all n cs (omega arith)) ∙ of_none left
-  where
-    of_none : (left : ℕ) → blank_to [] left ≡ true
-    of_none zero = refl
-    of_none (suc left) = refl
 
 -- ---- after a place
 

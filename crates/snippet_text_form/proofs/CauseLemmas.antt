@@ -95,15 +95,6 @@ bare-four old one two three four a b c d first second third fourth =
     joined : (((old ++ bare a) ++ bare b) ++ bare c) ++ bare d ≡ old ++ bare (a ++ b ++ c ++ d)
     joined = simp (append_assoc, map-append)
 
--- three texts that are added one after the other are added as one
-pub bare-three : (old one two three : List FormPiece) (a b c : List ℕ) → one ≡ old ++ bare a → two ≡ one ++ bare b → three ≡ two ++ bare c
-    → three ≡ old ++ bare (a ++ b ++ c)
-bare-three old one two three a b c first second third =
-    third ∙ ap (λ l. l ++ bare c) (second ∙ ap (λ l. l ++ bare b) first) ∙ joined
-  where
-    joined : ((old ++ bare a) ++ bare b) ++ bare c ≡ old ++ bare (a ++ b ++ c)
-    joined = simp (append_assoc, map-append)
-
 -- ---- a span that is added
 
 -- a break, an indent and a place

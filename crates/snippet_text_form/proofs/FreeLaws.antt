@@ -38,7 +38,7 @@ use Rattle.snippet_parts.specs.Numbered.{numbered_source}
 use Rattle.snippet_text_form.specs.Form.{FormPiece, Break, Styled, bare, begun_after, plain_from, styled}
 use Rattle.snippet_text_form.specs.Heading.{before_id, before_name, colon_form, further_line, heading_form, id_form, id_text_form, label_form, heading_label}
 use Rattle.snippet_text_form.specs.Heading.{link_for, linking, lines_form, name_form, text_roles_of}
-use Rattle.snippet_text_form.specs.Position.{after_path, column_words, place, place_in_file, place_on_line}
+use Rattle.snippet_text_form.specs.Position.{after_path, column_words, place, place_in_file, place_on_line, to_line}
 use Rattle.snippet_text_form.specs.Suggestion.{added_form, edit_form, edit_indent, edit_place, replaces_whole_line, named_path, option_form, origin_form}
 use Rattle.snippet_text_form.specs.Suggestion.{overwrites, replaced_to, replaces, suggestion_form}
 use Rattle.snippet_text_form.specs.declared.heading.HeadingKind.{HeadingKind}
@@ -130,6 +130,12 @@ place-free : (anonymized : Bool) (path : Option (List ℕ)) (line : ℕ) (column
 place-free anonymized None line column = place_on_line-free anonymized line column
 place-free anonymized (Some path) line column = place_in_file-free anonymized path (Some line) column
 
+to_line-free : (anonymized : Bool) (line : ℕ) (column : Option ℕ) → AreFree (to_line anonymized line column)
+to_line-free anonymized line column =
+    free-append (codes " to line " ++ line_name anonymized line) (column_words column)
+    (free-append (codes " to line ") (line_name anonymized line) (each-fails is_listed (codes " to line ") refl) (line_name-free anonymized line))
+    (column_words-free column)
+
 -- nor does where a span ends
 end_in_file-free : (anonymized : Bool) (start end : Loc) → AreFree (end_in_file anonymized start end)
 end_in_file-free anonymized start end = of_lines (start.line == end.line)
@@ -154,18 +160,9 @@ end_on_line-free anonymized source start end = of_lines (start.line == end.line)
     column : Option ℕ
     column = column_unless (is_blank_after (line_at source end.line) end.char) end
 
-    text : List ℕ
-    text = codes " to line " ++ line_name anonymized end.line ++ column_words column
-
-    text_free : AreFree text
-    text_free =
-        free-append (codes " to line " ++ line_name anonymized end.line) (column_words column)
-        (free-append (codes " to line ") (line_name anonymized end.line) (each-fails is_listed (codes " to line ") refl)
-        (line_name-free anonymized end.line)) (column_words-free column)
-
-    of_lines : (same : Bool) → AreFree (if same then [] else text)
+    of_lines : (same : Bool) → AreFree (if same then [] else to_line anonymized end.line column)
     of_lines true = All-nil IsUnlisted
-    of_lines false = text_free
+    of_lines false = to_line-free anonymized end.line column
 
 span_place-free : (anonymized : Bool) (source : Source) (path : Option (List ℕ)) (start end : Loc) → AreFree (span_place anonymized source path start end)
 span_place-free anonymized source None start end =
@@ -237,17 +234,10 @@ replaced_to-free anonymized start end = of_lines (start.line == end.line)
     on_line : List ℕ
     on_line = codes " to column " ++ column
 
-    below : List ℕ
-    below = codes " to line " ++ line_name anonymized end.line ++ codes ", column " ++ column
-
-    of_lines : (same : Bool) → AreFree (if same then on_line else below)
+    of_lines : (same : Bool) → AreFree (if same then on_line else to_line anonymized end.line (Some (end.char + 1)))
     of_lines true =
         free-append (codes " to column ") column (each-fails is_listed (codes " to column ") refl) (decimal-free (end.char + 1))
-    of_lines false =
-        free-append (codes " to line " ++ line_name anonymized end.line ++ codes ", column ")
-        column (free-append (codes " to line " ++ line_name anonymized end.line) (codes ", column ")
-        (free-append (codes " to line ") (line_name anonymized end.line) (each-fails is_listed (codes " to line ") refl)
-        (line_name-free anonymized end.line)) (each-fails is_listed (codes ", column ") refl)) (decimal-free (end.char + 1))
+    of_lines false = to_line-free anonymized end.line (Some (end.char + 1))
 
 edit_place-free : (anonymized : Bool) (source : Source) (path : Option (List ℕ)) (e : Edit) (start end : Loc)
     → AreFree (edit_place anonymized source path e start end)

@@ -27,6 +27,16 @@ pub chars-on_line : chars (111 ∷ 110 ∷ 32 ∷ 108 ∷ 105 ∷ 110 ∷ 101 �
 unfolding lib.Utf8.encode
 chars-on_line = chars-encodes (codes "on line ") refl
 
+-- the characters of the bytes that the code writes for ` to line `
+pub chars-to_line : chars (32 ∷ 116 ∷ 111 ∷ 32 ∷ 108 ∷ 105 ∷ 110 ∷ 101 ∷ 32 ∷ []) ≡ codes " to line "
+unfolding lib.Utf8.encode
+chars-to_line = chars-encodes (codes " to line ") refl
+
+-- the characters of the bytes that the code writes for ` to column `
+pub chars-to_column : chars (32 ∷ 116 ∷ 111 ∷ 32 ∷ 99 ∷ 111 ∷ 108 ∷ 117 ∷ 109 ∷ 110 ∷ 32 ∷ []) ≡ codes " to column "
+unfolding lib.Utf8.encode
+chars-to_column = chars-encodes (codes " to column ") refl
+
 -- the characters of the bytes that the code writes for `, column `
 pub chars-column : chars (44 ∷ 32 ∷ 99 ∷ 111 ∷ 108 ∷ 117 ∷ 109 ∷ 110 ∷ 32 ∷ []) ≡ codes ", column "
 unfolding lib.Utf8.encode

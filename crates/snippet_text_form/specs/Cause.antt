@@ -19,7 +19,7 @@ use Rattle.snippet_parts.specs.Mark.{is_marking}
 use Rattle.snippet_text.specs.Normalized.{normalized_chars}
 use Rattle.snippet_titles.specs.Origin.{line_name}
 use Rattle.snippet_text_form.specs.Form.{FormPiece, Break, bare}
-use Rattle.snippet_text_form.specs.Position.{column_words, place, place_in_file, place_on_line}
+use Rattle.snippet_text_form.specs.Position.{place, place_in_file, place_on_line, to_line}
 
 -- which of two kinds of spans is named first: the primary one
 abbrev pub kind_rank : AnnotationKind → ℕ
@@ -71,8 +71,7 @@ end_in_file anonymized start end =
 -- the same after a place that is named without a path; the column is left out where the line ends there
 abbrev pub end_on_line : Bool → Source → Loc → Loc → List ℕ
 end_on_line anonymized source start end =
-    if start.line == end.line then [] else codes " to line " ++ line_name anonymized end.line
-    ++ column_words (column_unless (is_blank_after (line_at source end.line) end.char) end)
+    if start.line == end.line then [] else to_line anonymized end.line (column_unless (is_blank_after (line_at source end.line) end.char) end)
 
 -- where a span starts and ends: in a file, or without a path; there the column is left out where the line begins with the span
 abbrev pub span_place : Bool → Source → Option (List ℕ) → Loc → Loc → List ℕ

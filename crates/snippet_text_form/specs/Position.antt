@@ -24,6 +24,11 @@ abbrev pub place_on_line : Bool → ℕ → Option ℕ → List ℕ
 place_on_line anonymized line column =
     codes "on line " ++ line_name anonymized line ++ column_words column
 
+-- a later line at which something ends, after the place at which it starts, and the column there, if it is named
+abbrev pub to_line : Bool → ℕ → Option ℕ → List ℕ
+to_line anonymized line column =
+    codes " to line " ++ line_name anonymized line ++ column_words column
+
 -- a place on a line: in a file, if there is a path
 abbrev pub place : Bool → Option (List ℕ) → ℕ → Option ℕ → List ℕ
 place anonymized None line column = place_on_line anonymized line column

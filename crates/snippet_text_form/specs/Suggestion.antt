@@ -19,10 +19,9 @@ use Rattle.snippet_suggest.specs.Given.{trimmed_of}
 use Rattle.snippet_parts.specs.Numbered.{numbered_source}
 use Rattle.snippet_suggest.specs.Kind.{is_blank, is_under_text, text_under}
 use Rattle.snippet_text.specs.Normalized.{norm}
-use Rattle.snippet_titles.specs.Origin.{line_name}
 use Rattle.snippet_text_form.specs.Cause.{column_unless}
 use Rattle.snippet_text_form.specs.Form.{FormPiece, Break, bare, styled}
-use Rattle.snippet_text_form.specs.Position.{place, place_in_file}
+use Rattle.snippet_text_form.specs.Position.{place, place_in_file, to_line}
 use Rattle.snippet_text_form.specs.declared.suggestion.SuggestionContext.{SuggestionContext}
 
 -- whether an edit stands over text that isn't blank
@@ -37,7 +36,7 @@ replaces source e = overwrites source e && not (is_blank e.text)
 abbrev pub replaced_to : Bool → Loc → Loc → List ℕ
 replaced_to anonymized start end =
     if start.line == end.line then codes " to column " ++ decimal (end.char + 1)
-    else codes " to line " ++ line_name anonymized end.line ++ codes ", column " ++ decimal (end.char + 1)
+    else to_line anonymized end.line (Some (end.char + 1))
 
 -- whether a text has several lines
 abbrev pub has_several_lines : List ℕ → Bool

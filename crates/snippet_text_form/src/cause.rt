@@ -15,7 +15,7 @@ ghost use Rattle.snippet_text_form.specs.Form.{bare};
 ghost use Rattle.snippet_text.specs.Bounds.{IsOffset};
 
 use crate::form::TextForm;
-use crate::position::{add_column, add_line, add_place, add_place_in_file, add_place_on_line};
+use crate::position::{add_line, add_place, add_place_in_file, add_place_on_line, add_to_line};
 use snippet_lines::Loc;
 use snippet_model::snippet::{Annotation, AnnotationKind, Snippet};
 use snippet_parts::{SourceMap, is_marking};
@@ -293,10 +293,8 @@ fn add_end_on_line(
     if start.line == end.line {
         return Ok(());
     }
-    form.add_text(" to line ")?;
-    add_line(form, anonymized, end.line)?;
     let ends = is_blank_after(map.get_line(end.line), end.char);
-    add_column(form, column_unless(ends, end))
+    add_to_line(form, anonymized, end.line, column_unless(ends, end))
 }
 
 /// The column of a place, from 1; but not where it says nothing.
@@ -317,21 +315,11 @@ fn is_blank_before(line: Option<&str>, count: usize) -> bool
     }
 }
 
-/// The same of a line that is there. It is read no further than it has to be.
+/// The same of a line that is there.
 fn is_blank_to(line: &str, count: usize) -> bool
     ensures value { result ≡ spec.is_blank_before (Some line.now) count }
 {
-    let mut left = count;
-    for c in line.chars() {
-        if left == 0 {
-            return true;
-        }
-        if !c.is_whitespace() {
-            return false;
-        }
-        left -= 1;
-    }
-    true
+    line.chars().take(count).all(|c| c.is_whitespace())
 }
 
 /// Whether a line has at least this many characters, and nothing but whitespace after them.

@@ -4,7 +4,7 @@ ghost use Rattle.std.specs.Option.{option_copied};
 ghost use Rattle.snippet_titles.specs.Origin as titles;
 ghost use Rattle.snippet_text_form.specs.Form.{bare};
 ghost use Rattle.snippet_text_form.specs.Position as spec;
-ghost use Rattle.snippet_text_form.specs.Position.{after_path, column_words, place_in_file, place_on_line};
+ghost use Rattle.snippet_text_form.specs.Position.{after_path, column_words, place_in_file, place_on_line, to_line};
 
 use crate::form::TextForm;
 use snippet_text::normalized;
@@ -79,8 +79,22 @@ pub(crate) fn add_place_on_line(
     add_column(form, column)
 }
 
+/// Adds a later line at which something ends, after the place at which it starts: ` to line 4, column 7`.
+pub(crate) fn add_to_line(
+    form: &mut TextForm<'_>,
+    anonymized: bool,
+    line: usize,
+    column: Option<usize>,
+) -> Result<(), AllocError>
+    ensures added { OnOk result (form.new ≡ form.old ++ bare (to_line anonymized line column)) }
+{
+    form.add_text(" to line ")?;
+    add_line(form, anonymized, line)?;
+    add_column(form, column)
+}
+
 /// Adds a column in words, where there is one: `, column 5`.
-pub(crate) fn add_column(form: &mut TextForm<'_>, column: Option<usize>) -> Result<(), AllocError>
+fn add_column(form: &mut TextForm<'_>, column: Option<usize>) -> Result<(), AllocError>
     ensures added { OnOk result (form.new ≡ form.old ++ bare (column_words column)) }
 {
     let Some(column) = column else {

@@ -15,7 +15,7 @@ ghost use Rattle.snippet_text.specs.Bounds.{IsOffset};
 
 use crate::cause::column_unless;
 use crate::form::TextForm;
-use crate::position::{add_line, add_place};
+use crate::position::{add_place, add_to_line};
 use snippet_lines::{Loc, newline_count};
 use snippet_model::snippet::{Patch, Snippet};
 use snippet_parts::SourceMap;
@@ -158,12 +158,9 @@ fn add_end(
 {
     if start.line == end.line {
         form.add_text(" to column ")?;
-    } else {
-        form.add_text(" to line ")?;
-        add_line(form, anonymized, end.line)?;
-        form.add_text(", column ")?;
+        return form.add_number(end.char + 1);
     }
-    form.add_number(end.char + 1)
+    add_to_line(form, anonymized, end.line, Some(end.char + 1))
 }
 
 /// Whether a patch is that of a whole line: its span is on one line, on which nothing else stands. The bytes at which

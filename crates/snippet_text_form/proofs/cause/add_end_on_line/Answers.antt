@@ -1,30 +1,22 @@
-use Rattle.std.proofs.Common.{eqb, codes, Bool, List, ℕ, [], ◌++◌, sym, ap, ◌∙◌}
+use Rattle.std.proofs.Common.{eqb, Bool, List, ℕ, [], ◌++◌, sym, ap, ◌∙◌}
 use Rattle.std.proofs.lemmas.Bool.{cond-false, ne_eqb}
 use Rattle.std.proofs.lemmas.Result.{on_ok_weaker}
-use Rattle.std.specs.Str.{chars}
 use Rattle.snippet_lines.specs.Lines.{line_at}
-use Rattle.snippet_titles.specs.Origin.{line_name}
 use Rattle.snippet_text_form.specs.Cause.{column_unless, is_blank_after}
 use Rattle.snippet_text_form.specs.Form.{bare}
-use Rattle.snippet_text_form.specs.Position.{column_words}
-use Rattle.snippet_text_form.proofs.CauseLemmas.{bare-three}
+use Rattle.snippet_text_form.specs.Position.{to_line}
 use Rattle.snippet_text_form.proofs.cause.add_end_on_line.Goals as goal
 
 pub returns : goal.returns
-unfolding chars
 returns c =
     let start = c.args.start in
     let end = c.args.end in
-    let line : List ℕ = line_name c.args.anonymized end.line in
     let ends : Bool = is_blank_after (line_at c.args.map.now end.line) end.char in
-    let text : List ℕ = codes " to line " ++ line ++ column_words (column_unless ends end) in
+    let text : List ℕ = to_line c.args.anonymized end.line (column_unless ends end) in
     let other = cond-false (eqb start.line end.line) [] text (ne_eqb start.line end.line c.if-start-end.false) in
     let column = c.column_unless.ensures.value ∙ ap (λ plain. column_unless plain end)
     (c.is_blank_after-ends.ensures.value ∙ ap (λ l. is_blank_after l end.char) c.get_line.ensures.value) in
     record {
-      added = on_ok_weaker c.add_column.result
-          (λ last. bare-three c.args.form.now c.add_text.new.self c.add_line.new.form c.add_column.new.form (codes " to line ")
-          line (column_words (column_unless ends end))
-          c.in_ok-add_text.ensures.added c.in_ok-add_line.ensures.added (last ∙ ap (λ o. c.add_line.new.form ++ bare (column_words o)) column)
-          ∙ ap (λ l. c.args.form.now ++ bare l) (sym other)) c.add_column.ensures.added;
+      added = on_ok_weaker c.add_to_line.result (λ added. added ∙ ap (λ o. c.args.form.now ++ bare (to_line c.args.anonymized end.line o)) column
+          ∙ ap (λ l. c.args.form.now ++ bare l) (sym other)) c.add_to_line.ensures.added;
     }
