@@ -44,7 +44,7 @@ use Rattle.annotate_snippets.proofs.GutterLemmas.{numbers_fit}
 use Rattle.annotate_snippets.proofs.LineFeedLaws.{lines_one_line}
 use Rattle.annotate_snippets.proofs.PageLemmas.{cells_of-append, cells_of-others, named_lines}
 use Rattle.annotate_snippets.proofs.SpanBarRows.{bars_shown}
-use Rattle.annotate_snippets.proofs.PartsFacts.{ends_shown, shown_ascending, shown_within}
+use Rattle.annotate_snippets.proofs.PartsFacts.{ends_shown, shown_ascending, snippet_shown-within}
 use Rattle.annotate_snippets.proofs.PathFeedLaws.{after_one_line, head_one_line}
 
 -- where a snippet of the group's primary file has a path, its first row is that of the path
@@ -133,7 +133,7 @@ cause_shown r layout around found s rows drawable room drawn =
     are.infos = numbers_fit r layout s are.infos room drawable are.lines in
     let place : layout.gutter + 3 ≤ layout.code = omega (arith, room.bars, code_right layout.gutter (depth_of_element (Cause s))) in
     let named = named_lines r layout s drawable.spans are.margin are.room are.bounds are.ordered place (closes_with around) [] ks are.infos drawn.lines
-    (shown_within src s.markers.items drawable.spans s.fold) are.lines fit are.shown in
+    (snippet_shown-within src s.markers.items drawable.spans s.fold) are.lines fit are.shown in
     let head : List (List Cell) = cause_head r layout around s in
     let tail : List (List Cell) = rows_after_cause r layout around in
     let part : List NamedRow = others head ++ (named.part ++ others tail) in

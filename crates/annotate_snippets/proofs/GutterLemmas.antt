@@ -37,7 +37,7 @@ use Rattle.annotate_snippets.specs.declared.renderer.Renderer.{Renderer}
 use Rattle.snippet_grid.specs.Layout.{Layout}
 use Rattle.snippet_model.specs.declared.snippet.Element.TheVariants.{Cause}
 use Rattle.annotate_snippets.proofs.ListLemmas.{from_any}
-use Rattle.annotate_snippets.proofs.PartsFacts.{shown_within}
+use Rattle.annotate_snippets.proofs.PartsFacts.{snippet_shown-within}
 use Rattle.snippet_splice.proofs.RangeLemmas.{feeds-append}
 
 -- how many line feeds some bytes hold
@@ -256,7 +256,7 @@ numbers_fit r layout s infos room drawable lines =
     let low = between-counted (newline_count (reached_source s) + 1) (kept_lines s.fold source s.markers.items) (kept-counted s) in
     let counted : All (λ info. Counted (seen_kept info)) infos = All-of_lines Counted (kept_line (numbered_source s) s.markers.items) ks infos lines
     (λ i d within. omega (arith, low i d within)) in
-    let inside = shown_within (numbered_source s) s.markers.items drawable.spans s.fold in
+    let inside = snippet_shown-within (numbered_source s) s.markers.items drawable.spans s.fold in
     let small : All (λ info. Small (seen_kept info)) infos = All-of_lines Small (kept_line (numbered_source s) s.markers.items) ks infos lines (λ i d within.
     omega (arith, inside i d within, drawable.numbers)) in
     let fits : counted_number s < 2 ^ 64 = counted-small s drawable.numbers in

@@ -69,8 +69,8 @@ module _ (s : Source) (marks : List Annotation) (spans : All (λ a. IsSpan s.tex
   wide_on_line k info room placeholder_width same = wide-count room placeholder_width s marks k info same
 
   -- each line that is shown is a line of the source
-  pub shown_within : (fold : Bool) → All (λ k. k < length (source_lines s.text)) (shown_lines fold s.text marks)
-  shown_within fold = shown-within fold s.text marks
+  pub snippet_shown-within : (fold : Bool) → All (λ k. k < length (source_lines s.text)) (shown_lines fold s.text marks)
+  snippet_shown-within fold = shown-within fold s.text marks
 
   -- the lines that are shown ascend
   pub shown_ascending : (fold : Bool) → IsAscending (shown_lines fold s.text marks)

@@ -23,7 +23,7 @@ use snippet_titles::{
 };
 use std::alloc::{AllocError, Global};
 
-/// Draws a group's elements below all that stands in the grid. The group stands at this place, and this is the file
+/// Draws a group's elements below all that stands in the grid. The group has this position, and this is the file
 /// that its suggestions are for where they name no other.
 ///
 /// # Errors
@@ -34,16 +34,16 @@ pub fn draw_elements<'a>(
     buffer: &mut StyledBuffer<'a>,
     renderer: &Renderer,
     layout: Layout,
-    place: GroupPosition,
+    position: GroupPosition,
     file: Option<&str>,
     elements: Vec<PreparedElement<'a>>,
 ) -> Result<(), AllocError>
     requires prepared { All IsElementPrepared elements.items }
     requires room { All (λ e. HasRoomFor renderer.now layout (element_of e)) elements.items }
-    ensures added { OnOk result (AddsElements renderer.now layout place (option_copied file.entry)
+    ensures added { OnOk result (AddsElements renderer.now layout position (option_copied file.entry)
         (map element_of elements.entry.items) buffer.old buffer.new) }
 {
-    let around = contexts_of(alloc, place, file, &elements)?;
+    let around = contexts_of(alloc, position, file, &elements)?;
     for (i, element) in elements.into_iter().enumerate() {
         draw_element(alloc, buffer, renderer, layout, around[i], element)?;
     }
@@ -102,7 +102,7 @@ fn draw_message<'a>(
     requires fits { MessageFits message.now }
     ensures rows { OnOk result (buffer.new ≡ buffer.old ++ message_rows renderer.now layout around message.now) }
 {
-    let place = MessageContext {
+    let context = MessageContext {
         layout,
         followed: !around.next.is_nothing(),
     };
@@ -110,7 +110,7 @@ fn draw_message<'a>(
         alloc,
         buffer,
         renderer.hyperlink,
-        TitleStyle::Message(place),
+        TitleStyle::Message(context),
         message,
     )
 }
@@ -131,12 +131,12 @@ fn draw_place(
     ensures rows { OnOk result (buffer.new ≡ buffer.old ++ origin_rows renderer.now layout around origin.now) }
 {
     let origins = origin_layout(renderer, layout);
-    let place = OriginLocation {
+    let location = OriginLocation {
         line: origin.line,
         column: origin.char_column,
     };
     let start = origin_start(around);
-    draw_origin(alloc, buffer, origins, start, origin.path.as_str(), place)?;
+    draw_origin(alloc, buffer, origins, start, origin.path.as_str(), location)?;
     if around.closes_after() {
         draw_closing(buffer, layout)?;
     }
