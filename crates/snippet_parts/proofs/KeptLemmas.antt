@@ -413,7 +413,8 @@ pub unseen : {A : Type 0} (source : List ℕ) (k : ℕ) (f : A → Annotation) (
     → list_any (λ x. is_seen source k (f x)) xs ≡ false
 unseen {A} source k f xs after =
     list_any_none (λ (x : A). is_seen source k (f x)) xs (λ i d within.
-    ap (λ b. not (is_marking (f (get_or xs i d)).kind) && b) (untouched source k (f (get_or xs i d)) after) ∙ and-none (not (is_marking (f (get_or xs i d)).kind)))
+    let a : Annotation = f (get_or xs i d) in
+    ap (λ b. not (is_marking a.kind) && b) (untouched source k a after) ∙ and-none (not (is_marking a.kind)))
   where
     and-none : (b : Bool) → (b && false) ≡ false
     and-none true = refl

@@ -27,7 +27,8 @@ returns c =
     is ∙ held-all (λ k (x : LocatedSpan). keeps text k x.annotation.now) (λ k. not true || list_any (keeps text k) marks) c.args.located.now
     c.loop-span.span-index c.most_lines.result c.loop-span.stretches.items c.loop-span-test.false c.loop-span.invariant
     (λ k. sym (list_any-map (keeps text k) (λ (x : LocatedSpan). x.annotation.now) c.args.located.now))
-    ∙ filter-cut (λ k. not true || list_any (keeps text k) marks) count c.most_lines.result c.most_lines.ensures.enough (λ k after. unkept text k marks after) in
+    ∙ filter-cut (λ k. not true || list_any (keeps text k) marks) count c.most_lines.result c.most_lines.ensures.enough
+    (λ k after. unkept text k marks after) in
     record {
       value = IfOk-weaker c.held_lines.result _ _ (λ lines is. are lines.items is) c.held_lines.ensures.value;
       within = IfOk-weaker c.held_lines.result _ _ (λ lines is. subst (All (λ k. k < count)) (sym (are lines.items is))
