@@ -1,3 +1,4 @@
+pub mod Borders
 pub mod LineLemmas
 pub mod UnitLemmas
 pub mod Walk

@@ -1,5 +1,7 @@
 -- Where in a source a place is that is named by line and column, and what is answered where the source doesn't hold it.
-use Rattle.std.specs.Prelude.{◌≡◌, ℕ, zero, suc, ◌+◌, ◌-◌, ◌≤◌, nat_lt, ◌==◌, true, false, List, [], ◌∷◌, chars, drop, length, slice_get, if◌then◌else◌}
+use Rattle.std.specs.Prelude.{◌≡◌, ℕ, zero, suc, ◌+◌, ◌-◌, ◌≤◌, nat_le, nat_lt, max, ◌==◌, ◌&&◌, ◌||◌, not, Bool, true, false, List, [], ◌∷◌, chars, drop}
+use Rattle.std.specs.Prelude.{length}
+use Rattle.std.specs.Prelude.{slice_get, slice_index_or, if◌then◌else◌}
 use Rattle.std.specs.Char.{len_utf8}
 use Rattle.std.specs.Option.{option_map_or}
 use Rattle.std.specs.Str.{IsCharBoundary}
@@ -42,6 +44,27 @@ place_in unit source column (suc index) =
 -- the place of a position
 abbrev pub place_of : unit_type.ColumnUnit → List ℕ → Position → Place
 place_of unit source p = place_in unit source p.column p.line
+
+-- whether a byte is the first of a character: it is one of ASCII, or the lead of more
+abbrev pub begins_char : ℕ → Bool
+begins_char b = nat_lt b 128 || nat_le 192 b
+
+-- whether a place of a text is a border of characters: one begins there, or the text ends
+abbrev pub is_border : List ℕ → ℕ → Bool
+is_border text k = k == length text || nat_lt k (length text) && begins_char (slice_index_or text k 0)
+
+-- the last border of characters of a text at this byte or before it; so for a byte after the text it is the text's end
+abbrev pub border_before : List ℕ → ℕ → ℕ
+border_before text zero = zero
+border_before text (suc k) = if is_border text (suc k) then suc k else border_before text k
+
+-- the span between two places of a text: from the last border at the one or before it to the last border at the other or before it, or
+-- to its own start where that is later; and whether it differs from what was asked for
+abbrev pub between : List ℕ → Place → Place → SpanAt
+between text from to =
+    let start = border_before text from.byte in
+    let end = max (border_before text to.byte) start in
+    record { span = record { start = start; end = end }; clamped = not (from.exact && to.exact && start == from.byte && end == to.byte) }
 
 -- a place that a text holds: it was found as it was asked for, and lies between characters
 pub record IsHeld (text : List ℕ) (p : Place) : Type 0 where

@@ -1,6 +1,7 @@
 //! The part of a text between two places that may not be places of it.
 ghost use Rattle.std.specs.Prelude.{◌≡◌, ℕ, ◌<◌, ◌≤◌, length};
 ghost use Rattle.std.specs.Str.{IsCharBoundary};
+ghost use Rattle.snippet_places.specs.Places as spec;
 ghost use Rattle.snippet_places.specs.Places.{IsLocated};
 
 use std::ops::Range;
@@ -23,6 +24,11 @@ pub struct SpanAt {
 
 /// The part of a text between two places: from a border of characters to another, not before it.
 pub fn between(text: &str, from: Place, to: Place) -> SpanAt
+    // It starts at the last border at or before the one place, and ends at the last at or before the other, or at its
+    // start where that is later.
+    ensures value { result ≡ spec.between text.now from to }
+
+    // So where the text holds both places, in that order, it goes from the one to the other.
     ensures located { IsLocated text.now from to result }
 {
     let start = border_before(text, from.byte);
@@ -36,6 +42,7 @@ pub fn between(text: &str, from: Place, to: Place) -> SpanAt
 
 /// The last border of characters at this byte or before it.
 fn border_before(text: &str, byte: usize) -> usize
+    ensures value { result ≡ spec.border_before text.now byte }
     ensures border { IsCharBoundary text.now result }
     ensures before { result ≤ byte }
     ensures none { (k : ℕ) → result < k → k ≤ byte → k ≤ length text.now → IsCharBoundary text.now k → ⊥ }

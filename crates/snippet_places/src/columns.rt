@@ -48,6 +48,11 @@ pub struct Position {
 pub fn span_at(source: &str, from: Position, to: Position, unit: ColumnUnit) -> SpanAt
     ensures located { IsLocated source.now
         (spec.place_of unit source.now from) (spec.place_of unit source.now to) result }
+
+    // Whatever is asked for, it starts at the last border of characters at or before the place of `from`, and ends at
+    // the last at or before that of `to`, or at its start where that is later.
+    ensures value { result ≡ spec.between source.now
+        (spec.place_of unit source.now from) (spec.place_of unit source.now to) }
 {
     between(
         source,
@@ -76,7 +81,7 @@ fn place_of(source: &str, position: Position, unit: ColumnUnit) -> Place
 }
 
 /// The byte at which the line of an index, from 0, starts; `None` where the source has no such line.
-fn line_start(source: &str, index: usize) -> Option<usize>
+pub fn line_start(source: &str, index: usize) -> Option<usize>
     ensures value { result ≡ slice_get (line_starts source.now) index }
     ensures border { IfSome result (λ start. IsCharBoundary source.now start) }
 {
@@ -120,8 +125,9 @@ fn line_text(text: &str) -> &str
     &text[..line_length(text.as_bytes())]
 }
 
-/// The place before which a text has this many units.
-fn place_after(text: &str, units: usize, unit: ColumnUnit) -> Place
+/// The place before which a text has this many units. It isn't exact where it lies inside of a character, of which it
+/// then is the start, or where the text has fewer units, and then it is the text's end.
+pub fn place_after(text: &str, units: usize, unit: ColumnUnit) -> Place
     ensures value { result ≡ spec.place_from unit 0 (chars text.now) units }
     ensures within { result.byte ≤ length text.now }
 {

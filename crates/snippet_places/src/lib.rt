@@ -6,4 +6,4 @@ pub mod columns;
 pub mod lines;
 
 pub use clamp::{Place, SpanAt, between};
-pub use columns::{ColumnUnit, Position, span_at};
+pub use columns::{ColumnUnit, Position, line_start, place_after, span_at};

@@ -1,6 +1,6 @@
-use Rattle.std.proofs.Common.{◌≡◌, ◌∙◌, ◌<◌, [], ◌+◌, ap, arith, chars, length, length-append, subst, sym}
+use Rattle.std.proofs.Common.{◌∙◌, ◌<◌, ap, arith, length, length-append, sym}
 use Rattle.std.proofs.lemmas.Str.{IsUtf8-past_char, chars_past_char, length-encode}
-use Rattle.snippet_places.specs.Places.{place_from, units_of}
+use Rattle.snippet_places.specs.Places.{units_of}
 use Rattle.snippet_places.proofs.UnitLemmas.{place_from-here, place_from-next, place_from-end}
 use Rattle.snippet_places.proofs.columns.place_after.Goals as goal
 
