@@ -1,13 +1,18 @@
--- Where the span of a marker lies in its source: its bytes, by numbers that count units, or by lines and columns.
-use Rattle.std.specs.Prelude.{◌≡◌, ◌⊎◌, ℕ, ◌+◌, ◌-◌, nat_le, nat_lt, ◌==◌, ◌&&◌, ◌||◌, List, [], ◌∷◌, Option, Some, None, codes, drop, length, if◌then◌else◌}
-use Rattle.std.specs.Prelude.{option_and_then, option_map}
+-- Where the span of a marker lies in its source: its bytes, by numbers that count units, or by lines and columns. Where lines start, and how
+-- units are counted, is as in `snippet_places`, which takes what comes closest; here there is none where the source has no such place.
+use Rattle.std.specs.Prelude.{◌≡◌, ◌⊎◌, ℕ, ◌+◌, ◌-◌, nat_le, nat_lt, ◌==◌, ◌||◌, List, [], ◌∷◌, Option, Some, None, chars, codes, drop, length, slice_get}
+use Rattle.std.specs.Prelude.{option_and_then, option_map, if◌then◌else◌}
 use Rattle.std.specs.declared.ops.Range.{Range}
 use Rattle.serde_json.specs.Data.{Data}
 use Rattle.serde_json.specs.Find.{as_str}
 use Rattle.json_node.specs.Field.{SaysAt, given, number_at}
+use Rattle.snippet_places.specs.Places.{place_from}
+use Rattle.snippet_places.specs.TextLines.{line_starts}
+use Rattle.snippet_places.specs.declared.clamp.Place.{Place}
+use Rattle.snippet_places.specs.declared.columns.ColumnUnit.TheVariants as column
+use Rattle.snippet_places.specs.declared.columns.Position.{Position}
 use Rattle.replay_read.specs.Shape.{HasShape}
 use Rattle.replay_read.specs.declared.shape.Shape.TheVariants as shape
-use Rattle.replay_read.specs.declared.span.LineColumn.{LineColumn}
 use Rattle.replay_read.specs.declared.span.SpanUnit.{SpanUnit}
 use Rattle.replay_read.specs.declared.span.SpanUnit.TheVariants.{Byte, Char, Utf16}
 
@@ -21,26 +26,17 @@ unit_name Utf16 = codes "utf16"
 abbrev pub IsUnit : Data → SpanUnit → Type 0
 IsUnit d unit = as_str d ≡ Some (unit_name unit)
 
--- how many units a byte counts. Of a character the first byte counts all units, and its other bytes, 128 to 191, count none; a character
--- of four bytes, whose first is 240 or more, is two units of UTF-16
-abbrev pub units_at : SpanUnit → ℕ → ℕ
-units_at Byte b = 1
-units_at Char b = if nat_le 128 b && nat_lt b 192 then 0 else 1
-units_at Utf16 b = if nat_le 128 b && nat_lt b 192 then 0 else if nat_le 240 b then 2 else 1
+-- the byte of a place that was looked for in a text: where the text has fewer units there is none, and a place between the units of one
+-- character is the second byte of it
+abbrev pub byte_of : List ℕ → Place → Option ℕ
+byte_of text place =
+    if place.exact then Some place.byte else if nat_lt place.byte (length text) then Some (place.byte + 1) else None
 
--- the byte before which so many units stand in some bytes that begin at byte `at`: of two units of one character the second begins within
--- it. There is none where there are fewer units
-abbrev pub byte_after : SpanUnit → ℕ → List ℕ → ℕ → Option ℕ
-byte_after unit at [] units = if units == 0 then Some at else None
-byte_after unit at (b ∷ bs) units =
-    if nat_lt units (units_at unit b) then Some (at + units)
-    else byte_after unit (at + 1) bs (units - units_at unit b)
-
--- the byte after so many line feeds, in some bytes that begin at byte `at`; none where there are fewer
-abbrev pub after_feeds : ℕ → List ℕ → ℕ → Option ℕ
-after_feeds at [] feeds = if feeds == 0 then Some at else None
-after_feeds at (b ∷ bs) feeds =
-    if feeds == 0 then Some at else after_feeds (at + 1) bs (if b == 10 then feeds - 1 else feeds)
+-- the byte before which so many units of a text stand; none where it has fewer
+abbrev pub byte_after : SpanUnit → List ℕ → ℕ → Option ℕ
+byte_after Byte text units = if nat_le units (length text) then Some units else None
+byte_after Char text units = byte_of text (place_from column.Chars 0 (chars text) units)
+byte_after Utf16 text units = byte_of text (place_from column.Utf16 0 (chars text) units)
 
 -- what stands before the first line feed
 abbrev pub until_feed : List ℕ → List ℕ
@@ -50,23 +46,24 @@ until_feed (b ∷ bs) = if b == 10 then [] else b ∷ until_feed bs
 -- the byte before which so many units stand in the line that starts at a byte of a source; none where the line has fewer
 abbrev pub byte_in_line : SpanUnit → List ℕ → ℕ → ℕ → Option ℕ
 byte_in_line unit source units start =
-    option_map (λ byte. start + byte) (byte_after unit 0 (until_feed (drop start source)) units)
+    option_map (λ byte. start + byte) (byte_after unit (until_feed (drop start source)) units)
 
--- the byte of a line and a column, each counted from 1; none where the source has no such place. The column after a line's last is one
-abbrev pub byte_at : SpanUnit → List ℕ → LineColumn → Option ℕ
+-- the byte of a line and a column, each counted from 1; none where the source has no such place. The column after a line's last is one,
+-- and a carriage return before a line feed is a column too
+abbrev pub byte_at : SpanUnit → List ℕ → Position → Option ℕ
 byte_at unit source place =
     if place.line == 0 || place.column == 0 then None
-    else option_and_then (byte_in_line unit source (place.column - 1)) (after_feeds 0 source (place.line - 1))
+    else option_and_then (byte_in_line unit source (place.column - 1)) (slice_get (line_starts source) (place.line - 1))
 
 -- the byte of a number, which counts bytes where no unit is said
 abbrev pub counted : List ℕ → Option SpanUnit → ℕ → Option ℕ
 counted source None number = Some number
 counted source (Some Byte) number = Some number
-counted source (Some Char) number = byte_after Char 0 source number
-counted source (Some Utf16) number = byte_after Utf16 0 source number
+counted source (Some Char) number = byte_after Char source number
+counted source (Some Utf16) number = byte_after Utf16 source number
 
 -- the byte of a place, whose column counts characters where no unit is said
-abbrev pub placed : List ℕ → Option SpanUnit → LineColumn → Option ℕ
+abbrev pub placed : List ℕ → Option SpanUnit → Position → Option ℕ
 placed source None place = byte_at Char source place
 placed source (Some unit) place = byte_at unit source place
 
@@ -81,7 +78,7 @@ between source (Some start) None = past_end source
 between source None end = past_end source
 
 -- a place: its line and its column
-pub record IsPlaceOf (d : Data) (place : LineColumn) : Type 0 where
+pub record IsPlaceOf (d : Data) (place : Position) : Type 0 where
   pub only : HasShape shape.Place d
   pub line : number_at (codes "line") d ≡ Some place.line
   pub column : number_at (codes "column") d ≡ Some place.column
@@ -100,8 +97,8 @@ pub record IsCountedSpan (source : List ℕ) (unit : Option SpanUnit) (d : Data)
 pub record IsPlacedSpan (source : List ℕ) (unit : Option SpanUnit) (d : Data) (span : Range ℕ) : Type 0 where
   pub no_start : given (codes "start") d ≡ None
   pub no_end : given (codes "end") d ≡ None
-  pub from : LineColumn
-  pub to : LineColumn
+  pub from : Position
+  pub to : Position
   pub from_is : SaysAt IsPlaceOf (codes "from") d from
   pub to_is : SaysAt IsPlaceOf (codes "to") d to
   pub span_is : span ≡ between source (placed source unit from) (placed source unit to)

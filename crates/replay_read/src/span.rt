@@ -1,6 +1,7 @@
 //! Where in a source the span of a marker lies: by numbers that count bytes or other units, or by lines and columns.
 
 ghost use Rattle.std.specs.Prelude.{◌≡◌, ◌≤◌, IfOk, IfSome, IsTrue, OnOk, None, codes, length};
+ghost use Rattle.std.specs.Str.{IsCharBoundary};
 ghost use Rattle.serde_json.specs.View.{view};
 ghost use Rattle.json_node.specs.Field.{MaySayAt, SaysAt, given};
 ghost use Rattle.replay_read.specs.Span.{IsCountedSpan, IsPlaceOf, IsPlacedSpan, IsSpanOf, IsUnit};
@@ -10,6 +11,7 @@ use crate::shape::{FormatValue, Shape, has_shape};
 use json_node::expectation::Expectation;
 use json_node::fault::Fault;
 use json_node::node::Node;
+use snippet_places::{ColumnUnit, Place, Position, line_start, place_after};
 use std::ops::Range;
 
 /// What is counted in a source.
@@ -28,13 +30,6 @@ pub enum SpanUnit {
 pub struct Ruler<'s> {
     pub source: &'s str,
     pub unit: Option<SpanUnit>,
-}
-
-/// A place in a source: a line and a column, each counted from 1.
-#[derive(Clone, Copy)]
-pub struct LineColumn {
-    pub line: usize,
-    pub column: usize,
 }
 
 /// The unit of a snippet's spans, where one is given.
@@ -113,20 +108,20 @@ fn has_no(node: &Node<'_, '_>, name: &str) -> Result<(), Fault>
 }
 
 /// The place in the field of this name.
-fn place_in(node: &Node<'_, '_>, name: &str) -> Result<LineColumn, Fault>
+fn place_in(node: &Node<'_, '_>, name: &str) -> Result<Position, Fault>
     ensures value { IfOk result (SaysAt IsPlaceOf name.now (view node.now.value.now)) }
 {
     place_of(&node.needed(name, Expectation::Object)?)
 }
 
 /// The place that is described.
-fn place_of(node: &Node<'_, '_>) -> Result<LineColumn, Fault>
+fn place_of(node: &Node<'_, '_>) -> Result<Position, Fault>
     ensures value { IfOk result (IsPlaceOf (view node.now.value.now)) }
 {
     has_shape(node, Shape::Place)?;
     let line = node.number("line")?;
     let column = node.number("column")?;
-    Ok(LineColumn { line, column })
+    Ok(Position { line, column })
 }
 
 /// The span between two bytes. Where the source has one of them not, it is one past the end, and past the one byte
@@ -147,40 +142,38 @@ fn between(source: &str, start: Option<usize>, end: Option<usize>) -> Range<usiz
 fn counted(ruler: Ruler<'_>, number: usize) -> Option<usize>
     ensures value { result ≡ spec.counted ruler.entry.source.now ruler.entry.unit number }
 {
-    let bytes = ruler.source.as_bytes();
     match ruler.unit {
         None | Some(SpanUnit::Byte) => Some(number),
-        Some(unit) => byte_after(bytes, number, unit),
+        Some(unit) => byte_after(ruler.source, number, unit),
     }
 }
 
 /// The byte of a place.
-fn placed(ruler: Ruler<'_>, place: LineColumn) -> Option<usize>
+fn placed(ruler: Ruler<'_>, place: Position) -> Option<usize>
     ensures value { result ≡ spec.placed ruler.entry.source.now ruler.entry.unit place }
 {
-    let bytes = ruler.source.as_bytes();
     match ruler.unit {
-        None => byte_at(bytes, place, SpanUnit::Char),
-        Some(unit) => byte_at(bytes, place, unit),
+        None => byte_at(ruler.source, place, SpanUnit::Char),
+        Some(unit) => byte_at(ruler.source, place, unit),
     }
 }
 
 /// The byte of a line and a column.
-fn byte_at(source: &[u8], place: LineColumn, unit: SpanUnit) -> Option<usize>
+fn byte_at(source: &str, place: Position, unit: SpanUnit) -> Option<usize>
     ensures value { result ≡ spec.byte_at unit source.now place }
 {
     if place.line == 0 || place.column == 0 {
         return None;
     }
-    match after_feeds(source, place.line - 1) {
+    match line_start(source, place.line - 1) {
         Some(start) => byte_in_line(source, start, place.column - 1, unit),
         None => None,
     }
 }
 
 /// The byte before which so many units stand in the line that starts at this byte.
-fn byte_in_line(source: &[u8], start: usize, units: usize, unit: SpanUnit) -> Option<usize>
-    requires within { start ≤ length source.now }
+fn byte_in_line(source: &str, start: usize, units: usize, unit: SpanUnit) -> Option<usize>
+    requires border { IsCharBoundary source.now start }
     ensures value { result ≡ spec.byte_in_line unit source.now units start }
 {
     match byte_after(until_feed(&source[start..]), units, unit) {
@@ -189,62 +182,43 @@ fn byte_in_line(source: &[u8], start: usize, units: usize, unit: SpanUnit) -> Op
     }
 }
 
-/// The byte after so many line feeds.
-fn after_feeds(bytes: &[u8], feeds: usize) -> Option<usize>
-    ensures value { result ≡ spec.after_feeds 0 bytes.now feeds }
-    ensures within { IfSome result (λ at. at ≤ length bytes.now) }
-{
-    let mut left = feeds;
-    for (at, byte) in bytes.iter().enumerate() {
-        if left == 0 {
-            return Some(at);
-        }
-        if *byte == b'\n' {
-            left -= 1;
-        }
-    }
-    if left == 0 { Some(bytes.len()) } else { None }
-}
-
 /// What stands before the first line feed.
-fn until_feed(bytes: &[u8]) -> &[u8]
-    ensures value { result.now ≡ spec.until_feed bytes.now }
-    ensures within { length result.now ≤ length bytes.now }
+fn until_feed(text: &str) -> &str
+    ensures value { result.now ≡ spec.until_feed text.now }
+    ensures within { length result.now ≤ length text.now }
 {
-    for (at, byte) in bytes.iter().enumerate() {
+    for (at, byte) in text.as_bytes().iter().enumerate() {
         if *byte == b'\n' {
-            return &bytes[..at];
+            return &text[..at];
         }
     }
-    bytes
+    text
 }
 
 /// The byte before which so many units stand.
-fn byte_after(bytes: &[u8], units: usize, unit: SpanUnit) -> Option<usize>
-    ensures value { result ≡ spec.byte_after unit 0 bytes.now units }
-    ensures within { IfSome result (λ at. at ≤ length bytes.now) }
+fn byte_after(text: &str, units: usize, unit: SpanUnit) -> Option<usize>
+    ensures value { result ≡ spec.byte_after unit text.now units }
+    ensures within { IfSome result (λ at. at ≤ length text.now) }
 {
-    let mut left = units;
-    for (at, byte) in bytes.iter().enumerate() {
-        let width = units_at(*byte, unit);
-        if left < width {
-            return Some(at + left);
-        }
-        left -= width;
+    match unit {
+        SpanUnit::Byte if units <= text.len() => Some(units),
+        SpanUnit::Byte => None,
+        SpanUnit::Char => byte_of(text, place_after(text, units, ColumnUnit::Chars)),
+        SpanUnit::Utf16 => byte_of(text, place_after(text, units, ColumnUnit::Utf16)),
     }
-    if left == 0 { Some(bytes.len()) } else { None }
 }
 
-/// How many units a byte counts: those of a character at its first byte.
-fn units_at(byte: u8, unit: SpanUnit) -> usize
-    ensures value { result ≡ spec.units_at unit byte }
-    ensures few { result ≤ 2 }
+/// The byte of a place that was looked for. Between the units of a character it is that character's second byte, so
+/// that a report is refused for it.
+fn byte_of(text: &str, place: Place) -> Option<usize>
+    ensures value { result ≡ spec.byte_of text.now place }
+    ensures within { place.byte ≤ length text.now → IfSome result (λ at. at ≤ length text.now) }
 {
-    let is_inner = byte >= 128 && byte < 192;
-    match unit {
-        SpanUnit::Byte => 1,
-        _ if is_inner => 0,
-        SpanUnit::Utf16 if byte >= 240 => 2,
-        _ => 1,
+    if place.exact {
+        Some(place.byte)
+    } else if place.byte < text.len() {
+        Some(place.byte + 1)
+    } else {
+        None
     }
 }

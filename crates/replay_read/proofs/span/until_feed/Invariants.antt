@@ -4,4 +4,4 @@ use Rattle.replay_read.proofs.span.until_feed.Given as goal
 
 -- no line feed stands before here
 abbrev pub invariant-loop-at : goal.invariant-loop-at
-invariant-loop-at l = take l.at l.bytes ++ until_feed (drop l.at l.bytes) ≡ until_feed l.bytes
+invariant-loop-at l = take l.at l.text ++ until_feed (drop l.at l.text) ≡ until_feed l.text
