@@ -1,9 +1,11 @@
 //! The finding that a diagnostic reports: its places and edits, in the sources that are at hand.
 
-ghost use Rattle.std.specs.Prelude.{◌≡◌, IfOk, string_bytes};
+ghost use Rattle.std.specs.Prelude.{◌≡◌, IfOk, OnOk, string_bytes};
 ghost use Rattle.std.specs.List.{AllZip};
 ghost use Rattle.std.specs.Option.{option_map};
 ghost use Rattle.redraw_report.specs.Report.{lent};
+ghost use Rattle.redraw_read.specs.Loaded.{Loads, child_files, edited_files, files_in, files_of, named_files};
+ghost use Rattle.redraw_read.specs.Loaded.{texts_of};
 ghost use Rattle.redraw_read.specs.Placed.{IsFindingOf, IsMarkOf, IsRemarkOf, at_hand, home_of};
 
 use crate::hand::Hand;
@@ -18,14 +20,31 @@ use std::alloc::{AllocError, Global};
 pub fn load_files<S: SourceFiles + Drop>(
     sources: &mut Sources<S>,
     diagnostic: &Diagnostic,
-) -> Result<(), AllocError> {
+) -> Result<(), AllocError>
+    ensures loads { OnOk result (Loads (home_of diagnostic.now.homes.items) (named_files diagnostic.now)
+        sources.old.files.items sources.new.files.items
+        (texts_of sources.old.unread.items) (texts_of sources.new.unread.items)) }
+{
     let homes = &diagnostic.homes;
     load_spans(sources, homes, &diagnostic.spans)?;
     for child in &diagnostic.children {
-        load_spans(sources, homes, &child.spans)?;
-        load_edits(sources, homes, &child.alternatives)?;
+        load_child(sources, homes, child)?;
     }
     Ok(())
+}
+
+/// Reads each file that a child speaks of.
+fn load_child<S: SourceFiles + Drop>(
+    sources: &mut Sources<S>,
+    homes: &[String],
+    child: &Child,
+) -> Result<(), AllocError>
+    ensures loads { OnOk result (Loads (home_of homes.now) (child_files child.now)
+        sources.old.files.items sources.new.files.items
+        (texts_of sources.old.unread.items) (texts_of sources.new.unread.items)) }
+{
+    load_spans(sources, homes, &child.spans)?;
+    load_edits(sources, homes, &child.alternatives)
 }
 
 /// Reads each file that these places are in.
@@ -33,7 +52,11 @@ fn load_spans<S: SourceFiles + Drop>(
     sources: &mut Sources<S>,
     homes: &[String],
     spans: &[FileSpan],
-) -> Result<(), AllocError> {
+) -> Result<(), AllocError>
+    ensures loads { OnOk result (Loads (home_of homes.now) (files_of spans.now)
+        sources.old.files.items sources.new.files.items
+        (texts_of sources.old.unread.items) (texts_of sources.new.unread.items)) }
+{
     for span in spans {
         sources.load(span.file.as_str(), homes)?;
     }
@@ -45,11 +68,29 @@ fn load_edits<S: SourceFiles + Drop>(
     sources: &mut Sources<S>,
     homes: &[String],
     alternatives: &[Vec<Edit>],
-) -> Result<(), AllocError> {
+) -> Result<(), AllocError>
+    ensures loads { OnOk result (Loads (home_of homes.now) (edited_files alternatives.now)
+        sources.old.files.items sources.new.files.items
+        (texts_of sources.old.unread.items) (texts_of sources.new.unread.items)) }
+{
     for edits in alternatives {
-        for edit in edits {
-            sources.load(edit.file.as_str(), homes)?;
-        }
+        load_edited(sources, homes, edits)?;
+    }
+    Ok(())
+}
+
+/// Reads each file that these edits change.
+fn load_edited<S: SourceFiles + Drop>(
+    sources: &mut Sources<S>,
+    homes: &[String],
+    edits: &Vec<Edit>,
+) -> Result<(), AllocError>
+    ensures loads { OnOk result (Loads (home_of homes.now) (files_in edits.now)
+        sources.old.files.items sources.new.files.items
+        (texts_of sources.old.unread.items) (texts_of sources.new.unread.items)) }
+{
+    for edit in edits {
+        sources.load(edit.file.as_str(), homes)?;
     }
     Ok(())
 }

@@ -1,12 +1,15 @@
 //! The sources that reports show, each read once.
 
-ghost use Rattle.std.specs.Prelude.{◌≡◌, string_bytes};
+ghost use Rattle.std.specs.Prelude.{◌≡◌, ◌++◌, ◌||◌, [], ◌∷◌, OnOk, codes, eqb, is_some, string_bytes};
+ghost use Rattle.std.specs.List.{list_any, starts_with};
 ghost use Rattle.std.specs.Option.{option_map};
 ghost use Rattle.redraw_read.specs.Extract as spec;
 ghost use Rattle.redraw_read.specs.Extract.{held};
+ghost use Rattle.redraw_read.specs.Loaded.{Loads, texts_of, unread_name};
 ghost use Rattle.redraw_read.specs.Placed.{home_of};
 
 use crate::source::Source;
+use crate::words::begins_with;
 use std::alloc::{AllocError, Global};
 
 /// Where files are read from.
@@ -34,6 +37,14 @@ impl File {
         ensures value { result ≡ spec.is_named name.now home.now self.now }
     {
         self.name.as_str() == name && self.home.as_str() == home
+    }
+
+    /// Whether nothing is to be told of it: it was read, or it is one of the standard library as that was built.
+    fn needs_no_word(&self) -> bool
+        ensures value { result
+            ≡ is_some self.now.source || starts_with eqb (string_bytes self.now.name) (codes "/rustc/") }
+    {
+        self.source.is_some() || begins_with(self.name.as_str(), BUILT)
     }
 
     /// What it holds, where it was read.
@@ -67,7 +78,10 @@ impl<S: SourceFiles + Drop> Sources<S> {
 
     /// Reads the file of this name, unless it was asked for before. One that isn't on the source_files by its name is
     /// looked for below the folders of these files.
-    pub fn load(&mut self, name: &str, homes: &[String]) -> Result<(), AllocError> {
+    pub fn load(&mut self, name: &str, homes: &[String]) -> Result<(), AllocError>
+        ensures loads { OnOk result (Loads (home_of homes.now) (name.now ∷ []) self.old.files.items self.new.files.items
+            (texts_of self.old.unread.items) (texts_of self.new.unread.items)) }
+    {
         let home = first_home(homes);
         if !self.has(name, home) {
             let source = self.source_of(name, homes)?;
@@ -118,16 +132,31 @@ impl<S: SourceFiles + Drop> Sources<S> {
     }
 
     /// Keeps what the file of this name holds.
-    fn keep(&mut self, name: &str, home: &str, source: Option<Source>) -> Result<(), AllocError> {
-        if source.is_none() && !name.starts_with(BUILT) {
-            self.unread.push(String::from_str(self.alloc, name)?)?;
-        }
+    fn keep(&mut self, name: &str, home: &str, source: Option<Source>) -> Result<(), AllocError>
+        ensures loads { OnOk result (Loads home.now (name.now ∷ []) self.old.files.items self.new.files.items
+            (texts_of self.old.unread.items) (texts_of self.new.unread.items)) }
+    {
         let file = File {
             name: String::from_str(self.alloc, name)?,
             home: String::from_str(self.alloc, home)?,
             source,
         };
+        self.note(&file)?;
         self.files.push(file)?;
+        Ok(())
+    }
+
+    /// Notes the name of a file that couldn't be read, to be told.
+    fn note(&mut self, file: &File) -> Result<(), AllocError>
+        ensures noted { OnOk result
+            (texts_of self.new.unread.items ≡ texts_of self.old.unread.items ++ unread_name file.now) }
+        ensures kept { self.new.files ≡ self.old.files }
+    {
+        if file.needs_no_word() {
+            return Ok(());
+        }
+        let name = String::from_str(self.alloc, file.name.as_str())?;
+        self.unread.push(name)?;
         Ok(())
     }
 
@@ -146,7 +175,9 @@ impl<S: SourceFiles + Drop> Sources<S> {
     }
 
     /// Whether the file of this name was asked for, in a project with this file.
-    fn has(&self, name: &str, home: &str) -> bool {
+    fn has(&self, name: &str, home: &str) -> bool
+        ensures value { result ≡ list_any (spec.is_named name.now home.now) self.now.files.items }
+    {
         self.files.iter().any(|file| file.is_named(name, home))
     }
 }
