@@ -1,4 +1,5 @@
 pub mod Choice
+pub mod Line
 pub mod Look
 pub mod Tally
 pub mod Told

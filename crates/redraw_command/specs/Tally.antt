@@ -1,5 +1,5 @@
 -- What is counted of what is drawn, and the status that a run ends with.
-use Rattle.std.specs.Prelude.{ℕ, ◌+◌, ◌-◌, ◌^◌, Bool, true, false, ◌||◌, if◌then◌else◌, min}
+use Rattle.std.specs.Prelude.{ℕ, ◌+◌, ◌-◌, ◌^◌, Bool, true, false, ◌||◌, ◌&&◌, ◌==◌, if◌then◌else◌, min}
 use Rattle.redraw_report.specs.declared.diagnostic.Severity.{Severity}
 use Rattle.redraw_report.specs.declared.diagnostic.Severity.TheVariants.{Error, Warning, Info, Note, Help, Plain}
 use Rattle.redraw_command.specs.declared.tally.Tally.{Tally}
@@ -33,6 +33,28 @@ marked t severity = record t { has_error = t.has_error || is_error severity }
 -- the tally with what is drawn: a finding counts, and one that only sums up others doesn't
 abbrev pub tallied : Tally → Severity → Bool → Tally
 tallied t severity is_sum = if is_sum then marked t severity else counted (marked t severity) severity
+
+-- nothing was drawn or counted yet
+abbrev pub no_tally : Tally
+no_tally =
+    record {
+      errors = 0;
+      warnings = 0;
+      notes = 0;
+      duplicates = 0;
+      files = 0;
+      wrong = 0;
+      has_error = false;
+      has_failed = false;
+    }
+
+-- whether nothing was drawn that counts
+abbrev pub has_none : Tally → Bool
+has_none t = t.errors == 0 && (t.warnings == 0 && t.notes == 0)
+
+-- whether there is nothing to sum up: nothing was drawn that counts, nothing that was drawn before, and nothing left out
+abbrev pub is_empty : Tally → Bool
+is_empty t = has_none t && (t.duplicates == 0 && t.wrong == 0)
 
 -- the status of a run: 2 where not all of its inputs could be read and are of a form that is known, else 1 where an error was drawn
 -- or a build failed, else 0

@@ -1,7 +1,8 @@
 //! Which findings are drawn, and in which form.
-ghost use Rattle.std.specs.Prelude.{◌≡◌, nat_eq};
-ghost use Rattle.std.specs.List.{starts_with, ends_with};
+ghost use Rattle.std.specs.Prelude.{◌≡◌, ◌↔◌, nat_eq, true};
+ghost use Rattle.std.specs.List.{Any, starts_with, ends_with};
 ghost use Rattle.redraw_command.specs.Choice as spec;
+ghost use Rattle.redraw_command.specs.Choice.{AreIn, IsIn, IsTaken};
 
 use redraw_report::diagnostic::{Diagnostic, FileSpan, Severity};
 
@@ -39,12 +40,16 @@ pub struct Choice<'a> {
 
 impl Choice<'_> {
     /// Whether a finding is one of those that are drawn.
-    pub fn takes(&self, diagnostic: &Diagnostic) -> bool {
+    pub fn takes(&self, diagnostic: &Diagnostic) -> bool
+        ensures taken { (result ≡ true) ↔ IsTaken self.now diagnostic.now }
+    {
         self.takes_level(diagnostic.severity) && self.takes_spans(&diagnostic.spans)
     }
 
     /// Whether findings of this level are drawn.
-    fn takes_level(&self, severity: Severity) -> bool {
+    fn takes_level(&self, severity: Severity) -> bool
+        ensures value { result ≡ spec.takes_level self.now.least severity }
+    {
         match self.least {
             Least::Error => severity == Severity::Error,
             Least::Warning => severity == Severity::Error || severity == Severity::Warning,
@@ -53,14 +58,33 @@ impl Choice<'_> {
     }
 
     /// Whether findings with these places are drawn.
-    fn takes_spans(&self, spans: &[FileSpan]) -> bool {
+    fn takes_spans(&self, spans: &[FileSpan]) -> bool
+        ensures taken { (result ≡ true) ↔ AreIn self.now.path spans.now }
+    {
         match self.path {
-            Some(text) => spans
-                .iter()
-                .any(|span| span.is_primary && span.file.contains(text)),
+            Some(text) => has_one_in(spans, text),
             None => true,
         }
     }
+}
+
+/// Whether one of these places is primary and in a file whose path holds this text.
+fn has_one_in(spans: &[FileSpan], text: &str) -> bool
+    ensures some { (result ≡ true) ↔ Any (IsIn text.now) spans.now }
+{
+    for span in spans {
+        if is_in(span, text) {
+            return true;
+        }
+    }
+    false
+}
+
+/// Whether a place is primary and in a file whose path holds this text.
+fn is_in(span: &FileSpan, text: &str) -> bool
+    ensures value { (result ≡ true) ↔ IsIn text.now span.now }
+{
+    span.is_primary && span.file.contains(text)
 }
 
 /// Whether this only sums up how many others there are, as rustc and cargo do in the end: `aborting due to 2 previous

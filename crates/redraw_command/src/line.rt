@@ -1,6 +1,12 @@
 //! What a line of an input is, before it is read.
+ghost use Rattle.std.specs.Prelude.{◌≡◌, ℕ, List, true};
+ghost use Rattle.redraw_command.specs.Line as spec;
+ghost use Rattle.redraw_command.specs.Line.{IsForm, IsUnmarked};
 
 use std::str;
+
+/// The mark of the order of bytes.
+const MARK: &[u8] = b"\xef\xbb\xbf";
 
 /// A line, without a mark of the order of bytes at the start of the input.
 #[derive(Clone, Copy)]
@@ -16,8 +22,23 @@ pub enum Line<'a> {
 }
 
 /// What a line is, the first of an input or another.
-pub fn line_of(bytes: &[u8], is_first: bool) -> Line<'_> {
-    let bytes = if is_first { without_mark(bytes) } else { bytes };
+pub fn line_of(bytes: &[u8], is_first: bool) -> Line<'_>
+    ensures form { (text : List ℕ) × IsUnmarked is_first bytes.now text × IsForm text result }
+{
+    form_of(unmarked(bytes, is_first))
+}
+
+/// A line without the mark, where it may begin with one.
+fn unmarked(bytes: &[u8], is_first: bool) -> &[u8]
+    ensures unmarked { IsUnmarked is_first bytes.now result.now }
+{
+    if is_first { without_mark(bytes) } else { bytes }
+}
+
+/// What a line is, without a mark.
+fn form_of(bytes: &[u8]) -> Line<'_>
+    ensures form { IsForm bytes.now result }
+{
     match first_of(bytes) {
         Some(b'{') => match str::from_utf8(bytes) {
             Ok(text) => Line::Object(text),
@@ -29,7 +50,9 @@ pub fn line_of(bytes: &[u8], is_first: bool) -> Line<'_> {
 }
 
 /// The first byte that isn't blank.
-fn first_of(bytes: &[u8]) -> Option<u8> {
+fn first_of(bytes: &[u8]) -> Option<u8>
+    ensures value { result ≡ spec.first_of bytes.now }
+{
     for byte in bytes {
         if !byte.is_ascii_whitespace() {
             return Some(*byte);
@@ -39,10 +62,12 @@ fn first_of(bytes: &[u8]) -> Option<u8> {
 }
 
 /// The bytes without the mark of their order, which some tools write at the start.
-fn without_mark(bytes: &[u8]) -> &[u8] {
-    match bytes {
-        [0xef, 0xbb, 0xbf, rest @ ..] => rest,
-        _ => bytes,
+fn without_mark(bytes: &[u8]) -> &[u8]
+    ensures unmarked { IsUnmarked true bytes.now result.now }
+{
+    match bytes.strip_prefix(MARK) {
+        Some(rest) => rest,
+        None => bytes,
     }
 }
 

@@ -1,5 +1,5 @@
 //! What was drawn, and what became of the rest.
-ghost use Rattle.std.specs.Prelude.{◌≡◌};
+ghost use Rattle.std.specs.Prelude.{◌≡◌, not};
 ghost use Rattle.redraw_command.specs.Tally as spec;
 
 use redraw_report::diagnostic::Severity;
@@ -34,6 +34,22 @@ pub struct Tally {
 }
 
 impl Tally {
+    /// Nothing was drawn or counted.
+    pub fn new() -> Tally
+        ensures value { result ≡ spec.no_tally }
+    {
+        Tally {
+            errors: 0,
+            warnings: 0,
+            notes: 0,
+            duplicates: 0,
+            files: 0,
+            wrong: 0,
+            has_error: false,
+            has_failed: false,
+        }
+    }
+
     /// The tally with a finding of this level more, which isn't counted where it only sums up others.
     pub fn with(mut self, severity: Severity, is_sum: bool) -> Tally
         ensures tallied { result ≡ spec.tallied self severity is_sum }
@@ -67,12 +83,16 @@ impl Tally {
     }
 
     /// Whether nothing of all this was there.
-    pub fn is_empty(&self) -> bool {
+    pub fn is_empty(&self) -> bool
+        ensures value { result ≡ spec.is_empty self.now }
+    {
         !self.has_drawn() && self.duplicates == 0 && self.wrong == 0
     }
 
     /// Whether anything was drawn that counts.
-    fn has_drawn(&self) -> bool {
+    fn has_drawn(&self) -> bool
+        ensures value { result ≡ not (spec.has_none self.now) }
+    {
         self.errors > 0 || self.warnings > 0 || self.notes > 0
     }
 }

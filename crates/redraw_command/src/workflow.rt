@@ -1,7 +1,14 @@
 //! Findings as GitHub's workflow commands, a line each: `::error file=src/main.rs,line=2::message`.
 
-ghost use Rattle.std.specs.Prelude.{◌≡◌, ◌++◌, chars, OnOk, string_bytes, encode_utf8_all};
-ghost use Rattle.redraw_command.specs.Workflow.{escape, escaped};
+ghost use Rattle.std.specs.Prelude.{◌≡◌, ◌++◌, codes, chars, IfOk, OnOk, string_bytes, encode_utf8_all};
+ghost use Rattle.std.specs.List.{find};
+ghost use Rattle.std.specs.Option.{option_map};
+ghost use Rattle.redraw_report.specs.Report.{lent};
+ghost use Rattle.redraw_command.specs.Told.{shown};
+ghost use Rattle.redraw_command.specs.Workflow.{code_named, columns_named, command, escape, escaped, in_part};
+ghost use Rattle.redraw_command.specs.Workflow.{level_name, lines_named};
+ghost use Rattle.redraw_command.specs.Workflow.{number_property, place_named, property, raw_command, region_named};
+ghost use Rattle.redraw_command.specs.Workflow.{first_primary, label_said, said_of, separator_after};
 
 use crate::choice::is_sum;
 use redraw_report::diagnostic::{Diagnostic, FileSpan, LineRegion, Region, Severity};
@@ -18,23 +25,50 @@ pub enum Part {
 }
 
 /// The line of a finding; `None` of a text that isn't one, as it has no level or only sums up others.
-pub fn command_of(alloc: Global, diagnostic: &Diagnostic) -> Result<Option<String>, AllocError> {
-    let Some(level) = level_of(diagnostic.severity) else {
-        return Ok(None);
-    };
+pub fn command_of(alloc: Global, diagnostic: &Diagnostic) -> Result<Option<String>, AllocError>
+    ensures value { IfOk result (λ line. option_map string_bytes line ≡ command diagnostic.now) }
+{
     if is_sum(diagnostic) {
         return Ok(None);
     }
-    let mut line = format!(in alloc; "::{level}")?;
-    let place = place_of(&diagnostic.spans);
-    add_properties(alloc, diagnostic, place, &mut line)?;
+    match level_of(diagnostic.severity) {
+        Some(level) => Ok(Some(named_command(alloc, level, diagnostic)?)),
+        None => Ok(None),
+    }
+}
+
+/// The command of this name for a finding.
+fn named_command(alloc: Global, name: &str, diagnostic: &Diagnostic) -> Result<String, AllocError>
+    ensures value { IfOk result (λ line. string_bytes line
+        ≡ shown (raw_command name.now (first_primary diagnostic.now.spans.items) diagnostic.now)) }
+{
+    let line = raw_line(alloc, name, place_of(&diagnostic.spans), diagnostic)?;
+    normalize_untrusted_str(alloc, line.as_str())
+}
+
+/// The same before what is listed in it is replaced.
+fn raw_line(
+    alloc: Global,
+    name: &str,
+    place: Option<&FileSpan>,
+    diagnostic: &Diagnostic,
+) -> Result<String, AllocError>
+    ensures value { IfOk result (λ line. string_bytes line
+        ≡ raw_command name.now (option_map (λ s. s.now) place.entry) diagnostic.now) }
+{
+    let mut line = format!(in alloc; "::{name}")?;
+    add_place(alloc, place, &mut line)?;
+    add_code(diagnostic, separator_of(place), &mut line)?;
     line.push_str("::")?;
-    add_message(diagnostic, place, &mut line)?;
-    Ok(Some(normalize_untrusted_str(alloc, line.as_str())?))
+    add_escaped(&mut line, diagnostic.message.as_str(), Part::Data)?;
+    add_said(place, &mut line)?;
+    Ok(line)
 }
 
 /// The command for a level.
-fn level_of(severity: Severity) -> Option<&'static str> {
+fn level_of(severity: Severity) -> Option<&'static str>
+    ensures value { lent result ≡ level_name severity }
+{
     match severity {
         Severity::Error => Some("error"),
         Severity::Warning => Some("warning"),
@@ -44,7 +78,9 @@ fn level_of(severity: Severity) -> Option<&'static str> {
 }
 
 /// The first primary place.
-fn place_of(spans: &[FileSpan]) -> Option<&FileSpan> {
+fn place_of(spans: &[FileSpan]) -> Option<&FileSpan>
+    ensures value { option_map (λ s. s.now) result ≡ first_primary spans.now }
+{
     for span in spans {
         if span.is_primary {
             return Some(span);
@@ -53,25 +89,49 @@ fn place_of(spans: &[FileSpan]) -> Option<&FileSpan> {
     None
 }
 
-/// Adds the properties: where the finding is, and the name of the rule that it breaks.
-fn add_properties(
-    alloc: Global,
-    diagnostic: &Diagnostic,
-    place: Option<&FileSpan>,
-    line: &mut String,
-) -> Result<(), AllocError> {
-    let mut separator = " ";
-    if let Some(span) = place {
-        add_property(line, separator, "file", span.file.as_str())?;
-        separator = ",";
-        if let Region::Lines(region) = span.region {
-            add_region(alloc, region, line)?;
+/// What parts a property from what stands before it.
+fn separator_of(place: Option<&FileSpan>) -> &'static str
+    ensures value { result.now ≡ separator_after (option_map (λ s. s.now) place.entry) }
+{
+    match place {
+        Some(_) => ",",
+        None => " ",
+    }
+}
+
+/// Adds where the finding is.
+fn add_place(alloc: Global, place: Option<&FileSpan>, line: &mut String) -> Result<(), AllocError>
+    ensures added { OnOk result
+        (string_bytes line.new ≡ string_bytes line.old ++ place_named (option_map (λ s. s.now) place.entry)) }
+{
+    match place {
+        Some(span) => {
+            add_property(line, " ", "file", span.file.as_str())?;
+            add_lines(alloc, span.region, line)
         }
+        None => Ok(()),
     }
-    if let Some(code) = &diagnostic.code {
-        add_property(line, separator, "title", code.id.as_str())?;
+}
+
+/// Adds the lines of a region, where it has some.
+fn add_lines(alloc: Global, region: Region, line: &mut String) -> Result<(), AllocError>
+    ensures added { OnOk result (string_bytes line.new ≡ string_bytes line.old ++ region_named region) }
+{
+    match region {
+        Region::Lines(lines) => add_region(alloc, lines, line),
+        _ => Ok(()),
     }
-    Ok(())
+}
+
+/// Adds the name of the rule that a finding breaks, after a separator.
+fn add_code(diagnostic: &Diagnostic, separator: &str, line: &mut String) -> Result<(), AllocError>
+    ensures added { OnOk result
+        (string_bytes line.new ≡ string_bytes line.old ++ code_named separator.now diagnostic.now.code) }
+{
+    match &diagnostic.code {
+        Some(code) => add_property(line, separator, "title", code.id.as_str()),
+        None => Ok(()),
+    }
 }
 
 /// Adds a property, after a separator.
@@ -80,7 +140,10 @@ fn add_property(
     separator: &str,
     name: &str,
     value: &str,
-) -> Result<(), AllocError> {
+) -> Result<(), AllocError>
+    ensures added { OnOk result
+        (string_bytes line.new ≡ string_bytes line.old ++ property separator.now name.now value.now) }
+{
     line.push_str(separator)?;
     line.push_str(name)?;
     line.push_str("=")?;
@@ -88,14 +151,23 @@ fn add_property(
 }
 
 /// Adds the lines of a region, and its columns where it lies on one line: GitHub takes none where it lies on several.
-fn add_region(alloc: Global, region: LineRegion, line: &mut String) -> Result<(), AllocError> {
+fn add_region(alloc: Global, region: LineRegion, line: &mut String) -> Result<(), AllocError>
+    ensures added { OnOk result (string_bytes line.new ≡ string_bytes line.old ++ lines_named region) }
+{
     add_number(alloc, "line", Some(region.start_line), line)?;
     add_number(alloc, "endLine", Some(region.end_line), line)?;
     if region.start_line == region.end_line {
-        add_number(alloc, "col", region.start_column, line)?;
-        add_number(alloc, "endColumn", region.end_column, line)?;
+        add_columns(alloc, region, line)?;
     }
     Ok(())
+}
+
+/// Adds the columns of a region.
+fn add_columns(alloc: Global, region: LineRegion, line: &mut String) -> Result<(), AllocError>
+    ensures added { OnOk result (string_bytes line.new ≡ string_bytes line.old ++ columns_named region) }
+{
+    add_number(alloc, "col", region.start_column, line)?;
+    add_number(alloc, "endColumn", region.end_column, line)
 }
 
 /// Adds a property that is a number, if there is one, after a comma.
@@ -104,34 +176,46 @@ fn add_number(
     name: &str,
     number: Option<usize>,
     line: &mut String,
-) -> Result<(), AllocError> {
-    if let Some(number) = number {
-        let property = format!(in alloc; ",{name}={number}")?;
-        line.push_str(property.as_str())?;
+) -> Result<(), AllocError>
+    ensures added { OnOk result (string_bytes line.new ≡ string_bytes line.old ++ number_property name.now number) }
+{
+    match number {
+        Some(number) => {
+            let property = format!(in alloc; ",{name}={number}")?;
+            line.push_str(property.as_str())
+        }
+        None => Ok(()),
     }
-    Ok(())
 }
 
-/// Adds the message, and what is said of the place.
-fn add_message(
-    diagnostic: &Diagnostic,
-    place: Option<&FileSpan>,
-    line: &mut String,
-) -> Result<(), AllocError> {
-    add_escaped(line, diagnostic.message.as_str(), Part::Data)?;
-    if let Some(span) = place {
-        if let Some(label) = &span.label {
-            line.push_str(": ")?;
-            add_escaped(line, label.as_str(), Part::Data)?;
-        }
+/// Adds what is said of a place, after the message.
+fn add_said(place: Option<&FileSpan>, line: &mut String) -> Result<(), AllocError>
+    ensures added { OnOk result
+        (string_bytes line.new ≡ string_bytes line.old ++ said_of (option_map (λ s. s.now) place.entry)) }
+{
+    match place {
+        Some(span) => add_label(&span.label, line),
+        None => Ok(()),
     }
-    Ok(())
+}
+
+/// Adds a label, where there is one.
+fn add_label(label: &Option<String>, line: &mut String) -> Result<(), AllocError>
+    ensures added { OnOk result (string_bytes line.new ≡ string_bytes line.old ++ label_said label.now) }
+{
+    match label {
+        Some(label) => {
+            line.push_str(": ")?;
+            add_escaped(line, label.as_str(), Part::Data)
+        }
+        None => Ok(()),
+    }
 }
 
 /// Adds a text, with what has a meaning in this part of a command escaped.
 fn add_escaped(line: &mut String, text: &str, part: Part) -> Result<(), AllocError>
     ensures added { OnOk result
-        (string_bytes line.new ≡ string_bytes line.old ++ encode_utf8_all (escaped part (chars text.now))) }
+        (string_bytes line.new ≡ string_bytes line.old ++ in_part part text.now) }
 {
     for character in text.chars() {
         add_character(line, character, part)?;

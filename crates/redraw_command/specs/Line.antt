@@ -1,0 +1,33 @@
+-- What a line of an input is, before it is read.
+use Rattle.std.specs.Prelude.{◌≡◌, ◌≢◌, ℕ, ◌⊎◌, ◌==◌, Bool, true, false, not, List, [], ◌∷◌, ◌++◌, Option, None, is_some}
+use Rattle.std.specs.Char.{is_ascii_whitespace}
+use Rattle.std.specs.List.{find}
+use Rattle.std.specs.Option.{option_map_or}
+use Rattle.std.specs.Str.{IsUtf8}
+use Rattle.redraw_command.specs.declared.line.Line.{Line}
+use Rattle.redraw_command.specs.declared.line.Line.TheVariants as form
+
+-- the mark of the order of bytes
+abbrev pub mark : List ℕ
+mark = 239 ∷ 187 ∷ 191 ∷ []
+
+-- the first line of an input is this after the mark, where it begins with that; any other line is this as it stands
+abbrev pub IsUnmarked : Bool → List ℕ → List ℕ → Type 0
+IsUnmarked true line text = (line ≡ mark ++ text) ⊎ ((text ≡ line) × ((rest : List ℕ) → line ≢ mark ++ rest))
+IsUnmarked false line text = text ≡ line
+
+-- the first byte of a text that isn't blank
+abbrev pub first_of : List ℕ → Option ℕ
+first_of text = find (λ b. not (is_ascii_whitespace b)) text
+
+-- whether a text begins as an object of JSON does: its first byte that isn't blank is a brace
+abbrev pub begins_object : List ℕ → Bool
+begins_object text = option_map_or (λ b. b == 123) (first_of text) false
+
+-- what a line with this text is: it may be an object, whose text this is; or it begins as one does and isn't UTF-8; or it is blank, or
+-- it begins otherwise
+abbrev pub IsForm : List ℕ → Line → Type 0
+IsForm text (form.Object object) = (object.now ≡ text) × (begins_object text ≡ true)
+IsForm text form.Undecoded = (IsUtf8 text → ⊥) × (begins_object text ≡ true)
+IsForm text form.Blank = first_of text ≡ None
+IsForm text form.Other = (begins_object text ≡ false) × (is_some (first_of text) ≡ true)
