@@ -61,7 +61,7 @@ module _ (r : Renderer) (groups : List Group) where
   form-laws Text report drawable are = text-laws r groups
 
   -- a text that prints the report's page has its laws
-  page-law : PageLaws r groups (graphic_form r groups) → (sheet : Stylesheet) (text : List ℕ)
+  pub page-law : PageLaws r groups (graphic_form r groups) → (sheet : Stylesheet) (text : List ℕ)
       → PrintsPage sheet (levels_of groups) (graphic_form r groups) text
       → LawsIn Graphic r groups sheet text
   page-law laws sheet text prints =
@@ -81,7 +81,7 @@ module _ (r : Renderer) (groups : List Group) where
   none-in Text given = record { are = tt }
 
 module _ (r : Renderer) (groups : List Group) (sheets : List Stylesheet) (texts : List (List ℕ)) where
-  shown-in : (form : Form) (report : Drawn) → All IsGroupDrawable groups → IsDrawnAs form r groups report → AllZip (IsPrintedAs report) sheets texts
+  pub shown-in : (form : Form) (report : Drawn) → All IsGroupDrawable groups → IsDrawnAs form r groups report → AllZip (IsPrintedAs report) sheets texts
       → ShowsForm form r groups sheets texts
   shown-in Graphic (drawn.Page grids) drawable are printed =
       sheets_shown r groups grids.items drawable are sheets texts printed
@@ -99,7 +99,7 @@ module _ (r : Renderer) (groups : List Group) (sheets : List Stylesheet) (texts 
   texts-shown report = shown-in (form_of r) report
 
   -- the laws of a form are those of the texts of a report that is drawn in it
-  laws-in : (form : Form) (report : Drawn) → FormLaws form r groups → All IsGroupDrawable groups → IsDrawnAs form r groups report
+  pub laws-in : (form : Form) (report : Drawn) → FormLaws form r groups → All IsGroupDrawable groups → IsDrawnAs form r groups report
       → AllZip (IsPrintedAs report) sheets texts
       → AllZip (LawsIn form r groups) sheets texts
   laws-in Graphic (drawn.Page grids) laws drawable are printed =

@@ -11,7 +11,7 @@ use Rattle.snippet_model.specs.declared.snippet.Group.{Group}
 use Rattle.snippet_parts.proofs.PartLemmas.{All-unmapped}
 use Rattle.snippet_style.specs.declared.glyphs.DecorStyle.{DecorStyle}
 use Rattle.annotate_snippets.specs.Around.{drawn_elements, file_of_group, position_of_group}
-use Rattle.annotate_snippets.specs.Drawn.{AreGridsOf, HasRoomFor, IsGroupGrid}
+use Rattle.annotate_snippets.specs.Drawn.{AreGridsOf, HasRoomFor, IsGridAt, IsGroupGrid}
 use Rattle.annotate_snippets.specs.Gutter.{code_after, depth_of_group, layout_of_group, gutter_of_report}
 use Rattle.annotate_snippets.specs.Prepared.{IsGroupDrawable, IsGroupPrepared, element_of}
 use Rattle.annotate_snippets.specs.declared.renderer.Renderer.{Renderer}
@@ -27,8 +27,7 @@ use Rattle.annotate_snippets.proofs.RoomLemmas.{room_in_report}
 pub record GridsSoFar (r : Renderer) (groups : List Group) (n : ℕ) (grids : List GroupGrid) : Type 0 where
   pub count : length grids ≡ n
   pub levels : map (λ (grid : GroupGrid). grid.level) grids ≡ map (λ (g : Group). g.level) (take n groups)
-  pub each : (i : ℕ) (g : Group) (grid : GroupGrid) → slice_get groups i ≡ Some g → slice_get grids i ≡ Some grid
-      → IsGroupGrid r (layout_of_group r groups g) (position_of_group (length groups) i) (file_of_group groups g) g grid.buffer
+  pub each : (i : ℕ) (g : Group) (grid : GroupGrid) → slice_get groups i ≡ Some g → slice_get grids i ≡ Some grid → IsGridAt r groups i g grid
 
 -- no grid stands for the first none of the groups
 pub grids_none : (r : Renderer) (groups : List Group) (grids : List GroupGrid) → grids ≡ [] → GridsSoFar r groups 0 grids
@@ -52,23 +51,49 @@ abbrev laid_out : ℕ → ℕ → DecorStyle → Layout
 laid_out gutter code decor = record { gutter = gutter; code = code; decor = decor }
 
 -- the layout is the one that the report gives the group
-pub layout_is : (r : Renderer) (groups gs : List Group) (g : Group) (layout : Layout) (gutter depth : ℕ) → gs ≡ groups → gutter ≡ gutter_of_report r gs
+pub layout_is : (r : Renderer) (groups : List Group) (g : Group) (layout : Layout) (gutter depth : ℕ) → gutter ≡ gutter_of_report r groups
     → depth ≡ depth_of_group g → layout.gutter ≡ gutter → layout.code ≡ code_after gutter depth → layout.decor ≡ r.decor_style
     → layout ≡ layout_of_group r groups g
-layout_is r groups gs g layout gutter depth same wide deep left code decor =
-    let wanted : gutter ≡ gutter_of_report r groups = wide ∙ ap (gutter_of_report r) same in
-    let after : layout.code ≡ code_after (gutter_of_report r groups) (depth_of_group g) = code ∙ ap (λ w. code_after w depth) wanted
+layout_is r groups g layout gutter depth wide deep left code decor =
+    let after : layout.code ≡ code_after (gutter_of_report r groups) (depth_of_group g) = code ∙ ap (λ w. code_after w depth) wide
     ∙ ap (code_after (gutter_of_report r groups)) deep in
     let first : ◌≡◌ {A = Layout} layout (record { gutter = gutter_of_report r groups; code = layout.code; decor = layout.decor }) = ap (λ w.
-    laid_out w layout.code layout.decor) (left ∙ wanted) in
+    laid_out w layout.code layout.decor) (left ∙ wide) in
     first ∙ ap (λ c. laid_out (gutter_of_report r groups) c layout.decor) after
     ∙ ap (laid_out (gutter_of_report r groups) (code_after (gutter_of_report r groups) (depth_of_group g))) decor
 
+-- it has room for the group's elements
+pub room_at : (r : Renderer) (groups : List Group) (n : ℕ) (p : PreparedGroup) (layout : Layout) → All IsGroupDrawable groups → IsGroupPrepared p
+    → slice_get groups n ≡ Some p.group.now → layout ≡ layout_of_group r groups p.group.now
+    → All (λ e. HasRoomFor r layout (element_of e)) p.elements.items
+room_at r groups n p layout drawable prepared here is =
+    All-unmapped (HasRoomFor r layout) element_of p.elements.items (subst (λ es.
+    All (HasRoomFor r layout) es) (sym prepared.elements_are) (subst (λ f.
+    All (HasRoomFor r f) (drawn_elements p.group.now)) (sym is) (room_in_report r groups drawable n p.group.now here)))
+
+-- a grid that is drawn in that layout, at the group's place and for its file, is the group's
+pub grid_at : (r : Renderer) (groups : List Group) (n : ℕ) (g : Group) (grid : GroupGrid) (layout : Layout) (place : GroupPosition) (file : Option (List ℕ))
+    → layout ≡ layout_of_group r groups g → place ≡ position_of_group (length groups) n → file ≡ file_of_group groups g
+    → IsGroupGrid r layout place file g grid.buffer → IsGridAt r groups n g grid
+grid_at r groups n g grid layout place file layout_here place_here file_here drawn =
+    subst (λ f. IsGroupGrid r f (position_of_group (length groups) n) (file_of_group groups g) g grid.buffer)
+    layout_here (subst (λ at_place. IsGroupGrid r layout at_place (file_of_group groups g) g grid.buffer)
+    place_here (subst (λ path. IsGroupGrid r layout place path g grid.buffer) file_here drawn))
+
 -- an iteration's group is the next of the report
 pub turn_group : (groups : List Group) (ps : List PreparedGroup) (n i : ℕ) (p : PreparedGroup) → map group_of ps ≡ groups
-    → (n < length (enumerate_from 0 ps)) × ((i, p) ≡ get_or (enumerate_from 0 ps) n (i, p)) → slice_get groups n ≡ Some p.group.now
+    → (n < length (enumerate_from 0 ps)) × ((i, p) ≡ get_or (enumerate_from 0 ps) n (i, p)) → slice_get groups i ≡ Some p.group.now
 turn_group groups ps n i p same turn =
-    ap (λ (gs : List Group). slice_get gs n) (sym same) ∙ get-mapped group_of ps n p (turn_item ps n i p turn).1
+    let item = turn_item ps n i p turn in
+    subst (λ k. slice_get groups k ≡ Some p.group.now) (sym item.0)
+    (ap (λ (gs : List Group). slice_get gs n) (sym same) ∙ get-mapped group_of ps n p item.1)
+
+-- so no more groups were drawn yet than the report has
+pub turn_within : (groups : List Group) (ps : List PreparedGroup) (n i : ℕ) (p : PreparedGroup) → map group_of ps ≡ groups
+    → (n < length (enumerate_from 0 ps)) × ((i, p) ≡ get_or (enumerate_from 0 ps) n (i, p)) → n < length groups
+turn_within groups ps n i p same turn =
+    slice_get_within groups n p.group.now
+    (subst (λ k. slice_get groups k ≡ Some p.group.now) (turn_item ps n i p turn).0 (turn_group groups ps n i p same turn))
 
 -- it is prepared
 pub turn_prepared : (ps : List PreparedGroup) (n i : ℕ) (p : PreparedGroup) → All IsGroupPrepared ps
@@ -80,35 +105,14 @@ turn_prepared ps n i p all turn =
     let is : get_or ps n p ≡ p = cc in
     subst IsGroupPrepared is (all n p within)
 
--- the layout has room for its elements
-pub turn_room : (r : Renderer) (groups : List Group) (ps : List PreparedGroup) (n i : ℕ) (p : PreparedGroup) (layout : Layout)
-    → All IsGroupDrawable groups → IsGroupPrepared p → map group_of ps ≡ groups
-    → (n < length (enumerate_from 0 ps)) × ((i, p) ≡ get_or (enumerate_from 0 ps) n (i, p)) → layout ≡ layout_of_group r groups p.group.now
-    → All (λ e. HasRoomFor r layout (element_of e)) p.elements.items
-turn_room r groups ps n i p layout drawable prepared same turn is =
-    All-unmapped (HasRoomFor r layout) element_of p.elements.items (subst (λ es.
-    All (HasRoomFor r layout) es) (sym prepared.elements_are) (subst (λ f.
-    All (HasRoomFor r f) (drawn_elements p.group.now)) (sym is) (room_in_report r groups drawable n p.group.now (turn_group groups ps n i p same turn))))
-
 -- one more grid
-pub turn_grid : (r : Renderer) (groups : List Group) (ps : List PreparedGroup) (n m i : ℕ) (p : PreparedGroup) (layout : Layout) (place : GroupPosition)
-    (file : Option (List ℕ)) (grid : GroupGrid) (grids new : List GroupGrid) → map group_of ps ≡ groups
-    → (n < length (enumerate_from 0 ps)) × ((i, p) ≡ get_or (enumerate_from 0 ps) n (i, p)) → layout ≡ layout_of_group r groups p.group.now
-    → place ≡ position_of_group (length groups) i → file ≡ file_of_group groups p.group.now → grid.level ≡ p.group.now.level
-    → IsGroupGrid r layout place file p.group.now grid.buffer → new ≡ grids ++ grid ∷ [] → m ≡ n + 1 → GridsSoFar r groups n grids
-    → GridsSoFar r groups m new
-turn_grid r groups ps n m i p layout place file grid grids new same turn layout_here place_here file_here level drawn pushed next before =
-    let g : Group = p.group.now in
-    let at : i ≡ n = (turn_item ps n i p turn).0 in
-    let here : slice_get groups n ≡ Some g = turn_group groups ps n i p same turn in
+pub grid_more : (r : Renderer) (groups : List Group) (n m : ℕ) (g : Group) (grid : GroupGrid) (grids new : List GroupGrid) → slice_get groups n ≡ Some g
+    → grid.level ≡ g.level → IsGridAt r groups n g grid → new ≡ grids ++ grid ∷ [] → m ≡ n + 1 → GridsSoFar r groups n grids → GridsSoFar r groups m new
+grid_more r groups n m g grid grids new here level whole pushed next before =
     let within : n < length groups = slice_get_within groups n g here in
     let found : Some (get_or groups n g) ≡ Some g = sym (slice_get-get_or groups n g within) ∙ here in
     let is : get_or groups n g ≡ g = cc in
     let taken : take m groups ≡ take n groups ++ g ∷ [] = ap (λ k. take k groups) next ∙ take_more groups n g within ∙ ap (λ x. take n groups ++ x ∷ []) is in
-    let whole : IsGroupGrid r (layout_of_group r groups g) (position_of_group (length groups) n) (file_of_group groups g) g grid.buffer =
-    subst (λ f. IsGroupGrid r f (position_of_group (length groups) n) (file_of_group groups g) g grid.buffer)
-    layout_here (subst (λ at_place. IsGroupGrid r layout at_place (file_of_group groups g) g grid.buffer)
-    (place_here ∙ ap (position_of_group (length groups)) at) (subst (λ path. IsGroupGrid r layout place path g grid.buffer) file_here drawn)) in
     record {
       count = ap length pushed ∙ omega (arith, length-append grids (grid ∷ []), before.count, next);
       levels = ap (map (λ (d : GroupGrid). d.level)) pushed ∙ map-append (λ (d : GroupGrid). d.level) grids (grid ∷ [])
@@ -124,10 +128,8 @@ turn_grid r groups ps n m i p layout place file grid grids new same turn layout_
                 let group_same : Some g ≡ Some h = sym here ∙ ap (slice_get groups) equal ∙ is_group in
                 let grid_same : grid ≡ d = last grids grid d j (before.count ∙ equal) put in
                 let g_is : g ≡ h = cc in
-                subst (λ k. IsGroupGrid r (layout_of_group r groups h) (position_of_group (length groups) k) (file_of_group groups h) h d.buffer)
-                equal (subst (λ x. IsGroupGrid r (layout_of_group r groups h) (position_of_group (length groups) n) (file_of_group groups h) h x.buffer)
-                grid_same (subst (λ y. IsGroupGrid r (layout_of_group r groups y) (position_of_group (length groups) n) (file_of_group groups y) y grid.buffer)
-                g_is whole))
+                subst (λ k. IsGridAt r groups k h d) equal (subst (λ (x : GroupGrid). IsGridAt r groups n h x) grid_same
+                (subst (λ (y : Group). IsGridAt r groups n y grid) g_is whole))
           ];
     }
   where
@@ -142,11 +144,26 @@ turn_grid r groups ps n m i p layout place file grid grids new same turn layout_
     last (x ∷ xs) grid d zero at is = absurd (omega (arith, at))
     last (x ∷ xs) grid d (suc j) at is = last xs grid d j (omega (arith, at)) is
 
+-- that of an iteration
+pub turn_grid : (r : Renderer) (groups : List Group) (ps : List PreparedGroup) (n m i : ℕ) (p : PreparedGroup) (grid : GroupGrid)
+    (grids new : List GroupGrid) → map group_of ps ≡ groups → (n < length (enumerate_from 0 ps)) × ((i, p) ≡ get_or (enumerate_from 0 ps) n (i, p))
+    → grid.level ≡ p.group.now.level → IsGridAt r groups i p.group.now grid → new ≡ grids ++ grid ∷ [] → m ≡ n + 1 → GridsSoFar r groups n grids
+    → GridsSoFar r groups m new
+turn_grid r groups ps n m i p grid grids new same turn level drawn pushed next before =
+    let at : i ≡ n = (turn_item ps n i p turn).0 in
+    grid_more r groups n m p.group.now grid grids new
+    (subst (λ k. slice_get groups k ≡ Some p.group.now) at (turn_group groups ps n i p same turn)) level
+    (subst (λ k. IsGridAt r groups k p.group.now grid) at drawn) pushed next before
+
+-- after the last turn as many groups were drawn as the report has
+pub turns_all : (groups : List Group) (ps : List PreparedGroup) (n : ℕ) → map group_of ps ≡ groups → n ≡ length (enumerate_from 0 ps) → n ≡ length groups
+turns_all groups ps n same all = omega (arith, all, length-enumerate_from 0 ps, length-map ps group_of, ap length same)
+
 -- all of them
 pub grids_all : (r : Renderer) (groups : List Group) (ps : List PreparedGroup) (n : ℕ) (grids : List GroupGrid) → map group_of ps ≡ groups
     → n ≡ length (enumerate_from 0 ps) → GridsSoFar r groups n grids → AreGridsOf r groups grids
 grids_all r groups ps n grids same all drawn =
-    let size : n ≡ length groups = omega (arith, all, length-enumerate_from 0 ps, length-map ps group_of, ap length same) in
+    let size : n ≡ length groups = turns_all groups ps n same all in
     record {
       levels = drawn.levels ∙ ap (map (λ (h : Group). h.level)) (take_all n groups (omega (arith, size)));
       each = drawn.each;

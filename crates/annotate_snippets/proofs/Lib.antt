@@ -47,6 +47,7 @@ pub mod PlaceLemmas
 pub mod PlainRows
 pub mod PreparedLemmas
 pub mod PrintLemmas
+pub mod PrintedText
 pub mod ReportLemmas
 pub mod ReportTexts
 pub mod RoomLemmas

@@ -1,9 +1,11 @@
 -- The texts that print the grids of a report show it.
 use Rattle.std.proofs.Common.{◌≡◌, ℕ, zero, suc, ◌+◌, arith, drop, true, List, [], ◌∷◌, ◌++◌, All, Option, Some, None, Result, Ok, Err, IfSome, length, map}
+use Rattle.std.proofs.Common.{take}
 use Rattle.std.proofs.Common.{chars, refl, sym, ap, subst, ◌∙◌, encode_utf8_all}
 use Rattle.std.specs.List.{AllZip, Contains, enumerate_from, flat_map, join_with_byte, slice_get}
 use Rattle.std.specs.Result.{IfOk, MatchResult, IsErrAnd}
 use Rattle.std.proofs.Math.Nat.{zero-add}
+use Rattle.std.proofs.lemmas.List.{take-map}
 use Rattle.std.proofs.lemmas.List.Elements.{All-nil, All-cons, All-append, All-get_or, All-head, All-tail}
 use Rattle.std.proofs.lemmas.Option.{get_or_from_slice_get, slice_get_within}
 use Rattle.snippet_grid.specs.Print.{plain_text}
@@ -20,7 +22,7 @@ use Rattle.snippet_model.specs.declared.snippet.Group.{Group}
 use Rattle.annotate_snippets.specs.declared.renderer.Renderer.{Renderer}
 use Rattle.annotate_snippets.specs.declared.renderer.graphic.GroupGrid.{GroupGrid}
 use Rattle.annotate_snippets.specs.Around.{drawn_elements, file_of_group, next_of, position_of_group}
-use Rattle.annotate_snippets.specs.Drawn.{AreGridsOf}
+use Rattle.annotate_snippets.specs.Drawn.{AreGridsOf, IsGridAt}
 use Rattle.annotate_snippets.specs.Fault.{first_fault, first_refusal, form_of, missing_title}
 use Rattle.annotate_snippets.specs.Feeds.{HasOneLineRows, HasOneLineTexts, IsOneLineGroup}
 use Rattle.annotate_snippets.specs.GraphicForm.{graphic_form, group_page}
@@ -31,6 +33,7 @@ use Rattle.annotate_snippets.specs.Prepared.{IsGroupDrawable}
 use Rattle.annotate_snippets.specs.Shown.{AreGroupsShown, IsFreeBut, SheetsShown, ShowsGroup, levels_of, report_links}
 use Rattle.annotate_snippets.specs.declared.renderer.error.RenderError.{RenderError}
 use Rattle.annotate_snippets.proofs.FaultLemmas.{groups-drawable, titled, unrefused}
+use Rattle.annotate_snippets.proofs.GridRows.{GridsSoFar}
 use Rattle.annotate_snippets.proofs.GroupLemmas.{group_shown}
 use Rattle.annotate_snippets.proofs.GroupShown.{GroupShown}
 use Rattle.annotate_snippets.proofs.NumberLaws.{group_numbered}
@@ -162,18 +165,50 @@ module _ (r : Renderer) (groups : List Group) where
       first_level default [] = default
       first_level default (level ∷ levels) = level
 
+-- the first so many of some things are numbered as all of them are
+take-enumerated : {X : Type 0} (m n : ℕ) (xs : List X) → enumerate_from m (take n xs) ≡ take n (enumerate_from m xs)
+take-enumerated m zero xs = refl
+take-enumerated m (suc n) [] = refl
+take-enumerated m (suc n) (x ∷ xs) = ap (λ rest. (m, x) ∷ rest) (take-enumerated (m + 1) n xs)
+
+-- and stand at the same places
+taken_at : {X : Type 0} (n i : ℕ) (xs : List X) (x : X) → slice_get (take n xs) i ≡ Some x → slice_get xs i ≡ Some x
+taken_at zero i xs x at = absurd (omega (arith, slice_get_within [] i x at))
+taken_at (suc n) i [] x at = at
+taken_at (suc n) zero (y ∷ xs) x at = at
+taken_at (suc n) (suc i) (y ∷ xs) x at = taken_at n i xs x at
+
+module _ (r : Renderer) (groups : List Group) (drawable : All IsGroupDrawable groups) where
+  -- the grid of a group of the report shows it
+  grid_shown : (i : ℕ) (g : Group) (grid : GroupGrid) → slice_get groups i ≡ Some g → IsGridAt r groups i g grid → IsGridShown r groups (0 + i) g grid
+  grid_shown i g grid at drawn =
+      subst (λ k. IsGridShown r groups k g grid) (sym (zero-add i))
+      (group_shown r (layout_of_group r groups g) (position_of_group (length groups) i) (file_of_group groups g) g grid.buffer
+      (subst IsGroupDrawable (get_or_from_slice_get groups i g g at) (All-get_or IsGroupDrawable groups i g (slice_get_within groups i g at) drawable))
+      (room_in_report r groups drawable i g at) drawn)
+
+  -- a text that prints the grids of the first so many groups prints as much of the page
+  pub page_so_far : (n : ℕ) (grids : List GroupGrid) → GridsSoFar r groups n grids → (sheet : Stylesheet) (text : List ℕ) → PrintsGrids sheet grids text
+      → PrintsPage sheet (take n (levels_of groups)) (take n (graphic_form r groups)) text
+  page_so_far n grids so_far sheet text prints =
+      let part : PageOf r groups 0 (take n groups) grids = PageOf-grids r groups 0 (take n groups) grids so_far.levels
+      (λ i g grid at there. let here : slice_get groups i ≡ Some g = taken_at n i groups g at in grid_shown i g grid here (so_far.each i g grid here there)) in
+      let page : part.page ≡ take n (graphic_form r groups) = part.value ∙ ap (map (page_at r groups)) (take-enumerated 0 n groups)
+      ∙ sym (take-map (page_at r groups) n (enumerate_from 0 groups)) in
+      record {
+        parts = prints.parts;
+        printed = subst (λ (levels : List LevelInner). ArePrinted sheet levels (take n (graphic_form r groups)) prints.parts)
+            (sym (take-map (λ (g : Group). g.level) n groups))
+            (subst (λ (gs : Page). ArePrinted sheet (levels_of (take n groups)) gs prints.parts) page
+            (part.printed sheet prints.parts prints.printed));
+        joined = prints.joined;
+      }
+
 module _ (r : Renderer) (groups : List Group) (grids : List GroupGrid) (drawable : All IsGroupDrawable groups) (are : AreGridsOf r groups grids) where
   -- the page of the report
   report_page : PageOf r groups 0 groups grids
   report_page =
-      PageOf-grids r groups 0 groups grids are.levels
-      (λ i g grid at there. subst (λ k. IsGridShown r groups k g grid) (sym (zero-add i))
-      (group_shown r (layout_of_group r groups g) (position_of_group (length groups) i) (file_of_group groups g) g grid.buffer (All-in i g at)
-      (room_in_report r groups drawable i g at) (are.each i g grid at there)))
-    where
-      All-in : (i : ℕ) (g : Group) → slice_get groups i ≡ Some g → IsGroupDrawable g
-      All-in i g at =
-          subst IsGroupDrawable (get_or_from_slice_get groups i g g at) (All-get_or IsGroupDrawable groups i g (slice_get_within groups i g at) drawable)
+      PageOf-grids r groups 0 groups grids are.levels (λ i g grid at there. grid_shown r groups drawable i g grid at (are.each i g grid at there))
 
   -- it shows each group
   page_shows : AreGroupsShown r groups report_page.page

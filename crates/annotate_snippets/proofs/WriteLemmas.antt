@@ -1,8 +1,340 @@
--- What a writer holds once a report was to be written to it.
-use Rattle.std.proofs.Common.{◌≡◌, Option, None, Some, IfSome}
-use Rattle.std.specs.Prelude.{Result, Ok, Err}
+-- What a writer holds once a report was to be written to it, a group at a time.
+use Rattle.std.proofs.Common.{◌≡◌, ◌⊎◌, ℕ, zero, suc, ◌+◌, ◌<◌, ◌≤◌, ◌-◌, ◌==◌, Bool, true, false, List, [], ◌∷◌, ◌++◌, Option, None, Some, IfSome, All, refl}
+use Rattle.std.proofs.Common.{sym, ap, ◌∙◌}
+use Rattle.std.proofs.Common.{subst, inl, inr, arith, length, take, drop, cond, map}
+use Rattle.std.specs.Io.KnownBytes.{Appends}
+use Rattle.std.specs.List.{AllZip, enumerate_from, flat_map, join_with_byte}
+use Rattle.std.proofs.KnownBytes.{Appends-nil, Appends-trans}
+use Rattle.std.proofs.Math.Seq.{take-append-add, take-append_seam}
+use Rattle.std.proofs.lemmas.List.{append_assoc, append-nil, length-append, length-drop, length-map, take-append-drop, take-append-le, take_all}
+use Rattle.std.proofs.lemmas.Bool.Decides.{nat_tests}
+use Rattle.std.proofs.lemmas.List.FromFn.{length-enumerate_from}
+use Rattle.snippet_grid.specs.Woven.{Prints, WeavesRows, piece_text}
+use Rattle.snippet_model.specs.declared.snippet.Group.{Group}
+use Rattle.snippet_style.specs.declared.role.LevelInner.{LevelInner}
+use Rattle.snippet_style.specs.declared.stylesheet.Stylesheet.{Stylesheet}
+use Rattle.written.specs.Part.{AppendsPart}
+use Rattle.annotate_snippets.specs.Drawn.{AreGridsOf, IsDrawnAs, IsPrintedAs}
+use Rattle.annotate_snippets.specs.Fault.{form_of}
+use Rattle.annotate_snippets.specs.FormLaws.{FormLaws, HasLaws, LawsIn}
+use Rattle.annotate_snippets.specs.Forms.{ShowsReport}
+use Rattle.annotate_snippets.specs.GraphicForm.{graphic_form}
+use Rattle.annotate_snippets.specs.Page.{ArePrinted, GroupPage, Page, PrintsGrids, PrintsPage}
+use Rattle.annotate_snippets.specs.Prepared.{IsGroupDrawable}
+use Rattle.annotate_snippets.specs.Shown.{levels_of}
+use Rattle.annotate_snippets.specs.Written.{IsTextIn, PrintsGrid, ShowsIn, WritesPart, WritesText}
+use Rattle.annotate_snippets.specs.declared.renderer.Renderer.{Renderer}
+use Rattle.annotate_snippets.specs.declared.renderer.drawn.Drawn.{Drawn}
+use Rattle.annotate_snippets.specs.declared.renderer.form.Form.{Form}
+use Rattle.annotate_snippets.specs.declared.renderer.form.Form.TheVariants.{Graphic}
+use Rattle.annotate_snippets.specs.declared.renderer.graphic.GroupGrid.{GroupGrid}
+use Rattle.annotate_snippets.proofs.FormsShown.{laws-in, page-law, shown-in}
+use Rattle.annotate_snippets.proofs.GridRows.{GridsSoFar, grids_none}
+use Rattle.annotate_snippets.proofs.PrintLemmas.{AllZip-last}
+use Rattle.annotate_snippets.proofs.PrintedText.{texts_of_page}
+use Rattle.annotate_snippets.proofs.ReportLemmas.{page_laws, page_so_far}
 
--- what is said of a refusal holds where there is none
-pub unrefused : {T E : Type 0} (fault : Option E) (r : Result T E) (x : T) (Q : E → Type 0) → IfSome fault (λ e. r ≡ Err e) → r ≡ Ok x → IfSome fault Q
-unrefused None r x Q refused is = tt
-unrefused (Some e) r x Q refused is = absurd cc
+-- ---- texts that are joined
+
+-- what further parts, whose text this is, add to some: nothing where there are none, and no line feed before the first
+abbrev after : {X Y : Type 0} → List X → List Y → List ℕ → List ℕ
+after before [] text = []
+after [] (y ∷ ys) text = text
+after (x ∷ xs) (y ∷ ys) text = 10 ∷ text
+
+joined : (xs ys : List (List ℕ)) → join_with_byte 10 (xs ++ ys) ≡ join_with_byte 10 xs ++ after xs ys (join_with_byte 10 ys)
+joined [] [] = refl
+joined [] (y ∷ ys) = refl
+joined (x ∷ []) [] = sym (append-nil x)
+joined (x ∷ []) (y ∷ ys) = refl
+joined (x ∷ z ∷ xs) [] =
+    ap (λ t. x ++ 10 ∷ t) (joined (z ∷ xs) []) ∙ sym (append_assoc x (10 ∷ join_with_byte 10 (z ∷ xs)) [])
+joined (x ∷ z ∷ xs) (y ∷ ys) =
+    ap (λ t. x ++ 10 ∷ t) (joined (z ∷ xs) (y ∷ ys)) ∙ sym (append_assoc x (10 ∷ join_with_byte 10 (z ∷ xs)) (10 ∷ join_with_byte 10 (y ∷ ys)))
+
+-- a part that isn't the first adds a line feed at least
+after_some : {X Y : Type 0} (xs : List X) (ys : List Y) (text : List ℕ) → 0 < length xs → 0 < length ys → 0 < length (after xs ys text)
+after_some [] ys text some more = absurd (omega (arith, some))
+after_some (x ∷ xs) [] text some more = absurd (omega (arith, more))
+after_some (x ∷ xs) (y ∷ ys) text some more =
+    let longer : 0 < length (10 ∷ text) = omega arith in
+    longer
+
+-- where a group stands before, none is the first
+not_first : (n : ℕ) → (suc n == 0) ≡ false
+not_first n = grind (arith, nat_tests)
+
+module _ (sheet : Stylesheet) where
+  -- the parts of a page, and those of what follows
+  printed-append : (levels more : List LevelInner) (page others : Page) (parts further : List (List ℕ)) → ArePrinted sheet levels page parts
+      → ArePrinted sheet more others further → ArePrinted sheet (levels ++ more) (page ++ others) (parts ++ further)
+  printed-append [] more [] others [] further before below = below
+  printed-append [] more [] others (part ∷ parts) further before below = absurd before
+  printed-append [] more (g ∷ page) others parts further before below = absurd before
+  printed-append (level ∷ levels) more [] others parts further before below = absurd before
+  printed-append (level ∷ levels) more (g ∷ page) others [] further before below = absurd before
+  printed-append (level ∷ levels) more (g ∷ page) others (part ∷ parts) further before below =
+      (before.0, printed-append levels more page others parts further before.1 below)
+
+  printed-count : (levels : List LevelInner) (page : Page) (parts : List (List ℕ)) → ArePrinted sheet levels page parts → length parts ≡ length page
+  printed-count [] [] [] printed = refl
+  printed-count [] [] (part ∷ parts) printed = absurd printed
+  printed-count [] (g ∷ page) parts printed = absurd printed
+  printed-count (level ∷ levels) [] parts printed = absurd printed
+  printed-count (level ∷ levels) (g ∷ page) [] printed = absurd printed
+  printed-count (level ∷ levels) (g ∷ page) (part ∷ parts) printed = ap suc (printed-count levels page parts printed.1)
+
+  -- a text that prints the page, and begins with this one; it is longer where groups follow some
+  record GoesOn (levels : List LevelInner) (page : Page) (n : ℕ) (text : List ℕ) : Type 0 where
+    pub whole : List ℕ
+    pub prints : PrintsPage sheet levels page whole
+    pub rest : List ℕ
+    pub is : whole ≡ text ++ rest
+    pub more : 0 < n → n < length page → 0 < length rest
+
+  -- a text that prints the first groups of a page goes on to one that prints all of them
+  goes_on : (levels : List LevelInner) (page : Page) (n : ℕ) (text : List ℕ) → length levels ≡ length page
+      → PrintsPage sheet (take n levels) (take n page) text → GoesOn levels page n text
+  goes_on levels page n text same before =
+      let below = texts_of_page sheet (drop n levels) (drop n page) (length-drop n levels ∙ ap (λ k. k - n) same ∙ sym (length-drop n page)) in
+      let all = printed-append (take n levels) (drop n levels) (take n page) (drop n page) before.parts below.0 before.printed below.1 in
+      record {
+        whole = join_with_byte 10 (before.parts ++ below.0);
+        prints = record {
+          parts = before.parts ++ below.0;
+          printed = subst (λ (ls : List LevelInner). ArePrinted sheet ls page (before.parts ++ below.0)) (take-append-drop n levels)
+              (subst (λ (gs : Page). ArePrinted sheet (take n levels ++ drop n levels) gs (before.parts ++ below.0)) (take-append-drop n page) all);
+          joined = refl;
+        };
+        rest = after before.parts below.0 (join_with_byte 10 below.0);
+        is = joined before.parts below.0 ∙ ap (λ t. t ++ after before.parts below.0 (join_with_byte 10 below.0)) (sym before.joined);
+        more = λ some within. after_some before.parts below.0 (join_with_byte 10 below.0)
+            (omega (
+              arith,
+              some,
+              within,
+              printed-count (take n levels) (take n page) before.parts before.printed,
+              length-append (take n page) (drop n page),
+              ap length (take-append-drop n page),
+              length-drop n page,
+            ))
+            (omega (arith, within, printed-count (drop n levels) (drop n page) below.0 below.1, length-drop n page));
+      }
+
+  -- one more grid is printed after some
+  grids_more : (grids : List GroupGrid) (grid : GroupGrid) (first : Bool) (text more : List ℕ) → first ≡ (length grids == 0)
+      → PrintsGrids sheet grids text → PrintsGrid sheet first grid more → PrintsGrids sheet (grids ++ grid ∷ []) (text ++ more)
+  grids_more grids grid first text more is before adds =
+      record {
+        parts = before.parts ++ adds.part ∷ [];
+        printed = AllZip-last (λ (d : GroupGrid) part. Prints sheet d.level d.buffer part) grids before.parts grid adds.part before.printed adds.prints;
+        joined = ap (λ t. t ++ more) before.joined
+            ∙ ap (λ t. join_with_byte 10 before.parts ++ t) (added grids before.parts before.printed first is adds.text_is)
+            ∙ sym (joined before.parts (adds.part ∷ []));
+      }
+    where
+      added : (grids : List GroupGrid) (parts : List (List ℕ)) → AllZip (λ (d : GroupGrid) part. Prints sheet d.level d.buffer part) grids parts
+          → (first : Bool) → first ≡ (length grids == 0) → more ≡ cond first adds.part (10 ∷ adds.part)
+          → more ≡ after parts (adds.part ∷ []) (join_with_byte 10 (adds.part ∷ []))
+      added [] [] printed first none text = text ∙ ap (λ b. cond b adds.part (10 ∷ adds.part)) none
+      added [] (x ∷ parts) printed first none text = absurd printed
+      added (d ∷ grids) [] printed first none text = absurd printed
+      added (d ∷ grids) (x ∷ parts) printed first none text =
+          text ∙ ap (λ b. cond b adds.part (10 ∷ adds.part)) (none ∙ not_first (length grids))
+
+-- a first part of a text that goes on
+part_goes_on : (a b c : List ℕ) (k : ℕ) → k ≤ length b → take (length a + k) ((a ++ b) ++ c) ≡ a ++ take k b
+part_goes_on a b c k within =
+    ap (take (length a + k)) (append_assoc a b c) ∙ take-append-add a (b ++ c) k ∙ ap (λ t. a ++ t) (take-append-le k b c within)
+
+-- ---- a report that is written whole
+
+-- a text of a report that is drawn in a form shows it, and has the laws of the form
+pub is_text : (r : Renderer) (groups : List Group) (form : Form) (report : Drawn) (text : List ℕ) → All IsGroupDrawable groups → FormLaws form r groups
+    → IsDrawnAs form r groups report → IsPrintedAs report r.stylesheet text → IsTextIn form r groups text
+is_text r groups form report text drawable laws drawn printed =
+    record {
+      shows = shown-in r groups (r.stylesheet ∷ []) (text ∷ []) form report drawable drawn (printed, tt);
+      laws = (laws-in r groups (r.stylesheet ∷ []) (text ∷ []) form report laws drawable drawn (printed, tt)).0;
+    }
+
+-- what is written in the form that the renderer is set to shows the report
+pub shown_whole : (r : Renderer) (groups : List Group) (form : Form) (old new : Option (List ℕ)) → form ≡ form_of r
+    → WritesText (IsTextIn form r groups) old new → WritesText (ShowsReport r groups r.stylesheet) old new
+shown_whole r groups form old new is writes =
+    record {
+      text = writes.text;
+      is = subst (λ (f : Form). ShowsIn f r groups writes.text) is writes.is.shows;
+      appended = writes.appended;
+    }
+
+-- it has the laws of that form
+pub laws_whole : (r : Renderer) (groups : List Group) (form : Form) (old new : Option (List ℕ)) → form ≡ form_of r
+    → WritesText (IsTextIn form r groups) old new → WritesText (HasLaws r groups r.stylesheet) old new
+laws_whole r groups form old new is writes =
+    record {
+      text = writes.text;
+      is = subst (λ (f : Form). LawsIn f r groups r.stylesheet writes.text) is writes.is.laws;
+      appended = writes.appended;
+    }
+
+-- and what is written where it stops is a first part of such a text, or nothing
+pub shown_part : {W : Type 0} (contents : W → Option (List ℕ)) (r : Renderer) (groups : List Group) (form : Form) (start now : W) → form ≡ form_of r
+    → (now ≡ start) ⊎ WritesPart (ShowsIn form r groups) (contents start) (contents now)
+    → (now ≡ start) ⊎ WritesPart (ShowsReport r groups r.stylesheet) (contents start) (contents now)
+shown_part contents r groups form start now is stopped =
+    elim stopped [
+      | inl same ↦ inl same
+      | inr writes ↦ inr (record {
+        text = writes.text;
+        is = subst (λ (f : Form). ShowsIn f r groups writes.text) is writes.is;
+        part = writes.part;
+      })
+    ]
+
+-- ---- a report that is written a group at a time
+
+-- what was added after a line feed, or before anything, prints a grid
+pub grid_printed : (sheet : Stylesheet) (grid : GroupGrid) (first : Bool) (before text : List ℕ) → before ≡ cond first [] (10 ∷ [])
+    → WeavesRows sheet grid.level grid.buffer before text → PrintsGrid sheet first grid text
+grid_printed sheet grid true before text lead adds =
+    record {
+      part = flat_map piece_text adds.pieces;
+      prints = record { pieces = adds.pieces; text_is = refl; prints = adds.are };
+      text_is = adds.text_is ∙ ap (λ t. t ++ flat_map piece_text adds.pieces) lead;
+    }
+grid_printed sheet grid false before text lead adds =
+    record {
+      part = flat_map piece_text adds.pieces;
+      prints = record { pieces = adds.pieces; text_is = refl; prints = adds.are };
+      text_is = adds.text_is ∙ ap (λ t. t ++ flat_map piece_text adds.pieces) lead;
+    }
+
+-- a text prints the page of a report under the renderer's own sheet
+abbrev PrintsReport : Renderer → List Group → List ℕ → Type 0
+PrintsReport r groups text = PrintsPage r.stylesheet (levels_of groups) (graphic_form r groups) text
+
+-- what a writer holds after the first n groups of a report: the text that prints their grids is added
+pub record WrittenSoFar (r : Renderer) (groups : List Group) (n : ℕ) (old new : Option (List ℕ)) : Type 0 where
+  pub grids : List GroupGrid
+  pub so_far : GridsSoFar r groups n grids
+  pub written : WritesText (PrintsGrids r.stylesheet grids) old new
+
+module _ (r : Renderer) (groups : List Group) where
+  -- before the first group
+  pub written_none : (known : Option (List ℕ)) → WrittenSoFar r groups 0 known known
+  written_none known =
+      record {
+        grids = [];
+        so_far = grids_none r groups [] refl;
+        written = record { text = []; is = record { parts = []; printed = tt; joined = refl }; appended = Appends-nil known };
+      }
+
+  -- after one more
+  pub written_more : (n m : ℕ) (grid : GroupGrid) (first : Bool) (old mid new : Option (List ℕ)) (before : WrittenSoFar r groups n old mid)
+      → first ≡ (n == 0) → WritesText (PrintsGrid r.stylesheet first grid) mid new → GridsSoFar r groups m (before.grids ++ grid ∷ [])
+      → WrittenSoFar r groups m old new
+  written_more n m grid first old mid new before is adds so_far =
+      record {
+        grids = before.grids ++ grid ∷ [];
+        so_far = so_far;
+        written = record {
+          text = before.written.text ++ adds.text;
+          is = grids_more r.stylesheet before.grids grid first before.written.text adds.text (is ∙ ap (λ k. k == 0) (sym before.so_far.count))
+              before.written.is adds.is;
+          appended = Appends-trans old mid new before.written.text adds.text before.written.appended adds.appended;
+        };
+      }
+
+  -- the levels of a report's groups are as many as its page has
+  levels-count : length (levels_of groups) ≡ length (graphic_form r groups)
+  levels-count =
+      let pages : length (graphic_form r groups) ≡ length (enumerate_from 0 groups) = length-map (enumerate_from 0 groups) _ in
+      length-map groups (λ (g : Group). g.level) ∙ sym (pages ∙ length-enumerate_from 0 groups)
+
+  page-count : length (graphic_form r groups) ≡ length groups
+  page-count = sym levels-count ∙ length-map groups (λ (g : Group). g.level)
+
+  -- where it stops before a further group, a first part of a text that prints the page was written
+  pub part_between : (drawable : All IsGroupDrawable groups) (n : ℕ) (old new : Option (List ℕ)) → 0 < n → n < length groups
+      → WrittenSoFar r groups n old new → WritesPart (ShowsIn Graphic r groups) old new
+  part_between drawable n old new some within before =
+      let text = before.written.text in
+      let goes = goes_on r.stylesheet (levels_of groups) (graphic_form r groups) n text levels-count
+      (page_so_far r groups drawable n before.grids before.so_far r.stylesheet text before.written.is) in
+      record {
+        text = goes.whole;
+        is = record { printed = (goes.prints, tt) };
+        part = record {
+          count = length text;
+          short = omega (arith, ap length goes.is, length-append text goes.rest, goes.more some (omega (arith, within, page-count)));
+          appended = subst (Appends old new) (sym (ap (take (length text)) goes.is ∙ take-append_seam text goes.rest)) before.written.appended;
+        };
+      }
+
+  -- and where it stops within a group
+  pub part_within : (drawable : All IsGroupDrawable groups) (n m : ℕ) (grid : GroupGrid) (first : Bool) (old mid new : Option (List ℕ))
+      (before : WrittenSoFar r groups n old mid) → first ≡ (n == 0) → WritesPart (PrintsGrid r.stylesheet first grid) mid new
+      → GridsSoFar r groups m (before.grids ++ grid ∷ []) → WritesPart (ShowsIn Graphic r groups) old new
+  part_within drawable n m grid first old mid new before is adds so_far =
+      let text = before.written.text in
+      let printed = grids_more r.stylesheet before.grids grid first text adds.text (is ∙ ap (λ k. k == 0) (sym before.so_far.count)) before.written.is
+      adds.is in
+      let goes = goes_on r.stylesheet (levels_of groups) (graphic_form r groups) m (text ++ adds.text) levels-count
+      (page_so_far r groups drawable m (before.grids ++ grid ∷ []) so_far r.stylesheet (text ++ adds.text) printed) in
+      let count = adds.part.count in
+      record {
+        text = goes.whole;
+        is = record { printed = (goes.prints, tt) };
+        part = record {
+          count = length text + count;
+          short = omega (arith, ap length goes.is, length-append (text ++ adds.text) goes.rest, length-append text adds.text, adds.part.short);
+          appended = subst (Appends old new)
+              (sym (ap (take (length text + count)) goes.is ∙ part_goes_on text adds.text goes.rest count (omega (arith, adds.part.short))))
+              (Appends-trans old mid new text (take count adds.text) before.written.appended adds.part.appended);
+        };
+      }
+
+  -- so where it stops before a group nothing was written yet, or a first part
+  pub stopped_before : {W : Type 0} (contents : W → Option (List ℕ)) (drawable : All IsGroupDrawable groups) (n : ℕ) (start now : W) → n < length groups
+      → (n ≡ 0 → now ≡ start) → WrittenSoFar r groups n (contents start) (contents now)
+      → (now ≡ start) ⊎ WritesPart (ShowsIn Graphic r groups) (contents start) (contents now)
+  stopped_before contents drawable zero start now within first before = inl (first refl)
+  stopped_before contents drawable (suc n) start now within first before =
+      inr (part_between drawable (suc n) (contents start) (contents now) (omega arith) within before)
+
+  -- and where it stops at one
+  pub stopped_at : {W : Type 0} (contents : W → Option (List ℕ)) (drawable : All IsGroupDrawable groups) (n m : ℕ) (grid : GroupGrid) (first : Bool)
+      (start mid now : W) (before : WrittenSoFar r groups n (contents start) (contents mid)) → n < length groups → (n ≡ 0 → mid ≡ start)
+      → first ≡ (n == 0) → GridsSoFar r groups m (before.grids ++ grid ∷ [])
+      → (now ≡ mid) ⊎ WritesPart (PrintsGrid r.stylesheet first grid) (contents mid) (contents now)
+      → (now ≡ start) ⊎ WritesPart (ShowsIn Graphic r groups) (contents start) (contents now)
+  stopped_at {W = W} contents drawable n m grid first start mid now before within none is so_far stopped =
+      elim stopped [
+        | inl same ↦ subst (λ (w : W). (w ≡ start) ⊎ WritesPart (ShowsIn Graphic r groups) (contents start) (contents w)) (sym same)
+            (stopped_before contents drawable n start mid within none before)
+        | inr adds ↦ inr (part_within drawable n m grid first (contents start) (contents mid) (contents now) before is adds so_far)
+      ]
+
+  -- all groups are written
+  pub written_all : (drawable : All IsGroupDrawable groups) (n : ℕ) (old new : Option (List ℕ)) → n ≡ length groups → WrittenSoFar r groups n old new
+      → WritesText (IsTextIn Graphic r groups) old new
+  written_all drawable n old new all before =
+      let text = before.written.text in
+      let goes = page_so_far r groups drawable n before.grids before.so_far r.stylesheet text before.written.is in
+      let prints : PrintsReport r groups text = subst (λ (ls : List LevelInner). PrintsPage r.stylesheet ls (graphic_form r groups) text)
+      (take_all n (levels_of groups) (omega (arith, all, levels-count, page-count)))
+      (subst (λ (page : Page). PrintsPage r.stylesheet (take n (levels_of groups)) page text)
+      (take_all n (graphic_form r groups) (omega (arith, all, page-count))) goes) in
+      let are : AreGridsOf r groups before.grids = record {
+        levels = before.so_far.levels ∙ ap (map (λ (g : Group). g.level)) (take_all n groups (omega (arith, all)));
+        each = before.so_far.each;
+      } in
+      record {
+        text = text;
+        is = record {
+          shows = record { printed = (prints, tt) };
+          laws = page-law r groups (page_laws r groups before.grids drawable are) r.stylesheet text prints;
+        };
+        appended = before.written.appended;
+      }

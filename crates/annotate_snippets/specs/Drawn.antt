@@ -168,11 +168,15 @@ pub record IsGroupGrid (r : Renderer) (layout : Layout) (place : GroupPosition) 
   pub rows_are : rows ≡ title_part r layout place (next_of (drawn_elements g)) g.title ++ flat_map (λ part. part) parts
   pub are : AreElementsDrawn r layout place file (drawn_elements g) parts
 
+-- the grid of a group of the report, which has this number in it, from 0
+abbrev pub IsGridAt : Renderer → List Group → ℕ → Group → GroupGrid → Type 0
+IsGridAt r groups i g grid =
+    IsGroupGrid r (layout_of_group r groups g) (position_of_group (length groups) i) (file_of_group groups g) g grid.buffer
+
 -- each grid is that of a group, in order, and is printed in the group's level
 pub record AreGridsOf (r : Renderer) (groups : List Group) (grids : List GroupGrid) : Type 0 where
   pub levels : map (λ grid. grid.level) grids ≡ map (λ g. g.level) groups
-  pub each : (i : ℕ) (g : Group) (grid : GroupGrid) → slice_get groups i ≡ Some g → slice_get grids i ≡ Some grid
-      → IsGroupGrid r (layout_of_group r groups g) (position_of_group (length groups) i) (file_of_group groups g) g grid.buffer
+  pub each : (i : ℕ) (g : Group) (grid : GroupGrid) → slice_get groups i ≡ Some g → slice_get grids i ≡ Some grid → IsGridAt r groups i g grid
 
 -- the one grid of the short form is that of the first group, which has a title
 pub record IsShortPage (r : Renderer) (groups : List Group) (grids : List GroupGrid) : Type 0 where

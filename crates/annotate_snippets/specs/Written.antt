@@ -1,7 +1,15 @@
 -- What a writer holds once a report was to be written to it.
-use Rattle.std.specs.Prelude.{◌≡◌, ℕ, List, Option, alloc_error}
+use Rattle.std.specs.Prelude.{◌≡◌, ℕ, Bool, List, [], ◌∷◌, Option, alloc_error, if◌then◌else◌}
 use Rattle.std.specs.Io.KnownBytes.{Appends}
+use Rattle.snippet_grid.specs.Woven.{Prints}
+use Rattle.snippet_model.specs.declared.snippet.Group.{Group}
+use Rattle.snippet_style.specs.declared.stylesheet.Stylesheet.{Stylesheet}
 use Rattle.written.specs.Part.{AppendsPart}
+use Rattle.annotate_snippets.specs.FormLaws.{LawsIn}
+use Rattle.annotate_snippets.specs.Forms.{ShowsForm}
+use Rattle.annotate_snippets.specs.declared.renderer.Renderer.{Renderer}
+use Rattle.annotate_snippets.specs.declared.renderer.form.Form.{Form}
+use Rattle.annotate_snippets.specs.declared.renderer.graphic.GroupGrid.{GroupGrid}
 use Rattle.annotate_snippets.specs.declared.renderer.error.RenderError.TheVariants.{Memory}
 use Rattle.annotate_snippets.specs.declared.renderer.to_writer.RenderToError.{RenderToError}
 use Rattle.annotate_snippets.specs.declared.renderer.to_writer.RenderToError.TheVariants.{Refused, Write}
@@ -22,3 +30,18 @@ pub record WritesPart (Is : List ℕ → Type 0) (old new : Option (List ℕ)) :
 abbrev pub IsStop : RenderToError → Type 0
 IsStop (Refused refusal) = refusal ≡ Memory alloc_error
 IsStop (Write error) = Unit {0}
+
+-- a text prints the grid of a group in its level, after a line feed unless the group is the first
+pub record PrintsGrid (sheet : Stylesheet) (first : Bool) (grid : GroupGrid) (text : List ℕ) : Type 0 where
+  pub part : List ℕ
+  pub prints : Prints sheet grid.level grid.buffer part
+  pub text_is : text ≡ (if first then part else 10 ∷ part)
+
+-- a text shows a report in a form under the renderer's own sheet
+abbrev pub ShowsIn : Form → Renderer → List Group → List ℕ → Type 0
+ShowsIn form r groups text = ShowsForm form r groups (r.stylesheet ∷ []) (text ∷ [])
+
+-- and it has the laws of that form
+pub record IsTextIn (form : Form) (r : Renderer) (groups : List Group) (text : List ℕ) : Type 0 where
+  pub shows : ShowsIn form r groups text
+  pub laws : LawsIn form r groups r.stylesheet text

@@ -6,9 +6,11 @@
 //! 1 | let x = 1;
 //!   |     ^
 //! ```
-ghost use Rattle.std.specs.Prelude.{◌≡◌, ◌+◌, ◌<◌, ◌≤◌, ◌^◌, All, IfOk, string_bytes};
+ghost use Rattle.std.specs.Prelude.{◌≡◌, ◌+◌, ◌<◌, ◌≤◌, ◌^◌, All, IfOk, Some, slice_get, string_bytes};
 ghost use Rattle.std.specs.Option.{option_copied};
-ghost use Rattle.annotate_snippets.specs.Drawn.{AreGridsOf, HasRoomFor, IsGroupGrid};
+ghost use Rattle.annotate_snippets.specs.Around.{report_path};
+ghost use Rattle.annotate_snippets.specs.Drawn.{AreGridsOf, HasRoomFor, IsGridAt, IsGroupGrid};
+ghost use Rattle.annotate_snippets.specs.Gutter.{gutter_of_report};
 ghost use Rattle.annotate_snippets.specs.Page.{PrintsGrids};
 ghost use Rattle.annotate_snippets.specs.Prepared.{IsGroupDrawable, IsGroupPrepared, element_of};
 
@@ -52,12 +54,39 @@ pub fn grids<'a>(
     let file = report_file(groups);
     let mut grids = Vec::new(alloc);
     for (i, group) in prepared.into_iter().enumerate() {
-        let layout = layout_for(gutter, group.depth(), renderer.decor_style);
-        let place = GroupPosition::at(groups.len(), i);
-        let file = primary_path(group.group).or(file);
-        grids.push(draw_group(alloc, renderer, layout, place, file, group)?)?;
+        grids.push(draw_at(alloc, renderer, groups, gutter, file, i, group)?)?;
     }
     Ok(grids)
+}
+
+/// The grid of the report's group of this number, from 0, where this is the width of its gutter and this its primary
+/// file.
+///
+/// # Errors
+///
+/// There is no memory for the rows.
+pub fn draw_at<'a>(
+    alloc: Global,
+    renderer: &Renderer,
+    groups: &[Group<'_>],
+    gutter: usize,
+    file: Option<&str>,
+    number: usize,
+    group: PreparedGroup<'a>,
+) -> Result<GroupGrid<'a>, AllocError>
+    requires drawable { All IsGroupDrawable groups.now }
+    requires prepared { IsGroupPrepared group }
+    requires here { slice_get groups.now number ≡ Some group.group.now }
+    requires gutter { gutter ≡ gutter_of_report renderer.now groups.now }
+    requires small { gutter ≤ 20 }
+    requires file { option_copied file ≡ report_path groups.now }
+    ensures level { IfOk result (λ grid. grid.level ≡ group.entry.group.now.level) }
+    ensures drawn { IfOk result (λ grid. IsGridAt renderer.now groups.now number group.entry.group.now grid) }
+{
+    let layout = layout_for(gutter, group.depth(), renderer.decor_style);
+    let place = GroupPosition::at(groups.len(), number);
+    let file = primary_path(group.group).or(file);
+    draw_group(alloc, renderer, layout, place, file, group)
 }
 
 /// The grid of a group, which stands at this place, and this is the file that its suggestions are for where they name

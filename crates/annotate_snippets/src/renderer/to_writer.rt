@@ -1,15 +1,27 @@
-//! Reports that are written to a writer.
-ghost use Rattle.std.specs.Prelude.{◌≡◌, ◌⊎◌, Err, IfErr, IfSome, OnErr, OnOk};
+//! Reports that are written to a writer: in the graphic form a group at a time, else whole.
+ghost use Rattle.std.specs.Prelude.{◌≡◌, ◌⊎◌, [], ◌∷◌, All, Err, IfErr, IfOk, IfSome, None, OnErr, OnOk};
+ghost use Rattle.std.specs.Prelude.{string_bytes, if◌then◌else◌};
 ghost use Rattle.snippet_model.specs.Fits.{ReportFits};
 ghost use Rattle.annotate_snippets.specs.Fault as spec;
 ghost use Rattle.annotate_snippets.specs.Fault.{IsWithinBounds};
+ghost use Rattle.annotate_snippets.specs.FormLaws.{HasLaws};
 ghost use Rattle.annotate_snippets.specs.Forms.{ShowsReport};
-ghost use Rattle.annotate_snippets.specs.Written.{IsStop, WritesPart, WritesText};
+ghost use Rattle.annotate_snippets.specs.Prepared.{IsGroupDrawable};
+ghost use Rattle.annotate_snippets.specs.Written.{IsStop, IsTextIn, PrintsGrid, ShowsIn, WritesPart, WritesText};
+ghost use Rattle.annotate_snippets.specs.declared.renderer.form.Form.TheVariants as form;
 
 use crate::renderer::Renderer;
+use crate::renderer::drawn::{draw, text_under};
 use crate::renderer::error::RenderError;
+use crate::renderer::form::{Form, form_of};
+use crate::renderer::graphic::{GroupGrid, draw_at};
+use crate::renderer::gutter::gutter_of;
+use crate::renderer::paths::report_file;
+use crate::renderer::preprocess::prepare_groups;
+use crate::renderer::validate::first_refusal;
 use crate::snippet::Report;
-use std::alloc::Global;
+use snippet_grid::SheetCodes;
+use std::alloc::{AllocError, Global};
 use std::error::Error;
 use std::fmt;
 use std::io::{self, Write};
@@ -46,6 +58,19 @@ impl From<RenderError> for RenderToError {
     }
 }
 
+/// So that `?` takes up a refused growth of memory: it is [`RenderToError::Refused`], which holds
+/// [`RenderError::Memory`].
+impl From<AllocError> for RenderToError {
+    ghost use Rattle.annotate_snippets.specs.declared.renderer.error.RenderError.{RenderError};
+    ghost use Rattle.annotate_snippets.specs.declared.renderer.to_writer.RenderToError.{RenderToError};
+
+    ghost from_gives = { λ failure error. error ≡ RenderToError.Refused (RenderError.Memory failure) };
+
+    fn from(failure: AllocError) -> RenderToError {
+        RenderToError::Refused(RenderError::Memory(failure))
+    }
+}
+
 /// So that `?` takes up a writer's failure: it is [`RenderToError::Write`].
 impl From<io::Error> for RenderToError {
     ghost use Rattle.annotate_snippets.specs.declared.renderer.to_writer.RenderToError.{RenderToError};
@@ -59,13 +84,15 @@ impl From<io::Error> for RenderToError {
 
 impl Renderer {
     /// Writes the text that [`render`](Renderer::render) gives to a writer, which isn't flushed. After `Ok` it holds
-    /// what it held and the text; after a failure that and a first part of the text, which may be nothing. The text is
-    /// made whole, and then written.
+    /// what it held and the text; after a failure that and a first part of the text, which may be nothing.
+    ///
+    /// In the graphic form each group is drawn, written and dropped before the next is drawn, so memory holds the text
+    /// of one group at a time. The writer is called for each group: one that is slow to call wants a buffer.
     ///
     /// # Errors
     ///
     /// `Refused`, as of [`render`](Renderer::render), and `Write` where the writer failed. Nothing is written of a
-    /// report that is refused.
+    /// report that is out of bounds; where memory runs out between groups, those before are written.
     pub fn render_to<W: Write>(
         &self,
         alloc: Global,
@@ -85,13 +112,149 @@ impl Renderer {
         ensures whole { OnOk result (WritesText (ShowsReport self.now groups.now self.now.stylesheet)
             (W.contents out.old) (W.contents out.new)) }
 
+        // What follows for who reads it: the text has the laws of that form, in the graphic form those of the page.
+        ensures laws { OnOk result (WritesText (HasLaws self.now groups.now self.now.stylesheet)
+            (W.contents out.old) (W.contents out.new)) }
+
         // Where it isn't written whole, that grows by a first part of such a text, or by nothing.
         ensures part { OnErr result ((out.new ≡ out.old)
             ⊎ WritesPart (ShowsReport self.now groups.now self.now.stylesheet)
             (W.contents out.old) (W.contents out.new)) }
     {
-        let text = self.render(alloc, groups)?;
-        write_whole(text.as_bytes(), out)?;
-        Ok(())
+        let form = form_of(self);
+        if let Some(refusal) = first_refusal(form, groups) {
+            return Err(RenderToError::Refused(refusal));
+        }
+        write_form(alloc, self, form, groups, out)
     }
+}
+
+/// Writes the text of a report in a form.
+fn write_form<W: Write>(
+    alloc: Global,
+    renderer: &Renderer,
+    form: Form,
+    groups: Report<'_>,
+    out: &mut W,
+) -> Result<(), RenderToError>
+    requires drawable { All IsGroupDrawable groups.now }
+    requires titled { spec.missing_title form groups.now ≡ None }
+    ensures stopped { IfErr result IsStop }
+    ensures whole { OnOk result (WritesText (IsTextIn form renderer.now groups.now)
+        (W.contents out.old) (W.contents out.new)) }
+    ensures part { OnErr result ((out.new ≡ out.old)
+        ⊎ WritesPart (ShowsIn form renderer.now groups.now) (W.contents out.old) (W.contents out.new)) }
+{
+    match form {
+        Form::Graphic => write_groups(alloc, renderer, groups, out),
+        Form::Short | Form::Text => write_drawn(alloc, renderer, form, groups, out),
+    }
+}
+
+/// Writes the graphic form of a report, a group at a time: each is drawn, written and dropped before the next is
+/// drawn.
+fn write_groups<W: Write>(
+    alloc: Global,
+    renderer: &Renderer,
+    groups: Report<'_>,
+    out: &mut W,
+) -> Result<(), RenderToError>
+    requires drawable { All IsGroupDrawable groups.now }
+    ensures stopped { IfErr result IsStop }
+    ensures whole { OnOk result (WritesText (IsTextIn form.Graphic renderer.now groups.now)
+        (W.contents out.old) (W.contents out.new)) }
+    ensures part { OnErr result ((out.new ≡ out.old)
+        ⊎ WritesPart (ShowsIn form.Graphic renderer.now groups.now) (W.contents out.old) (W.contents out.new)) }
+{
+    let prepared = prepare_groups(alloc, groups)?;
+    let gutter = gutter_of(renderer, &prepared);
+    let file = report_file(groups);
+    let mut codes = SheetCodes::new(alloc, &renderer.stylesheet);
+    for (i, group) in prepared.into_iter().enumerate() {
+        let grid = draw_at(alloc, renderer, groups, gutter, file, i, group)?;
+        write_grid(alloc, &grid, i == 0, &mut codes, out)?;
+    }
+    Ok(())
+}
+
+/// Writes the text that prints a group's grid, after a line feed unless it is the first.
+fn write_grid<W: Write>(
+    alloc: Global,
+    grid: &GroupGrid<'_>,
+    is_first: bool,
+    codes: &mut SheetCodes,
+    out: &mut W,
+) -> Result<(), RenderToError>
+    ensures sheet { codes.new ≡ codes.old }
+    ensures stopped { IfErr result IsStop }
+    ensures whole { OnOk result (WritesText (PrintsGrid codes.old is_first grid.now)
+        (W.contents out.old) (W.contents out.new)) }
+    ensures part { OnErr result ((out.new ≡ out.old)
+        ⊎ WritesPart (PrintsGrid codes.old is_first grid.now) (W.contents out.old) (W.contents out.new)) }
+{
+    let text = grid_text(alloc, grid, is_first, codes)?;
+    write_whole(text.as_bytes(), out)?;
+    Ok(())
+}
+
+/// The text that prints a group's grid, after a line feed unless it is the first.
+fn grid_text(
+    alloc: Global,
+    grid: &GroupGrid<'_>,
+    is_first: bool,
+    codes: &mut SheetCodes,
+) -> Result<String, AllocError>
+    ensures sheet { codes.new ≡ codes.old }
+    ensures prints { IfOk result (λ text. PrintsGrid codes.old is_first grid.now (string_bytes text)) }
+{
+    let before = line_break(alloc, is_first)?;
+    grid.buffer.render_after(before, grid.level, codes)
+}
+
+/// What stands before the text of a group: a line feed, and nothing before the first.
+fn line_break(alloc: Global, is_first: bool) -> Result<String, AllocError>
+    ensures value { IfOk result (λ text. string_bytes text ≡ (if is_first then [] else 10 ∷ [])) }
+{
+    let mut text = String::new(alloc);
+    if is_first {
+        return Ok(text);
+    }
+    text.push_str("\n")?;
+    Ok(text)
+}
+
+/// Writes the text of a report in a form, which is made whole before.
+fn write_drawn<W: Write>(
+    alloc: Global,
+    renderer: &Renderer,
+    form: Form,
+    groups: Report<'_>,
+    out: &mut W,
+) -> Result<(), RenderToError>
+    requires drawable { All IsGroupDrawable groups.now }
+    requires titled { spec.missing_title form groups.now ≡ None }
+    ensures stopped { IfErr result IsStop }
+    ensures whole { OnOk result (WritesText (IsTextIn form renderer.now groups.now)
+        (W.contents out.old) (W.contents out.new)) }
+    ensures part { OnErr result ((out.new ≡ out.old)
+        ⊎ WritesPart (ShowsIn form renderer.now groups.now) (W.contents out.old) (W.contents out.new)) }
+{
+    let text = text_in(alloc, renderer, form, groups)?;
+    write_whole(text.as_bytes(), out)?;
+    Ok(())
+}
+
+/// The text of a report in a form, under the renderer's own sheet.
+fn text_in(
+    alloc: Global,
+    renderer: &Renderer,
+    form: Form,
+    groups: Report<'_>,
+) -> Result<String, AllocError>
+    requires drawable { All IsGroupDrawable groups.now }
+    requires titled { spec.missing_title form groups.now ≡ None }
+    ensures text { IfOk result (λ text. IsTextIn form renderer.now groups.now (string_bytes text)) }
+{
+    let drawn = draw(alloc, renderer, form, groups)?;
+    text_under(alloc, &drawn, &renderer.stylesheet)
 }
