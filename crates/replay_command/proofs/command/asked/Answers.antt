@@ -1,0 +1,19 @@
+use Rattle.std.proofs.Common.{codes, sym, ◌∙◌}
+use Rattle.clap.proofs.WalkLemmas.{first_value-rows}
+use Rattle.clap.specs.Words.{found_of, rows_of}
+use Rattle.replay_command.proofs.Asking.{asked_with_check, asked_without}
+use Rattle.replay_command.proofs.command.asked.Goals as goal
+
+pub returns-then-has : goal.returns-then-has
+returns-then-has c =
+    record {
+      value = c.check_of.ensures.value ∙ asked_with_check (rows_of (found_of c.args.matches.now)) _ _ _ _ c.has-texts.ensures.value c.has-keep_going.ensures.value
+          (c.get_str-repeat.ensures ∙ first_value-rows (found_of c.args.matches.now) (codes "repeat")) c.files_of-files.ensures.value (sym c.if-has.true ∙ c.has.ensures.value);
+    }
+
+pub returns-else-has : goal.returns-else-has
+returns-else-has c =
+    record {
+      value = c.draw_of.ensures.value ∙ asked_without (rows_of (found_of c.args.matches.now)) _ _ _ _ c.has-texts.ensures.value c.has-keep_going.ensures.value
+          (c.get_str-repeat.ensures ∙ first_value-rows (found_of c.args.matches.now) (codes "repeat")) c.files_of-files.ensures.value (sym c.if-has.false ∙ c.has.ensures.value);
+    }

@@ -1,0 +1,163 @@
+//! What matched words ask for.
+
+ghost use Rattle.std.specs.Prelude.{◌≡◌, ◌≢◌, ◌⊎◌, Some, None, IfErr, IfOk, option_map};
+ghost use Rattle.clap.specs.Words.{found_of, kind_of, rows_of};
+ghost use Rattle.clap.specs.declared.error.kind.ErrorKind.TheVariants as kind;
+ghost use Rattle.replay_command.specs.Words as spec;
+ghost use Rattle.replay_command.specs.Words.{files_in, task_in, task_of, was_given, words_at};
+
+use crate::usage_error::{UsageError, error_of};
+use clap::{ArgMatches, Error};
+use std::alloc::Global;
+
+/// What a command line asks for. Inputs are files, or standard input by the name `-`.
+#[derive(Clone, Copy)]
+pub enum Command<'w, 'a> {
+    /// Answers the cases of these inputs.
+    Answer {
+        /// As texts, and not as JSON.
+        texts: bool,
+        /// A line that is no case is answered by what is wrong with it.
+        keep_going: bool,
+        inputs: &'w [&'a str],
+    },
+    /// Compares: each file of expected answers, and after it the file of its cases.
+    Check {
+        files: &'w [&'a str],
+    },
+    /// Draws each case of these inputs this many times.
+    Repeat {
+        times: u64,
+        inputs: &'w [&'a str],
+    },
+}
+
+/// The command that matched words ask for, or what is wrong with it.
+pub fn command_of<'w, 'a>(
+    alloc: Global,
+    matches: &'w ArgMatches<'a>,
+) -> Result<Command<'w, 'a>, Error>
+    ensures command { IfOk result (λ command. spec.asked (rows_of (found_of matches.now)) ≡ Some (task_of command)) }
+    ensures none { IfErr result (λ error. (spec.asked (rows_of (found_of matches.now)) ≡ None)
+        ⊎ (kind_of error ≡ kind.OutOfMemory)) }
+    ensures mistake { IfErr result (λ error.
+        (kind_of error ≢ kind.DisplayHelp) × (kind_of error ≢ kind.DisplayVersion)) }
+{
+    match asked(matches) {
+        Ok(command) => Ok(command),
+        Err(usage_error) => Err(error_of(alloc, &usage_error)),
+    }
+}
+
+/// The command, or what is wrong, before it is told.
+fn asked<'w, 'a>(matches: &'w ArgMatches<'a>) -> Result<Command<'w, 'a>, UsageError<'a>>
+    ensures value { task_in result ≡ spec.asked (rows_of (found_of matches.now)) }
+{
+    let texts = has(matches, "text");
+    let keep_going = has(matches, "keep-going");
+    let repeat = matches.get_str("repeat");
+    let files = files_of(matches);
+    if has(matches, "check") {
+        check_of(texts, keep_going, repeat, files)
+    } else {
+        draw_of(texts, keep_going, repeat, files)
+    }
+}
+
+/// Whether an option that stands alone was given.
+fn has(matches: &ArgMatches<'_>, name: &str) -> bool
+    ensures value { result ≡ was_given name.now (rows_of (found_of matches.now)) }
+{
+    match matches.get_str(name) {
+        Some(value) => value == "true",
+        None => false,
+    }
+}
+
+/// The files that were named, or else standard input.
+fn files_of<'w, 'a>(matches: &'w ArgMatches<'a>) -> &'w [&'a str]
+    ensures value { words_at result.now ≡ files_in (rows_of (found_of matches.now)) }
+{
+    matches.get_strs("files").unwrap_or_default()
+}
+
+/// The command that compares these files, beside these other options.
+fn check_of<'w, 'a>(
+    texts: bool,
+    keep_going: bool,
+    repeat: Option<&'a str>,
+    files: &'w [&'a str],
+) -> Result<Command<'w, 'a>, UsageError<'a>>
+    ensures value { task_in result ≡ spec.asked_to_check texts keep_going (option_map (λ word. word.now) repeat.entry)
+        (words_at files.now) }
+{
+    if texts {
+        Err(UsageError::Together("--check", "--text"))
+    } else if keep_going {
+        Err(UsageError::Together("--check", "--keep-going"))
+    } else if repeat.is_some() {
+        Err(UsageError::Together("--check", "--repeat <N>"))
+    } else if are_pairs(files) {
+        Ok(Command::Check { files })
+    } else {
+        Err(UsageError::NoPair)
+    }
+}
+
+/// Whether there is one pair or more.
+fn are_pairs(files: &[&str]) -> bool
+    ensures value { result ≡ spec.are_pairs (words_at files.now) }
+{
+    !files.is_empty() && files.len() % 2 == 0
+}
+
+/// The command that draws the cases of these inputs.
+fn draw_of<'w, 'a>(
+    texts: bool,
+    keep_going: bool,
+    repeat: Option<&'a str>,
+    inputs: &'w [&'a str],
+) -> Result<Command<'w, 'a>, UsageError<'a>>
+    ensures value { task_in result ≡ spec.asked_to_draw texts keep_going (option_map (λ word. word.now) repeat.entry)
+        (words_at inputs.now) }
+{
+    match repeat {
+        Some(word) => repeat_of(texts, keep_going, word, inputs),
+        None => Ok(Command::Answer {
+            texts,
+            keep_going,
+            inputs,
+        }),
+    }
+}
+
+/// The command that draws each case as often as this word says.
+fn repeat_of<'w, 'a>(
+    texts: bool,
+    keep_going: bool,
+    word: &'a str,
+    inputs: &'w [&'a str],
+) -> Result<Command<'w, 'a>, UsageError<'a>>
+    ensures value { task_in result ≡ spec.asked_to_repeat texts keep_going word.now (words_at inputs.now) }
+{
+    if texts {
+        return Err(UsageError::Together("--repeat <N>", "--text"));
+    }
+    if keep_going {
+        return Err(UsageError::Together("--repeat <N>", "--keep-going"));
+    }
+    match number_of(word) {
+        Some(times) => Ok(Command::Repeat { times, inputs }),
+        None => Err(UsageError::NotNumber(word)),
+    }
+}
+
+/// The number that a word of decimal digits alone writes; `None` for another word, and where the number doesn't fit.
+fn number_of(word: &str) -> Option<u64>
+    ensures value { result ≡ spec.number_of word.now }
+{
+    match word.as_bytes() {
+        [b'+', ..] => None,
+        _ => word.parse().ok(),
+    }
+}

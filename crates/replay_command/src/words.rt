@@ -1,0 +1,100 @@
+//! The words of the command line, without the program's name.
+
+ghost use Rattle.std.specs.Prelude.{◌≡◌, false, IfOk};
+ghost use Rattle.clap.specs.Words.{FailsBy, app_of, fault_of, found_of, rows_of, rule_of};
+ghost use Rattle.clap.specs.Simple.{matches_of as rows_for};
+ghost use Rattle.replay_command.specs.Words.{flag_rule, files_rule, repeat_rule, replay_app, words_at};
+
+use clap::{Arg, ArgAction, ArgMatches, Command, Error};
+use std::alloc::{AllocError, Global};
+
+/// What the program is for, as its help says it.
+const ABOUT: &str = "Reads reports as lines of JSON, and draws them";
+
+/// How its words are written, as its help and its messages say it.
+const USAGE: &str = "replay [--text] [--keep-going] [FILE]...
+       replay --check EXPECTED FILE [EXPECTED FILE]...
+       replay --repeat N [FILE]...";
+
+/// What its help says of the files.
+const FILES: &str =
+    "Lines of JSON, a report on each; - is standard input, which is read where no file is named";
+
+/// The command, with a line of help for each option.
+pub fn parser<'a>(alloc: Global) -> Result<Command<'a>, AllocError>
+    ensures app { IfOk result (λ command. app_of command ≡ replay_app) }
+{
+    let text = flag(
+        alloc,
+        "text",
+        "Print texts as they are, with an empty line between reports",
+    );
+    let keep_going = flag(
+        alloc,
+        "keep-going",
+        "Tell what is wrong with a line that is no report, and go on",
+    );
+    let check = flag(
+        alloc,
+        "check",
+        "Compare: each first file has the answers that are expected of the next one",
+    );
+    let command = Command::new(alloc, "replay")
+        .about(ABOUT)
+        .version("1.0.0")
+        .override_usage(USAGE)
+        .no_binary_name(true)
+        .args_override_self(true)
+        .arg(text)?
+        .arg(keep_going)?
+        .arg(check)?
+        .arg(repeat(alloc))?
+        .arg(files(alloc))?;
+    Ok(command)
+}
+
+/// An option that stands alone.
+fn flag<'a>(alloc: Global, name: &'a str, help: &'a str) -> Arg<'a>
+    ensures rule { rule_of result ≡ flag_rule name.entry.now }
+    ensures local { result.global ≡ false }
+{
+    Arg::new(alloc, name)
+        .long(name)
+        .help(help)
+        .action(ArgAction::SetTrue)
+}
+
+/// The option that has a number after it.
+fn repeat<'a>(alloc: Global) -> Arg<'a>
+    ensures rule { rule_of result ≡ repeat_rule }
+    ensures local { result.global ≡ false }
+{
+    Arg::new(alloc, "repeat")
+        .long("repeat")
+        .value_name("N")
+        .help("Draw each report this many times, and print how long it took")
+        .action(ArgAction::Set)
+}
+
+/// The files.
+fn files<'a>(alloc: Global) -> Arg<'a>
+    ensures rule { rule_of result ≡ files_rule }
+    ensures local { result.global ≡ false }
+{
+    Arg::new(alloc, "files")
+        .value_name("FILE")
+        .help(FILES)
+        .action(ArgAction::Append)
+        .num_args(0..)
+        .default_value("-")
+}
+
+/// What the words are matched with, or what is to be told in place of that: what is wrong with them, the help or the
+/// version.
+pub fn matches_of<'a>(alloc: Global, words: &'a [&'a str]) -> Result<ArgMatches<'a>, Error>
+    ensures rows { IfOk result (λ matches. rows_of (found_of matches) ≡ rows_for replay_app (words_at words.now)) }
+    ensures faults { FailsBy (fault_of replay_app (words_at words.now)) result }
+{
+    let command = parser(alloc)?;
+    command.try_get_matches_from(words)
+}
