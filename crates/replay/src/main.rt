@@ -1,6 +1,7 @@
 //! Reads reports as JSON lines, and prints their texts.
 //!
-//! `replay [--text] [FILE ..]`, `replay --check EXPECTED FILE [EXPECTED FILE ..]`, `replay --repeat N [FILE ..]`
+//! `replay [--text] [--keep-going] [FILE ..]`, `replay --check EXPECTED FILE [EXPECTED FILE ..]`,
+//! `replay --repeat N [FILE ..]`
 #![tactic(auto)]
 
 use program::exit::exit_code;

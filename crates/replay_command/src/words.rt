@@ -17,8 +17,7 @@ const USAGE: &str = "replay [--text] [--keep-going] [FILE]...
        replay --repeat N [FILE]...";
 
 /// What its help says of the files.
-const FILES: &str =
-    "Lines of JSON, a report on each; - is standard input, which is read where no file is named";
+const FILES: &str = "Lines of JSON, a report on each; - is standard input, except with --check";
 
 /// The command, with a line of help for each option.
 pub fn parser<'a>(alloc: Global) -> Result<Command<'a>, AllocError>

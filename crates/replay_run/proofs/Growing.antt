@@ -18,6 +18,13 @@ grows_twice (Some x) (Some y) (Some z) first then =
 pub grows_appended : (a b : Option (List ℕ)) (text : List ℕ) → Appends a b text → Grows a b
 grows_appended a b text appends = (text, appends)
 
+-- what has grown has still grown where nothing more is added
+pub grows_kept : (a b c : Option (List ℕ)) → Grows a b → Keeps b c → Grows a c
+grows_kept None b c grown kept = ([], tt)
+grows_kept (Some x) None c grown kept = absurd grown.1
+grows_kept (Some x) (Some y) None grown kept = absurd kept
+grows_kept (Some x) (Some y) (Some z) grown kept = (grown.0, kept ∙ grown.1)
+
 -- nothing added, and one text after another
 pub appends_none : (a : Option (List ℕ)) → Appends a a []
 appends_none None = tt

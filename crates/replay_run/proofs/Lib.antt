@@ -1,10 +1,10 @@
+mod NotStopped
+pub mod AnsweredInputs
 pub mod AnsweredLines
-pub mod AnsweredReaders
+pub mod Checking
 pub mod Commands
 pub mod Ending
-pub mod GoingOn
 pub mod Growing
-pub mod Checking
 pub mod Reading
-mod NotStopped
 pub mod Telling
+pub mod Told

@@ -1,5 +1,6 @@
 -- What is written where the lines that readers hold are answered.
 use Rattle.std.specs.Prelude.{◌≡◌, ◌⊎◌, ℕ, Bool, true, false, List, [], ◌∷◌, ◌++◌, Option, Some, None, Result, String, IfSome, IsOkAnd, IsTrue, codes, length}
+use Rattle.std.specs.Prelude.{map}
 use Rattle.std.specs.Prelude.{All}
 use Rattle.std.specs.Prelude.{string_bytes}
 use Rattle.std.specs.Io.KnownBytes.{Appends, Keeps}
@@ -9,7 +10,8 @@ use Rattle.serde_json.specs.Data.{Data}
 use Rattle.serde_json.specs.Read.{read}
 use Rattle.replay_run.specs.Answer.{AreFirstLines, AreLines, AnswersLine, AnswersLines, Numbered, first_after, number_after}
 use Rattle.replay_run.specs.Problem.{IsFinal, IsRead, IsProblemWith, IsWrite}
-use Rattle.replay_run.specs.Words.{Word}
+use Rattle.replay_command.specs.Words.{Word}
+use Rattle.replay_run.specs.Words.{NamedInput, shown_name}
 use Rattle.replay_run.specs.declared.lines.Way.{Way}
 use Rattle.replay_run.specs.declared.problem.Line.{Line}
 use Rattle.replay_run.specs.declared.problem.Line.TheVariants.{Case}
@@ -30,14 +32,15 @@ pub record AnswersReader (way : Way) (told : Bool) (is_first still_first : Bool)
   pub written : Appends old new (concat texts)
   pub still : still_first ≡ first_after is_first lines
 
--- this many readers are answered, by the bytes that each holds: to what a writer held, the texts that answer their lines are added, of one
--- reader after another, and nothing else. The first text is the first that is written
-pub record AnswersReaders (Reader : Type 0) (bytes : Reader → Option (List ℕ)) (way : Way) (told : Bool) (count : ℕ) (old new : Option (List ℕ)) : Type 0 where
-  pub readers : List (Reader × List Numbered)
-  pub many : length readers ≡ count
-  pub read : All (λ reader. AreRead (bytes reader.0) reader.1) readers
+-- the inputs of these names are answered, by what each of them holds: to what a writer held, the texts that answer their lines are added, of
+-- one input after another, and nothing else. The first text is the first that is written
+pub record AnswersInputs (File Standard : Type 0) (held : NamedInput File Standard → Option (List ℕ)) (way : Way) (told : Bool) (names : List Word)
+    (old new : Option (List ℕ)) : Type 0 where
+  pub inputs : List (NamedInput File Standard × List Numbered)
+  pub named : map (λ input. input.0.name) inputs ≡ names
+  pub read : All (λ input. AreRead (held input.0) input.1) inputs
   pub texts : List (List ℕ)
-  pub answered : AnswersLines way told true (flat_map (λ reader. reader.1) readers) texts
+  pub answered : AnswersLines way told true (flat_map (λ input. input.1) inputs) texts
   pub written : Appends old new (concat texts)
 
 -- the first lines of what a reader holds, where it is known what it holds
@@ -100,18 +103,25 @@ abbrev pub StopsAt : (Reader : Type 0) → (Reader → Option (List ℕ)) → Wa
 StopsAt Reader bytes way is_first old new problem =
     (Keeps old new × IsRead problem) ⊎ ((reader : Reader) × StopsReader way is_first (bytes reader) old new problem)
 
--- the problem with readers that are all answered: what was written can't be handed on, or an answer tells that its line is no case
+-- answering stops at the input of this name, which can't be had, or within it
+abbrev pub StopsAtInput : (File Standard : Type 0) → (NamedInput File Standard → Option (List ℕ)) → Word → Way → Bool → Option (List ℕ) → Option (List ℕ)
+    → Problem → Type 0
+StopsAtInput File Standard held name way is_first old new problem =
+    (Keeps old new × IsRead problem)
+    ⊎ ((input : NamedInput File Standard) × (input.name ≡ name) × StopsReader way is_first (held input) old new problem)
+
+-- the problem with inputs that are all answered: what was written can't be handed on, or an answer tells that its line is no case
 abbrev pub IsEndProblem : Bool → Problem → Type 0
 IsEndProblem told problem = IsWrite problem ⊎ (IsTrue told × (problem ≡ NotCases))
 
--- answering the readers of these names stops: those of the first names are answered, each to its end, and it stops at the next; or all
--- are answered, and there is problem with that
-pub record StopsReaders (Reader : Type 0) (bytes : Reader → Option (List ℕ)) (way : Way) (names : List Word) (old new : Option (List ℕ)) (name : Word)
-    (problem : Problem) : Type 0 where
+-- answering the inputs of these names stops with what is called so: those of the first names are answered, each to its end, and it stops at
+-- the next; or all are answered, and there is problem with that
+pub record StopsInputs (File Standard : Type 0) (held : NamedInput File Standard → Option (List ℕ)) (way : Way) (names : List Word) (old new : Option (List ℕ))
+    (called : Word) (problem : Problem) : Type 0 where
   pub before : List Word
   pub mid : Option (List ℕ)
   pub told : Bool
-  pub answered : AnswersReaders Reader bytes way told (length before) old mid
-  pub stops : ((after : List Word) × (names ≡ before ++ name ∷ after)
-      × StopsAt Reader bytes way (first_after true (flat_map (λ reader. reader.1) answered.readers)) mid new problem)
-      ⊎ ((names ≡ before) × (name ≡ codes "standard output") × IsEndProblem told problem × Keeps mid new)
+  pub answered : AnswersInputs File Standard held way told before old mid
+  pub stops : ((name : Word) × (after : List Word) × (names ≡ before ++ name ∷ after) × (called ≡ shown_name name)
+      × StopsAtInput File Standard held name way (first_after true (flat_map (λ input. input.1) answered.inputs)) mid new problem)
+      ⊎ ((names ≡ before) × (called ≡ codes "standard output") × IsEndProblem told problem × Keeps mid new)

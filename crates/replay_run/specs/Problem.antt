@@ -1,10 +1,10 @@
 -- What stops a run, and what is told of it.
-use Rattle.std.specs.Prelude.{◌≡◌, ◌⊎◌, ℕ, Bool, List, ◌++◌, Some, None, Result, String, IsOkAnd, chars, codes, decimal, encode_utf8_all, if◌then◌else◌}
+use Rattle.std.specs.Prelude.{◌≡◌, ◌⊎◌, ℕ, Bool, List, ◌++◌, Option, Some, None, Result, String, IsOkAnd, chars, codes, decimal, encode_utf8_all, if◌then◌else◌}
 use Rattle.std.specs.Prelude.{string_bytes}
 use Rattle.std.specs.declared.alloc.Global.{Global}
 use Rattle.std.specs.declared.io.Error.{Error}
 use Rattle.annotate_snippets.specs.Normalized.{norm}
-use Rattle.program.specs.Stream.{Output, Told}
+use Rattle.program.specs.Stream.{Output, Told, line_of}
 use Rattle.serde_json.specs.Data.{Data}
 use Rattle.serde_json.specs.Read.{read}
 use Rattle.replay_answer.specs.Answer.{column_text}
@@ -12,7 +12,8 @@ use Rattle.replay_run.specs.declared.problem.Line.{Line}
 use Rattle.replay_run.specs.declared.problem.Line.TheVariants.{Case, Expected}
 use Rattle.replay_run.specs.declared.problem.Problem.{Problem}
 use Rattle.replay_run.specs.declared.problem.Problem.TheVariants.{NotText, NotJson, Wrong, Unpaired, TooManyLines, NotCases, Read, Clock, Write, Memory}
-use Rattle.replay_run.specs.Words.{Word, usage_text}
+use Rattle.replay_command.specs.Words.{Word}
+use Rattle.replay_run.specs.Growth.{AppendsOrPart}
 
 -- a line, by its number
 abbrev pub line_text : Line → List ℕ
@@ -55,13 +56,13 @@ abbrev pub TellsStop : Word → Problem → (Output → Type 0) → Type 0
 TellsStop name problem Err =
     ((said : List ℕ) × Err (Told (shown (stop_text name problem said)))) ⊎ Err (Told (codes "replay: out of memory"))
 
--- what is told of words that aren't of the form, where this is said of them: that, and how words are to be written
-abbrev pub usage_error_text : List ℕ → List ℕ
-usage_error_text said = codes "replay: " ++ (said ++ (codes "\n" ++ usage_text))
+-- that there was no memory is told
+abbrev pub TellsMemory : Option (List ℕ) → Option (List ℕ) → Type 0
+TellsMemory old new = AppendsOrPart old new (line_of (codes "replay: out of memory"))
 
--- that is told; or that there was no memory for it
-abbrev pub TellsUsageError : (Output → Type 0) → Type 0
-TellsUsageError Err = ((said : List ℕ) × Err (Told (shown (usage_error_text said)))) ⊎ Err (Told (codes "replay: out of memory"))
+-- what is wrong with words is told, by a text as it may be shown; or that there was no memory for it
+abbrev pub TellsUsageError : Option (List ℕ) → Option (List ℕ) → Type 0
+TellsUsageError old new = ((text : List ℕ) × AppendsOrPart old new (shown text)) ⊎ TellsMemory old new
 
 -- the problem is a write that failed
 abbrev pub IsWrite : Problem → Type 0

@@ -1,90 +1,82 @@
--- What the words of a command line ask for.
-use Rattle.std.specs.Prelude.{◌≡◌, ℕ, ◌%◌, ◌^◌, ◌<◌, Bool, true, false, List, [], ◌∷◌, ◌++◌, codes, length, map, All}
-use Rattle.std.specs.Borrow.{Bor}
-use Rattle.std.specs.Str.Parse.{IsNumeral, digits_value}
-use Rattle.replay_run.specs.declared.command.Command.{Command}
-use Rattle.replay_run.specs.declared.command.Command.TheVariants.{Answer, Check, Repeat, Help}
+-- What a command line has replay do, and what is read for it.
+use Rattle.std.specs.Prelude.{◌≡◌, ◌⊎◌, ℕ, Bool, true, false, List, Option, codes, if◌then◌else◌, bytes_eq}
+use Rattle.std.proofs.Common.{inl, inr}
+use Rattle.replay_command.specs.Words.{Answers, AsksFor, Checks, Task, Word, hyphen, words_at}
+use Rattle.replay_command.specs.declared.command.Command.{Command}
+use Rattle.replay_command.specs.declared.command.Command.TheVariants.{Answer, Check, Repeat}
 use Rattle.replay_run.specs.declared.lines.Form.{Form}
 use Rattle.replay_run.specs.declared.lines.Form.TheVariants.{Json, Texts}
 use Rattle.replay_run.specs.declared.lines.Way.{Way}
 
--- a word, by its bytes
-abbrev pub Word : Type 0
-Word = List ℕ
+-- ---- what is asked for
 
--- the words that a list of references leads to
-abbrev pub words_at : List (Bor Word) → List Word
-words_at refs = map (λ (w : Bor Word). w.now) refs
+-- whether answers of this form are texts, and the form of answers that are texts or not
+abbrev pub are_texts : Form → Bool
+are_texts Json = false
+are_texts Texts = true
 
--- a word that begins as an option does
-abbrev pub IsOption : Word → Type 0
-IsOption word = (name : Word) × (word ≡ codes "--" ++ name)
+abbrev pub form_of : Bool → Form
+form_of texts = if texts then Texts else Json
 
--- each word names a file: none begins as an option does
-abbrev pub AreFiles : List Word → Type 0
-AreFiles words = All (λ word. IsOption word → ⊥) words
+-- how lines are answered as texts or not, and past lines that are no cases or not
+abbrev pub way_of : Bool → Bool → Way
+way_of texts keep_going = record { form = form_of texts; keep_going = keep_going }
 
--- how the words are to be written
-abbrev pub usage_text : List ℕ
-usage_text =
-    codes "usage: replay [--text] [--keep-going] [FILE ..]\n       replay --check EXPECTED FILE [EXPECTED FILE ..]\n       replay --repeat N [FILE ..]\n       replay --help"
+-- answers of this kind to the cases of these inputs
+abbrev pub answers : Way → List Word → Task
+answers way names = Answers (are_texts way.form) way.keep_going names
 
--- decimal digits alone, one or more, whose number fits in 64 bits
-abbrev pub IsNumber : Word → Type 0
-IsNumber word = IsNumeral 10 word × (digits_value 10 word < 2 ^ 64)
-
--- one pair or more
-abbrev pub ArePairs : List Word → Type 0
-ArePairs words = (0 < length words) × (length words % 2 ≡ 0)
-
--- the options that ask for a form, and to go on where a line is no case
-abbrev pub form_options : Form → List Word
-form_options Json = []
-form_options Texts = codes "--text" ∷ []
-
-abbrev pub keep_going_options : Bool → List Word
-keep_going_options true = codes "--keep-going" ∷ []
-keep_going_options false = []
-
--- the words ask for answers of this kind to the cases of these files
+-- the words ask for that
 abbrev pub AsksAnswers : List Word → Way → List Word → Type 0
-AsksAnswers words way files = (words ≡ form_options way.form ++ (keep_going_options way.keep_going ++ files)) × AreFiles files
+AsksAnswers words way names = AsksFor words (answers way names)
 
--- the words ask for this command
-abbrev pub Asks : List Word → Command → Type 0
-Asks words (Answer way files) = AsksAnswers words way (words_at files.now)
-Asks words (Check files) =
-    (words ≡ codes "--check" ∷ words_at files.now) × AreFiles (words_at files.now) × ArePairs (words_at files.now)
-Asks words (Repeat times files) =
-    (digits : Word) × (words ≡ codes "--repeat" ∷ digits ∷ words_at files.now) × AreFiles (words_at files.now) × IsNumber digits
-    × (times ≡ digits_value 10 digits)
-Asks words Help = words ≡ codes "--help" ∷ []
+-- the words ask for a comparison of these files
+abbrev pub AsksComparison : List Word → List Word → Type 0
+AsksComparison words files = AsksFor words (Checks files)
 
--- the words are of the form
-abbrev pub IsCommandLine : List Word → Type 0
-IsCommandLine words = (command : Command) × Asks words command
-
--- the command compares answers with those that are expected
-abbrev pub IsComparison : Command → Type 0
-IsComparison (Answer way files) = ⊥
-IsComparison (Check files) = Unit {0}
-IsComparison (Repeat times files) = ⊥
-IsComparison Help = ⊥
-
--- P holds of the number of the files that the command compares, if it does
-abbrev pub IfComparison : Command → (ℕ → Type 0) → Type 0
-IfComparison (Answer way files) P = Unit {0}
-IfComparison (Check files) P = P (length files.now)
-IfComparison (Repeat times files) P = Unit {0}
-IfComparison Help P = Unit {0}
-
--- P holds of the kind of the answers and of the files whose cases the command answers, if it does
-abbrev pub IfAnswers : Command → (Way → List Word → Type 0) → Type 0
-IfAnswers (Answer way files) P = P way (words_at files.now)
-IfAnswers (Check files) P = Unit {0}
-IfAnswers (Repeat times files) P = Unit {0}
-IfAnswers Help P = Unit {0}
-
--- the words ask for a comparison
 abbrev pub Compares : List Word → Type 0
-Compares words = (command : Command) × Asks words command × IsComparison command
+Compares words = (files : List Word) × AsksComparison words files
+
+-- P holds of the files that the command compares, if it does
+abbrev pub IfComparison : Command → (List Word → Type 0) → Type 0
+IfComparison (Answer texts keep_going inputs) P = Unit {0}
+IfComparison (Check files) P = P (words_at files.now)
+IfComparison (Repeat times inputs) P = Unit {0}
+
+-- the command compares files
+abbrev pub IsComparison : Command → Type 0
+IsComparison (Answer texts keep_going inputs) = ⊥
+IsComparison (Check files) = Unit {0}
+IsComparison (Repeat times inputs) = ⊥
+
+-- P holds of the kind of the answers and of the inputs whose cases the command answers, if it does
+abbrev pub IfAnswers : Command → (Way → List Word → Type 0) → Type 0
+IfAnswers (Answer texts keep_going inputs) P = P (way_of texts keep_going) (words_at inputs.now)
+IfAnswers (Check files) P = Unit {0}
+IfAnswers (Repeat times inputs) P = Unit {0}
+
+-- ---- what is read
+
+-- what a word names: standard input where it is a hyphen, and a file where it isn't
+abbrev pub IsNamed : {File Standard : Type 0} → Word → File ⊎ Standard → Type 0
+IsNamed word (inl file) = word ≡ hyphen → ⊥
+IsNamed word (inr standard) = word ≡ hyphen
+
+-- an input, by the word that names it
+pub record NamedInput (File Standard : Type 0) : Type 0 where
+  pub name : Word
+  pub source : File ⊎ Standard
+  pub is : IsNamed name source
+
+-- what a file or standard input holds
+abbrev pub source_held : {File Standard : Type 0} → (File → Option (List ℕ)) → (Standard → Option (List ℕ)) → File ⊎ Standard → Option (List ℕ)
+source_held file standard (inl source) = file source
+source_held file standard (inr source) = standard source
+
+-- what an input holds
+abbrev pub held_by : {File Standard : Type 0} → (File → Option (List ℕ)) → (Standard → Option (List ℕ)) → NamedInput File Standard → Option (List ℕ)
+held_by file standard input = source_held file standard input.source
+
+-- how an input is called where something is told of it
+abbrev pub shown_name : Word → Word
+shown_name word = if bytes_eq word hyphen then codes "standard input" else word

@@ -2,10 +2,10 @@
 #![tactic(auto)]
 
 pub mod check;
-pub mod command;
 pub mod expected;
+pub mod inputs;
 pub mod lines;
 pub mod problem;
 pub mod repeat;
 pub mod run;
-pub mod usage_error;
+pub mod stop;

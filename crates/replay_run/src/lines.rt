@@ -116,7 +116,7 @@ fn answer_line<W: Write>(
 }
 
 /// What answers the line of this number.
-#[tactic(auto, using(crate::proofs::GoingOn::answer_told, crate::proofs::GoingOn::stop_told, crate::proofs::GoingOn::stop_at_once))]
+#[tactic(auto, using(crate::proofs::Told::answer_told, crate::proofs::Told::stop_told, crate::proofs::Told::at_once))]
 fn answer_for(
     alloc: Global,
     line: io::Result<String>,

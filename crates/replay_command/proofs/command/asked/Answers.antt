@@ -6,14 +6,18 @@ use Rattle.replay_command.proofs.command.asked.Goals as goal
 
 pub returns-then-has : goal.returns-then-has
 returns-then-has c =
+    let found = found_of c.args.matches.now in
+    let repeat = c.get_str-repeat.ensures ∙ first_value-rows found (codes "repeat") in
     record {
-      value = c.check_of.ensures.value ∙ asked_with_check (rows_of (found_of c.args.matches.now)) _ _ _ _ c.has-texts.ensures.value c.has-keep_going.ensures.value
-          (c.get_str-repeat.ensures ∙ first_value-rows (found_of c.args.matches.now) (codes "repeat")) c.files_of-files.ensures.value (sym c.if-has.true ∙ c.has.ensures.value);
+      value = c.check_of.ensures.value ∙ asked_with_check (rows_of found) _ _ _ _ c.has-texts.ensures.value c.has-keep_going.ensures.value
+          repeat c.files_of-files.ensures.value (sym c.if-has.true ∙ c.has.ensures.value);
     }
 
 pub returns-else-has : goal.returns-else-has
 returns-else-has c =
+    let found = found_of c.args.matches.now in
+    let repeat = c.get_str-repeat.ensures ∙ first_value-rows found (codes "repeat") in
     record {
-      value = c.draw_of.ensures.value ∙ asked_without (rows_of (found_of c.args.matches.now)) _ _ _ _ c.has-texts.ensures.value c.has-keep_going.ensures.value
-          (c.get_str-repeat.ensures ∙ first_value-rows (found_of c.args.matches.now) (codes "repeat")) c.files_of-files.ensures.value (sym c.if-has.false ∙ c.has.ensures.value);
+      value = c.draw_of.ensures.value ∙ asked_without (rows_of found) _ _ _ _ c.has-texts.ensures.value c.has-keep_going.ensures.value
+          repeat c.files_of-files.ensures.value (sym c.if-has.false ∙ c.has.ensures.value);
     }

@@ -14,8 +14,8 @@ overriding = on_top (λ s. record s { args_override_self = true })
 pub returns : goal.returns
 returns c =
     let base = ap app_of_fields c.args_override_self.ensures ∙ ap overriding (ap app_of_fields c.no_binary_name.ensures
-        ∙ ap unnamed (ap app_of_fields c.override_usage.ensures ∙ (ap app_of_fields c.version.ensures
-        ∙ ap versioned (ap app_of_fields c.about.ensures ∙ c.new.ensures.app)))) in
+    ∙ ap unnamed (ap app_of_fields c.override_usage.ensures ∙ (ap app_of_fields c.version.ensures
+    ∙ ap versioned (ap app_of_fields c.about.ensures ∙ c.new.ensures.app)))) in
     let one = c.in_ok-arg.ensures.shape c.flag-text.ensures.local ∙ ap₂ with_rule base c.flag-text.ensures.rule in
     let two = c.in_ok-arg-2.ensures.shape c.flag-keep_going.ensures.local ∙ ap₂ with_rule one c.flag-keep_going.ensures.rule in
     let three = c.in_ok-arg-3.ensures.shape c.flag-check.ensures.local ∙ ap₂ with_rule two c.flag-check.ensures.rule in

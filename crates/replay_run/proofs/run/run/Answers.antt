@@ -1,64 +1,62 @@
-use Rattle.std.proofs.Common.{◌≡◌, false, ◌<◌, List, [], ◌∷◌, codes, inr, length, refl, rules, subst}
-use Rattle.replay_run.specs.Answered.{AnswersReaders, StopsReaders}
-use Rattle.replay_run.specs.Compared.{EndsComparison}
-use Rattle.replay_run.specs.Words.{Word, Asks, words_at}
-use Rattle.replay_run.proofs.Commands.{asked, asks_help, files_answered, files_compared}
+use Rattle.std.proofs.Common.{◌≡◌, ◌∙◌, ap, arith, inl, inr, sym}
+use Rattle.replay_command.specs.Words.{asked, words_at}
+use Rattle.replay_run.proofs.Commands.{memory_mistake, memory_only, mistake_told, nothing_asked, nothing_shown}
 use Rattle.replay_run.proofs.run.run.Goals as goal
 
+pub returns-in-Ok-clause-usage : goal.returns-in-Ok-clause-usage
+returns-in-Ok-clause-usage g c = λ neither.
+    (c.run_matched.ensures.usage (nothing_asked (words_at c.args.words.now) _ (ap asked c.in-Ok.ensures.rows) c.in-Ok.ensures.faults neither)).0
+
+pub returns-in-Ok-clause-no_answer : goal.returns-in-Ok-clause-no_answer
+returns-in-Ok-clause-no_answer g c = λ neither.
+    (c.run_matched.ensures.usage (nothing_asked (words_at c.args.words.now) _ (ap asked c.in-Ok.ensures.rows) c.in-Ok.ensures.faults neither)).1
+
+pub returns-in-Ok-clause-differs : goal.returns-in-Ok-clause-differs
+returns-in-Ok-clause-differs g c = λ one.
+    let (files, is) = c.run_matched.ensures.differs one in
+    (files, (c.in-Ok.ensures.faults, sym (ap asked c.in-Ok.ensures.rows) ∙ is))
+
 pub returns-in-Ok-clause-compares : goal.returns-in-Ok-clause-compares
-returns-in-Ok-clause-compares g c = λ within files is.
-    let asks = subst (λ (ws : List Word). Asks ws c.in-Some.command) is c.in-Some.ensures.command in
-    files_compared files c.in-Some.command (λ n. EndsComparison g.row.R-File.Denot g.R.File.Read.remaining n (g.W.Write.contents c.args.out.now)
-    (g.W.Write.contents c.finish.new.out) c.in-Ok.status) asks c.in-Ok.ensures.compares
+returns-in-Ok-clause-compares g c = λ within files asks. c.run_matched.ensures.compares within files (ap asked c.in-Ok.ensures.rows ∙ asks.1)
 
 pub returns-in-Ok-clause-answers : goal.returns-in-Ok-clause-answers
-returns-in-Ok-clause-answers g c = λ done way files asks some.
-    files_answered (words_at c.args.words.now)
-    c.in-Some.command (λ f n. 0 < length n → AnswersReaders g.row.R-File.Denot g.R.File.Read.remaining f false (length n) (g.W.Write.contents c.args.out.now)
-    (g.W.Write.contents c.finish.new.out)) way files c.in-Some.ensures.command asks c.in-Ok.ensures.answers some
+returns-in-Ok-clause-answers g c = λ done way names asks. c.run_matched.ensures.answers done way names (ap asked c.in-Ok.ensures.rows ∙ asks.1)
 
-pub returns-in-Ok-clause-answers_input : goal.returns-in-Ok-clause-answers_input
-returns-in-Ok-clause-answers_input g c = λ done way asks.
-    files_answered (words_at c.args.words.now)
-    c.in-Some.command (λ f n. length n ≡ 0 → AnswersReaders g.row.R-Reader.Denot g.R.Reader.Read.remaining f false 1 (g.W.Write.contents c.args.out.now)
-    (g.W.Write.contents c.finish.new.out)) way [] c.in-Some.ensures.command asks c.in-Ok.ensures.answers_input refl
+pub returns-in-Ok-clause-stops : goal.returns-in-Ok-clause-stops
+returns-in-Ok-clause-stops g c = λ stopped way names asks. c.run_matched.ensures.stops stopped way names (ap asked c.in-Ok.ensures.rows ∙ asks.1)
 
 pub returns-in-Ok-clause-help : goal.returns-in-Ok-clause-help
-returns-in-Ok-clause-help g c = λ done is.
-    let asks = subst (λ (ws : List Word). Asks ws c.in-Some.command) is c.in-Some.ensures.command in
-    c.in-Ok.ensures.help (asks_help [] c.in-Some.command asks).1
+returns-in-Ok-clause-help g c = λ done shows. absurd (nothing_shown (words_at c.args.words.now) c.in-Ok.ensures.faults shows)
+
+pub returns-in-Err-clause-usage : goal.returns-in-Err-clause-usage
+returns-in-Err-clause-usage g c = λ neither.
+    let mistake = mistake_told (words_at c.args.words.now) c.in-Err.error c.in-Err.ensures.faults neither in
+    (c.answer_error.ensures.usage mistake.0 mistake.1).0
+
+pub returns-in-Err-clause-no_answer : goal.returns-in-Err-clause-no_answer
+returns-in-Err-clause-no_answer g c = λ neither.
+    let mistake = mistake_told (words_at c.args.words.now) c.in-Err.error c.in-Err.ensures.faults neither in
+    (c.answer_error.ensures.usage mistake.0 mistake.1).1
+
+pub returns-in-Err-clause-compares : goal.returns-in-Err-clause-compares
+returns-in-Err-clause-compares g c = λ within files asks.
+    let mistake = memory_mistake c.in-Err.error (memory_only (words_at c.args.words.now) c.in-Err.error c.in-Err.ensures.faults asks.0) in
+    absurd (omega (arith, within, (c.answer_error.ensures.usage mistake.0 mistake.1).0))
+
+pub returns-in-Err-clause-answers : goal.returns-in-Err-clause-answers
+returns-in-Err-clause-answers g c = λ done way names asks.
+    let mistake = memory_mistake c.in-Err.error (memory_only (words_at c.args.words.now) c.in-Err.error c.in-Err.ensures.faults asks.0) in
+    absurd (omega (arith, done, (c.answer_error.ensures.usage mistake.0 mistake.1).0))
 
 pub returns-in-Err-clause-stops : goal.returns-in-Err-clause-stops
-returns-in-Err-clause-stops g c = λ stopped way files asks some. (
-  c.in-Err.stop.file.now,
-  c.in-Err.stop.problem,
-  c.tell_stop.ensures.told,
-  files_answered (words_at c.args.words.now)
-      c.in-Some.command (λ f n. 0 < length n → StopsReaders g.row.R-File.Denot g.R.File.Read.remaining f n (g.W.Write.contents c.args.out.now)
-      (g.W.Write.contents c.finish.new.out) c.in-Err.stop.file.now c.in-Err.stop.problem) way files c.in-Some.ensures.command asks c.in-Err.ensures.stops some,
-)
+returns-in-Err-clause-stops g c = λ stopped way names asks.
+    let memory = memory_only (words_at c.args.words.now) c.in-Err.error c.in-Err.ensures.faults asks.0 in
+    let mistake = memory_mistake c.in-Err.error memory in
+    inl ((c.answer_error.ensures.usage mistake.0 mistake.1).1, c.answer_error.ensures.memory memory)
 
-pub returns-in-Err-clause-stops_input : goal.returns-in-Err-clause-stops_input
-returns-in-Err-clause-stops_input g c = λ stopped way asks. (
-  c.in-Err.stop.file.now,
-  c.in-Err.stop.problem,
-  c.tell_stop.ensures.told,
-  files_answered (words_at c.args.words.now)
-      c.in-Some.command (λ f n. length n ≡ 0 → StopsReaders g.row.R-Reader.Denot g.R.Reader.Read.remaining f (codes "standard input" ∷ [])
-      (g.W.Write.contents c.args.out.now)
-      (g.W.Write.contents c.finish.new.out) c.in-Err.stop.file.now c.in-Err.stop.problem) way [] c.in-Some.ensures.command asks
-      c.in-Err.ensures.stops_input refl,
-)
-
-pub returns-in_default-clause-stops : goal.returns-in_default-clause-stops
-returns-in_default-clause-stops g c = λ stopped way files asks some.
-    let (command, are) = asked c.args.words way files asks in
-    absurd (c.in_default.ensures.none (search rules) command are)
-
-pub returns-in_default-clause-stops_input : goal.returns-in_default-clause-stops_input
-returns-in_default-clause-stops_input g c = λ stopped way asks.
-    let (command, are) = asked c.args.words way [] asks in
-    absurd (c.in_default.ensures.none (search rules) command are)
-
-pub returns-in-Err-clause-told : goal.returns-in-Err-clause-told
-returns-in-Err-clause-told g c = λ stopped. inr (c.in-Err.stop.file.now, c.in-Err.stop.problem, c.tell_stop.ensures.told)
+pub returns-in-Err-clause-differs : goal.returns-in-Err-clause-differs
+returns-in-Err-clause-differs g c = λ one.
+    elim c.answer_error.ensures.status [
+      | inl done ↦ absurd (omega (arith, one, done))
+      | inr stopped ↦ absurd (omega (arith, one, stopped))
+    ]

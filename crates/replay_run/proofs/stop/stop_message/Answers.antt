@@ -1,7 +1,7 @@
 use Rattle.std.proofs.Common.{List, ℕ, ◌++◌, ap, codes, ◌∙◌}
 use Rattle.std.proofs.lemmas.Result.{IfOk-weaker}
 use Rattle.replay_run.proofs.Telling.{shown_message}
-use Rattle.replay_run.proofs.run.stop_message.Goals as goal
+use Rattle.replay_run.proofs.stop.stop_message.Goals as goal
 
 pub returns : goal.returns
 returns c =

@@ -56,8 +56,8 @@ stop_told way number line problem (Ok answer) with last = tt
 stop_told way number line problem (Err stop) with last = (stop_is (Case number) line problem stop with last.1, λ keep. last.0)
 
 -- where it isn't to go on, any problem stops
-pub stop_at_once : (way : Way) (problem : Problem) → way.keep_going ≡ false → StopsFor way problem
-stop_at_once way problem stops = λ keep. absurd (false≢true (sym stops ∙ keep))
+pub at_once : (way : Way) (problem : Problem) → way.keep_going ≡ false → StopsFor way problem
+at_once way problem stops = λ keep. absurd (false≢true (sym stops ∙ keep))
 
 -- memory is no fault of a line
 pub memory_last : IsFinal Memory

@@ -2,8 +2,8 @@ use Rattle.std.proofs.Common.{inl, inr}
 use Rattle.std.proofs.KnownBytes.{Keeps-refl}
 use Rattle.std.specs.Io.Buffered.{reader_inner}
 use Rattle.std.proofs.lemmas.Result.{IfOk-weaker}
-use Rattle.replay_run.proofs.AnsweredReaders.{answered_same, if_err, stopped_same}
-use Rattle.replay_run.proofs.run.answer_file.Goals as goal
+use Rattle.replay_run.proofs.AnsweredInputs.{answered_same, if_err, stopped_same}
+use Rattle.replay_run.proofs.inputs.answer_standard.Goals as goal
 
 pub returns-in-Err-clause-stops : goal.returns-in-Err-clause-stops
 returns-in-Err-clause-stops g c = inl (Keeps-refl _, c.in-Err.ensures.unread)

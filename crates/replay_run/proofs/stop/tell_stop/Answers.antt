@@ -1,5 +1,5 @@
 use Rattle.std.proofs.Common.{inr}
-use Rattle.replay_run.proofs.run.tell_usage_error.Goals as goal
+use Rattle.replay_run.proofs.stop.tell_stop.Goals as goal
 
 pub returns-in-Err : goal.returns-in-Err
 returns-in-Err g c = record { told = inr c.write_line-in-Err.ensures.told }

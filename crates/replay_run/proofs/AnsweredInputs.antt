@@ -1,0 +1,268 @@
+-- The inputs answered so far.
+use Rattle.std.proofs.Common.{◌≡◌, ◌⊎◌, ℕ, zero, suc, ◌+◌, ◌<◌, Bool, true, false, ◌||◌, List, [], ◌∷◌, ◌++◌, Bor, Option, arith, codes, length, map, take}
+use Rattle.std.proofs.Common.{slice_index_or, refl}
+use Rattle.std.proofs.Common.{sym, ap, ◌∙◌, subst, inl, inr}
+use Rattle.std.specs.Prelude.{IfErr, OnErr, OnOk, Result, Ok, Err, bytes_eq}
+use Rattle.std.proofs.lemmas.Bool.{false≢true}
+use Rattle.std.specs.Io.KnownBytes.{Appends, Keeps}
+use Rattle.std.specs.List.{concat, flat_map}
+use Rattle.std.proofs.KnownBytes.{Keeps-trans}
+use Rattle.std.proofs.lemmas.List.{append-nil, map-append, map_more, take_all}
+use Rattle.std.proofs.lemmas.List.Concat.{flat_map-append}
+use Rattle.std.proofs.lemmas.List.Elements.{All-push}
+use Rattle.replay_run.specs.Answer.{AnswersLines, Numbered, first_after}
+use Rattle.replay_run.specs.Answered.{AnswersInputs, AnswersReader, AppendsFirst, AreRead, IsEndProblem, StopsAfter, StopsAt, StopsAtInput, StopsFor}
+use Rattle.replay_run.specs.Answered.{StopsInputs, StopsReader}
+use Rattle.replay_run.specs.Problem.{IsWrite}
+use Rattle.replay_command.specs.Words.{Word, hyphen, words_at}
+use Rattle.replay_run.specs.Words.{NamedInput, held_by, shown_name}
+use Rattle.replay_run.specs.declared.problem.Problem.{Problem}
+use Rattle.replay_run.specs.declared.lines.Way.{Way}
+use Rattle.replay_run.proofs.AnsweredLines.{answered_twice, first_twice, written_twice}
+use Rattle.replay_run.proofs.Growing.{appends_kept, appends_none}
+
+-- the lines of inputs, one input after another
+abbrev pub lines_of : {File Standard : Type 0} → List (NamedInput File Standard × List Numbered) → List Numbered
+lines_of inputs = flat_map (λ input. input.1) inputs
+
+lines_push : {File Standard : Type 0} (inputs : List (NamedInput File Standard × List Numbered)) (input : NamedInput File Standard) (lines : List Numbered)
+    → lines_of (inputs ++ (input, lines) ∷ []) ≡ lines_of inputs ++ lines
+lines_push inputs input lines =
+    flat_map-append (λ r. r.1) inputs ((input, lines) ∷ []) ∙ ap (λ (l : List Numbered). lines_of inputs ++ l) (append-nil lines)
+
+-- the inputs of these names are answered, and still_first tells whether still nothing is written
+pub record HaveAnswered (File Standard : Type 0) (held : NamedInput File Standard → Option (List ℕ)) (way : Way) (told : Bool) (names : List Word)
+    (still_first : Bool) (old new : Option (List ℕ)) : Type 0 where
+  pub all : AnswersInputs File Standard held way told names old new
+  pub still : still_first ≡ first_after true (lines_of all.inputs)
+
+-- before any input is read nothing is answered
+pub none_answered : {File Standard : Type 0} (held : NamedInput File Standard → Option (List ℕ)) (way : Way) (old : Option (List ℕ))
+    → HaveAnswered File Standard held way false [] true old old
+none_answered held way old =
+    record {
+      all = record {
+        inputs = [];
+        named = refl;
+        read = λ k d within. absurd (omega (arith, within));
+        texts = [];
+        answered = refl;
+        written = appends_none old;
+      };
+      still = refl;
+    }
+
+-- with one more input that is answered the inputs so far are answered
+pub one_more_answered : {File Standard : Type 0} (held : NamedInput File Standard → Option (List ℕ)) (way : Way) (told here both : Bool) (names : List Word)
+    (is_first still_first : Bool) (old mid new : Option (List ℕ)) (input : NamedInput File Standard)
+    → HaveAnswered File Standard held way told names is_first old mid
+    → AnswersReader way here is_first still_first (held input) mid new → both ≡ told || here
+    → HaveAnswered File Standard held way both (names ++ input.name ∷ []) still_first old new
+one_more_answered held way told here both names is_first still_first old mid new input h one either =
+    let so_far = lines_of h.all.inputs in
+    let next : AnswersLines way here (first_after true so_far) one.lines one.texts = subst (λ f.
+    AnswersLines way here f one.lines one.texts) h.still one.answered in
+    let all_lines = so_far ++ one.lines in
+    let all_texts = h.all.texts ++ one.texts in
+    let joined = answered_twice way told here true so_far h.all.texts one.lines one.texts h.all.answered next in
+    let all = subst (λ t. AnswersLines way t true all_lines all_texts) (sym either) joined in
+    let pushed = lines_push h.all.inputs input one.lines in
+    record {
+      all = record {
+        inputs = h.all.inputs ++ (input, one.lines) ∷ [];
+        named = map-append (λ i. i.0.name) h.all.inputs ((input, one.lines) ∷ []) ∙ ap (λ (l : List Word). l ++ input.name ∷ []) h.all.named;
+        read = All-push (λ r. AreRead (held r.0) r.1) h.all.inputs (input, one.lines) h.all.read one.read;
+        texts = h.all.texts ++ one.texts;
+        answered = subst (λ l. AnswersLines way both true l (h.all.texts ++ one.texts)) (sym pushed) all;
+        written = written_twice old mid new h.all.texts one.texts h.all.written one.written;
+      };
+      still = one.still ∙ ap (λ f. first_after f one.lines) h.still ∙ sym (first_twice true so_far one.lines) ∙ ap (first_after true) (sym pushed);
+    }
+
+-- a flush afterwards changes nothing
+pub answers_kept : {File Standard : Type 0} (held : NamedInput File Standard → Option (List ℕ)) (way : Way) (told : Bool) (names : List Word)
+    (old mid new : Option (List ℕ)) → AnswersInputs File Standard held way told names old mid → Keeps mid new
+    → AnswersInputs File Standard held way told names old new
+answers_kept held way told names old mid new h kept =
+    record {
+      inputs = h.inputs;
+      named = h.named;
+      read = h.read;
+      texts = h.texts;
+      answered = h.answered;
+      written = appends_kept old mid new (concat h.texts) h.written kept;
+    }
+
+-- what is known of an answer Ok tells more
+pub on_ok : {T E P Q : Type 0} (r : Result T E) → (P → Q) → OnOk r P → OnOk r Q
+on_ok (Ok x) tells h = tells h
+on_ok (Err e) tells h = tt
+
+-- two readers that hold the same are answered by the same
+pub answered_same : (way : Way) (told is_first still_first : Bool) (held same old new : Option (List ℕ)) → held ≡ same
+    → AnswersReader way told is_first still_first held old new → AnswersReader way told is_first still_first same old new
+answered_same way told is_first still_first held same old new is h =
+    subst (λ bytes. AnswersReader way told is_first still_first bytes old new) is h
+
+-- what is known of an answer Err tells more
+pub on_err : {T E P Q : Type 0} (r : Result T E) → (P → Q) → OnErr r P → OnErr r Q
+on_err (Ok x) tells h = tt
+on_err (Err e) tells h = tells h
+
+-- what holds anyway holds where it is Err
+pub anyway : {T E P : Type 0} (r : Result T E) → P → OnErr r P
+anyway (Ok x) h = tt
+anyway (Err e) h = h
+
+-- what holds of each error of a kind holds of an answer that is one
+pub if_err : {T E : Type 0} {P Q : E → Type 0} (r : Result T E) → ((e : E) → P e → Q e) → IfErr r P → IfErr r Q
+if_err (Ok x) tells h = tt
+if_err (Err e) tells h = tells e h
+
+pub stopped_same : (way : Way) (is_first : Bool) (held same old new : Option (List ℕ)) (problem : Problem) → held ≡ same
+    → StopsReader way is_first held old new problem → StopsReader way is_first same old new problem
+stopped_same way is_first held same old new problem is h =
+    subst (λ bytes. StopsReader way is_first bytes old new problem) is h
+
+part_kept : (way : Way) (held old mid new : Option (List ℕ)) (lines : List Numbered) (whole : List ℕ) (problem : Problem)
+    → (IsWrite problem × AppendsFirst old mid whole) ⊎ (Appends old mid whole × StopsAfter held lines problem × StopsFor way problem)
+    → Keeps mid new → (IsWrite problem × AppendsFirst old new whole) ⊎ (Appends old new whole × StopsAfter held lines problem × StopsFor way problem)
+part_kept way held old mid new lines whole problem (inl h) kept =
+    inl (
+      h.0,
+      record {
+        part = h.1.part;
+        rest = h.1.rest;
+        split = h.1.split;
+        added = appends_kept old mid new h.1.part h.1.added kept;
+      },
+    )
+part_kept way held old mid new lines whole problem (inr h) kept = inr (appends_kept old mid new whole h.0 kept, h.1, h.2)
+
+-- nothing more is written after it stopped
+stopped_kept : (way : Way) (is_first : Bool) (held old mid new : Option (List ℕ)) (problem : Problem) → StopsReader way is_first held old mid problem
+    → Keeps mid new → StopsReader way is_first held old new problem
+stopped_kept way is_first held old mid new problem h kept =
+    record {
+      lines = h.lines;
+      read = h.read;
+      texts = h.texts;
+      told = h.told;
+      answered = h.answered;
+      written = part_kept way held old mid new h.lines (concat h.texts) problem h.written kept;
+    }
+
+at_kept : {File Standard : Type 0} (held : NamedInput File Standard → Option (List ℕ)) (name : Word) (way : Way) (is_first : Bool)
+    (old mid new : Option (List ℕ)) (problem : Problem) → StopsAtInput File Standard held name way is_first old mid problem → Keeps mid new
+    → StopsAtInput File Standard held name way is_first old new problem
+at_kept held name way is_first old mid new problem (inl h) kept = inl (Keeps-trans old mid new h.0 kept, h.1)
+at_kept held name way is_first old mid new problem (inr h) kept =
+    inr (h.0, h.1, stopped_kept way is_first (held h.0) old mid new problem h.2 kept)
+
+-- the names before a place, the one there, and those after it
+pub names_at : (refs : List (Bor Word)) (i : ℕ) (d : Bor Word) → i < length refs
+    → (after : List Word) × (words_at refs ≡ words_at (take i refs) ++ (slice_index_or refs i d).now ∷ after)
+names_at [] i d within = absurd (omega (arith, within))
+names_at (r ∷ refs) zero d within = (words_at refs, refl)
+names_at (r ∷ refs) (suc i) d within =
+    let (after, split) = names_at refs i d (omega (arith, within)) in
+    (after, ap (λ (l : List Word). r.now ∷ l) split)
+
+-- the names up to a place, and the one there
+pub names_more : (refs : List (Bor Word)) (i : ℕ) (d : Bor Word) → i < length refs
+    → words_at (take (i + 1) refs) ≡ words_at (take i refs) ++ (slice_index_or refs i d).now ∷ []
+names_more refs i d within = map_more (λ (w : Bor Word). w.now) refs i d within
+
+-- all names
+pub names_all : (refs : List (Bor Word)) (i : ℕ) → i ≡ length refs → words_at (take i refs) ≡ words_at refs
+names_all refs i all = ap words_at (take_all i refs (omega (arith, all)))
+
+-- with the inputs of the first names answered it stops at the next
+pub stops_next : {File Standard : Type 0} (held : NamedInput File Standard → Option (List ℕ)) (way : Way) (told : Bool) (names before after : List Word)
+    (name called : Word) (is_first : Bool) (old mid new : Option (List ℕ)) (problem : Problem)
+    → HaveAnswered File Standard held way told before is_first old mid → names ≡ before ++ name ∷ after → called ≡ shown_name name
+    → StopsAtInput File Standard held name way is_first mid new problem → StopsInputs File Standard held way names old new called problem
+stops_next {File} {Standard} held way told names before after name called is_first old mid new problem h split call stops =
+    record {
+      before = before;
+      mid = mid;
+      told = told;
+      answered = h.all;
+      stops = inl (name, after, split, call, subst (λ f. StopsAtInput File Standard held name way f mid new problem) h.still stops);
+    }
+
+-- it stops where all inputs are answered: as the last flush fails, or as a line was no case
+pub all_stop : {File Standard : Type 0} (held : NamedInput File Standard → Option (List ℕ)) (way : Way) (told : Bool) (names : List Word)
+    (old mid new : Option (List ℕ)) (problem : Problem) → AnswersInputs File Standard held way told names old mid
+    → Keeps mid new → IsEndProblem told problem → StopsInputs File Standard held way names old new (codes "standard output") problem
+all_stop held way told names old mid new problem h kept end =
+    record {
+      before = names;
+      mid = mid;
+      told = told;
+      answered = h;
+      stops = inr (refl, refl, end, kept);
+    }
+
+pub stops_kept : {File Standard : Type 0} (held : NamedInput File Standard → Option (List ℕ)) (way : Way) (names : List Word)
+    (old mid new : Option (List ℕ)) (called : Word) (problem : Problem) → StopsInputs File Standard held way names old mid called problem → Keeps mid new
+    → StopsInputs File Standard held way names old new called problem
+stops_kept {File} {Standard} held way names old mid new called problem h kept = kept_at h.stops
+  where
+    kept_at : ((name : Word) × (after : List Word) × (names ≡ h.before ++ name ∷ after) × (called ≡ shown_name name)
+        × StopsAtInput File Standard held name way (first_after true (lines_of h.answered.inputs)) h.mid mid problem)
+        ⊎ ((names ≡ h.before) × (called ≡ codes "standard output") × IsEndProblem h.told problem × Keeps h.mid mid)
+        → StopsInputs File Standard held way names old new called problem
+    kept_at (inl at) =
+        record {
+          before = h.before;
+          mid = h.mid;
+          told = h.told;
+          answered = h.answered;
+          stops = inl (at.0, at.1, at.2, at.3, at_kept held at.0 way _ h.mid mid new problem at.4 kept);
+        }
+    kept_at (inr end) =
+        record {
+          before = h.before;
+          mid = h.mid;
+          told = h.told;
+          answered = h.answered;
+          stops = inr (end.0, end.1, end.2, Keeps-trans h.mid mid new end.3 kept);
+        }
+
+-- ---- of an input that is a file, or standard input
+
+-- a word that a test tells from a hyphen is none
+pub no_hyphen : (name : Word) → bytes_eq name hyphen ≡ false → name ≡ hyphen → ⊥
+no_hyphen name differs is = false≢true (sym differs ∙ ap (λ (word : Word). bytes_eq word hyphen) is)
+
+-- what is answered of a file is answered of the input of its name, which is no hyphen
+pub file_answered : {File Standard : Type 0} (file : File → Option (List ℕ)) (standard : Standard → Option (List ℕ)) (name : Word) (way : Way)
+    (told is_first still_first : Bool) (old new : Option (List ℕ)) → (name ≡ hyphen → ⊥)
+    → (source : File) × AnswersReader way told is_first still_first (file source) old new
+    → (input : NamedInput File Standard) × (input.name ≡ name) × AnswersReader way told is_first still_first (held_by file standard input) old new
+file_answered file standard name way told is_first still_first old new other (source, answered) =
+    (record { name = name; source = inl source; is = other }, refl, answered)
+
+-- the same of standard input, whose name is one
+pub standard_answered : {File Standard : Type 0} (file : File → Option (List ℕ)) (standard : Standard → Option (List ℕ)) (name : Word) (way : Way)
+    (told is_first still_first : Bool) (old new : Option (List ℕ)) → name ≡ hyphen
+    → (source : Standard) × AnswersReader way told is_first still_first (standard source) old new
+    → (input : NamedInput File Standard) × (input.name ≡ name) × AnswersReader way told is_first still_first (held_by file standard input) old new
+standard_answered file standard name way told is_first still_first old new is (source, answered) =
+    (record { name = name; source = inr source; is = is }, refl, answered)
+
+-- where it stops at a file it stops at the input of its name
+pub file_stops : {File Standard : Type 0} (file : File → Option (List ℕ)) (standard : Standard → Option (List ℕ)) (name : Word) (way : Way)
+    (is_first : Bool) (old new : Option (List ℕ)) (problem : Problem) → (name ≡ hyphen → ⊥) → StopsAt File file way is_first old new problem
+    → StopsAtInput File Standard (held_by file standard) name way is_first old new problem
+file_stops file standard name way is_first old new problem other (inl h) = inl h
+file_stops file standard name way is_first old new problem other (inr h) =
+    inr (record { name = name; source = inl h.0; is = other }, refl, h.1)
+
+pub standard_stops : {File Standard : Type 0} (file : File → Option (List ℕ)) (standard : Standard → Option (List ℕ)) (name : Word) (way : Way)
+    (is_first : Bool) (old new : Option (List ℕ)) (problem : Problem) → name ≡ hyphen → StopsAt Standard standard way is_first old new problem
+    → StopsAtInput File Standard (held_by file standard) name way is_first old new problem
+standard_stops file standard name way is_first old new problem is (inl h) = inl h
+standard_stops file standard name way is_first old new problem is (inr h) =
+    inr (record { name = name; source = inr h.0; is = is }, refl, h.1)

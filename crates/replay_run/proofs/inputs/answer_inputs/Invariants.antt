@@ -1,0 +1,12 @@
+use Rattle.std.proofs.Common.{take}
+use Rattle.replay_command.specs.Words.{words_at}
+use Rattle.replay_run.specs.Words.{held_by}
+use Rattle.replay_run.proofs.AnsweredInputs.{HaveAnswered}
+use Rattle.replay_run.proofs.inputs.answer_inputs.Given as goal
+
+-- each input so far is answered
+abbrev pub invariant-loop-name : goal.invariant-loop-name
+invariant-loop-name g l =
+    HaveAnswered g.row.R-File.Denot g.row.R-Reader.Denot (held_by g.R.File.Read.remaining g.R.Reader.Read.remaining) l.way l.told
+    (words_at (take l.name-index l.names)) l.is_first
+    (g.W.Write.contents l.initial.out) (g.W.Write.contents l.out)

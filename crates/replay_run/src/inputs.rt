@@ -1,0 +1,178 @@
+//! Inputs, which are files and standard input: what is done with the lines of each.
+
+ghost use Rattle.std.specs.Prelude.{◌≡◌, ◌⊎◌, OnOk, IfErr, IfOk};
+ghost use Rattle.std.specs.Io.Buffered.{reader_inner, reader_remaining};
+ghost use Rattle.replay_command.specs.Words.{words_at};
+ghost use Rattle.replay_run.specs.Answered.{AnswersInputs, AnswersReader, StopsAt, StopsAtInput, StopsInputs};
+ghost use Rattle.replay_run.specs.Checked.{CountsLines};
+ghost use Rattle.replay_run.specs.Growth.{Grows};
+ghost use Rattle.replay_run.specs.Problem.{IsRead};
+ghost use Rattle.replay_run.specs.Words as spec;
+ghost use Rattle.replay_run.specs.Words.{NamedInput, held_by};
+
+use crate::check::{Counts, check_lines};
+use crate::lines::{Way, answer_lines, either};
+use crate::problem::Problem;
+use crate::repeat::{Tally, repeat_lines};
+use crate::stop::Stop;
+use std::fs;
+use std::io::{BufRead, BufReader, Write};
+use std::rt::{Clock, Files};
+
+/// How standard input is called where something is told of it.
+const INPUT: &str = "standard input";
+
+/// How an input is called where something is told of it.
+pub fn shown_name<'a>(name: &'a str) -> &'a str
+    ensures value { result.now ≡ spec.shown_name name.now }
+{
+    if name == "-" { INPUT } else { name }
+}
+
+/// Answers the cases of each input, one input after another, and tells whether one of their lines was no case.
+pub fn answer_inputs<'a, R: Files + Input + AllocGlobal, W: Write>(
+    rt: &R,
+    way: Way,
+    names: &[&'a str],
+    out: &mut W,
+) -> Result<bool, Stop<'a>>
+    ensures answers { IfOk result (λ told. AnswersInputs R.File R.Reader (held_by R.File.remaining R.Reader.remaining)
+        way told (words_at names.now) (W.contents out.old) (W.contents out.new)) }
+    ensures stops { IfErr result (λ stop. StopsInputs R.File R.Reader (held_by R.File.remaining R.Reader.remaining)
+        way (words_at names.now) (W.contents out.old) (W.contents out.new) stop.file.now stop.problem) }
+{
+    let mut is_first = true;
+    let mut told = false;
+    for name in names {
+        match answer_named(rt, way, name, &mut is_first, out) {
+            Ok(here) => told = either(told, here),
+            Err(problem) => {
+                return Err(Stop {
+                    file: shown_name(*name),
+                    problem,
+                });
+            }
+        }
+    }
+    Ok(told)
+}
+
+/// Answers the cases of one input, and tells whether a line was no case.
+fn answer_named<R: Files + Input + AllocGlobal, W: Write>(
+    rt: &R,
+    way: Way,
+    name: &str,
+    is_first: &mut bool,
+    out: &mut W,
+) -> Result<bool, Problem>
+    ensures answers { IfOk result (λ told. (input : NamedInput R.File R.Reader) × (input.name ≡ name.now)
+        × AnswersReader way told is_first.old is_first.new (held_by R.File.remaining R.Reader.remaining input)
+        (W.contents out.old) (W.contents out.new)) }
+    ensures stops { IfErr result (StopsAtInput R.File R.Reader (held_by R.File.remaining R.Reader.remaining) name.now
+        way is_first.old (W.contents out.old) (W.contents out.new)) }
+{
+    if name == "-" {
+        answer_standard(rt, way, is_first, out)
+    } else {
+        answer_file(rt, way, name, is_first, out)
+    }
+}
+
+/// The same of standard input.
+fn answer_standard<R: Input + AllocGlobal, W: Write>(
+    rt: &R,
+    way: Way,
+    is_first: &mut bool,
+    out: &mut W,
+) -> Result<bool, Problem>
+    ensures answers { IfOk result (λ told. (input : R.Reader)
+        × AnswersReader way told is_first.old is_first.new (R.Reader.remaining input)
+        (W.contents out.old) (W.contents out.new)) }
+    ensures stops { IfErr result (StopsAt R.Reader R.Reader.remaining way is_first.old (W.contents out.old)
+        (W.contents out.new)) }
+{
+    match opened_standard(rt) {
+        Ok(input) => answer_lines(rt.alloc(), input, way, is_first, out),
+        Err(problem) => Err(problem),
+    }
+}
+
+/// The same of one file.
+fn answer_file<R: Files + AllocGlobal, W: Write>(
+    rt: &R,
+    way: Way,
+    file: &str,
+    is_first: &mut bool,
+    out: &mut W,
+) -> Result<bool, Problem>
+    ensures answers { IfOk result (λ told. (input : R.File)
+        × AnswersReader way told is_first.old is_first.new (R.File.remaining input)
+        (W.contents out.old) (W.contents out.new)) }
+    ensures stops { IfErr result (StopsAt R.File R.File.remaining way is_first.old (W.contents out.old)
+        (W.contents out.new)) }
+{
+    match opened(rt, file) {
+        Ok(input) => answer_lines(rt.alloc(), input, way, is_first, out),
+        Err(problem) => Err(problem),
+    }
+}
+
+/// The bytes of a file.
+fn opened<R: Files + AllocGlobal>(rt: &R, file: &str) -> Result<BufReader<R::File>, Problem>
+    ensures bytes { IfOk result (λ reader.
+        reader_remaining R.File.remaining reader ≡ R.File.remaining (reader_inner reader)) }
+    ensures unread { IfErr result IsRead }
+{
+    match fs::open(rt, file) {
+        Ok(input) => match BufReader::new(rt.alloc(), input) {
+            Ok(reader) => Ok(reader),
+            Err(error) => Err(Problem::Read(error)),
+        },
+        Err(error) => Err(Problem::Read(error)),
+    }
+}
+
+/// The bytes of standard input.
+fn opened_standard<R: Input + AllocGlobal>(rt: &R) -> Result<BufReader<R::Reader>, Problem>
+    ensures bytes { IfOk result (λ reader.
+        reader_remaining R.Reader.remaining reader ≡ R.Reader.remaining (reader_inner reader)) }
+    ensures unread { IfErr result IsRead }
+{
+    match BufReader::new(rt.alloc(), rt.reader()) {
+        Ok(reader) => Ok(reader),
+        Err(error) => Err(Problem::Read(error)),
+    }
+}
+
+/// Compares the cases of one file with those that are expected.
+pub fn check_pair<R: Files + AllocGlobal, W: Write>(
+    rt: &R,
+    expected: &str,
+    cases: &str,
+    out: &mut W,
+) -> Result<Counts, Problem>
+    ensures counts { IfOk result (λ counts. (answers : R.File) × (lines : R.File)
+        × CountsLines (R.File.remaining answers) (R.File.remaining lines) counts) }
+    ensures added { OnOk result (Grows (W.contents out.old) (W.contents out.new)) }
+    ensures silent { IfOk result (λ counts. counts.failed ≡ 0 → out.new ≡ out.old) }
+{
+    let expected = opened(rt, expected)?;
+    let cases = opened(rt, cases)?;
+    check_lines(rt.alloc(), expected, cases, out)
+}
+
+/// Draws each case of an input this many times.
+pub fn repeat_named<R: Files + Input + Clock + AllocGlobal>(
+    rt: &R,
+    times: u64,
+    name: &str,
+    tally: &mut Tally,
+) -> Result<(), Problem> {
+    if name == "-" {
+        let input = opened_standard(rt)?;
+        repeat_lines(rt, rt.alloc(), input, times, tally)
+    } else {
+        let input = opened(rt, name)?;
+        repeat_lines(rt, rt.alloc(), input, times, tally)
+    }
+}

@@ -1,0 +1,83 @@
+//! What stops a run, and what is told of it and of wrong words.
+
+ghost use Rattle.std.specs.Prelude.{◌≡◌, ℕ, List, IfOk, IsErr, string_bytes};
+ghost use Rattle.clap.specs.Words.{kind_of};
+ghost use Rattle.program.specs.Stream.{Receives};
+ghost use Rattle.replay_run.specs.Problem as spec;
+ghost use Rattle.replay_run.specs.Problem.{TellsMemory, TellsStop, TellsUsageError, stop_text};
+
+use crate::problem::{Problem, words_of};
+use annotate_snippets::text::normalize_untrusted_str;
+use clap::error::ErrorKind;
+use program::line::{write_line, write_whole};
+use std::alloc::{AllocError, Global};
+use std::io::Write;
+
+/// What is told where there is no memory to tell more.
+const OUT_OF_MEMORY: &str = "replay: out of memory";
+
+/// What stopped a run, and what was read or written then, as it is called.
+#[derive(Drop)]
+pub struct Stop<'a> {
+    pub file: &'a str,
+    pub problem: Problem,
+}
+
+/// What was tried with what is called so; problem with it stops the run.
+pub fn or_stop<'a, T>(file: &'a str, tried: Result<T, Problem>) -> Result<T, Stop<'a>>
+    ensures done { IfOk result (λ done. tried ≡ Ok done) }
+{
+    match tried {
+        Ok(done) => Ok(done),
+        Err(problem) => Err(Stop { file, problem }),
+    }
+}
+
+/// Tells what stopped a run, or that there was no memory for that.
+pub fn tell_stop<V: Write>(alloc: Global, stop: &Stop<'_>, err: &mut V)
+    ensures told { TellsStop stop.now.file.now stop.now.problem (Receives V.contents err.old err.new) }
+{
+    match stop_message(alloc, stop) {
+        Ok(message) => write_line(message.as_str(), err),
+        Err(AllocError) => write_line(OUT_OF_MEMORY, err),
+    };
+}
+
+/// What is told of what stopped a run.
+fn stop_message(alloc: Global, stop: &Stop<'_>) -> Result<String, AllocError>
+    ensures message { IfOk result (λ text. (said : List ℕ)
+        × (string_bytes text ≡ spec.shown (stop_text stop.now.file.now stop.now.problem said))) }
+{
+    let file = stop.file;
+    let words = words_of(alloc, &stop.problem)?;
+    let message = format!(in alloc; "replay: {file}: {words}")?;
+    normalize_untrusted_str(alloc, message.as_str())
+}
+
+/// Tells what is wrong with the words, or that there was no memory for that.
+pub fn tell_usage_error<V: Write>(alloc: Global, error: &clap::Error, err: &mut V)
+    ensures told { TellsUsageError (V.contents err.old) (V.contents err.new) }
+    ensures memory { kind_of error.now ≡ ErrorKind.OutOfMemory
+        → TellsMemory (V.contents err.old) (V.contents err.new) }
+{
+    match shown_error(alloc, error) {
+        Ok(text) => {
+            let _ = write_whole(text.as_str().as_bytes(), err);
+        }
+        Err(AllocError) => {
+            write_line(OUT_OF_MEMORY, err);
+        }
+    }
+}
+
+/// What is wrong with the words, as it may be shown, unless that is that there was no memory to match them.
+fn shown_error(alloc: Global, error: &clap::Error) -> Result<String, AllocError>
+    ensures shown { IfOk result (λ text. (said : List ℕ) × (string_bytes text ≡ spec.shown said)) }
+    ensures memory { kind_of error.now ≡ ErrorKind.OutOfMemory → IsErr result }
+{
+    if let ErrorKind::OutOfMemory = error.kind() {
+        return Err(AllocError);
+    }
+    let message = format!(in alloc; "{error}")?;
+    normalize_untrusted_str(alloc, message.as_str())
+}
