@@ -1,6 +1,6 @@
 -- One thing that is done.
-use Rattle.std.proofs.Common.{◌≡◌, ◌⊎◌, ℕ, Bool, true, false, List, [], ◌∷◌, ◌++◌, Option, refl, ap, sym, ◌∙◌, subst, inl, inr, append_assoc, append-nil, take}
-use Rattle.std.proofs.Common.{drop, take-append-drop, if◌then◌else◌}
+use Rattle.std.proofs.Common.{◌≡◌, ◌⊎◌, ◌||◌, ℕ, Bool, true, false, List, [], ◌∷◌, ◌++◌, Option, Some, refl, ap, sym, ◌∙◌, subst, inl, inr, append_assoc}
+use Rattle.std.proofs.Common.{append-nil, drop, take, take-append-drop, if◌then◌else◌}
 use Rattle.std.specs.Prelude.{Result, Ok, Err, IfOk, OnOk}
 use Rattle.std.specs.Io.KnownBytes.{Appends, Keeps}
 use Rattle.std.specs.List.{concat, flat_map}
@@ -8,8 +8,9 @@ use Rattle.std.proofs.KnownBytes.{Appends-kept, Appends-nil, Appends-trans}
 use Rattle.annotate_snippets.specs.declared.renderer.Renderer.{Renderer}
 use Rattle.program.specs.Stream.{AppendsPart}
 use Rattle.redraw_command.specs.Choice.{is_sum}
-use Rattle.redraw_command.specs.Tally.{one_more, tallied}
+use Rattle.redraw_command.specs.Tally.{is_empty, one_more, tallied}
 use Rattle.redraw_command.specs.Told.{IsTold, Tells}
+use Rattle.redraw_command.specs.Workflow.{command}
 use Rattle.redraw_command.specs.declared.choice.Choice.{Choice}
 use Rattle.redraw_command.specs.declared.choice.Form.TheVariants.{Report, Workflow}
 use Rattle.redraw_command.specs.declared.stop.Stop.{Stop}
@@ -21,6 +22,7 @@ use Rattle.redraw_run.specs.Deeds.{State, Deed, Drawn, Commanded, Told, LeftOut,
 use Rattle.redraw_run.specs.Deeds.{handed, tally_after, tally_by, with_files, repeated, AreAmong, Does, AppendsFirst, IsCutShort, IsUnwritable, Writes, Stops}
 use Rattle.redraw_run.specs.Deeds.{Goes}
 use Rattle.redraw_run.specs.Drawn.{IsCounted, ShowsFinding, ending_after}
+use Rattle.redraw_run.specs.Lines.{SumsUp, TellsUnless}
 use Rattle.redraw_run.proofs.Doing.{first_all, first_more, first_then}
 
 -- a tally is another, but for its files
@@ -224,12 +226,12 @@ goes_drawn a b (Err s) d text bytes files form shows counted renderer choice err
 
 -- a finding is written as a command
 pub goes_commanded : {T : Type 0} (a b : State) (r : Result T Stop) (d : Diagnostic) (line bytes : List ℕ) → a.choice.form ≡ Workflow
-    → IsCounted d a.tally b.tally → b.renderer ≡ a.renderer → b.choice ≡ a.choice → b.err ≡ a.err → bytes ≡ line ++ 10 ∷ []
+    → command d ≡ Some line → IsCounted d a.tally b.tally → b.renderer ≡ a.renderer → b.choice ≡ a.choice → b.err ≡ a.err → bytes ≡ line ++ 10 ∷ []
     → Writes r a.out b.out bytes → Goes r [] a b
-goes_commanded a b (Ok x) d line bytes form counted renderer choice err is writes =
+goes_commanded a b (Ok x) d line bytes form made counted renderer choice err is writes =
     record {
       deeds = Commanded d line ∷ [];
-      are = (form, tt);
+      are = ((form, made), tt);
       handed_on = tt;
       out = subst (Appends a.out b.out) (all_printed a.renderer (Commanded d line) bytes is) writes;
       err = same_appends a.err b.err err;
@@ -237,11 +239,11 @@ goes_commanded a b (Ok x) d line bytes form counted renderer choice err is write
       renderer = renderer;
       choice = choice;
     }
-goes_commanded a b (Err s) d line bytes form counted renderer choice err is writes =
+goes_commanded a b (Err s) d line bytes form made counted renderer choice err is writes =
     stops_cut s writes.0
     record {
       deeds = Commanded d line ∷ [];
-      are = (form, tt);
+      are = ((form, made), tt);
       handed_on = tt;
       out = subst (AppendsFirst a.out b.out) (all_printed a.renderer (Commanded d line) bytes is) writes.1;
       err = same_appends a.err b.err err;
@@ -278,3 +280,15 @@ at_ok r t P is h = subst (λ m. IfOk m P) is h
 -- the bytes of a text with what stands after it
 pub ended : (t u e f : List ℕ) → t ≡ u → e ≡ f → t ++ (e ++ 10 ∷ []) ≡ u ++ (f ++ 10 ∷ [])
 ended t u e f is end = ap (λ (l : List ℕ). l ++ (e ++ 10 ∷ [])) is ∙ ap (λ (l : List ℕ). u ++ (l ++ 10 ∷ [])) end
+
+-- what holds where it went well, by what else does
+pub on_ok : {T E : Type 0} {P Q : Type 0} (r : Result T E) → (P → Q) → OnOk r P → OnOk r Q
+on_ok (Ok x) f p = f p
+on_ok (Err e) f p = tt
+
+-- nothing sums up a run, and one message does
+pub sums_nothing : (is_quiet : Bool) (t : Tally) (a : Option (List ℕ)) → (is_quiet || is_empty t) ≡ true → SumsUp is_quiet t a a
+sums_nothing is_quiet t a is = subst (λ (b : Bool). TellsUnless b a a) (sym is) refl
+
+pub sums_by_one : (is_quiet : Bool) (t : Tally) (a b : Option (List ℕ)) → (is_quiet || is_empty t) ≡ false → Tells a b → SumsUp is_quiet t a b
+sums_by_one is_quiet t a b is told = subst (λ (none : Bool). TellsUnless none a b) (sym is) told

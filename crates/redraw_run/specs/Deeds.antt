@@ -1,11 +1,12 @@
 -- What a run does on its way: what both streams are given, and what is counted.
-use Rattle.std.specs.Prelude.{◌≡◌, ℕ, ◌⊎◌, true, List, [], ◌∷◌, ◌++◌, Option, Result, Ok, Err}
+use Rattle.std.specs.Prelude.{◌≡◌, ℕ, ◌⊎◌, true, List, [], ◌∷◌, ◌++◌, Option, Some, Result, Ok, Err}
 use Rattle.std.specs.Io.KnownBytes.{Appends}
 use Rattle.std.specs.List.{concat, flat_map}
 use Rattle.annotate_snippets.specs.declared.renderer.Renderer.{Renderer}
 use Rattle.redraw_command.specs.Choice.{is_sum}
 use Rattle.redraw_command.specs.Tally.{one_more, tallied}
 use Rattle.redraw_command.specs.Told.{IsFirstPart, IsTold}
+use Rattle.redraw_command.specs.Workflow.{command}
 use Rattle.redraw_command.specs.declared.choice.Choice.{Choice}
 use Rattle.redraw_command.specs.declared.choice.Form.{Form}
 use Rattle.redraw_command.specs.declared.choice.Form.TheVariants.{Report, Workflow}
@@ -40,11 +41,11 @@ pub data Deed : Type 0 where
   Repeated : Deed
   BuildFailed : Deed
 
--- when that is done: a report shows the finding in the renderer's settings, its places looked for in some files; reports and commands
--- are written where they are asked for; and what is told stands there of one message
+-- when that is done: a report shows the finding in the renderer's settings, its places looked for in some files, and a command is that
+-- of the finding, each where it is asked for; and what is told stands there of one message
 abbrev pub IsDeed : Renderer → Choice → Deed → Type 0
 IsDeed r c (Drawn d text) = (c.form ≡ Report) × (files : List File) × ShowsFinding r files d text
-IsDeed r c (Commanded d line) = c.form ≡ Workflow
+IsDeed r c (Commanded d line) = (c.form ≡ Workflow) × (command d ≡ Some line)
 IsDeed r c (HandedOn line) = Unit {0}
 IsDeed r c (Told part) = IsTold part
 IsDeed r c LeftOut = Unit {0}

@@ -1,5 +1,5 @@
 -- What is drawn of a finding, and what is written of it.
-use Rattle.std.specs.Prelude.{◌≡◌, ◌⊎◌, ℕ, ◌||◌, Bool, List, [], ◌∷◌, ◌++◌, Option, map, string_bytes, if◌then◌else◌}
+use Rattle.std.specs.Prelude.{◌≡◌, ◌⊎◌, ℕ, ◌||◌, Bool, List, [], ◌∷◌, ◌++◌, Option, Some, None, map, string_bytes, if◌then◌else◌}
 use Rattle.std.specs.Io.KnownBytes.{Appends}
 use Rattle.annotate_snippets.specs.FormLaws.{HasLaws}
 use Rattle.annotate_snippets.specs.Forms.{ShowsReport}
@@ -7,6 +7,7 @@ use Rattle.annotate_snippets.specs.declared.renderer.Renderer.{Renderer}
 use Rattle.annotate_snippets.specs.declared.snippet.Group.{Group}
 use Rattle.redraw_command.specs.Choice.{is_sum}
 use Rattle.redraw_command.specs.Tally.{one_more, tallied}
+use Rattle.redraw_command.specs.Workflow.{command}
 use Rattle.redraw_command.specs.declared.choice.Form.{Form}
 use Rattle.redraw_command.specs.declared.choice.Form.TheVariants.{Report, Workflow}
 use Rattle.redraw_command.specs.declared.tally.Tally.{Tally}
@@ -53,14 +54,15 @@ pub record IsDrawn (r : Renderer) (files : List File) (d : Diagnostic) (old new 
   pub written : Appends old new (text ++ (ending_after r.short_message d.severity ++ 10 ∷ []))
   pub counted : IsCounted d before after
 
--- a finding is written as a command: to what a writer held, a line is added, and the finding is counted
+-- a finding is written as a command: to what a writer held, its command is added, as a line, and the finding is counted
 pub record IsCommanded (d : Diagnostic) (old new : Option (List ℕ)) (before after : Tally) : Type 0 where
   pub line : List ℕ
+  pub is : command d ≡ Some line
   pub written : Appends old new (line ++ 10 ∷ [])
   pub counted : IsCounted d before after
 
 -- what becomes of a finding, by the form that is asked for. As a report it is drawn, or left out: then nothing is written (Same), and
--- it is counted as left out. As a command it is written, or is none: then nothing is written, and nothing counted
+-- it is counted as left out. As a command it is written, or it has none: then nothing is written, and nothing counted
 abbrev pub Draws : Form → Renderer → List File → Diagnostic → Option (List ℕ) → Option (List ℕ) → Type 0 → Tally → Tally → Type 0
 Draws Report r files d old new Same before after = IsDrawn r files d old new before after ⊎ (Same × IsLeftOut before after)
-Draws Workflow r files d old new Same before after = IsCommanded d old new before after ⊎ (Same × (after ≡ before))
+Draws Workflow r files d old new Same before after = IsCommanded d old new before after ⊎ ((command d ≡ None) × Same × (after ≡ before))

@@ -1,8 +1,11 @@
--- Lines that are read, and the last line that is told.
-use Rattle.std.specs.Prelude.{◌≡◌, ℕ, ◌<◌, ◌⊎◌, Bool, true, false, List, Option, Some, IfSome, length}
+-- Lines that are read, the last line that is told, and a text that is printed.
+use Rattle.std.specs.Prelude.{◌≡◌, ℕ, ◌<◌, ◌⊎◌, ◌||◌, Bool, true, false, List, Option, Some, IfSome, length}
 use Rattle.std.specs.Io.BufRead.{drop_through, take_through}
-use Rattle.std.specs.Io.KnownBytes.{IsAtEnd}
+use Rattle.std.specs.Io.KnownBytes.{Appends, IsAtEnd}
+use Rattle.redraw_command.specs.Tally.{is_empty}
 use Rattle.redraw_command.specs.Told.{Tells}
+use Rattle.redraw_command.specs.declared.tally.Tally.{Tally}
+use Rattle.redraw_run.specs.Deeds.{AppendsFirst}
 
 -- a line is taken of what a reader holds: its bytes up to a line feed and with it, or all that there are, and at least one
 pub record TakesLine (old new : Option (List ℕ)) (line : List ℕ) : Type 0 where
@@ -14,6 +17,15 @@ abbrev pub TakesNext : Bool → Option (List ℕ) → Option (List ℕ) → List
 TakesNext true old new line = TakesLine old new line
 TakesNext false old new line = IsAtEnd old
 
--- a run is summed up by nothing (Same), or by one message
-abbrev pub SumsUp : Type 0 → Option (List ℕ) → Option (List ℕ) → Type 0
-SumsUp Same old new = Same ⊎ Tells old new
+-- nothing is told, or one message is
+abbrev pub TellsUnless : Bool → Option (List ℕ) → Option (List ℕ) → Type 0
+TellsUnless true old new = new ≡ old
+TellsUnless false old new = Tells old new
+
+-- a run is summed up by one message, unless that isn't wanted or there is nothing to tell
+abbrev pub SumsUp : Bool → Tally → Option (List ℕ) → Option (List ℕ) → Type 0
+SumsUp is_quiet t old new = TellsUnless (is_quiet || is_empty t) old new
+
+-- a text is printed, with status 0; or a first part of it where it couldn't be, with status 2
+abbrev pub IsPrinted : Option (List ℕ) → Option (List ℕ) → ℕ → Type 0
+IsPrinted old new status = (text : List ℕ) × ((Appends old new text × (status ≡ 0)) ⊎ (AppendsFirst old new text × (status ≡ 2)))

@@ -1,17 +1,18 @@
 //! A run of the program.
-ghost use Rattle.std.specs.Prelude.{◌≡◌, ◌≢◌, ◌⊎◌, ◌≤◌, true, false};
+ghost use Rattle.std.specs.Prelude.{◌≡◌, ◌≢◌, ◌⊎◌, ◌≤◌, ◌||◌, true, false};
 ghost use Rattle.clap.specs.Values.{kind_of};
 ghost use Rattle.clap.specs.declared.error.kind.ErrorKind.TheVariants as kind;
 ghost use Rattle.std.specs.IoError.{error_kind};
 ghost use Rattle.std.specs.declared.io.ErrorKind.TheVariants.{BrokenPipe};
-ghost use Rattle.redraw_command.specs.Tally.{status_of};
+ghost use Rattle.redraw_command.specs.Tally.{is_empty, status_of};
 ghost use Rattle.redraw_command.specs.Told.{Tells, TellsOfWords};
-ghost use Rattle.redraw_run.specs.Lines.{SumsUp};
+ghost use Rattle.redraw_run.specs.Lines.{IsPrinted, SumsUp};
 
 use crate::draw::Drawing;
 use crate::files::FilesUnder;
 use crate::input::draw_input;
 use crate::look::renderer_for;
+use crate::write::pass;
 use redraw_command::relative::folder_of;
 use redraw_command::seen::{Names, Seen};
 use redraw_command::stop::Stop;
@@ -55,15 +56,35 @@ fn answer_error<W: Write, V: Write>(
     ensures status { result ≤ 2 }
     ensures asked { (kind_of error.now ≡ kind.DisplayHelp) ⊎ (kind_of error.now ≡ kind.DisplayVersion) → err.new
         ≡ err.old }
+    ensures printed { (kind_of error.now ≡ kind.DisplayHelp) ⊎ (kind_of error.now ≡ kind.DisplayVersion)
+        → IsPrinted (W.contents out.old) (W.contents out.new) result }
 {
     if error.use_stderr() {
         tell_error(alloc, error, err);
         return FAILED;
     }
-    if out.write_fmt(format_args!("{error}")).is_ok() && out.flush().is_ok() {
-        CLEAN
-    } else {
-        FAILED
+    print_error(alloc, error, out)
+}
+
+/// Prints the help or the version.
+fn print_error<W: Write>(alloc: Global, error: &clap::Error, out: &mut W) -> u8
+    ensures printed { IsPrinted (W.contents out.old) (W.contents out.new) result }
+    ensures status { result ≤ 2 }
+{
+    match format!(in alloc; "{error}") {
+        Ok(text) => print_text(text.as_str(), out),
+        Err(AllocError) => FAILED,
+    }
+}
+
+/// Prints a text.
+fn print_text<W: Write>(text: &str, out: &mut W) -> u8
+    ensures printed { IsPrinted (W.contents out.old) (W.contents out.new) result }
+    ensures status { result ≤ 2 }
+{
+    match pass(text.as_bytes(), out) {
+        Ok(()) => CLEAN,
+        Err(_) => FAILED,
     }
 }
 
@@ -230,11 +251,18 @@ fn end_unwritten<V: Write>(alloc: Global, error: io::Error, err: &mut V) -> u8
 fn finish<V: Write>(alloc: Global, tally: &Tally, is_quiet: bool, is_whole: bool, err: &mut V) -> u8
     ensures status { result ≡ status_of tally.now is_whole }
     ensures quiet { is_quiet ≡ true → err.new ≡ err.old }
-    ensures last { SumsUp (err.new ≡ err.old) (V.contents err.old) (V.contents err.new) }
+    ensures last { SumsUp is_quiet tally.now (V.contents err.old) (V.contents err.new) }
 {
-    if is_quiet || tally.is_empty() {
+    if has_no_sum(tally, is_quiet) {
         return tally.status(is_whole);
     }
     tell(alloc, *tally, err);
     tally.status(is_whole)
+}
+
+/// Whether nothing is summed up: that isn't wanted, or there is nothing to tell.
+fn has_no_sum(tally: &Tally, is_quiet: bool) -> bool
+    ensures value { result ≡ is_quiet || is_empty tally.now }
+{
+    is_quiet || tally.is_empty()
 }
