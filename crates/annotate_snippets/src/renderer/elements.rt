@@ -136,7 +136,14 @@ fn draw_place(
         column: origin.char_column,
     };
     let start = origin_start(around);
-    draw_origin(alloc, buffer, origins, start, origin.path.as_str(), location)?;
+    draw_origin(
+        alloc,
+        buffer,
+        origins,
+        start,
+        origin.path.as_str(),
+        location,
+    )?;
     if around.closes_after() {
         draw_closing(buffer, layout)?;
     }
