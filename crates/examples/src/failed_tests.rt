@@ -1,7 +1,7 @@
 //! A printer of failed tests, in colour: for each the assertion that failed, and in another file the line to blame.
 
 use annotate_snippets::level::{ERROR, NOTE};
-use annotate_snippets::renderer::{RenderError, RenderToError};
+use annotate_snippets::renderer::RenderToError;
 use annotate_snippets::snippet::report_fits;
 use annotate_snippets::{Annotation, AnnotationKind, Group, Renderer, Snippet};
 use std::alloc::{AllocError, Global};
@@ -58,7 +58,7 @@ pub fn print<'a, W: Write>(
     out: &mut W,
 ) -> Result<(), RenderToError> {
     for failure in failures {
-        let groups: [Group<'a>; 1] = [group(alloc, failure).map_err(RenderError::Memory)?];
+        let groups: [Group<'a>; 1] = [group(alloc, failure)?];
         if report_fits(&groups) {
             Renderer::styled().render_to(alloc, &groups, out)?;
             out.write_all(b"\n")?;
