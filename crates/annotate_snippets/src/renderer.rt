@@ -12,6 +12,7 @@ mod gutter;
 mod layout;
 pub mod parts;
 mod paths;
+mod place;
 mod preprocess;
 mod short;
 pub mod style;

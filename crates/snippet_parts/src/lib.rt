@@ -24,7 +24,7 @@ pub use between::with_lines_between;
 pub use counted::counted_number;
 pub use entries::{AnnotatedLineInfo, LineAnnotation, LineAnnotationType};
 pub use least::{lesser, lesser_of};
-pub use location::{Location, is_marking, naming_start, primary_place, secondary_place};
+pub use location::{Location, is_marking, naming_start, secondary_place};
 pub use mark::mark_of;
 pub use shown_line::ShownLine;
 pub use snippet_map::map_of;

@@ -1,19 +1,17 @@
 //! The place that the head of a snippet names after its path.
-ghost use Rattle.std.specs.Prelude.{◌≡◌, ℕ, true, false, Bool, List, All, IfSome, map};
-ghost use Rattle.std.specs.List.{list_any};
-ghost use Rattle.std.specs.Option.{IsSomeAnd, option_map};
+ghost use Rattle.std.specs.Prelude.{◌≡◌, ℕ, Bool, List, All, IfSome, map};
+ghost use Rattle.std.specs.Option.{option_map};
 ghost use Rattle.std.specs.Str.{IsUtf8};
-ghost use Rattle.snippet_model.specs.declared.snippet.Annotation.{Annotation};
 ghost use Rattle.snippet_lines.specs.Lines.{Source};
 ghost use Rattle.snippet_lines.specs.Span.{IsSpan};
-ghost use Rattle.snippet_parts.specs.Annotated.{annotated_lines, is_long, seen_kept, seen_part};
+ghost use Rattle.snippet_parts.specs.Annotated.{annotated_lines, seen_kept};
 ghost use Rattle.snippet_parts.specs.Entries.{AllEntries, HasCharacterRoom};
 ghost use Rattle.snippet_parts.specs.Mark.{is_marking};
 ghost use Rattle.snippet_parts.specs.Least.{least};
 ghost use Rattle.snippet_parts.specs.Location as spec;
-ghost use Rattle.snippet_parts.specs.Location.{IsLocation, marked_starts, place_at, primary_starts, start_columns};
+ghost use Rattle.snippet_parts.specs.Location.{marked_starts, place_at, primary_starts};
 
-use crate::entries::{AnnotatedLineInfo, LineAnnotation};
+use crate::entries::AnnotatedLineInfo;
 use crate::least::lesser;
 use snippet_model::snippet::{Annotation, AnnotationKind};
 
@@ -24,35 +22,6 @@ pub struct Location {
     pub line: usize,
     /// The column, in characters, from 1; `None` where no annotation stands on the line.
     pub column: Option<usize>,
-}
-
-/// The place that the head of a primary snippet names, given the lines that are kept.
-///
-/// It is on the first line with a primary entry, at the least column of a primary one; where no entry is primary, on
-/// the first line with an entry, at the least column there. `None` where no line has an entry.
-pub fn primary_place(lines: &[AnnotatedLineInfo<'_>]) -> Option<Location>
-    requires room { AllEntries HasCharacterRoom lines.now }
-    ensures value { result ≡ spec.primary_place (map seen_kept lines.now) }
-    // Of a snippet that has a span that is marked, and none of several lines: the place where one of its spans starts.
-    ensures named { (fold : Bool) (s : Source) (marks : List Annotation)
-        → All (λ a. IsSpan s.text a.span.start a.span.end) marks
-        → map seen_kept lines.now ≡ annotated_lines fold s marks
-        → list_any (λ a. is_marking a.kind) marks ≡ true → All (λ a. is_long s.text a ≡ false) marks
-        → IsSomeAnd result (IsLocation s marks) }
-{
-    let mut first = None;
-    for info in lines {
-        if let Some(column) = least_primary_column(&info.annotations) {
-            return Some(Location {
-                line: info.line_index,
-                column: Some(column),
-            });
-        }
-        if first.is_none() {
-            first = least_place(info);
-        }
-    }
-    first
 }
 
 /// The place that the head of a snippet names that isn't primary, given the lines that are kept.
@@ -81,7 +50,9 @@ pub fn secondary_place(lines: &[AnnotatedLineInfo<'_>]) -> Option<Location>
 /// The byte at which the first primary span starts; where none is primary, the first span that is marked. `None` where
 /// none is.
 ///
-/// The place of this byte is the one that `primary_place` finds among the lines that are kept.
+/// The place of this byte is the one that the head of a primary snippet names: on the first line with a primary entry, at
+/// the least column of a primary one; where no entry is primary, on the first line with an entry, at the least column
+/// there.
 pub fn naming_start(annotations: &[Annotation<'_>]) -> Option<usize>
     ensures value { result ≡ spec.naming_start annotations.now }
     // A span of no bytes may stand there.
@@ -128,42 +99,4 @@ pub fn is_marking(kind: AnnotationKind) -> bool
     ensures value { result ≡ is_marking kind }
 {
     matches!(kind, AnnotationKind::Primary | AnnotationKind::Context)
-}
-
-/// The place on a line of the least column at which an entry starts, if there is one.
-fn least_place(info: &AnnotatedLineInfo<'_>) -> Option<Location>
-    requires room { All HasCharacterRoom info.now.annotations.items }
-    ensures value { result ≡ spec.least_place spec.all_parts (seen_kept info.now) }
-{
-    let column = least_column(&info.annotations)?;
-    Some(Location {
-        line: info.line_index,
-        column: Some(column),
-    })
-}
-
-/// The least column at which one of some entries starts, if there are any.
-fn least_column(entries: &[LineAnnotation<'_>]) -> Option<usize>
-    requires room { All HasCharacterRoom entries.now }
-    ensures value { result ≡ least (start_columns (map seen_part entries.now)) }
-{
-    let mut least = None;
-    for entry in entries {
-        least = lesser(least, entry.start.char + 1);
-    }
-    least
-}
-
-/// The least column at which a primary one of some entries starts, if there are any.
-fn least_primary_column(entries: &[LineAnnotation<'_>]) -> Option<usize>
-    requires room { All HasCharacterRoom entries.now }
-    ensures value { result ≡ least (start_columns (spec.primary_parts (map seen_part entries.now))) }
-{
-    let mut least = None;
-    for entry in entries {
-        if entry.kind == AnnotationKind::Primary {
-            least = lesser(least, entry.start.char + 1);
-        }
-    }
-    least
 }

@@ -7,26 +7,24 @@
 //!    |     ^ here
 //!    |                      what sets off a message, or closes the group
 //! ```
-ghost use Rattle.std.specs.Prelude.{◌≡◌, ◌+◌, ◌≤◌, ◌<◌, ◌^◌, ◌++◌, OnOk, map};
+ghost use Rattle.std.specs.Prelude.{◌≡◌, ◌+◌, ◌≤◌, ◌<◌, ◌^◌, ◌++◌, OnOk};
 ghost use Rattle.snippet_model.specs.declared.snippet.Element.TheVariants.{Cause};
-ghost use Rattle.snippet_parts.specs.Annotated.{seen_kept};
-ghost use Rattle.snippet_parts.specs.Entries.{AllEntries, HasCharacterRoom};
 ghost use Rattle.annotate_snippets.specs.Drawn.{AddsCause, AddsCauseLines, HasRoomFor};
 ghost use Rattle.annotate_snippets.specs.Prepared.{IsCausePrepared};
-ghost use Rattle.annotate_snippets.specs.Rows as spec;
 ghost use Rattle.annotate_snippets.specs.Rows.{cause_head, rows_after_cause};
 
 use crate::renderer::Renderer;
 use crate::renderer::element_context::ElementContext;
 use crate::renderer::elements::origin_layout;
 use crate::renderer::gutter::line_numbers;
+use crate::renderer::place::place_in_head;
 use crate::renderer::preprocess::PreparedCause;
 use snippet_grid::{Layout, StyledBuffer};
-use snippet_parts::{AnnotatedLineInfo, primary_place, secondary_place, with_lines_between};
+use snippet_parts::with_lines_between;
 use snippet_strokes::draw_snippet;
 use snippet_titles::{
-    OriginLocation, draw_closing, draw_nameless_head, draw_opening_head, draw_primary_head,
-    draw_secondary_head, draw_separator,
+    draw_closing, draw_nameless_head, draw_opening_head, draw_primary_head, draw_secondary_head,
+    draw_separator,
 };
 use snippet_window::margin_for;
 use std::alloc::{AllocError, Global};
@@ -75,33 +73,11 @@ fn draw_cause_head(
         };
     };
     let path = path.as_str();
-    let place = location(around.primary, &cause.kept);
+    let place = place_in_head(around.primary, cause);
     if around.primary {
         draw_primary_head(alloc, buffer, origins, around.first, path, place)
     } else {
         draw_secondary_head(alloc, buffer, origins, path, place)
-    }
-}
-
-/// The place that the head of a snippet names, given its lines that are kept.
-fn location(primary: bool, kept: &[AnnotatedLineInfo<'_>]) -> OriginLocation
-    requires room { AllEntries HasCharacterRoom kept.now }
-    ensures value { result ≡ spec.place_named primary (map seen_kept kept.now) }
-{
-    let place = if primary {
-        primary_place(kept)
-    } else {
-        secondary_place(kept)
-    };
-    match place {
-        Some(place) => OriginLocation {
-            line: Some(place.line),
-            column: place.column,
-        },
-        None => OriginLocation {
-            line: None,
-            column: None,
-        },
     }
 }
 

@@ -4,27 +4,24 @@
 //! ```text
 //! src/main.rs:1:5: error: unused: here
 //! ```
-ghost use Rattle.std.specs.Prelude.{◌≡◌, ℕ, Bool, true, List, ◌++◌, ◌∷◌, [], chars, length, All, Some, IfOk};
+ghost use Rattle.std.specs.Prelude.{◌≡◌, ℕ, List, ◌++◌, ◌∷◌, [], chars, length, Some, IfOk};
 ghost use Rattle.std.specs.Prelude.{IfSome, OnOk, string_bytes};
 ghost use Rattle.std.specs.Option.{option_copied};
-ghost use Rattle.std.specs.Str.{IsUtf8};
-ghost use Rattle.snippet_lines.specs.Span.{IsSpan};
 ghost use Rattle.snippet_model.specs.Fits.{AnnotationFits, SnippetFits};
-ghost use Rattle.snippet_parts.specs.Annotated.{annotated_lines};
 ghost use Rattle.annotate_snippets.specs.Prepared.{IsDrawable, IsGroupDrawable};
-ghost use Rattle.annotate_snippets.specs.Rows.{place_named};
 ghost use Rattle.annotate_snippets.specs.Short as spec;
 ghost use Rattle.annotate_snippets.specs.Short.{joined_labels, place_of_cause, primary_labels, short_form};
 ghost use Rattle.snippet_style.specs.Bounds.{IsTextWidth};
 
 use crate::renderer::Renderer;
 use crate::renderer::graphic::GroupGrid;
+use crate::renderer::place::named_place;
 use snippet_grid::StyledBuffer;
 use snippet_model::snippet::{Annotation, AnnotationKind, Element, Group, Snippet, Title};
-use snippet_parts::{SourceMap, map_of, naming_start};
+use snippet_parts::map_of;
 use snippet_suggest::is_blank;
 use snippet_text::normalized;
-use snippet_titles::{OriginLocation, draw_short, origin_text};
+use snippet_titles::{draw_short, origin_text};
 use std::alloc::{AllocError, Global};
 
 /// The grid of the short form of a group that has this title.
@@ -111,28 +108,6 @@ fn place_of<'a>(
     let mut text = origin_text(alloc, path.as_str(), place, anonymized)?;
     text.push_str(": ")?;
     Ok(text)
-}
-
-/// The place that the head of a primary snippet names, given its source and its spans: that of a byte, so no line is
-/// looked at for its entries.
-fn named_place(source: &SourceMap<'_>, annotations: &[Annotation<'_>]) -> OriginLocation
-    requires spans { All (λ a. IsSpan source.now.text a.span.start a.span.end) annotations.now }
-    requires utf8 { IsUtf8 source.now.text }
-    ensures value { (fold : Bool) → result ≡ place_named true (annotated_lines fold source.now annotations.now) }
-{
-    match naming_start(annotations) {
-        Some(start) => {
-            let (at, _) = source.span_to_locations(start..start);
-            OriginLocation {
-                line: Some(at.line),
-                column: Some(at.char + 1),
-            }
-        }
-        None => OriginLocation {
-            line: None,
-            column: None,
-        },
-    }
 }
 
 /// What stands after the title's first row: the labels of an annotated snippet's primary spans that aren't blank.

@@ -83,7 +83,7 @@ fn add_group<'a>(
     add_elements(alloc, form, renderer, file, &elements)
 }
 
-/// An element that is drawn.
+/// An element that is drawn. It is a struct of its own since a list of references to an enum can't be proved yet.
 #[derive(Clone, Copy)]
 struct DrawnElement<'a> {
     element: &'a Element<'a>,
