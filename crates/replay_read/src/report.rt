@@ -22,7 +22,7 @@ use json_node::scalars::lent;
 use snippet_model::level::LevelName;
 use snippet_model::{
     Annotation, AnnotationKind, Element, Group, Id, Level, Message, Origin, Padding, Patch,
-    Snippet, Title,
+    Snippet, SourceText, Title,
 };
 use snippet_style::LevelInner;
 use snippet_text::CowStr;
@@ -225,7 +225,7 @@ fn snippet_of<'v, T: Marker<'v> + Drop>(
     let (line_start, line_numbering, fold) = lines_of(node)?;
     let markers = marked_in(node, markers, source)?;
     Ok(Snippet {
-        source: CowStr::Borrowed(source),
+        source: SourceText::new(CowStr::Borrowed(source)),
         path: lent(path),
         line_start,
         line_numbering,
