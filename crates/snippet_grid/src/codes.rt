@@ -64,7 +64,7 @@ impl SheetCodes {
         ensures yes { result ≡ true → style_at self.now a ≢ style_at self.now b }
         ensures no { result ≡ false → style_at self.now a ≡ style_at self.now b }
     {
-        a != b && self.style_at(a) != self.style_at(b)
+        a != b && self.styles[a] != self.styles[b]
     }
 
     /// Adds the code that opens the style at a place.
@@ -74,6 +74,9 @@ impl SheetCodes {
         ensures text { OnOk result (string_bytes out.new ≡ string_bytes out.old
             ++ opening_bytes (style_at self.old place)) }
     {
+        if self.styles[place].is_plain() {
+            return Ok(());
+        }
         if let Some(code) = &self.codes[place] {
             return out.push_str(code.as_str());
         }
@@ -110,8 +113,7 @@ const ROOM: usize = 12;
 fn opening(alloc: Global, style: Style) -> Result<String, AllocError>
     ensures text { IfOk result (λ code. string_bytes code ≡ opening_bytes style) }
 {
-    let room = if style.is_plain() { 0 } else { ROOM };
-    let mut code = String::with_capacity(alloc, room)?;
+    let mut code = String::with_capacity(alloc, ROOM)?;
     write_opening(&mut code, style)?;
     Ok(code)
 }
