@@ -1,5 +1,6 @@
 -- The texts of a report that is drawn show it in its form, and have the laws of that.
-use Rattle.std.proofs.Common.{◌≡◌, ◌<◌, ◌≤◌, ℕ, arith, get_or, true, Option, None, Some, Result, Ok, Err, IfSome, String, Vec, Global, refl, sym, ap, List, [], ◌∷◌, All, subst, length}
+use Rattle.std.proofs.Common.{◌≡◌, ◌<◌, ◌≤◌, ℕ, arith, get_or, true, Option, None, Some, Result, Ok, Err}
+use Rattle.std.proofs.Common.{IfSome, String, Vec, Global, refl, sym, ap, List, [], ◌∷◌, All, subst, length}
 use Rattle.std.proofs.Common.{map, string_bytes}
 use Rattle.std.proofs.lemmas.List.{nil_from_length}
 use Rattle.std.proofs.lemmas.List.Elements.{All-nil}

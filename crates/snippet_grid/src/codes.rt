@@ -59,6 +59,7 @@ impl SheetCodes {
     }
 
     /// Whether the styles at two places differ.
+    #[inline(always)]
     pub(crate) fn differ(&self, a: usize, b: usize) -> bool
         requires within { a < 11 × (b < 11) }
         ensures yes { result ≡ true → style_at self.now a ≢ style_at self.now b }
@@ -68,6 +69,7 @@ impl SheetCodes {
     }
 
     /// Adds the code that opens the style at a place.
+    #[inline(always)]
     pub(crate) fn push_opening(&mut self, out: &mut String, place: usize) -> Result<(), AllocError>
         requires within { place < 11 }
         ensures sheet { self.new ≡ self.old }
@@ -110,6 +112,7 @@ fn styles(sheet: &Stylesheet) -> [Style; 11]
 const ROOM: usize = 12;
 
 /// The code that opens a style.
+#[inline(never)]
 fn opening(alloc: Global, style: Style) -> Result<String, AllocError>
     ensures text { IfOk result (λ code. string_bytes code ≡ opening_bytes style) }
 {

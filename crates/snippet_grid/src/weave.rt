@@ -141,6 +141,7 @@ fn weave_stretch(
 }
 
 /// Adds unstyled spaces, after what was printed and looks like `last`.
+#[inline(always)]
 fn weave_gap(
     out: &mut String,
     count: usize,
@@ -173,6 +174,7 @@ fn end_link(out: &mut String, last: Option<&str>, next: Option<&str>) -> Result<
 }
 
 /// Resets the style that is open and opens the next one, unless they are the same.
+#[inline(always)]
 fn change_style(
     out: &mut String,
     codes: &mut SheetCodes,

@@ -35,10 +35,10 @@ pub(crate) fn fits(text: &str, room: usize) -> bool
     char_count(text) <= room
 }
 
-/// What a small report takes: its first write makes room for so much at once.
-const FIRST_BYTES: usize = 512;
+/// What the smallest reports take: the first write makes room for so much at once.
+const FIRST_BYTES: usize = 384;
 
-const FIRST_RUNS: usize = 32;
+const FIRST_RUNS: usize = 14;
 
 const FIRST_ROWS: usize = 16;
 

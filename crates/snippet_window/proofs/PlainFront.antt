@@ -65,7 +65,8 @@ taken_front columns text k within room all =
 -- the bytes of both, and their columns
 pub bytes_front : (text xs : List ℕ) (k : ℕ) → k ≤ length text → All IsPlain (take k text) → bytes_of (take k text ++ xs) ≡ k + bytes_of xs
 bytes_front text xs k within all =
-    omega (arith, ap length (encodes-append (take k text) xs), length-append (encode_utf8_all (take k text)) (encode_utf8_all xs), plain_bytes (take k text) all, length-take-le k text within)
+    let both = ap length (encodes-append (take k text) xs) ∙ length-append (encode_utf8_all (take k text)) (encode_utf8_all xs) in
+    omega (arith, both, plain_bytes (take k text) all, length-take-le k text within)
 
 pub width_front : (text xs : List ℕ) (k : ℕ) → k ≤ length text → All IsPlain (take k text) → width_of (take k text ++ xs) ≡ k + width_of xs
 width_front text xs k within all =

@@ -1,5 +1,5 @@
-//! The text of a report under one sheet: in the graphic form each group is drawn, printed and dropped before the next is
-//! drawn, so that memory holds the rows of one group at a time.
+//! The text of a report under one sheet. In the graphic form each group is drawn, printed and dropped before the next
+//! is drawn, so that memory holds the rows of one group at a time.
 ghost use Rattle.std.specs.Prelude.{◌≡◌, ◌++◌, [], ◌∷◌, All, IfOk, None, string_bytes, if◌then◌else◌};
 ghost use Rattle.annotate_snippets.specs.Fault as spec;
 ghost use Rattle.annotate_snippets.specs.FormLaws.{IsTextUnder};

@@ -1,8 +1,7 @@
-use Rattle.std.proofs.Common.{◌≡◌, ◌∙◌, ◌≤◌, ◌<◌, ap, subst, sym, arith, get_or, refl, length, None, Some, replicate, string_bytes, List, ℕ, ◌++◌, ◌-◌}
+use Rattle.std.proofs.Common.{◌≡◌, ◌∙◌, ◌≤◌, ◌<◌, ap, subst, sym, arith, get_or, refl, length, None, Some, replicate, string_bytes, List, ℕ, ◌-◌}
 use Rattle.std.proofs.lemmas.Result.{on_ok_weaker}
 use Rattle.std.specs.Option.{option_copied}
 use Rattle.std.specs.Str.{chars}
-use Rattle.snippet_grid.proofs.OutcomeLemmas.{on_ok_value}
 use Rattle.snippet_grid.proofs.RunLemmas.{starts_at_boundary, ends_at_boundary}
 use Rattle.snippet_grid.proofs.RowWoven.{WovenTo, woven_start, woven_gap, woven_run, first_ahead}
 use Rattle.snippet_grid.proofs.WeaveLemmas.{Goes, row_closed}

@@ -15,6 +15,6 @@ returns c =
     record {
       text = IfOk-weaker c.text_under.result (λ text. IsPrintedAs report c.args.sheet.now (string_bytes text))
           (λ text. IsTextUnder c.args.form r groups c.args.sheet.now (string_bytes text))
-          (λ text printed. is_under r groups c.args.form report c.args.sheet.now (string_bytes text) c.requires.drawable c.in_ok-drawn.ensures.laws c.in_ok-drawn.ensures.drawn
-          printed) c.text_under.ensures.printed;
+          (λ text. is_under r groups c.args.form report c.args.sheet.now (string_bytes text) c.requires.drawable c.in_ok-drawn.ensures.laws
+          c.in_ok-drawn.ensures.drawn) c.text_under.ensures.printed;
     }
