@@ -1,8 +1,8 @@
 //! Draws cases, which are reports as lines of JSON, through the API.
 //!
 //! - `cases check EXPECTED FILE ..` compares what becomes of each case with what stands in the same line of EXPECTED.
-//! - `cases draw TIMES FILE` builds and draws the reports of a file so many times, and prints how many bytes their texts have and how
-//!   long one round took.
+//! - `cases draw TIMES FILE` builds and draws the reports of a file so many times, each under its own sheets, and prints how many
+//!   bytes the texts of all rounds have and how long one round took.
 
 mod json;
 mod report;
@@ -10,6 +10,8 @@ mod report;
 use json::Json;
 use std::process::ExitCode;
 use std::time::Instant;
+use yazgult::renderer::Stylesheet;
+use yazgult::Renderer;
 
 fn main() -> ExitCode {
     let words: Vec<String> = std::env::args().skip(1).collect();
@@ -65,12 +67,12 @@ fn is_met(expected: &Json, case: &Json) -> bool {
 
 fn draw(times: usize, file: &str) -> ExitCode {
     let cases = lines(file);
-    let settings: Vec<_> = cases.iter().map(report::renderer).collect();
+    let settings: Vec<_> = cases.iter().map(|case| (report::renderer(case), report::sheets(case))).collect();
     let mut length = 0;
     let start = Instant::now();
     for _ in 0..times {
-        for (case, renderer) in cases.iter().zip(&settings) {
-            length += round(case, renderer);
+        for (case, (renderer, sheets)) in cases.iter().zip(&settings) {
+            length += drawn(case, renderer, sheets);
         }
     }
     let each = start.elapsed().as_nanos() / times.max(1) as u128;
@@ -78,9 +80,10 @@ fn draw(times: usize, file: &str) -> ExitCode {
     ExitCode::SUCCESS
 }
 
-/// Builds and draws the report of a case.
+/// Builds and draws the report of a case, and returns how many bytes its texts have.
 #[inline(never)]
-fn round(case: &Json, renderer: &yazgult::Renderer) -> usize {
+fn drawn(case: &Json, renderer: &Renderer, sheets: &[Stylesheet]) -> usize {
     let groups = report::groups(case);
-    renderer.render(&groups).len()
+    let texts = renderer.render_sheets(&groups, sheets).unwrap_or_else(|refusal| panic!("{refusal}"));
+    texts.iter().map(String::len).sum()
 }
