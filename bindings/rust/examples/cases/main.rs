@@ -8,6 +8,7 @@ mod json;
 mod report;
 
 use json::Json;
+use report::Parts;
 use std::process::ExitCode;
 use std::time::Instant;
 use yazgult::renderer::Stylesheet;
@@ -51,7 +52,7 @@ fn check(files: &[&str]) -> ExitCode {
 
 /// Whether what is expected becomes of a case.
 fn is_met(expected: &Json, case: &Json) -> bool {
-    let (renderer, sheets, groups) = (report::renderer(case), report::sheets(case), report::groups(case));
+    let (renderer, sheets, groups) = (report::renderer(case), report::sheets(case), report::built(&report::parts(case)));
     match renderer.render_sheets(&groups, &sheets) {
         Ok(texts) => {
             let wanted = expected.list("ok").iter().map(|it| if let Json::Text(text) = it { text.as_str() } else { "" });
@@ -67,12 +68,12 @@ fn is_met(expected: &Json, case: &Json) -> bool {
 
 fn draw(times: usize, file: &str) -> ExitCode {
     let cases = lines(file);
-    let settings: Vec<_> = cases.iter().map(|case| (report::renderer(case), report::sheets(case))).collect();
+    let given: Vec<_> = cases.iter().map(|it| (report::renderer(it), report::sheets(it), report::parts(it))).collect();
     let mut length = 0;
     let start = Instant::now();
     for _ in 0..times {
-        for (case, (renderer, sheets)) in cases.iter().zip(&settings) {
-            length += drawn(case, renderer, sheets);
+        for (renderer, sheets, parts) in &given {
+            length += drawn(renderer, sheets, parts);
         }
     }
     let each = start.elapsed().as_nanos() / times.max(1) as u128;
@@ -80,10 +81,10 @@ fn draw(times: usize, file: &str) -> ExitCode {
     ExitCode::SUCCESS
 }
 
-/// Builds and draws the report of a case, and returns how many bytes its texts have.
+/// Builds and draws the report of these parts, and returns how many bytes its texts have.
 #[inline(never)]
-fn drawn(case: &Json, renderer: &Renderer, sheets: &[Stylesheet]) -> usize {
-    let groups = report::groups(case);
+fn drawn(renderer: &Renderer, sheets: &[Stylesheet], parts: &[Parts<'_>]) -> usize {
+    let groups = report::built(parts);
     let texts = renderer.render_sheets(&groups, sheets).unwrap_or_else(|refusal| panic!("{refusal}"));
     texts.iter().map(String::len).sum()
 }
