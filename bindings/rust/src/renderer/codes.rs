@@ -1,5 +1,5 @@
-//! The codes that a terminal takes for a style: for texts that a program styles itself, as a message's. What the library draws has the
-//! codes that it writes.
+//! The codes that a terminal takes for a style, for texts that a program styles itself, as a message's. The library writes those of
+//! its sheets on its own.
 
 use super::{Color, Effects, Style};
 use std::fmt::{Display, Formatter, Result};
