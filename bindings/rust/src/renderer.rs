@@ -1,11 +1,16 @@
 //! The settings that reports are drawn with, and the styles of their parts.
 
+mod codes;
+mod color;
+mod effects;
 mod error;
 mod style;
 mod stylesheet;
 
+pub use color::{Ansi256Color, AnsiColor, Color, RgbColor};
+pub use effects::{EffectIter, Effects};
 pub use error::RenderError;
-pub use style::{Ansi256Color, AnsiColor, Color, Effects, RgbColor, Style};
+pub use style::{Reset, Style};
 pub use stylesheet::Stylesheet;
 
 use crate::bytes;
@@ -111,6 +116,7 @@ impl Renderer {
     }
 
     /// The same as [`anonymized_snippet_line_numbers`](Renderer::anonymized_snippet_line_numbers).
+    #[deprecated(note = "replaced with `Renderer::anonymized_snippet_line_numbers`")]
     pub const fn anonymized_line_numbers(self, yes: bool) -> Self {
         self.anonymized_snippet_line_numbers(yes)
     }

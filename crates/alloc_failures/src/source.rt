@@ -5,9 +5,9 @@ use crate::subject::print_subject;
 use annotate_snippets::renderer::parts::{
     AnnotatedLineInfo, LineInfo, SourceMap, check_patches, check_span, newline_count,
 };
-use annotate_snippets::text::text_fits;
-use annotate_snippets::{AnnotationKind, Patch};
-use std::alloc::AllocError;
+use annotate_snippets::text::{CowStr, text_fits};
+use annotate_snippets::{AnnotationKind, Patch, Snippet, SourceLines};
+use std::alloc::{AllocError, Global};
 use std::io;
 
 /// A source of six lines.
@@ -19,7 +19,12 @@ pub fn print(rt: &(impl Print + AllocGlobal)) -> io::Result<()> {
         return println!(rt; "too long");
     }
     let map = again!(SourceMap::new(rt.alloc(), SOURCE, 1))?;
-    print_map(rt, &map)
+    print_map(rt, &map)?;
+    print_subject(
+        rt,
+        "lines of a source: `new`, `new_cow`",
+        again!(finds_lines(rt.alloc()))?,
+    )
 }
 
 /// Makes each call of the map that takes memory.
@@ -28,6 +33,22 @@ fn print_map(rt: &impl Print, map: &SourceMap<'_>) -> io::Result<()> {
     print_span(rt, map)?;
     print_subject(rt, "source map: `annotated_lines`", again!(keeps(map))?)?;
     print_subject(rt, "source map: `splice_lines`", again!(splices(map))?)
+}
+
+/// Whether the lines of a source are found, of one that is borrowed and of one that is owned, and drawn and looked into
+/// where they are lent.
+fn finds_lines(alloc: Global) -> Result<bool, AllocError> {
+    let borrowed = SourceLines::new(alloc, SOURCE)?;
+    let text = String::from_str(alloc, "ab\nc")?;
+    let owned = SourceLines::new_cow(alloc, CowStr::Owned(text))?;
+    let map = SourceMap::indexed(alloc, &owned, 7);
+    let snippet: Snippet<'_, Patch<'_>> = Snippet::indexed(alloc, &borrowed);
+    Ok(
+        matches!(borrowed.starts(), [0, 2, 4, 6, 8, 10])
+            && matches!(owned.starts(), [0, 3])
+            && map.get_line(8) == Some("c")
+            && snippet.source.as_str() == SOURCE,
+    )
 }
 
 /// Whether this is the line of this text and number.

@@ -1,5 +1,6 @@
 -- The texts of a report that is drawn show it in its form, and have the laws of that.
-use Rattle.std.proofs.Common.{◌≡◌, ℕ, true, Option, None, Some, Result, Ok, Err, IfSome, String, Vec, Global, refl, sym, ap, List, [], ◌∷◌, All, subst, length}
+use Rattle.std.proofs.Common.{◌≡◌, ◌<◌, ◌≤◌, ℕ, arith, get_or, true, Option, None, Some, Result, Ok, Err}
+use Rattle.std.proofs.Common.{IfSome, String, Vec, Global, refl, sym, ap, List, [], ◌∷◌, All, subst, length}
 use Rattle.std.proofs.Common.{map, string_bytes}
 use Rattle.std.proofs.lemmas.List.{nil_from_length}
 use Rattle.std.proofs.lemmas.List.Elements.{All-nil}
@@ -23,7 +24,7 @@ use Rattle.annotate_snippets.specs.declared.renderer.form.Form.{Form}
 use Rattle.annotate_snippets.specs.declared.renderer.form.Form.TheVariants.{Graphic, Short, Text}
 use Rattle.annotate_snippets.specs.Drawn.{IsDrawnAs, IsPrintedAs}
 use Rattle.annotate_snippets.specs.Fault.{first_refusal, form_of, missing_title}
-use Rattle.annotate_snippets.specs.FormLaws.{FormLaws, HasLaws, LawsIn}
+use Rattle.annotate_snippets.specs.FormLaws.{FormLaws, HasLaws, IsTextUnder, LawsIn}
 use Rattle.annotate_snippets.specs.Forms.{AreFree, ShortShown, ShowsForm, TextsShown, links_in, plain_in}
 use Rattle.annotate_snippets.specs.GraphicForm.{graphic_form}
 use Rattle.annotate_snippets.specs.Page.{Page, PrintsPage, page_text}
@@ -169,3 +170,18 @@ none-laws r groups sheets (Err e) none nothing = tt
 none-laws r groups sheets (Ok texts) none nothing =
     subst (λ ss. AllZip (HasLaws r groups) ss (map string_bytes texts.items)) (sym (nil_from_length sheets none))
     (subst (AllZip (HasLaws r groups) []) (sym (ap (map string_bytes) nothing)) tt)
+
+-- a sheet that is alone
+pub one_sheet : (sheets : List Stylesheet) (d : Stylesheet) → 1 ≤ length sheets → length sheets < 2 → get_or sheets 0 d ∷ [] ≡ sheets
+one_sheet [] d some few = absurd (omega (arith, some))
+one_sheet (sheet ∷ []) d some few = refl
+one_sheet (sheet ∷ other ∷ sheets) d some few = absurd (omega (arith, few))
+
+-- the text under it shows the report
+pub one_shown : (form : Form) (r : Renderer) (groups : List Group) (sheets : List Stylesheet) (texts : List (List ℕ)) → 1 ≤ length sheets
+    → length sheets < 2 → AllZip (IsTextUnder form r groups) sheets texts → ShowsForm form r groups sheets texts
+one_shown form r groups [] texts some few are = absurd (omega (arith, some))
+one_shown form r groups (sheet ∷ []) [] some few are = absurd are
+one_shown form r groups (sheet ∷ []) (text ∷ []) some few are = are.0.shows
+one_shown form r groups (sheet ∷ []) (text ∷ more ∷ texts) some few are = absurd are.1
+one_shown form r groups (sheet ∷ other ∷ sheets) texts some few are = absurd (omega (arith, few))

@@ -17,8 +17,10 @@ use Rattle.snippet_model.specs.Heading.{Heading, heading_of_title, is_hidden}
 use Rattle.snippet_model.specs.Level.{name_of}
 use Rattle.snippet_model.specs.declared.snippet.Id.{Id}
 use Rattle.snippet_model.specs.declared.snippet.Title.{Title as TitleGiven}
-use Rattle.snippet_titles.specs.Heading.{address_of, bracketed_cells, closing_bracket_of, colon_of, heading_lines, heading_rows, id_cells, indent_cells, is_set}
-use Rattle.snippet_titles.specs.Heading.{label_cells, label_width, linked_to, lines_below, note_bar_of, opening_bracket_of, roles_of, shown_text, sign_cells}
+use Rattle.snippet_titles.specs.Heading.{address_of, bracketed_cells, closing_bracket_of, colon_of, heading_lines, heading_rows, id_cells, indent_cells}
+use Rattle.snippet_titles.specs.Heading.{is_set}
+use Rattle.snippet_titles.specs.Heading.{label_cells, label_width, linked_to, lines_below, note_bar_of, opening_bracket_of, roles_of, shown_text}
+use Rattle.snippet_titles.specs.Heading.{sign_cells}
 use Rattle.snippet_style.specs.Glyphs.{note_sign_of}
 use Rattle.snippet_titles.specs.Title.{title_rows}
 use Rattle.snippet_titles.specs.declared.style.HeadingRoles.{HeadingRoles}

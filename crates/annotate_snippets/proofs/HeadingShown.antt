@@ -27,7 +27,8 @@ use Rattle.snippet_titles.proofs.PlaceLemmas.{heading_rows-places}
 use Rattle.snippet_titles.proofs.TextLemmas.{heading_rows-texts}
 use Rattle.annotate_snippets.specs.Around.{closes_after, is_end}
 use Rattle.annotate_snippets.specs.Page.{NamedRow, cells_of, others}
-use Rattle.annotate_snippets.specs.Rows.{closing_rows, message_rows, message_style, origin_layout, origin_rows, origin_start, place_given, title_part}
+use Rattle.annotate_snippets.specs.Rows.{closing_rows, message_rows, message_style, origin_layout, origin_rows, origin_start, place_given}
+use Rattle.annotate_snippets.specs.Rows.{title_part}
 use Rattle.annotate_snippets.specs.Shown.{ShowsHeading, ShowsTitlePart}
 use Rattle.annotate_snippets.specs.declared.renderer.Renderer.{Renderer}
 use Rattle.snippet_grid.specs.Layout.{Layout}

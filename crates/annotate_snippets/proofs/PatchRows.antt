@@ -30,7 +30,8 @@ use Rattle.snippet_suggest.specs.declared.SuggestionStart.{SuggestionStart}
 use Rattle.snippet_suggest.specs.declared.SuggestionStart.TheVariants.{Opening, Next, Path}
 use Rattle.snippet_suggest.specs.Given.{counted_line, first_given, given_lines, given_text}
 use Rattle.snippet_suggest.specs.Order.{Ends, SuggestionRow, rows_of_suggestion}
-use Rattle.snippet_suggest.specs.Rows.{AddsSuggestion, HasGutter, IsStart, IsEdgeRow, IsTail, Shows, begin_glyph, beside_gutter, is_stroke, rows_shared}
+use Rattle.snippet_suggest.specs.Rows.{AddsSuggestion, HasGutter, IsStart, IsEdgeRow, IsTail, Shows, begin_glyph, beside_gutter, is_stroke}
+use Rattle.snippet_suggest.specs.Rows.{rows_shared}
 use Rattle.snippet_suggest.specs.Suggested.{body_cells, cells_of as row_cells, suggestion_cells}
 use Rattle.snippet_suggest.proofs.BareLemmas.{stroke_led}
 use Rattle.snippet_suggest.proofs.DrawnLemmas.{zip_push}

@@ -296,7 +296,7 @@ IfOk-both P Q (Ok x) p q = (p, q)
 IfOk-both P Q (Err e) p q = tt
 
 -- a report that isn't refused has no fault, so each of its groups can be drawn
-faultless : {T E : Type 0} (fault : Option E) (r : Result T E) (x : T) → IfSome fault (λ e. r ≡ Err e) → r ≡ Ok x → fault ≡ None
+pub faultless : {T E : Type 0} (fault : Option E) (r : Result T E) (x : T) → IfSome fault (λ e. r ≡ Err e) → r ≡ Ok x → fault ≡ None
 faultless None r x refused given = refl
 faultless (Some e) r x refused given = let never : Err e ≡ Ok x = sym refused ∙ given in cc
 

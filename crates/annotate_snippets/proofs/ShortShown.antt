@@ -48,7 +48,8 @@ use Rattle.annotate_snippets.specs.Gutter.{numbered_source}
 use Rattle.annotate_snippets.specs.Page.{PrintsGrids}
 use Rattle.annotate_snippets.specs.Prepared.{IsDrawable, IsGroupDrawable}
 use Rattle.annotate_snippets.specs.Rows.{place_found, place_named}
-use Rattle.annotate_snippets.specs.Short.{before_title, after_title, first_cause, joined_labels, short_label, labels_of_cause, place_of_cause, place_of_path}
+use Rattle.annotate_snippets.specs.Short.{before_title, after_title, first_cause, joined_labels, short_label, labels_of_cause, place_of_cause}
+use Rattle.annotate_snippets.specs.Short.{place_of_path}
 use Rattle.annotate_snippets.specs.Short.{primary_labels, short_form, short_page, titled_rows}
 use Rattle.snippet_model.specs.AnnotationKind.{is_primary}
 use Rattle.annotate_snippets.specs.declared.renderer.Renderer.{Renderer}

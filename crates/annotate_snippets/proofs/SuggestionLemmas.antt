@@ -11,7 +11,8 @@ use Rattle.snippet_lines.specs.Number.{shown_number}
 use Rattle.snippet_model.specs.Rows.{IsFree}
 use Rattle.snippet_suggest.specs.Given.{first_given, given_lines}
 use Rattle.snippet_suggest.specs.Prepared.{IsSuggestible}
-use Rattle.snippet_suggest.specs.Order.{Begins, Empty, Ends, Offers, Removes, Skips, SuggestionRow, lines_taken, number_after, numbers_offered, removed_number}
+use Rattle.snippet_suggest.specs.Order.{Begins, Empty, Ends, Offers, Removes, Skips, SuggestionRow, lines_taken, number_after, numbers_offered}
+use Rattle.snippet_suggest.specs.Order.{removed_number}
 use Rattle.snippet_suggest.specs.Rows.{IsRemovedRow, Shows}
 use Rattle.snippet_suggest.specs.Shown.{AreRising}
 use Rattle.snippet_suggest.proofs.OfferLaws.{given-is-patched}

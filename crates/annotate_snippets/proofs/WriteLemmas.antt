@@ -16,13 +16,13 @@ use Rattle.snippet_style.specs.declared.stylesheet.Stylesheet.{Stylesheet}
 use Rattle.written.specs.Part.{AppendsPart}
 use Rattle.annotate_snippets.specs.Drawn.{AreGridsOf, IsDrawnAs, IsPrintedAs}
 use Rattle.annotate_snippets.specs.Fault.{form_of}
-use Rattle.annotate_snippets.specs.FormLaws.{FormLaws, HasLaws, LawsIn}
+use Rattle.annotate_snippets.specs.FormLaws.{FormLaws, HasLaws, IsTextUnder, LawsIn}
 use Rattle.annotate_snippets.specs.Forms.{ShowsReport}
 use Rattle.annotate_snippets.specs.GraphicForm.{graphic_form}
 use Rattle.annotate_snippets.specs.Page.{ArePrinted, GroupPage, Page, PrintsGrids, PrintsPage}
 use Rattle.annotate_snippets.specs.Prepared.{IsGroupDrawable}
 use Rattle.annotate_snippets.specs.Shown.{levels_of}
-use Rattle.annotate_snippets.specs.Written.{IsTextIn, PrintsGrid, ShowsIn, WritesPart, WritesText}
+use Rattle.annotate_snippets.specs.Written.{AddsGrid, IsTextIn, PrintsGrid, ShowsIn, WritesPart, WritesText}
 use Rattle.annotate_snippets.specs.declared.renderer.Renderer.{Renderer}
 use Rattle.annotate_snippets.specs.declared.renderer.drawn.Drawn.{Drawn}
 use Rattle.annotate_snippets.specs.declared.renderer.form.Form.{Form}
@@ -32,7 +32,7 @@ use Rattle.annotate_snippets.proofs.FormsShown.{laws-in, page-law, shown-in}
 use Rattle.annotate_snippets.proofs.GridRows.{GridsSoFar, grids_none}
 use Rattle.annotate_snippets.proofs.PrintLemmas.{AllZip-last}
 use Rattle.annotate_snippets.proofs.PrintedText.{texts_of_page}
-use Rattle.annotate_snippets.proofs.ReportLemmas.{page_laws, page_so_far}
+use Rattle.annotate_snippets.proofs.ReportLemmas.{page_laws, page_so_far, sheets_shown}
 
 -- ---- texts that are joined
 
@@ -149,15 +149,6 @@ part_goes_on a b c k within =
 
 -- ---- a report that is written whole
 
--- a text of a report that is drawn in a form shows it, and has the laws of the form
-pub is_text : (r : Renderer) (groups : List Group) (form : Form) (report : Drawn) (text : List ℕ) → All IsGroupDrawable groups → FormLaws form r groups
-    → IsDrawnAs form r groups report → IsPrintedAs report r.stylesheet text → IsTextIn form r groups text
-is_text r groups form report text drawable laws drawn printed =
-    record {
-      shows = shown-in r groups (r.stylesheet ∷ []) (text ∷ []) form report drawable drawn (printed, tt);
-      laws = (laws-in r groups (r.stylesheet ∷ []) (text ∷ []) form report laws drawable drawn (printed, tt)).0;
-    }
-
 -- what is written in the form that the renderer is set to shows the report
 pub shown_whole : (r : Renderer) (groups : List Group) (form : Form) (old new : Option (List ℕ)) → form ≡ form_of r
     → WritesText (IsTextIn form r groups) old new → WritesText (ShowsReport r groups r.stylesheet) old new
@@ -208,6 +199,77 @@ grid_printed sheet grid false before text lead adds =
       part = flat_map piece_text adds.pieces;
       prints = record { pieces = adds.pieces; text_is = refl; prints = adds.are };
       text_is = adds.text_is ∙ ap (λ t. t ++ flat_map piece_text adds.pieces) lead;
+    }
+
+-- the same, as what a text grew by: `lead` is the text with the line feed, if there is one
+pub grid_added : (sheet : Stylesheet) (grid : GroupGrid) (first : Bool) (before lead text : List ℕ) → lead ≡ cond first before (before ++ 10 ∷ [])
+    → WeavesRows sheet grid.level grid.buffer lead text → AddsGrid sheet first grid before text
+grid_added sheet grid true before lead text is adds =
+    record {
+      text = flat_map piece_text adds.pieces;
+      prints = record {
+        part = flat_map piece_text adds.pieces;
+        prints = record { pieces = adds.pieces; text_is = refl; prints = adds.are };
+        text_is = refl;
+      };
+      added = adds.text_is ∙ ap (λ t. t ++ flat_map piece_text adds.pieces) is;
+    }
+grid_added sheet grid false before lead text is adds =
+    record {
+      text = 10 ∷ flat_map piece_text adds.pieces;
+      prints = record {
+        part = flat_map piece_text adds.pieces;
+        prints = record { pieces = adds.pieces; text_is = refl; prints = adds.are };
+        text_is = refl;
+      };
+      added = adds.text_is ∙ ap (λ t. t ++ flat_map piece_text adds.pieces) is ∙ append_assoc before (10 ∷ []) (flat_map piece_text adds.pieces);
+    }
+
+-- a text that prints the first n groups of a report under a sheet
+pub record PrintedSoFar (r : Renderer) (groups : List Group) (n : ℕ) (sheet : Stylesheet) (text : List ℕ) : Type 0 where
+  pub grids : List GroupGrid
+  pub so_far : GridsSoFar r groups n grids
+  pub prints : PrintsGrids sheet grids text
+
+-- before the first group
+pub printed_none : (r : Renderer) (groups : List Group) (sheet : Stylesheet) (text : List ℕ) → text ≡ [] → PrintedSoFar r groups 0 sheet text
+printed_none r groups sheet text none =
+    record {
+      grids = [];
+      so_far = grids_none r groups [] refl;
+      prints = record { parts = []; printed = tt; joined = none };
+    }
+
+-- after one more
+pub printed_more : (r : Renderer) (groups : List Group) (n m : ℕ) (grid : GroupGrid) (first : Bool) (sheet : Stylesheet) (old new : List ℕ)
+    (before : PrintedSoFar r groups n sheet old) → first ≡ (n == 0) → AddsGrid sheet first grid old new
+    → GridsSoFar r groups m (before.grids ++ grid ∷ []) → PrintedSoFar r groups m sheet new
+printed_more r groups n m grid first sheet old new before is adds so_far =
+    record {
+      grids = before.grids ++ grid ∷ [];
+      so_far = so_far;
+      prints = subst (PrintsGrids sheet (before.grids ++ grid ∷ [])) (sym adds.added)
+          (grids_more sheet before.grids grid first old adds.text (is ∙ ap (λ k. k == 0) (sym before.so_far.count)) before.prints adds.prints);
+    }
+
+-- after the last
+pub printed_all : (r : Renderer) (groups : List Group) (n : ℕ) (sheet : Stylesheet) (text : List ℕ) → All IsGroupDrawable groups → n ≡ length groups
+    → PrintedSoFar r groups n sheet text → IsTextUnder Graphic r groups sheet text
+printed_all r groups n sheet text drawable all before =
+    let are : AreGridsOf r groups before.grids = record {
+      levels = before.so_far.levels ∙ ap (map (λ (g : Group). g.level)) (take_all n groups (omega (arith, all)));
+      each = before.so_far.each;
+    } in
+    let shown = sheets_shown r groups before.grids drawable are (sheet ∷ []) (text ∷ []) (before.prints, tt) in
+    record { shows = shown; laws = page-law r groups (page_laws r groups before.grids drawable are) sheet text shown.printed.0 }
+
+-- a text of a report that is drawn in a form, under a sheet
+pub is_under : (r : Renderer) (groups : List Group) (form : Form) (report : Drawn) (sheet : Stylesheet) (text : List ℕ) → All IsGroupDrawable groups
+    → FormLaws form r groups → IsDrawnAs form r groups report → IsPrintedAs report sheet text → IsTextUnder form r groups sheet text
+is_under r groups form report sheet text drawable laws drawn printed =
+    record {
+      shows = shown-in r groups (sheet ∷ []) (text ∷ []) form report drawable drawn (printed, tt);
+      laws = (laws-in r groups (sheet ∷ []) (text ∷ []) form report laws drawable drawn (printed, tt)).0;
     }
 
 -- a text prints the page of a report under the renderer's own sheet

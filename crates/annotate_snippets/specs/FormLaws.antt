@@ -1,5 +1,5 @@
 -- The laws of a report's text, in each form: what follows of it for who reads it.
-use Rattle.std.specs.Prelude.{◌≡◌, ℕ, true, false, List, [], ◌++◌, All, Some, codes, encode_utf8_all}
+use Rattle.std.specs.Prelude.{◌≡◌, ℕ, true, false, List, [], ◌++◌, All, Some, codes, encode_utf8_all, ◌∷◌}
 use Rattle.std.specs.List.{AllZip, list_any, slice_get, slice_index_or}
 use Rattle.std.specs.Cow.{cow_str_bytes}
 use Rattle.snippet_model.specs.Heading.{heading_of_title}
@@ -25,7 +25,7 @@ use Rattle.snippet_titles.specs.Short.{short_texts}
 use Rattle.snippet_titles.specs.Shown.{IsFreeButText}
 use Rattle.annotate_snippets.specs.Around.{path_bytes}
 use Rattle.annotate_snippets.specs.Fault.{form_of}
-use Rattle.annotate_snippets.specs.Forms.{TextsShown, links_in, plain_in, short_links}
+use Rattle.annotate_snippets.specs.Forms.{links_in, plain_in, short_links, ShowsForm, TextsShown}
 use Rattle.annotate_snippets.specs.GraphicForm.{graphic_form}
 use Rattle.annotate_snippets.specs.Gutter.{numbered_source}
 use Rattle.annotate_snippets.specs.PageLaws.{PageLaws}
@@ -90,6 +90,11 @@ pub record LawsIn (form : Form) (r : Renderer) (groups : List Group) (sheet : St
   pub form_laws : FormLaws form r groups
   pub woven : IsWoven sheet text (plain_in form r groups) (links_in form r groups)
   pub plain : links_in form r groups ≡ [] → is_plain_sheet sheet ≡ true → text ≡ encode_utf8_all (plain_in form r groups)
+
+-- a text shows a report in a form under a sheet, and has the laws of that form
+pub record IsTextUnder (form : Form) (r : Renderer) (groups : List Group) (sheet : Stylesheet) (text : List ℕ) : Type 0 where
+  pub shows : ShowsForm form r groups (sheet ∷ []) (text ∷ [])
+  pub laws : LawsIn form r groups sheet text
 
 -- a text has the laws of the form that the renderer is set to
 abbrev pub HasLaws : Renderer → List Group → Stylesheet → List ℕ → Type 0

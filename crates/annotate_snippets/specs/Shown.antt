@@ -70,7 +70,8 @@ use Rattle.annotate_snippets.specs.LineRows.{AreRowsDrawn}
 use Rattle.annotate_snippets.specs.Page.{RowName, SourceRow, Elision, OfferedLine, RemovedLine, Other, NamedRow, lines_named, lines_offered, lines_removed}
 use Rattle.annotate_snippets.specs.Page.{names_in, names_of_lines, cells_below, cells_of, rows_below, others, GroupPage, Page, PrintsPage, IsAscending}
 use Rattle.annotate_snippets.specs.SpanBars.{ShowsBars}
-use Rattle.annotate_snippets.specs.Rows.{cause_head, message_style, origin_rows, place_found, place_given, rows_after_cause, rows_after_title, suggestion_head}
+use Rattle.annotate_snippets.specs.Rows.{cause_head, message_style, origin_rows, place_found, place_given, rows_after_cause, rows_after_title}
+use Rattle.annotate_snippets.specs.Rows.{suggestion_head}
 
 -- the rows show a title or a message, which answers this: level, identifier, text, and whether that is trusted. They are its rows
 -- cell by cell; so the row of each line of its text is the text of that line as it is drawn, the first after the label; the text of

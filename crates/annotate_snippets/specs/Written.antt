@@ -1,11 +1,11 @@
 -- What a writer holds once a report was to be written to it.
-use Rattle.std.specs.Prelude.{◌≡◌, ℕ, Bool, List, [], ◌∷◌, Option, alloc_error, if◌then◌else◌}
+use Rattle.std.specs.Prelude.{◌≡◌, ℕ, Bool, List, [], ◌∷◌, ◌++◌, Option, alloc_error, if◌then◌else◌}
 use Rattle.std.specs.Io.KnownBytes.{Appends}
 use Rattle.snippet_grid.specs.Woven.{Prints}
 use Rattle.snippet_model.specs.declared.snippet.Group.{Group}
 use Rattle.snippet_style.specs.declared.stylesheet.Stylesheet.{Stylesheet}
 use Rattle.written.specs.Part.{AppendsPart}
-use Rattle.annotate_snippets.specs.FormLaws.{LawsIn}
+use Rattle.annotate_snippets.specs.FormLaws.{IsTextUnder}
 use Rattle.annotate_snippets.specs.Forms.{ShowsForm}
 use Rattle.annotate_snippets.specs.declared.renderer.Renderer.{Renderer}
 use Rattle.annotate_snippets.specs.declared.renderer.form.Form.{Form}
@@ -42,6 +42,11 @@ abbrev pub ShowsIn : Form → Renderer → List Group → List ℕ → Type 0
 ShowsIn form r groups text = ShowsForm form r groups (r.stylesheet ∷ []) (text ∷ [])
 
 -- and it has the laws of that form
-pub record IsTextIn (form : Form) (r : Renderer) (groups : List Group) (text : List ℕ) : Type 0 where
-  pub shows : ShowsIn form r groups text
-  pub laws : LawsIn form r groups r.stylesheet text
+abbrev pub IsTextIn : Form → Renderer → List Group → List ℕ → Type 0
+IsTextIn form r groups text = IsTextUnder form r groups r.stylesheet text
+
+-- a text grew by one that prints the grid of a group in its level
+pub record AddsGrid (sheet : Stylesheet) (first : Bool) (grid : GroupGrid) (old new : List ℕ) : Type 0 where
+  pub text : List ℕ
+  pub prints : PrintsGrid sheet first grid text
+  pub added : new ≡ old ++ text

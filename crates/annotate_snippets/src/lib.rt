@@ -45,7 +45,8 @@
 //! A builder that takes memory takes an allocator, or has one already, and answers a `Result`. `render` asks that each
 //! text has fewer than 2^56 bytes, which the check sees where it sees the texts; for texts that come from outside
 //! [`report_fits`](snippet::report_fits) is the test. Spans count bytes: [`span_at`](renderer::parts::span_at) makes
-//! one of lines and columns.
+//! one of lines and columns. Where many reports show one source, [`SourceLines`] finds its lines once, and
+//! [`Snippet::indexed`] is a snippet of these.
 //!
 //! # How it is made
 //!
@@ -82,7 +83,7 @@ pub mod text;
 pub use renderer::Renderer;
 pub use snippet::{
     Annotation, AnnotationKind, Element, Group, Message, OptionCow, Origin, Padding, Patch, Report,
-    Snippet, Title,
+    Snippet, SourceLines, Title,
 };
 pub use snippet_model::Level;
 pub use snippet_text::normalize_untrusted_str;

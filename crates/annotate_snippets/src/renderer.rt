@@ -10,6 +10,7 @@ mod form;
 mod graphic;
 mod gutter;
 mod layout;
+mod page;
 pub mod parts;
 mod paths;
 mod place;
@@ -24,16 +25,17 @@ mod validate;
 
 pub use crate::snippet::Id;
 use crate::snippet::Report;
-use drawn::{Drawn, draw, text_under, texts_under};
+use drawn::{Drawn, draw, texts_under};
 pub use error::RenderError;
 use form::form_of;
+use page::text_in_form;
 pub use snippet_model::MessageOrTitle;
 pub use snippet_style::{
     DEFAULT_ADDITION_STYLE, DEFAULT_CONTEXT_STYLE, DEFAULT_EMPHASIS_STYLE, DEFAULT_ERROR_STYLE,
     DEFAULT_HELP_STYLE, DEFAULT_INFO_STYLE, DEFAULT_LINE_NUM_STYLE, DEFAULT_NONE_STYLE,
     DEFAULT_NOTE_STYLE, DEFAULT_REMOVAL_STYLE, DEFAULT_WARNING_STYLE, DecorStyle,
 };
-use std::alloc::Global;
+use std::alloc::{AllocError, Global};
 pub use style::{AnsiColor, Color, Effects, Style, Stylesheet, open_code, reset_code};
 pub use to_writer::RenderToError;
 use validate::first_refusal;
@@ -67,7 +69,7 @@ impl Renderer {
     ghost use Rattle.annotate_snippets.specs.Fault as spec;
     ghost use Rattle.annotate_snippets.specs.Fault.{IsWithinBounds};
     ghost use Rattle.annotate_snippets.specs.Settings.{plain_settings, styled_settings};
-    ghost use Rattle.annotate_snippets.specs.FormLaws.{FormLaws, HasLaws};
+    ghost use Rattle.annotate_snippets.specs.FormLaws.{FormLaws, HasLaws, IsTextUnder};
     ghost use Rattle.annotate_snippets.specs.Forms.{AreFree, ShowsReport, TextsShown, links_in};
     ghost use Rattle.std.specs.List.{AllZip};
     ghost use Rattle.annotate_snippets.specs.Drawn.{IsDrawnAs};
@@ -284,8 +286,7 @@ impl Renderer {
             (links_in (spec.form_of self.now) self.now groups.now) (self.now.stylesheet ∷ [])
             (string_bytes text ∷ [])) }
     {
-        let drawn = self.drawn(alloc, groups)?;
-        text_under(alloc, &drawn, &self.stylesheet).map_err(RenderError::Memory)
+        self.text_in(alloc, groups, &self.stylesheet)
     }
 
     /// The texts of a report, one under each of these sheets, in order; the renderer's own sheet isn't looked at. The
@@ -326,6 +327,9 @@ impl Renderer {
         if sheets.is_empty() {
             return self.no_texts(alloc, groups);
         }
+        if let [sheet] = sheets {
+            return self.one_text(alloc, groups, sheet);
+        }
         let drawn = self.drawn(alloc, groups)?;
         texts_under(alloc, &drawn, sheets).map_err(RenderError::Memory)
     }
@@ -342,6 +346,43 @@ impl Renderer {
         }
     }
 
+    /// The text of a report under a sheet, where it isn't refused.
+    fn text_in(
+        &self,
+        alloc: Global,
+        groups: Report<'_>,
+        sheet: &Stylesheet,
+    ) -> Result<String, RenderError>
+        requires fits { ReportFits groups.now }
+        ensures refused { IfSome (spec.first_refusal self.now groups.now) (λ refusal. result ≡ Err refusal) }
+        ensures renders { IsWithinBounds self.now groups.now → IsOkUnless result (RenderError.Memory alloc_error) }
+        ensures text { IfOk result (λ text.
+            IsTextUnder (spec.form_of self.now) self.now groups.now sheet.now (string_bytes text)) }
+    {
+        let form = form_of(self);
+        if let Some(refusal) = first_refusal(form, groups) {
+            return Err(refusal);
+        }
+        text_in_form(alloc, self, form, groups, sheet).map_err(RenderError::Memory)
+    }
+
+    /// The same, as the one of a list.
+    fn one_text(
+        &self,
+        alloc: Global,
+        groups: Report<'_>,
+        sheet: &Stylesheet,
+    ) -> Result<Vec<String>, RenderError>
+        requires fits { ReportFits groups.now }
+        ensures refused { IfSome (spec.first_refusal self.now groups.now) (λ refusal. result ≡ Err refusal) }
+        ensures renders { IsWithinBounds self.now groups.now → IsOkUnless result (RenderError.Memory alloc_error) }
+        ensures text { IfOk result (λ texts. AllZip (IsTextUnder (spec.form_of self.now) self.now groups.now)
+            (sheet.now ∷ []) (map string_bytes texts.items)) }
+    {
+        let text = self.text_in(alloc, groups, sheet)?;
+        alone(alloc, text).map_err(RenderError::Memory)
+    }
+
     /// A report that isn't refused, drawn in the form that the renderer is set to.
     fn drawn<'a>(&self, alloc: Global, groups: Report<'a>) -> Result<Drawn<'a>, RenderError>
         requires fits { ReportFits groups.now }
@@ -356,4 +397,13 @@ impl Renderer {
         }
         draw(alloc, self, form, groups).map_err(RenderError::Memory)
     }
+}
+
+/// A list of one text.
+fn alone(alloc: Global, text: String) -> Result<Vec<String>, AllocError>
+    ensures value { IfOk result (λ texts. texts.items ≡ text ∷ []) }
+{
+    let mut texts = Vec::new(alloc);
+    texts.push(text)?;
+    Ok(texts)
 }

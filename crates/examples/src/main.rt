@@ -1,6 +1,7 @@
 //! Programs in small that report through `annotate_snippets`, one a module, each to be copied: a compiler, a reader of
 //! configurations, a test tool, a service that draws what strangers send, a linter of JSON, a printer of failed tests
-//! in colour; and reports after the examples of annotate-snippets. A linter that is more than small is `tidy`.
+//! in colour, a language server; and reports after the examples of annotate-snippets. A linter that is more than small
+//! is `tidy`.
 //!
 //! `main` gives each of them something to report, and prints what it answers.
 #![tactic(auto)]
@@ -9,6 +10,7 @@ mod compiler;
 mod config;
 mod failed_tests;
 mod json_linter;
+mod language_server;
 mod originals;
 mod price;
 mod service;
@@ -115,6 +117,20 @@ const FAILURE: Failure<'static> = Failure {
     },
 };
 
+/// Draws a hundred reports over one file, and prints the last of them.
+fn serve(rt: &(impl Print + AllocGlobal)) -> io::Result<()> {
+    match language_server::hundred(rt.alloc()) {
+        Ok(reports) => {
+            println!(rt; "{} reports, the last:", reports.len())?;
+            if let Some(last) = reports.last() {
+                println!(rt; "{last}")?;
+            }
+            Ok(())
+        }
+        Err(refusal) => println!(rt; "no report: {refusal}"),
+    }
+}
+
 /// Draws the four examples of annotate-snippets.
 fn draw_originals(rt: &(impl Print + AllocGlobal)) -> io::Result<()> {
     print_text(rt, originals::expected_type(rt.alloc()))?;
@@ -140,6 +156,8 @@ fn run<W: Write>(rt: &(impl Print + AllocGlobal), out: &mut W) -> io::Result<()>
     if let Err(why) = failed_tests::print(rt.alloc(), &[FAILURE], out) {
         println!(rt; "no report: {why}")?;
     }
+    println!(rt; "== a language server")?;
+    serve(rt)?;
     println!(rt; "== the examples of annotate-snippets")?;
     draw_originals(rt)
 }

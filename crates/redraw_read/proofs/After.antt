@@ -1,9 +1,9 @@
 -- What comes after some words in a text.
-use Rattle.std.proofs.Common.{◌≡◌, ◌≢◌, ◌⊎◌, ℕ, suc, zero, ◌+◌, ◌<◌, ◌≤◌, Bool, true, false, List, [], ◌∷◌, ◌++◌, Option, Some, None, drop, take, eqb, length}
-use Rattle.std.proofs.Common.{refl, sym, ap, ◌∙◌, arith, inl, inr, if◌then◌else◌, ⊎_elim}
+use Rattle.std.proofs.Common.{◌≡◌, ℕ, suc, zero, ◌+◌, ◌<◌, ◌≤◌, false, List, [], ◌∷◌, ◌++◌, Option, Some, None, drop, take, eqb, length}
+use Rattle.std.proofs.Common.{refl, sym, ap, ◌∙◌, arith, if◌then◌else◌, ⊎_elim}
 use Rattle.std.specs.List.{starts_with}
 use Rattle.std.specs.Option.{MatchOption, option_or}
-use Rattle.std.specs.Str.Pattern.{FindsText, HasTextAt, FindsTextPrefix, LacksTextAt, StripsPrefix}
+use Rattle.std.specs.Str.Pattern.{FindsText, FindsTextPrefix, LacksTextAt, StripsPrefix}
 use Rattle.std.specs.Borrow.{Bor}
 use Rattle.std.proofs.lemmas.Bool.{cases_Bool}
 use Rattle.std.proofs.lemmas.Bool.Decides.{Decides-eqb}

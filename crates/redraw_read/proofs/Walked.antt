@@ -1,7 +1,7 @@
 -- How the lines of a text are walked along.
-use Rattle.std.proofs.Common.{◌≡◌, ℕ, ◌+◌, ◌<◌, ◌≤◌, ◌==◌, List, [], ◌∷◌, ◌++◌, Option, false, true, drop, get_or, length, sym, ap, ◌∙◌}
+use Rattle.std.proofs.Common.{◌≡◌, ℕ, ◌+◌, ◌<◌, List, ◌∷◌, Option, false, drop, get_or, length, sym, ap, ◌∙◌}
 use Rattle.std.specs.Option.{option_map_or, option_or}
-use Rattle.std.proofs.lemmas.List.{at_drop_more, at_drop_all, length_push}
+use Rattle.std.proofs.lemmas.List.{at_drop_more}
 use Rattle.redraw_read.specs.Extract.{after_line, are_lines}
 use Rattle.redraw_read.specs.Rendered.{first_shown, shown_in}
 use Rattle.redraw_read.specs.declared.rendered.Stand.{Stand}

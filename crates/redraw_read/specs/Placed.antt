@@ -1,10 +1,10 @@
 -- The finding that a diagnostic reports: in which source each place and each edit is, and where there.
-use Rattle.std.specs.Prelude.{◌≡◌, ◌≢◌, ℕ, ◌⊎◌, ◌+◌, ◌-◌, ◌≤◌, codes, eqb, ◌==◌, ◌&&◌, Bool, true, false, nat_le, List, [], ◌∷◌, ◌++◌, Option, Some, None}
+use Rattle.std.specs.Prelude.{◌≡◌, ◌≢◌, ℕ, ◌⊎◌, ◌+◌, ◌-◌, ◌≤◌, codes, eqb, ◌&&◌, Bool, true, false, nat_le, List, [], ◌∷◌, ◌++◌, Option, Some, None}
 use Rattle.std.specs.Prelude.{String, drop, length, map, string_bytes, take, if◌then◌else◌}
 use Rattle.std.specs.Borrow.{Bor}
 use Rattle.std.specs.Global.{Global, Vec}
-use Rattle.std.specs.List.{All, AllZip, ends_with, filter_map, list_all, slice_get, starts_with}
-use Rattle.std.specs.Option.{option_and_then, option_map}
+use Rattle.std.specs.List.{All, AllZip, ends_with, filter_map, list_all, slice_range, starts_with}
+use Rattle.std.specs.Option.{option_map}
 use Rattle.std.specs.Str.{trim}
 use Rattle.redraw_report.specs.declared.diagnostic.Carried.{Carried}
 use Rattle.redraw_report.specs.declared.diagnostic.Child.{Child}
@@ -186,13 +186,14 @@ pub record IsLastStart (text : List ℕ) (start : ℕ) : Type 0 where
   pub last : HasNoFeed (drop start text)
 
 -- the offer of an attribute at this spot: all of the line around it is shown, of this text and with this number, and the attribute is
--- put in where the spot is in that
+-- put in where the spot is in that, before which nothing but blanks stands there
 pub record IsAttributeIn (text : List ℕ) (number : ℕ) (s : Spot) (e : Edit) (o : Offer) : Type 0 where
   pub line : List ℕ
   pub before : List ℕ
   pub is_line : IsLineIn text line before
   pub from : length before ≤ s.start
   pub to : s.start ≤ length before + length line
+  pub alone : trim (slice_range text (length before) s.start) ≡ []
   pub path : o.source.path.now ≡ s.source.path.now
   pub shows : sight_of o.source.content ≡ Lines line number
   pub edited : map edited_of o.changes.items

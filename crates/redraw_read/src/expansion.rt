@@ -44,28 +44,27 @@ fn has_text(span: &Value) -> bool {
     }
 }
 
-/// The place that is shown for a place: where the macros around it were called, if its own source isn't at hand.
+/// The place that is shown for a place: where the macros around it were called, if that source is at hand and its own
+/// isn't.
 pub fn shown_place(span: &Value) -> &Value {
-    if has_text(span) {
-        return span;
+    match outermost(span) {
+        Some(expansion) if is_call_shown(span, expansion) => expansion.get("span").unwrap_or(span),
+        _ => span,
     }
-    outermost_call(span).unwrap_or(span)
 }
 
-/// Where the outermost macro around a place was called.
-fn outermost_call(span: &Value) -> Option<&Value> {
-    match outermost(span) {
-        Some(expansion) => expansion.get("span"),
-        None => None,
-    }
+/// Whether the call of a macro is at hand, and a place in that macro isn't.
+fn is_call_shown(span: &Value, expansion: &Value) -> bool {
+    !has_text(span) && expansion.get("span").map_or(false, has_text)
 }
 
 /// The call around a place that is shown beside it, and how: none where the place is shown in it.
 pub fn told_call(span: &Value) -> Option<(&Value, &'static str)> {
-    if !has_text(span) {
+    let expansion = outermost(span)?;
+    if is_call_shown(span, expansion) {
         return None;
     }
-    match outermost(span).and_then(labelled_call) {
+    match labelled_call(expansion) {
         Some((call, label)) if !is_inside(span, call) => Some((call, label)),
         _ => None,
     }
@@ -160,8 +159,8 @@ impl<'v> Macros<'v> {
         macros
     }
 
-    /// What rustc's text says of the macros that a diagnostic of this level originates in. Of those whose source isn't
-    /// at hand it says nothing.
+    /// What rustc's text says of the macros that a diagnostic of this level originates in. Of those of which the call
+    /// alone is at hand it says nothing.
     pub fn note(&self, alloc: Global, level: &str) -> Result<Option<String>, AllocError> {
         match (
             self.first.and_then(macro_name),
@@ -173,12 +172,11 @@ impl<'v> Macros<'v> {
     }
 }
 
-/// What kind of macro an expansion is of, and its name, if the macro's source is at hand.
+/// What kind of macro an expansion is of, and its name, if more of the macro is at hand than its call.
 fn told_name(expansion: &Value) -> Option<(&'static str, &str)> {
-    if expansion.get("def_site_span").map_or(false, has_text) {
-        macro_name(expansion)
-    } else {
-        None
+    match expansion.get("def_site_span") {
+        Some(site) if !is_call_shown(site, expansion) => macro_name(expansion),
+        _ => None,
     }
 }
 

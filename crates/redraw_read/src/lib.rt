@@ -12,6 +12,7 @@ mod headings;
 pub mod json;
 mod lines;
 mod offers;
+mod order;
 pub mod place;
 mod plain;
 pub mod rendered;

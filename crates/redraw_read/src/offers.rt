@@ -1,8 +1,9 @@
 //! The suggestions that alternatives become: the edits of one are made together, in one source, or it isn't drawn.
 
 ghost use Rattle.std.specs.Prelude.{◌≡◌, ◌+◌, ◌≤◌, ◌++◌, ◌∷◌, [], Some, None, true, false, if◌then◌else◌, ◌&&◌};
-ghost use Rattle.std.specs.Prelude.{IfOk, IfSome, OnOk, length, map, string_bytes, take};
-ghost use Rattle.std.specs.List.{AllZip, filter_map};
+ghost use Rattle.std.specs.Prelude.{IfOk, IfSome, IsTrue, OnOk, length, map, string_bytes, take};
+ghost use Rattle.std.specs.List.{AllZip, filter_map, slice_range};
+ghost use Rattle.std.specs.Str.{trim};
 ghost use Rattle.std.specs.Option.{option_map};
 ghost use Rattle.redraw_report.specs.Report.{edited_of};
 ghost use Rattle.redraw_read.specs.Placed as spec;
@@ -254,7 +255,8 @@ fn attribute_if<'a>(
     }
 }
 
-/// The offer of an attribute, which is shown with the line that it stands above.
+/// The offer of an attribute, which is shown with the line that it stands above. One that stands behind code is an edit
+/// like any other.
 fn attribute_in<'a>(
     alloc: Global,
     text: &'a str,
@@ -265,12 +267,22 @@ fn attribute_in<'a>(
     ensures is { IfOk result (λ offer. IfSome offer (IsAttributeIn text.now number spot.now edit.now)) }
 {
     match line_around(text, spot.start) {
-        Some(line) => {
+        Some(line) if is_blank_from(text, line.start, spot.start) => {
             let at = spot.start.saturating_sub(line.start);
             let changes = one_change(alloc, at, edit)?;
             Ok(Some(line_offer(spot.source.path, line.text, number, changes)))
         }
-        None => Ok(None),
+        _ => Ok(None),
+    }
+}
+
+/// Whether there is nothing but blanks between two bytes of a text.
+fn is_blank_from(text: &str, start: usize, end: usize) -> bool
+    ensures blank { IsTrue result → trim (slice_range text.now start end) ≡ [] }
+{
+    match text.get(start..end) {
+        Some(between) => between.trim().is_empty(),
+        None => false,
     }
 }
 

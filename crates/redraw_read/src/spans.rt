@@ -3,6 +3,7 @@
 use crate::calls::add_call;
 use crate::expansion::shown_place;
 use crate::json::{given, given_text, listed, owned, values_of};
+use crate::order::settle_order;
 use crate::roles::settle_roles;
 use json_node::expectation::Expectation;
 use json_node::fault::Fault;
@@ -18,6 +19,7 @@ pub fn spans_of(node: &Node<'_, '_>) -> Result<Vec<FileSpan>, Fault> {
     let mut spans = each_span(&list, values)?;
     add_calls(&list, values, &mut spans)?;
     settle_roles(&mut spans);
+    settle_order(&mut spans);
     Ok(spans)
 }
 

@@ -12,7 +12,7 @@ ghost use Rattle.redraw_report.specs.declared.diagnostic.Severity.TheVariants.{N
 use crate::diagnostic::Severity;
 use crate::finding::{Content, Mark, Shown, is_same};
 use crate::titles::message_of;
-use snippet_model::{Annotation, AnnotationKind, Element, Origin, Padding, Snippet};
+use snippet_model::{Annotation, AnnotationKind, Element, Origin, Padding, Snippet, SourceText};
 use snippet_text::CowStr;
 use std::alloc::{AllocError, Global};
 
@@ -256,7 +256,7 @@ fn add_marked<'a>(
     elements.push(Element::Cause(Snippet {
         path: Some(CowStr::Borrowed(source.path)),
         line_start: first_line,
-        source: text,
+        source: SourceText::new(text),
         markers,
         line_numbering: true,
         fold: true,

@@ -1,5 +1,5 @@
 -- The case that a value of JSON describes: its settings, its sheets and its groups, by the fields of the value.
-use Rattle.std.specs.Prelude.{◌≡◌, Bool, false, Option, Some, None, codes, if◌then◌else◌}
+use Rattle.std.specs.Prelude.{◌≡◌, ℕ, List, Bool, false, Option, Some, None, codes, if◌then◌else◌}
 use Rattle.annotate_snippets.specs.Settings.{plain_settings}
 use Rattle.annotate_snippets.specs.declared.renderer.DecorStyle.{DecorStyle}
 use Rattle.annotate_snippets.specs.declared.renderer.DecorStyle.TheVariants.{Ascii, Unicode}
@@ -7,7 +7,7 @@ use Rattle.annotate_snippets.specs.declared.renderer.Renderer.{Renderer}
 use Rattle.serde_json.specs.Data.{Data}
 use Rattle.serde_json.specs.Find.{as_bool}
 use Rattle.json_node.specs.Field.{SaysAt, ListSays, as_whole, given, given_or, text_at}
-use Rattle.replay_read.specs.Report.{IsGroupOf}
+use Rattle.replay_read.specs.Report.{AreSourcesOf, IsGroupOf}
 use Rattle.replay_read.specs.Sheet.{AreSheetsOf}
 use Rattle.replay_read.specs.Shape.{HasShape}
 use Rattle.replay_read.specs.declared.shape.Shape.TheVariants as shape
@@ -40,4 +40,6 @@ pub record IsCaseOf (d : Data) (case : Case) : Type 0 where
   pub id : text_at (codes "id") d ≡ Some case.id.now
   pub renderer : MayHaveSettings (given (codes "settings") d) case.renderer
   pub sheets : AreSheetsOf (given (codes "sheets") d) case.sheets.items
-  pub groups : SaysAt (ListSays IsGroupOf) (codes "groups") d case.groups.items
+  pub sources : List (List ℕ)
+  pub sources_are : AreSourcesOf (given (codes "sources") d) sources
+  pub groups : SaysAt (ListSays (IsGroupOf sources)) (codes "groups") d case.groups.items

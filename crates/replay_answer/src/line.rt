@@ -13,7 +13,7 @@ ghost use Rattle.replay_answer.specs.declared.outcome.Outcome.{Outcome};
 use crate::answer::{answer_json, column_words, told_json};
 use crate::case::Case;
 use crate::outcome::outcome_of;
-use crate::read::case_of;
+use crate::read::{case_of, case_sources};
 use json_node::fault::Fault;
 use serde_json::{Error, Value};
 use std::alloc::{AllocError, Global};
@@ -55,10 +55,23 @@ fn value_answer(alloc: Global, value: &Value) -> Result<String, AllocError>
     ensures answers { IfOk result (λ text. AnswersAs (view value.now) (string_bytes text)
         ⊎ TellsAs (string_bytes text)) }
 {
-    match case_of(alloc, value) {
+    let sources = match case_sources(alloc, value) {
+        Ok(sources) => sources,
+        Err(fault) => return fault_answer(alloc, fault),
+    };
+    match case_of(alloc, value, &sources) {
         Ok(case) => case_answer(alloc, &case),
-        Err(Fault::Wrong(words)) => told_json(alloc, words.as_str(), 1),
-        Err(Fault::Memory) => Err(AllocError),
+        Err(fault) => fault_answer(alloc, fault),
+    }
+}
+
+/// The answer to a line that holds a value with this fault.
+fn fault_answer(alloc: Global, fault: Fault) -> Result<String, AllocError>
+    ensures told { IfOk result (λ text. TellsAs (string_bytes text)) }
+{
+    match fault {
+        Fault::Wrong(words) => told_json(alloc, words.as_str(), 1),
+        Fault::Memory => Err(AllocError),
     }
 }
 

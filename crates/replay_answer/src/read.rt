@@ -8,35 +8,56 @@ ghost use Rattle.serde_json.specs.View.{view};
 ghost use Rattle.json_node.specs.Field.{given, given_or};
 ghost use Rattle.replay_answer.specs.Case.{HasSettingsOf, IsCaseOf, MayHaveSettings};
 ghost use Rattle.replay_answer.specs.Case as spec;
+ghost use Rattle.replay_read.specs.Report.{AreSourcesOf};
 
 use crate::case::Case;
-use annotate_snippets::Renderer;
 use annotate_snippets::renderer::{DEFAULT_TERM_WIDTH, DecorStyle, Stylesheet};
+use annotate_snippets::{Renderer, SourceLines};
 use json_node::fault::Fault;
 use json_node::node::Node;
 use json_node::place::Place;
-use replay_read::list::list_at;
+use replay_read::list::parts_at;
 use replay_read::shape::{Shape, has_shape};
 use replay_read::sheet::sheets_of;
+use replay_read::source::sources_of;
 use serde_json::Value;
 use std::alloc::Global;
 
-/// The case that a line describes.
-pub fn case_of<'v>(alloc: Global, line: &'v Value) -> Result<Case<'v>, Fault>
-    ensures value { IfOk result (IsCaseOf (view line.now)) }
-    ensures fits { IfOk result (λ case. ReportFits case.groups.items) }
+/// The sources that the case of a line names: their lines are found here, once.
+pub fn case_sources<'v>(alloc: Global, line: &'v Value) -> Result<Vec<SourceLines<'v>>, Fault>
+    ensures value { IfOk result (λ sources. AreSourcesOf (given (codes "sources") (view line.now)) sources.items) }
 {
-    let case = Node {
+    sources_of(&whole_line(alloc, line))
+}
+
+/// A line, where nothing of it was read.
+fn whole_line<'v>(alloc: Global, line: &'v Value) -> Node<'v, 'static>
+    ensures value { result.value.now ≡ line.now }
+{
+    Node {
         alloc,
         value: line,
         place: Place::Line,
-    };
+    }
+}
+
+/// The case that a line describes, whose sources are these.
+pub fn case_of<'v>(
+    alloc: Global,
+    line: &'v Value,
+    sources: &'v [SourceLines<'_>],
+) -> Result<Case<'v>, Fault>
+    requires sources { AreSourcesOf (given (codes "sources") (view line.now)) sources.now }
+    ensures value { IfOk result (IsCaseOf (view line.now)) }
+    ensures fits { IfOk result (λ case. ReportFits case.groups.items) }
+{
+    let case = whole_line(alloc, line);
     has_shape(&case, Shape::Case)?;
     Ok(Case {
         id: case.text("id")?,
         renderer: renderer_of(&case)?,
         sheets: sheets_of(&case)?,
-        groups: list_at(&case, "groups")?,
+        groups: parts_at(&case, "groups", sources)?,
     })
 }
 

@@ -1,6 +1,7 @@
 -- The groups that a value of JSON describes: what each part of them is, by the fields of the value. A field that is named by no rule
 -- here, and one of another type, makes a value that describes none.
-use Rattle.std.specs.Prelude.{◌≡◌, ℕ, true, false, not, List, Option, Some, None, codes, is_some, option_and_then, option_map}
+use Rattle.std.specs.Prelude.{◌≡◌, ℕ, ◌<◌, ◌⊎◌, true, false, not, List, [], Option, Some, None, codes, is_some, length, option_and_then, option_map}
+use Rattle.std.specs.Prelude.{slice_index_or}
 use Rattle.std.specs.Cow.{cow_str_bytes}
 use Rattle.snippet_model.specs.declared.level.LevelName.{LevelName}
 use Rattle.snippet_model.specs.declared.level.LevelName.TheVariants.{Standard, Hidden, Own}
@@ -64,11 +65,21 @@ pub record AreMarkersOf {T : Type 0} (Says : List ℕ → Option SpanUnit → Da
   pub unit_is : MaySayAt IsUnit (codes "unit") d unit
   pub marked : SaysAt (ListSays (Says source unit)) name d markers
 
--- a snippet of this shape, whose markers stand under this name and say what Says tells
-pub record IsSnippetOf {T : Type 0} (Says : List ℕ → Option SpanUnit → Data → T → Type 0) (its : Shape) (markers : List ℕ) (d : Data)
-    (snippet : Snippet T) : Type 0 where
+-- the sources that a case names: none, or a list of texts
+abbrev pub AreSourcesOf : Option Data → List (List ℕ) → Type 0
+AreSourcesOf None sources = sources ≡ []
+AreSourcesOf (Some d) sources = ListSays (λ e source. as_str e ≡ Some source) d sources
+
+-- a source: a text, or the number of one of these, from 0
+abbrev pub IsSourceOf : List (List ℕ) → Data → List ℕ → Type 0
+IsSourceOf sources d source =
+    (as_str d ≡ Some source) ⊎ ((n : ℕ) × (as_whole d ≡ Some n) × (n < length sources) × (source ≡ slice_index_or sources n []))
+
+-- a snippet of this shape, whose source is a text or one of these, and whose markers stand under this name and say what Says tells
+pub record IsSnippetOf {T : Type 0} (Says : List ℕ → Option SpanUnit → Data → T → Type 0) (its : Shape) (markers : List ℕ)
+    (sources : List (List ℕ)) (d : Data) (snippet : Snippet T) : Type 0 where
   pub only : HasShape its d
-  pub source : text_at (codes "source") d ≡ Some (cow_str_bytes snippet.source)
+  pub source : SaysAt (IsSourceOf sources) (codes "source") d (cow_str_bytes snippet.source)
   pub path : optional_at as_str (codes "path") d ≡ Some (option_map cow_str_bytes snippet.path)
   pub line_start : given_or as_whole 1 (codes "line_start") d ≡ Some snippet.line_start
   pub line_numbering : given_or as_bool true (codes "line_numbering") d ≡ Some snippet.line_numbering
@@ -100,24 +111,24 @@ pub record IsOriginOf (d : Data) (origin : Origin) : Type 0 where
 abbrev pub IsPaddingOf : Data → Padding → Type 0
 IsPaddingOf d padding = HasShape shape.Padding d
 
--- an element: an object with one field, whose name tells which
-abbrev pub IsElementOf : Data → Element → Type 0
-IsElementOf d (element.Message message) = OnlySays IsMessageOf (codes "message") d message
-IsElementOf d (element.Cause snippet) =
-    OnlySays (IsSnippetOf IsAnnotationOf shape.Cause (codes "annotations")) (codes "cause") d snippet
-IsElementOf d (element.Suggestion snippet) =
-    OnlySays (IsSnippetOf IsPatchOf shape.Suggestion (codes "patches")) (codes "suggestion") d snippet
-IsElementOf d (element.Origin origin) = OnlySays IsOriginOf (codes "origin") d origin
-IsElementOf d (element.Padding padding) = OnlySays IsPaddingOf (codes "padding") d padding
+-- an element: an object with one field, whose name tells which; snippets may be of these sources
+abbrev pub IsElementOf : List (List ℕ) → Data → Element → Type 0
+IsElementOf sources d (element.Message message) = OnlySays IsMessageOf (codes "message") d message
+IsElementOf sources d (element.Cause snippet) =
+    OnlySays (IsSnippetOf IsAnnotationOf shape.Cause (codes "annotations") sources) (codes "cause") d snippet
+IsElementOf sources d (element.Suggestion snippet) =
+    OnlySays (IsSnippetOf IsPatchOf shape.Suggestion (codes "patches") sources) (codes "suggestion") d snippet
+IsElementOf sources d (element.Origin origin) = OnlySays IsOriginOf (codes "origin") d origin
+IsElementOf sources d (element.Padding padding) = OnlySays IsPaddingOf (codes "padding") d padding
 
 -- the kind of a group's level: that of its title, or where it has none of its own level
 abbrev pub IsKindOf : Data → Option Title → LevelInner → Type 0
 IsKindOf d None kind = (level : Level) × SaysAt IsLevelOf (codes "level") d level × (kind ≡ level.kind)
 IsKindOf d (Some title) kind = kind ≡ title.level.kind
 
--- a group: its title, its level, and its elements
-pub record IsGroupOf (d : Data) (group : Group) : Type 0 where
+-- a group: its title, its level, and its elements; snippets may be of these sources
+pub record IsGroupOf (sources : List (List ℕ)) (d : Data) (group : Group) : Type 0 where
   pub only : HasShape shape.Group d
   pub title : SaysAt (OrNull IsTitleOf) (codes "title") d group.title
   pub level : IsKindOf d group.title group.level
-  pub elements : SaysAt (ListSays IsElementOf) (codes "elements") d group.elements.items
+  pub elements : SaysAt (ListSays (IsElementOf sources)) (codes "elements") d group.elements.items

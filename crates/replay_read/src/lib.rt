@@ -7,4 +7,5 @@ pub mod list;
 pub mod report;
 pub mod shape;
 pub mod sheet;
+pub mod source;
 pub mod span;

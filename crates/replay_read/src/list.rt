@@ -12,6 +12,7 @@ use crate::span::Ruler;
 use json_node::expectation::Expectation;
 use json_node::fault::Fault;
 use json_node::node::Node;
+use snippet_lines::SourceLines;
 
 /// What an item of a list may be read as.
 pub trait Read<'v> {
@@ -24,6 +25,20 @@ pub trait Read<'v> {
     /// What the item is read as; a fault where it isn't what is expected.
     fn read(node: &Node<'v, '_>) -> Result<Self, Fault>
         ensures value { IfOk result (says (view node.now.value.now)) }
+        ensures fits { IfOk result fits };
+}
+
+/// What a part of a report may be read as, by the sources that its case names.
+pub trait Part<'v> {
+    /// What an item says, where these are the sources and it is read as this.
+    ghost says: { List (List ℕ) → Data → Self → Type 0 };
+
+    /// What holds of whatever is read: that its texts fit.
+    ghost fits: { Self → Type 0 };
+
+    /// What the item is read as; a fault where it isn't what is expected.
+    fn read(node: &Node<'v, '_>, sources: &'v [SourceLines<'_>]) -> Result<Self, Fault>
+        ensures value { IfOk result (says sources.now (view node.now.value.now)) }
         ensures fits { IfOk result fits };
 }
 
@@ -63,6 +78,18 @@ impl<'v> Read<'v> for &'v str {
     }
 }
 
+/// A source, whose lines are found once.
+impl<'v> Read<'v> for SourceLines<'v> {
+    ghost says = { λ d source. as_str d ≡ Some source };
+
+    ghost fits = { TextFits };
+
+    fn read(node: &Node<'v, '_>) -> Result<Self, Fault> {
+        let source = node.as_text()?;
+        Ok(SourceLines::new(node.alloc, source)?)
+    }
+}
+
 /// What the items of the list are read as, in order.
 pub fn items_of<'v, T: Read<'v> + Drop>(list: &Node<'v, '_>) -> Result<Vec<T>, Fault>
     ensures value { IfOk result (λ xs. ListSays T.says (view list.now.value.now) xs.items) }
@@ -84,6 +111,37 @@ pub fn list_at<'v, T: Read<'v> + Drop>(object: &Node<'v, '_>, name: &str) -> Res
     ensures fits { IfOk result (λ xs. All T.fits xs.items) }
 {
     items_of(&object.needed(name, Expectation::List)?)
+}
+
+/// What the items of the list in the field of this name are read as, in order, by these sources.
+pub fn parts_at<'v, T: Part<'v> + Drop>(
+    object: &Node<'v, '_>,
+    name: &str,
+    sources: &'v [SourceLines<'_>],
+) -> Result<Vec<T>, Fault>
+    ensures value { IfOk result (λ xs.
+        SaysAt (ListSays (T.says sources.now)) name.now (view object.now.value.now) xs.items) }
+    ensures fits { IfOk result (λ xs. All T.fits xs.items) }
+{
+    parts_of(&object.needed(name, Expectation::List)?, sources)
+}
+
+/// What the items of a list are read as, in order, by these sources.
+fn parts_of<'v, T: Part<'v> + Drop>(
+    list: &Node<'v, '_>,
+    sources: &'v [SourceLines<'_>],
+) -> Result<Vec<T>, Fault>
+    ensures value { IfOk result (λ xs. ListSays (T.says sources.now) (view list.now.value.now) xs.items) }
+    ensures fits { IfOk result (λ xs. All T.fits xs.items) }
+{
+    let Some(values) = list.value.as_array() else {
+        return Err(list.unexpected(Expectation::List));
+    };
+    let mut items = Vec::new(list.alloc);
+    for (index, value) in values.iter().enumerate() {
+        items.push(T::read(&list.item(index, value), sources)?)?;
+    }
+    Ok(items)
 }
 
 /// What the items of a list of markers are read as, in order.

@@ -1,6 +1,6 @@
 //! How groups are read: which fields there are, which of them may be missing, and what they then are.
 
-ghost use Rattle.std.specs.Prelude.{◌≡◌, Some, true, All, IfOk, IfSome, codes, option_and_then, option_map};
+ghost use Rattle.std.specs.Prelude.{◌≡◌, ℕ, List, Some, true, All, IfOk, IfSome, codes, option_and_then, option_map};
 ghost use Rattle.std.specs.Cow.{cow_str_bytes};
 ghost use Rattle.snippet_model.specs.Fits.{GroupFits, IdFits, TitleFits, LevelFits, MessageFits, ElementFits};
 ghost use Rattle.snippet_model.specs.Fits.{AnnotationFits, PatchFits, SnippetFits, TextFits};
@@ -12,13 +12,15 @@ ghost use Rattle.replay_read.specs.Report.{IsMessageOf, IsNameOf};
 ghost use Rattle.replay_read.specs.Report.{IsOriginOf, IsPatchOf, IsSnippetOf, IsTitleOf};
 ghost use Rattle.replay_read.specs.Kinds.{NameFits, kind_name, mark_name};
 
-use crate::list::{Marker, Read, list_at, markers_of};
+use crate::list::{Marker, Part, markers_of, parts_at};
 use crate::shape::{FormatValue, Shape, has_shape};
+use crate::source::source_in;
 use crate::span::{Ruler, span_of, unit_in};
 use json_node::expectation::Expectation;
 use json_node::fault::Fault;
 use json_node::node::Node;
 use json_node::scalars::lent;
+use snippet_lines::SourceLines;
 use snippet_model::level::LevelName;
 use snippet_model::{
     Annotation, AnnotationKind, Element, Group, Id, Level, Message, Origin, Padding, Patch,
@@ -27,15 +29,15 @@ use snippet_model::{
 use snippet_style::LevelInner;
 use snippet_text::CowStr;
 
-impl<'v> Read<'v> for Group<'v> {
+impl<'v> Part<'v> for Group<'v> {
     ghost says = { IsGroupOf };
 
     ghost fits = { GroupFits };
 
-    fn read(node: &Node<'v, '_>) -> Result<Self, Fault> {
+    fn read(node: &Node<'v, '_>, sources: &'v [SourceLines<'_>]) -> Result<Self, Fault> {
         has_shape(node, Shape::Group)?;
         let title = title_or_null(&node.needed("title", FormatValue::ObjectOrNull)?)?;
-        let elements = list_at(node, "elements")?;
+        let elements = parts_at(node, "elements", sources)?;
         let level = match &title {
             Some(title) => title.level.kind,
             None => level_in(node)?.kind,
@@ -161,21 +163,23 @@ fn kind_of(node: &Node<'_, '_>) -> Result<LevelInner, Fault>
     Err(node.unexpected(FormatValue::LevelKind))
 }
 
-impl<'v> Read<'v> for Element<'v> {
+impl<'v> Part<'v> for Element<'v> {
     ghost says = { IsElementOf };
 
     ghost fits = { ElementFits };
 
-    fn read(node: &Node<'v, '_>) -> Result<Self, Fault> {
+    fn read(node: &Node<'v, '_>, sources: &'v [SourceLines<'_>]) -> Result<Self, Fault> {
         has_shape(node, Shape::Element)?;
         if let Some(message) = node.only_field("message") {
             return Ok(Element::Message(message_of(&message)?));
         }
         if let Some(cause) = node.only_field("cause") {
-            return Ok(Element::Cause(snippet_of(&cause, Shape::Cause, "annotations")?));
+            let snippet = snippet_of(&cause, Shape::Cause, "annotations", sources)?;
+            return Ok(Element::Cause(snippet));
         }
         if let Some(suggestion) = node.only_field("suggestion") {
-            return Ok(Element::Suggestion(snippet_of(&suggestion, Shape::Suggestion, "patches")?));
+            let snippet = snippet_of(&suggestion, Shape::Suggestion, "patches", sources)?;
+            return Ok(Element::Suggestion(snippet));
         }
         bare_element(node)
     }
@@ -183,7 +187,7 @@ impl<'v> Read<'v> for Element<'v> {
 
 /// The element that is neither a message nor a snippet.
 fn bare_element<'v>(node: &Node<'v, '_>) -> Result<Element<'v>, Fault>
-    ensures value { IfOk result (IsElementOf (view node.now.value.now)) }
+    ensures value { (sources : List (List ℕ)) → IfOk result (IsElementOf sources (view node.now.value.now)) }
     ensures fits { IfOk result ElementFits }
 {
     if let Some(origin) = node.only_field("origin") {
@@ -210,22 +214,24 @@ fn message_of<'v>(node: &Node<'v, '_>) -> Result<Message<'v>, Fault>
     })
 }
 
-/// The snippet of this shape that is described, with the markers in the field of this name.
+/// The snippet of this shape that is described, of a text or one of these sources, with the markers in the field of
+/// this name.
 fn snippet_of<'v, T: Marker<'v> + Drop>(
     node: &Node<'v, '_>,
     shape: Shape,
     markers: &str,
+    sources: &'v [SourceLines<'_>],
 ) -> Result<Snippet<'v, T>, Fault>
-    ensures value { IfOk result (IsSnippetOf T.says shape markers.now (view node.now.value.now)) }
+    ensures value { IfOk result (IsSnippetOf T.says shape markers.now sources.now (view node.now.value.now)) }
     ensures fits { IfOk result (SnippetFits T.fits) }
 {
     has_shape(node, shape)?;
-    let source = node.text("source")?;
+    let source = source_in(node, sources)?;
     let path = node.optional_text("path")?;
     let (line_start, line_numbering, fold) = lines_of(node)?;
-    let markers = marked_in(node, markers, source)?;
+    let markers = marked_in(node, markers, source.as_str())?;
     Ok(Snippet {
-        source: CowStr::Borrowed(source),
+        source,
         path: lent(path),
         line_start,
         line_numbering,

@@ -94,7 +94,7 @@ impl Shape {
         ensures value { lent_texts result.now ≡ names_of self }
     {
         match self {
-            Shape::Case => &["id", "settings", "sheets", "groups"],
+            Shape::Case => &["id", "settings", "sheets", "sources", "groups"],
             Shape::Settings => SETTINGS,
             Shape::Sheet => SHEET,
             Shape::Style => &["fg", "bg", "effects"],
@@ -131,6 +131,8 @@ pub enum FormatValue {
     LevelKind,
     AnnotationKind,
     SpanUnit,
+    /// The source of a snippet.
+    Source,
     /// Nothing, beside a span's places.
     NoNumber,
     Element,
@@ -147,6 +149,7 @@ impl fmt::Display for FormatValue {
             FormatValue::LevelKind => "\"error\", \"warning\", \"info\", \"note\" or \"help\"",
             FormatValue::AnnotationKind => "\"primary\", \"context\" or \"visible\"",
             FormatValue::SpanUnit => "\"byte\", \"char\" or \"utf16\"",
+            FormatValue::Source => "a text, or the number of one of the sources",
             FormatValue::NoNumber => "nothing beside from and to",
             FormatValue::Element => {
                 "an object with one of message, cause, suggestion, origin and padding"

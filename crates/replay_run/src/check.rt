@@ -8,7 +8,7 @@ ghost use Rattle.replay_run.specs.Growth.{Grows};
 ghost use Rattle.replay_run.specs.Checked.{CountsLines, ChecksCase, ChecksLine, most};
 
 use crate::expected::{Expected, expected_of, write_wanted};
-use crate::lines::{numbered_case, value_of, write_line, write_outcome};
+use crate::lines::{numbered_case, numbered_sources, value_of, write_line, write_outcome};
 use crate::problem::{Line, Problem, wrong_line};
 use replay_answer::outcome::{Outcome, outcome_of};
 use serde_json::Value;
@@ -132,7 +132,8 @@ fn compare_line<W: Write>(
     ensures silent { IfOk result (λ passes. passes ≡ true → out.new ≡ out.old) }
 {
     let value = value_of(alloc, Line::Case(number), line)?;
-    let case = numbered_case(alloc, &value, number)?;
+    let sources = numbered_sources(alloc, &value, number)?;
+    let case = numbered_case(alloc, &value, &sources, number)?;
     let outcome = outcome_of(alloc, &case)?;
     let passes = check_case(alloc, expected, case.id, &outcome, out)?;
     Ok(passes)

@@ -1,7 +1,7 @@
 //! Lines of cases, answered one after another. Nothing of a line is kept after it.
 
 ghost use Rattle.std.specs.Prelude.{◌≡◌, ◌⊎◌, ℕ, Bool, ◌||◌, true, List, ◌++◌, Some, OnOk, IfErr, IfOk, IsOkAnd};
-ghost use Rattle.std.specs.Prelude.{string_bytes};
+ghost use Rattle.std.specs.Prelude.{codes, string_bytes};
 ghost use Rattle.std.specs.Io.KnownBytes.{Appends};
 ghost use Rattle.annotate_snippets.specs.Fits.{ReportFits};
 ghost use Rattle.serde_json.specs.Errors.{IsMemory};
@@ -15,15 +15,18 @@ ghost use Rattle.replay_run.specs.Answer.{told_text};
 ghost use Rattle.replay_run.specs.Answered.{AnswersReader, StopsFor, StopsLine, StopsReader};
 ghost use Rattle.replay_answer.specs.Outcome.{IsOutcomeOf};
 ghost use Rattle.replay_answer.specs.Case.{IsCaseOf};
+ghost use Rattle.replay_read.specs.Report.{AreSourcesOf};
+ghost use Rattle.json_node.specs.Field.{given};
 ghost use Rattle.replay_run.specs.Problem.{IsFault, IsFinal, IsMisread, IsProblemWith};
 ghost use Rattle.replay_answer.specs.declared.outcome.Outcome.{Outcome};
 
 use crate::problem::{Line, Problem, fault_words, wrong_line};
+use annotate_snippets::SourceLines;
 use program::line::write_whole;
 use replay_answer::answer::{answer_json, told_json};
 use replay_answer::case::Case;
 use replay_answer::outcome::{Outcome, outcome_of};
-use replay_answer::read::case_of;
+use replay_answer::read::{case_of, case_sources};
 use serde_json::{Error, Value};
 use std::alloc::{AllocError, Global};
 use std::io;
@@ -263,7 +266,8 @@ fn text_of(
     ensures answers { IfOk result (λ text. AnswersValue form is_first (view value.now) text.items) }
     ensures misread { IfErr result (IsMisread (Line.Case number)) }
 {
-    match numbered_case(alloc, value, number) {
+    let sources = numbered_sources(alloc, value, number)?;
+    match numbered_case(alloc, value, &sources, number) {
         Ok(case) => match case_text(alloc, &case, form, is_first) {
             Ok(text) => Ok(text),
             Err(AllocError) => Err(Problem::Memory),
@@ -290,13 +294,34 @@ fn case_text(
     }
 }
 
-/// The case that the line of this number describes.
-pub fn numbered_case<'v>(alloc: Global, value: &'v Value, number: u64) -> Result<Case<'v>, Problem>
+/// The sources that the case of the line of this number names.
+pub fn numbered_sources<'v>(
+    alloc: Global,
+    value: &'v Value,
+    number: u64,
+) -> Result<Vec<SourceLines<'v>>, Problem>
+    ensures value { IfOk result (λ sources. AreSourcesOf (given (codes "sources") (view value.now)) sources.items) }
+    ensures misread { IfErr result (IsMisread (Line.Case number)) }
+{
+    match case_sources(alloc, value) {
+        Ok(sources) => Ok(sources),
+        Err(fault) => Err(wrong_line(Line::Case(number), fault)),
+    }
+}
+
+/// The case that the line of this number describes, whose sources are these.
+pub fn numbered_case<'v>(
+    alloc: Global,
+    value: &'v Value,
+    sources: &'v [SourceLines<'_>],
+    number: u64,
+) -> Result<Case<'v>, Problem>
+    requires sources { AreSourcesOf (given (codes "sources") (view value.now)) sources.now }
     ensures value { IfOk result (IsCaseOf (view value.now)) }
     ensures fits { IfOk result (λ case. ReportFits case.groups.items) }
     ensures misread { IfErr result (IsMisread (Line.Case number)) }
 {
-    match case_of(alloc, value) {
+    match case_of(alloc, value, sources) {
         Ok(case) => Ok(case),
         Err(fault) => Err(wrong_line(Line::Case(number), fault)),
     }

@@ -2,7 +2,7 @@
 
 ghost use Rattle.annotate_snippets.specs.Fits.{ReportFits};
 
-use crate::lines::{numbered_case, value_of};
+use crate::lines::{numbered_case, numbered_sources, value_of};
 use crate::problem::{Line, Problem};
 use annotate_snippets::renderer::RenderError;
 use replay_answer::case::Case;
@@ -32,7 +32,8 @@ pub fn repeat_lines<K: Clock, B: BufRead + Drop>(
     for line in input.lines(alloc) {
         number = number.saturating_add(1);
         let value = value_of(alloc, Line::Case(number), line)?;
-        let case = numbered_case(alloc, &value, number)?;
+        let sources = numbered_sources(alloc, &value, number)?;
+        let case = numbered_case(alloc, &value, &sources, number)?;
         *tally = repeat_case(clock, alloc, &case, times, *tally)?;
     }
     Ok(())

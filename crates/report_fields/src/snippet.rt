@@ -9,7 +9,7 @@ use crate::fault::ReadError;
 use crate::field::{flag, kind, number, text};
 use crate::kind::mark;
 use crate::part::{Part, list, option};
-use snippet_model::{Annotation, Patch, Snippet};
+use snippet_model::{Annotation, Patch, Snippet, SourceText};
 use std::alloc::Global;
 use std::ops::Range;
 
@@ -31,7 +31,7 @@ impl<'v, T: Part<'v> + Drop> Part<'v> for Snippet<'v, T> {
         let snippet = Snippet {
             path,
             line_start,
-            source,
+            source: SourceText::new(source),
             markers,
             line_numbering,
             fold,

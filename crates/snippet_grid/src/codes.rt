@@ -59,21 +59,26 @@ impl SheetCodes {
     }
 
     /// Whether the styles at two places differ.
+    #[inline(always)]
     pub(crate) fn differ(&self, a: usize, b: usize) -> bool
         requires within { a < 11 × (b < 11) }
         ensures yes { result ≡ true → style_at self.now a ≢ style_at self.now b }
         ensures no { result ≡ false → style_at self.now a ≡ style_at self.now b }
     {
-        a != b && self.style_at(a) != self.style_at(b)
+        a != b && self.styles[a] != self.styles[b]
     }
 
     /// Adds the code that opens the style at a place.
+    #[inline(always)]
     pub(crate) fn push_opening(&mut self, out: &mut String, place: usize) -> Result<(), AllocError>
         requires within { place < 11 }
         ensures sheet { self.new ≡ self.old }
         ensures text { OnOk result (string_bytes out.new ≡ string_bytes out.old
             ++ opening_bytes (style_at self.old place)) }
     {
+        if self.styles[place].is_plain() {
+            return Ok(());
+        }
         if let Some(code) = &self.codes[place] {
             return out.push_str(code.as_str());
         }
@@ -107,11 +112,11 @@ fn styles(sheet: &Stylesheet) -> [Style; 11]
 const ROOM: usize = 12;
 
 /// The code that opens a style.
+#[inline(never)]
 fn opening(alloc: Global, style: Style) -> Result<String, AllocError>
     ensures text { IfOk result (λ code. string_bytes code ≡ opening_bytes style) }
 {
-    let room = if style.is_plain() { 0 } else { ROOM };
-    let mut code = String::with_capacity(alloc, room)?;
+    let mut code = String::with_capacity(alloc, ROOM)?;
     write_opening(&mut code, style)?;
     Ok(code)
 }

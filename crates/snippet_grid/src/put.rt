@@ -15,6 +15,7 @@ use crate::runs::{Run, add_run, begun_by, clipped, continues, join};
 use std::alloc::AllocError;
 
 /// Whether all runs stand before this one.
+#[inline(always)]
 fn are_before(runs: &[Run<'_>], run: &Run<'_>) -> bool
     requires ordered { AllPairs (λ a b. Precedes a b) runs.now }
     requires are_runs { All (λ x. IsUsize (x.cell + x.count)) runs.now }
@@ -29,6 +30,7 @@ fn are_before(runs: &[Run<'_>], run: &Run<'_>) -> bool
 }
 
 /// Whether a run stands before another one and does not touch it.
+#[inline(always)]
 fn is_clear(first: &Run<'_>, second: &Run<'_>) -> bool
     requires fits { IsUsize (first.now.cell + first.now.count) }
     ensures yes { result ≡ true → IsClear first.now second.now }
@@ -90,6 +92,7 @@ fn back_of<'a>(text: &str, touched: &[Run<'a>], run: &Run<'a>) -> Option<Run<'a>
 }
 
 /// What becomes of the runs that a run touches when it is put over them: at most three.
+#[inline(never)]
 fn add_pieces<'a>(
     text: &mut String,
     copy: &mut String,
@@ -136,6 +139,7 @@ fn insert_one<'a>(
 }
 
 /// Puts runs in place of those from `start` to before `end`. What is left in `fresh` means nothing.
+#[inline(never)]
 pub(crate) fn exchange<'a>(
     runs: &mut Vec<Run<'a>>,
     start: usize,
@@ -170,6 +174,7 @@ pub(crate) struct Spare<'a> {
 }
 
 /// Puts a run over what others hold.
+#[inline(always)]
 pub(crate) fn put_run<'a>(
     text: &mut String,
     spare: &mut Spare<'a>,

@@ -30,6 +30,7 @@ pub(crate) struct Run<'a> {
 }
 
 /// Whether a run goes on where another ends, with its role and its link.
+#[inline(always)]
 pub(crate) fn continues(first: &Run<'_>, second: &Run<'_>) -> bool
     requires fits { IsUsize (first.now.cell + first.now.count) }
     ensures yes { result ≡ true → Continues first.now second.now }
@@ -90,6 +91,7 @@ fn stands_at(text: &str, at: usize, run: &Run<'_>) -> bool
 
 /// Adds to a run another one, which goes on where it ends. Where the text goes on with the second's characters, nothing
 /// is copied.
+#[inline(never)]
 pub(crate) fn join<'a>(
     text: &mut String,
     copy: &mut String,
@@ -119,6 +121,7 @@ pub(crate) fn join<'a>(
 }
 
 /// Adds a run after others, and joins it to the last where it goes on.
+#[inline(always)]
 pub(crate) fn add_run<'a>(
     text: &mut String,
     copy: &mut String,

@@ -8,6 +8,7 @@ use std::alloc::AllocError;
 const SPACES: &str = "                                                                ";
 
 /// Adds the first of some spaces.
+#[inline(always)]
 fn push_part(out: &mut String, spaces: &str, count: usize) -> Result<(), AllocError>
     requires spaces { spaces.now ≡ replicate 64 32 }
     requires within { count ≤ 64 }

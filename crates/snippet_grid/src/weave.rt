@@ -7,7 +7,7 @@
 //! a cell  | link ends | reset | opening | link begins |  the next cell
 //! ```
 ghost use Rattle.std.specs.Prelude.{◌≡◌, ◌≢◌, ◌<◌, ◌≤◌, ◌++◌, ℕ, List, [], ◌∷◌, length, replicate, None, Some, OnOk};
-ghost use Rattle.std.specs.Prelude.{string_bytes};
+ghost use Rattle.std.specs.Prelude.{encode_utf8_all, string_bytes};
 ghost use Rattle.std.specs.Option.{option_copied};
 ghost use Rattle.std.specs.Str.{chars};
 ghost use Rattle.std.specs.List.{AllPairs, flat_map, slice_index_or};
@@ -15,12 +15,13 @@ ghost use Rattle.snippet_grid.specs.Codes.{style_at};
 ghost use Rattle.snippet_grid.specs.Runs.{IsGrid, IsRow, EndsBy, Precedes, cells_to, grid_shown};
 ghost use Rattle.snippet_grid.specs.declared.runs.Run.{Run};
 ghost use Rattle.snippet_grid.specs.Stretch.{PrintsStretch};
+ghost use Rattle.snippet_style.specs.Codes as spec;
 ghost use Rattle.snippet_grid.specs.Woven.{Opening, Reset, LinkTo, LinkEnd, piece_text, WeavesRow, WeavesRows};
 
 use crate::codes::{NONE, SheetCodes, place_of};
 use crate::runs::Run;
 use crate::spaces::push_spaces;
-use snippet_style::{LevelInner, reset_code};
+use snippet_style::{LevelInner, Style, reset_code};
 use std::alloc::AllocError;
 
 /// How a cell looks: the place of its style in the sheet, and where its link leads.
@@ -114,10 +115,11 @@ fn weave_row(
         last = SPACE;
     }
     end_link(out, last.link, None)?;
-    out.push_str(reset_code(codes.style_at(last.place)))
+    push_reset(out, codes.style_at(last.place))
 }
 
 /// Adds a text that looks like this, after what was printed and looks like `last`.
+#[inline(always)]
 fn weave_stretch(
     out: &mut String,
     word: &str,
@@ -139,6 +141,7 @@ fn weave_stretch(
 }
 
 /// Adds unstyled spaces, after what was printed and looks like `last`.
+#[inline(always)]
 fn weave_gap(
     out: &mut String,
     count: usize,
@@ -156,6 +159,7 @@ fn weave_gap(
 }
 
 /// Ends the link that is open, unless it goes on.
+#[inline(always)]
 fn end_link(out: &mut String, last: Option<&str>, next: Option<&str>) -> Result<(), AllocError>
     ensures kept { OnOk result (option_copied last.entry ≡ option_copied next.entry → string_bytes out.new
         ≡ string_bytes out.old) }
@@ -170,6 +174,7 @@ fn end_link(out: &mut String, last: Option<&str>, next: Option<&str>) -> Result<
 }
 
 /// Resets the style that is open and opens the next one, unless they are the same.
+#[inline(always)]
 fn change_style(
     out: &mut String,
     codes: &mut SheetCodes,
@@ -185,13 +190,26 @@ fn change_style(
         ++ flat_map piece_text (Reset (style_at codes.old last) ∷ Opening (style_at codes.old next) ∷ [])) }
 {
     if codes.differ(last, next) {
-        out.push_str(reset_code(codes.style_at(last)))?;
+        push_reset(out, codes.style_at(last))?;
         codes.push_opening(out, next)?;
     }
     Ok(())
 }
 
+/// Adds the code that switches a style off, if it has one.
+#[inline(always)]
+fn push_reset(out: &mut String, style: Style) -> Result<(), AllocError>
+    ensures text { OnOk result (string_bytes out.new ≡ string_bytes out.old ++ encode_utf8_all (spec.reset style)) }
+{
+    let code = reset_code(style);
+    if code.is_empty() {
+        return Ok(());
+    }
+    out.push_str(code)
+}
+
 /// Begins the next link, if there is one, unless it was open before.
+#[inline(always)]
 fn begin_link(out: &mut String, last: Option<&str>, next: Option<&str>) -> Result<(), AllocError>
     ensures kept { OnOk result (option_copied last.entry ≡ option_copied next.entry → string_bytes out.new
         ≡ string_bytes out.old) }

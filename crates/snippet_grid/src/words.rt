@@ -35,10 +35,10 @@ pub(crate) fn fits(text: &str, room: usize) -> bool
     char_count(text) <= room
 }
 
-/// What a small report takes: its first write makes room for so much at once.
-const FIRST_BYTES: usize = 512;
+/// What the smallest reports take: the first write makes room for so much at once.
+const FIRST_BYTES: usize = 384;
 
-const FIRST_RUNS: usize = 32;
+const FIRST_RUNS: usize = 14;
 
 const FIRST_ROWS: usize = 16;
 
@@ -61,6 +61,7 @@ fn make_first_room(
 }
 
 /// Makes room for a row of this number.
+#[inline(always)]
 fn make_room(widths: &mut Vec<usize>, row: usize) -> Result<(), AllocError>
     requires row { HasNext row }
     ensures items { widths.new.items ≡ widths.old.items }
@@ -83,6 +84,7 @@ fn make_room(widths: &mut Vec<usize>, row: usize) -> Result<(), AllocError>
 }
 
 /// Makes a row reach to this cell, unless it is longer already. There is room for it.
+#[inline(always)]
 fn widen(widths: &mut Vec<usize>, row: usize, end: usize) -> Result<(), AllocError>
     requires row { HasNext row }
     requires room { row + 1 ≤ vec_capacity widths.old }
@@ -99,6 +101,7 @@ fn widen(widths: &mut Vec<usize>, row: usize, end: usize) -> Result<(), AllocErr
 }
 
 /// Adds a word to the text, as a run.
+#[inline(always)]
 pub(crate) fn push_word<'a>(
     text: &mut String,
     row: usize,
@@ -126,6 +129,7 @@ pub(crate) fn push_word<'a>(
 }
 
 /// Puts a run of cells with no link over what others hold, and makes its row reach to its end.
+#[inline(always)]
 fn place_run<'a>(
     text: &mut String,
     spare: &mut Spare<'a>,
@@ -153,6 +157,7 @@ fn place_run<'a>(
 }
 
 /// Writes a word that has a character into a row, from this cell on.
+#[inline(always)]
 pub(crate) fn write_word<'a>(
     text: &mut String,
     spare: &mut Spare<'a>,

@@ -1,11 +1,13 @@
 -- How the entries of a line are placed, one position after another.
-use Rattle.std.proofs.Common.{◌≡◌, ℕ, suc, ◌+◌, ◌-◌, ◌<◌, ◌≤◌, ◌^◌, ◌==◌, ◌&&◌, ◌||◌, cond, Bool, true, false, List, [], ◌∷◌, ◌++◌, length, map, drop, take}
+use Rattle.std.proofs.Common.{◌≡◌, ℕ, suc, ◌+◌, ◌-◌, ◌<◌, ◌≤◌, ◌^◌, ◌==◌, ◌&&◌, ◌||◌, cond, nat_lt, not, None, Some, Bool, true, false, List, [], ◌∷◌, ◌++◌}
+use Rattle.std.proofs.Common.{length, map, drop, take}
 use Rattle.std.proofs.Common.{set, get_or, refl, sym, ap, ◌∙◌, subst, arith, All, zero}
-use Rattle.std.specs.List.{list_all, list_any}
+use Rattle.std.specs.List.{list_all, list_any, position, position_or_len}
 use Rattle.std.specs.Cow.{cow_str_bytes}
+use Rattle.std.proofs.lemmas.Bool.{lt-ltb}
 use Rattle.std.proofs.lemmas.Bool.Decides.{nat_tests}
 use Rattle.std.proofs.lemmas.Simd.{map-map}
-use Rattle.std.proofs.lemmas.List.{append_assoc, append-nil, drop_more, drop_all, take_more, take_more_set, take_all, length-map, get_or-map}
+use Rattle.std.proofs.lemmas.List.{append_assoc, append-nil, drop_more, drop_all, take_more, take_more_set, take_all, length-map, map_push, get_or-map}
 use Rattle.std.proofs.lemmas.List.Folds.{list_all-map}
 use Rattle.std.specs.List.Sorted.{IsPermutation}
 use Rattle.std.proofs.lemmas.List.Sorted.{All-permutation, IsPermutation-map}
@@ -14,11 +16,26 @@ use Rattle.snippet_parts.specs.declared.entries.LineAnnotation.{LineAnnotation}
 use Rattle.snippet_labels.specs.declared.positions.PlacedEntry.{PlacedEntry}
 use Rattle.snippet_labels.specs.Positions.{ArePlaced, IsFromRight, HasItsBytes, HasItsLabel, asks, do_overlap, ends_no_later, has_label, takes_space, is_start}
 use Rattle.snippet_labels.specs.Positions.{are_starts, crosses, crowds, position_at, position_after, positions, flipped, line_positions, unplaced}
-use Rattle.snippet_labels.specs.Positions.{is_placed_before}
+use Rattle.snippet_labels.specs.Positions.{is_placed_before, look_counts, looked_after, up_to}
 use Rattle.snippet_parts.specs.Least.{greatest}
 use Rattle.snippet_parts.proofs.PartLemmas.{list_any-map}
 use Rattle.std.proofs.lemmas.List.Elements.{All-map}
 use Rattle.snippet_labels.specs.Entries.{shifted}
+
+-- the position of an entry whose label could stand after its mark: where a mark is in the way, and where none is
+pub position_at-crossed : (p : ℕ) (e : PlacedEntry) (others : List PlacedEntry) → p ≤ 0 → has_label e ≡ true → list_any (crosses e) others ≡ true
+    → 1 ≡ position_at p e others
+position_at-crossed p e others none has crossed =
+    let is : p ≡ 0 = omega (arith, none) in
+    sym (ap (λ q. cond ((q == 0) && (has_label e && list_any (crosses e) others)) 1 q) is
+    ∙ ap (λ b. cond (b && list_any (crosses e) others) 1 0) has ∙ ap (λ b. cond b 1 0) crossed)
+
+pub position_at-clear : (p : ℕ) (e : PlacedEntry) (others : List PlacedEntry) → p ≤ 0 → has_label e ≡ true → list_any (crosses e) others ≡ false
+    → 0 ≡ position_at p e others
+position_at-clear p e others none has clear =
+    let is : p ≡ 0 = omega (arith, none) in
+    sym (ap (λ q. cond ((q == 0) && (has_label e && list_any (crosses e) others)) 1 q) is
+    ∙ ap (λ b. cond (b && list_any (crosses e) others) 1 0) has ∙ ap (λ b. cond b 1 0) clear)
 
 -- one more position is known
 pub positions_more : (ps : List ℕ) (es : List PlacedEntry) (all : List ℕ) (i reached : ℕ) (d : PlacedEntry) → i < length es
@@ -30,24 +47,28 @@ positions_more ps es all i reached d within so_far =
     append_assoc ps (position_at reached e others ∷ []) (positions (position_after (position_at reached e others) e others) others)
     ∙ sym (ap (λ xs. ps ++ positions reached xs) (drop_more es i d within)) ∙ so_far
 
+-- one more count is known, of those that are looked at
+pub look_counts_more : (ns : List ℕ) (es : List PlacedEntry) (all : List ℕ) (i reached : ℕ) (d : PlacedEntry) → i < length es
+    → ns ++ look_counts reached (drop i es) ≡ all → let e = get_or es i d in let others = drop (i + 1) es in
+    (ns ++ looked_after reached e others ∷ []) ++ look_counts (position_after (position_at reached e others) e others) others ≡ all
+look_counts_more ns es all i reached d within so_far =
+    let e = get_or es i d in
+    let others = drop (i + 1) es in
+    append_assoc ns (looked_after reached e others ∷ []) (look_counts (position_after (position_at reached e others) e others) others)
+    ∙ sym (ap (λ xs. ns ++ look_counts reached xs) (drop_more es i d within)) ∙ so_far
+
 -- the position reached grows by one at most, from 1 on
 pub reached_low : (reached i : ℕ) (e : PlacedEntry) (others : List PlacedEntry) → reached ≤ i + 1
     → position_after (position_at reached e others) e others ≤ i + 1 + 1
 reached_low reached i e others low =
     grind (arith, nat_tests)
 
--- a position is given to one more entry
-pub placed_more : (es first : List PlacedEntry) (ps : List ℕ) (i : ℕ) (e : PlacedEntry) → i < length es → i < length ps
-    → map (λ (x : PlacedEntry). x.position) (take i es) ≡ take i ps → e.position ≡ get_or ps i 0
-    → map (λ (x : PlacedEntry). x.position) (take (i + 1) (set es i e)) ≡ take (i + 1) ps
-placed_more es first ps i e within within_ps so_far is =
-    ap (map (λ (x : PlacedEntry). x.position)) (take_more_set es i e within) ∙ map-push (take i es) e ∙ ap (λ xs. xs ++ e.position ∷ []) so_far
-    ∙ ap (λ p. take i ps ++ p ∷ []) is ∙ sym (take_more ps i 0 within_ps)
-  where
-    map-push : (xs : List PlacedEntry) (x : PlacedEntry)
-        → map (λ (y : PlacedEntry). y.position) (xs ++ x ∷ []) ≡ map (λ (y : PlacedEntry). y.position) xs ++ x.position ∷ []
-    map-push [] x = refl
-    map-push (y ∷ ys) x = ap (λ zs. y.position ∷ zs) (map-push ys x)
+-- a position, or a count, is given to one more entry
+pub placed_more : (f : PlacedEntry → ℕ) (es : List PlacedEntry) (ns : List ℕ) (i : ℕ) (e : PlacedEntry) → i < length es → i < length ns
+    → map f (take i es) ≡ take i ns → f e ≡ get_or ns i 0 → map f (take (i + 1) (set es i e)) ≡ take (i + 1) ns
+placed_more f es ns i e within within_ns so_far is =
+    ap (map f) (take_more_set es i e within) ∙ map_push f (take i es) e ∙ ap (λ xs. xs ++ f e ∷ []) so_far
+    ∙ ap (λ n. take i ns ++ n ∷ []) is ∙ sym (take_more ns i 0 within_ns)
 
 -- there are as many positions as entries
 pub length-positions : (p : ℕ) (es : List PlacedEntry) → length (positions p es) ≡ length es
@@ -62,18 +83,58 @@ entries_all Q es ps same all k d within =
     let f : PlacedEntry → LineAnnotation = λ e. e.entry in
     subst Q (get_or-map f ps k d d.entry within) (All-permutation Q es (map f ps) same all k d.entry (omega (arith, within, length-map ps f)))
 
+-- ---- the first entry in the way
+
+position_or_len-map : {X Y : Type 0} (p : Y → Bool) (f : X → Y) (xs : List X) → position_or_len p (map f xs) ≡ position_or_len (λ x. p (f x)) xs
+position_or_len-map p f [] = refl
+position_or_len-map p f (x ∷ xs) = ap (λ n. cond (not (p (f x))) (1 + n) 0) (position_or_len-map p f xs)
+
+position-map : {X Y : Type 0} (p : Y → Bool) (f : X → Y) (xs : List X) → position p (map f xs) ≡ position (λ x. p (f x)) xs
+position-map p f xs =
+    ap (λ n. cond (nat_lt n (length (map f xs))) (Some n) None) (position_or_len-map p f xs)
+    ∙ ap (λ n. cond (nat_lt (position_or_len (λ x. p (f x)) xs) n) (Some (position_or_len (λ x. p (f x)) xs)) None) (length-map xs f)
+
+-- an element passes a test where there is a first one that does
+any-position : {X : Type 0} (p : X → Bool) (xs : List X) → list_any p xs ≡ nat_lt (position_or_len p xs) (length xs)
+any-position p [] = refl
+any-position p (x ∷ xs) = by_first (p x) (any-position p xs)
+  where
+    by_first : (b : Bool) → list_any p xs ≡ nat_lt (position_or_len p xs) (length xs)
+        → (b || list_any p xs) ≡ nat_lt (cond (not b) (1 + position_or_len p xs) 0) (suc (length xs))
+    by_first true rest = sym (lt-ltb 0 (suc (length xs)) (omega arith))
+    by_first false rest = rest ∙ nat_lt-suc (position_or_len p xs) (length xs)
+      where
+        nat_lt-suc : (m n : ℕ) → nat_lt m n ≡ nat_lt (1 + m) (suc n)
+        nat_lt-suc m n = grind (arith, nat_tests)
+
+pub any_at_first : {X : Type 0} (p : X → Bool) (xs : List X) (k : ℕ) → Some k ≡ position p xs → list_any p xs ≡ true
+any_at_first p xs k is = any-position p xs ∙ found (nat_lt (position_or_len p xs) (length xs)) is
+  where
+    found : (b : Bool) → Some k ≡ cond b (Some (position_or_len p xs)) None → b ≡ true
+    found true at = refl
+    found false at = cc at
+
+pub any_at_none : {X : Type 0} (p : X → Bool) (xs : List X) → None ≡ position p xs → list_any p xs ≡ false
+any_at_none p xs is = any-position p xs ∙ found (nat_lt (position_or_len p xs) (length xs)) is
+  where
+    found : (b : Bool) → None ≡ cond b (Some (position_or_len p xs)) None → b ≡ false
+    found true at = cc at
+    found false at = refl
+
+-- ---- positions and counts
+
 -- entries changed in what the rule of positions doesn't look at have the same positions
 module _ (f : PlacedEntry → PlacedEntry)
     (has : (e : PlacedEntry) → has_label (f e) ≡ has_label e)
     (crossing : (e : PlacedEntry) → (λ (g : PlacedEntry). crosses (f e) (f g)) ≡ crosses e)
     (crowding : (p : ℕ) (e : PlacedEntry) → (λ (g : PlacedEntry). crowds p (f e) (f g)) ≡ crowds p e)
     (starting : (λ (e : PlacedEntry). is_start (f e)) ≡ is_start) where
-  pub position_at-changed : (p : ℕ) (e : PlacedEntry) (others : List PlacedEntry) → position_at p (f e) (map f others) ≡ position_at p e others
+  position_at-changed : (p : ℕ) (e : PlacedEntry) (others : List PlacedEntry) → position_at p (f e) (map f others) ≡ position_at p e others
   position_at-changed p e others =
       ap (λ b. cond ((p == 0) && (b && list_any (crosses (f e)) (map f others))) 1 p) (has e)
       ∙ ap (λ b. cond ((p == 0) && (has_label e && b)) 1 p) (list_any-map (crosses (f e)) f others ∙ ap (λ q. list_any q others) (crossing e))
 
-  pub position_after-changed : (p : ℕ) (e : PlacedEntry) (others : List PlacedEntry) → position_after p (f e) (map f others) ≡ position_after p e others
+  position_after-changed : (p : ℕ) (e : PlacedEntry) (others : List PlacedEntry) → position_after p (f e) (map f others) ≡ position_after p e others
   position_after-changed p e others =
       ap (λ b. cond b (p + 1) p) (list_any-map (crowds p (f e)) f others ∙ ap (λ q. list_any q others) (crowding p e))
 
@@ -84,6 +145,23 @@ module _ (f : PlacedEntry → PlacedEntry)
       ap (λ q. q ∷ positions (position_after q (f e) (map f others)) (map f others)) (position_at-changed p e others)
       ∙ ap (λ q. here ∷ positions q (map f others)) (position_after-changed here e others)
       ∙ ap (λ qs. here ∷ qs) (positions-changed (position_after here e others) others)
+
+  looked_after-changed : (p : ℕ) (e : PlacedEntry) (others : List PlacedEntry) → looked_after p (f e) (map f others) ≡ looked_after p e others
+  looked_after-changed p e others =
+      let first = position-map (crosses (f e)) f others ∙ ap (λ q. position q others) (crossing e) in
+      ap (λ b. cond ((p == 0) && b) (up_to (position (crosses (f e)) (map f others)) (length (map f others))) (length (map f others))) (has e)
+      ∙ ap (λ n. cond ((p == 0) && has_label e) (up_to (position (crosses (f e)) (map f others)) n) n) (length-map others f)
+      ∙ ap (λ at. cond ((p == 0) && has_label e) (up_to at (length others)) (length others)) first
+
+  pub look_counts-changed : (p : ℕ) (es : List PlacedEntry) → look_counts p (map f es) ≡ look_counts p es
+  look_counts-changed p [] = refl
+  look_counts-changed p (e ∷ others) =
+      let here = position_at p e others in
+      let count = looked_after p e others in
+      ap (λ n. n ∷ look_counts (position_after (position_at p (f e) (map f others)) (f e) (map f others)) (map f others)) (looked_after-changed p e others)
+      ∙ ap (λ q. count ∷ look_counts (position_after q (f e) (map f others)) (map f others)) (position_at-changed p e others)
+      ∙ ap (λ q. count ∷ look_counts q (map f others)) (position_after-changed here e others)
+      ∙ ap (λ ns. count ∷ ns) (look_counts-changed (position_after here e others) others)
 
   pub are_starts-changed : (es : List PlacedEntry) → are_starts (map f es) ≡ are_starts es
   are_starts-changed es = list_all-map is_start f es ∙ ap (λ q. list_all q es) starting
@@ -121,6 +199,12 @@ length-line_positions es =
 line_positions-unplaced : (es : List PlacedEntry) → line_positions (map unplaced es) ≡ line_positions es
 line_positions-unplaced = line_positions-changed unplaced (λ e. refl) (λ e. refl) (λ p e. refl) refl
 
+look_counts-unplaced : (es : List PlacedEntry) → look_counts 0 (map unplaced es) ≡ look_counts 0 es
+look_counts-unplaced = look_counts-changed unplaced (λ e. refl) (λ e. refl) (λ p e. refl) refl 0
+
+pub look_counts_kept : (es fs : List PlacedEntry) → map unplaced es ≡ map unplaced fs → look_counts 0 es ≡ look_counts 0 fs
+look_counts_kept es fs kept = sym (look_counts-unplaced es) ∙ ap (look_counts 0) kept ∙ look_counts-unplaced fs
+
 pub line_positions_kept : (es fs : List PlacedEntry) → map unplaced es ≡ map unplaced fs → line_positions es ≡ line_positions fs
 line_positions_kept es fs kept = sym (line_positions-unplaced es) ∙ ap line_positions kept ∙ line_positions-unplaced fs
 
@@ -132,12 +216,12 @@ written_back xs ys len is kept =
     ∙ take_all len xs (omega (arith, is, long))
 
 -- entries that were put in an order and got the positions of it are placed
-pub ArePlaced-from : (es : List LineAnnotation) (labelled sorted placed : List PlacedEntry) (ps : List ℕ)
+pub ArePlaced-from : (es : List LineAnnotation) (labelled sorted placed : List PlacedEntry) (ps ns : List ℕ)
     → map (λ (e : PlacedEntry). e.entry) labelled ≡ es → All HasItsLabel labelled → All HasItsBytes labelled → IsPermutation labelled sorted
     → map (λ (e : PlacedEntry). e.entry) sorted ≡ ordered_by is_placed_before (map (λ (e : PlacedEntry). e.entry) labelled)
     → IsFromRight (map (λ (e : PlacedEntry). e.entry) sorted) → ps ≡ line_positions sorted → map (λ (e : PlacedEntry). e.position) placed ≡ ps
-    → map unplaced placed ≡ map unplaced sorted → ArePlaced es placed
-ArePlaced-from es labelled sorted placed ps entries labels bytes same order ordered are got kept =
+    → ns ≡ look_counts 0 sorted → map (λ (e : PlacedEntry). e.looked) placed ≡ ns → map unplaced placed ≡ map unplaced sorted → ArePlaced es placed
+ArePlaced-from es labelled sorted placed ps ns entries labels bytes same order ordered are got counts counted kept =
     let f : PlacedEntry → LineAnnotation = λ e. e.entry in
     record {
       order = entries_kept placed sorted kept ∙ order ∙ ap (ordered_by is_placed_before) entries;
@@ -147,6 +231,7 @@ ArePlaced-from es labelled sorted placed ps entries labels bytes same order orde
       labels = all_kept HasItsLabel placed sorted (λ e has. has) (λ e has. has) kept (All-permutation HasItsLabel labelled sorted same labels);
       bytes = all_kept HasItsBytes placed sorted (λ e has. has) (λ e has. has) kept (All-permutation HasItsBytes labelled sorted same bytes);
       positions_are = got ∙ are ∙ sym (line_positions_kept placed sorted kept);
+      looked_are = counted ∙ counts ∙ sym (look_counts_kept placed sorted kept);
     }
 
 -- ---- entries that ask for no row

@@ -1,7 +1,7 @@
 -- Where the labels of a line stand, and the lines that lead to bars.
 use Rattle.std.specs.Prelude.{◌≡◌, ℕ, ◌+◌, ◌-◌, ◌<◌, ◌≤◌, ◌==◌, ◌&&◌, ◌||◌, nat_le, nat_lt, not, Bool, true, false, List, [], ◌∷◌, All, IsPermutation, length}
-use Rattle.std.specs.Prelude.{map, chars, encode_utf8_all, slice_index_or, if◌then◌else◌}
-use Rattle.std.specs.List.{list_all, list_any, zip}
+use Rattle.std.specs.Prelude.{map, chars, encode_utf8_all, slice_index_or, if◌then◌else◌, Option, None, Some}
+use Rattle.std.specs.List.{list_all, list_any, position, zip}
 use Rattle.std.specs.declared.borrow.CowStr.TheVariants.{Borrowed}
 use Rattle.std.specs.Cow.{cow_str_bytes}
 use Rattle.snippet_parts.specs.declared.entries.LineAnnotation.{LineAnnotation}
@@ -86,11 +86,28 @@ position_at p e others = if p == 0 && (has_label e && list_any (crosses e) other
 abbrev pub position_after : ℕ → PlacedEntry → List PlacedEntry → ℕ
 position_after p e others = if list_any (crowds p e) others then p + 1 else p
 
+-- up to this place, it counted, of so many; all where there is none
+abbrev pub up_to : Option ℕ → ℕ → ℕ
+up_to None all = all
+up_to (Some k) all = k + 1
+
+-- how many of the entries after one are looked at, where this position is reached: all, or where its label may still stand beside
+-- the mark, those up to the first one that is in its way
+abbrev pub looked_after : ℕ → PlacedEntry → List PlacedEntry → ℕ
+looked_after p e others =
+    if p == 0 && has_label e then up_to (position (crosses e) others) (length others) else length others
+
 -- the positions of entries, in their order, from the one reached on
 abbrev pub positions : ℕ → List PlacedEntry → List ℕ
 positions p [] = []
 positions p (e ∷ others) =
     position_at p e others ∷ positions (position_after (position_at p e others) e others) others
+
+-- for each entry how many of those after it are looked at while these positions are sought
+abbrev pub look_counts : ℕ → List PlacedEntry → List ℕ
+look_counts p [] = []
+look_counts p (e ∷ others) =
+    looked_after p e others ∷ look_counts (position_after (position_at p e others) e others) others
 
 -- whether a part of a span is the start of one of several lines
 abbrev pub is_start_part : LineAnnotationType → Bool
@@ -122,7 +139,7 @@ label_place e =
 
 -- an entry without its position
 abbrev pub unplaced : PlacedEntry → PlacedEntry
-unplaced e = record e { position = 0 }
+unplaced e = record e { position = 0; looked = 0 }
 
 -- the later entry may stand after the earlier one: it starts farther left, or at the same column and no greater
 -- character
@@ -140,7 +157,7 @@ is_placed_before e f =
     nat_lt f.start.display e.start.display || (e.start.display == f.start.display && nat_lt f.start.char e.start.char)
 
 -- the entries of a line from right to left, and as they are given where they start at one character, each with its label, at the
--- positions of that order (`same` and `from_right` follow from `order`)
+-- positions of that order, and with how many were looked at for it (`same` and `from_right` follow from `order`)
 pub record ArePlaced (es : List LineAnnotation) (placed : List PlacedEntry) : Type 0 where
   pub order : map (λ e. e.entry) placed ≡ ordered_by is_placed_before es
   pub same : IsPermutation es (map (λ e. e.entry) placed)
@@ -148,20 +165,27 @@ pub record ArePlaced (es : List LineAnnotation) (placed : List PlacedEntry) : Ty
   pub labels : All HasItsLabel placed
   pub bytes : All HasItsBytes placed
   pub positions_are : map (λ e. e.position) placed ≡ line_positions placed
+  pub looked_are : map (λ e. e.looked) placed ≡ look_counts 0 placed
 
 -- ---- the same as a value
 
--- an entry with its label, which is held as borrowed bytes, at this position
-abbrev pub placed_at : LineAnnotation × ℕ → PlacedEntry
-placed_at pair =
-    record { entry = pair.0; label = Borrowed (record { ref_ptr = (0, 0); now = encode_utf8_all (label_text pair.0) }); position = pair.1 }
+-- an entry with its label, which is held as borrowed bytes, at this position, for which so many were looked at
+abbrev pub placed_at : LineAnnotation × (ℕ × ℕ) → PlacedEntry
+placed_at found =
+    record {
+      entry = found.0;
+      label = Borrowed (record { ref_ptr = (0, 0); now = encode_utf8_all (label_text found.0) });
+      position = found.1.0;
+      looked = found.1.1;
+    }
 
 -- entries with their labels, none of which is placed yet
 abbrev pub labelled : List LineAnnotation → List PlacedEntry
-labelled es = map (λ e. placed_at (e, 0)) es
+labelled es = map (λ e. placed_at (e, (0, 0))) es
 
 -- the entries of a line from right to left, each with its label, at the positions of that order
 abbrev pub placed_of : List LineAnnotation → List PlacedEntry
 placed_of es =
     let ordered = ordered_by is_placed_before es in
-    map placed_at (zip ordered (line_positions (labelled ordered)))
+    let bare = labelled ordered in
+    map placed_at (zip ordered (zip (line_positions bare) (look_counts 0 bare)))

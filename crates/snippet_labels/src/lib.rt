@@ -4,6 +4,4 @@
 
 pub mod positions;
 
-pub use positions::{
-    PlacedEntry, are_starts, crosses, overlap, placed_entries, position_after, position_at,
-};
+pub use positions::{PlacedEntry, are_starts, overlap, placed_entries};

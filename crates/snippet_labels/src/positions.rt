@@ -1,6 +1,6 @@
 //! Where the labels of a line stand: how far below the row of its marks each hangs.
-ghost use Rattle.std.specs.Prelude.{◌≡◌, ◌+◌, ◌≤◌, ◌&&◌, ◌||◌, All, IfOk, chars, length, map};
-ghost use Rattle.std.specs.List.{list_any};
+ghost use Rattle.std.specs.Prelude.{◌≡◌, ◌+◌, ◌<◌, ◌≤◌, ◌&&◌, ◌||◌, All, IfOk, IfSome, chars, length, map};
+ghost use Rattle.std.specs.List.{list_any, position};
 ghost use Rattle.std.specs.Cow.{cow_str_bytes};
 ghost use Rattle.snippet_labels.specs.Positions as spec;
 ghost use Rattle.snippet_labels.specs.Positions.{ArePlaced, AsksBefore, HasItsBytes, HasItsLabel};
@@ -28,6 +28,16 @@ pub struct PlacedEntry<'a> {
     /// At 0 the label stands after its mark; at n it hangs from it, in the row n + 1 below the row of the marks. The
     /// line from the mark of a start or an end to its bar stands in the row n below that of the marks.
     pub position: usize,
+    /// How many of the entries after it, which stand farther left, were looked at while its position was sought: all,
+    /// or, where its label could still stand after its mark, those up to the first one that is in the way.
+    pub looked: usize,
+}
+
+/// The position of an entry's label, and how many of the entries after it were looked at for it.
+#[derive(Clone, Copy, Debug)]
+struct FoundPosition {
+    position: usize,
+    looked: usize,
 }
 
 impl<'a> PlacedEntry<'a> {
@@ -80,8 +90,8 @@ pub fn placed_entries<'a>(
 {
     let mut placed = labelled_entries(alloc, dropped, entries)?;
     placed.sort_by_key(|p| Reverse((p.entry.start.display, p.entry.start.char)))?;
-    let positions = line_positions(alloc, &placed)?;
-    set_positions(&mut placed, &positions);
+    let found = line_positions(alloc, &placed)?;
+    set_positions(&mut placed, &found);
     Ok(placed)
 }
 
@@ -108,6 +118,7 @@ fn labelled_entries<'a>(
             entry: shifted(entry, dropped),
             label,
             position: 0,
+            looked: 0,
         })?;
     }
     Ok(labelled)
@@ -152,15 +163,16 @@ fn shown_label<'a>(alloc: Global, entry: &LineAnnotation<'a>) -> Result<CowStr<'
 /// # Errors
 ///
 /// There is no memory for the list.
-fn line_positions(alloc: Global, entries: &[PlacedEntry]) -> Result<Vec<usize>, AllocError>
+fn line_positions(alloc: Global, entries: &[PlacedEntry]) -> Result<Vec<FoundPosition>, AllocError>
     requires columns { All (λ e. IsColumn e.entry.end.display) entries.now }
-    ensures value { IfOk result (λ positions. positions.items ≡ spec.line_positions entries.now) }
+    ensures value { IfOk result (λ found. map (λ f. f.position) found.items ≡ spec.line_positions entries.now) }
+    ensures looked { IfOk result (λ found. map (λ f. f.looked) found.items ≡ spec.look_counts 0 entries.now) }
 {
-    let positions = label_positions(alloc, entries)?;
+    let found = label_positions(alloc, entries)?;
     if !are_starts(entries) {
-        return Ok(positions);
+        return Ok(found);
     }
-    flipped(alloc, &positions)
+    flipped(alloc, &found)
 }
 
 /// Whether each of these entries is the start of a span of several lines, and has no label to show.
@@ -185,25 +197,30 @@ fn is_start(placed: &PlacedEntry) -> bool
 /// # Errors
 ///
 /// There is no memory for the list.
-fn flipped(alloc: Global, positions: &[usize]) -> Result<Vec<usize>, AllocError>
-    ensures value { IfOk result (λ flipped. flipped.items ≡ spec.flipped positions.now) }
+fn flipped(alloc: Global, found: &[FoundPosition]) -> Result<Vec<FoundPosition>, AllocError>
+    ensures value { IfOk result (λ flipped. map (λ f. f.position) flipped.items
+        ≡ spec.flipped (map (λ f. f.position) found.now)) }
+    ensures looked { IfOk result (λ flipped. map (λ f. f.looked) flipped.items ≡ map (λ f. f.looked) found.now) }
 {
-    let greatest = greatest(positions);
+    let greatest = greatest(found);
     let mut flipped = Vec::new(alloc);
-    for position in positions {
-        flipped.push(greatest.saturating_sub(*position))?;
+    for one in found {
+        flipped.push(FoundPosition {
+            position: greatest.saturating_sub(one.position),
+            looked: one.looked,
+        })?;
     }
     Ok(flipped)
 }
 
-/// The greatest of some numbers, 0 where there is none.
-fn greatest(numbers: &[usize]) -> usize
-    ensures value { result ≡ greatest numbers.now }
+/// The greatest of some positions, 0 where there is none.
+fn greatest(found: &[FoundPosition]) -> usize
+    ensures value { result ≡ greatest (map (λ f. f.position) found.now) }
 {
     let mut greatest = 0;
-    for number in numbers {
-        if greatest < *number {
-            greatest = *number;
+    for one in found {
+        if greatest < one.position {
+            greatest = one.position;
         }
     }
     greatest
@@ -215,20 +232,21 @@ fn greatest(numbers: &[usize]) -> usize
 /// # Errors
 ///
 /// There is no memory for the list.
-fn label_positions(alloc: Global, entries: &[PlacedEntry]) -> Result<Vec<usize>, AllocError>
+fn label_positions(alloc: Global, entries: &[PlacedEntry]) -> Result<Vec<FoundPosition>, AllocError>
     requires columns { All (λ e. IsColumn e.entry.end.display) entries.now }
-    ensures value { IfOk result (λ positions. positions.items ≡ spec.positions 0 entries.now) }
+    ensures value { IfOk result (λ found. map (λ f. f.position) found.items ≡ spec.positions 0 entries.now) }
+    ensures looked { IfOk result (λ found. map (λ f. f.looked) found.items ≡ spec.look_counts 0 entries.now) }
 {
-    let mut positions = Vec::new(alloc);
+    let mut found = Vec::new(alloc);
     let end = askers_end(entries);
     let mut reached = 0;
     for i in 0..entries.len() {
         let entry = &entries[i];
-        let position = position_at(reached, entry, &entries[i + 1..]);
-        positions.push(position)?;
-        reached = position_after(position, entry, &entries[i + 1..end.max(i + 1)]);
+        let here = position_at(reached, entry, &entries[i + 1..]);
+        found.push(here)?;
+        reached = position_after(here.position, entry, &entries[i + 1..end.max(i + 1)]);
     }
-    Ok(positions)
+    Ok(found)
 }
 
 /// Where the last of these entries ends that may ask for a row of its own: none after it does.
@@ -252,20 +270,42 @@ fn asks(placed: &PlacedEntry) -> bool
     placed.has_label() || placed.takes_space()
 }
 
-/// The position of an entry before others, where this one is reached.
-pub fn position_at(reached: usize, entry: &PlacedEntry, others: &[PlacedEntry]) -> usize
+/// The position of an entry before others, where this one is reached, and how many of those are looked at for it.
+fn position_at(reached: usize, entry: &PlacedEntry, others: &[PlacedEntry]) -> FoundPosition
     requires columns { All (λ e. IsColumn e.entry.end.display) others.now }
-    ensures value { result ≡ spec.position_at reached entry.now others.now }
+    ensures value { result.position ≡ spec.position_at reached entry.now others.now }
+    ensures looked { result.looked ≡ spec.looked_after reached entry.now others.now }
 {
-    if reached == 0 && entry.has_label() && is_crossed(entry, others) {
-        1
-    } else {
-        reached
+    if reached > 0 || !entry.has_label() {
+        return FoundPosition {
+            position: reached,
+            looked: others.len(),
+        };
+    }
+    match first_in_the_way(entry, others) {
+        Some(k) => FoundPosition {
+            position: 1,
+            looked: k + 1,
+        },
+        None => FoundPosition {
+            position: 0,
+            looked: others.len(),
+        },
     }
 }
 
+/// The place of the first of these entries whose mark is in the way of a label after the mark of another, if there is
+/// one.
+fn first_in_the_way(entry: &PlacedEntry, others: &[PlacedEntry]) -> Option<usize>
+    requires columns { All (λ e. IsColumn e.entry.end.display) others.now }
+    ensures value { result ≡ position (spec.crosses entry.now) others.now }
+    ensures within { IfSome result (λ k. k < length others.now) }
+{
+    others.iter().position(|other| crosses(entry, other))
+}
+
 /// The position that is reached after an entry that has this one.
-pub fn position_after(position: usize, entry: &PlacedEntry, others: &[PlacedEntry]) -> usize
+fn position_after(position: usize, entry: &PlacedEntry, others: &[PlacedEntry]) -> usize
     requires columns { All (λ e. IsColumn e.entry.end.display) others.now }
     requires low { HasNext position }
     ensures value { result ≡ spec.position_after position entry.now others.now }
@@ -278,26 +318,21 @@ pub fn position_after(position: usize, entry: &PlacedEntry, others: &[PlacedEntr
 }
 
 /// Gives entries these positions, one to each.
-fn set_positions(entries: &mut [PlacedEntry], positions: &[usize])
-    requires count { length positions.now ≡ length entries.old }
-    ensures placed { map (λ e. e.position) entries.new ≡ positions.now }
+fn set_positions(entries: &mut [PlacedEntry], found: &[FoundPosition])
+    requires count { length found.now ≡ length entries.old }
+    ensures placed { map (λ e. e.position) entries.new ≡ map (λ f. f.position) found.now }
+    ensures looked { map (λ e. e.looked) entries.new ≡ map (λ f. f.looked) found.now }
     ensures kept { map spec.unplaced entries.new ≡ map spec.unplaced entries.old }
 {
     for i in 0..entries.len() {
-        entries[i].position = positions[i];
+        let entry = &mut entries[i];
+        entry.position = found[i].position;
+        entry.looked = found[i].looked;
     }
 }
 
-/// Whether the mark of an entry farther left stands in the way of a label after its mark.
-fn is_crossed(entry: &PlacedEntry, others: &[PlacedEntry]) -> bool
-    requires columns { All (λ e. IsColumn e.entry.end.display) others.now }
-    ensures value { result ≡ list_any (spec.crosses entry.now) others.now }
-{
-    others.iter().any(|other| crosses(entry, other))
-}
-
 /// Whether two marks overlap, unless they are one mark and only the first has a label.
-pub fn crosses(entry: &PlacedEntry, other: &PlacedEntry) -> bool
+fn crosses(entry: &PlacedEntry, other: &PlacedEntry) -> bool
     requires columns { IsColumn other.now.entry.end.display }
     ensures value { result ≡ spec.crosses entry.now other.now }
 {

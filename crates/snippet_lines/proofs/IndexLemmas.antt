@@ -1,6 +1,6 @@
 -- The line that holds a byte, by the line feeds up to it.
 use Rattle.std.proofs.Common.{◌≡◌, ◌≢◌, ℕ, ◌+◌, ◌-◌, ◌<◌, ◌≤◌, true, false, cond, ltb, List, [], ◌∷◌, ◌++◌, All, length, take, refl, sym, ap, subst, ◌∙◌}
-use Rattle.std.proofs.Common.{arith, count_by, get_or, inl, inr, append_assoc}
+use Rattle.std.proofs.Common.{arith, count_by, get_or, min, inl, inr, append_assoc}
 use Rattle.std.proofs.lemmas.List.{append-nil, length-append, length-take, length-take-le, take-append-le, take-take, take_all}
 use Rattle.std.proofs.Math.Seq.{take-append-add}
 use Rattle.std.proofs.lemmas.List.Sums.{sum_by-append, sum_by-cons}
@@ -124,3 +124,15 @@ line_of-last source end =
           ap (line_of (source_lines source)) first ∙ here
           ∙ omega (arith, whole, ap (λ n. newline_count (take n source)) nothing)
     ]
+
+-- a byte after the source is on the line of its last byte
+pub line_of-clamped : (source : List ℕ) (b at : ℕ) → at ≡ min b (length source - 1) → line_of (source_lines source) at ≡ line_of (source_lines source) b
+line_of-clamped source b at is =
+    let front : take (at + 1) source ≡ take (b + 1) source = elim (cases_lt b (length source)) [
+      | inl inside ↦
+          let same : at ≡ b = omega (arith, is) in
+          ap (λ n. take (n + 1) source) same
+      | inr after ↦
+          take_all (at + 1) source (omega (arith, is)) ∙ sym (take_all (b + 1) source (omega arith))
+    ] in
+    sym (line_of-count source at) ∙ ap newline_count front ∙ line_of-count source b

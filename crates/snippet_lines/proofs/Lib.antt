@@ -3,6 +3,8 @@ pub mod CountLemmas
 pub mod CursorLemmas
 pub mod IndexLemmas
 pub mod LinesLemmas
+mod NotIndexed
 pub mod NumberLemmas
 pub mod OrderLemmas
 pub mod PlaceLemmas
+pub mod StartLemmas

@@ -3,3 +3,4 @@ pub mod Number
 pub mod Order
 pub mod Place
 pub mod Span
+pub mod Starts

@@ -6,6 +6,7 @@ pub mod level;
 pub mod message_or_title;
 pub mod option_cow;
 pub mod snippet;
+pub mod source_text;
 
 pub use level::Level;
 pub use message_or_title::MessageOrTitle;
@@ -14,3 +15,4 @@ pub use snippet::{
     Annotation, AnnotationKind, Element, Group, Id, Marker, Message, Origin, Padding, Patch,
     Snippet, Title, report_fits,
 };
+pub use source_text::SourceText;

@@ -2,6 +2,7 @@
 ghost use Rattle.std.specs.Prelude.{◌≡◌, ℕ, [], None, Some, true, false};
 ghost use Rattle.std.proofs.Common.{rules};
 ghost use Rattle.std.specs.Cmp.{partial_order_from_own_ties};
+ghost use Rattle.std.specs.Cow.{cow_str_bytes};
 ghost use Rattle.std.specs.Cmp.Rules.{comparing};
 ghost use Rattle.std.specs.Ordering.{nat_cmp, on, as_partial_cmp};
 ghost use Rattle.std.specs.declared.ops.Range.{Range};
@@ -18,7 +19,9 @@ mod titles;
 
 use crate::level::Level;
 use crate::option_cow::OptionCow;
+use crate::source_text::SourceText;
 pub use fits::report_fits;
+use snippet_lines::SourceLines;
 use snippet_style::LevelInner;
 use snippet_text::CowStr;
 use std::alloc::Global;
@@ -127,7 +130,7 @@ pub struct Snippet<'a, T> {
     /// The number of the source's first line.
     pub line_start: usize,
     /// The source.
-    pub source: CowStr<'a>,
+    pub source: SourceText<'a>,
     /// The markers, in the order given.
     pub markers: Vec<T>,
     /// Whether line numbers are shown.
@@ -152,6 +155,30 @@ impl<'a, T> Snippet<'a, T> {
 
     /// The same of a source that may be owned.
     pub fn source_cow(alloc: Global, source: CowStr<'a>) -> Snippet<'a, T>
+        ensures source { result.source ≡ source.entry }
+        ensures path { result.path ≡ None }
+        ensures line_start { result.line_start ≡ 1 }
+        ensures markers { result.markers.items ≡ [] }
+        ensures line_numbering { result.line_numbering ≡ true }
+        ensures fold { result.fold ≡ true }
+    {
+        Snippet::of(alloc, SourceText::new(source))
+    }
+
+    /// The same of a source whose lines were found before: drawing it looks for no line again. It takes no memory.
+    pub fn indexed(alloc: Global, lines: &'a SourceLines<'_>) -> Snippet<'a, T>
+        ensures source { cow_str_bytes result.source ≡ lines.now }
+        ensures path { result.path ≡ None }
+        ensures line_start { result.line_start ≡ 1 }
+        ensures markers { result.markers.items ≡ [] }
+        ensures line_numbering { result.line_numbering ≡ true }
+        ensures fold { result.fold ≡ true }
+    {
+        Snippet::of(alloc, SourceText::indexed(lines))
+    }
+
+    /// The same of any source.
+    fn of(alloc: Global, source: SourceText<'a>) -> Snippet<'a, T>
         ensures source { result.source ≡ source.entry }
         ensures path { result.path ≡ None }
         ensures line_start { result.line_start ≡ 1 }

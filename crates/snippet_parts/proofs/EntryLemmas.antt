@@ -104,26 +104,6 @@ bars-open f old now source first last u a n closing none before at count from to
     before ∙ ap (λ ps. map seen_part old ++ ps) (ap (λ x. map f (range_with_len x n)) at
     ∙ ap (map f) (sym (append-nil (range_with_len (first + 1) n)) ∙ ap (λ b. range_with_len (first + 1) n ++ cond b ((last - 1) ∷ []) []) (sym none) ∙ all))
 
--- bars by equal lines
-pub same-bars : (f : ℕ → PartEntry) (old : List PartEntry) (source : List ℕ) (first last first' last' : ℕ) → first ≡ first' → last ≡ last'
-    → old ++ map f (bar_lines source first last) ≡ old ++ map f (bar_lines source first' last')
-same-bars f old source first last first' last' a b = ap (λ x. old ++ map f (bar_lines source x last)) a ∙ ap (λ x. old ++ map f (bar_lines source first' x)) b
-
--- a span as it is drawn fits as it did
-pub fit-same : (s : Source) (l d : LongSpan) → d.start ≡ l.start → d.end ≡ l.end → HasFit s l → HasFit s d
-fit-same s l d start end fit =
-    record {
-      display = omega (arith, ap (λ (x : Loc). x.display) start, fit.display);
-      end_display =
-          omega (arith, ap (λ (x : Loc). x.display) end, fit.end_display);
-      char = omega (arith, ap (λ (x : Loc). x.char) start, fit.char);
-      lines =
-          omega (arith, ap (λ (x : Loc). x.line) start, ap (λ (x : Loc). x.line) end, fit.lines);
-      from =
-          omega (arith, ap (λ (x : Loc). x.line) start, fit.from);
-      within = omega (arith, ap (λ (x : Loc). x.line) end, fit.within);
-    }
-
 -- ---- the entries of all spans of several lines
 
 -- a span as it is drawn
@@ -222,7 +202,7 @@ no_loc = record { line = 0; char = 0; display = 0; byte = 0 }
 
 -- a span of several lines that stands for none
 abbrev pub no_span : LongSpan
-no_span = record { start = no_loc; end = no_loc; kind = Primary; label = None; highlight_source = false }
+no_span = record { start = no_loc; end = no_loc; kind = Primary; label = None; highlight_source = false; bars = record { end = 0; closing = false } }
 
 -- ---- spans of one place start on one line
 

@@ -26,6 +26,5 @@ pub mod ShownLemmas
 pub mod ShownLineLemmas
 pub mod SpanPlaces
 pub mod StartByte
-pub mod StartLemmas
 pub mod TableLemmas
 pub mod TrivialLemmas

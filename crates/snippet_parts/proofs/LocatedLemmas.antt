@@ -3,7 +3,8 @@ use Rattle.std.proofs.Common.{◌≡◌, ℕ, ◌<◌, ◌≤◌, ◌^◌, Bool,
 use Rattle.std.specs.List.{All, filter}
 use Rattle.std.specs.Option.{option_map}
 use Rattle.std.specs.Cow.{cow_str_bytes}
-use Rattle.std.proofs.lemmas.List.Elements.{All-weaker, All-head, All-tail, All-nil, All-cons}
+use Rattle.std.proofs.lemmas.Bool.{ne_eqb}
+use Rattle.std.proofs.lemmas.List.Elements.{All-head, All-tail}
 use Rattle.snippet_lines.specs.Lines.{Source, source_lines}
 use Rattle.snippet_lines.proofs.PlaceLemmas.{line_of-mono, line_of-within}
 use Rattle.snippet_lines.specs.Order.{ordered_by}
@@ -12,11 +13,10 @@ use Rattle.snippet_model.specs.declared.snippet.Annotation.{Annotation}
 use Rattle.snippet_parts.specs.declared.entries.LineAnnotationType.TheVariants.{Singleline}
 use Rattle.snippet_parts.specs.Annotated.{PartEntry, single_part, long_entry, is_short, is_long, stands_before, long_spans}
 use Rattle.snippet_parts.specs.Mark.{is_marking}
-use Rattle.snippet_parts.specs.Marked.{Entry, last_line, widened}
-use Rattle.snippet_parts.proofs.PartLemmas.{All-unmapped}
+use Rattle.snippet_parts.specs.Marked.{Entry, first_line, last_line, widened}
 use Rattle.snippet_parts.specs.declared.located.LocatedSpan.{LocatedSpan}
 use Rattle.snippet_parts.specs.declared.long_spans.LongSpan.{LongSpan}
-use Rattle.snippet_parts.specs.Located.{IsLocated, annotations_of, is_short_span, is_long_span, span_entry, short_part}
+use Rattle.snippet_parts.specs.Located.{AreBars, IsLocated, annotations_of, is_short_span, is_long_span, span_entry, short_part}
 use Rattle.snippet_parts.specs.LongSpans.{seen_long, HasFit}
 use Rattle.snippet_parts.proofs.LongLemmas.{fit-long}
 
@@ -29,6 +29,11 @@ short-is s l at = ap (λ n. is_marking l.annotation.now.kind && eqb n l.first) a
 long-is : (s : Source) (l : LocatedSpan) → IsLocated s l → is_long_span l ≡ is_long s.text l.annotation.now
 long-is s l at = ap (λ n. is_marking l.annotation.now.kind && not (eqb n l.first)) at.last
     ∙ ap (λ n. is_marking l.annotation.now.kind && not (eqb (last_line s.text l.annotation.now) n)) at.first
+
+-- a marked span whose lines differ is one of several lines
+pub long_span-by : (l : LocatedSpan) → is_marking l.annotation.now.kind ≡ true → (l.last ≡ l.first → ⊥) → is_long_span l ≡ true
+long_span-by l marked apart =
+    ap (λ b. b && not (eqb l.last l.first)) marked ∙ ap not (ne_eqb l.last l.first apart)
 
 -- its lines are in order, and lines of the source
 pub located-ordered : (s : Source) (l : LocatedSpan) → IsLocated s l → l.first ≤ l.last
@@ -85,28 +90,14 @@ pub long-are : (s : Source) (ls : List LocatedSpan) → All (IsLocated s) ls
 long-are s ls all = ap (ordered_by stands_before) (chosen (IsLocated s) (λ (l : LocatedSpan). l.annotation.now) is_long_span (is_long s.text) span_entry
     (long_entry s) (long-is s) (entry_is s) ls all)
 
--- a span of several lines has room where what is seen of it has
-abbrev Fits : Source → Entry → Type 0
-Fits s e = (l : LongSpan) → seen_long l ≡ e → HasFit s l
-
-fits : (s : Source) (x : LocatedSpan) → IsLocated s x → is_long_span x ≡ true → Fits s (span_entry x)
-fits s x at long l seen =
+-- a span of several lines has room, and has the bars that it has where it was located
+pub located-fit : (s : Source) (x : LocatedSpan) (l : LongSpan) → seen_long l ≡ span_entry x → l.bars ≡ x.bars → IsLocated s x → is_long_span x ≡ true
+    → HasFit s l
+located-fit s x l seen bars at long =
     fit-long s x.annotation.now l at.span.ordered (seen ∙ entry_is s x at)
     (subst (λ (n : ℕ). n < 2 ^ 58) (sym (ap (λ (e : Entry). e.start.display) seen)) at.start_display)
     (omega (arith, ap (λ (e : Entry). e.end.display) seen, at.end_display))
     (omega (arith, ap (λ (e : Entry). e.start.char) seen, at.start_char)) (sym (long-is s x at) ∙ long)
-
-all-fit : (s : Source) (ls : List LocatedSpan) → All (IsLocated s) ls → All (Fits s) (map span_entry (filter is_long_span ls))
-all-fit s [] all = All-nil (Fits s)
-all-fit s (x ∷ ls) all = pick (is_long_span x) refl (all-fit s ls (All-tail (IsLocated s) x ls all))
-  where
-    pick : (b : Bool) → is_long_span x ≡ b → All (Fits s) (map span_entry (filter is_long_span ls))
-        → All (Fits s) (map span_entry (cond b (x ∷ filter is_long_span ls) (filter is_long_span ls)))
-    pick true long rest = All-cons (Fits s) (span_entry x) (map span_entry (filter is_long_span ls)) (fits s x (All-head (IsLocated s) x ls all) long) rest
-    pick false long rest = rest
-
--- spans of several lines, as they are given to the bars, fit their source
-pub given-fit : (s : Source) (ls : List LocatedSpan) (spans : List LongSpan) → map seen_long spans ≡ map span_entry (filter is_long_span ls)
-    → All (IsLocated s) ls → All (HasFit s) spans
-given-fit s ls spans is all = All-weaker (λ (l : LongSpan). Fits s (seen_long l)) (HasFit s) (λ l fit.
-    fit l refl) spans (All-unmapped (Fits s) seen_long spans (subst (All (Fits s)) (sym is) (all-fit s ls all)))
+    (subst (λ b. AreBars s.text (first_line s.text x.annotation.now) (last_line s.text x.annotation.now) b) (sym bars)
+    (subst (λ n. AreBars s.text (first_line s.text x.annotation.now) n x.bars) at.last
+    (subst (λ n. AreBars s.text n x.last x.bars) at.first (at.bars long))))

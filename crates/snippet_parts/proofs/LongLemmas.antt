@@ -1,5 +1,5 @@
 -- Spans of several lines, in their order.
-use Rattle.std.proofs.Common.{◌≡◌, ℕ, ◌^◌, ◌<◌, ◌≤◌, Bool, true, false, ◌&&◌, ◌||◌, not, eqb, ltb, List, map, get_or, inl, inr, ap, ◌∙◌, arith}
+use Rattle.std.proofs.Common.{◌≡◌, ℕ, ◌-◌, ◌^◌, ◌<◌, ◌≤◌, Bool, true, false, ◌&&◌, ◌||◌, not, eqb, ltb, List, map, get_or, inl, inr, ap, subst, ◌∙◌, arith}
 use Rattle.std.specs.Cmp.{IsStrictWeakOrder}
 use Rattle.std.specs.List.Sorted.{IsNonDecreasingBy, IsSortedBy}
 use Rattle.std.specs.Ordering.{is_lt, ordering_then, nat_cmp}
@@ -7,6 +7,7 @@ use Rattle.std.proofs.lemmas.Bool.Decides.{nat_tests}
 use Rattle.snippet_parts.specs.declared.long_spans.LongSpan.{LongSpan}
 use Rattle.snippet_parts.specs.Annotated.{long_entry, is_long, stands_before}
 use Rattle.snippet_lines.specs.Order.{ordered_by}
+use Rattle.snippet_parts.specs.Located.{AreBars}
 use Rattle.snippet_parts.specs.LongSpans.{seen_long, HasFit}
 use Rattle.snippet_lines.specs.Lines.{Source, source_lines}
 use Rattle.snippet_parts.specs.Mark.{is_marking}
@@ -59,8 +60,13 @@ long-lines s a ordered long =
 
 -- a span of several lines whose columns are small enough has room
 pub fit-long : (s : Source) (a : Annotation) (l : LongSpan) → a.span.start ≤ a.span.end → seen_long l ≡ long_entry s a → l.start.display < 2 ^ 58
-    → l.end.display ≤ 2 ^ 58 → l.start.char ≤ 2 ^ 56 → is_long s.text a ≡ true → HasFit s l
-fit-long s a l ordered seen display end char long =
+    → l.end.display ≤ 2 ^ 58 → l.start.char ≤ 2 ^ 56 → is_long s.text a ≡ true → AreBars s.text (first_line s.text a) (last_line s.text a) l.bars
+    → HasFit s l
+fit-long s a l ordered seen display end char long bars =
+    let first : first_line s.text a ≡ l.start.line - s.first =
+    omega (arith, ap (λ (e : Entry). e.start.line) seen, start-line s a.span.start a.span.end) in
+    let last : last_line s.text a ≡ l.end.line - s.first =
+    omega (arith, ap (λ (e : Entry). e.end.line) seen, end-line s a.span.start a.span.end) in
     record {
       display = display;
       end_display = end;
@@ -71,6 +77,7 @@ fit-long s a l ordered seen display end char long =
           omega (arith, ap (λ (e : Entry). e.start.line) seen, start-line s a.span.start a.span.end);
       within =
           omega (arith, ap (λ (e : Entry). e.end.line) seen, end-line s a.span.start a.span.end, line_of-within s.text a.span.end);
+      bars = subst (λ n. AreBars s.text (l.start.line - s.first) n l.bars) last (subst (λ n. AreBars s.text n (last_line s.text a) l.bars) first bars);
     }
 
 -- the order of the code's spans is that of what is seen of them

@@ -2,7 +2,7 @@
 use Rattle.std.proofs.Common.{◌≡◌, ℕ, zero, suc, ◌+◌, ◌-◌, ◌<◌, ◌≤◌, ◌&&◌, cond, leb, ltb, min, take, drop, List, [], ◌∷◌, ◌++◌, map, length}
 use Rattle.std.proofs.Common.{inl, inr, true, false, Some, None}
 use Rattle.std.proofs.Common.{get_or, refl, sym, ap, subst, ◌∙◌, arith}
-use Rattle.std.proofs.lemmas.List.{map_push, length-append, length-drop, length-take, take-take}
+use Rattle.std.proofs.lemmas.List.{map_push, length-append, length-drop, length-take, take-take, take_all}
 use Rattle.std.proofs.Math.Seq.{take-add}
 use Rattle.std.proofs.lemmas.List.Concat.{flat_map-append}
 use Rattle.std.proofs.lemmas.Bool.{cases_lt, leb-true, leb-false, le-leb, lt-ltb, le-ltb, and_from, and_right, cond-true, cond-false}
@@ -10,15 +10,18 @@ use Rattle.std.specs.List.{HoldsAt, range_with_len}
 use Rattle.std.proofs.lemmas.List.FromFn.{map-range_with_len_more}
 use Rattle.std.specs.List.Sorted.{IsNonDecreasingBy, IsPartitionPoint}
 use Rattle.snippet_parts.specs.declared.source_map.LineInfo.{LineInfo}
-use Rattle.snippet_lines.specs.Lines.{Line, line_bytes, joined, source_lines, text_at, start_of, line_at, StandsAt, Source}
+use Rattle.snippet_lines.specs.Lines.{Line, line_bytes, joined, source_lines, text_at, start_of, newline_count, line_at, StandsAt, Source}
 use Rattle.snippet_text.specs.Width.{width_of}
 use Rattle.snippet_lines.specs.declared.place.Loc.{Loc}
 use Rattle.snippet_lines.specs.Place.{HoldsByte, line_of, place_of, prefix_at, location_of, steps_after_text}
 use Rattle.snippet_lines.specs.Span.{IsSpanBorder}
-use Rattle.std.specs.Str.{IsCharBoundary, chars}
-use Rattle.snippet_parts.specs.LineTable.{LineEntry, IsLineTable, table_entry, entry_at, starts_from}
+use Rattle.std.specs.Str.{IsCharBoundary, IsUtf8, chars}
+use Rattle.snippet_parts.specs.LineTable.{LineEntry, IsLineTable, table_entry, entry_at}
+use Rattle.snippet_lines.specs.Starts.{starts_from, line_starts}
+use Rattle.snippet_text.specs.Bounds.{TextFits}
+use Rattle.snippet_style.specs.Bounds.{HasNext}
 use Rattle.snippet_lines.proofs.LinesLemmas.{start_of-zero, start_of-cons, start_of-end, start_of-le, joined-source_lines, length-source_lines, text_at-stands}
-use Rattle.snippet_lines.proofs.PlaceLemmas.{line_of-is, line_of-within, HoldsByte-source, text_at-end, IsCharBoundary-prefix}
+use Rattle.snippet_lines.proofs.PlaceLemmas.{line_of-is, line_of-within, HoldsByte-source, start_of-inside, text_at-end, IsCharBoundary-prefix}
 
 same_entry : (text : List ℕ) (number start next number' start' next' : ℕ) → number ≡ number' → start ≡ start' → next ≡ next'
     → ◌≡◌ {A = LineEntry} (record { text = text; number = number; start = start; next = next })
@@ -67,6 +70,20 @@ module _ (source starts : List ℕ) (first skipped from end : ℕ) (table : IsLi
         length-drop skipped (source_lines source),
       )
 
+  -- where they reach to the end of the source, all lines after those that are skipped are kept
+  pub table-last : end ≡ length source → skipped + length starts ≡ length (source_lines source)
+  table-last ends =
+      let ls : List Line = source_lines source in
+      let k : ℕ = skipped + length starts in
+      elim (cases_lt k (length ls)) [
+        | inl less ↦
+            let next : k - 1 + 1 ≡ k = omega (arith, table.some) in
+            let before : start_of ls k < length source = subst (λ n. start_of ls n < length source) next
+            (start_of-inside source (k - 1) (omega (arith, next, less))) in
+            absurd (omega (arith, before, table.end_is, ends))
+        | inr enough ↦ omega (arith, table-within, enough)
+      ]
+
   -- each start is where its line starts
   pub table-start : (k d : ℕ) → k < length starts → from + get_or starts k d ≡ start_of (source_lines source) (skipped + k)
   table-start k d within =
@@ -105,6 +122,24 @@ module _ (source starts : List ℕ) (first skipped from end : ℕ) (table : IsLi
         to = λ _. ends;
       } in
       sym (line_of-is ls byte (skipped + k) holds)
+
+-- all lines of a source, which start at the bytes that are lent
+pub table-all : (source starts : List ℕ) (first : ℕ) → starts ≡ line_starts source → IsUtf8 source → TextFits source
+    → HasNext (first + newline_count source) → IsLineTable source first 0 0 (length source) starts
+table-all source starts first is utf8 fits numbers =
+    let ls : List Line = source_lines source in
+    let size : length starts ≡ length ls = ap length is ∙ length-starts_from 0 ls in
+    let all : take (length starts) (drop 0 ls) ≡ ls = ap (λ n. take n (drop 0 ls)) size ∙ take_all (length ls) ls (omega arith) in
+    let last : 0 + length starts ≡ length ls = omega (arith, size) in
+    record {
+      starts_are = is ∙ sym (ap (starts_from 0) all);
+      some = omega (arith, size, length-source_lines source);
+      from_is = sym (start_of-zero ls);
+      end_is = sym (ap (start_of ls) last ∙ start_of-end ls (length ls) (omega arith) ∙ ap length (joined-source_lines source));
+      utf8 = utf8;
+      short = fits;
+      numbers = omega (arith, length-source_lines source, numbers);
+    }
 
 -- the entry of a line by its parts
 pub entry_at-is : (info : LineInfo) (first : ℕ) (ls : List Line) (k : ℕ) → info.line.now ≡ text_at ls k → info.line_index ≡ first + k

@@ -1,10 +1,11 @@
 -- The table of a source's lines.
-use Rattle.std.specs.Prelude.{◌≡◌, ℕ, ◌+◌, ◌-◌, ◌<◌, List, [], ◌∷◌, length, map, take, drop}
+use Rattle.std.specs.Prelude.{◌≡◌, ℕ, ◌+◌, ◌-◌, ◌<◌, List, length, map, take, drop}
 use Rattle.std.specs.List.{range_with_len}
 use Rattle.std.specs.Str.{IsUtf8}
 use Rattle.snippet_parts.specs.declared.source_map.LineInfo.{LineInfo}
-use Rattle.snippet_lines.specs.Lines.{Line, line_bytes, source_lines, text_at, start_of, Source}
+use Rattle.snippet_lines.specs.Lines.{Line, source_lines, text_at, start_of, Source}
 use Rattle.snippet_lines.specs.Place.{line_of}
+use Rattle.snippet_lines.specs.Starts.{starts_from}
 use Rattle.snippet_text.specs.Bounds.{TextFits}
 use Rattle.snippet_style.specs.Bounds.{IsUsize}
 
@@ -28,11 +29,6 @@ abbrev pub touched_entries : Source → ℕ → ℕ → List LineEntry
 touched_entries s start end =
     let ls = source_lines s.text in
     map (entry_at s.first ls) (range_with_len (line_of ls start) (line_of ls end + 1 - line_of ls start))
-
--- where some lines start, of which the first starts at a byte
-abbrev pub starts_from : ℕ → List Line → List ℕ
-starts_from start [] = []
-starts_from start (l ∷ ls) = start ∷ starts_from (start + length (line_bytes l)) ls
 
 -- some lines of a source, one or more that follow those that are skipped: they stand between these two bytes, and start at these, counted
 -- from the first of them; the source is UTF-8, and the numbers of its lines and of its bytes fit

@@ -1,8 +1,9 @@
 -- Spans of several lines as the code holds them.
-use Rattle.std.specs.Prelude.{◌+◌, ◌<◌, ◌≤◌, length}
+use Rattle.std.specs.Prelude.{◌+◌, ◌-◌, ◌<◌, ◌≤◌, length}
 use Rattle.std.specs.Option.{option_copied}
 use Rattle.snippet_parts.specs.declared.long_spans.LongSpan.{LongSpan}
 use Rattle.snippet_lines.specs.Lines.{Source, source_lines}
+use Rattle.snippet_parts.specs.Located.{AreBars}
 use Rattle.snippet_parts.specs.Marked.{Entry}
 use Rattle.snippet_style.specs.Bounds.{IsColumn, IsSourceColumn, IsSourceEnd}
 
@@ -10,8 +11,8 @@ use Rattle.snippet_style.specs.Bounds.{IsColumn, IsSourceColumn, IsSourceEnd}
 abbrev pub seen_long : LongSpan → Entry
 seen_long l = record { start = l.start; end = l.end; kind = l.kind; label = option_copied l.label; highlight_source = l.highlight_source }
 
--- its columns and characters leave room for one more, it ends on a later line than it starts on, and its lines are lines
--- of the source
+-- its columns and characters leave room for one more, it ends on a later line than it starts on, its lines are lines of the
+-- source, and its bars are those of such a span
 pub record HasFit (s : Source) (l : LongSpan) : Type 0 where
   pub display : IsSourceColumn l.start.display
   pub end_display : IsSourceEnd l.end.display
@@ -19,3 +20,4 @@ pub record HasFit (s : Source) (l : LongSpan) : Type 0 where
   pub lines : l.start.line < l.end.line
   pub from : s.first ≤ l.start.line
   pub within : l.end.line < s.first + length (source_lines s.text)
+  pub bars : AreBars s.text (l.start.line - s.first) (l.end.line - s.first) l.bars

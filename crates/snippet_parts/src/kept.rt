@@ -5,12 +5,11 @@ ghost use Rattle.std.specs.List.{list_any, range_with_len};
 ghost use Rattle.std.specs.List.Sorted.{IsNonDecreasingBy};
 ghost use Rattle.snippet_parts.specs.Kept as kept;
 ghost use Rattle.snippet_parts.specs.Kept.{keeps};
-ghost use Rattle.snippet_lines.specs.Lines.{source_lines};
+ghost use Rattle.snippet_lines.specs.Lines.{Source, source_lines};
 ghost use Rattle.snippet_parts.specs.Marked.{first_line, last_line};
 ghost use Rattle.snippet_parts.specs.Located.{IsLocated, annotations_of};
 ghost use Rattle.snippet_parts.specs.Stretches.{holds_line, is_held, is_seen};
 
-use crate::bars::{bars_end, has_closing_bar};
 use crate::located::LocatedSpan;
 use crate::location::is_marking;
 use crate::source_map::SourceMap;
@@ -74,7 +73,7 @@ fn folded_lines(
 {
     let mut stretches = Vec::with_capacity(alloc, located.len().saturating_mul(2))?;
     for span in located {
-        let (head, tail) = kept_stretches(source, span);
+        let (head, tail) = kept_stretches(span);
         stretches.push(head)?;
         stretches.push(tail)?;
     }
@@ -119,24 +118,19 @@ pub(crate) fn is_among(lines: &[usize], line: usize) -> bool
 }
 
 /// The lines that a span keeps: those of its beginning, and those of its end.
-fn kept_stretches(source: &SourceMap<'_>, span: &LocatedSpan<'_>) -> (Stretch, Stretch)
-    requires located { IsLocated source.now span.now }
-    ensures value { (k : ℕ) → (holds_line result.0 k || holds_line result.1 k)
-        ≡ keeps source.now.text k span.now.annotation.now }
-    ensures head { result.0.first < length (source_lines source.now.text) }
-    ensures tail { result.1.first < length (source_lines source.now.text) }
-    ensures head_last { result.0.last < length (source_lines source.now.text) }
-    ensures tail_last { result.1.last < length (source_lines source.now.text) }
+fn kept_stretches(span: &LocatedSpan<'_>) -> (Stretch, Stretch)
+    ensures value { (s : Source) (k : ℕ) → IsLocated s span.now → (holds_line result.0 k || holds_line result.1 k)
+        ≡ keeps s.text k span.now.annotation.now }
 {
     let all = touched(span);
-    if all.first == all.last || !is_marking(span.annotation.kind) {
+    if all.first >= all.last || !is_marking(span.annotation.kind) {
         return (all, all);
     }
     let head = Stretch {
         first: all.first,
-        last: bars_end(source, all.first, all.last),
+        last: span.bars.end,
     };
-    let closing = usize::from(has_closing_bar(source, all.first, all.last));
+    let closing = usize::from(span.bars.closing);
     let tail = Stretch {
         first: all.last - closing,
         last: all.last,

@@ -18,6 +18,7 @@ pub mod shown_line;
 pub mod snippet_map;
 pub mod source_map;
 mod span_entries;
+mod starts;
 pub mod trivial_lines;
 
 pub use between::with_lines_between;

@@ -1,11 +1,15 @@
 //! Spans, each with its place in a source, which is looked for once.
-ghost use Rattle.std.specs.Prelude.{◌≡◌, All, IfOk};
+ghost use Rattle.std.specs.Prelude.{◌≡◌, ◌<◌, ◌≤◌, All, IfOk, length, true};
+ghost use Rattle.snippet_lines.specs.Lines.{source_lines};
 ghost use Rattle.snippet_lines.specs.Span.{IsSpan};
-ghost use Rattle.snippet_parts.specs.Located.{IsLocated, annotations_of};
+ghost use Rattle.snippet_parts.specs.Located.{AreBars, IsLocated, annotations_of};
+ghost use Rattle.snippet_parts.specs.Mark as mark;
 
+use crate::bars::{Bars, bars_between};
+use crate::location::is_marking;
 use crate::source_map::SourceMap;
 use snippet_lines::place::Loc;
-use snippet_model::snippet::Annotation;
+use snippet_model::snippet::{Annotation, AnnotationKind};
 use std::alloc::{AllocError, Global};
 
 /// A span, and where it stands.
@@ -18,6 +22,8 @@ pub(crate) struct LocatedSpan<'a> {
     pub(crate) last: usize,
     pub(crate) start: Loc,
     pub(crate) end: Loc,
+    /// Its bars, if it stands on several lines and is of a kind that is marked.
+    pub(crate) bars: Bars,
 }
 
 /// The spans of annotations, as given, each with its place.
@@ -46,11 +52,29 @@ fn located_span<'a>(source: &SourceMap<'a>, annotation: &'a Annotation<'a>) -> L
     ensures located { IsLocated source.now result }
 {
     let (start, end) = source.span_to_locations(annotation.span.start..annotation.span.end);
+    let first = start.line - source.line_start();
+    let last = end.line - source.line_start();
     LocatedSpan {
         annotation,
-        first: start.line - source.line_start(),
-        last: end.line - source.line_start(),
+        first,
+        last,
         start,
         end,
+        bars: span_bars(source, annotation.kind, first, last),
+    }
+}
+
+/// The bars of a span of a kind, from one line to another. For one that isn't marked, or stands on one line, no line is
+/// read.
+fn span_bars(source: &SourceMap<'_>, kind: AnnotationKind, first: usize, last: usize) -> Bars
+    requires within { last < length (source_lines source.now.text) }
+    ensures value { mark.is_marking kind ≡ true → first < last → AreBars source.now.text first last result }
+{
+    if first < last && is_marking(kind) {
+        return bars_between(source, first, last);
+    }
+    Bars {
+        end: first,
+        closing: false,
     }
 }

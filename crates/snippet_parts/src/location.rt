@@ -50,9 +50,9 @@ pub fn secondary_place(lines: &[AnnotatedLineInfo<'_>]) -> Option<Location>
 /// The byte at which the first primary span starts; where none is primary, the first span that is marked. `None` where
 /// none is.
 ///
-/// The place of this byte is the one that the head of a primary snippet names: on the first line with a primary entry, at
-/// the least column of a primary one; where no entry is primary, on the first line with an entry, at the least column
-/// there.
+/// The place of this byte is the one that the head of a primary snippet names: on the first line with a primary entry,
+/// at the least column of a primary one; where no entry is primary, on the first line with an entry, at the least
+/// column there.
 pub fn naming_start(annotations: &[Annotation<'_>]) -> Option<usize>
     ensures value { result ≡ spec.naming_start annotations.now }
     // A span of no bytes may stand there.

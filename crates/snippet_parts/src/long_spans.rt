@@ -8,6 +8,7 @@ ghost use Rattle.snippet_parts.specs.Located.{IsLocated, is_long_span, span_entr
 ghost use Rattle.snippet_lines.specs.Lines.{Source};
 ghost use Rattle.snippet_lines.specs.Order.{ordered_by};
 
+use crate::bars::Bars;
 use crate::depths::LongExtent;
 use crate::located::LocatedSpan;
 use crate::location::is_marking;
@@ -23,6 +24,8 @@ pub(crate) struct LongSpan<'a> {
     pub(crate) kind: AnnotationKind,
     pub(crate) label: Option<&'a str>,
     pub(crate) highlight_source: bool,
+    /// Its bars.
+    pub(crate) bars: Bars,
 }
 
 impl LongSpan<'_> {
@@ -69,6 +72,7 @@ fn given_long_spans<'a>(
 ) -> Result<Vec<LongSpan<'a>>, AllocError>
     ensures value { IfOk result (λ spans. map seen_long spans.items
         ≡ map span_entry (filter is_long_span located.now)) }
+    ensures fit { IfOk result (λ spans. (s : Source) → All (IsLocated s) located.now → All (HasFit s) spans.items) }
 {
     let mut spans = Vec::new(alloc);
     for span in located {
@@ -89,6 +93,7 @@ fn is_long(span: &LocatedSpan<'_>) -> bool
 /// A span, from its start to its end.
 fn long_span<'a>(span: &LocatedSpan<'a>) -> LongSpan<'a>
     ensures value { seen_long result ≡ span_entry span.now }
+    ensures bars { result.bars ≡ span.now.bars }
 {
     LongSpan {
         start: span.start,
@@ -96,6 +101,7 @@ fn long_span<'a>(span: &LocatedSpan<'a>) -> LongSpan<'a>
         kind: span.annotation.kind,
         label: span.annotation.label.as_ref().map(|label| label.as_str()),
         highlight_source: span.annotation.highlight_source,
+        bars: span.bars,
     }
 }
 

@@ -91,6 +91,7 @@ fn promoted<'a>(before: &[LongSpan<'a>], span: LongSpan<'a>) -> LongSpan<'a>
     ensures value { seen_long result ≡ spec.promoted (map seen_long before.now) (seen_long span.entry) }
     ensures start { result.start ≡ span.entry.start }
     ensures end { result.end ≡ span.entry.end }
+    ensures bars { result.bars ≡ span.entry.bars }
 {
     let mut promoted = span;
     if is_primary(before, span) {

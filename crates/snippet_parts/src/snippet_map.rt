@@ -13,7 +13,7 @@ use std::alloc::{AllocError, Global};
 use std::ops::Range;
 
 /// The map of a snippet's source. It keeps where lines start from the first line that a marker reaches to the last, and
-/// where lines aren't folded of all.
+/// where lines aren't folded of all; where the snippet's lines are lent, it reads those.
 ///
 /// The one error is that memory ran out.
 pub fn map_of<'a, T: Marker>(
@@ -26,6 +26,9 @@ pub fn map_of<'a, T: Marker>(
     ensures utf8 { IfOk result (λ m. IsUtf8 m.text) }
 {
     let source = snippet.source.as_str();
+    if let Some(starts) = snippet.source.line_starts() {
+        return Ok(SourceMap::with_starts(alloc, source, starts, snippet.line_start));
+    }
     let bytes = if snippet.fold {
         reached(&snippet.markers)
     } else {

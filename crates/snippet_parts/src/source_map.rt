@@ -6,7 +6,8 @@ ghost use Rattle.std.specs.List.{HoldsAt, list_any};
 ghost use Rattle.std.specs.List.Sorted.{IsNonDecreasingBy};
 ghost use Rattle.snippet_lines.specs.Lines.{Line, AreLinesOf, line_at, source_lines, text_at, start_of, newline_count};
 ghost use Rattle.snippet_lines.specs.Lines.{StandsAt};
-ghost use Rattle.snippet_parts.specs.LineTable.{table_entry, entry_at, starts_from, touched_entries};
+ghost use Rattle.snippet_lines.specs.Starts.{line_starts as spec_starts};
+ghost use Rattle.snippet_parts.specs.LineTable.{table_entry, entry_at, touched_entries};
 ghost use Rattle.snippet_lines.specs.Place.{line_of, location_of, steps_after_text, locations_of};
 ghost use Rattle.snippet_lines.specs.Span.{IsSpan, IsSpanBorder};
 ghost use Rattle.snippet_parts.specs.Annotated as spec;
@@ -25,10 +26,11 @@ ghost use Rattle.snippet_style.specs.Bounds.{HasNext, IsSourceColumn, IsSourceEn
 
 use crate::annotated_lines::annotated_lines;
 use crate::entries::AnnotatedLineInfo;
-use memchr::memchr_iter;
+use crate::starts::Starts;
 use snippet_lines::line_bounds::{line_bounds, line_index};
 use snippet_lines::lines::{newline_count, without_line_end};
 use snippet_lines::place::Loc;
+use snippet_lines::source_lines::{SourceLines, line_starts};
 use snippet_model::snippet::{Annotation, Patch};
 use snippet_splice::{SplicedLines, spliced_lines};
 use std::alloc::{AllocError, Global};
@@ -51,11 +53,12 @@ pub struct LineInfo<'a> {
 /// A source, cut into lines that have numbers.
 ///
 /// Where lines start is kept for some lines that follow one another, all of them or those that are shown; any other
-/// line is looked for where it is asked for.
+/// line is looked for where it is asked for. Where the lines of a source are lent, none has to be.
 #[derive(Drop)]
 pub struct SourceMap<'a> {
+    alloc: Global,
     /// The byte at which each line that is kept starts, counted from the first of them; at least one line is kept.
-    starts: Vec<usize>,
+    starts: Starts<'a>,
     /// How many lines stand before these.
     skipped: usize,
     /// The byte at which the first of these starts.
@@ -72,10 +75,12 @@ impl<'a> Model for SourceMap<'a> {
     ghost Value = { Source };
 
     ghost use Rattle.snippet_parts.specs.LineTable.{IsLineTable};
+    ghost use Rattle.snippet_parts.specs.Starts.{starts_of};
 
     ghost view = { λ m. record { text = m.source.now; first = m.line_start } };
 
-    ghost invariant = { λ m. IsLineTable m.source.now m.line_start m.skipped m.from m.end m.starts.items };
+    ghost invariant = { λ m. IsLineTable m.source.now m.line_start m.skipped m.from m.end
+        (starts_of m.starts) };
 }
 
 impl<'a> SourceMap<'a> {
@@ -112,13 +117,46 @@ impl<'a> SourceMap<'a> {
         let from = line_bounds(source, bytes.start).start;
         let end = line_bounds(source, bytes.end).end;
         Ok(SourceMap {
-            starts: line_starts(alloc, &source[from..end])?,
+            alloc,
+            starts: Starts::Found(line_starts(alloc, &source[from..end])?),
             skipped: line_index(source, bytes.start),
             from,
             end,
             source,
             line_start,
         })
+    }
+
+    /// The same map of a source whose lines were found before. It takes no memory.
+    pub fn indexed(alloc: Global, lines: &'a SourceLines<'_>, line_start: usize) -> SourceMap<'a>
+        requires fits { TextFits lines.now }
+        requires numbers { HasNext (line_start + newline_count lines.now) }
+        ensures value { result ≡ record { text = lines.now; first = line_start } }
+    {
+        SourceMap::with_starts(alloc, lines.source(), lines.starts(), line_start)
+    }
+
+    /// The same, of the source's text and the bytes at which its lines start.
+    pub(crate) fn with_starts(
+        alloc: Global,
+        source: &'a str,
+        starts: &'a [usize],
+        line_start: usize,
+    ) -> SourceMap<'a>
+        requires starts { starts.now ≡ spec_starts source.now }
+        requires fits { TextFits source.now }
+        requires numbers { HasNext (line_start + newline_count source.now) }
+        ensures value { result ≡ record { text = source.now; first = line_start } }
+    {
+        SourceMap {
+            alloc,
+            starts: Starts::Lent(starts),
+            skipped: 0,
+            from: 0,
+            end: source.len(),
+            source,
+            line_start,
+        }
     }
 
     /// The source.
@@ -143,7 +181,11 @@ impl<'a> SourceMap<'a> {
         ensures only { (ls : List Line) → AreLinesOf self.now.text ls
             → ls ≡ source_lines self.now.text }
     {
-        newline_count(self.source) + 1
+        if self.end == self.source.len() {
+            self.skipped + self.starts.as_slice().len()
+        } else {
+            newline_count(self.source) + 1
+        }
     }
 
     /// The text of the line of a number, without its end; `None` where the source has no such line.
@@ -202,7 +244,7 @@ impl<'a> SourceMap<'a> {
             → spec.depth_of self.now annotations.now a ≡ spec.depth_of self.now annotations.now b
             → spec.long_place (spec.long_entry self.now a) ≡ spec.long_place (spec.long_entry self.now b) }
     {
-        annotated_lines(*self.starts.allocator(), self, annotations, fold)
+        annotated_lines(self.alloc, self, annotations, fold)
     }
 
     /// Where a span of bytes starts and ends.
@@ -252,7 +294,7 @@ impl<'a> SourceMap<'a> {
     {
         let first = self.line_index_of(span.start);
         let last = self.line_index_of(span.end);
-        let mut lines = Vec::new(*self.starts.allocator());
+        let mut lines = Vec::new(self.alloc);
         for index in first..last + 1 {
             lines.push(self.line_info(index))?;
         }
@@ -275,7 +317,7 @@ impl<'a> SourceMap<'a> {
         ensures none { IfOk result (λ t. IsNone t ↔ (patches.now ≡ [])) }
         ensures splice { IfOk result (λ t. IfSome t (IsSplice self.now.text (map edit_of patches.now) fold)) }
     {
-        spliced_lines(*self.starts.allocator(), self.source(), patches, fold)
+        spliced_lines(self.alloc, self.source(), patches, fold)
     }
 
     /// The location of a byte of this line.
@@ -328,23 +370,20 @@ impl<'a> SourceMap<'a> {
         ensures bound { HasNext result }
         ensures short { TextFits self.now.text }
     {
-        if self.from <= byte && byte < self.end {
-            self.skipped + last_starting_by(&self.starts, byte - self.from)
+        // A byte after the source is on its last line, as its last byte is.
+        let at = byte.min(self.source.len().saturating_sub(1));
+        if self.from <= at && at < self.end {
+            self.skipped + last_starting_by(self.starts.as_slice(), at - self.from)
         } else {
             line_index(self.source, byte)
         }
-    }
-
-    /// Whether a byte is on a line whose start is kept.
-    fn keeps_byte(&self, byte: usize) -> bool {
-        self.starts[0] <= byte && byte < self.end
     }
 
     /// Whether the source has a line `index`, from 0.
     fn has_line(&self, index: usize) -> bool
         ensures value { result ≡ nat_lt index (length (source_lines self.now.text)) }
     {
-        index < self.skipped + self.starts.len() || index < self.line_count()
+        index < self.skipped + self.starts.as_slice().len() || index < self.line_count()
     }
 
     /// The text of line `index`, from 0, without its end.
@@ -388,10 +427,11 @@ impl<'a> SourceMap<'a> {
         ensures value { IfSome result (λ start. start ≡ start_of (source_lines self.now.text) index) }
     {
         let at = index.checked_sub(self.skipped)?;
-        if at == self.starts.len() {
+        let starts = self.starts.as_slice();
+        if at == starts.len() {
             return Some(self.end);
         }
-        let start = self.starts.get(at)?;
+        let start = starts.get(at)?;
         Some(self.from + *start)
     }
 
@@ -435,19 +475,4 @@ fn nth_line_start(source: &str, index: usize) -> usize
         start = line_bounds(source, start).end;
     }
     start
-}
-
-/// The byte at which each line of a source starts. An empty source has one line.
-fn line_starts(alloc: Global, source: &str) -> Result<Vec<usize>, AllocError>
-    requires fits { TextFits source.now }
-    ensures starts { IfOk result (λ starts. starts.items ≡ starts_from 0 (source_lines source.now)) }
-{
-    let mut starts = vec![in alloc; 0]?;
-    for line_feed in memchr_iter(b'\n', source.as_bytes()) {
-        let next = line_feed + 1;
-        if next < source.len() {
-            starts.push(next)?;
-        }
-    }
-    Ok(starts)
 }

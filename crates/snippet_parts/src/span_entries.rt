@@ -6,7 +6,6 @@ ghost use Rattle.snippet_parts.specs.LongSpans.{seen_long, HasFit};
 ghost use Rattle.snippet_parts.specs.Located.{is_short_span, short_part};
 ghost use Rattle.snippet_style.specs.Bounds.{IsColumn, IsSourceColumn};
 
-use crate::bars::{bars_end, has_closing_bar};
 use crate::entries::{LineAnnotation, LineAnnotationType};
 use crate::located::LocatedSpan;
 use crate::location::is_marking;
@@ -93,13 +92,11 @@ fn push_bars<'a>(
         (span.entry.end.line - source.now.first))) }
 {
     let first = span.start.line - source.line_start();
-    let last = span.end.line - source.line_start();
-    let end = bars_end(source, first, last);
-    for line in first + 1..end + 1 {
+    for line in first + 1..span.bars.end + 1 {
         entries.push(bar_entry(span, source.line_start() + line, depth))?;
     }
-    if has_closing_bar(source, first, last) {
-        entries.push(bar_entry(span, source.line_start() + (last - 1), depth))?;
+    if span.bars.closing {
+        entries.push(bar_entry(span, span.end.line - 1, depth))?;
     }
     Ok(())
 }

@@ -41,7 +41,7 @@ ties_as_given : ordered_by is_placed_before (entry Context 1 2 ∷ entry Primary
 ties_as_given = refl
 
 abbrev placed : CowStr Global → AnnotationKind → ℕ → ℕ → PlacedEntry
-placed label kind from to = record { entry = entry kind from to; label = label; position = 0 }
+placed label kind from to = record { entry = entry kind from to; label = label; position = 0; looked = 0 }
 
 -- the widest mark is painted first, and of one width those for context before a primary one; all others as they are placed
 widest_first : (label : CowStr Global)

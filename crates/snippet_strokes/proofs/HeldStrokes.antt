@@ -1,8 +1,7 @@
 -- How an entry holds its label, and from where a text is lent, makes no difference to what is drawn of a line.
-use Rattle.std.proofs.Common.{◌≡◌, ℕ, ◌+◌, ◌==◌, ◌&&◌, ◌||◌, nat_le, nat_lt, not, cond, Bool, List, [], ◌∷◌, ◌++◌, None, Some, length, map, max, take, drop}
+use Rattle.std.proofs.Common.{◌≡◌, ℕ, ◌+◌, ◌==◌, ◌&&◌, ◌||◌, nat_le, nat_lt, cond, Bool, List, [], ◌∷◌, ◌++◌, map, max, take, drop}
 use Rattle.std.proofs.Common.{get_or, refl, ap, ◌∙◌}
-use Rattle.std.specs.List.{flat_map, list_any, position, position_or_len, zip}
-use Rattle.std.proofs.lemmas.List.{length-map}
+use Rattle.std.specs.List.{flat_map, list_any, zip}
 use Rattle.std.specs.List.{drop-map, take-map}
 use Rattle.std.proofs.lemmas.List.Folds.{flat_map-map, fold-map}
 use Rattle.snippet_parts.proofs.PartLemmas.{list_any-map}
@@ -10,10 +9,10 @@ use Rattle.snippet_grid.specs.Layout.{Layout}
 use Rattle.snippet_labels.specs.declared.positions.PlacedEntry.{PlacedEntry}
 use Rattle.snippet_strokes.specs.Writes.{Write}
 use Rattle.snippet_strokes.specs.Painting.{marks_of}
-use Rattle.snippet_labels.specs.Positions.{are_starts, crosses, do_overlap, has_label, label_place, position_after, position_at}
+use Rattle.snippet_labels.specs.Positions.{are_starts, do_overlap, has_label, label_place}
 use Rattle.snippet_labels.specs.Entries.{label_role}
-use Rattle.snippet_strokes.proofs.HeldLemmas.{are_starts-held, held, label_text-plain, marks_of-held, position_after-held, position_at-held}
-use Rattle.snippet_strokes.specs.Cuts.{cut_of, cuts_of, is_met, is_overlapped, look_ends, looked_after, meets, overlapped, overlapped_by, up_to}
+use Rattle.snippet_strokes.proofs.HeldLemmas.{are_starts-held, held, label_text-plain, marks_of-held}
+use Rattle.snippet_strokes.specs.Cuts.{cut_of, cuts_of, is_met, is_overlapped, look_ends, meets, overlapped, overlapped_by}
 use Rattle.snippet_strokes.specs.Drawing.{lowest_position, row_count}
 use Rattle.snippet_strokes.specs.Strokes.{connector_of, connectors_of, corner_of, corners_of, is_stem_covered, label_of, labels_of, stem_of, stems_of}
 use Rattle.snippet_strokes.specs.Strokes.{line_strokes}
@@ -79,31 +78,9 @@ line_strokes-held layout row count placed order =
 
 -- ---- what is cut
 
-position_or_len-map : {X Y : Type 0} (p : Y → Bool) (f : X → Y) (xs : List X) → position_or_len p (map f xs) ≡ position_or_len (λ x. p (f x)) xs
-position_or_len-map p f [] = refl
-position_or_len-map p f (x ∷ xs) = ap (λ n. cond (not (p (f x))) (1 + n) 0) (position_or_len-map p f xs)
-
-position-held : (e : PlacedEntry) (others : List PlacedEntry) → position (crosses (held e)) (map held others) ≡ position (crosses e) others
-position-held e others =
-    ap (λ n. cond (nat_lt n (length (map held others))) (Some n) None) (position_or_len-map (crosses (held e)) held others)
-    ∙ ap (λ n. cond (nat_lt (position_or_len (crosses e) others) n) (Some (position_or_len (crosses e) others)) None) (length-map others held)
-
-looked_after-held : (reached : ℕ) (e : PlacedEntry) (others : List PlacedEntry)
-    → looked_after reached (held e) (map held others) ≡ looked_after reached e others
-looked_after-held reached e others =
-    ap (λ n. cond ((reached == 0) && has_label e) (up_to (position (crosses (held e)) (map held others)) n) n) (length-map others held)
-    ∙ ap (λ at. cond ((reached == 0) && has_label e) (up_to at (length others)) (length others)) (position-held e others)
-
-look_ends-held : (i reached : ℕ) (es : List PlacedEntry) → look_ends i reached (map held es) ≡ look_ends i reached es
-look_ends-held i reached [] = refl
-look_ends-held i reached (e ∷ others) =
-    let here = position_at reached e others in
-    let looked = i + 1 + looked_after reached e others in
-    ap (λ n. (i + 1 + n) ∷ look_ends (i + 1) (position_after (position_at reached (held e) (map held others)) (held e) (map held others)) (map held others))
-    (looked_after-held reached e others)
-    ∙ ap (λ p. looked ∷ look_ends (i + 1) (position_after p (held e) (map held others)) (map held others)) (position_at-held reached e others)
-    ∙ ap (λ p. looked ∷ look_ends (i + 1) p (map held others)) (position_after-held here e others)
-    ∙ ap (λ ns. looked ∷ ns) (look_ends-held (i + 1) (position_after here e others) others)
+look_ends-held : (i : ℕ) (es : List PlacedEntry) → look_ends i (map held es) ≡ look_ends i es
+look_ends-held i [] = refl
+look_ends-held i (e ∷ others) = ap (λ ns. (i + 1 + e.looked) ∷ ns) (look_ends-held (i + 1) others)
 
 zip-held : {Y : Type 0} (es : List PlacedEntry) (ys : List Y) → zip (map held es) ys ≡ map (λ (pair : PlacedEntry × Y). (held pair.0, pair.1)) (zip es ys)
 zip-held [] ys = refl
@@ -134,8 +111,8 @@ overlapped_by-held placed ends k (e ∷ es) =
 
 pub overlapped-held : (placed : List PlacedEntry) → overlapped (map held placed) ≡ overlapped placed
 overlapped-held placed =
-    ap (λ ends. overlapped_by (map held placed) ends 0 (map held placed)) (look_ends-held 0 0 placed)
-    ∙ overlapped_by-held placed (look_ends 0 0 placed) 0 placed
+    ap (λ ends. overlapped_by (map held placed) ends 0 (map held placed)) (look_ends-held 0 placed)
+    ∙ overlapped_by-held placed (look_ends 0 placed) 0 placed
 
 pub cuts_of-held : (layout : Layout) (room : ℕ) (order : List PlacedEntry) (flags : List Bool)
     → cuts_of layout room (map held order) flags ≡ cuts_of layout room order flags

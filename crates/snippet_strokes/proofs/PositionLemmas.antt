@@ -1,8 +1,9 @@
 -- The positions of labels.
-use Rattle.std.proofs.Common.{◌≡◌, ℕ, ◌+◌, ◌-◌, ◌<◌, ◌≤◌, ◌^◌, ◌==◌, ◌&&◌, ◌||◌, cond, max, nat_lt, not, Bool, true, false, List, [], ◌∷◌, length, map, fold}
+use Rattle.std.proofs.Common.{◌≡◌, ℕ, ◌+◌, ◌-◌, ◌<◌, ◌≤◌, ◌^◌, ◌==◌, ◌&&◌, ◌||◌, cond, max, nat_lt, not, None, Some, Bool, true, false, List, [], ◌∷◌, length}
+use Rattle.std.proofs.Common.{map, fold}
 use Rattle.std.proofs.Common.{get_or, refl, sym, ap, ◌∙◌, subst, arith, inl, inr, All}
-use Rattle.std.specs.List.{list_any}
-use Rattle.std.proofs.lemmas.Bool.{cases_Bool, cases_eq, eq-eqb, and_parts}
+use Rattle.std.specs.List.{list_any, position, position_or_len}
+use Rattle.std.proofs.lemmas.Bool.{cases_Bool, cases_eq, eq-eqb, ltb-true, and_parts}
 use Rattle.std.proofs.lemmas.Bool.Decides.{nat_tests}
 use Rattle.std.proofs.lemmas.List.{length-map, get_or-map}
 use Rattle.std.proofs.lemmas.List.Elements.{All-cons, All-nil, All-head, All-tail, All-map}
@@ -11,7 +12,7 @@ use Rattle.std.proofs.lemmas.List.Sums.{AllPass-from_list_all}
 use Rattle.snippet_parts.specs.declared.entries.LineAnnotation.{LineAnnotation}
 use Rattle.snippet_labels.specs.declared.positions.PlacedEntry.{PlacedEntry}
 use Rattle.snippet_labels.specs.Positions.{ArePlaced, has_label, takes_space, has_stem, is_start, is_start_part, are_starts, crosses, crowds, position_at}
-use Rattle.snippet_labels.specs.Positions.{position_after, positions, flipped, line_positions, label_place}
+use Rattle.snippet_labels.specs.Positions.{position_after, positions, flipped, line_positions, label_place, look_counts, looked_after, up_to}
 use Rattle.snippet_strokes.specs.Drawing.{lowest_position, row_count, HasRows}
 use Rattle.snippet_parts.specs.Least.{greatest}
 use Rattle.snippet_labels.specs.Entries.{HasPlace}
@@ -99,12 +100,16 @@ fold-max_le (e ∷ es) m n low all =
 pub lowest_position_le : (es : List PlacedEntry) (n : ℕ) → All (λ e. e.position ≤ n) es → lowest_position es ≤ n
 lowest_position_le es n all = fold-max_le es 0 n (omega arith) all
 
+-- what is known of numbers that entries have, each one, is known of the entries
+of_numbers : (f : PlacedEntry → ℕ) (P : ℕ → Type 0) (es : List PlacedEntry) (ns : List ℕ) → map f es ≡ ns → All P ns → All (λ e. P (f e)) es
+of_numbers f P es ns are all k d within =
+    subst P (ap (λ xs. get_or xs k (f d)) (sym are) ∙ get_or-map f es k d (f d) within)
+    (all k (f d) (omega (arith, within, length-map es f, ap length are)))
+
 -- what is known of all positions is known of the entries
 pub of_positions : (P : ℕ → Type 0) (es : List PlacedEntry) (ps : List ℕ) → map (λ (e : PlacedEntry). e.position) es ≡ ps → All P ps
     → All (λ e. P e.position) es
-of_positions P es ps are all k d within =
-    subst P (ap (λ xs. get_or xs k d.position) (sym are) ∙ get_or-map (λ (e : PlacedEntry). e.position) es k d d.position within)
-    (all k d.position (omega (arith, within, length-map es (λ (e : PlacedEntry). e.position), ap length are)))
+of_positions = of_numbers (λ e. e.position)
 
 -- where a label begins: in a row that is there, and not left of its entry
 pub label_stands : (row n : ℕ) (e : PlacedEntry) → HasRows row n e → HasPlace e.entry → has_label e ≡ true → row + (label_place e).0 < n
@@ -211,3 +216,29 @@ pub positions_of_placed : (es : List LineAnnotation) (placed : List PlacedEntry)
 positions_of_placed es placed is =
     of_positions (λ q. q ≤ length placed) placed (line_positions placed) is.positions_are
     (line_positions_low (length placed) placed (positions_low 0 (length placed) placed (omega arith)))
+
+-- no more entries are looked at for one than there are
+look_counts_low : (p n : ℕ) (es : List PlacedEntry) → length es ≤ n → All (λ q. q ≤ n) (look_counts p es)
+look_counts_low p n [] low = All-nil (λ q. q ≤ n)
+look_counts_low p n (e ∷ others) low =
+    All-cons (λ q. q ≤ n) (looked_after p e others) _ (omega (arith, looked_low p e others, low))
+    (look_counts_low (position_after (position_at p e others) e others) n others (omega (arith, low)))
+  where
+    first_low : {X : Type 0} (q : X → Bool) (xs : List X) → up_to (position q xs) (length xs) ≤ length xs
+    first_low q xs = by_test (nat_lt (position_or_len q xs) (length xs)) refl
+      where
+        by_test : (b : Bool) → nat_lt (position_or_len q xs) (length xs) ≡ b
+            → up_to (cond b (Some (position_or_len q xs)) None) (length xs) ≤ length xs
+        by_test true less = omega (arith, ltb-true (position_or_len q xs) (length xs) less)
+        by_test false none = omega arith
+
+    looked_low : (p : ℕ) (e : PlacedEntry) (others : List PlacedEntry) → looked_after p e others ≤ length others
+    looked_low p e others = by_test ((p == 0) && has_label e)
+      where
+        by_test : (b : Bool) → cond b (up_to (position (crosses e) others) (length others)) (length others) ≤ length others
+        by_test true = first_low (crosses e) others
+        by_test false = omega arith
+
+pub looked_of_placed : (es : List LineAnnotation) (placed : List PlacedEntry) → ArePlaced es placed → All (λ e. e.looked ≤ length placed) placed
+looked_of_placed es placed is =
+    of_numbers (λ e. e.looked) (λ q. q ≤ length placed) placed (look_counts 0 placed) is.looked_are (look_counts_low 0 (length placed) placed (omega arith))

@@ -1,7 +1,7 @@
 -- Which stretches of a line give their place to the placeholder, because the entries there are wide.
-use Rattle.std.specs.Prelude.{ℕ, ◌+◌, ◌-◌, ◌/◌, ◌==◌, ◌&&◌, ◌||◌, nat_le, nat_lt, not, max, Bool, Option, None, Some, List, [], ◌∷◌, drop, take, length}
+use Rattle.std.specs.Prelude.{ℕ, ◌+◌, ◌-◌, ◌/◌, ◌&&◌, ◌||◌, nat_le, nat_lt, not, max, Bool, List, [], ◌∷◌, drop, take, length}
 use Rattle.std.specs.Prelude.{if◌then◌else◌}
-use Rattle.std.specs.List.{flat_map, list_any, position, slice_index_or, zip}
+use Rattle.std.specs.List.{flat_map, list_any, slice_index_or, zip}
 use Rattle.snippet_style.specs.Cell.{Cell, text_cells}
 use Rattle.snippet_style.specs.Glyphs.{placeholder_of}
 use Rattle.snippet_style.specs.declared.glyphs.DecorStyle.{DecorStyle}
@@ -11,26 +11,15 @@ use Rattle.snippet_parts.specs.declared.entries.LineAnnotation.{LineAnnotation}
 use Rattle.snippet_parts.specs.Entries.{is_wide_entry}
 use Rattle.snippet_grid.specs.Layout.{Layout, code_cell}
 use Rattle.snippet_labels.specs.declared.positions.PlacedEntry.{PlacedEntry}
-use Rattle.snippet_labels.specs.Positions.{crosses, do_overlap, has_label, position_after, position_at}
+use Rattle.snippet_labels.specs.Positions.{do_overlap}
 
 -- ---- which entries are overlapped, by those that are looked at while places for labels are sought: the original's rule
 
--- up to this place, it counted, of so many; all where there is none
-abbrev pub up_to : Option ℕ → ℕ → ℕ
-up_to None all = all
-up_to (Some k) all = k + 1
-
--- how many of the entries after one are looked at, where this position is reached: all, or where its label may still stand beside
--- the mark, those up to the first one that is in its way
-abbrev pub looked_after : ℕ → PlacedEntry → List PlacedEntry → ℕ
-looked_after reached e others =
-    if reached == 0 && has_label e then up_to (position (crosses e) others) (length others) else length others
-
--- for each entry, the first of which stands at place i, before which place those stand that are looked at, from the first of the line on
-abbrev pub look_ends : ℕ → ℕ → List PlacedEntry → List ℕ
-look_ends i reached [] = []
-look_ends i reached (e ∷ others) =
-    (i + 1 + looked_after reached e others) ∷ look_ends (i + 1) (position_after (position_at reached e others) e others) others
+-- for each of these entries, the first of which stands at place i, before which place those stand that are looked at, from the first of
+-- the line on
+abbrev pub look_ends : ℕ → List PlacedEntry → List ℕ
+look_ends i [] = []
+look_ends i (e ∷ es) = (i + 1 + e.looked) ∷ look_ends (i + 1) es
 
 -- whether an entry overlaps one of those that are looked at for it, the two farthest right left out
 abbrev pub meets : PlacedEntry → List PlacedEntry → Bool
@@ -51,7 +40,7 @@ overlapped_by placed ends k (e ∷ es) = is_overlapped placed ends k e ∷ overl
 
 -- for each entry of a line, from right to left, whether it is overlapped
 abbrev pub overlapped : List PlacedEntry → List Bool
-overlapped placed = overlapped_by placed (look_ends 0 0 placed) 0 placed
+overlapped placed = overlapped_by placed (look_ends 0 placed) 0 placed
 
 -- ---- what is cut
 

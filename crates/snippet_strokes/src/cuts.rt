@@ -1,6 +1,6 @@
 //! Wide spans, of which the middle gives its place to the placeholder, in the source row and in the row of the marks.
-ghost use Rattle.std.specs.Prelude.{◌≡◌, ◌+◌, ◌<◌, ◌≤◌, true, All, IfOk, IfSome, OnOk, length};
-ghost use Rattle.std.specs.List.{list_any, position};
+ghost use Rattle.std.specs.Prelude.{◌≡◌, ◌+◌, ◌<◌, true, All, IfOk, OnOk, length};
+ghost use Rattle.std.specs.List.{list_any};
 ghost use Rattle.snippet_parts.specs.Entries.{is_wide_entry};
 ghost use Rattle.snippet_style.specs.Glyphs.{placeholder_of};
 ghost use Rattle.snippet_grid.specs.Grid.{cells_replaced};
@@ -9,11 +9,11 @@ ghost use Rattle.snippet_style.specs.declared.role.ElementStyle.TheVariants.{Lin
 ghost use Rattle.snippet_strokes.specs.Cuts as spec;
 ghost use Rattle.snippet_strokes.specs.Cuts.{is_wide_at};
 ghost use Rattle.snippet_labels.specs.Entries.{HasPlace};
-ghost use Rattle.snippet_labels.specs.Positions.{crosses, do_overlap};
-ghost use Rattle.snippet_style.specs.Bounds.{AreRows, HasNext};
+ghost use Rattle.snippet_labels.specs.Positions.{do_overlap};
+ghost use Rattle.snippet_style.specs.Bounds.{AreRows, HasNext, IsCount};
 
 use snippet_grid::{Layout, StyledBuffer};
-use snippet_labels::{PlacedEntry, crosses, overlap, position_after, position_at};
+use snippet_labels::{PlacedEntry, overlap};
 use snippet_parts::{LineAnnotation, LineAnnotationType};
 use snippet_style::{DecorStyle, char_count};
 use std::alloc::{AllocError, Global};
@@ -41,6 +41,7 @@ pub(crate) fn overlapping(
     placed: &[PlacedEntry],
 ) -> Result<Vec<bool>, AllocError>
     requires columns { All (λ e. HasPlace e.entry) placed.now }
+    requires looked { All (λ e. IsCount e.looked) placed.now }
     ensures count { IfOk result (λ flags. length flags.items ≡ length placed.now) }
     ensures value { IfOk result (λ flags. list_any (is_wide_at room decor) placed.now ≡ true → flags.items
         ≡ spec.overlapped placed.now) }
@@ -60,51 +61,22 @@ fn has_wide(room: usize, decor: DecorStyle, placed: &[PlacedEntry]) -> bool
     placed.iter().any(|p| is_wide(room, decor, &p.entry))
 }
 
-/// For each entry before which place those stand that are looked at while the place of its label is sought, from the
+/// For each entry before which place those stand that were looked at while the place of its label was sought, from the
 /// first on.
 ///
 /// # Errors
 ///
 /// There is no memory for the list.
 fn look_ends(alloc: Global, placed: &[PlacedEntry]) -> Result<Vec<usize>, AllocError>
-    requires columns { All (λ e. HasPlace e.entry) placed.now }
-    ensures value { IfOk result (λ ends. ends.items ≡ spec.look_ends 0 0 placed.now) }
+    requires looked { All (λ e. IsCount e.looked) placed.now }
+    ensures value { IfOk result (λ ends. ends.items ≡ spec.look_ends 0 placed.now) }
     ensures count { IfOk result (λ ends. length ends.items ≡ length placed.now) }
 {
     let mut ends = Vec::new(alloc);
-    let mut reached = 0;
     for i in 0..placed.len() {
-        let entry = &placed[i];
-        let others = &placed[i + 1..];
-        ends.push(i + 1 + looked_after(reached, entry, others))?;
-        reached = position_after(position_at(reached, entry, others), entry, others);
+        ends.push(i + 1 + placed[i].looked)?;
     }
     Ok(ends)
-}
-
-/// How many of the entries after one are looked at, where this position is reached: all, or where its label may still
-/// stand beside the mark, those up to the first one that is in its way.
-fn looked_after(reached: usize, entry: &PlacedEntry, others: &[PlacedEntry]) -> usize
-    requires columns { All (λ e. HasPlace e.entry) others.now }
-    ensures value { result ≡ spec.looked_after reached entry.now others.now }
-    ensures few { result ≤ length others.now }
-{
-    if reached > 0 || !entry.has_label() {
-        return others.len();
-    }
-    match first_in_the_way(entry, others) {
-        Some(k) => k + 1,
-        None => others.len(),
-    }
-}
-
-/// The place of the first of these entries that is in the way of the label of another, if there is one.
-fn first_in_the_way(entry: &PlacedEntry, others: &[PlacedEntry]) -> Option<usize>
-    requires columns { All (λ e. HasPlace e.entry) others.now }
-    ensures value { result ≡ position (crosses entry.now) others.now }
-    ensures within { IfSome result (λ k. k < length others.now) }
-{
-    others.iter().position(|other| crosses(entry, other))
 }
 
 /// For each entry whether it is overlapped, where those before these places are looked at.

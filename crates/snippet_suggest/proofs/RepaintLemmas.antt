@@ -13,7 +13,8 @@ use Rattle.snippet_lines.specs.Number.{shown_number}
 use Rattle.snippet_lines.specs.declared.number.LineNumbers.{LineNumbers}
 use Rattle.snippet_suggest.specs.declared.layout.SuggestionLayout.{SuggestionLayout}
 use Rattle.snippet_suggest.specs.Order.{Begins, Empty, Ends, Offers, Removes, Skips, SuggestionRow, number_after}
-use Rattle.snippet_suggest.specs.Rows.{without_role, AddsRow, IsBareRow, IsBeforeSign, IsLeftOver, IsLineRow, IsRemovedRow, IsRepainted, IsRowOfRemoved}
+use Rattle.snippet_suggest.specs.Rows.{without_role, AddsRow, IsBareRow, IsBeforeSign, IsLeftOver, IsLineRow, IsRemovedRow, IsRepainted}
+use Rattle.snippet_suggest.specs.Rows.{IsRowOfRemoved}
 use Rattle.snippet_suggest.specs.Rows.{IsMarkOrSpace, IsSign, IsEdgeRow, Shows, begin_glyph, beside_gutter, end_glyph, gap_left, is_stroke}
 
 -- two rows hold the same characters and links

@@ -1,9 +1,11 @@
 -- A text of printable ASCII alone is as wide as it is long, and shown as it is.
-use Rattle.std.proofs.Common.{◌≡◌, ℕ, ◌<◌, List, [], ◌∷◌, All, false, length, chars, refl, arith, ◌++◌, sym, ap, ◌∙◌}
+use Rattle.std.proofs.Common.{◌≡◌, ℕ, ◌+◌, ◌<◌, ◌≤◌, take, drop, subst, List, [], ◌∷◌, All, false, length, chars, refl, arith, ◌++◌, sym, ap, ◌∙◌}
 use Rattle.std.proofs.lemmas.Bool.Decides.{nat_tests}
-use Rattle.std.proofs.lemmas.List.Elements.{All-head, All-tail, All-weaker}
+use Rattle.std.proofs.lemmas.List.{length-take-le, take-append-drop}
+use Rattle.std.proofs.lemmas.List.Elements.{All-append, All-head, All-nil, All-tail, All-weaker}
 use Rattle.std.proofs.lemmas.List.Folds.{list_any_none}
 use Rattle.std.proofs.lemmas.List.Sums.{sum_by-cons}
+use Rattle.std.proofs.Math.Seq.{take-append-add}
 use Rattle.std.proofs.lemmas.Str.{chars-IsAscii}
 use Rattle.std.proofs.lemmas.Str.Ascii.{IsAscii-from_all}
 use Rattle.std.specs.List.{list_any}
@@ -44,3 +46,14 @@ list_any-plain bs all = rw (chars-plain bs all) (list_any_none is_listed bs (All
 -- a copy of it is the normalised text
 pub norm-plain : (bs copy : List ℕ) → All IsPlain bs → copy ≡ [] ++ bs → chars copy ≡ norm (chars bs)
 norm-plain bs copy all same = ap chars same ∙ sym (norm-unlisted (chars bs) (list_any-plain bs all))
+
+-- where the first bytes are plain, and so are some after them, so many more of the first are
+pub plain_further : (bs : List ℕ) (a n : ℕ) → a ≤ length bs → All IsPlain (take a bs) → All IsPlain (take n (drop a bs)) → All IsPlain (take (a + n) bs)
+plain_further bs a n within first second =
+    let parts : take (a + n) bs ≡ take a bs ++ take n (drop a bs) = ap (λ (l : List ℕ). take (a + n) l) (sym (take-append-drop a bs))
+    ∙ ap (λ m. take (m + n) (take a bs ++ drop a bs)) (sym (length-take-le a bs within)) ∙ take-append-add (take a bs) (drop a bs) n in
+    subst (λ (l : List ℕ). All IsPlain l) (sym parts) (All-append IsPlain (take a bs) (take n (drop a bs)) first second)
+
+-- no byte is plain where there is none
+pub plain_none : (bs : List ℕ) → All IsPlain (take 0 bs)
+plain_none bs = All-nil IsPlain

@@ -36,7 +36,8 @@ use Rattle.snippet_text_form.specs.Cause.{after_place, cause_form, column_unless
 use Rattle.snippet_text_form.specs.Cause.{label_characters, named_spans, further_indent, span_form, span_place, span_text, spans_form}
 use Rattle.snippet_parts.specs.Numbered.{numbered_source}
 use Rattle.snippet_text_form.specs.Form.{FormPiece, Break, Styled, bare, begun_after, plain_from, styled}
-use Rattle.snippet_text_form.specs.Heading.{before_id, before_name, colon_form, further_line, heading_form, id_form, id_text_form, label_form, heading_label}
+use Rattle.snippet_text_form.specs.Heading.{before_id, before_name, colon_form, further_line, heading_form, id_form, id_text_form, label_form}
+use Rattle.snippet_text_form.specs.Heading.{heading_label}
 use Rattle.snippet_text_form.specs.Heading.{link_for, linking, lines_form, name_form, text_roles_of}
 use Rattle.snippet_text_form.specs.Position.{after_path, column_words, place, place_in_file, place_on_line, to_line}
 use Rattle.snippet_text_form.specs.Suggestion.{added_form, edit_form, edit_indent, edit_place, replaces_whole_line, named_path, option_form, origin_form}

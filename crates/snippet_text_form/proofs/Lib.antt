@@ -1,5 +1,4 @@
 pub mod AddedLemmas
-pub mod BlankLemmas
 pub mod CauseLemmas
 pub mod Examples
 pub mod FormLaws

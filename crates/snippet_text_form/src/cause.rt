@@ -1,8 +1,8 @@
 //! Annotated snippets.
-ghost use Rattle.std.specs.Prelude.{◌≡◌, ◌==◌, ◌&&◌, ◌++◌, [], ◌∷◌, All, None, Some, chars, filter, length};
+ghost use Rattle.std.specs.Prelude.{◌≡◌, ◌==◌, ◌&&◌, ◌++◌, [], ◌∷◌, All, None, Some, chars, drop, filter, length};
 ghost use Rattle.std.specs.Prelude.{map, nat_lt, not, IfOk, OnOk};
 ghost use Rattle.std.specs.Char.{is_whitespace};
-ghost use Rattle.std.specs.List.{flat_map};
+ghost use Rattle.std.specs.List.{flat_map, list_all};
 ghost use Rattle.std.specs.Cow.{cow_str_bytes};
 ghost use Rattle.std.specs.Option.{option_copied, option_map};
 ghost use Rattle.std.specs.Ordering.{nat_cmp, ordering_then};
@@ -19,6 +19,7 @@ use crate::position::{add_line, add_place, add_place_in_file, add_place_on_line,
 use snippet_lines::Loc;
 use snippet_model::snippet::{Annotation, AnnotationKind, Snippet};
 use snippet_parts::{SourceMap, is_marking};
+use snippet_style::char_count;
 use snippet_text::{CowStr, normalized};
 use std::alloc::{AllocError, Global};
 use std::cmp::Ordering;
@@ -336,19 +337,12 @@ fn is_blank_after(line: Option<&str>, count: usize) -> bool
 fn is_blank_from(line: &str, count: usize) -> bool
     ensures value { result ≡ spec.is_blank_after (Some line.now) count }
 {
-    let mut left = count;
-    for c in line.chars() {
-        if is_visible_after(left, c) {
-            return false;
-        }
-        left = left.saturating_sub(1);
-    }
-    left == 0
+    ends_blank(line, count) && count <= char_count(line)
 }
 
-/// Whether no character is left to be passed, and this one is no whitespace.
-fn is_visible_after(left: usize, c: char) -> bool
-    ensures value { result ≡ (left == 0 && not (is_whitespace c)) }
+/// Whether nothing but whitespace stands after this many characters of a line.
+fn ends_blank(line: &str, count: usize) -> bool
+    ensures value { result ≡ list_all is_whitespace (drop count (chars line.now)) }
 {
-    left == 0 && !c.is_whitespace()
+    line.chars().skip(count).all(|c| c.is_whitespace())
 }

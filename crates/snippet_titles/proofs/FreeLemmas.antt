@@ -21,7 +21,8 @@ use Rattle.snippet_model.specs.Level.{name_of}
 use Rattle.snippet_titles.specs.declared.style.HeadingRoles.{HeadingRoles}
 use Rattle.snippet_titles.specs.declared.style.TitleStyle.{TitleStyle}
 use Rattle.snippet_titles.specs.declared.style.TitleStyle.TheVariants.{Title, Short, Message}
-use Rattle.snippet_titles.specs.Heading.{bracketed_text, closing_bracket_of, colon_of, shown_text, heading_lines, heading_rows, id_text, indent_cells, is_set}
+use Rattle.snippet_titles.specs.Heading.{bracketed_text, closing_bracket_of, colon_of, shown_text, heading_lines, heading_rows, id_text, indent_cells}
+use Rattle.snippet_titles.specs.Heading.{is_set}
 use Rattle.snippet_titles.specs.Heading.{label_cells, heading_label_text, label_width, lines_below, note_bar_of, on_top, opening_bracket_of, roles_of}
 use Rattle.snippet_titles.specs.Heading.{sign_cells, without_empty_end}
 use Rattle.snippet_style.specs.Glyphs.{note_sign_of}

@@ -8,7 +8,8 @@ ghost use Rattle.snippet_model.specs.Fits.{IdFits};
 ghost use Rattle.snippet_model.specs.Heading.{HeadingFits};
 ghost use Rattle.snippet_model.specs.Heading as model;
 ghost use Rattle.snippet_titles.specs.Appended.{IsAtEnd, appended};
-ghost use Rattle.snippet_titles.specs.Heading.{shown_text, heading_rows, indent_cells, label_cells, without_empty_end};
+ghost use Rattle.snippet_titles.specs.Heading.{shown_text, heading_rows, indent_cells, label_cells};
+ghost use Rattle.snippet_titles.specs.Heading.{without_empty_end};
 ghost use Rattle.snippet_titles.specs.Heading as spec;
 ghost use Rattle.snippet_titles.specs.Shown.{IsFreeButText, LinksId, heading_texts};
 ghost use Rattle.snippet_grid.specs.Grid.{row_at};
@@ -60,6 +61,7 @@ pub fn draw_heading<'a>(
 }
 
 /// Draws what stands before a heading's text after the cells of a row, of which there are `start`.
+#[inline(always)]
 pub(crate) fn draw_label<'a>(
     alloc: Global,
     buffer: &mut StyledBuffer<'a>,
@@ -157,6 +159,7 @@ fn text_of(alloc: Global, heading: &dyn MessageOrTitle) -> Result<CowStr<'_>, Al
 
 /// Draws a heading's text after the cells of the grid's last row; each further line of it stands in a row of its own,
 /// below a label of its width.
+#[inline(always)]
 pub(crate) fn draw_text(
     alloc: Global,
     buffer: &mut StyledBuffer,
@@ -179,6 +182,7 @@ pub(crate) fn draw_text(
 
 /// Draws a text after the cells of the grid's last row; each further line of it stands in a row of its own, below the
 /// heading's label. That is only measured where there is such a line.
+#[inline(always)]
 fn draw_lines(
     buffer: &mut StyledBuffer,
     row: usize,

@@ -60,6 +60,7 @@ pub(crate) fn add_spaces(
 }
 
 /// Begins the row below all others with the sign of a message. A title has none.
+#[inline(always)]
 pub(crate) fn draw_sign(
     buffer: &mut StyledBuffer,
     row: usize,

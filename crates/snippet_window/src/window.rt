@@ -11,7 +11,7 @@ ghost use Rattle.snippet_style.specs.Bounds.{FitsRow, IsColumn, IsTextWidth, IsW
 
 use crate::margin::Margin;
 use snippet_style::char_count;
-use snippet_text::{char_width, str_width};
+use snippet_text::{char_width, plain_prefix, str_width};
 
 /// The most bytes that a text may have, whose width is asked for.
 const MOST_BYTES: usize = (1 << 56) - 1;
@@ -156,7 +156,11 @@ pub(crate) fn fitting_end(text: &str, columns: usize) -> (usize, usize)
 {
     match whole_width(text, columns) {
         Some(width) => (text.len(), width),
-        None => walked_end(text, columns),
+        None => {
+            let plain = plain_prefix(text, columns);
+            let (at, width) = walked_end(&text[plain..], columns - plain);
+            (plain + at, plain + width)
+        }
     }
 }
 
@@ -165,6 +169,7 @@ fn walked_end(text: &str, columns: usize) -> (usize, usize)
     ensures bytes { let cs = chars text.now in result.0 ≡ bytes_of (take (fitting columns cs) cs) }
     ensures width { let cs = chars text.now in result.1 ≡ width_of (take (fitting columns cs) cs) }
     ensures near { columns < width_of (chars text.now) → columns < result.1 + 4 }
+    ensures within { result.1 ≤ columns }
 {
     let mut at = 0;
     let mut left = columns;

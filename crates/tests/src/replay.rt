@@ -7,7 +7,7 @@ use annotate_snippets::renderer::{
 };
 use annotate_snippets::{Annotation, AnnotationKind, Element, Group, OptionCow, Renderer, Snippet};
 use replay_answer::outcome::{Outcome, name_of, outcome_of};
-use replay_answer::read::case_of;
+use replay_answer::read::{case_of, case_sources};
 use replay_run::check::check_lines;
 use replay_run::lines::{Form, Way, answer_lines};
 use replay_run::problem::words_of;
@@ -80,7 +80,10 @@ fn built(alloc: Global) -> Result<Vec<String>, Fail> {
 /// The texts of the case that a line describes.
 fn drawn(alloc: Global, line: &str) -> Result<Vec<String>, Fail> {
     let value = Value::from_str(alloc, line)?;
-    let Ok(case) = case_of(alloc, &value) else {
+    let Ok(sources) = case_sources(alloc, &value) else {
+        return Err(Fail::new("no sources"));
+    };
+    let Ok(case) = case_of(alloc, &value, &sources) else {
         return Err(Fail::new("no case"));
     };
     match outcome_of(alloc, &case)? {

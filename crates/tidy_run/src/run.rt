@@ -22,7 +22,7 @@ use crate::words::{Command, command_of};
 use annotate_snippets::renderer::RenderError;
 use annotate_snippets::renderer::style::Stylesheet;
 use annotate_snippets::text::{normalize_untrusted_str, text_fits};
-use annotate_snippets::{Group, Renderer};
+use annotate_snippets::{Group, Renderer, SourceLines};
 use program::line::write_line;
 use std::alloc::{AllocError, Global};
 use std::io::Write;
@@ -99,7 +99,8 @@ fn rendered<'a>(
         sheets.now (map string_bytes texts.items)) }
 {
     let findings = lint(alloc, rules, source)?;
-    let groups = report(alloc, rules, path, source, &findings)?;
+    let lines = SourceLines::new(alloc, source)?;
+    let groups = report(alloc, rules, path, &lines, &findings)?;
     drawn(alloc, &groups, sheets)
 }
 

@@ -1,15 +1,18 @@
 //! Draws cases, which are reports as lines of JSON, through the API.
 //!
 //! - `cases check EXPECTED FILE ..` compares what becomes of each case with what stands in the same line of EXPECTED.
-//! - `cases draw TIMES FILE` builds and draws the reports of a file so many times, and prints how many bytes their texts have and how
-//!   long one round took.
+//! - `cases draw TIMES FILE` builds and draws the reports of a file so many times, each under its own sheets, and prints how many
+//!   bytes the texts of all rounds have and how long one round took.
 
 mod json;
 mod report;
 
 use json::Json;
+use report::Parts;
 use std::process::ExitCode;
 use std::time::Instant;
+use yazgult::renderer::Stylesheet;
+use yazgult::Renderer;
 
 fn main() -> ExitCode {
     let words: Vec<String> = std::env::args().skip(1).collect();
@@ -49,7 +52,7 @@ fn check(files: &[&str]) -> ExitCode {
 
 /// Whether what is expected becomes of a case.
 fn is_met(expected: &Json, case: &Json) -> bool {
-    let (renderer, sheets, groups) = (report::renderer(case), report::sheets(case), report::groups(case));
+    let (renderer, sheets, groups) = (report::renderer(case), report::sheets(case), report::built(&report::parts(case)));
     match renderer.render_sheets(&groups, &sheets) {
         Ok(texts) => {
             let wanted = expected.list("ok").iter().map(|it| if let Json::Text(text) = it { text.as_str() } else { "" });
@@ -65,12 +68,12 @@ fn is_met(expected: &Json, case: &Json) -> bool {
 
 fn draw(times: usize, file: &str) -> ExitCode {
     let cases = lines(file);
-    let settings: Vec<_> = cases.iter().map(report::renderer).collect();
+    let given: Vec<_> = cases.iter().map(|it| (report::renderer(it), report::sheets(it), report::parts(it))).collect();
     let mut length = 0;
     let start = Instant::now();
     for _ in 0..times {
-        for (case, renderer) in cases.iter().zip(&settings) {
-            length += round(case, renderer);
+        for (renderer, sheets, parts) in &given {
+            length += drawn(renderer, sheets, parts);
         }
     }
     let each = start.elapsed().as_nanos() / times.max(1) as u128;
@@ -78,9 +81,10 @@ fn draw(times: usize, file: &str) -> ExitCode {
     ExitCode::SUCCESS
 }
 
-/// Builds and draws the report of a case.
+/// Builds and draws the report of these parts, and returns how many bytes its texts have.
 #[inline(never)]
-fn round(case: &Json, renderer: &yazgult::Renderer) -> usize {
-    let groups = report::groups(case);
-    renderer.render(&groups).len()
+fn drawn(renderer: &Renderer, sheets: &[Stylesheet], parts: &[Parts<'_>]) -> usize {
+    let groups = report::built(parts);
+    let texts = renderer.render_sheets(&groups, sheets).unwrap_or_else(|refusal| panic!("{refusal}"));
+    texts.iter().map(String::len).sum()
 }

@@ -105,17 +105,55 @@ fn ansi(name: &str) -> AnsiColor {
     }
 }
 
-/// The report of a case.
-pub fn groups(case: &Json) -> Vec<Group<'_>> {
-    case.list("groups").iter().map(group).collect()
+/// The parts of a group, of which [`built`] makes it as a program would that has them at hand.
+pub struct Parts<'a> {
+    title: Option<Title<'a>>,
+    level: Level<'a>,
+    elements: Vec<Part<'a>>,
 }
 
-fn group(g: &Json) -> Group<'_> {
-    let group = match g.get("title") {
-        Some(Json::Object(_)) => Group::with_title(title(&g.get("title").expect("a title"))),
-        _ => Group::with_level(level(g)),
+enum Part<'a> {
+    Cause(Snippet<'a, Annotation<'a>>, Vec<Annotation<'a>>),
+    Suggestion(Snippet<'a, Patch<'a>>, Vec<Patch<'a>>),
+    Whole(Element<'a>),
+}
+
+/// The report of a case, group by group in parts.
+pub fn parts(case: &Json) -> Vec<Parts<'_>> {
+    case.list("groups").iter().map(group_parts).collect()
+}
+
+/// Builds a report, a call of the API for each part.
+pub fn built<'a>(groups: &[Parts<'a>]) -> Vec<Group<'a>> {
+    groups.iter().map(group).collect()
+}
+
+fn group<'a>(parts: &Parts<'a>) -> Group<'a> {
+    let group = match &parts.title {
+        Some(title) => Group::with_title(title.clone()),
+        None => Group::with_level(parts.level.clone()),
     };
-    group.elements(g.list("elements").iter().map(element))
+    parts.elements.iter().fold(group, with_part)
+}
+
+fn with_part<'a>(group: Group<'a>, part: &Part<'a>) -> Group<'a> {
+    match part {
+        Part::Cause(source, marks) => {
+            group.element(marks.iter().fold(source.clone(), |snippet, mark| snippet.annotation(mark.clone())))
+        }
+        Part::Suggestion(source, patches) => {
+            group.element(patches.iter().fold(source.clone(), |snippet, patch| snippet.patch(patch.clone())))
+        }
+        Part::Whole(element) => group.element(element.clone()),
+    }
+}
+
+fn group_parts(g: &Json) -> Parts<'_> {
+    let (title, level) = match g.get("title") {
+        Some(Json::Object(_)) => (Some(title(g.get("title").expect("a title"))), Level::ERROR),
+        _ => (None, level(g)),
+    };
+    Parts { title, level, elements: g.list("elements").iter().map(part).collect() }
 }
 
 fn title(t: &Json) -> Title<'_> {
@@ -148,20 +186,18 @@ fn level(holder: &Json) -> Level<'_> {
     }
 }
 
-fn element(e: &Json) -> Element<'_> {
-    if let Some(m) = e.get("message") {
-        return message(m).into();
-    }
+fn part(e: &Json) -> Part<'_> {
     if let Some(s) = e.get("cause") {
-        return snippet(s).annotations(s.list("annotations").iter().map(annotation)).into();
+        return Part::Cause(snippet(s), s.list("annotations").iter().map(annotation).collect());
     }
     if let Some(s) = e.get("suggestion") {
-        return snippet(s).patches(s.list("patches").iter().map(patch)).into();
+        return Part::Suggestion(snippet(s), s.list("patches").iter().map(patch).collect());
     }
-    match e.get("origin") {
-        Some(o) => origin(o).into(),
-        None => Padding.into(),
-    }
+    Part::Whole(match (e.get("message"), e.get("origin")) {
+        (Some(m), _) => message(m).into(),
+        (None, Some(o)) => origin(o).into(),
+        (None, None) => Padding.into(),
+    })
 }
 
 fn message(m: &Json) -> Message<'_> {

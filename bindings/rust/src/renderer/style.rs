@@ -1,9 +1,22 @@
 //! Styles: the part of the crate anstyle that reports need, under its names.
 
-use std::ops::{BitOr, BitOrAssign};
+use super::codes::Codes;
+use super::{Ansi256Color, AnsiColor, Color, Effects, RgbColor};
+use std::fmt::{self, Display};
+use std::io::{self, Write};
+use std::ops::{BitOr, BitOrAssign, Sub, SubAssign};
 
 /// How a text looks: its colours and its effects. A colour that is left out is the terminal's own.
-#[derive(Clone, Copy, Debug, Default, PartialEq, Eq, Hash)]
+///
+/// As a text it is its codes, and by `{:#}` the code that ends it:
+///
+/// ```
+/// use yazgult::renderer::{AnsiColor, Effects, Style};
+///
+/// const LOUD: Style = AnsiColor::Magenta.on_default().effects(Effects::BOLD);
+/// assert_eq!(format!("{LOUD}dyn{LOUD:#} Any"), "\x1b[1m\x1b[35mdyn\x1b[0m Any");
+/// ```
+#[derive(Clone, Copy, Debug, Default, PartialEq, Eq, PartialOrd, Ord, Hash)]
 pub struct Style {
     fg: Option<Color>,
     bg: Option<Color>,
@@ -101,155 +114,71 @@ impl Style {
     pub const fn is_plain(self) -> bool {
         self.fg.is_none() && self.bg.is_none() && self.effects.is_plain()
     }
-}
 
-/// A colour.
-#[derive(Clone, Copy, Debug, PartialEq, Eq, Hash)]
-pub enum Color {
-    Ansi(AnsiColor),
-    Ansi256(Ansi256Color),
-    Rgb(RgbColor),
-}
+    /// The codes that begin it.
+    pub fn render(self) -> impl Display + Copy {
+        Codes::of(self)
+    }
 
-impl Color {
-    /// The style that has this colour of the text, and nothing else.
-    pub const fn on_default(self) -> Style {
-        Style::new().fg_color(Some(self))
+    /// The code that ends it: none of a plain style.
+    pub fn render_reset(self) -> impl Display + Copy {
+        Codes::reset(self)
+    }
+
+    /// Writes the codes that begin it.
+    pub fn write_to(self, write: &mut dyn Write) -> io::Result<()> {
+        write!(write, "{}", self.render())
+    }
+
+    /// Writes the code that ends it.
+    pub fn write_reset_to(self, write: &mut dyn Write) -> io::Result<()> {
+        write!(write, "{}", self.render_reset())
     }
 }
 
-impl From<AnsiColor> for Color {
+impl Display for Style {
+    fn fmt(&self, f: &mut fmt::Formatter<'_>) -> fmt::Result {
+        if f.alternate() {
+            self.render_reset().fmt(f)
+        } else {
+            self.render().fmt(f)
+        }
+    }
+}
+
+impl From<Effects> for Style {
+    fn from(effects: Effects) -> Self {
+        Style::new().effects(effects)
+    }
+}
+
+impl From<Color> for Style {
+    fn from(color: Color) -> Self {
+        color.on_default()
+    }
+}
+
+impl From<AnsiColor> for Style {
     fn from(color: AnsiColor) -> Self {
-        Color::Ansi(color)
+        color.on_default()
     }
 }
 
-impl From<Ansi256Color> for Color {
+impl From<Ansi256Color> for Style {
     fn from(color: Ansi256Color) -> Self {
-        Color::Ansi256(color)
+        color.on_default()
     }
 }
 
-impl From<RgbColor> for Color {
+impl From<RgbColor> for Style {
     fn from(color: RgbColor) -> Self {
-        Color::Rgb(color)
+        color.on_default()
     }
 }
 
-/// The sixteen colours that a terminal's theme has.
-#[derive(Clone, Copy, Debug, PartialEq, Eq, Hash)]
-#[repr(u8)]
-pub enum AnsiColor {
-    Black,
-    Red,
-    Green,
-    Yellow,
-    Blue,
-    Magenta,
-    Cyan,
-    White,
-    BrightBlack,
-    BrightRed,
-    BrightGreen,
-    BrightYellow,
-    BrightBlue,
-    BrightMagenta,
-    BrightCyan,
-    BrightWhite,
-}
-
-impl AnsiColor {
-    /// The style that has this colour of the text, and nothing else.
-    pub const fn on_default(self) -> Style {
-        Style::new().fg_color(Some(Color::Ansi(self)))
-    }
-}
-
-/// An index into the palette of 256 colours.
-#[derive(Clone, Copy, Debug, PartialEq, Eq, Hash)]
-pub struct Ansi256Color(pub u8);
-
-impl Ansi256Color {
-    /// The style that has this colour of the text, and nothing else.
-    pub const fn on_default(self) -> Style {
-        Style::new().fg_color(Some(Color::Ansi256(self)))
-    }
-}
-
-/// Red, green and blue.
-#[derive(Clone, Copy, Debug, PartialEq, Eq, Hash)]
-pub struct RgbColor(pub u8, pub u8, pub u8);
-
-impl RgbColor {
-    /// The style that has this colour of the text, and nothing else.
-    pub const fn on_default(self) -> Style {
-        Style::new().fg_color(Some(Color::Rgb(self)))
-    }
-}
-
-/// Effects, each on or off.
-#[derive(Clone, Copy, Debug, Default, PartialEq, Eq, Hash)]
-pub struct Effects(u8);
-
-impl Effects {
-    pub const BOLD: Self = Effects(1);
-    pub const DIMMED: Self = Effects(1 << 1);
-    pub const ITALIC: Self = Effects(1 << 2);
-    pub const UNDERLINE: Self = Effects(1 << 3);
-    pub const BLINK: Self = Effects(1 << 4);
-    pub const INVERT: Self = Effects(1 << 5);
-    pub const HIDDEN: Self = Effects(1 << 6);
-    pub const STRIKETHROUGH: Self = Effects(1 << 7);
-
-    /// Each effect, in the order of the form as bytes.
-    pub(crate) const ALL: [Self; 8] = [
-        Self::BOLD,
-        Self::DIMMED,
-        Self::ITALIC,
-        Self::UNDERLINE,
-        Self::BLINK,
-        Self::INVERT,
-        Self::HIDDEN,
-        Self::STRIKETHROUGH,
-    ];
-
-    /// No effect.
-    pub const fn new() -> Self {
-        Effects(0)
-    }
-
-    /// Whether there is no effect.
-    pub const fn is_plain(self) -> bool {
-        self.0 == 0
-    }
-
-    /// Whether all of the others are among these.
-    pub const fn contains(self, other: Self) -> bool {
-        self.0 & other.0 == other.0
-    }
-
-    /// These and the others.
-    pub const fn insert(self, other: Self) -> Self {
-        Effects(self.0 | other.0)
-    }
-
-    /// These without the others.
-    pub const fn remove(self, other: Self) -> Self {
-        Effects(self.0 & !other.0)
-    }
-}
-
-impl BitOr for Effects {
-    type Output = Self;
-
-    fn bitor(self, other: Self) -> Self {
-        self.insert(other)
-    }
-}
-
-impl BitOrAssign for Effects {
-    fn bitor_assign(&mut self, other: Self) {
-        *self = self.insert(other);
+impl PartialEq<Effects> for Style {
+    fn eq(&self, effects: &Effects) -> bool {
+        *self == Style::from(*effects)
     }
 }
 
@@ -258,5 +187,42 @@ impl BitOr<Effects> for Style {
 
     fn bitor(self, effects: Effects) -> Self {
         self.effects(self.effects | effects)
+    }
+}
+
+impl BitOrAssign<Effects> for Style {
+    fn bitor_assign(&mut self, effects: Effects) {
+        self.effects |= effects;
+    }
+}
+
+impl Sub<Effects> for Style {
+    type Output = Self;
+
+    fn sub(self, effects: Effects) -> Self {
+        self.effects(self.effects - effects)
+    }
+}
+
+impl SubAssign<Effects> for Style {
+    fn sub_assign(&mut self, effects: Effects) {
+        self.effects -= effects;
+    }
+}
+
+/// The code that ends all styles.
+#[derive(Clone, Copy, Debug, Default, PartialEq, Eq, PartialOrd, Ord, Hash)]
+pub struct Reset;
+
+impl Reset {
+    /// The code.
+    pub fn render(self) -> impl Display + Copy {
+        self
+    }
+}
+
+impl Display for Reset {
+    fn fmt(&self, f: &mut fmt::Formatter<'_>) -> fmt::Result {
+        f.write_str("\x1b[0m")
     }
 }

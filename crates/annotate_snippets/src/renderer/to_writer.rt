@@ -11,11 +11,11 @@ ghost use Rattle.annotate_snippets.specs.Written.{IsStop, IsTextIn, PrintsGrid, 
 ghost use Rattle.annotate_snippets.specs.declared.renderer.form.Form.TheVariants as form;
 
 use crate::renderer::Renderer;
-use crate::renderer::drawn::{draw, text_under};
 use crate::renderer::error::RenderError;
 use crate::renderer::form::{Form, form_of};
 use crate::renderer::graphic::{GroupGrid, draw_at};
 use crate::renderer::gutter::gutter_of;
+use crate::renderer::page::drawn_text;
 use crate::renderer::paths::report_file;
 use crate::renderer::preprocess::prepare_groups;
 use crate::renderer::validate::first_refusal;
@@ -239,22 +239,7 @@ fn write_drawn<W: Write>(
     ensures part { OnErr result ((out.new ≡ out.old)
         ⊎ WritesPart (ShowsIn form renderer.now groups.now) (W.contents out.old) (W.contents out.new)) }
 {
-    let text = text_in(alloc, renderer, form, groups)?;
+    let text = drawn_text(alloc, renderer, form, groups, &renderer.stylesheet)?;
     write_whole(text.as_bytes(), out)?;
     Ok(())
-}
-
-/// The text of a report in a form, under the renderer's own sheet.
-fn text_in(
-    alloc: Global,
-    renderer: &Renderer,
-    form: Form,
-    groups: Report<'_>,
-) -> Result<String, AllocError>
-    requires drawable { All IsGroupDrawable groups.now }
-    requires titled { spec.missing_title form groups.now ≡ None }
-    ensures text { IfOk result (λ text. IsTextIn form renderer.now groups.now (string_bytes text)) }
-{
-    let drawn = draw(alloc, renderer, form, groups)?;
-    text_under(alloc, &drawn, &renderer.stylesheet)
 }

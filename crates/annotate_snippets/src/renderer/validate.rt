@@ -1,15 +1,18 @@
 //! The judgement of a report: which fault is first. It takes no memory.
-ghost use Rattle.std.specs.Prelude.{◌≡◌, ◌+◌, ◌≤◌, IfSome};
+ghost use Rattle.std.specs.Prelude.{◌≡◌, ◌+◌, ◌≤◌, IfSome, length};
+ghost use Rattle.std.specs.Cow.{cow_str_bytes};
 ghost use Rattle.std.specs.Option.{SomeIff};
 ghost use Rattle.snippet_model.specs.declared.snippet.Element.TheVariants.{Cause, Suggestion};
 ghost use Rattle.annotate_snippets.specs.Fault.{refusal_of, span_faults, number_after_lines, added_lines};
 ghost use Rattle.annotate_snippets.specs.Fault.{element_faults, end_faults, faults_from, first_of, number_faults};
 ghost use Rattle.annotate_snippets.specs.Fault as spec;
+ghost use Rattle.snippet_lines.specs.Lines.{source_lines};
 ghost use Rattle.snippet_style.specs.Bounds.{IsUsize};
 
 use crate::renderer::error::RenderError;
 use crate::renderer::form::Form;
 use snippet_lines::{SpanFault, check_span, line_feed_count, newline_count};
+use snippet_model::SourceText;
 use snippet_model::snippet::{Annotation, Element, Group, Marker, Patch, Snippet};
 use snippet_splice::check_patches;
 
@@ -86,7 +89,7 @@ fn first_of_cause(
     if let Some(fault) = first_of_spans(group, element, source, &snippet.markers) {
         return Some(fault);
     }
-    end_fault(group, element, snippet.line_start, source)
+    end_fault(group, element, snippet.line_start, &snippet.source)
 }
 
 /// The first fault of a suggested edit.
@@ -110,12 +113,18 @@ fn first_of_suggestion(
             second,
         });
     }
-    patched_end_fault(group, element, snippet.line_start, source, patches)
+    patched_end_fault(group, element, snippet.line_start, &snippet.source, patches)
 }
 
 /// The fault that the number after that of a source's last line doesn't fit.
-fn end_fault(group: usize, element: usize, line_start: usize, source: &str) -> Option<RenderError>
-    ensures value { result ≡ first_of (number_faults group element (number_after_lines line_start source.now)) }
+fn end_fault(
+    group: usize,
+    element: usize,
+    line_start: usize,
+    source: &SourceText<'_>,
+) -> Option<RenderError>
+    ensures value { result ≡ first_of
+        (number_faults group element (number_after_lines line_start (cow_str_bytes source.now))) }
 {
     // A source has at most one line more than bytes. Where that many fit, they needn't be counted.
     if source.len() < usize::MAX - line_start {
@@ -129,13 +138,13 @@ fn patched_end_fault(
     group: usize,
     element: usize,
     line_start: usize,
-    source: &str,
+    source: &SourceText<'_>,
     patches: &[Patch],
 ) -> Option<RenderError>
     ensures value { result ≡ first_of (number_faults group element
-        (number_after_lines line_start source.now + added_lines patches.now)) }
+        (number_after_lines line_start (cow_str_bytes source.now) + added_lines patches.now)) }
 {
-    match greatest_end(line_start, source, patches) {
+    match greatest_end(line_start, source.as_str(), patches) {
         // Where that many would fit, the lines needn't be counted.
         Some(_) => None,
         None => {
@@ -213,18 +222,32 @@ fn refusal(group: usize, element: usize, marker: usize, fault: SpanFault) -> Ren
 }
 
 /// The number after that of a source's last line, where it fits.
-fn end_number(line_start: usize, source: &str) -> Option<usize>
-    ensures value { SomeIff result (IsUsize (number_after_lines line_start source.now))
-        (number_after_lines line_start source.now) }
+fn end_number(line_start: usize, source: &SourceText<'_>) -> Option<usize>
+    ensures value { SomeIff result (IsUsize (number_after_lines line_start (cow_str_bytes source.now)))
+        (number_after_lines line_start (cow_str_bytes source.now)) }
 {
-    line_start.checked_add(newline_count(source) + 1)
+    line_start.checked_add(line_count(source))
+}
+
+/// How many lines a source has. They are counted where they aren't lent.
+fn line_count(source: &SourceText<'_>) -> usize
+    ensures value { result ≡ length (source_lines (cow_str_bytes source.now)) }
+{
+    match source.line_starts() {
+        Some(starts) => starts.len(),
+        None => newline_count(source.as_str()) + 1,
+    }
 }
 
 /// The same with the lines that some patches may add.
-fn patched_end_number(line_start: usize, source: &str, patches: &[Patch]) -> Option<usize>
+fn patched_end_number(
+    line_start: usize,
+    source: &SourceText<'_>,
+    patches: &[Patch],
+) -> Option<usize>
     ensures value { SomeIff result
-        (IsUsize (number_after_lines line_start source.now + added_lines patches.now))
-        (number_after_lines line_start source.now + added_lines patches.now) }
+        (IsUsize (number_after_lines line_start (cow_str_bytes source.now) + added_lines patches.now))
+        (number_after_lines line_start (cow_str_bytes source.now) + added_lines patches.now) }
 {
     let mut end = end_number(line_start, source)?;
     for patch in patches {

@@ -98,7 +98,7 @@ fn message_fits(message: &Message<'_>) -> bool
 fn cause_fits(snippet: &Snippet<'_, Annotation<'_>>) -> bool
     ensures value { IsTrue result ↔ SnippetFits AnnotationFits snippet.now }
 {
-    cow_fits(&snippet.source)
+    text_fits(snippet.source.as_str())
         && optional_fits(&snippet.path)
         && snippet
             .markers
@@ -110,7 +110,7 @@ fn cause_fits(snippet: &Snippet<'_, Annotation<'_>>) -> bool
 fn suggestion_fits(snippet: &Snippet<'_, Patch<'_>>) -> bool
     ensures value { IsTrue result ↔ SnippetFits PatchFits snippet.now }
 {
-    cow_fits(&snippet.source)
+    text_fits(snippet.source.as_str())
         && optional_fits(&snippet.path)
         && snippet
             .markers

@@ -1,8 +1,7 @@
-use Rattle.std.proofs.Common.{◌≡◌, ◌∙◌, ◌≤◌, ◌<◌, ap, subst, sym, arith, get_or, refl, length, None, Some, replicate, string_bytes, List, ℕ, ◌++◌, ◌-◌}
+use Rattle.std.proofs.Common.{◌≡◌, ◌∙◌, ◌≤◌, ◌<◌, ap, subst, sym, arith, get_or, refl, length, None, Some, replicate, string_bytes, List, ℕ, ◌-◌}
 use Rattle.std.proofs.lemmas.Result.{on_ok_weaker}
 use Rattle.std.specs.Option.{option_copied}
 use Rattle.std.specs.Str.{chars}
-use Rattle.snippet_grid.proofs.OutcomeLemmas.{on_ok_value}
 use Rattle.snippet_grid.proofs.RunLemmas.{starts_at_boundary, ends_at_boundary}
 use Rattle.snippet_grid.proofs.RowWoven.{WovenTo, woven_start, woven_gap, woven_run, first_ahead}
 use Rattle.snippet_grid.proofs.WeaveLemmas.{Goes, row_closed}
@@ -120,12 +119,11 @@ returns-clause-text c =
     ] in
     let worn : c.style_at.result ≡ style_at c.args.codes.now c.if-col-width.last.place = c.style_at.ensures.value
     ∙ ap (λ s. style_at s c.if-col-width.last.place) kept in
-    on_ok_weaker c.push_str.result
+    on_ok_weaker c.push_reset.result
     (λ bytes. row_closed c.args.codes.now c.args.level c.style_at.result (option_copied c.if-col-width.last.link)
     (cells_to c.args.text.now c.args.runs.now c.args.row c.args.width) (string_bytes c.args.out.now) (string_bytes c.if-col-width.out)
-    (string_bytes c.end_link.new.out) _ c.in_ok-end_link.ensures.none c.in_ok-end_link.ensures.ended
-    (bytes ∙ ap (λ (t : List ℕ). string_bytes c.end_link.new.out ++ t) c.reset_code.ensures.text)
+    (string_bytes c.end_link.new.out) _ c.in_ok-end_link.ensures.none c.in_ok-end_link.ensures.ended bytes
     (subst (λ (s : Style). Goes c.args.codes.now c.args.level (Some s) (option_copied c.if-col-width.last.link)
     (cells_to c.args.text.now c.args.runs.now c.args.row c.args.width) (string_bytes c.args.out.now) (string_bytes c.if-col-width.out))
     (sym worn) last.goes))
-    (on_ok_value c.push_str.result _ _ _ c.push_str.ensures.bytes)
+    c.push_reset.ensures.text

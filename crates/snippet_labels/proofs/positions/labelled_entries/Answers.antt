@@ -9,7 +9,7 @@ use Rattle.snippet_labels.proofs.positions.labelled_entries.Goals as goal
 
 pub loop-entry-preserved : goal.loop-entry-preserved
 loop-entry-preserved c =
-    let e : PlacedEntry = record { entry = c.shifted.result; label = c.in_ok-label.label; position = 0 } in
+    let e : PlacedEntry = record { entry = c.shifted.result; label = c.in_ok-label.label; position = 0; looked = 0 } in
     let own : HasItsBytes e = bytes_of_chars _ c.as_str-text.result.now _ c.as_str-text.utf8 c.as_str-text.ensures.value
     (c.in_ok-label.ensures.shows ∙ ap label_text (sym c.shifted.ensures.value)) in
     let all : All HasItsBytes (c.loop-entry.labelled.items ++ e ∷ []) = All-append HasItsBytes c.loop-entry.labelled.items (e ∷ []) c.loop-entry.invariant.2

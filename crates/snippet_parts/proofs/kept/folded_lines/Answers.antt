@@ -1,21 +1,23 @@
-use Rattle.std.proofs.Common.{◌≡◌, ◌<◌, ◌∷◌, [], ◌++◌, ◌||◌, ℕ, List, true, not, length, ap, subst, sym, take, ◌∙◌}
+use Rattle.std.proofs.Common.{◌≡◌, ◌<◌, ◌||◌, ℕ, List, true, not, length, ap, subst, sym, ◌∙◌}
 use Rattle.std.specs.List.{All, filter, list_any, range_with_len}
 use Rattle.std.proofs.lemmas.Result.{IfOk-weaker}
 use Rattle.snippet_lines.specs.Lines.{source_lines}
 use Rattle.snippet_parts.specs.Kept.{keeps}
-use Rattle.snippet_parts.specs.Located.{annotations_of}
+use Rattle.snippet_parts.specs.Located.{IsLocated, annotations_of}
 use Rattle.snippet_parts.specs.declared.located.LocatedSpan.{LocatedSpan}
-use Rattle.snippet_parts.specs.Stretches.{holds_line, is_held}
+use Rattle.snippet_parts.specs.Stretches.{is_held}
 use Rattle.snippet_parts.proofs.PartLemmas.{list_any-map}
 use Rattle.snippet_parts.proofs.KeptLemmas.{filter-cut, held-all, held-two, kept-within, unkept}
 use Rattle.snippet_parts.proofs.kept.folded_lines.Goals as goal
 
 pub loop-span-preserved : goal.loop-span-preserved
 loop-span-preserved c k =
+    let at : IsLocated c.args.source.now c.span-item.result =
+    subst (IsLocated c.args.source.now) (sym c.span-item.is) (c.requires.located c.loop-span.span-index c.span-item.result c.loop-span-test.true) in
     held-two (λ j (x : LocatedSpan). keeps c.args.source.now.text j x.annotation.now) c.args.located.now c.loop-span.span-index c.span-item.result
     c.loop-span.stretches.items c.push.new.self.items c.push-in-loop-span.new.self.items c.kept_stretches.result.0 c.kept_stretches.result.1
     c.loop-span-test.true c.in_ok-push.ensures.items c.in_ok-push-2.ensures.items
-    (λ j. c.kept_stretches.ensures.value j ∙ ap (λ (x : LocatedSpan). keeps c.args.source.now.text j x.annotation.now) c.span-item.is)
+    (λ j. c.kept_stretches.ensures.value c.args.source.now j at ∙ ap (λ (x : LocatedSpan). keeps c.args.source.now.text j x.annotation.now) c.span-item.is)
     c.loop-span.invariant k
 
 pub returns : goal.returns

@@ -1,9 +1,12 @@
-use Rattle.std.proofs.Common.{◌≡◌, ◌+◌, ap, arith, ◌∙◌}
+use Rattle.std.proofs.Common.{◌≡◌, ℕ, ◌+◌, ◌-◌, ◌<◌, ◌≤◌, Bool, true, ◌&&◌, not, eqb, inl, inr, refl, ap, arith, ◌∙◌}
+use Rattle.std.proofs.lemmas.Bool.{cases_lt, eqb-false, not-true, and_parts}
 use Rattle.snippet_lines.specs.declared.place.Loc.{Loc}
-use Rattle.snippet_lines.specs.Lines.{Source}
+use Rattle.snippet_lines.specs.Lines.{Source, source_lines}
 use Rattle.snippet_lines.specs.Place.{locations_of}
 use Rattle.snippet_model.specs.declared.snippet.Annotation.{Annotation}
-use Rattle.snippet_parts.specs.Marked.{last_line}
+use Rattle.snippet_lines.proofs.PlaceLemmas.{line_of-mono, line_of-within}
+use Rattle.snippet_parts.specs.Mark.{is_marking}
+use Rattle.snippet_parts.specs.Marked.{first_line, last_line}
 use Rattle.snippet_parts.proofs.MarkLemmas.{first-from, end-line}
 use Rattle.snippet_parts.proofs.located.located_span.Goals as goal
 
@@ -11,32 +14,61 @@ use Rattle.snippet_parts.proofs.located.located_span.Goals as goal
 last-from : (s : Source) (a : Annotation) (at : Loc × Loc) → at ≡ locations_of s a.span.start a.span.end → at.1.line ≡ s.first + last_line s.text a
 last-from s a at is = ap (λ (l : Loc × Loc). l.1.line) is ∙ end-line s a.span.start a.span.end
 
-pub overflow_sub-result : goal.overflow_sub-result
-overflow_sub-result c =
+pub overflow_sub-first : goal.overflow_sub-first
+overflow_sub-first c =
     omega (arith, c.line_start.ensures.value, first-from c.args.source.now c.args.annotation.now c.span_to_locations.result c.span_to_locations.ensures.value)
 
-pub overflow_sub-result-2 : goal.overflow_sub-result-2
-overflow_sub-result-2 c =
+pub overflow_sub-last : goal.overflow_sub-last
+overflow_sub-last c =
     omega (arith, c.line_start-2.ensures.value, last-from c.args.source.now c.args.annotation.now c.span_to_locations.result c.span_to_locations.ensures.value)
 
-pub returns-clause-located : goal.returns-clause-located
-returns-clause-located c =
+-- of lines in order that differ the first comes before the last
+long-parts : (marked : Bool) (first last : ℕ) → first ≤ last → (marked && not (eqb last first)) ≡ true → (marked ≡ true) × (first < last)
+long-parts marked first last ordered long =
+    let parts = and_parts marked (not (eqb last first)) long in
+    (parts.0, below first last ordered (eqb-false last first (not-true (eqb last first) parts.1)))
+  where
+    below : (m n : ℕ) → m ≤ n → (n ≡ m → ⊥) → m < n
+    below m n le apart = elim (cases_lt m n) [ inl less ↦ less | inr more ↦ absurd (apart (omega arith)) ]
+
+pub span_bars-requires : goal.span_bars-requires
+span_bars-requires c =
     record {
-      span = c.requires.span;
-      first = omega (
-        arith,
-        c.line_start.ensures.value,
-        first-from c.args.source.now c.args.annotation.now c.span_to_locations.result
-            c.span_to_locations.ensures.value,
-      );
-      last = omega (
+      within = omega (
         arith,
         c.line_start-2.ensures.value,
-        last-from c.args.source.now c.args.annotation.now c.span_to_locations.result
-            c.span_to_locations.ensures.value,
+        last-from c.args.source.now c.args.annotation.now c.span_to_locations.result c.span_to_locations.ensures.value,
+        line_of-within c.args.source.now.text c.args.annotation.now.span.end,
       );
-      locations = c.span_to_locations.ensures.value;
-      start_display = c.span_to_locations.ensures.start_bound;
-      end_display = c.span_to_locations.ensures.end_bound;
-      start_char = c.span_to_locations.ensures.start_char;
+    }
+
+pub returns : goal.returns
+returns c =
+    let s = c.args.source.now in
+    let a = c.args.annotation.now in
+    let first : ℕ = c.span_to_locations.result.0.line - c.line_start.result in
+    let last : ℕ = c.span_to_locations.result.1.line - c.line_start-2.result in
+    let first_is : first ≡ first_line s.text a =
+    omega (arith, c.line_start.ensures.value, first-from s a c.span_to_locations.result c.span_to_locations.ensures.value) in
+    let last_is : last ≡ last_line s.text a =
+    omega (arith, c.line_start-2.ensures.value, last-from s a c.span_to_locations.result c.span_to_locations.ensures.value) in
+    let ordered : first ≤ last = omega (
+      arith,
+      first_is,
+      last_is,
+      line_of-within s.text 0,
+      line_of-mono (source_lines s.text) a.span.start a.span.end (omega (arith, line_of-within s.text 0)) c.requires.span.ordered,
+    ) in
+    record {
+      annotation = refl;
+      located = record {
+        span = c.requires.span;
+        first = first_is;
+        last = last_is;
+        locations = c.span_to_locations.ensures.value;
+        start_display = c.span_to_locations.ensures.start_bound;
+        end_display = c.span_to_locations.ensures.end_bound;
+        start_char = c.span_to_locations.ensures.start_char;
+        bars = λ long. let parts = long-parts (is_marking a.kind) first last ordered long in c.span_bars.ensures.value parts.0 parts.1;
+      };
     }

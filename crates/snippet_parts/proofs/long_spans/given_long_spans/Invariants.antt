@@ -1,9 +1,12 @@
 use Rattle.std.proofs.Common.{◌≡◌, map, take}
-use Rattle.std.specs.List.{filter}
-use Rattle.snippet_parts.specs.Located.{is_long_span, span_entry}
-use Rattle.snippet_parts.specs.LongSpans.{seen_long}
+use Rattle.std.specs.List.{All, filter}
+use Rattle.snippet_lines.specs.Lines.{Source}
+use Rattle.snippet_parts.specs.Located.{IsLocated, is_long_span, span_entry}
+use Rattle.snippet_parts.specs.LongSpans.{seen_long, HasFit}
 use Rattle.snippet_parts.proofs.long_spans.given_long_spans.Given as goal
 
--- the spans so far
+-- the spans so far, which fit the source in which they are located
 abbrev pub invariant-loop-span : goal.invariant-loop-span
-invariant-loop-span l = map seen_long l.spans.items ≡ map span_entry (filter is_long_span (take l.span-index l.located))
+invariant-loop-span l =
+    (map seen_long l.spans.items ≡ map span_entry (filter is_long_span (take l.span-index l.located)))
+    × ((s : Source) → All (IsLocated s) l.located → All (HasFit s) l.spans.items)

@@ -1,7 +1,6 @@
 use Rattle.std.proofs.Common.{rules}
 use Rattle.std.proofs.lemmas.List.Sorted.{answers_always, All-permutation}
 use Rattle.snippet_parts.specs.LongSpans.{HasFit}
-use Rattle.snippet_parts.proofs.LocatedLemmas.{given-fit}
 use Rattle.snippet_parts.proofs.LongLemmas.{long_before, long_before-order, before-tells, long_spans-is, long-ordered}
 use Rattle.snippet_lines.proofs.OrderLemmas.{sorted-only}
 use Rattle.snippet_parts.proofs.long_spans.long_spans.Goals as goal
@@ -16,7 +15,7 @@ returns-clause-value c =
 
 pub returns-clause-fit : goal.returns-clause-fit
 returns-clause-fit c = λ s located. All-permutation (HasFit s) c.in_ok-spans.spans.items c.sort_by.new.self.items c.sort_by.ensures.permutation
-    (given-fit s c.args.located.now c.in_ok-spans.spans.items c.in_ok-spans.ensures.value located)
+    (c.in_ok-spans.ensures.fit s located)
 
 pub returns-clause-ordered : goal.returns-clause-ordered
 returns-clause-ordered c =

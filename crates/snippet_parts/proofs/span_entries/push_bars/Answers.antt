@@ -1,15 +1,8 @@
-use Rattle.std.proofs.Common.{◌+◌, ◌-◌, ℕ, map, ap, ◌∙◌, arith}
-use Rattle.snippet_parts.specs.Annotated.{seen_part, bar_part}
+use Rattle.std.proofs.Common.{◌+◌, ◌-◌, ◌≡◌, ℕ, ap, ◌∙◌, arith}
+use Rattle.snippet_parts.specs.Annotated.{bar_part}
 use Rattle.snippet_parts.specs.LongSpans.{seen_long}
-use Rattle.snippet_parts.proofs.EntryLemmas.{bars_more, bars-closed, bars-open, same-bars}
+use Rattle.snippet_parts.proofs.EntryLemmas.{bars_more, bars-closed, bars-open}
 use Rattle.snippet_parts.proofs.span_entries.push_bars.Goals as goal
-
-pub overflow_add-line-end : goal.overflow_add-line-end
-overflow_add-line-end c = omega (
-  arith,
-  c.bars_end-end.ensures.before
-      (omega (arith, c.requires.fit.lines, c.line_start.ensures.value, c.line_start-2.ensures.value)),
-)
 
 pub loop-line-preserved : goal.loop-line-preserved
 loop-line-preserved c =
@@ -23,32 +16,30 @@ loop-line-preserved c =
 pub returns-in_ok-push-2 : goal.returns-in_ok-push-2
 returns-in_ok-push-2 c =
     let f = λ (k : ℕ). bar_part (seen_long c.args.span) c.args.depth (c.args.source.now.first + k) in
-    let first : ℕ = c.args.span.start.line - c.line_start.result in
-    let last : ℕ = c.args.span.end.line - c.line_start-2.result in
+    let first : ℕ = c.args.span.start.line - c.args.source.now.first in
+    let last : ℕ = c.args.span.end.line - c.args.source.now.first in
+    let bars = c.requires.fit.bars in
+    let from : c.args.span.start.line - c.line_start.result ≡ first = ap (λ n. c.args.span.start.line - n) c.line_start.ensures.value in
+    let number : c.args.span.end.line - 1 ≡ c.args.source.now.first + (last - 1) = omega (arith, c.requires.fit.lines, c.requires.fit.from) in
     record {
-      value = bars-closed f c.args.entries.now.items c.loop-line.entries.items c.push-then-has_closing_bar.new.self.items
-          c.bar_entry-then-has_closing_bar.result c.args.source.now.text first last c.bars_end-end.result (first + 1) (c.loop-line.line - (first + 1))
-          c.has_closing_bar.result c.if-has_closing_bar.true c.in_ok-push-2.ensures.items
-          (c.bar_entry-then-has_closing_bar.ensures.value
-          ∙ ap (λ n. bar_part (seen_long c.args.span) c.args.depth (n + (last - 1))) c.line_start-then-has_closing_bar.ensures.value)
-          c.loop-line.invariant (omega arith) (omega (arith, c.bars_end-end.ensures.from))
-          c.bars_end-end.ensures.from c.bars_end-end.ensures.to c.bars_end-end.ensures.bars c.has_closing_bar.ensures.value
-          ∙ same-bars f (map seen_part c.args.entries.now.items) c.args.source.now.text first last (c.args.span.start.line - c.args.source.now.first)
-          (c.args.span.end.line - c.args.source.now.first) (ap (λ n. c.args.span.start.line - n) c.line_start.ensures.value)
-          (ap (λ n. c.args.span.end.line - n) c.line_start-2.ensures.value);
+      value = bars-closed f c.args.entries.now.items c.loop-line.entries.items c.push-then-span.new.self.items
+          c.bar_entry-then-span.result c.args.source.now.text first last c.args.span.bars.end (c.args.span.start.line - c.line_start.result + 1)
+          (c.loop-line.line - (c.args.span.start.line - c.line_start.result + 1))
+          c.args.span.bars.closing c.if-span.true c.in_ok-push-2.ensures.items
+          (c.bar_entry-then-span.ensures.value ∙ ap (bar_part (seen_long c.args.span) c.args.depth) number)
+          c.loop-line.invariant (ap (λ n. n + 1) from) (omega (arith, bars.from, from)) bars.from bars.to bars.telling bars.closes;
     }
 
-pub returns-else-has_closing_bar : goal.returns-else-has_closing_bar
-returns-else-has_closing_bar c =
+pub returns-else-span : goal.returns-else-span
+returns-else-span c =
     let f = λ (k : ℕ). bar_part (seen_long c.args.span) c.args.depth (c.args.source.now.first + k) in
-    let first : ℕ = c.args.span.start.line - c.line_start.result in
-    let last : ℕ = c.args.span.end.line - c.line_start-2.result in
+    let first : ℕ = c.args.span.start.line - c.args.source.now.first in
+    let last : ℕ = c.args.span.end.line - c.args.source.now.first in
+    let bars = c.requires.fit.bars in
+    let from : c.args.span.start.line - c.line_start.result ≡ first = ap (λ n. c.args.span.start.line - n) c.line_start.ensures.value in
     record {
-      value = bars-open f c.args.entries.now.items c.loop-line.entries.items c.args.source.now.text first last c.bars_end-end.result
-          (first + 1) (c.loop-line.line - (first + 1)) c.has_closing_bar.result c.if-has_closing_bar.false c.loop-line.invariant (omega arith)
-          (omega (arith, c.bars_end-end.ensures.from))
-          c.bars_end-end.ensures.from c.bars_end-end.ensures.to c.bars_end-end.ensures.bars c.has_closing_bar.ensures.value
-          ∙ same-bars f (map seen_part c.args.entries.now.items) c.args.source.now.text first last (c.args.span.start.line - c.args.source.now.first)
-          (c.args.span.end.line - c.args.source.now.first) (ap (λ n. c.args.span.start.line - n) c.line_start.ensures.value)
-          (ap (λ n. c.args.span.end.line - n) c.line_start-2.ensures.value);
+      value = bars-open f c.args.entries.now.items c.loop-line.entries.items c.args.source.now.text first last c.args.span.bars.end
+          (c.args.span.start.line - c.line_start.result + 1)
+          (c.loop-line.line - (c.args.span.start.line - c.line_start.result + 1)) c.args.span.bars.closing c.if-span.false
+          c.loop-line.invariant (ap (λ n. n + 1) from) (omega (arith, bars.from, from)) bars.from bars.to bars.telling bars.closes;
     }

@@ -17,7 +17,7 @@ use Rattle.snippet_strokes.specs.SourceRows.{bare_row}
 use Rattle.snippet_style.specs.Separators.{separator_row}
 use Rattle.snippet_strokes.proofs.PaintOrder.{IsPermutation-painting_order}
 use Rattle.snippet_labels.proofs.PlacedLemmas.{entries_all}
-use Rattle.snippet_strokes.proofs.PositionLemmas.{row_count_some, positions_of_placed}
+use Rattle.snippet_strokes.proofs.PositionLemmas.{looked_of_placed, row_count_some, positions_of_placed}
 use Rattle.snippet_strokes.proofs.BegunLemmas.{rows_begun}
 use Rattle.snippet_strokes.proofs.ReadyRows.{count_marks, enough_after, enough_begun, strokes_added_whole}
 use Rattle.snippet_strokes.proofs.NoStrokes.{strokes_none}
@@ -43,10 +43,18 @@ row_count-requires c =
 
 pub overlapping-requires : goal.overlapping-requires
 overlapping-requires c =
+    let placed = c.in_ok-placed.placed in
     record {
       columns = subst (All (λ (e : PlacedEntry). HasPlace e.entry)) (sym c.deref.ensures.value)
           (entries_all HasPlace (map (shifted c.args.dropped) c.args.entries.now)
-          c.in_ok-placed.placed.items c.in_ok-placed.ensures.placed.same (shifted_places c.args.dropped c.args.entries.now c.requires.columns));
+          placed.items c.in_ok-placed.ensures.placed.same (shifted_places c.args.dropped c.args.entries.now c.requires.columns));
+      looked = subst (All (λ (e : PlacedEntry). e.looked < 2 ^ 63)) (sym c.deref.ensures.value) (λ k d within.
+          omega (
+            arith,
+            looked_of_placed (map (shifted c.args.dropped) c.args.entries.now) placed.items c.in_ok-placed.ensures.placed k d within,
+            placed.ok.0,
+            placed.small,
+          ));
     }
 
 pub draw_under_marks-requires : goal.draw_under_marks-requires

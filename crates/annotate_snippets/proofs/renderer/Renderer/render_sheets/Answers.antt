@@ -1,4 +1,4 @@
-use Rattle.std.proofs.Common.{◌≡◌, arith, length, List, map, string_bytes}
+use Rattle.std.proofs.Common.{◌≡◌, IfOk, arith, length, List, map, string_bytes, subst}
 use Rattle.std.specs.List.{AllZip}
 use Rattle.std.proofs.lemmas.Result.{IfOk-weaker}
 use Rattle.snippet_model.specs.Trusted.{trusted_texts}
@@ -6,10 +6,11 @@ use Rattle.snippet_model.specs.declared.snippet.Group.{Group}
 use Rattle.snippet_style.specs.declared.stylesheet.Stylesheet.{Stylesheet}
 use Rattle.annotate_snippets.specs.Drawn.{IsPrintedAs}
 use Rattle.annotate_snippets.specs.Fault.{form_of}
-use Rattle.annotate_snippets.specs.FormLaws.{HasLaws}
+use Rattle.annotate_snippets.specs.FormLaws.{HasLaws, IsTextUnder}
 use Rattle.annotate_snippets.specs.Forms.{AreFree, TextsShown, links_in}
 use Rattle.annotate_snippets.specs.declared.renderer.drawn.Drawn.{Drawn}
-use Rattle.annotate_snippets.proofs.FormsShown.{are-free, laws-hold, none-laws, none-shown, texts-shown}
+use Rattle.annotate_snippets.proofs.FormsShown.{are-free, laws-hold, none-laws, none-shown, one_sheet, one_shown, texts-shown}
+use Rattle.annotate_snippets.proofs.PrintLemmas.{AllZip-weaker}
 use Rattle.annotate_snippets.proofs.ReportLemmas.{IfOk-map_err, drawable-from_ok}
 use Rattle.annotate_snippets.proofs.renderer.Renderer.render_sheets.Goals as goal
 
@@ -68,3 +69,35 @@ returns-clause-free c =
     IfOk-weaker c.map_err.result (λ texts. AllZip (HasLaws r groups) sheets (map string_bytes texts.items))
     (λ texts. AreFree (trusted_texts groups) (links_in (form_of r) r groups) sheets (map string_bytes texts.items))
     (λ texts. are-free r groups (form_of r) sheets (map string_bytes texts.items)) (returns-clause-laws c)
+
+-- one sheet is all that there is
+pub returns-in-len1-clause-shows : goal.returns-in-len1-clause-shows
+returns-in-len1-clause-shows c =
+    let r = c.args.self.now in
+    let groups : List Group = c.args.groups.now in
+    let sheets : List Stylesheet = c.args.sheets.now in
+    let are = subst (λ (ss : List Stylesheet). IfOk c.one_text.result (λ texts. AllZip (IsTextUnder (form_of r) r groups) ss (map string_bytes texts.items)))
+    (one_sheet sheets _ c.in-len1.len_at_least c.in-len1.len_below) c.one_text.ensures.text in
+    IfOk-weaker c.one_text.result (λ texts. AllZip (IsTextUnder (form_of r) r groups) sheets (map string_bytes texts.items))
+    (λ texts. TextsShown r groups sheets (map string_bytes texts.items))
+    (λ texts. one_shown (form_of r) r groups sheets (map string_bytes texts.items) c.in-len1.len_at_least c.in-len1.len_below) are
+
+pub returns-in-len1-clause-laws : goal.returns-in-len1-clause-laws
+returns-in-len1-clause-laws c =
+    let r = c.args.self.now in
+    let groups : List Group = c.args.groups.now in
+    let sheets : List Stylesheet = c.args.sheets.now in
+    let are = subst (λ (ss : List Stylesheet). IfOk c.one_text.result (λ texts. AllZip (IsTextUnder (form_of r) r groups) ss (map string_bytes texts.items)))
+    (one_sheet sheets _ c.in-len1.len_at_least c.in-len1.len_below) c.one_text.ensures.text in
+    IfOk-weaker c.one_text.result (λ texts. AllZip (IsTextUnder (form_of r) r groups) sheets (map string_bytes texts.items))
+    (λ texts. AllZip (HasLaws r groups) sheets (map string_bytes texts.items))
+    (λ texts. AllZip-weaker (IsTextUnder (form_of r) r groups) (HasLaws r groups) (λ sheet text is. is.laws) sheets (map string_bytes texts.items)) are
+
+pub returns-in-len1-clause-free : goal.returns-in-len1-clause-free
+returns-in-len1-clause-free c =
+    let r = c.args.self.now in
+    let groups : List Group = c.args.groups.now in
+    let sheets : List Stylesheet = c.args.sheets.now in
+    IfOk-weaker c.one_text.result (λ texts. AllZip (HasLaws r groups) sheets (map string_bytes texts.items))
+    (λ texts. AreFree (trusted_texts groups) (links_in (form_of r) r groups) sheets (map string_bytes texts.items))
+    (λ texts. are-free r groups (form_of r) sheets (map string_bytes texts.items)) (returns-in-len1-clause-laws c)

@@ -1,8 +1,9 @@
 -- The number has grown by the lines that the patches so far may add, and fits.
 use Rattle.std.proofs.Common.{◌≡◌, ◌+◌, ◌<◌, ◌^◌, take}
+use Rattle.std.specs.Cow.{cow_str_bytes}
 use Rattle.annotate_snippets.specs.Fault.{added_lines, number_after_lines}
 use Rattle.annotate_snippets.proofs.renderer.validate.patched_end_number.Given as goal
 
 abbrev pub invariant-loop-patch : goal.invariant-loop-patch
 invariant-loop-patch l =
-    (l.end ≡ number_after_lines l.line_start l.source + added_lines (take l.patch-index l.patches)) × (l.end < 2 ^ 64)
+    (l.end ≡ number_after_lines l.line_start (cow_str_bytes l.source) + added_lines (take l.patch-index l.patches)) × (l.end < 2 ^ 64)

@@ -1,12 +1,16 @@
 use Rattle.std.proofs.Common.{◌∙◌, sym}
 use Rattle.snippet_style.proofs.StyleLemmas.{differs_told, same_told}
+use Rattle.snippet_grid.proofs.CodeLemmas.{style_read}
 use Rattle.snippet_grid.proofs.codes.SheetCodes.differ.Goals as goal
 
 pub returns-then-a-b-clause-yes : goal.returns-then-a-b-clause-yes
 returns-then-a-b-clause-yes c =
-    λ yes same. differs_told c.style_at.result c.style_at-then-a-b.result (sym yes ∙ c.ne.ensures)
-    (c.style_at.ensures.value ∙ same ∙ sym c.style_at-then-a-b.ensures.value)
+    λ yes same. differs_told _ _ (sym yes ∙ c.ne.ensures)
+    (sym (style_read c.self.inside.sheet c.args.self.now c.self.inside.styles c.args.a _ c.requires.within.0 c.self.view_is c.self.invariant.styles)
+    ∙ same ∙ style_read c.self.inside.sheet c.args.self.now c.self.inside.styles c.args.b _ c.requires.within.1 c.self.view_is c.self.invariant.styles)
 
 pub returns-then-a-b-clause-no : goal.returns-then-a-b-clause-no
 returns-then-a-b-clause-no c =
-    λ no. sym c.style_at.ensures.value ∙ same_told c.style_at.result c.style_at-then-a-b.result (sym no ∙ c.ne.ensures) ∙ c.style_at-then-a-b.ensures.value
+    λ no. style_read c.self.inside.sheet c.args.self.now c.self.inside.styles c.args.a _ c.requires.within.0 c.self.view_is c.self.invariant.styles
+    ∙ same_told _ _ (sym no ∙ c.ne.ensures)
+    ∙ sym (style_read c.self.inside.sheet c.args.self.now c.self.inside.styles c.args.b _ c.requires.within.1 c.self.view_is c.self.invariant.styles)

@@ -2,6 +2,7 @@ use Rattle.std.proofs.Common.{◌≡◌, ◌<◌, ◌≤◌, ◌+◌, ◌^◌, �
 use Rattle.std.proofs.lemmas.Bool.{lt-ltb}
 use Rattle.snippet_lines.specs.Lines.{Source, source_lines}
 use Rattle.snippet_lines.proofs.LinesLemmas.{length-source_lines, newline_count-le}
+use Rattle.snippet_parts.specs.Starts.{starts_of}
 use Rattle.snippet_parts.proofs.TableLemmas.{table-within}
 use Rattle.snippet_parts.proofs.source_map.SourceMap.has_line.Goals as goal
 
@@ -11,9 +12,8 @@ overflow_add-self-inside c =
     let source : List ℕ = m.source.now in
     omega (
       arith,
-      table-within source m.starts.items m.line_start m.skipped m.from m.end c.self.invariant,
-      m.starts.ok.0,
-      c.len.ensures,
+      table-within source (starts_of m.starts) m.line_start m.skipped m.from m.end c.self.invariant,
+      ap length c.as_slice.ensures.value,
       length-source_lines source,
       newline_count-le source,
       c.self.invariant.short,
@@ -22,10 +22,13 @@ overflow_add-self-inside c =
 pub returns-then-index-self : goal.returns-then-index-self
 returns-then-index-self c =
     let m = c.self.inside in
-    let n : ℕ = m.skipped + c.len.result in
+    let n : ℕ = m.skipped + length c.as_slice.result.now in
     let lines : ℕ = length (source_lines c.args.self.now.text) in
-    let within : n ≤ length (source_lines m.source.now) = omega
-    (arith, table-within m.source.now m.starts.items m.line_start m.skipped m.from m.end c.self.invariant, m.starts.ok.0, c.len.ensures) in
+    let within : n ≤ length (source_lines m.source.now) = omega (
+      arith,
+      table-within m.source.now (starts_of m.starts) m.line_start m.skipped m.from m.end c.self.invariant,
+      ap length c.as_slice.ensures.value,
+    ) in
     let same : length (source_lines m.source.now) ≡ lines = ap (λ (s : Source). length (source_lines s.text)) c.self.view_is in
     record {
       value = lt-ltb c.args.index n c.if-index-self.true

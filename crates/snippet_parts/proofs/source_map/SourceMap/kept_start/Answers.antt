@@ -3,6 +3,7 @@ use Rattle.std.proofs.lemmas.Bool.{ltb-true}
 use Rattle.snippet_lines.specs.Lines.{Source, source_lines, start_of}
 use Rattle.snippet_lines.proofs.LinesLemmas.{joined-source_lines, start_of-end, start_of-le}
 use Rattle.snippet_parts.specs.LineTable.{IsLineTable}
+use Rattle.snippet_parts.specs.Starts.{starts_of}
 use Rattle.snippet_parts.proofs.TableLemmas.{table-start}
 use Rattle.snippet_parts.proofs.source_map.SourceMap.kept_start.Goals as goal
 
@@ -27,13 +28,13 @@ short source k =
 pub overflow_add-result : goal.overflow_add-result
 overflow_add-result c =
     let m = c.self.inside in
-    let starts = c.deref.ensures.value in
+    let starts = c.as_slice-starts.ensures.value in
     let at : ℕ = c.in_ok-at.at in
     let start : ℕ = c.in_ok-start.start.now in
-    let inside : at < length c.deref.result.now = ltb-true at (length c.deref.result.now) (sym c.in_ok-start.ensures.lookup.0) in
+    let inside : at < length c.as_slice-starts.result.now = ltb-true at (length c.as_slice-starts.result.now) (sym c.in_ok-start.ensures.lookup.0) in
     omega (
       arith,
-      found m.source.now m.starts.items m.line_start m.skipped m.from m.end c.self.invariant c.args.index at start (omega (arith, c.in_ok-at.ensures.0))
+      found m.source.now (starts_of m.starts) m.line_start m.skipped m.from m.end c.self.invariant c.args.index at start (omega (arith, c.in_ok-at.ensures.0))
           (omega (arith, c.in_ok-at.ensures.1)) (omega (arith, inside, ap length starts))
           (c.in_ok-start.ensures.lookup.1 ∙ ap (λ ss. get_or ss at start) starts),
       short m.source.now c.args.index,
@@ -43,12 +44,12 @@ overflow_add-result c =
 pub returns : goal.returns
 returns c =
     let m = c.self.inside in
-    let starts = c.deref.ensures.value in
+    let starts = c.as_slice-starts.ensures.value in
     let at : ℕ = c.in_ok-at.at in
     let start : ℕ = c.in_ok-start.start.now in
-    let inside : at < length c.deref.result.now = ltb-true at (length c.deref.result.now) (sym c.in_ok-start.ensures.lookup.0) in
+    let inside : at < length c.as_slice-starts.result.now = ltb-true at (length c.as_slice-starts.result.now) (sym c.in_ok-start.ensures.lookup.0) in
     record {
-      value = found m.source.now m.starts.items m.line_start m.skipped m.from m.end c.self.invariant c.args.index at start
+      value = found m.source.now (starts_of m.starts) m.line_start m.skipped m.from m.end c.self.invariant c.args.index at start
           (omega (arith, c.in_ok-at.ensures.0)) (omega (arith, c.in_ok-at.ensures.1)) (omega (arith, inside, ap length starts))
           (c.in_ok-start.ensures.lookup.1 ∙ ap (λ ss. get_or ss at start) starts)
           ∙ ap (λ (s : Source). start_of (source_lines s.text) c.args.index) c.self.view_is;

@@ -3,8 +3,10 @@ use Rattle.std.specs.List.{HoldsAt}
 use Rattle.std.specs.List.Sorted.{IsNonDecreasingBy}
 use Rattle.snippet_lines.specs.Lines.{Source, source_lines}
 use Rattle.snippet_lines.specs.Place.{line_of}
+use Rattle.snippet_lines.proofs.IndexLemmas.{line_of-clamped}
 use Rattle.snippet_lines.proofs.LinesLemmas.{length-source_lines, newline_count-le}
 use Rattle.snippet_lines.proofs.PlaceLemmas.{line_of-within}
+use Rattle.snippet_parts.specs.Starts.{starts_of}
 use Rattle.snippet_parts.proofs.TableLemmas.{table-ordered, table-first, table-holding}
 use Rattle.snippet_parts.proofs.source_map.SourceMap.line_index_of.Goals as goal
 
@@ -15,43 +17,44 @@ small source byte short = omega (arith, line_of-within source byte, length-sourc
 pub last_starting_by-requires-clause-ordered : goal.last_starting_by-requires-clause-ordered
 last_starting_by-requires-clause-ordered c =
     let m = c.self.inside in
-    subst (IsNonDecreasingBy (λ (start : ℕ). start)) (sym c.deref.ensures.value)
-    (table-ordered m.source.now m.starts.items m.line_start m.skipped m.from m.end c.self.invariant)
+    subst (IsNonDecreasingBy (λ (start : ℕ). start)) (sym c.as_slice.ensures.value)
+    (table-ordered m.source.now (starts_of m.starts) m.line_start m.skipped m.from m.end c.self.invariant)
 
 pub last_starting_by-requires-clause-first : goal.last_starting_by-requires-clause-first
 last_starting_by-requires-clause-first c =
     let m = c.self.inside in
-    subst (λ ss. HoldsAt (λ (start : ℕ). start ≤ c.args.byte - m.from) ss 0) (sym c.deref.ensures.value)
-    (table-first m.source.now m.starts.items m.line_start m.skipped m.from m.end c.self.invariant (c.args.byte - m.from))
+    subst (λ ss. HoldsAt (λ (start : ℕ). start ≤ c.min-at.result - m.from) ss 0) (sym c.as_slice.ensures.value)
+    (table-first m.source.now (starts_of m.starts) m.line_start m.skipped m.from m.end c.self.invariant (c.min-at.result - m.from))
 
 -- the line that is found holds the byte
 found : (c : goal.After-last_starting_by) → c.self.inside.skipped + c.last_starting_by.result ≡ line_of (source_lines c.self.inside.source.now) c.args.byte
 found c =
     let m = c.self.inside in
-    let byte : ℕ = c.args.byte in
+    let at : ℕ = c.min-at.result in
     let k : ℕ = c.last_starting_by.result in
     let is = c.last_starting_by.ensures in
-    let same = c.deref.ensures.value in
-    table-holding m.source.now m.starts.items m.line_start m.skipped m.from m.end c.self.invariant byte k (omega (arith, c.if-self-byte.true))
-    (omega (arith, c.if-byte-self.true))
-    (omega (arith, is.within, ap length same)) (subst (λ ss. HoldsAt (λ (start : ℕ). start ≤ byte - m.from) ss k) same is.from)
-    (subst (λ ss. k + 1 < length ss → HoldsAt (λ (start : ℕ). byte - m.from < start) ss (k + 1)) same is.to)
+    let same = c.as_slice.ensures.value in
+    table-holding m.source.now (starts_of m.starts) m.line_start m.skipped m.from m.end c.self.invariant at k (omega (arith, c.if-self-at.true))
+    (omega (arith, c.if-at-self.true))
+    (omega (arith, is.within, ap length same)) (subst (λ ss. HoldsAt (λ (start : ℕ). start ≤ at - m.from) ss k) same is.from)
+    (subst (λ ss. k + 1 < length ss → HoldsAt (λ (start : ℕ). at - m.from < start) ss (k + 1)) same is.to)
+    ∙ line_of-clamped m.source.now c.args.byte at (omega (arith, c.min-at.ensures))
 
 pub overflow_add-result : goal.overflow_add-result
 overflow_add-result c = omega (arith, found c, small c.self.inside.source.now c.args.byte c.self.invariant.short)
 
-pub returns-then-byte-self-clause-value : goal.returns-then-byte-self-clause-value
-returns-then-byte-self-clause-value c = found c ∙ ap (λ (s : Source). line_of (source_lines s.text) c.args.byte) c.self.view_is
+pub returns-then-at-self-clause-value : goal.returns-then-at-self-clause-value
+returns-then-at-self-clause-value c = found c ∙ ap (λ (s : Source). line_of (source_lines s.text) c.args.byte) c.self.view_is
 
-pub returns-then-byte-self-clause-within : goal.returns-then-byte-self-clause-within
-returns-then-byte-self-clause-within c =
-    omega (arith, returns-then-byte-self-clause-value c, line_of-within c.args.self.now.text c.args.byte)
+pub returns-then-at-self-clause-within : goal.returns-then-at-self-clause-within
+returns-then-at-self-clause-within c =
+    omega (arith, returns-then-at-self-clause-value c, line_of-within c.args.self.now.text c.args.byte)
 
-pub returns-then-byte-self-clause-bound : goal.returns-then-byte-self-clause-bound
-returns-then-byte-self-clause-bound c = omega (arith, found c, small c.self.inside.source.now c.args.byte c.self.invariant.short)
+pub returns-then-at-self-clause-bound : goal.returns-then-at-self-clause-bound
+returns-then-at-self-clause-bound c = omega (arith, found c, small c.self.inside.source.now c.args.byte c.self.invariant.short)
 
-pub returns-else-self-byte-clause-within : goal.returns-else-self-byte-clause-within
-returns-else-self-byte-clause-within c =
+pub returns-else-self-at-clause-within : goal.returns-else-self-at-clause-within
+returns-else-self-at-clause-within c =
     omega (
       arith,
       ap (λ (s : Source). line_of (source_lines s.text) c.args.byte) c.self.view_is,
@@ -59,6 +62,6 @@ returns-else-self-byte-clause-within c =
       line_of-within c.args.self.now.text c.args.byte,
     )
 
-pub returns-else-self-byte-clause-bound : goal.returns-else-self-byte-clause-bound
-returns-else-self-byte-clause-bound c =
+pub returns-else-self-at-clause-bound : goal.returns-else-self-at-clause-bound
+returns-else-self-at-clause-bound c =
     omega (arith, c.line_index.ensures.value, small c.self.inside.source.now c.args.byte c.self.invariant.short)

@@ -6,7 +6,7 @@ use Rattle.snippet_lines.proofs.LinesLemmas.{length-source_lines, newline_count-
 use Rattle.snippet_lines.proofs.BoundsLemmas.{IsCharBoundary-start_of, IsLine-at, IsOneLine-line, line_bytes-slice}
 use Rattle.snippet_parts.specs.declared.source_map.LineInfo.{LineInfo}
 use Rattle.snippet_parts.specs.LineTable.{table_entry, entry_at}
-use Rattle.snippet_parts.proofs.StartLemmas.{text-only}
+use Rattle.snippet_lines.proofs.StartLemmas.{text-only}
 use Rattle.snippet_parts.proofs.TableLemmas.{entry_at-is}
 use Rattle.snippet_parts.proofs.source_map.SourceMap.line_info.Goals as goal
 

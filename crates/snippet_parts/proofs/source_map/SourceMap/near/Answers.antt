@@ -6,7 +6,7 @@ use Rattle.snippet_lines.specs.Place.{line_of}
 use Rattle.snippet_lines.proofs.BoundsLemmas.{IsCharBoundary-start_of}
 use Rattle.snippet_lines.proofs.LinesLemmas.{length-source_lines, start_of-le}
 use Rattle.snippet_lines.proofs.PlaceLemmas.{line_of-mono, line_of-within}
-use Rattle.snippet_parts.specs.LineTable.{starts_from}
+use Rattle.snippet_lines.specs.Starts.{starts_from}
 use Rattle.snippet_parts.proofs.PartLines.{lines-of-part}
 use Rattle.snippet_parts.proofs.TableLemmas.{length-starts_from}
 use Rattle.snippet_parts.proofs.source_map.SourceMap.near.Goals as goal

@@ -12,7 +12,7 @@ returns c =
       same = (
         path,
         refl,
-        c.in_ok-clone-2.ensures.cases,
+        c.in_ok-clone-2.ensures.same,
         AllZip-weaker _ _ same_annotation _ _ c.in_ok-clone-3.ensures.cases.0,
         refl,
         refl,

@@ -1,7 +1,7 @@
 use Rattle.std.proofs.Common.{◌≡◌, ◌<◌, ◌++◌, ◌∷◌, All, length}
 use Rattle.memchr.specs.Find.{is_byte, places}
-use Rattle.snippet_parts.proofs.StartLemmas.{starts_after}
-use Rattle.snippet_parts.proofs.source_map.line_starts.Given as goal
+use Rattle.snippet_lines.proofs.StartLemmas.{starts_after}
+use Rattle.snippet_lines.proofs.source_lines.line_starts.Given as goal
 
 -- the starts so far, and those after the line feeds that are left, are all of them; each line feed stands in the source
 abbrev pub invariant-loop-line_feed : goal.invariant-loop-line_feed

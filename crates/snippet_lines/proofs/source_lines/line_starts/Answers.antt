@@ -3,8 +3,8 @@ use Rattle.std.proofs.lemmas.List.{append-nil}
 use Rattle.std.proofs.lemmas.List.Elements.{All-head, All-tail}
 use Rattle.memchr.proofs.lemmas.CallerLemmas.{All-places}
 use Rattle.memchr.specs.Find.{is_byte, places}
-use Rattle.snippet_parts.proofs.StartLemmas.{starts_after, starts_after-some, starts_after-none, starts_from-source}
-use Rattle.snippet_parts.proofs.source_map.line_starts.Goals as goal
+use Rattle.snippet_lines.proofs.StartLemmas.{starts_after, starts_after-some, starts_after-none, starts_from-source}
+use Rattle.snippet_lines.proofs.source_lines.line_starts.Goals as goal
 
 abbrev all_starts : List ℕ → List ℕ
 all_starts source = 0 ∷ starts_after (length source) (places (is_byte 10) source)
@@ -19,7 +19,6 @@ pub overflow_add-next : goal.overflow_add-next
 overflow_add-next c =
     omega (
       arith,
-      c.requires.fits,
       (inside (length c.args.source.now) c.loop-line_feed.line_feed-iterator c.next.new.self c.in-Some.line_feed
           c.in-Some.ensures.steps c.loop-line_feed.invariant.3).0,
     )

@@ -8,7 +8,7 @@ use Rattle.snippet_lines.specs.declared.lines.EndLine.{EndLine}
 use Rattle.snippet_lines.specs.declared.lines.EndLine.TheVariants.{Eof, Lf}
 use Rattle.snippet_lines.specs.Lines.{Line, end_bytes, line_bytes, joined, IsLine, line_with_byte, with_first_byte, lines_of, source_lines, text_at}
 use Rattle.snippet_lines.proofs.LinesLemmas.{line_bytes-line_with_byte, lines_of-joined}
-use Rattle.snippet_parts.specs.LineTable.{starts_from}
+use Rattle.snippet_lines.specs.Starts.{starts_from}
 
 -- the places of the line feeds of some bytes, of which the first stands at a place
 abbrev feeds : ℕ → List ℕ → List ℕ

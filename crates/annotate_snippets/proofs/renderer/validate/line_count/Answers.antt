@@ -1,0 +1,10 @@
+use Rattle.std.proofs.Common.{◌≡◌, ◌∙◌, ap, length}
+use Rattle.std.specs.Cow.{cow_str_bytes}
+use Rattle.snippet_lines.specs.Lines.{source_lines}
+use Rattle.snippet_parts.proofs.TableLemmas.{length-starts_from}
+use Rattle.annotate_snippets.proofs.renderer.validate.line_count.Goals as goal
+
+pub returns-in-Some : goal.returns-in-Some
+returns-in-Some c = record {
+  value = ap length c.in-Some.ensures.value ∙ length-starts_from 0 (source_lines (cow_str_bytes c.args.source.now));
+}

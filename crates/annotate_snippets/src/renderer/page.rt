@@ -1,0 +1,113 @@
+//! The text of a report under one sheet. In the graphic form each group is drawn, printed and dropped before the next
+//! is drawn, so that memory holds the rows of one group at a time.
+ghost use Rattle.std.specs.Prelude.{◌≡◌, ◌++◌, [], ◌∷◌, All, IfOk, None, string_bytes, if◌then◌else◌};
+ghost use Rattle.annotate_snippets.specs.Fault as spec;
+ghost use Rattle.annotate_snippets.specs.FormLaws.{IsTextUnder};
+ghost use Rattle.annotate_snippets.specs.Prepared.{IsGroupDrawable};
+ghost use Rattle.annotate_snippets.specs.Written.{AddsGrid};
+ghost use Rattle.annotate_snippets.specs.declared.renderer.form.Form.TheVariants as form;
+
+use crate::renderer::Renderer;
+use crate::renderer::drawn::{draw, text_under};
+use crate::renderer::form::Form;
+use crate::renderer::graphic::{GroupGrid, draw_at};
+use crate::renderer::gutter::gutter_of;
+use crate::renderer::paths::report_file;
+use crate::renderer::preprocess::prepare_groups;
+use crate::snippet::Report;
+use snippet_grid::SheetCodes;
+use snippet_style::Stylesheet;
+use std::alloc::{AllocError, Global};
+
+/// The text of a report in a form, under a sheet.
+///
+/// # Errors
+///
+/// There is no memory for the text, or for what it is made of.
+pub fn text_in_form(
+    alloc: Global,
+    renderer: &Renderer,
+    form: Form,
+    groups: Report<'_>,
+    sheet: &Stylesheet,
+) -> Result<String, AllocError>
+    requires drawable { All IsGroupDrawable groups.now }
+    requires titled { spec.missing_title form groups.now ≡ None }
+    ensures text { IfOk result (λ text. IsTextUnder form renderer.now groups.now sheet.now (string_bytes text)) }
+{
+    match form {
+        Form::Graphic => page_text(alloc, renderer, groups, sheet),
+        Form::Short | Form::Text => drawn_text(alloc, renderer, form, groups, sheet),
+    }
+}
+
+/// The text of a report that is drawn whole before it is printed.
+///
+/// # Errors
+///
+/// There is no memory for the text, or for what it is made of.
+pub fn drawn_text(
+    alloc: Global,
+    renderer: &Renderer,
+    form: Form,
+    groups: Report<'_>,
+    sheet: &Stylesheet,
+) -> Result<String, AllocError>
+    requires drawable { All IsGroupDrawable groups.now }
+    requires titled { spec.missing_title form groups.now ≡ None }
+    ensures text { IfOk result (λ text. IsTextUnder form renderer.now groups.now sheet.now (string_bytes text)) }
+{
+    let drawn = draw(alloc, renderer, form, groups)?;
+    text_under(alloc, &drawn, sheet)
+}
+
+/// The text of a report's graphic form, a group at a time.
+fn page_text(
+    alloc: Global,
+    renderer: &Renderer,
+    groups: Report<'_>,
+    sheet: &Stylesheet,
+) -> Result<String, AllocError>
+    requires drawable { All IsGroupDrawable groups.now }
+    ensures text { IfOk result (λ text.
+        IsTextUnder form.Graphic renderer.now groups.now sheet.now (string_bytes text)) }
+{
+    let prepared = prepare_groups(alloc, groups)?;
+    let gutter = gutter_of(renderer, &prepared);
+    let file = report_file(groups);
+    let mut codes = SheetCodes::new(alloc, sheet);
+    let mut text = String::new(alloc);
+    for (i, group) in prepared.into_iter().enumerate() {
+        let grid = draw_at(alloc, renderer, groups, gutter, file, i, group)?;
+        text = text_with(text, &grid, i == 0, &mut codes)?;
+    }
+    Ok(text)
+}
+
+/// A text, and after it the one that prints a group's grid, after a line feed unless it is the first.
+fn text_with(
+    before: String,
+    grid: &GroupGrid<'_>,
+    is_first: bool,
+    codes: &mut SheetCodes,
+) -> Result<String, AllocError>
+    ensures sheet { codes.new ≡ codes.old }
+    ensures added { IfOk result (λ text.
+        AddsGrid codes.old is_first grid.now (string_bytes before) (string_bytes text)) }
+{
+    let lead = fed(before, is_first)?;
+    grid.buffer.render_after(lead, grid.level, codes)
+}
+
+/// A text, and a line feed after it, unless what follows is the first group's.
+fn fed(before: String, is_first: bool) -> Result<String, AllocError>
+    ensures value { IfOk result (λ text. string_bytes text
+        ≡ (if is_first then string_bytes before else string_bytes before ++ 10 ∷ [])) }
+{
+    let mut text = before;
+    if is_first {
+        return Ok(text);
+    }
+    text.push_str("\n")?;
+    Ok(text)
+}

@@ -1,0 +1,85 @@
+//! A source whose lines are found once.
+ghost use Rattle.std.specs.Prelude.{◌≡◌, IfOk};
+ghost use Rattle.std.specs.Cow.{cow_str_bytes};
+ghost use Rattle.snippet_lines.specs.Starts as spec;
+
+use memchr::memchr_iter;
+use snippet_text::CowStr;
+use std::alloc::{AllocError, Global};
+use std::fmt;
+use std::marker::Model;
+
+/// A source with the bytes at which its lines start.
+///
+/// It is made once, kept, and lent to any number of snippets by `Snippet::indexed`: drawing these looks for no line
+/// again, and prints what it prints of the source's text.
+#[derive(Drop)]
+pub struct SourceLines<'a> {
+    source: CowStr<'a>,
+    /// The byte at which each line starts. An empty source has one line.
+    starts: Vec<usize>,
+}
+
+impl<'a> Model for SourceLines<'a> {
+    ghost use Rattle.std.specs.Prelude.{◌≡◌, ℕ, List};
+    ghost use Rattle.std.specs.Cow.{cow_str_bytes};
+    ghost use Rattle.snippet_lines.specs.Starts.{line_starts};
+
+    ghost Value = { List ℕ };
+
+    ghost view = { λ lines. cow_str_bytes lines.source };
+
+    ghost invariant = { λ lines. lines.starts.items ≡ line_starts (cow_str_bytes lines.source) };
+}
+
+impl<'a> SourceLines<'a> {
+    /// Finds the lines of a source. The one error is that memory ran out.
+    pub fn new(alloc: Global, source: &'a str) -> Result<SourceLines<'a>, AllocError>
+        ensures ok { IfOk result (λ lines. lines ≡ source.now) }
+    {
+        SourceLines::new_cow(alloc, CowStr::Borrowed(source))
+    }
+
+    /// The same of a source that may be owned. The one error is that memory ran out.
+    pub fn new_cow(alloc: Global, source: CowStr<'a>) -> Result<SourceLines<'a>, AllocError>
+        ensures ok { IfOk result (λ lines. lines ≡ cow_str_bytes source.entry) }
+    {
+        let starts = line_starts(alloc, source.as_str())?;
+        Ok(SourceLines { source, starts })
+    }
+
+    /// The source.
+    pub fn source(&self) -> &str
+        ensures value { result.now ≡ self.now }
+    {
+        self.source.as_str()
+    }
+
+    /// The byte at which each line of the source starts. An empty source has one line.
+    pub fn starts(&self) -> &[usize]
+        ensures value { result.now ≡ spec.line_starts self.now }
+    {
+        self.starts.as_slice()
+    }
+}
+
+/// The text alone.
+impl<'a> fmt::Debug for SourceLines<'a> {
+    fn fmt<W: fmt::Write>(&self, f: &mut fmt::Formatter<W>) -> fmt::Result {
+        fmt::Debug::fmt(&self.source(), f)
+    }
+}
+
+/// The byte at which each line of a source starts. An empty source has one line. The one error is that memory ran out.
+pub fn line_starts(alloc: Global, source: &str) -> Result<Vec<usize>, AllocError>
+    ensures starts { IfOk result (λ starts. starts.items ≡ spec.line_starts source.now) }
+{
+    let mut starts = vec![in alloc; 0]?;
+    for line_feed in memchr_iter(b'\n', source.as_bytes()) {
+        let next = line_feed + 1;
+        if next < source.len() {
+            starts.push(next)?;
+        }
+    }
+    Ok(starts)
+}

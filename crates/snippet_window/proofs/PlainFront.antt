@@ -1,0 +1,73 @@
+-- A text that begins with printable ASCII: each of these bytes is a character of one column.
+use Rattle.std.proofs.Common.{◌≡◌, ℕ, ◌+◌, ◌-◌, ◌<◌, ◌≤◌, List, [], ◌∷◌, ◌++◌, length, take, drop, chars, encode_utf8_all, IsUtf8, All, sym, ap, ◌∙◌, arith}
+use Rattle.std.proofs.lemmas.List.{length-append, length-take-le, take-append-drop}
+use Rattle.std.proofs.lemmas.List.Elements.{All-head, All-tail, All-weaker}
+use Rattle.std.proofs.lemmas.List.Sums.{sum_by-append}
+use Rattle.std.proofs.lemmas.Str.{IsUtf8-from_ascii, chars-append, encodes-append, encodes-chars}
+use Rattle.std.proofs.lemmas.Str.Ascii.{IsAscii-from_all}
+use Rattle.std.proofs.Math.Seq.{take-append-add, take-append_seam}
+use Rattle.snippet_style.specs.Cell.{bytes_of}
+use Rattle.snippet_text.specs.Plain.{IsPlain}
+use Rattle.snippet_text.specs.Width.{char_width, width_of}
+use Rattle.snippet_text.proofs.PlainLemmas.{char_width-plain, chars-plain, width_of-all_plain}
+use Rattle.snippet_window.specs.Window.{fitting}
+use Rattle.snippet_window.proofs.LineWindowLemmas.{fitting-cons}
+
+plain_utf8 : (front : List ℕ) → All IsPlain front → IsUtf8 front
+plain_utf8 front all =
+    IsUtf8-from_ascii front (IsAscii-from_all front (All-weaker IsPlain (λ b. b < 128) (λ b plain. omega (arith, plain.1)) front all))
+
+-- what is printable ASCII takes a byte a character
+plain_bytes : (front : List ℕ) → All IsPlain front → bytes_of front ≡ length front
+plain_bytes front all =
+    ap bytes_of (sym (chars-plain front all)) ∙ ap length (encodes-chars front (plain_utf8 front all))
+
+-- the first bytes are the first characters
+pub plain_chars : (text : List ℕ) (k : ℕ) → All IsPlain (take k text) → chars text ≡ take k text ++ chars (drop k text)
+plain_chars text k all =
+    ap chars (sym (take-append-drop k text)) ∙ chars-append (take k text) (drop k text) (plain_utf8 (take k text) all)
+    ∙ ap (λ (l : List ℕ). l ++ chars (drop k text)) (chars-plain (take k text) all)
+
+-- the text may be cut after them
+pub plain_cut : (text : List ℕ) (k : ℕ) → k ≤ length text → All IsPlain (take k text) → k ≡ bytes_of (take k (chars text))
+plain_cut text k within all =
+    let front = take k text in
+    let count = length-take-le k text within in
+    let same : take k (chars text) ≡ front = ap (λ (l : List ℕ). take k l) (plain_chars text k all)
+    ∙ ap (λ n. take n (front ++ chars (drop k text))) (sym count) ∙ take-append_seam front (chars (drop k text)) in
+    sym (ap bytes_of same ∙ plain_bytes front all ∙ count)
+
+-- so many columns are filled by as many of them, and what is left by what stands after them
+fitting_front : (columns : ℕ) (front rest : List ℕ) → All IsPlain front → length front ≤ columns
+    → fitting columns (front ++ rest) ≡ length front + fitting (columns - length front) rest
+fitting_front columns [] rest all room = let same : columns ≡ columns - 0 = omega arith in omega (arith, ap (λ k. fitting k rest) same)
+fitting_front columns (c ∷ cs) rest all room =
+    let one : char_width c ≡ 1 = char_width-plain c (All-head IsPlain c cs all) in
+    let first = fitting-cons columns c (cs ++ rest) (omega (arith, one, room)) in
+    let further = fitting_front (columns - char_width c) cs rest (All-tail IsPlain c cs all) (omega (arith, one, room)) in
+    let same : columns - char_width c - length cs ≡ columns - length (c ∷ cs) = omega (arith, one) in
+    omega (arith, first, further, ap (λ k. fitting k rest) same)
+
+-- what fits of the text: its first bytes, and what fits of those after them in the columns that are left
+pub taken_front : (columns : ℕ) (text : List ℕ) (k : ℕ) → k ≤ length text → k ≤ columns → All IsPlain (take k text)
+    → take (fitting columns (chars text)) (chars text)
+    ≡ take k text ++ take (fitting (columns - k) (chars (drop k text))) (chars (drop k text))
+taken_front columns text k within room all =
+    let front = take k text in
+    let rest = chars (drop k text) in
+    let count = length-take-le k text within in
+    let is = plain_chars text k all in
+    let more : fitting columns (front ++ rest) ≡ length front + fitting (columns - length front) rest = fitting_front columns front rest all (omega
+    (arith, count, room)) in
+    ap (λ (cs : List ℕ). take (fitting columns cs) cs) is ∙ ap (λ n. take n (front ++ rest)) more
+    ∙ take-append-add front rest (fitting (columns - length front) rest) ∙ ap (λ n. front ++ take (fitting (columns - n) rest) rest) count
+
+-- the bytes of both, and their columns
+pub bytes_front : (text xs : List ℕ) (k : ℕ) → k ≤ length text → All IsPlain (take k text) → bytes_of (take k text ++ xs) ≡ k + bytes_of xs
+bytes_front text xs k within all =
+    let both = ap length (encodes-append (take k text) xs) ∙ length-append (encode_utf8_all (take k text)) (encode_utf8_all xs) in
+    omega (arith, both, plain_bytes (take k text) all, length-take-le k text within)
+
+pub width_front : (text xs : List ℕ) (k : ℕ) → k ≤ length text → All IsPlain (take k text) → width_of (take k text ++ xs) ≡ k + width_of xs
+width_front text xs k within all =
+    omega (arith, sum_by-append char_width (take k text) xs, width_of-all_plain (take k text) all, length-take-le k text within)
