@@ -1,7 +1,7 @@
 //! The reports: how each is built.
 ghost use Rattle.std.specs.Prelude.{IfOk};
 ghost use Rattle.annotate_snippets.specs.Fits.{AnnotationFits, GroupFits, PatchFits, SnippetFits};
-ghost use Rattle.snippet_text.specs.Bounds.{TextFits};
+ghost use Rattle.snippet_text.specs.TextBounds.{TextFits};
 
 use annotate_snippets::level::{ERROR, HELP, NOTE};
 use annotate_snippets::renderer::Id;

@@ -21,7 +21,7 @@ use Rattle.snippet_model.specs.declared.snippet.Group.{Group}
 use Rattle.snippet_model.specs.declared.snippet.Patch.{Patch}
 use Rattle.snippet_model.specs.declared.snippet.Snippet.{Snippet}
 use Rattle.snippet_model.specs.Fits.{GroupFits}
-use Rattle.snippet_lines.specs.Order.{put_in}
+use Rattle.snippet_lines.specs.OrderedBy.{put_in}
 use Rattle.snippet_splice.specs.Edits.{AreApart, Edit, edit_of, in_order, precedes}
 use Rattle.snippet_splice.specs.Overlap.{first_overlap, first_overlap_from, overlap}
 use Rattle.annotate_snippets.specs.Fault.{IsGroupWithinBounds, IsWithinBounds, added_lines, element_faults, faults_from, first_fault, first_of, group_faults}

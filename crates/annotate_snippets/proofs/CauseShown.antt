@@ -18,7 +18,7 @@ use Rattle.snippet_parts.specs.Kept.{shown_lines}
 use Rattle.snippet_parts.specs.Mark.{is_marking}
 use Rattle.snippet_parts.specs.Marked.{first_line, last_line}
 use Rattle.snippet_parts.specs.Location.{IsLocation, primary_place}
-use Rattle.snippet_model.specs.Rows.{IsFree}
+use Rattle.snippet_model.specs.FreeRows.{IsFree}
 use Rattle.snippet_parts.specs.declared.entries.AnnotatedLineInfo.{AnnotatedLineInfo}
 use Rattle.snippet_parts.specs.declared.location.Location.{Location}
 use Rattle.snippet_parts.proofs.LocationLaws.{place-named}
@@ -32,12 +32,12 @@ use Rattle.annotate_snippets.specs.declared.renderer.Renderer.{Renderer}
 use Rattle.snippet_grid.specs.Layout.{Layout}
 use Rattle.annotate_snippets.specs.declared.renderer.element_context.ElementContext.{ElementContext}
 use Rattle.annotate_snippets.specs.Around.{closes_after, closes_with, is_before_message, is_first_group, path_bytes}
-use Rattle.annotate_snippets.specs.Drawn.{AreCauseRows, HasRoomFor, IsCauseDrawn}
+use Rattle.annotate_snippets.specs.DrawnReport.{AreCauseRows, HasRoomFor, IsCauseDrawn}
 use Rattle.annotate_snippets.specs.Gutter.{code_after, depth_of_element, line_numbers, numbered_source}
 use Rattle.annotate_snippets.specs.Page.{IsAscending, NamedRow, cells_of, lines_named, others}
-use Rattle.annotate_snippets.specs.Prepared.{IsDrawable}
-use Rattle.annotate_snippets.specs.Rows.{cause_head, closing_rows, origin_layout, place_found, place_named, rows_after_cause, separator_rows}
-use Rattle.annotate_snippets.specs.Shown.{NamesLocation}
+use Rattle.annotate_snippets.specs.PreparedReport.{IsDrawable}
+use Rattle.annotate_snippets.specs.RowsWithoutSource.{cause_head, closing_rows, origin_layout, place_found, place_named, rows_after_cause, separator_rows}
+use Rattle.annotate_snippets.specs.ShownPage.{NamesLocation}
 use Rattle.annotate_snippets.specs.Feeds.{HasNoFeed}
 use Rattle.annotate_snippets.proofs.ElementShown.{ElementShown}
 use Rattle.annotate_snippets.proofs.GutterLemmas.{numbers_fit}

@@ -16,7 +16,7 @@ use Rattle.annotate_snippets.specs.declared.renderer.element_context.GroupPositi
 use Rattle.annotate_snippets.specs.declared.renderer.element_context.Next.{Next}
 use Rattle.annotate_snippets.specs.declared.renderer.element_context.ElementContext.{ElementContext}
 use Rattle.annotate_snippets.specs.Around.{first_two_share, has_file, next_of, start_of, context_at}
-use Rattle.annotate_snippets.specs.Prepared.{AreAround, element_of}
+use Rattle.annotate_snippets.specs.PreparedReport.{AreAround, element_of}
 
 -- whether no element before this one is of a file, and whether the one before it and it are suggestions for one file
 abbrev pub primary_before : List Element → ℕ → Bool

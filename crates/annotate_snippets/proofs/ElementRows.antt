@@ -9,12 +9,12 @@ use Rattle.std.proofs.lemmas.List.FromFn.{get_or-enumerate_from, length-enumerat
 use Rattle.std.proofs.lemmas.Option.{slice_get-get_or, slice_get_within}
 use Rattle.snippet_style.specs.Cell.{Cell}
 use Rattle.snippet_model.specs.declared.snippet.Element.{Element}
-use Rattle.snippet_suggest.specs.Rows.{IsTail}
+use Rattle.snippet_suggest.specs.SuggestionRows.{IsTail}
 use Rattle.annotate_snippets.specs.Around.{CanStandIn, begins_in_row_above, context_at, first_two_share}
-use Rattle.annotate_snippets.specs.Drawn.{AddsElement, AddsElements, IsElementDrawn, found_at, last_row}
+use Rattle.annotate_snippets.specs.DrawnReport.{AddsElement, AddsElements, IsElementDrawn, found_at, last_row}
 use Rattle.annotate_snippets.specs.declared.renderer.Renderer.{Renderer}
 use Rattle.snippet_grid.specs.Layout.{Layout}
-use Rattle.annotate_snippets.specs.Prepared.{AreAround, element_of}
+use Rattle.annotate_snippets.specs.PreparedReport.{AreAround, element_of}
 use Rattle.annotate_snippets.specs.declared.renderer.preprocess.PreparedElement.{PreparedElement}
 use Rattle.annotate_snippets.specs.declared.renderer.element_context.GroupPosition.{GroupPosition}
 use Rattle.annotate_snippets.specs.declared.renderer.element_context.ElementContext.{ElementContext}

@@ -5,7 +5,7 @@ use Rattle.snippet_model.specs.declared.snippet.Element.{Element}
 use Rattle.annotate_snippets.specs.Feeds.{HasNoFeed, IsOneLineElement}
 use Rattle.annotate_snippets.specs.GraphicForm.{element_rows}
 use Rattle.annotate_snippets.specs.Page.{NamedRow, cells_of}
-use Rattle.annotate_snippets.specs.Shown.{IsFreeElement, ShowsElement}
+use Rattle.annotate_snippets.specs.ShownPage.{IsFreeElement, ShowsElement}
 use Rattle.annotate_snippets.specs.declared.renderer.Renderer.{Renderer}
 use Rattle.snippet_grid.specs.Layout.{Layout}
 use Rattle.annotate_snippets.specs.declared.renderer.element_context.ElementContext.{ElementContext}

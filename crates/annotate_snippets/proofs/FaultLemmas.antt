@@ -23,8 +23,8 @@ use Rattle.snippet_splice.specs.Edits.{edit_of}
 use Rattle.snippet_splice.specs.Overlap.{first_overlap}
 use Rattle.annotate_snippets.specs.Fault.{added_lines, faults_from, missing_title, number_after_lines, first_of, span_faults, overlap_faults, group_faults}
 use Rattle.annotate_snippets.specs.Fault.{element_faults, first_fault, refusal_of, number_faults}
-use Rattle.snippet_suggest.specs.Prepared.{IsSuggestible}
-use Rattle.annotate_snippets.specs.Prepared.{IsDrawable, IsElementDrawable, IsGroupDrawable}
+use Rattle.snippet_suggest.specs.PreparedSuggestion.{IsSuggestible}
+use Rattle.annotate_snippets.specs.PreparedReport.{IsDrawable, IsElementDrawable, IsGroupDrawable}
 use Rattle.annotate_snippets.proofs.DisjointLemmas.{first_overlap-clear}
 use Rattle.snippet_suggest.proofs.NumberLaws.{numbers-bound}
 use Rattle.snippet_model.specs.Fits.{ReportFits, GroupFits, ElementFits}

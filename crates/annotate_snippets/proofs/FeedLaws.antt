@@ -12,11 +12,11 @@ use Rattle.snippet_style.specs.declared.glyphs.DecorStyle.{DecorStyle}
 use Rattle.snippet_style.specs.declared.glyphs.DecorStyle.TheVariants.{Ascii, Unicode}
 use Rattle.snippet_style.specs.declared.role.ElementStyle.TheVariants.{LineNumber}
 use Rattle.snippet_strokes.specs.EntryMarks.{IsBarCell}
-use Rattle.snippet_strokes.specs.Rows.{bare_elision_row}
+use Rattle.snippet_strokes.specs.StrokeRows.{bare_elision_row}
 use Rattle.snippet_strokes.specs.SourceRows.{bare_row}
 use Rattle.snippet_grid.specs.Layout.{Layout}
 use Rattle.annotate_snippets.specs.Feeds.{HasNoFeed, HoldsNoFeed, IsNoFeed}
-use Rattle.annotate_snippets.specs.Shown.{IsElided}
+use Rattle.annotate_snippets.specs.ShownPage.{IsElided}
 use Rattle.annotate_snippets.proofs.ListLemmas.{from_any}
 use Rattle.snippet_titles.proofs.OriginFree.{each-fails}
 use Rattle.snippet_style.proofs.CellLemmas.{All-text_cells}

@@ -22,15 +22,15 @@ use Rattle.annotate_snippets.specs.declared.renderer.drawn.Drawn.TheVariants as 
 use Rattle.annotate_snippets.specs.declared.renderer.error.RenderError.{RenderError}
 use Rattle.annotate_snippets.specs.declared.renderer.form.Form.{Form}
 use Rattle.annotate_snippets.specs.declared.renderer.form.Form.TheVariants.{Graphic, Short, Text}
-use Rattle.annotate_snippets.specs.Drawn.{IsDrawnAs, IsPrintedAs}
+use Rattle.annotate_snippets.specs.DrawnReport.{IsDrawnAs, IsPrintedAs}
 use Rattle.annotate_snippets.specs.Fault.{first_refusal, form_of, missing_title}
 use Rattle.annotate_snippets.specs.FormLaws.{FormLaws, HasLaws, IsTextUnder, LawsIn}
 use Rattle.annotate_snippets.specs.Forms.{AreFree, ShortShown, ShowsForm, TextsShown, links_in, plain_in}
 use Rattle.annotate_snippets.specs.GraphicForm.{graphic_form}
 use Rattle.annotate_snippets.specs.Page.{Page, PrintsPage, page_text}
 use Rattle.annotate_snippets.specs.PageLaws.{PageLaws}
-use Rattle.annotate_snippets.specs.Prepared.{IsGroupDrawable}
-use Rattle.annotate_snippets.specs.Shown.{IsFreeBut, SheetsShown, levels_of, report_links}
+use Rattle.annotate_snippets.specs.PreparedReport.{IsGroupDrawable}
+use Rattle.annotate_snippets.specs.ShownPage.{IsFreeBut, SheetsShown, levels_of, report_links}
 use Rattle.annotate_snippets.proofs.FaultLemmas.{first-there, title-there}
 use Rattle.annotate_snippets.proofs.PrintLemmas.{AllZip-weaker}
 use Rattle.annotate_snippets.proofs.ReportLemmas.{page_laws, page_woven, sheets_shown, titled-from_ok}

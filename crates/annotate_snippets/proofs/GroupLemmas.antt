@@ -22,17 +22,17 @@ use Rattle.snippet_model.specs.declared.snippet.Element.TheVariants.{Message, Ca
 use Rattle.snippet_model.specs.declared.snippet.Group.{Group}
 use Rattle.snippet_model.specs.declared.snippet.Patch.{Patch}
 use Rattle.snippet_model.specs.declared.snippet.Title.{Title}
-use Rattle.snippet_model.specs.Rows.{IsFree, IsFreeCell}
+use Rattle.snippet_model.specs.FreeRows.{IsFree, IsFreeCell}
 use Rattle.snippet_titles.specs.Title.{id_links, title_rows}
 use Rattle.snippet_titles.proofs.HeadFacts.{message_rows-unlinked}
 use Rattle.snippet_titles.proofs.LinkLemmas.{title_rows-links}
 use Rattle.annotate_snippets.specs.Around.{drawn_elements, is_drawn, is_end, next_of, context_at}
-use Rattle.annotate_snippets.specs.Drawn.{AreElementsDrawn, HasRoomFor, IsElementDrawn, IsGroupGrid, found_at}
+use Rattle.annotate_snippets.specs.DrawnReport.{AreElementsDrawn, HasRoomFor, IsElementDrawn, IsGroupGrid, found_at}
 use Rattle.annotate_snippets.specs.GraphicForm.{element_rows, rows_of_elements}
 use Rattle.annotate_snippets.specs.Page.{NamedRow, cells_of}
-use Rattle.annotate_snippets.specs.Prepared.{IsElementDrawable, IsGroupDrawable}
-use Rattle.annotate_snippets.specs.Rows.{rows_after_title, title_part}
-use Rattle.annotate_snippets.specs.Shown.{IsFreeBut, IsFreeElement, ShowsElement}
+use Rattle.annotate_snippets.specs.PreparedReport.{IsElementDrawable, IsGroupDrawable}
+use Rattle.annotate_snippets.specs.RowsWithoutSource.{rows_after_title, title_part}
+use Rattle.annotate_snippets.specs.ShownPage.{IsFreeBut, IsFreeElement, ShowsElement}
 use Rattle.annotate_snippets.specs.declared.renderer.Renderer.{Renderer}
 use Rattle.snippet_grid.specs.Layout.{Layout}
 use Rattle.annotate_snippets.specs.declared.renderer.element_context.GroupPosition.{GroupPosition}

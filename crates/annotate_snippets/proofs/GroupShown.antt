@@ -12,7 +12,7 @@ use Rattle.snippet_titles.specs.Title.{id_links}
 use Rattle.annotate_snippets.specs.Feeds.{HasOneLineRows, IsOneLineGroup}
 use Rattle.annotate_snippets.specs.GraphicForm.{group_page}
 use Rattle.annotate_snippets.specs.Page.{GroupPage, group_rows}
-use Rattle.annotate_snippets.specs.Shown.{IsFreeBut, ShowsGroup}
+use Rattle.annotate_snippets.specs.ShownPage.{IsFreeBut, ShowsGroup}
 use Rattle.annotate_snippets.specs.declared.renderer.Renderer.{Renderer}
 use Rattle.snippet_grid.specs.Layout.{Layout}
 use Rattle.annotate_snippets.specs.declared.renderer.element_context.GroupPosition.{GroupPosition}

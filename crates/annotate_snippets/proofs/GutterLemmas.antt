@@ -30,8 +30,8 @@ use Rattle.snippet_lines.specs.Number.{number_width, shown_number}
 use Rattle.snippet_lines.specs.declared.number.LineNumbers.{LineNumbers}
 use Rattle.snippet_lines.specs.declared.number.LineNumbers.TheVariants.{Shown, Anonymized, Hidden}
 use Rattle.snippet_lines.proofs.NumberLemmas.{length-decimal_monotone, length-decimal_more, length-decimal_last}
-use Rattle.annotate_snippets.specs.Drawn.{HasRoomFor}
-use Rattle.annotate_snippets.specs.Prepared.{IsDrawable}
+use Rattle.annotate_snippets.specs.DrawnReport.{HasRoomFor}
+use Rattle.annotate_snippets.specs.PreparedReport.{IsDrawable}
 use Rattle.annotate_snippets.specs.Gutter.{gutter_of, line_numbers, numbered_source}
 use Rattle.annotate_snippets.specs.declared.renderer.Renderer.{Renderer}
 use Rattle.snippet_grid.specs.Layout.{Layout}

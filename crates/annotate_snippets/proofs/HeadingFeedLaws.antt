@@ -17,10 +17,10 @@ use Rattle.snippet_model.specs.Heading.{Heading, heading_of_title, is_hidden}
 use Rattle.snippet_model.specs.Level.{name_of}
 use Rattle.snippet_model.specs.declared.snippet.Id.{Id}
 use Rattle.snippet_model.specs.declared.snippet.Title.{Title as TitleGiven}
-use Rattle.snippet_titles.specs.Heading.{address_of, bracketed_cells, closing_bracket_of, colon_of, heading_lines, heading_rows, id_cells, indent_cells}
-use Rattle.snippet_titles.specs.Heading.{is_set}
-use Rattle.snippet_titles.specs.Heading.{label_cells, label_width, linked_to, lines_below, note_bar_of, opening_bracket_of, roles_of, shown_text}
-use Rattle.snippet_titles.specs.Heading.{sign_cells}
+use Rattle.snippet_titles.specs.HeadingRows.{address_of, bracketed_cells, closing_bracket_of, colon_of, heading_lines, heading_rows, id_cells, indent_cells}
+use Rattle.snippet_titles.specs.HeadingRows.{is_set}
+use Rattle.snippet_titles.specs.HeadingRows.{label_cells, label_width, linked_to, lines_below, note_bar_of, opening_bracket_of, roles_of, shown_text}
+use Rattle.snippet_titles.specs.HeadingRows.{sign_cells}
 use Rattle.snippet_style.specs.Glyphs.{note_sign_of}
 use Rattle.snippet_titles.specs.Title.{title_rows}
 use Rattle.snippet_titles.specs.declared.style.HeadingRoles.{HeadingRoles}
@@ -33,7 +33,7 @@ use Rattle.annotate_snippets.specs.declared.renderer.element_context.GroupPositi
 use Rattle.annotate_snippets.specs.declared.renderer.element_context.Next.{Next as NextElement}
 use Rattle.annotate_snippets.specs.Around.{is_before_message}
 use Rattle.annotate_snippets.specs.Feeds.{HasNoFeed, HoldsNoFeed, IsNoFeed, IsOneLineId, IsOneLineName, IsOneLineText, IsOneLineTitle}
-use Rattle.annotate_snippets.specs.Rows.{closing_rows, rows_after_title, separator_rows, title_part}
+use Rattle.annotate_snippets.specs.RowsWithoutSource.{closing_rows, rows_after_title, separator_rows, title_part}
 use Rattle.snippet_titles.proofs.OriginFree.{each-fails}
 use Rattle.annotate_snippets.proofs.FeedLaws.{after_spaces, bare-plain}
 use Rattle.annotate_snippets.proofs.PathFeedLaws.{alone, cells_plain, choice, closing_plain as closing_rows-plain, norm-plain}

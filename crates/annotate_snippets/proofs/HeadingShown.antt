@@ -12,11 +12,11 @@ use Rattle.snippet_model.specs.declared.snippet.Message as the_message
 use Rattle.snippet_model.specs.declared.snippet.Origin as the_origin
 use Rattle.snippet_model.specs.declared.snippet.Padding as the_padding
 use Rattle.snippet_model.specs.declared.snippet.Title.{Title}
-use Rattle.snippet_model.specs.Rows.{IsFree}
+use Rattle.snippet_model.specs.FreeRows.{IsFree}
 use Rattle.snippet_parts.proofs.PartLemmas.{All-unmapped}
-use Rattle.snippet_titles.specs.Heading.{heading_rows}
+use Rattle.snippet_titles.specs.HeadingRows.{heading_rows}
 use Rattle.snippet_titles.specs.Origin.{origin_row, padding_row}
-use Rattle.snippet_titles.specs.Shown.{IsFreeButText}
+use Rattle.snippet_titles.specs.ShownHeading.{IsFreeButText}
 use Rattle.snippet_titles.specs.Title.{title_rows}
 use Rattle.snippet_titles.specs.declared.style.TitleStyle.{TitleStyle}
 use Rattle.snippet_titles.specs.declared.style.TitleStyle.TheVariants as style
@@ -27,9 +27,9 @@ use Rattle.snippet_titles.proofs.PlaceLemmas.{heading_rows-places}
 use Rattle.snippet_titles.proofs.TextLemmas.{heading_rows-texts}
 use Rattle.annotate_snippets.specs.Around.{closes_after, is_end}
 use Rattle.annotate_snippets.specs.Page.{NamedRow, cells_of, others}
-use Rattle.annotate_snippets.specs.Rows.{closing_rows, message_rows, message_style, origin_layout, origin_rows, origin_start, place_given}
-use Rattle.annotate_snippets.specs.Rows.{title_part}
-use Rattle.annotate_snippets.specs.Shown.{ShowsHeading, ShowsTitlePart}
+use Rattle.annotate_snippets.specs.RowsWithoutSource.{closing_rows, message_rows, message_style, origin_layout, origin_rows, origin_start, place_given}
+use Rattle.annotate_snippets.specs.RowsWithoutSource.{title_part}
+use Rattle.annotate_snippets.specs.ShownPage.{ShowsHeading, ShowsTitlePart}
 use Rattle.annotate_snippets.specs.declared.renderer.Renderer.{Renderer}
 use Rattle.snippet_grid.specs.Layout.{Layout}
 use Rattle.annotate_snippets.specs.declared.renderer.element_context.GroupPosition.{GroupPosition}

@@ -26,12 +26,12 @@ use Rattle.snippet_parts.specs.declared.entries.LineAnnotationType.TheVariants.{
 use Rattle.snippet_parts.proofs.EntryFacts.{singles-on}
 use Rattle.snippet_parts.proofs.PartLemmas.{filter-none, made-all}
 use Rattle.snippet_parts.specs.Annotated.{bar_lines, bar_part, long_entry}
-use Rattle.snippet_labels.specs.Entries.{label_role, label_text, shifted}
+use Rattle.snippet_labels.specs.PlacedEntries.{label_role, label_text, shifted}
 use Rattle.snippet_strokes.specs.Labels.{IsLabelledAtEnd, IsLedTo, LabelsStand, PlacedLabel, StandsIn, is_cell_of}
 use Rattle.snippet_labels.specs.Positions.{is_start_part}
 use Rattle.snippet_grid.specs.Layout.{Layout}
-use Rattle.annotate_snippets.specs.Shown.{HasStem, ShowsLabel, ShowsLabels, ShownLabel, SpanLabel, promoted_spans, is_in_label, label_of_end, label_of_span}
-use Rattle.annotate_snippets.specs.Shown.{normalized_chars, shown_label}
+use Rattle.annotate_snippets.specs.ShownPage.{HasStem, ShowsLabel, ShowsLabels, ShownLabel, SpanLabel, promoted_spans, is_in_label, label_of_end, label_of_span}
+use Rattle.annotate_snippets.specs.ShownPage.{normalized_chars, shown_label}
 use Rattle.annotate_snippets.proofs.MarkLemmas.{end_of_entry, label_is, start_of_entry}
 
 -- lists that are the same begin with the same

@@ -12,13 +12,13 @@ use Rattle.snippet_style.specs.declared.glyphs.DecorStyle.TheVariants.{Ascii, Un
 use Rattle.snippet_style.specs.declared.role.ElementStyle.TheVariants.{LineNumber}
 use Rattle.snippet_style.proofs.CellLemmas.{length-text_cells}
 use Rattle.snippet_grid.specs.Print.{row_text}
-use Rattle.snippet_model.specs.Rows.{HasNoNumber}
+use Rattle.snippet_model.specs.FreeRows.{HasNoNumber}
 use Rattle.snippet_strokes.specs.SourceRows.{IsSourceRow}
-use Rattle.snippet_strokes.specs.Rows.{bare_elision_row}
+use Rattle.snippet_strokes.specs.StrokeRows.{bare_elision_row}
 use Rattle.snippet_grid.specs.Layout.{Layout}
 use Rattle.snippet_strokes.proofs.BegunLemmas.{same_front}
 use Rattle.snippet_strokes.proofs.RowLemmas.{bare_row_left}
-use Rattle.annotate_snippets.specs.Shown.{IsElided, IsRowBelow, cells_left}
+use Rattle.annotate_snippets.specs.ShownPage.{IsElided, IsRowBelow, cells_left}
 use Rattle.snippet_grid.proofs.RowLemmas.{row_text-text_cells}
 
 module _ (decor : DecorStyle) (gutter : ℕ) (shown : List ℕ) where

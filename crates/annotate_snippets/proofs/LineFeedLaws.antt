@@ -39,7 +39,7 @@ use Rattle.snippet_parts.specs.declared.entries.LineAnnotationType.TheVariants.{
 use Rattle.snippet_parts.proofs.PartLemmas.{made-all}
 use Rattle.snippet_strokes.specs.Bars.{Bar, bars_apart, ends_of_bars, is_whole_line}
 use Rattle.snippet_strokes.specs.Cuts.{Stretch, cut_row, cuts_of, overlapped}
-use Rattle.snippet_labels.specs.Entries.{label_text, shifted}
+use Rattle.snippet_labels.specs.PlacedEntries.{label_text, shifted}
 use Rattle.snippet_strokes.specs.LineRows.{AreLineRows, AreOwnRows}
 use Rattle.snippet_strokes.specs.Painting.{first_glyph, mark_end, painting_order, mark_of, marks_of, stroke_role}
 use Rattle.snippet_strokes.specs.Drawing.{row_count}
@@ -57,9 +57,9 @@ use Rattle.snippet_strokes.proofs.WriteLaws.{All-flat_map, painted-cell}
 use Rattle.annotate_snippets.specs.declared.renderer.Renderer.{Renderer}
 use Rattle.annotate_snippets.specs.Feeds.{HasNoFeed, HoldsNoFeed, IsNoFeed, IsOneLineLabel, IsOneLineText}
 use Rattle.annotate_snippets.specs.Gutter.{numbered_source}
-use Rattle.annotate_snippets.specs.LineRows.{AreRowsDrawn, IsLineDrawn, IsRowDrawn, entries_on, open_after}
+use Rattle.annotate_snippets.specs.SnippetLineRows.{AreRowsDrawn, IsLineDrawn, IsRowDrawn, entries_on, open_after}
 use Rattle.annotate_snippets.specs.Page.{Elision, NamedRow, OfferedLine, Other, RemovedLine, RowName, SourceRow, cells_of, rows_below}
-use Rattle.annotate_snippets.specs.Shown.{AreRowsOf, IsRowOf, normalized_chars}
+use Rattle.annotate_snippets.specs.ShownPage.{AreRowsOf, IsRowOf, normalized_chars}
 use Rattle.annotate_snippets.proofs.FeedLaws.{at_any, bare-plain, elided}
 use Rattle.annotate_snippets.proofs.HeadingFeedLaws.{parts_plain}
 use Rattle.annotate_snippets.proofs.LabelLemmas.{tail_same}

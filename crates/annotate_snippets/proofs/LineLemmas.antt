@@ -33,9 +33,9 @@ use Rattle.snippet_parts.specs.Entries.{is_bar, is_single_part, is_wide_entry}
 use Rattle.snippet_lines.specs.Span.{IsSpan}
 use Rattle.snippet_window.specs.Window.{AreReplaced, chars_at, dropped_part, stands_whole, window}
 use Rattle.snippet_strokes.specs.EntryMarks.{IsEntryMark, IsMarkCell, are_plain, has_column, has_mark_role, is_single, wide_entries}
-use Rattle.snippet_labels.specs.Entries.{label_role, label_text, shifted}
+use Rattle.snippet_labels.specs.PlacedEntries.{label_role, label_text, shifted}
 use Rattle.snippet_lines.specs.Number.{shown_number}
-use Rattle.snippet_strokes.specs.Rows.{IsStrokeRow, ShowsMarks}
+use Rattle.snippet_strokes.specs.StrokeRows.{IsStrokeRow, ShowsMarks}
 use Rattle.snippet_strokes.specs.SourceRows.{window_cells}
 use Rattle.snippet_strokes.specs.Snippet as strokes
 use Rattle.snippet_strokes.specs.Bars.{Bar}
@@ -43,7 +43,7 @@ use Rattle.snippet_grid.specs.Layout.{Layout}
 use Rattle.snippet_strokes.proofs.SnippetLemmas.{highlighted_left, highlighted_text}
 use Rattle.annotate_snippets.specs.declared.renderer.Renderer.{Renderer}
 use Rattle.annotate_snippets.specs.Gutter.{line_numbers, number_text, numbered_source}
-use Rattle.annotate_snippets.specs.Shown.{IsRowBelow, ShowsLabels, ShowsMarksOf, ShowsSourceLine, bounds_in, cells_left, room_of, shown_label, wide_spans}
+use Rattle.annotate_snippets.specs.ShownPage.{IsRowBelow, ShowsLabels, ShowsMarksOf, ShowsSourceLine, bounds_in, cells_left, room_of, shown_label, wide_spans}
 use Rattle.annotate_snippets.proofs.LabelLemmas.{labelled_at_end, labels_shown, head_same, tail_same}
 use Rattle.annotate_snippets.proofs.LeftLaws.{left_of_source, space_of_source}
 use Rattle.annotate_snippets.proofs.MarkLemmas.{span_of_entry, IsEntryOf, mark_of_entries, unmarked_by_entries, entries_after, unlabelled_entries, lone_entry}

@@ -14,18 +14,18 @@ use Rattle.snippet_window.specs.Window.{chars_at, dropped_part}
 use Rattle.snippet_parts.specs.declared.entries.LineAnnotation.{LineAnnotation}
 use Rattle.snippet_window.specs.declared.margin.Margin.{Margin}
 use Rattle.snippet_parts.proofs.ShownLemmas.{filter-map}
-use Rattle.snippet_labels.specs.Entries.{is_end_part, plain_entry}
+use Rattle.snippet_labels.specs.PlacedEntries.{is_end_part, plain_entry}
 use Rattle.snippet_strokes.specs.SourceRows.{source_row, window_cells}
 use Rattle.snippet_strokes.specs.Bars.{Bar}
 use Rattle.snippet_strokes.specs.LineRows.{line_rows}
-use Rattle.snippet_strokes.specs.Rows.{highlighted_row}
+use Rattle.snippet_strokes.specs.StrokeRows.{highlighted_row}
 use Rattle.snippet_strokes.proofs.LineValueLaws.{highlighted_is, highlighted_row-plain, line_rows-plain, line_rows_are}
 use Rattle.annotate_snippets.specs.declared.renderer.Renderer.{Renderer}
 use Rattle.snippet_grid.specs.Layout.{Layout}
 use Rattle.annotate_snippets.specs.GraphicForm.{lent, line_entry, margin_in, rows_of_line}
 use Rattle.annotate_snippets.specs.Gutter.{number_text}
-use Rattle.annotate_snippets.specs.LineRows.{IsLineDrawn, entries_on}
-use Rattle.annotate_snippets.specs.Shown.{bounds_in, room_of}
+use Rattle.annotate_snippets.specs.SnippetLineRows.{IsLineDrawn, entries_on}
+use Rattle.annotate_snippets.specs.ShownPage.{bounds_in, room_of}
 
 -- a label that is lent from nowhere has the text of the one that was lent
 same_label : (label : Option (Bor (List ℕ))) → option_map lent (option_copied label) ≡ option_map (λ t. lent t.now) label

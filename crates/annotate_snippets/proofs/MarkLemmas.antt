@@ -15,10 +15,10 @@ use Rattle.snippet_parts.specs.Marked.{first_line, last_line, Entry, seen_entry,
 use Rattle.snippet_parts.specs.Mark.{is_marking, is_single_line, is_marked_on, start_column, end_column, span_width, IsMarkedAt, IsMarkOf}
 use Rattle.std.specs.Borrow.{Bor}
 use Rattle.std.specs.Option.{option_copied}
-use Rattle.snippet_labels.specs.Entries as entry
-use Rattle.annotate_snippets.specs.Shown.{shown_label, normalized_chars}
+use Rattle.snippet_labels.specs.PlacedEntries as entry
+use Rattle.annotate_snippets.specs.ShownPage.{shown_label, normalized_chars}
 use Rattle.snippet_strokes.specs.EntryMarks.{EntryCovers, IsEntryMark}
-use Rattle.snippet_labels.specs.Entries.{shifted}
+use Rattle.snippet_labels.specs.PlacedEntries.{shifted}
 use Rattle.snippet_model.specs.AnnotationKind.{is_primary}
 use Rattle.snippet_strokes.specs.Drawing.{StandsFrom}
 use Rattle.snippet_strokes.proofs.MarkLemmas.{from_map}

@@ -3,7 +3,7 @@ use Rattle.std.proofs.Common.{◌≡◌, ℕ, ◌+◌, ◌<◌, Bool, true, fals
 use Rattle.std.specs.Str.{chars}
 use Rattle.std.proofs.lemmas.List.{append_cancel_left, append_cancel_right, length-map}
 use Rattle.snippet_grid.specs.Grid.{cell_at}
-use Rattle.snippet_model.specs.Rows.{HasNoNumber}
+use Rattle.snippet_model.specs.FreeRows.{HasNoNumber}
 use Rattle.snippet_model.specs.declared.snippet.Annotation.{Annotation}
 use Rattle.snippet_model.specs.declared.snippet.AnnotationKind.TheVariants.{Primary}
 use Rattle.snippet_model.specs.declared.snippet.Snippet.{Snippet}
@@ -22,12 +22,12 @@ use Rattle.annotate_snippets.specs.declared.renderer.Renderer.{Renderer}
 use Rattle.snippet_grid.specs.Layout.{Layout}
 use Rattle.annotate_snippets.specs.declared.renderer.element_context.ElementContext.{ElementContext}
 use Rattle.annotate_snippets.specs.Around.{closes_with}
-use Rattle.annotate_snippets.specs.LineRows.{AreRowsDrawn, IsLineDrawn, IsRowDrawn, bars_on, entries_on}
+use Rattle.annotate_snippets.specs.SnippetLineRows.{AreRowsDrawn, IsLineDrawn, IsRowDrawn, bars_on, entries_on}
 use Rattle.annotate_snippets.specs.Page.{Elision, NamedRow, OfferedLine, Other, RemovedLine, RowName, SourceRow, line_named, names_in, names_of_lines, others}
 use Rattle.annotate_snippets.specs.Page.{rows_below, shows_lines}
-use Rattle.annotate_snippets.specs.Rows.{cause_head, rows_after_cause}
+use Rattle.annotate_snippets.specs.RowsWithoutSource.{cause_head, rows_after_cause}
 use Rattle.annotate_snippets.specs.Settings.{plain_settings}
-use Rattle.annotate_snippets.specs.Shown.{AreRowsOf, IsRowBelow, IsRowOf, ShowsSnippet, ShowsSourceLine}
+use Rattle.annotate_snippets.specs.ShownPage.{AreRowsOf, IsRowBelow, IsRowOf, ShowsSnippet, ShowsSourceLine}
 use Rattle.annotate_snippets.proofs.DrawnLines.{bars_seen}
 use Rattle.annotate_snippets.proofs.NotShown.{layout, span_of}
 use Rattle.annotate_snippets.proofs.NotWhole.{IsLineA, unnamed}

@@ -19,9 +19,9 @@ use Rattle.snippet_model.specs.declared.snippet.Snippet.{Snippet}
 use Rattle.snippet_strokes.proofs.MarkLemmas.{from_map}
 use Rattle.snippet_strokes.specs.EntryMarks.{has_mark_role, is_mark_role}
 use Rattle.snippet_strokes.specs.Labels.{IsStemCell}
-use Rattle.snippet_labels.specs.Entries.{label_role}
+use Rattle.snippet_labels.specs.PlacedEntries.{label_role}
 use Rattle.snippet_grid.specs.Layout.{Layout}
-use Rattle.annotate_snippets.specs.Shown.{HasStem, ShowsLabel, ShowsLabels, ShownLabel, SpanLabel, is_in_label, labels_ending_on}
+use Rattle.annotate_snippets.specs.ShownPage.{HasStem, ShowsLabel, ShowsLabels, ShownLabel, SpanLabel, is_in_label, labels_ending_on}
 
 -- whether a role is that of labels
 abbrev pub is_label_role : ElementStyle → Bool

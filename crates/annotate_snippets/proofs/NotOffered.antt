@@ -21,13 +21,13 @@ use Rattle.snippet_model.specs.declared.snippet.Snippet.{Snippet}
 use Rattle.snippet_lines.specs.Lines.{last_byte, lines_of, source_lines, start_of, text_at}
 use Rattle.snippet_lines.specs.Place.{line_of}
 use Rattle.snippet_splice.specs.Edits.{Edit, patched, trimmed_edit}
-use Rattle.snippet_splice.specs.Shown.{shown_line, shown_text}
+use Rattle.snippet_splice.specs.ShownText.{shown_line, shown_text}
 use Rattle.snippet_splice.specs.Spliced.{HasNoCr, IsTouched, spliced_text, texts_of}
 use Rattle.snippet_splice.specs.Trim.{kept_before, sandwich}
 use Rattle.snippet_suggest.specs.Given.{IsAsItWas, IsOfferable, edits_of, first_given, given_lines, last_reached}
 use Rattle.snippet_suggest.specs.Kind.{is_blank}
-use Rattle.snippet_suggest.specs.Order.{Begins, Ends, Offers, Removes, SuggestionRow, removed_number, rows_of_suggestion}
-use Rattle.snippet_suggest.specs.Rows.{IsBareRow}
+use Rattle.snippet_suggest.specs.RowOrder.{Begins, Ends, Offers, Removes, SuggestionRow, removed_number, rows_of_suggestion}
+use Rattle.snippet_suggest.specs.SuggestionRows.{IsBareRow}
 use Rattle.snippet_suggest.specs.declared.SuggestionStart.TheVariants.{Opening}
 use Rattle.snippet_suggest.proofs.Examples.{one_word, one_word_gives}
 use Rattle.std.specs.declared.alloc.Global.{Global}
@@ -39,11 +39,11 @@ use Rattle.annotate_snippets.specs.Around.{is_end, suggestion_rows}
 use Rattle.annotate_snippets.specs.Gutter.{number_text}
 use Rattle.annotate_snippets.specs.declared.renderer.Renderer.{Renderer}
 use Rattle.annotate_snippets.specs.Page.{Elision, NamedRow, OfferedLine, RemovedLine, Other, RowName, IsAscending, SourceRow, cells_of, lines_offered, others}
-use Rattle.annotate_snippets.specs.Rows.{suggestion_head}
+use Rattle.annotate_snippets.specs.RowsWithoutSource.{suggestion_head}
 use Rattle.annotate_snippets.specs.Settings.{plain_settings}
 use Rattle.snippet_grid.specs.Layout.{Layout}
 use Rattle.annotate_snippets.specs.declared.renderer.element_context.ElementContext.{ElementContext}
-use Rattle.annotate_snippets.specs.Shown.{HasStrokes, IsOfferedRow, IsSuggestionRow, ShowsSuggestion, name_of_row}
+use Rattle.annotate_snippets.specs.ShownPage.{HasStrokes, IsOfferedRow, IsSuggestionRow, ShowsSuggestion, name_of_row}
 use Rattle.annotate_snippets.proofs.NotShown.{two_of_one}
 
 -- ---- small suggestions, and their rows

@@ -21,14 +21,14 @@ use Rattle.snippet_model.specs.declared.snippet.Title.{Title}
 use Rattle.snippet_style.specs.Cell.{Cell}
 use Rattle.snippet_style.specs.Stylesheet.{plain_sheet}
 use Rattle.snippet_text.specs.Normalized.{norm}
-use Rattle.snippet_titles.specs.Heading.{label_cells}
+use Rattle.snippet_titles.specs.HeadingRows.{label_cells}
 use Rattle.snippet_titles.specs.Origin.{origin_text}
-use Rattle.snippet_titles.specs.Short.{short_rows}
+use Rattle.snippet_titles.specs.ShortRows.{short_rows}
 use Rattle.snippet_parts.specs.Annotated.{is_long}
 use Rattle.annotate_snippets.specs.FormLaws.{ShowsShort}
 use Rattle.annotate_snippets.specs.Forms.{ShowsReport}
 use Rattle.annotate_snippets.specs.Settings.{plain_settings}
-use Rattle.annotate_snippets.specs.Short.{short_form}
+use Rattle.annotate_snippets.specs.ShortForm.{short_form}
 use Rattle.annotate_snippets.specs.declared.renderer.Renderer.{Renderer}
 use Rattle.annotate_snippets.proofs.NotShown.{span_of}
 use Rattle.annotate_snippets.proofs.NotWhole.{at_first, at_second, both_spans, second_span}

@@ -31,13 +31,13 @@ use Rattle.snippet_strokes.specs.EntryMarks.{IsMarkCell, has_mark_role}
 use Rattle.snippet_style.specs.Separators.{separator_row}
 use Rattle.annotate_snippets.specs.Page.{Elision, RowName, OfferedLine, RemovedLine, SourceRow, Other, NamedRow, lines_named, others, IsAscending}
 use Rattle.annotate_snippets.specs.Around.{closes_with}
-use Rattle.annotate_snippets.specs.Rows.{cause_head, rows_after_cause}
+use Rattle.annotate_snippets.specs.RowsWithoutSource.{cause_head, rows_after_cause}
 use Rattle.annotate_snippets.specs.Settings.{plain_settings}
 use Rattle.snippet_grid.specs.Layout.{Layout}
 use Rattle.annotate_snippets.specs.declared.renderer.element_context.ElementContext.{ElementContext}
 use Rattle.snippet_style.specs.Glyphs.{IsMarkGlyph, char_of, placeholder_of}
-use Rattle.annotate_snippets.specs.Shown.{cell_of, room_of, normalized_chars, shown_label, ShowsSourceLine, ShowsMarksOf, ShowsLineAndMarks, IsRowBelow}
-use Rattle.annotate_snippets.specs.Shown.{IsRowOf, AreRowsOf, ShowsSnippet}
+use Rattle.annotate_snippets.specs.ShownPage.{cell_of, room_of, normalized_chars, shown_label, ShowsSourceLine, ShowsMarksOf, ShowsLineAndMarks, IsRowBelow}
+use Rattle.annotate_snippets.specs.ShownPage.{IsRowOf, AreRowsOf, ShowsSnippet}
 use Rattle.annotate_snippets.specs.Gutter.{number_text}
 use Rattle.annotate_snippets.proofs.LeftLaws.{separator_of_left, unnumbered_below, unnumbered_elided}
 use Rattle.annotate_snippets.proofs.ListLemmas.{Contains-head, Contains-tail, Contains-cons_cases, Contains-nil}

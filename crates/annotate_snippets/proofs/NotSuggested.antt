@@ -12,16 +12,16 @@ use Rattle.snippet_model.specs.declared.snippet.Snippet.{Snippet}
 use Rattle.snippet_suggest.specs.declared.SuggestionLayout.{SuggestionLayout}
 use Rattle.snippet_suggest.specs.declared.SuggestionStart.{SuggestionStart}
 use Rattle.snippet_suggest.specs.declared.SuggestionStart.TheVariants.{Opening}
-use Rattle.snippet_suggest.specs.Order.{Ends}
+use Rattle.snippet_suggest.specs.RowOrder.{Ends}
 use Rattle.snippet_suggest.specs.Suggested.{body_cells, cells_of as row_cells, suggestion_cells}
 use Rattle.snippet_suggest.proofs.CellExamples.{ascii, put_in_cells, stroke, unfolded_cells}
 use Rattle.snippet_suggest.proofs.Examples.{text_put_in, third_unfolded}
 use Rattle.annotate_snippets.specs.Around.{is_end}
 use Rattle.annotate_snippets.specs.Gutter.{line_numbers}
-use Rattle.annotate_snippets.specs.Drawn.{suggestion_layout, suggestion_lines, under_of}
+use Rattle.annotate_snippets.specs.DrawnReport.{suggestion_layout, suggestion_lines, under_of}
 use Rattle.annotate_snippets.specs.Page.{NamedRow, cells_of}
 use Rattle.annotate_snippets.specs.Settings.{plain_settings}
-use Rattle.annotate_snippets.specs.Shown.{ShowsSuggestion}
+use Rattle.annotate_snippets.specs.ShownPage.{ShowsSuggestion}
 use Rattle.snippet_grid.specs.Layout.{Layout}
 use Rattle.annotate_snippets.specs.declared.renderer.element_context.ElementContext.{ElementContext}
 

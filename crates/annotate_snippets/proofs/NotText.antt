@@ -16,7 +16,7 @@ use Rattle.snippet_suggest.proofs.Examples.{text_of}
 use Rattle.snippet_text.specs.Normalized.{norm}
 use Rattle.snippet_text_form.specs.Cause.{cause_form}
 use Rattle.snippet_text_form.specs.Form.{form_bytes}
-use Rattle.snippet_text_form.specs.Heading.{heading_form}
+use Rattle.snippet_text_form.specs.HeadingForm.{heading_form}
 use Rattle.annotate_snippets.specs.Forms.{ShowsReport}
 use Rattle.annotate_snippets.specs.Settings.{plain_settings}
 use Rattle.annotate_snippets.specs.TextForm.{text_form}

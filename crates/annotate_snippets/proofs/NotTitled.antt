@@ -16,12 +16,12 @@ use Rattle.snippet_style.specs.Cell.{Cell}
 use Rattle.snippet_style.specs.declared.role.LevelInner.TheVariants.{Note}
 use Rattle.snippet_suggest.proofs.Examples.{text_of}
 use Rattle.snippet_text.specs.Normalized.{norm}
-use Rattle.snippet_titles.specs.Heading.{sign_cells}
+use Rattle.snippet_titles.specs.HeadingRows.{sign_cells}
 use Rattle.snippet_titles.specs.Origin.{line_text, origin_text}
 use Rattle.annotate_snippets.specs.Page.{NamedRow, cells_of}
-use Rattle.annotate_snippets.specs.Rows.{message_style, rows_after_title}
+use Rattle.annotate_snippets.specs.RowsWithoutSource.{message_style, rows_after_title}
 use Rattle.annotate_snippets.specs.Settings.{plain_settings}
-use Rattle.annotate_snippets.specs.Shown.{NamesLocation, ShowsMessage, ShowsOrigin, ShowsTitle}
+use Rattle.annotate_snippets.specs.ShownPage.{NamesLocation, ShowsMessage, ShowsOrigin, ShowsTitle}
 use Rattle.annotate_snippets.specs.declared.renderer.Renderer.{Renderer}
 use Rattle.annotate_snippets.specs.declared.renderer.element_context.ElementContext.{ElementContext}
 use Rattle.annotate_snippets.specs.declared.renderer.element_context.GroupPosition.{GroupPosition}

@@ -29,21 +29,21 @@ use Rattle.snippet_parts.specs.Marked.{first_line, last_line}
 use Rattle.snippet_parts.specs.Kept.{shown_lines}
 use Rattle.snippet_parts.proofs.PartLemmas.{All-unmapped}
 use Rattle.snippet_parts.specs.Location.{IsLocation, start_at}
-use Rattle.snippet_model.specs.Rows.{HasNoNumber}
+use Rattle.snippet_model.specs.FreeRows.{HasNoNumber}
 use Rattle.snippet_parts.specs.declared.location.Location.{Location}
 use Rattle.snippet_titles.specs.Origin.{origin_text}
 use Rattle.snippet_style.specs.Separators.{closing_row, separator_row}
 use Rattle.snippet_style.specs.declared.glyphs.DecorStyle.{DecorStyle}
 use Rattle.snippet_style.specs.declared.glyphs.DecorStyle.TheVariants.{Ascii}
-use Rattle.snippet_titles.specs.Shown.{heading_texts}
+use Rattle.snippet_titles.specs.ShownHeading.{heading_texts}
 use Rattle.snippet_titles.specs.declared.style.TitleStyle.TheVariants as style
 use Rattle.annotate_snippets.specs.Around.{closes_with, is_before_message, is_end, is_first_of_several, context_at}
 use Rattle.annotate_snippets.specs.Gutter.{number_text}
 use Rattle.annotate_snippets.specs.Levels.{error_level}
 use Rattle.annotate_snippets.specs.Page.{Elision, NamedRow, OfferedLine, Other, RemovedLine, RowName, SourceRow, cells_of, line_named, lines_named, others}
-use Rattle.annotate_snippets.specs.Rows.{cause_head, rows_after_cause, rows_after_title}
+use Rattle.annotate_snippets.specs.RowsWithoutSource.{cause_head, rows_after_cause, rows_after_title}
 use Rattle.annotate_snippets.specs.Settings.{plain_settings}
-use Rattle.annotate_snippets.specs.Shown.{AreElementsShown, AreRowsOf, IsRowOf, NamesLocation, ShowsSnippet, ShowsTitle}
+use Rattle.annotate_snippets.specs.ShownPage.{AreElementsShown, AreRowsOf, IsRowOf, NamesLocation, ShowsSnippet, ShowsTitle}
 use Rattle.annotate_snippets.specs.declared.renderer.Renderer.{Renderer}
 use Rattle.annotate_snippets.specs.declared.renderer.element_context.GroupPosition.{GroupPosition}
 use Rattle.annotate_snippets.specs.declared.renderer.element_context.GroupPosition.TheVariants as place

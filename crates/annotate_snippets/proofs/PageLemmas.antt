@@ -25,9 +25,9 @@ use Rattle.annotate_snippets.specs.declared.renderer.Renderer.{Renderer}
 use Rattle.snippet_grid.specs.Layout.{Layout}
 use Rattle.annotate_snippets.specs.GraphicForm.{gap_below, named_line, rows_of_line, rows_of_lines}
 use Rattle.annotate_snippets.specs.Gutter.{line_numbers, numbered_source}
-use Rattle.annotate_snippets.specs.LineRows.{AreRowsDrawn, IsLineDrawn, bars_on}
+use Rattle.annotate_snippets.specs.SnippetLineRows.{AreRowsDrawn, IsLineDrawn, bars_on}
 use Rattle.annotate_snippets.specs.Page.{SourceRow, Elision, Other, NamedRow, lines_named, names_in, names_of_lines, cells_of, cells_below, others, rows_below}
-use Rattle.annotate_snippets.specs.Shown.{AreRowsOf, IsRowBelow, ShowsLabels, ShowsLineAndMarks, ShowsMarksOf, bounds_in, room_of}
+use Rattle.annotate_snippets.specs.ShownPage.{AreRowsOf, IsRowBelow, ShowsLabels, ShowsLineAndMarks, ShowsMarksOf, bounds_in, room_of}
 use Rattle.annotate_snippets.proofs.DrawnLines.{bars_seen, line_drawn}
 use Rattle.annotate_snippets.proofs.LineValue.{line_value}
 use Rattle.annotate_snippets.proofs.LineLemmas.{labels_of_line, marks_of_line, marks_there, row_below, source_line}

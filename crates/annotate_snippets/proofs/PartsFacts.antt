@@ -30,14 +30,14 @@ use Rattle.snippet_parts.proofs.ShownFacts.{first-shown, last-shown, shown-ascen
 use Rattle.snippet_parts.specs.Depths.{places_of}
 use Rattle.snippet_parts.specs.Annotated.{KeptLine, PartEntry, seen_part, annotated_lines, deepest, is_long, kept_line, long_entry, long_place, long_places}
 use Rattle.snippet_parts.specs.Annotated.{long_spans, parts_on, seen_kept, single_part, stands_before}
-use Rattle.snippet_lines.specs.Order.{ordered_by, put_in}
+use Rattle.snippet_lines.specs.OrderedBy.{ordered_by, put_in}
 use Rattle.snippet_parts.specs.Kept.{shown_lines}
 use Rattle.snippet_lines.specs.Lines.{Source, source_lines}
 use Rattle.snippet_parts.specs.Mark.{is_marked_on, is_marking, is_single_line, is_wide, touches}
 use Rattle.snippet_parts.specs.Marked.{first_line, last_line}
 use Rattle.snippet_window.specs.Measures.{StandsClear, bounds_of_lines, margin_of}
 use Rattle.snippet_parts.specs.Entries.{is_wide_entry}
-use Rattle.snippet_labels.specs.Entries.{HasPlace}
+use Rattle.snippet_labels.specs.PlacedEntries.{HasPlace}
 use Rattle.snippet_strokes.specs.EntryMarks.{HasBarCell, HasBarCellAt}
 use Rattle.snippet_grid.specs.Layout.{Layout}
 use Rattle.annotate_snippets.specs.Gutter.{code_after}

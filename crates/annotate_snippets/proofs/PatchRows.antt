@@ -29,17 +29,17 @@ use Rattle.snippet_suggest.specs.declared.SuggestionLayout.{SuggestionLayout}
 use Rattle.snippet_suggest.specs.declared.SuggestionStart.{SuggestionStart}
 use Rattle.snippet_suggest.specs.declared.SuggestionStart.TheVariants.{Opening, Next, Path}
 use Rattle.snippet_suggest.specs.Given.{counted_line, first_given, given_lines, given_text}
-use Rattle.snippet_suggest.specs.Order.{Ends, SuggestionRow, rows_of_suggestion}
-use Rattle.snippet_suggest.specs.Rows.{AddsSuggestion, HasGutter, IsStart, IsEdgeRow, IsTail, Shows, begin_glyph, beside_gutter, is_stroke}
-use Rattle.snippet_suggest.specs.Rows.{rows_shared}
+use Rattle.snippet_suggest.specs.RowOrder.{Ends, SuggestionRow, rows_of_suggestion}
+use Rattle.snippet_suggest.specs.SuggestionRows.{AddsSuggestion, HasGutter, IsStart, IsEdgeRow, IsTail, Shows, begin_glyph, beside_gutter, is_stroke}
+use Rattle.snippet_suggest.specs.SuggestionRows.{rows_shared}
 use Rattle.snippet_suggest.specs.Suggested.{body_cells, cells_of as row_cells, suggestion_cells}
 use Rattle.snippet_suggest.proofs.BareLemmas.{stroke_led}
 use Rattle.snippet_suggest.proofs.DrawnLemmas.{zip_push}
 use Rattle.snippet_style.specs.Separators.{separator_row}
 use Rattle.annotate_snippets.specs.Around.{HasPathFor, begins_in_row_above, is_end, is_next_start, path_bytes}
-use Rattle.annotate_snippets.specs.Drawn.{AddsElement, HasRoomFor, suggestion_layout, suggestion_lines, under_of}
+use Rattle.annotate_snippets.specs.DrawnReport.{AddsElement, HasRoomFor, suggestion_layout, suggestion_lines, under_of}
 use Rattle.annotate_snippets.specs.Gutter.{line_numbers}
-use Rattle.annotate_snippets.specs.Rows.{path_head, path_row, separator_rows, suggestion_head, suggestion_head_at}
+use Rattle.annotate_snippets.specs.RowsWithoutSource.{path_head, path_row, separator_rows, suggestion_head, suggestion_head_at}
 use Rattle.annotate_snippets.specs.declared.renderer.Renderer.{Renderer}
 use Rattle.snippet_grid.specs.Layout.{Layout}
 use Rattle.annotate_snippets.specs.declared.renderer.element_context.ElementContext.{ElementContext}

@@ -28,9 +28,9 @@ use Rattle.annotate_snippets.specs.declared.renderer.element_context.ElementCont
 use Rattle.snippet_grid.specs.Layout.{Layout}
 use Rattle.annotate_snippets.specs.Around.{closes_after, is_before_message, is_first_group, path_bytes}
 use Rattle.annotate_snippets.specs.Gutter.{numbered_source}
-use Rattle.annotate_snippets.specs.Rows.{cause_head, closing_rows, origin_layout, origin_rows, origin_start, place_given, place_named}
-use Rattle.annotate_snippets.specs.Rows.{rows_after_cause}
-use Rattle.annotate_snippets.specs.Rows.{separator_rows}
+use Rattle.annotate_snippets.specs.RowsWithoutSource.{cause_head, closing_rows, origin_layout, origin_rows, origin_start, place_given, place_named}
+use Rattle.annotate_snippets.specs.RowsWithoutSource.{rows_after_cause}
+use Rattle.annotate_snippets.specs.RowsWithoutSource.{separator_rows}
 use Rattle.annotate_snippets.specs.Feeds.{HasNoFeed, HoldsNoFeed, IsNoFeed, IsOneLineText}
 use Rattle.annotate_snippets.proofs.FeedLaws.{after_spaces, bare-plain}
 pub use Rattle.annotate_snippets.proofs.FeedLaws.{cells_plain}

@@ -9,15 +9,15 @@ use Rattle.snippet_lines.specs.Span.{IsSpan}
 use Rattle.snippet_lines.specs.declared.place.Loc.{Loc}
 use Rattle.snippet_splice.specs.declared.patches.TrimmedPatch.{TrimmedPatch}
 use Rattle.snippet_splice.specs.Edits.{edit_of, trimmed_edit_of}
-use Rattle.snippet_splice.specs.Shown.{first_start}
+use Rattle.snippet_splice.specs.ShownText.{first_start}
 use Rattle.snippet_suggest.specs.declared.PreparedSuggestion.{PreparedSuggestion}
 use Rattle.snippet_suggest.specs.Given.{edits_of, trimmed_of}
 use Rattle.snippet_parts.specs.Numbered.{numbered_source}
-use Rattle.snippet_suggest.specs.Prepared.{IsPrepared}
+use Rattle.snippet_suggest.specs.PreparedSuggestion.{IsPrepared}
 use Rattle.snippet_suggest.proofs.PreparedLemmas.{some_left}
 use Rattle.snippet_suggest.proofs.SpanLemmas.{trimmed_spans}
 use Rattle.snippet_titles.specs.declared.origin.OriginLocation.{OriginLocation}
-use Rattle.annotate_snippets.specs.Rows.{patch_place}
+use Rattle.annotate_snippets.specs.RowsWithoutSource.{patch_place}
 use Rattle.snippet_lines.proofs.PlaceLemmas.{locations_of-start}
 
 -- the first of some patches starts where the first edit does

@@ -3,10 +3,10 @@ use Rattle.std.proofs.Common.{◌≡◌, Bool, true, false, List, [], ◌++◌, 
 use Rattle.std.proofs.lemmas.List.{append-nil}
 use Rattle.snippet_style.specs.Cell.{Cell}
 use Rattle.snippet_model.specs.declared.snippet.Element.{Element}
-use Rattle.snippet_suggest.specs.Rows.{IsTail}
+use Rattle.snippet_suggest.specs.SuggestionRows.{IsTail}
 use Rattle.annotate_snippets.specs.Around.{CanStandIn, begins_in_row_above}
-use Rattle.annotate_snippets.specs.Drawn.{AddsElement, IsElementDrawn}
-use Rattle.annotate_snippets.specs.Prepared.{element_of}
+use Rattle.annotate_snippets.specs.DrawnReport.{AddsElement, IsElementDrawn}
+use Rattle.annotate_snippets.specs.PreparedReport.{element_of}
 use Rattle.annotate_snippets.specs.declared.renderer.preprocess.PreparedElement.{PreparedElement}
 use Rattle.annotate_snippets.specs.declared.renderer.Renderer.{Renderer}
 use Rattle.snippet_grid.specs.Layout.{Layout}

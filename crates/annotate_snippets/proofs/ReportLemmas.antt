@@ -22,15 +22,15 @@ use Rattle.snippet_model.specs.declared.snippet.Group.{Group}
 use Rattle.annotate_snippets.specs.declared.renderer.Renderer.{Renderer}
 use Rattle.annotate_snippets.specs.declared.renderer.graphic.GroupGrid.{GroupGrid}
 use Rattle.annotate_snippets.specs.Around.{drawn_elements, file_of_group, next_of, position_of_group}
-use Rattle.annotate_snippets.specs.Drawn.{AreGridsOf, IsGridAt}
+use Rattle.annotate_snippets.specs.DrawnReport.{AreGridsOf, IsGridAt}
 use Rattle.annotate_snippets.specs.Fault.{first_fault, first_refusal, form_of, missing_title}
 use Rattle.annotate_snippets.specs.Feeds.{HasOneLineRows, HasOneLineTexts, IsOneLineGroup}
 use Rattle.annotate_snippets.specs.GraphicForm.{graphic_form, group_page}
 use Rattle.annotate_snippets.specs.Gutter.{layout_of_group}
 use Rattle.annotate_snippets.specs.Page.{ArePrinted, GroupPage, Page, PrintsGrids, PrintsPage, group_rows, page_links, page_text}
 use Rattle.annotate_snippets.specs.PageLaws.{PageLaws}
-use Rattle.annotate_snippets.specs.Prepared.{IsGroupDrawable}
-use Rattle.annotate_snippets.specs.Shown.{AreGroupsShown, IsFreeBut, SheetsShown, ShowsGroup, levels_of, report_links}
+use Rattle.annotate_snippets.specs.PreparedReport.{IsGroupDrawable}
+use Rattle.annotate_snippets.specs.ShownPage.{AreGroupsShown, IsFreeBut, SheetsShown, ShowsGroup, levels_of, report_links}
 use Rattle.annotate_snippets.specs.declared.renderer.error.RenderError.{RenderError}
 use Rattle.annotate_snippets.proofs.FaultLemmas.{groups-drawable, titled, unrefused}
 use Rattle.annotate_snippets.proofs.GridRows.{GridsSoFar}

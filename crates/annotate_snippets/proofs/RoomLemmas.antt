@@ -19,12 +19,12 @@ use Rattle.snippet_lines.specs.Place.{line_of}
 use Rattle.snippet_lines.proofs.PlaceLemmas.{line_of-within}
 use Rattle.snippet_parts.specs.Counted.{counted_number}
 use Rattle.snippet_suggest.specs.Given.{counted_folded, counted_line, first_end, first_given, given_text, shown_kind, trimmed_of}
-use Rattle.snippet_suggest.specs.Prepared.{IsSuggestible}
+use Rattle.snippet_suggest.specs.PreparedSuggestion.{IsSuggestible}
 use Rattle.snippet_suggest.proofs.PreparedLemmas.{last-fits}
 use Rattle.annotate_snippets.specs.Around.{drawn_elements, is_drawn}
-use Rattle.annotate_snippets.specs.Drawn.{HasRoomFor}
+use Rattle.annotate_snippets.specs.DrawnReport.{HasRoomFor}
 use Rattle.annotate_snippets.specs.Gutter.{code_after, depth_of_element, depth_of_group, layout_of_group, greatest_wanted, gutter_of_report, width_wanted}
-use Rattle.annotate_snippets.specs.Prepared.{IsElementDrawable, IsGroupDrawable}
+use Rattle.annotate_snippets.specs.PreparedReport.{IsElementDrawable, IsGroupDrawable}
 use Rattle.annotate_snippets.specs.declared.renderer.Renderer.{Renderer}
 use Rattle.annotate_snippets.proofs.GutterLemmas.{counted-small}
 use Rattle.annotate_snippets.proofs.WidestLemmas.{greater}

@@ -30,9 +30,9 @@ use Rattle.snippet_titles.specs.Origin.{column_text, line_name, line_text, origi
 use Rattle.snippet_titles.specs.declared.origin.OriginLocation.{OriginLocation}
 use Rattle.annotate_snippets.specs.Around.{path_bytes}
 use Rattle.annotate_snippets.specs.Gutter.{numbered_source}
-use Rattle.annotate_snippets.specs.Prepared.{IsDrawable, IsElementDrawable, IsGroupDrawable}
-use Rattle.annotate_snippets.specs.Rows.{place_named}
-use Rattle.annotate_snippets.specs.Short.{first_cause, joined_labels, short_label, place_of_cause, place_of_path, primary_labels}
+use Rattle.annotate_snippets.specs.PreparedReport.{IsDrawable, IsElementDrawable, IsGroupDrawable}
+use Rattle.annotate_snippets.specs.RowsWithoutSource.{place_named}
+use Rattle.annotate_snippets.specs.ShortForm.{first_cause, joined_labels, short_label, place_of_cause, place_of_path, primary_labels}
 use Rattle.snippet_model.specs.AnnotationKind.{is_primary}
 use Rattle.annotate_snippets.specs.declared.renderer.Renderer.{Renderer}
 use Rattle.annotate_snippets.proofs.RoomLemmas.{digits}

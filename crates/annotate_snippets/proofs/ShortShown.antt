@@ -31,26 +31,26 @@ use Rattle.snippet_style.specs.declared.stylesheet.Stylesheet.{Stylesheet}
 use Rattle.snippet_grid.proofs.WovenLemmas.{IsWoven-from_prints, plain_woven}
 use Rattle.snippet_text.specs.Normalized.{is_listed, norm}
 use Rattle.snippet_titles.proofs.ShortLaws.{short-free, short-links, short-texts}
-use Rattle.snippet_titles.specs.Heading.{shown_text, heading_lines, indent_cells, heading_label_text, label_width}
+use Rattle.snippet_titles.specs.HeadingRows.{shown_text, heading_lines, indent_cells, heading_label_text, label_width}
 use Rattle.snippet_titles.specs.Origin.{origin_text, place_text}
-use Rattle.snippet_titles.specs.Short.{with_end}
-use Rattle.snippet_titles.specs.Shown.{IsFreeButText, texts_below}
+use Rattle.snippet_titles.specs.ShortRows.{with_end}
+use Rattle.snippet_titles.specs.ShownHeading.{IsFreeButText, texts_below}
 use Rattle.snippet_titles.specs.Title.{id_links}
 use Rattle.snippet_titles.specs.declared.style.TitleStyle.TheVariants as style
 use Rattle.snippet_titles.specs.declared.origin.OriginLocation.{OriginLocation}
 use Rattle.snippet_titles.proofs.OriginText.{place_text-each}
 use Rattle.snippet_titles.proofs.OriginFree.{digit_unlisted}
 use Rattle.annotate_snippets.specs.Around.{path_bytes}
-use Rattle.annotate_snippets.specs.Drawn.{IsShortPage}
+use Rattle.annotate_snippets.specs.DrawnReport.{IsShortPage}
 use Rattle.annotate_snippets.specs.FormLaws.{BeginsWithPlace, LawsIn, ShortLaws, ShowsShort}
 use Rattle.annotate_snippets.specs.Forms.{ShortShown, short_links}
 use Rattle.annotate_snippets.specs.Gutter.{numbered_source}
 use Rattle.annotate_snippets.specs.Page.{PrintsGrids}
-use Rattle.annotate_snippets.specs.Prepared.{IsDrawable, IsGroupDrawable}
-use Rattle.annotate_snippets.specs.Rows.{place_found, place_named}
-use Rattle.annotate_snippets.specs.Short.{before_title, after_title, first_cause, joined_labels, short_label, labels_of_cause, place_of_cause}
-use Rattle.annotate_snippets.specs.Short.{place_of_path}
-use Rattle.annotate_snippets.specs.Short.{primary_labels, short_form, short_page, titled_rows}
+use Rattle.annotate_snippets.specs.PreparedReport.{IsDrawable, IsGroupDrawable}
+use Rattle.annotate_snippets.specs.RowsWithoutSource.{place_found, place_named}
+use Rattle.annotate_snippets.specs.ShortForm.{before_title, after_title, first_cause, joined_labels, short_label, labels_of_cause, place_of_cause}
+use Rattle.annotate_snippets.specs.ShortForm.{place_of_path}
+use Rattle.annotate_snippets.specs.ShortForm.{primary_labels, short_form, short_page, titled_rows}
 use Rattle.snippet_model.specs.AnnotationKind.{is_primary}
 use Rattle.annotate_snippets.specs.declared.renderer.Renderer.{Renderer}
 use Rattle.annotate_snippets.specs.declared.renderer.form.Form.TheVariants.{Short}

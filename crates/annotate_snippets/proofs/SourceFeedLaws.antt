@@ -25,7 +25,7 @@ use Rattle.snippet_model.specs.declared.snippet.Snippet.{Snippet}
 use Rattle.annotate_snippets.specs.declared.renderer.Renderer.{Renderer}
 use Rattle.snippet_grid.specs.Layout.{Layout}
 use Rattle.annotate_snippets.specs.Gutter.{line_numbers, number_text}
-use Rattle.annotate_snippets.specs.Shown.{ShowsSourceLine, bounds_in, cells_left, room_of, wide_spans}
+use Rattle.annotate_snippets.specs.ShownPage.{ShowsSourceLine, bounds_in, cells_left, room_of, wide_spans}
 use Rattle.annotate_snippets.specs.Feeds.{HasNoFeed, HoldsNoFeed, IsNoFeed}
 use Rattle.snippet_titles.proofs.OriginFree.{each-fails}
 use Rattle.annotate_snippets.proofs.FeedLaws.{at_any, bar_cell}

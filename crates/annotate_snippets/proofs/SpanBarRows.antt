@@ -25,21 +25,21 @@ use Rattle.snippet_parts.proofs.AmongLemmas.{Among}
 use Rattle.snippet_parts.proofs.EntryFacts.{depth-within}
 use Rattle.snippet_parts.proofs.PartLemmas.{All-unmapped}
 use Rattle.snippet_strokes.specs.Bars.{Bar, HasOwnDepth, bars_apart, ends_of_bars, has_depth}
-use Rattle.snippet_strokes.specs.Rows.{bare_elision_row}
+use Rattle.snippet_strokes.specs.StrokeRows.{bare_elision_row}
 use Rattle.snippet_strokes.specs.EndBars.{BarBegins, BarEnds, IsNoBar}
 use Rattle.snippet_strokes.proofs.AmongLaws.{all_from_among, among_contains, contains_among}
 use Rattle.snippet_strokes.proofs.EndBarLaws.{bar_ends, elision_stands}
 use Rattle.snippet_strokes.proofs.SnippetLemmas.{highlighted_left}
 use Rattle.snippet_strokes.proofs.CrossedLaws.{line_clear}
 use Rattle.snippet_strokes.proofs.SourceCellLaws.{begins, gap_space, line_source}
-use Rattle.snippet_labels.specs.Entries.{is_end_part}
+use Rattle.snippet_labels.specs.PlacedEntries.{is_end_part}
 use Rattle.annotate_snippets.specs.declared.renderer.Renderer.{Renderer}
 use Rattle.snippet_grid.specs.Layout.{Layout}
 use Rattle.annotate_snippets.specs.Gutter.{code_after, number_text}
-use Rattle.annotate_snippets.specs.LineRows.{AreRowsDrawn, IsRowDrawn, bars_on, entries_on, open_after}
+use Rattle.annotate_snippets.specs.SnippetLineRows.{AreRowsDrawn, IsRowDrawn, bars_on, entries_on, open_after}
 use Rattle.annotate_snippets.specs.Page.{Elision, IsAscending, NamedRow, OfferedLine, Other, RemovedLine, RowName, SourceRow, lines_named, rows_below}
 use Rattle.annotate_snippets.specs.Page.{shows_lines}
-use Rattle.annotate_snippets.specs.Shown.{AreRowsOf, IsRowOf, cells_left}
+use Rattle.annotate_snippets.specs.ShownPage.{AreRowsOf, IsRowOf, cells_left}
 use Rattle.annotate_snippets.specs.SpanBars.{ShowsBars, bar_beside, bar_cell_of, line_beside}
 use Rattle.annotate_snippets.proofs.DrawnLines.{bar_shown, bars_seen}
 use Rattle.annotate_snippets.proofs.LabelLemmas.{head_same, tail_same}

@@ -29,9 +29,9 @@ use Rattle.snippet_parts.proofs.PartLemmas.{All-unmapped}
 use Rattle.snippet_suggest.specs.Cells.{left_out_cells, line_cells, offered_cells, on_last, put, sign_of, stretch_cell, with_stretches}
 use Rattle.snippet_suggest.specs.Given.{edits_of, first_given, given_lines, given_ranges, given_text, is_left_out, last_reached, shown_kind}
 use Rattle.snippet_style.specs.Glyphs.{suggestion_glyph_of, suggestion_role_of}
-use Rattle.snippet_suggest.specs.Order.{Begins, Empty, Ends, Offers, Removes, Skips, SuggestionRow, is_diff, number_after, rows_of_suggestion}
-use Rattle.snippet_suggest.specs.Rows.{IsBareRow, IsBeforeSign, IsLeftOver, IsMarkOrSpace, IsRemovedRow, Shows, is_stroke}
-use Rattle.snippet_suggest.specs.Shown.{is_touched}
+use Rattle.snippet_suggest.specs.RowOrder.{Begins, Empty, Ends, Offers, Removes, Skips, SuggestionRow, is_diff, number_after, rows_of_suggestion}
+use Rattle.snippet_suggest.specs.SuggestionRows.{IsBareRow, IsBeforeSign, IsLeftOver, IsMarkOrSpace, IsRemovedRow, Shows, is_stroke}
+use Rattle.snippet_suggest.specs.SuggestedLines.{is_touched}
 use Rattle.snippet_suggest.specs.Suggested.{body_cells, cells_of as row_cells, cells_over, new_on, suggested_stretches, with_left_out}
 use Rattle.snippet_suggest.specs.declared.SuggestionLayout.{SuggestionLayout}
 use Rattle.snippet_suggest.specs.declared.SuggestionStart.{SuggestionStart}
@@ -44,9 +44,9 @@ use Rattle.annotate_snippets.specs.declared.renderer.Renderer.{Renderer}
 use Rattle.annotate_snippets.specs.declared.renderer.element_context.ElementContext.{ElementContext}
 use Rattle.snippet_grid.specs.Layout.{Layout}
 use Rattle.annotate_snippets.specs.Around.{is_end, path_bytes, suggestion_rows}
-use Rattle.annotate_snippets.specs.Drawn.{IsSuggestionDrawn, suggestion_layout, suggestion_lines, under_of}
+use Rattle.annotate_snippets.specs.DrawnReport.{IsSuggestionDrawn, suggestion_layout, suggestion_lines, under_of}
 use Rattle.annotate_snippets.specs.Feeds.{HasNoFeed, HoldsNoFeed, IsNoFeed, IsOneLineText}
-use Rattle.annotate_snippets.specs.Rows.{origin_layout, patch_place, path_row, suggestion_head, suggestion_head_at}
+use Rattle.annotate_snippets.specs.RowsWithoutSource.{origin_layout, patch_place, path_row, suggestion_head, suggestion_head_at}
 use Rattle.annotate_snippets.proofs.FeedLaws.{at_any}
 use Rattle.annotate_snippets.proofs.LineFeedLaws.{line_plain, row_written}
 use Rattle.annotate_snippets.proofs.PathFeedLaws.{cells_plain, norm-plain, row_plain}

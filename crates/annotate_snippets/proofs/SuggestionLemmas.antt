@@ -8,20 +8,20 @@ use Rattle.snippet_style.specs.Cell.{Cell}
 use Rattle.snippet_grid.specs.Print.{row_text}
 use Rattle.snippet_text.specs.Normalized.{norm}
 use Rattle.snippet_lines.specs.Number.{shown_number}
-use Rattle.snippet_model.specs.Rows.{IsFree}
+use Rattle.snippet_model.specs.FreeRows.{IsFree}
 use Rattle.snippet_suggest.specs.Given.{first_given, given_lines}
-use Rattle.snippet_suggest.specs.Prepared.{IsSuggestible}
-use Rattle.snippet_suggest.specs.Order.{Begins, Empty, Ends, Offers, Removes, Skips, SuggestionRow, lines_taken, number_after, numbers_offered}
-use Rattle.snippet_suggest.specs.Order.{removed_number}
-use Rattle.snippet_suggest.specs.Rows.{IsRemovedRow, Shows}
-use Rattle.snippet_suggest.specs.Shown.{AreRising}
+use Rattle.snippet_suggest.specs.PreparedSuggestion.{IsSuggestible}
+use Rattle.snippet_suggest.specs.RowOrder.{Begins, Empty, Ends, Offers, Removes, Skips, SuggestionRow, lines_taken, number_after, numbers_offered}
+use Rattle.snippet_suggest.specs.RowOrder.{removed_number}
+use Rattle.snippet_suggest.specs.SuggestionRows.{IsRemovedRow, Shows}
+use Rattle.snippet_suggest.specs.SuggestedLines.{AreRising}
 use Rattle.snippet_suggest.proofs.OfferLaws.{given-is-patched}
 use Rattle.snippet_suggest.proofs.OrderLaws.{IsRowOf}
-use Rattle.annotate_snippets.specs.Drawn.{suggestion_layout}
+use Rattle.annotate_snippets.specs.DrawnReport.{suggestion_layout}
 use Rattle.annotate_snippets.specs.GraphicForm.{named_rows}
 use Rattle.annotate_snippets.specs.Gutter.{line_numbers, number_text}
 use Rattle.annotate_snippets.specs.Page.{IsAscending, NamedRow, OfferedLine, Other, RemovedLine, cells_of, lines_offered, lines_removed}
-use Rattle.annotate_snippets.specs.Shown.{HasStrokes, IsOfferedRow, IsSuggestionRow, name_of_row}
+use Rattle.annotate_snippets.specs.ShownPage.{HasStrokes, IsOfferedRow, IsSuggestionRow, name_of_row}
 use Rattle.annotate_snippets.specs.declared.renderer.Renderer.{Renderer}
 use Rattle.snippet_grid.specs.Layout.{Layout}
 use Rattle.snippet_suggest.proofs.RisingLemmas.{rising_bound as rising_within}

@@ -8,17 +8,17 @@ use Rattle.snippet_model.specs.declared.snippet.Element.TheVariants.{Suggestion}
 use Rattle.snippet_model.specs.declared.snippet.Patch.{Patch}
 use Rattle.snippet_model.specs.declared.snippet.Snippet.{Snippet}
 use Rattle.snippet_style.specs.Cell.{Cell}
-use Rattle.snippet_model.specs.Rows.{IsFree}
+use Rattle.snippet_model.specs.FreeRows.{IsFree}
 use Rattle.snippet_parts.proofs.PartLemmas.{All-unmapped}
 use Rattle.snippet_suggest.specs.Given.{first_given, given_lines, numbers_given, offered_lines, removed_lines}
-use Rattle.snippet_suggest.specs.Order.{Ends, SuggestionRow, line_taken, lines_taken, number_offered, numbers_offered, rows_of_suggestion}
-use Rattle.snippet_suggest.specs.Prepared.{IsSuggestible}
+use Rattle.snippet_suggest.specs.RowOrder.{Ends, SuggestionRow, line_taken, lines_taken, number_offered, numbers_offered, rows_of_suggestion}
+use Rattle.snippet_suggest.specs.PreparedSuggestion.{IsSuggestible}
 use Rattle.snippet_suggest.specs.Suggested.{HasSign, body_cells, cells_of as row_cells}
 use Rattle.snippet_suggest.specs.declared.SuggestionLayout.{SuggestionLayout}
 use Rattle.snippet_suggest.proofs.ComposeLemmas.{zip_append}
 use Rattle.snippet_suggest.proofs.SignLaws.{body_signs}
-use Rattle.snippet_suggest.specs.Rows.{Shows}
-use Rattle.snippet_suggest.specs.Shown.{AreRising}
+use Rattle.snippet_suggest.specs.SuggestionRows.{Shows}
+use Rattle.snippet_suggest.specs.SuggestedLines.{AreRising}
 use Rattle.snippet_suggest.specs.declared.SuggestionStart.{SuggestionStart}
 use Rattle.snippet_suggest.specs.declared.SuggestionStart.TheVariants as start
 use Rattle.snippet_suggest.proofs.OfferLaws.{offered-ascends}
@@ -27,11 +27,11 @@ use Rattle.snippet_suggest.proofs.TouchLaws.{touched-offered}
 use Rattle.snippet_titles.specs.Origin.{primary_start}
 use Rattle.snippet_titles.proofs.OriginFree.{origin_row-free}
 use Rattle.annotate_snippets.specs.Around.{is_end, path_bytes, suggestion_rows}
-use Rattle.annotate_snippets.specs.Drawn.{HasRoomFor, IsSuggestionDrawn, suggestion_layout, suggestion_lines, under_of}
+use Rattle.annotate_snippets.specs.DrawnReport.{HasRoomFor, IsSuggestionDrawn, suggestion_layout, suggestion_lines, under_of}
 use Rattle.annotate_snippets.specs.GraphicForm.{named_rows}
 use Rattle.annotate_snippets.specs.Page.{IsAscending, NamedRow, cells_of, lines_offered, others}
-use Rattle.annotate_snippets.specs.Rows.{origin_layout, patch_place, path_row, suggestion_head, suggestion_head_at}
-use Rattle.annotate_snippets.specs.Shown.{HasStrokes, ShowsSuggestion}
+use Rattle.annotate_snippets.specs.RowsWithoutSource.{origin_layout, patch_place, path_row, suggestion_head, suggestion_head_at}
+use Rattle.annotate_snippets.specs.ShownPage.{HasStrokes, ShowsSuggestion}
 use Rattle.annotate_snippets.specs.declared.renderer.Renderer.{Renderer}
 use Rattle.snippet_grid.specs.Layout.{Layout}
 use Rattle.annotate_snippets.specs.declared.renderer.element_context.ElementContext.{ElementContext}

@@ -15,12 +15,12 @@ use Rattle.snippet_model.specs.declared.snippet.Element.{Element}
 use Rattle.snippet_model.specs.declared.snippet.Element.TheVariants.{Message, Cause, Suggestion, Origin, Padding}
 use Rattle.snippet_model.specs.declared.snippet.Group.{Group}
 use Rattle.snippet_model.specs.declared.snippet.Title.{Title}
-use Rattle.snippet_titles.specs.Heading.{shown_text}
+use Rattle.snippet_titles.specs.HeadingRows.{shown_text}
 use Rattle.snippet_titles.specs.Title.{id_links}
 use Rattle.snippet_text_form.specs.Cause.{cause_form}
 use Rattle.snippet_text_form.specs.Form.{FormPiece, begun_after, form_bytes, form_links, form_text, piece_links, plain_from}
-use Rattle.snippet_text_form.specs.Heading.{heading_form}
-use Rattle.snippet_text_form.specs.Order.{StandInOrder}
+use Rattle.snippet_text_form.specs.HeadingForm.{heading_form}
+use Rattle.snippet_text_form.specs.TextOrder.{StandInOrder}
 use Rattle.snippet_text_form.specs.Suggestion.{origin_form, suggestion_form}
 use Rattle.snippet_text_form.specs.declared.heading.HeadingKind.{HeadingKind}
 use Rattle.snippet_text_form.specs.declared.heading.HeadingKind.TheVariants as kind
@@ -30,7 +30,7 @@ use Rattle.snippet_text_form.proofs.OrderLaws.{cause-holds, heading_holds as hea
 use Rattle.annotate_snippets.specs.Around.{drawn_elements, file_of_group, first_two_share, is_drawn}
 use Rattle.annotate_snippets.specs.FormLaws.{LawsIn, TextLaws}
 use Rattle.annotate_snippets.specs.Forms.{TextShown}
-use Rattle.annotate_snippets.specs.Shown.{IsFreeBut, report_links}
+use Rattle.annotate_snippets.specs.ShownPage.{IsFreeBut, report_links}
 use Rattle.annotate_snippets.specs.TextForm.{PreviousSuggestion, before_next, element_form, element_texts, elements_form, group_form, group_texts, report_texts}
 use Rattle.annotate_snippets.specs.TextForm.{suggestion_place, text_form, whole_text}
 use Rattle.annotate_snippets.specs.declared.renderer.Renderer.{Renderer}

@@ -9,16 +9,16 @@ use Rattle.std.proofs.lemmas.List.Elements.{All-append, All-cons, All-from_get_o
 use Rattle.snippet_grid.specs.Print.{row_text}
 use Rattle.snippet_model.specs.Heading.{Heading, heading_of_title, is_hidden}
 use Rattle.snippet_model.specs.Level.{name_of}
-use Rattle.snippet_model.specs.Rows.{HasNoNumber}
+use Rattle.snippet_model.specs.FreeRows.{HasNoNumber}
 use Rattle.snippet_model.specs.declared.snippet.Title.{Title}
 use Rattle.snippet_style.specs.Cell.{Cell, SPACE}
 use Rattle.snippet_text.specs.Normalized.{norm}
-use Rattle.snippet_titles.specs.Heading.{colon_of, heading_lines, id_text, heading_label_text, label_width}
-use Rattle.snippet_titles.specs.Shown.{texts_below}
+use Rattle.snippet_titles.specs.HeadingRows.{colon_of, heading_lines, id_text, heading_label_text, label_width}
+use Rattle.snippet_titles.specs.ShownHeading.{texts_below}
 use Rattle.snippet_titles.proofs.OriginNumbers.{closing_row-unnumbered, separator_row-unnumbered}
 use Rattle.annotate_snippets.specs.Numbers.{IsTitleOfWords, IsUnnumbered, begins_with_number, begins_with_word}
-use Rattle.annotate_snippets.specs.Rows.{closing_rows, rows_after_title, separator_rows}
-use Rattle.annotate_snippets.specs.Shown.{ShowsTitlePart}
+use Rattle.annotate_snippets.specs.RowsWithoutSource.{closing_rows, rows_after_title, separator_rows}
+use Rattle.annotate_snippets.specs.ShownPage.{ShowsTitlePart}
 use Rattle.annotate_snippets.specs.declared.renderer.Renderer.{Renderer}
 use Rattle.snippet_grid.specs.Layout.{Layout}
 use Rattle.annotate_snippets.specs.declared.renderer.element_context.GroupPosition.{GroupPosition}

@@ -6,7 +6,7 @@ use Rattle.std.specs.Cow.{cow_str_bytes}
 use Rattle.std.proofs.lemmas.List.Elements.{All-nil, All-cons, All-head, All-tail, All-append, All-map, All-weaker, Contains-append_left, Contains-append_right}
 use Rattle.std.proofs.lemmas.Grind.{flat_map-append}
 use Rattle.snippet_text.specs.Normalized.{is_listed}
-use Rattle.snippet_model.specs.Rows.{IsFree, IsFreeCell}
+use Rattle.snippet_model.specs.FreeRows.{IsFree, IsFreeCell}
 use Rattle.snippet_style.specs.Cell.{Cell}
 use Rattle.snippet_grid.specs.Print.{row_text, further_text, plain_text}
 use Rattle.snippet_model.specs.declared.snippet.Element.{Element}
@@ -15,15 +15,15 @@ use Rattle.snippet_model.specs.declared.snippet.Message.{Message as MessageGiven
 use Rattle.snippet_model.specs.declared.snippet.Title.{Title}
 use Rattle.snippet_model.specs.Heading.{Heading, heading_of_message, heading_of_title}
 use Rattle.snippet_model.specs.Trusted.{trusted_of_element, trusted_of_title}
-use Rattle.snippet_titles.specs.Shown.{IsFreeButText}
+use Rattle.snippet_titles.specs.ShownHeading.{IsFreeButText}
 use Rattle.snippet_titles.specs.Title.{title_rows}
 use Rattle.snippet_titles.specs.declared.style.TitleStyle.TheVariants as style
 use Rattle.snippet_titles.proofs.FreeLemmas.{heading_rows-free}
 use Rattle.snippet_titles.proofs.OriginFree.{closing_row-free, separator_row-free}
 use Rattle.annotate_snippets.specs.Around.{is_before_message}
 use Rattle.annotate_snippets.specs.Page.{NamedRow, cells_of}
-use Rattle.annotate_snippets.specs.Rows.{closing_rows, rows_after_title, separator_rows, title_part}
-use Rattle.annotate_snippets.specs.Shown.{IsFreeBut, IsFreeElement}
+use Rattle.annotate_snippets.specs.RowsWithoutSource.{closing_rows, rows_after_title, separator_rows, title_part}
+use Rattle.annotate_snippets.specs.ShownPage.{IsFreeBut, IsFreeElement}
 use Rattle.annotate_snippets.specs.declared.renderer.Renderer.{Renderer}
 use Rattle.snippet_grid.specs.Layout.{Layout}
 use Rattle.annotate_snippets.specs.declared.renderer.element_context.GroupPosition.{GroupPosition}

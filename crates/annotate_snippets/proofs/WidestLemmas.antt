@@ -12,7 +12,7 @@ use Rattle.snippet_model.specs.declared.snippet.Element.TheVariants.{Message, Ca
 use Rattle.snippet_suggest.specs.Given.{counted_line}
 use Rattle.annotate_snippets.specs.Around.{is_drawn}
 use Rattle.annotate_snippets.specs.Gutter.{depth_of_element, width_wanted}
-use Rattle.annotate_snippets.specs.Prepared.{IsGroupPrepared, element_of}
+use Rattle.annotate_snippets.specs.PreparedReport.{IsGroupPrepared, element_of}
 use Rattle.annotate_snippets.specs.declared.renderer.preprocess.PreparedElement.{PreparedElement}
 use Rattle.annotate_snippets.specs.declared.renderer.preprocess.PreparedGroup.{PreparedGroup}
 

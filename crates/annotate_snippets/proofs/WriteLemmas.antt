@@ -14,14 +14,14 @@ use Rattle.snippet_model.specs.declared.snippet.Group.{Group}
 use Rattle.snippet_style.specs.declared.role.LevelInner.{LevelInner}
 use Rattle.snippet_style.specs.declared.stylesheet.Stylesheet.{Stylesheet}
 use Rattle.written.specs.Part.{AppendsPart}
-use Rattle.annotate_snippets.specs.Drawn.{AreGridsOf, IsDrawnAs, IsPrintedAs}
+use Rattle.annotate_snippets.specs.DrawnReport.{AreGridsOf, IsDrawnAs, IsPrintedAs}
 use Rattle.annotate_snippets.specs.Fault.{form_of}
 use Rattle.annotate_snippets.specs.FormLaws.{FormLaws, HasLaws, IsTextUnder, LawsIn}
 use Rattle.annotate_snippets.specs.Forms.{ShowsReport}
 use Rattle.annotate_snippets.specs.GraphicForm.{graphic_form}
 use Rattle.annotate_snippets.specs.Page.{ArePrinted, GroupPage, Page, PrintsGrids, PrintsPage}
-use Rattle.annotate_snippets.specs.Prepared.{IsGroupDrawable}
-use Rattle.annotate_snippets.specs.Shown.{levels_of}
+use Rattle.annotate_snippets.specs.PreparedReport.{IsGroupDrawable}
+use Rattle.annotate_snippets.specs.ShownPage.{levels_of}
 use Rattle.annotate_snippets.specs.Written.{AddsGrid, IsTextIn, PrintsGrid, ShowsIn, WritesPart, WritesText}
 use Rattle.annotate_snippets.specs.declared.renderer.Renderer.{Renderer}
 use Rattle.annotate_snippets.specs.declared.renderer.drawn.Drawn.{Drawn}

@@ -14,7 +14,7 @@ use Rattle.snippet_model.specs.declared.snippet.Patch.{Patch}
 use Rattle.snippet_model.specs.declared.snippet.Snippet.{Snippet}
 use Rattle.snippet_suggest.specs.declared.SuggestionStart.{SuggestionStart}
 use Rattle.snippet_suggest.specs.declared.SuggestionStart.TheVariants as start
-use Rattle.snippet_suggest.specs.Order.{Ends, SuggestionRow, rows_of_suggestion}
+use Rattle.snippet_suggest.specs.RowOrder.{Ends, SuggestionRow, rows_of_suggestion}
 use Rattle.annotate_snippets.specs.declared.renderer.element_context.GroupPosition.{GroupPosition}
 use Rattle.annotate_snippets.specs.declared.renderer.element_context.GroupPosition.TheVariants as place
 use Rattle.annotate_snippets.specs.declared.renderer.element_context.Next.{Next}

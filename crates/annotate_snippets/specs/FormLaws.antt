@@ -19,19 +19,19 @@ use Rattle.snippet_style.specs.Cell.{Cell}
 use Rattle.snippet_style.specs.Stylesheet.{is_plain_sheet}
 use Rattle.snippet_style.specs.declared.stylesheet.Stylesheet.{Stylesheet}
 use Rattle.snippet_text_form.specs.Form.{form_text}
-use Rattle.snippet_text_form.specs.Order.{StandInOrder}
+use Rattle.snippet_text_form.specs.TextOrder.{StandInOrder}
 use Rattle.snippet_titles.specs.Origin.{origin_text}
-use Rattle.snippet_titles.specs.Short.{short_texts}
-use Rattle.snippet_titles.specs.Shown.{IsFreeButText}
+use Rattle.snippet_titles.specs.ShortRows.{short_texts}
+use Rattle.snippet_titles.specs.ShownHeading.{IsFreeButText}
 use Rattle.annotate_snippets.specs.Around.{path_bytes}
 use Rattle.annotate_snippets.specs.Fault.{form_of}
 use Rattle.annotate_snippets.specs.Forms.{links_in, plain_in, short_links, ShowsForm, TextsShown}
 use Rattle.annotate_snippets.specs.GraphicForm.{graphic_form}
 use Rattle.annotate_snippets.specs.Gutter.{numbered_source}
 use Rattle.annotate_snippets.specs.PageLaws.{PageLaws}
-use Rattle.annotate_snippets.specs.Rows.{place_found}
-use Rattle.annotate_snippets.specs.Short.{before_title, after_title, first_cause, short_form}
-use Rattle.annotate_snippets.specs.Shown.{IsFreeBut}
+use Rattle.annotate_snippets.specs.RowsWithoutSource.{place_found}
+use Rattle.annotate_snippets.specs.ShortForm.{before_title, after_title, first_cause, short_form}
+use Rattle.annotate_snippets.specs.ShownPage.{IsFreeBut}
 use Rattle.annotate_snippets.specs.TextForm.{report_texts, text_form}
 use Rattle.annotate_snippets.specs.declared.renderer.Renderer.{Renderer}
 use Rattle.annotate_snippets.specs.declared.renderer.form.Form.{Form}

@@ -20,25 +20,25 @@ use Rattle.snippet_window.specs.Measures.{margin_of}
 use Rattle.snippet_window.specs.Window.{chars_at, dropped_part}
 use Rattle.snippet_parts.specs.declared.entries.LineAnnotation.{LineAnnotation}
 use Rattle.snippet_window.specs.declared.margin.Margin.{Margin}
-use Rattle.snippet_labels.specs.Entries.{is_end_part}
+use Rattle.snippet_labels.specs.PlacedEntries.{is_end_part}
 use Rattle.snippet_strokes.specs.SourceRows.{source_row, window_cells}
 use Rattle.snippet_strokes.specs.Bars.{Bar, open_past}
 use Rattle.snippet_strokes.specs.LineRows.{line_rows}
-use Rattle.snippet_strokes.specs.Rows.{highlighted_row}
+use Rattle.snippet_strokes.specs.StrokeRows.{highlighted_row}
 use Rattle.snippet_strokes.specs.Snippet.{gap_row}
 use Rattle.snippet_suggest.specs.Given.{first_given}
-use Rattle.snippet_suggest.specs.Order.{Begins, Empty, Ends, Offers, Removes, Skips, SuggestionRow}
+use Rattle.snippet_suggest.specs.RowOrder.{Begins, Empty, Ends, Offers, Removes, Skips, SuggestionRow}
 use Rattle.snippet_titles.specs.Origin.{padding_row}
 use Rattle.annotate_snippets.specs.declared.renderer.Renderer.{Renderer}
 use Rattle.snippet_grid.specs.Layout.{Layout}
 use Rattle.annotate_snippets.specs.declared.renderer.element_context.GroupPosition.{GroupPosition}
 use Rattle.annotate_snippets.specs.declared.renderer.element_context.ElementContext.{ElementContext}
 use Rattle.annotate_snippets.specs.Around.{closes_with, context_at, drawn_elements, file_of_group, is_end, next_of, position_of_group, suggestion_rows}
-use Rattle.annotate_snippets.specs.Drawn.{found_at, suggestion_lines}
+use Rattle.annotate_snippets.specs.DrawnReport.{found_at, suggestion_lines}
 use Rattle.annotate_snippets.specs.Gutter.{layout_of_group, number_text, numbered_source}
-use Rattle.annotate_snippets.specs.LineRows.{bars_on, entries_on}
+use Rattle.annotate_snippets.specs.SnippetLineRows.{bars_on, entries_on}
 use Rattle.annotate_snippets.specs.Page.{Elision, GroupPage, NamedRow, OfferedLine, Other, Page, RemovedLine, RowName, SourceRow, others}
-use Rattle.annotate_snippets.specs.Rows.{cause_head, message_rows, origin_rows, rows_after_cause, suggestion_head, title_part}
+use Rattle.annotate_snippets.specs.RowsWithoutSource.{cause_head, message_rows, origin_rows, rows_after_cause, suggestion_head, title_part}
 
 -- ---- lines
 

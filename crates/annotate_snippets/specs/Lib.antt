@@ -1,5 +1,5 @@
 pub mod Around
-pub mod Drawn
+pub mod DrawnReport
 pub mod Fault
 pub mod Feeds
 pub mod FormLaws
@@ -10,12 +10,12 @@ pub mod Levels
 pub mod Numbers
 pub mod Page
 pub mod PageLaws
-pub mod Prepared
+pub mod PreparedReport
 pub mod Refusal
-pub mod Rows
+pub mod RowsWithoutSource
 pub mod Settings
-pub mod Short
-pub mod Shown
+pub mod ShortForm
+pub mod ShownPage
 pub mod TextForm
 pub mod Written
 pub use Rattle.snippet_model.specs.Fits
@@ -24,5 +24,5 @@ pub use Rattle.snippet_model.specs.Trusted
 pub use Rattle.snippet_lines.specs.Span
 pub use Rattle.snippet_text.specs.Normalized
 pub use Rattle.snippet_splice.specs.Edits
-pub mod LineRows
+pub mod SnippetLineRows
 pub mod SpanBars

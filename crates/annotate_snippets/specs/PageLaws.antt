@@ -8,7 +8,7 @@ use Rattle.annotate_snippets.specs.Feeds.{HasOneLineRows, HasOneLineTexts, page_
 use Rattle.annotate_snippets.specs.Gutter.{layout_of_group}
 use Rattle.annotate_snippets.specs.Numbers.{HasNumbersOfLines, IsTitleOfWords, IsUnnumbered}
 use Rattle.annotate_snippets.specs.Page.{GroupPage, Page, page_links, page_text}
-use Rattle.annotate_snippets.specs.Shown.{AreGroupsShown, IsFreeBut, report_links}
+use Rattle.annotate_snippets.specs.ShownPage.{AreGroupsShown, IsFreeBut, report_links}
 use Rattle.annotate_snippets.specs.declared.renderer.Renderer.{Renderer}
 
 -- a page has the laws of a report's page. It shows each group, in order. Each listed character of it is one of a trusted text. It links to

@@ -10,11 +10,11 @@ use Rattle.snippet_model.specs.declared.snippet.Patch.{Patch}
 use Rattle.snippet_model.specs.declared.snippet.Snippet.{Snippet}
 use Rattle.snippet_text_form.specs.Cause.{cause_form, label_characters, named_spans}
 use Rattle.snippet_text_form.specs.Form.{FormPiece}
-use Rattle.snippet_text_form.specs.Heading.{heading_form}
+use Rattle.snippet_text_form.specs.HeadingForm.{heading_form}
 use Rattle.snippet_text_form.specs.Suggestion.{origin_form, suggestion_form}
 use Rattle.snippet_text_form.specs.declared.heading.HeadingKind.TheVariants.{Title, Message}
 use Rattle.snippet_text_form.specs.declared.suggestion.SuggestionContext.{SuggestionContext}
-use Rattle.snippet_titles.specs.Heading.{shown_text}
+use Rattle.snippet_titles.specs.HeadingRows.{shown_text}
 use Rattle.annotate_snippets.specs.Around.{drawn_elements, file_of_group, first_two_share, is_other_file, is_same_file, path_bytes}
 use Rattle.annotate_snippets.specs.declared.renderer.Renderer.{Renderer}
 use Rattle.annotate_snippets.specs.declared.renderer.text_form.PreviousSuggestion as code

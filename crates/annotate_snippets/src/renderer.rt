@@ -72,7 +72,7 @@ impl Renderer {
     ghost use Rattle.annotate_snippets.specs.FormLaws.{FormLaws, HasLaws, IsTextUnder};
     ghost use Rattle.annotate_snippets.specs.Forms.{AreFree, ShowsReport, TextsShown, links_in};
     ghost use Rattle.std.specs.List.{AllZip};
-    ghost use Rattle.annotate_snippets.specs.Drawn.{IsDrawnAs};
+    ghost use Rattle.annotate_snippets.specs.DrawnReport.{IsDrawnAs};
     ghost use Rattle.snippet_model.specs.Trusted.{trusted_texts};
 
     /// A renderer that writes no style codes.

@@ -24,7 +24,7 @@ use Rattle.redraw_report.specs.declared.finding.Shown.{Shown}
 use Rattle.redraw_report.specs.Region.{IsLocated, end_place, line_starts, start_place}
 use Rattle.snippet_places.specs.declared.clamp.SpanAt.{SpanAt}
 use Rattle.redraw_report.specs.Report.{edited_of, lent}
-use Rattle.redraw_report.specs.Shown.{same_source}
+use Rattle.redraw_report.specs.SameSource.{same_source}
 use Rattle.redraw_report.specs.View.{Edited}
 use Rattle.redraw_read.specs.Extract.{Extract, lines_for, text_of}
 use Rattle.redraw_read.specs.declared.hand.Hand.{Hand}

@@ -1,5 +1,5 @@
 -- The vocabulary of reports that are made from what tools tell.
 pub mod Region
 pub mod Report
-pub mod Shown
+pub mod SameSource
 pub mod View

@@ -21,7 +21,7 @@ use Rattle.redraw_report.specs.declared.finding.Mark.{Mark}
 use Rattle.redraw_report.specs.declared.finding.Offer.{Offer}
 use Rattle.redraw_report.specs.declared.finding.Remark.{Remark}
 use Rattle.redraw_report.specs.declared.finding.Shown.{Shown}
-use Rattle.redraw_report.specs.Shown.{same_source}
+use Rattle.redraw_report.specs.SameSource.{same_source}
 use Rattle.redraw_report.specs.View.{Edited, Edits, Gap, Headed, Lines, Marked, Marks, Named, Names, Part, Says, Section}
 
 -- the level of a severity: the standard one, and that of a note, but without its name, for a plain text

@@ -1,6 +1,6 @@
 //! A finding whose places have been found in the sources that are shown: all that a report is made of.
 ghost use Rattle.std.specs.Prelude.{◌≡◌};
-ghost use Rattle.redraw_report.specs.Shown.{same_content, same_source};
+ghost use Rattle.redraw_report.specs.SameSource.{same_content, same_source};
 
 use crate::diagnostic::{Code, Severity};
 

@@ -5,7 +5,7 @@ ghost use Rattle.std.specs.List.{flat_map, list_any};
 ghost use Rattle.redraw_report.specs.Report as spec;
 ghost use Rattle.redraw_report.specs.Report.{label_in, label_rows, lines_of, mark_in, marked_of, marked_parts, said};
 ghost use Rattle.redraw_report.specs.Report.{source_parts, with_shown, with_source, with_sources};
-ghost use Rattle.redraw_report.specs.Shown.{same_source};
+ghost use Rattle.redraw_report.specs.SameSource.{same_source};
 ghost use Rattle.redraw_report.specs.View.{Gap, Marks, marked_view, part_view};
 ghost use Rattle.redraw_report.specs.declared.diagnostic.Severity.TheVariants.{Note};
 

@@ -21,8 +21,8 @@ use Rattle.redraw_report.specs.declared.diagnostic.Diagnostic.{Diagnostic}
 use Rattle.redraw_run.specs.Deeds.{State, Deed, Drawn, Commanded, Told, LeftOut, Repeated, BuildFailed, IsDeed, AreDeeds, AreTold, TellsAll, printed, told}
 use Rattle.redraw_run.specs.Deeds.{handed, tally_after, tally_by, with_files, repeated, AreAmong, Does, AppendsFirst, IsCutShort, IsUnwritable, Writes, Stops}
 use Rattle.redraw_run.specs.Deeds.{Goes}
-use Rattle.redraw_run.specs.Drawn.{IsCounted, ShowsFinding, ending_after}
-use Rattle.redraw_run.specs.Lines.{SumsUp, TellsUnless}
+use Rattle.redraw_run.specs.DrawnFinding.{IsCounted, ShowsFinding, ending_after}
+use Rattle.redraw_run.specs.ReadLines.{SumsUp, TellsUnless}
 use Rattle.redraw_run.proofs.Doing.{first_all, first_more, first_then}
 
 -- a tally is another, but for its files

@@ -13,7 +13,7 @@ use Rattle.snippet_model.specs.declared.snippet.Title.{Title}
 use Rattle.snippet_style.specs.Stylesheet.{plain_sheet}
 use Rattle.snippet_text.specs.Normalized.{norm}
 use Rattle.snippet_text_form.specs.Form.{FormPiece, form_bytes}
-use Rattle.snippet_text_form.specs.Heading.{heading_form}
+use Rattle.snippet_text_form.specs.HeadingForm.{heading_form}
 use Rattle.snippet_text_form.specs.declared.heading.HeadingKind.TheVariants as kind
 use Rattle.annotate_snippets.specs.Around.{drawn_elements, file_of_group}
 use Rattle.annotate_snippets.specs.Settings.{plain_settings}
@@ -31,7 +31,7 @@ use Rattle.redraw_report.specs.declared.diagnostic.Severity.TheVariants.{Error}
 use Rattle.redraw_report.specs.declared.finding.Finding.{Finding}
 use Rattle.redraw_report.specs.declared.finding.Remark.{Remark}
 use Rattle.redraw_run.specs.Deeds.{Commanded, IsDeed}
-use Rattle.redraw_run.specs.Drawn.{Draws, ShowsFinding, ending_after}
+use Rattle.redraw_run.specs.DrawnFinding.{Draws, ShowsFinding, ending_after}
 
 -- the byte before the last is the same at the end of equal texts
 before_last : (xs ys : List ℕ) (a b c d : ℕ) → xs ++ a ∷ b ∷ [] ≡ ys ++ c ∷ d ∷ [] → a ≡ c

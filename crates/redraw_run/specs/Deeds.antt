@@ -15,7 +15,7 @@ use Rattle.redraw_command.specs.declared.stop.Stop.TheVariants.{Memory, Unwritab
 use Rattle.redraw_command.specs.declared.tally.Tally.{Tally}
 use Rattle.redraw_read.specs.declared.sources.File.{File}
 use Rattle.redraw_report.specs.declared.diagnostic.Diagnostic.{Diagnostic}
-use Rattle.redraw_run.specs.Drawn.{ShowsFinding, ending_after}
+use Rattle.redraw_run.specs.DrawnFinding.{ShowsFinding, ending_after}
 use Rattle.redraw_run.specs.declared.draw.Drawing.{Drawing}
 
 -- what is known of a run at a time: how reports look and which are drawn, what was counted, and what both streams hold

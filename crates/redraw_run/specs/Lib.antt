@@ -1,4 +1,4 @@
 pub mod Deeds
-pub mod Drawn
-pub mod Lines
-pub mod Look
+pub mod DrawnFinding
+pub mod ReadLines
+pub mod ReportLook

@@ -5,7 +5,7 @@ ghost use Rattle.std.specs.Io.KnownBytes.{Appends};
 ghost use Rattle.redraw_command.specs.Tally.{one_more};
 ghost use Rattle.redraw_command.specs.Told.{Tells};
 ghost use Rattle.redraw_run.specs.Deeds.{Does, Goes, TellsAll, repeated, standing};
-ghost use Rattle.redraw_run.specs.Drawn.{Draws, IsCounted, IsLeftOut, ShowsFinding, ending_after};
+ghost use Rattle.redraw_run.specs.DrawnFinding.{Draws, IsCounted, IsLeftOut, ShowsFinding, ending_after};
 ghost use Rattle.redraw_read.specs.declared.sources.File.{File};
 ghost use Rattle.redraw_command.specs.declared.choice.Form.TheVariants.{Report, Workflow};
 

@@ -1,7 +1,7 @@
 //! An input, read line by line. Nothing of a line is kept when the next is read, save of a log that is one document.
 ghost use Rattle.std.specs.Prelude.{ℕ, List, [], Option, IfErr, IfOk};
 ghost use Rattle.redraw_run.specs.Deeds.{Does, Goes, IsUnreadable, standing};
-ghost use Rattle.redraw_run.specs.Lines.{TakesNext};
+ghost use Rattle.redraw_run.specs.ReadLines.{TakesNext};
 
 use crate::draw::Drawing;
 use crate::sarif::draw_runs;

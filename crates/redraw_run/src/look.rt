@@ -1,6 +1,6 @@
 //! How reports look.
 ghost use Rattle.std.specs.Prelude.{◌≡◌};
-ghost use Rattle.redraw_run.specs.Look.{looks};
+ghost use Rattle.redraw_run.specs.ReportLook.{looks};
 
 use annotate_snippets::Renderer;
 use redraw_command::terminal::{Look, Surroundings};

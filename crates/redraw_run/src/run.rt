@@ -6,7 +6,7 @@ ghost use Rattle.std.specs.IoError.{error_kind};
 ghost use Rattle.std.specs.declared.io.ErrorKind.TheVariants.{BrokenPipe};
 ghost use Rattle.redraw_command.specs.Tally.{is_empty, status_of};
 ghost use Rattle.redraw_command.specs.Told.{Tells, TellsOfWords};
-ghost use Rattle.redraw_run.specs.Lines.{IsPrinted, SumsUp};
+ghost use Rattle.redraw_run.specs.ReadLines.{IsPrinted, SumsUp};
 
 use crate::draw::Drawing;
 use crate::files::FilesUnder;

@@ -2,7 +2,7 @@
 ghost use Rattle.std.specs.Prelude.{IfOk, string_bytes};
 ghost use Rattle.annotate_snippets.specs.FormLaws.{HasLaws};
 ghost use Rattle.annotate_snippets.specs.Forms.{ShowsReport};
-ghost use Rattle.redraw_run.specs.Drawn.{ShowsFinding};
+ghost use Rattle.redraw_run.specs.DrawnFinding.{ShowsFinding};
 
 use annotate_snippets::renderer::RenderError;
 use annotate_snippets::snippet::report_fits;

@@ -1,7 +1,7 @@
 -- Where the numbers and places of small sources lie, and the readings that these rule out.
 use Rattle.std.proofs.Common.{◌≡◌, ℕ, List, [], ◌∷◌, Some, None, refl}
 use Rattle.std.specs.Str.{chars}
-use Rattle.replay_read.specs.Span.{between, counted, placed}
+use Rattle.replay_read.specs.MarkerSpan.{between, counted, placed}
 use Rattle.snippet_places.specs.declared.columns.Position.{Position}
 use Rattle.replay_read.specs.declared.span.SpanUnit.TheVariants.{Byte, Char, Utf16}
 

@@ -2,4 +2,4 @@ pub mod Kinds
 pub mod Report
 pub mod Shape
 pub mod Sheet
-pub mod Span
+pub mod MarkerSpan

@@ -22,7 +22,7 @@ use Rattle.serde_json.specs.Find.{as_bool, as_null, as_str, get}
 use Rattle.json_node.specs.Field.{SaysAt, MaySayAt, OnlySays, OrNull, ListSays, as_whole, flag_at, given_or, optional_at, text_at}
 use Rattle.replay_read.specs.Kinds.{kind_name, mark_name}
 use Rattle.replay_read.specs.Shape.{HasShape}
-use Rattle.replay_read.specs.Span.{IsSpanOf, IsUnit}
+use Rattle.replay_read.specs.MarkerSpan.{IsSpanOf, IsUnit}
 use Rattle.replay_read.specs.declared.shape.Shape.{Shape}
 use Rattle.replay_read.specs.declared.span.SpanUnit.{SpanUnit}
 use Rattle.replay_read.specs.declared.shape.Shape.TheVariants as shape

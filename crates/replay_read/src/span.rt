@@ -4,8 +4,8 @@ ghost use Rattle.std.specs.Prelude.{◌≡◌, ◌≤◌, IfOk, IfSome, IsTrue, 
 ghost use Rattle.std.specs.Str.{IsCharBoundary};
 ghost use Rattle.serde_json.specs.View.{view};
 ghost use Rattle.json_node.specs.Field.{MaySayAt, SaysAt, given};
-ghost use Rattle.replay_read.specs.Span.{IsCountedSpan, IsPlaceOf, IsPlacedSpan, IsSpanOf, IsUnit};
-ghost use Rattle.replay_read.specs.Span as spec;
+ghost use Rattle.replay_read.specs.MarkerSpan.{IsCountedSpan, IsPlaceOf, IsPlacedSpan, IsSpanOf, IsUnit};
+ghost use Rattle.replay_read.specs.MarkerSpan as spec;
 
 use crate::shape::{FormatValue, Shape, has_shape};
 use json_node::expectation::Expectation;

@@ -10,12 +10,12 @@ use Rattle.std.proofs.KnownBytes.{Keeps-trans}
 use Rattle.std.proofs.lemmas.List.{append-nil, map-append, map_more, take_all}
 use Rattle.std.proofs.lemmas.List.Concat.{flat_map-append}
 use Rattle.std.proofs.lemmas.List.Elements.{All-push}
-use Rattle.replay_run.specs.Answer.{AnswersLines, Numbered, first_after}
+use Rattle.replay_run.specs.WrittenAnswer.{AnswersLines, Numbered, first_after}
 use Rattle.replay_run.specs.Answered.{AnswersInputs, AnswersReader, AppendsFirst, AreRead, IsEndProblem, StopsAfter, StopsAt, StopsAtInput, StopsFor}
 use Rattle.replay_run.specs.Answered.{StopsInputs, StopsReader}
 use Rattle.replay_run.specs.Problem.{IsWrite}
 use Rattle.replay_command.specs.Words.{Word, hyphen, words_at}
-use Rattle.replay_run.specs.Words.{NamedInput, held_by, shown_name}
+use Rattle.replay_run.specs.Inputs.{NamedInput, held_by, shown_name}
 use Rattle.replay_run.specs.declared.problem.Problem.{Problem}
 use Rattle.replay_run.specs.declared.lines.Way.{Way}
 use Rattle.replay_run.proofs.AnsweredLines.{answered_twice, first_twice, written_twice}

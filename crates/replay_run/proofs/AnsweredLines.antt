@@ -10,7 +10,7 @@ use Rattle.std.specs.List.{concat}
 use Rattle.std.specs.declared.alloc.Global.{Global}
 use Rattle.std.proofs.lemmas.List.{append-nil, length_push}
 use Rattle.std.proofs.lemmas.List.Folds.{concat-append}
-use Rattle.replay_run.specs.Answer.{AnswersLine, AnswersLines, AreFirstLines, AreLines, Numbered, first_after, number_after}
+use Rattle.replay_run.specs.WrittenAnswer.{AnswersLine, AnswersLines, AreFirstLines, AreLines, Numbered, first_after, number_after}
 use Rattle.replay_run.specs.Answered.{AnswersReader, AppendsFirst, AreFirstRead, AreRead, StopsAfter, StopsFor, StopsLine, StopsReader, line_after}
 use Rattle.replay_run.specs.Checked.{most}
 use Rattle.replay_run.specs.Problem.{IsProblemWith, IsWrite}

@@ -12,7 +12,7 @@ use Rattle.replay_command.specs.Words.{AsksToShow, Checks, IsCommandLine, Task, 
 use Rattle.replay_command.specs.declared.command.Command.{Command}
 use Rattle.replay_command.specs.declared.command.Command.TheVariants.{Answer, Check, Repeat}
 use Rattle.replay_run.specs.Compared.{EndsComparison}
-use Rattle.replay_run.specs.Words.{IfAnswers, IfComparison, IsComparison, answers, are_texts, form_of, way_of}
+use Rattle.replay_run.specs.Inputs.{IfAnswers, IfComparison, IsComparison, answers, are_texts, form_of, way_of}
 use Rattle.replay_run.specs.declared.lines.Form.{Form}
 use Rattle.replay_run.specs.declared.lines.Form.TheVariants.{Json, Texts}
 use Rattle.replay_run.specs.declared.lines.Way.{Way}

@@ -3,7 +3,7 @@ use Rattle.std.proofs.Common.{◌≡◌, ◌⊎◌, ℕ, ◌≤◌, Bool, true, 
 use Rattle.std.specs.Io.KnownBytes.{Appends}
 use Rattle.std.specs.List.{concat}
 use Rattle.serde_json.specs.Written.{compact_text}
-use Rattle.replay_run.specs.Answer.{AnswersLine, AnswersLines, AreFirstLines, Numbered}
+use Rattle.replay_run.specs.WrittenAnswer.{AnswersLine, AnswersLines, AreFirstLines, Numbered}
 use Rattle.replay_answer.specs.Answer.{answer_of, told_of}
 use Rattle.replay_run.specs.Answered.{AppendsFirst, StopsAfter, StopsFor, StopsReader}
 use Rattle.replay_answer.specs.Answer.{column_text}

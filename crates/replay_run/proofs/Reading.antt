@@ -5,7 +5,7 @@ use Rattle.std.specs.declared.alloc.Global.{Global}
 use Rattle.std.specs.declared.vec.Vec.{Vec}
 use Rattle.serde_json.specs.Data.{Data}
 use Rattle.serde_json.specs.Read.{read}
-use Rattle.replay_run.specs.Answer.{AnswersCase, AnswersValue}
+use Rattle.replay_run.specs.WrittenAnswer.{AnswersCase, AnswersValue}
 use Rattle.replay_run.specs.Problem.{IsMisread, IsProblemWith}
 use Rattle.replay_run.specs.declared.lines.Form.{Form}
 use Rattle.replay_run.specs.declared.problem.Line.{Line}

@@ -4,7 +4,7 @@ use Rattle.std.proofs.lemmas.Bool.{false≢true}
 use Rattle.std.specs.Prelude.{IfErr, IfOk, IsOkAnd, IsTrue, Result, Ok, Err, String, string_bytes}
 use Rattle.std.specs.declared.alloc.Global.{Global}
 use Rattle.replay_answer.specs.Answer.{IsNoCase}
-use Rattle.replay_run.specs.Answer.{AnswersLine, told_text}
+use Rattle.replay_run.specs.WrittenAnswer.{AnswersLine, told_text}
 use Rattle.replay_run.specs.Answered.{StopsFor}
 use Rattle.replay_run.specs.Problem.{IsFault, IsFinal, IsProblemWith}
 use Rattle.replay_run.specs.declared.lines.LineAnswer.{LineAnswer}

@@ -8,10 +8,10 @@ use Rattle.std.specs.declared.alloc.Global.{Global}
 use Rattle.std.specs.List.{concat, flat_map}
 use Rattle.serde_json.specs.Data.{Data}
 use Rattle.serde_json.specs.Read.{read}
-use Rattle.replay_run.specs.Answer.{AreFirstLines, AreLines, AnswersLine, AnswersLines, Numbered, first_after, number_after}
+use Rattle.replay_run.specs.WrittenAnswer.{AreFirstLines, AreLines, AnswersLine, AnswersLines, Numbered, first_after, number_after}
 use Rattle.replay_run.specs.Problem.{IsFinal, IsRead, IsProblemWith, IsWrite}
 use Rattle.replay_command.specs.Words.{Word}
-use Rattle.replay_run.specs.Words.{NamedInput, shown_name}
+use Rattle.replay_run.specs.Inputs.{NamedInput, shown_name}
 use Rattle.replay_run.specs.declared.lines.Way.{Way}
 use Rattle.replay_run.specs.declared.problem.Line.{Line}
 use Rattle.replay_run.specs.declared.problem.Line.TheVariants.{Case}

@@ -7,8 +7,8 @@ ghost use Rattle.replay_run.specs.Answered.{AnswersInputs, AnswersReader, StopsA
 ghost use Rattle.replay_run.specs.Checked.{CountsLines};
 ghost use Rattle.replay_run.specs.Growth.{Grows};
 ghost use Rattle.replay_run.specs.Problem.{IsRead};
-ghost use Rattle.replay_run.specs.Words as spec;
-ghost use Rattle.replay_run.specs.Words.{NamedInput, held_by};
+ghost use Rattle.replay_run.specs.Inputs as spec;
+ghost use Rattle.replay_run.specs.Inputs.{NamedInput, held_by};
 
 use crate::check::{Counts, check_lines};
 use crate::lines::{Way, answer_lines, either};

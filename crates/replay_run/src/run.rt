@@ -11,9 +11,9 @@ ghost use Rattle.replay_run.specs.Answered.{AnswersInputs, StopsInputs};
 ghost use Rattle.replay_run.specs.Compared.{EndsComparison, count_line};
 ghost use Rattle.replay_run.specs.Growth.{Grows};
 ghost use Rattle.replay_run.specs.Problem.{TellsMemory, TellsStop, TellsUsageError};
-ghost use Rattle.replay_run.specs.Words as spec;
-ghost use Rattle.replay_run.specs.Words.{AsksAnswers, AsksComparison, Compares, IfAnswers, IfComparison, IsComparison};
-ghost use Rattle.replay_run.specs.Words.{answers, held_by};
+ghost use Rattle.replay_run.specs.Inputs as spec;
+ghost use Rattle.replay_run.specs.Inputs.{AsksAnswers, AsksComparison, Compares, IfAnswers, IfComparison, IsComparison};
+ghost use Rattle.replay_run.specs.Inputs.{answers, held_by};
 ghost use Rattle.replay_run.specs.declared.lines.Way.{Way};
 ghost use Rattle.replay_run.specs.declared.problem.Problem.{Problem};
 

@@ -1,4 +1,4 @@
 pub mod Bytes
-pub mod Fits
+pub mod NameFits
 pub mod Reading
 pub mod Report

@@ -15,7 +15,7 @@ use Rattle.snippet_model.specs.declared.snippet.Id.{Id}
 use Rattle.snippet_model.specs.declared.snippet.Patch.{Patch}
 use Rattle.snippet_model.specs.declared.snippet.Snippet.{Snippet}
 use Rattle.snippet_model.specs.declared.snippet.Title.{Title}
-use Rattle.snippet_text.specs.Bounds.{TextFits}
+use Rattle.snippet_text.specs.TextBounds.{TextFits}
 
 -- a text: UTF-8, and fewer than 2^56 bytes
 abbrev pub IsText : CowStr Global → Type 0

@@ -1,1 +1,1 @@
-pub mod Settings
+pub mod OptionSettings

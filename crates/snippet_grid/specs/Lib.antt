@@ -1,5 +1,5 @@
 pub mod Changes
-pub mod Codes
+pub mod SheetCodes
 pub mod Grid
 pub mod Layout
 pub mod LayoutOf

@@ -1,6 +1,6 @@
 //! The codes that open a sheet's styles, each made once, when it is first needed.
 ghost use Rattle.std.specs.Prelude.{◌≡◌, ◌≢◌, ◌<◌, ◌++◌, true, false, slice_index_or, IfOk, OnOk, string_bytes};
-ghost use Rattle.snippet_grid.specs.Codes.{opening_bytes, style_at, styles_in};
+ghost use Rattle.snippet_grid.specs.SheetCodes.{opening_bytes, style_at, styles_in};
 ghost use Rattle.snippet_style.specs.Stylesheet as spec;
 ghost use Rattle.snippet_style.specs.declared.style.Style.{Style};
 ghost use Rattle.snippet_style.specs.declared.stylesheet.Stylesheet.{Stylesheet};
@@ -22,7 +22,7 @@ pub struct SheetCodes {
 
 impl Model for SheetCodes {
     ghost use Rattle.std.specs.Prelude.{◌≡◌};
-    ghost use Rattle.snippet_grid.specs.Codes.{AreOpenings, styles_in};
+    ghost use Rattle.snippet_grid.specs.SheetCodes.{AreOpenings, styles_in};
     ghost use Rattle.snippet_style.specs.declared.stylesheet.Stylesheet.{Stylesheet};
 
     ghost Value = { Stylesheet };

@@ -11,7 +11,7 @@ ghost use Rattle.std.specs.Prelude.{encode_utf8_all, string_bytes};
 ghost use Rattle.std.specs.Option.{option_copied};
 ghost use Rattle.std.specs.Str.{chars};
 ghost use Rattle.std.specs.List.{AllPairs, flat_map, slice_index_or};
-ghost use Rattle.snippet_grid.specs.Codes.{style_at};
+ghost use Rattle.snippet_grid.specs.SheetCodes.{style_at};
 ghost use Rattle.snippet_grid.specs.Runs.{IsGrid, IsRow, EndsBy, Precedes, cells_to, grid_shown};
 ghost use Rattle.snippet_grid.specs.declared.runs.Run.{Run};
 ghost use Rattle.snippet_grid.specs.Stretch.{PrintsStretch};

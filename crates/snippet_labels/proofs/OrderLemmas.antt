@@ -9,7 +9,7 @@ use Rattle.std.proofs.lemmas.Bool.{cases_lt}
 use Rattle.std.proofs.lemmas.Bool.Decides.{nat_tests}
 use Rattle.std.proofs.lemmas.List.{get_or-map, length-map}
 use Rattle.std.proofs.lemmas.List.Elements.{filter_agree}
-use Rattle.snippet_lines.specs.Order.{ordered_by}
+use Rattle.snippet_lines.specs.OrderedBy.{ordered_by}
 use Rattle.snippet_lines.proofs.OrderLemmas.{map-ordered_by, sorted-only}
 use Rattle.snippet_parts.specs.declared.entries.LineAnnotation.{LineAnnotation}
 use Rattle.snippet_labels.specs.declared.positions.PlacedEntry.{PlacedEntry}

@@ -11,7 +11,7 @@ use Rattle.std.proofs.lemmas.List.{append_assoc, append-nil, drop_more, drop_all
 use Rattle.std.proofs.lemmas.List.Folds.{list_all-map}
 use Rattle.std.specs.List.Sorted.{IsPermutation}
 use Rattle.std.proofs.lemmas.List.Sorted.{All-permutation, IsPermutation-map}
-use Rattle.snippet_lines.specs.Order.{ordered_by}
+use Rattle.snippet_lines.specs.OrderedBy.{ordered_by}
 use Rattle.snippet_parts.specs.declared.entries.LineAnnotation.{LineAnnotation}
 use Rattle.snippet_labels.specs.declared.positions.PlacedEntry.{PlacedEntry}
 use Rattle.snippet_labels.specs.Positions.{ArePlaced, IsFromRight, HasItsBytes, HasItsLabel, asks, do_overlap, ends_no_later, has_label, takes_space, is_start}
@@ -20,7 +20,7 @@ use Rattle.snippet_labels.specs.Positions.{is_placed_before, look_counts, looked
 use Rattle.snippet_parts.specs.Least.{greatest}
 use Rattle.snippet_parts.proofs.PartLemmas.{list_any-map}
 use Rattle.std.proofs.lemmas.List.Elements.{All-map}
-use Rattle.snippet_labels.specs.Entries.{shifted}
+use Rattle.snippet_labels.specs.PlacedEntries.{shifted}
 
 -- the position of an entry whose label could stand after its mark: where a mark is in the way, and where none is
 pub position_at-crossed : (p : ℕ) (e : PlacedEntry) (others : List PlacedEntry) → p ≤ 0 → has_label e ≡ true → list_any (crosses e) others ≡ true

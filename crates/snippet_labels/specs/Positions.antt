@@ -7,10 +7,10 @@ use Rattle.std.specs.Cow.{cow_str_bytes}
 use Rattle.snippet_parts.specs.declared.entries.LineAnnotation.{LineAnnotation}
 use Rattle.snippet_parts.specs.declared.entries.LineAnnotationType.{LineAnnotationType}
 use Rattle.snippet_parts.specs.declared.entries.LineAnnotationType.TheVariants.{Singleline, MultilineStart, MultilineEnd, MultilineLine}
-use Rattle.snippet_lines.specs.Order.{ordered_by}
+use Rattle.snippet_lines.specs.OrderedBy.{ordered_by}
 use Rattle.snippet_parts.specs.Least.{greatest}
 use Rattle.snippet_labels.specs.declared.positions.PlacedEntry.{PlacedEntry}
-use Rattle.snippet_labels.specs.Entries.{is_end_part, label_text}
+use Rattle.snippet_labels.specs.PlacedEntries.{is_end_part, label_text}
 
 -- the label holds the characters that its entry shows
 abbrev pub HasItsLabel : PlacedEntry → Type 0

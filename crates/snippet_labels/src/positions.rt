@@ -4,7 +4,7 @@ ghost use Rattle.std.specs.List.{list_any, position};
 ghost use Rattle.std.specs.Cow.{cow_str_bytes};
 ghost use Rattle.snippet_labels.specs.Positions as spec;
 ghost use Rattle.snippet_labels.specs.Positions.{ArePlaced, AsksBefore, HasItsBytes, HasItsLabel};
-ghost use Rattle.snippet_labels.specs.Entries.{label_text, shifted};
+ghost use Rattle.snippet_labels.specs.PlacedEntries.{label_text, shifted};
 ghost use Rattle.snippet_parts.specs.Least.{greatest};
 ghost use Rattle.snippet_style.specs.Bounds.{HasNext, IsColumn, IsUsize};
 

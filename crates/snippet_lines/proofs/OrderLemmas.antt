@@ -5,7 +5,7 @@ use Rattle.std.proofs.lemmas.List.Elements.{All-nil, All-cons, All-head, All-tai
 use Rattle.std.proofs.lemmas.List.Sorted.{sorted_far}
 use Rattle.std.specs.Cmp.{IsStrictWeakOrder}
 use Rattle.std.specs.List.Sorted.{IsSortedBy, IsStableBy, ties}
-use Rattle.snippet_lines.specs.Order.{put_in, ordered_by}
+use Rattle.snippet_lines.specs.OrderedBy.{put_in, ordered_by}
 
 -- each later element comes before none that stands earlier
 abbrev pub Rises : {X : Type 0} → (X → X → Bool) → List X → Type 0

@@ -1,6 +1,6 @@
 pub mod Lines
 pub mod Number
-pub mod Order
+pub mod OrderedBy
 pub mod Place
 pub mod Span
 pub mod Starts

@@ -11,7 +11,7 @@ use Rattle.snippet_style.specs.Glyphs.{separator_of}
 use Rattle.snippet_style.specs.Separators.{separator_row}
 use Rattle.snippet_style.proofs.CellLemmas.{All-text_cells}
 use Rattle.snippet_text.specs.Normalized.{is_listed}
-use Rattle.snippet_model.specs.Rows.{IsFree, IsFreeCell}
+use Rattle.snippet_model.specs.FreeRows.{IsFree, IsFreeCell}
 
 -- elements of which none passes a test, one by one
 pub each_fails : (p : ℕ → Bool) (xs : List ℕ) → list_any p xs ≡ false → All (λ x. p x ≡ false) xs

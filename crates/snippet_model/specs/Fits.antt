@@ -12,7 +12,7 @@ use Rattle.snippet_model.specs.declared.snippet.Group.{Group}
 use Rattle.snippet_model.specs.declared.snippet.Element.{Element}
 use Rattle.snippet_model.specs.declared.snippet.Element.TheVariants as element
 use Rattle.snippet_model.specs.Level.{name_of}
-pub use Rattle.snippet_text.specs.Bounds.{TextFits}
+pub use Rattle.snippet_text.specs.TextBounds.{TextFits}
 
 -- a level, where its name fits
 abbrev pub LevelFits : Level → Type 0

@@ -4,7 +4,7 @@ use Rattle.std.specs.Cow.{cow_str_bytes}
 use Rattle.std.specs.Ordering.{nat_cmp, on, then_cmp}
 use Rattle.std.specs.declared.cmp.Ordering.{Ordering}
 use Rattle.std.specs.Cmp.Lexicographic.{slice_cmp}
-use Rattle.snippet_style.specs.LevelOrder.{severity_rank}
+use Rattle.snippet_style.specs.SeverityOrder.{severity_rank}
 use Rattle.snippet_model.specs.declared.level.Level.{Level}
 use Rattle.snippet_model.specs.declared.level.LevelName.{LevelName}
 use Rattle.snippet_model.specs.declared.level.LevelName.TheVariants.{Standard, Hidden, Own}

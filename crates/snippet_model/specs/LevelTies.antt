@@ -5,7 +5,7 @@ use Rattle.std.specs.Cmp.Lexicographic.{texts_ties}
 use Rattle.std.specs.Ordering.{eq_by_cmp, is_eq, nat_cmp, ordering_then}
 use Rattle.std.specs.declared.cmp.Ordering.{Ordering}
 use Rattle.std.specs.declared.cmp.Ordering.TheVariants.{Less, Equal, Greater}
-use Rattle.snippet_style.specs.LevelOrder.{severity_rank}
+use Rattle.snippet_style.specs.SeverityOrder.{severity_rank}
 use Rattle.snippet_style.specs.contracts.role.LevelInnerOrd.TheImpl.Laws.{matches_eq-law}
 use Rattle.snippet_model.specs.LevelOrder.{level_cmp, name_cmp}
 use Rattle.snippet_model.specs.declared.level.Level.{Level}

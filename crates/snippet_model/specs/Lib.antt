@@ -5,7 +5,7 @@ pub mod Level
 pub mod LevelOrder
 pub mod LevelTies
 pub mod OptionCow
-pub mod Rows
+pub mod FreeRows
 pub mod Same
 pub mod StandardName
 pub mod Trusted

@@ -4,7 +4,7 @@ use Rattle.std.proofs.Common.{unwrap_or, refl, sym, ap, subst, inl, inr, arith}
 use Rattle.std.specs.List.{filter, flat_map, list_all, list_any, cons_option, filter_map, range_with_len}
 use Rattle.std.proofs.lemmas.Bool.{cases_Bool, cases_lt, cond-true, cond-false, or_left, or_right, and_parts}
 use Rattle.std.proofs.lemmas.List.Elements.{All-head, All-tail}
-use Rattle.snippet_lines.specs.Order.{put_in, ordered_by}
+use Rattle.snippet_lines.specs.OrderedBy.{put_in, ordered_by}
 use Rattle.snippet_parts.specs.Least.{least, greatest}
 use Rattle.snippet_parts.proofs.LeastLemmas.{least_below}
 

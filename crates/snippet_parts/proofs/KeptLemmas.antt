@@ -20,7 +20,7 @@ use Rattle.snippet_parts.specs.Mark.{is_marking, touches}
 use Rattle.snippet_parts.specs.Marked.{first_line, last_line}
 use Rattle.snippet_lines.specs.Lines.{source_lines}
 use Rattle.snippet_lines.proofs.PlaceLemmas.{line_of-within}
-use Rattle.snippet_parts.specs.Stretches.{holds_line, is_held, is_seen}
+use Rattle.snippet_parts.specs.LineStretches.{holds_line, is_held, is_seen}
 
 -- ---- which lines a span keeps
 

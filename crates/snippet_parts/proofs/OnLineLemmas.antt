@@ -16,7 +16,7 @@ use Rattle.snippet_parts.specs.Annotated.{PartEntry, seen_part, KeptLine, seen_k
 use Rattle.snippet_parts.specs.Annotated.{long_places, long_spans}
 use Rattle.snippet_parts.specs.Annotated.{long_parts, stands_before, stands_among, depth_of, single_part, start_part, bar_part, end_part, bar_lines, span_parts}
 use Rattle.snippet_parts.specs.Annotated.{parts_on, promoted, is_promoted}
-use Rattle.snippet_lines.specs.Order.{put_in, ordered_by}
+use Rattle.snippet_lines.specs.OrderedBy.{put_in, ordered_by}
 use Rattle.snippet_parts.specs.Depths.{depth_among, same_place}
 use Rattle.snippet_parts.specs.Entries.{Ascends}
 use Rattle.snippet_parts.specs.Kept.{kept_lines}
@@ -26,7 +26,7 @@ use Rattle.snippet_parts.specs.Marked.{Entry, first_line, last_line}
 use Rattle.snippet_parts.specs.OnLine.{numbers_of_lines, AreEntriesOn}
 use Rattle.snippet_lines.specs.Place.{locations_of, start_location, end_location, location_of}
 use Rattle.snippet_lines.specs.Span.{IsSpan}
-use Rattle.snippet_parts.specs.Stretches.{is_seen}
+use Rattle.snippet_parts.specs.LineStretches.{is_seen}
 use Rattle.snippet_parts.proofs.RawDepthLemmas.{same-true, same-refl}
 use Rattle.snippet_parts.proofs.EntryFacts.{each-line, entries-on, longs-off, singles-on}
 use Rattle.snippet_parts.proofs.KeptPartLemmas.{any-member, keeps-unmarked}

@@ -12,7 +12,7 @@ use Rattle.snippet_parts.specs.declared.depths.LongExtent.{LongExtent}
 use Rattle.snippet_parts.specs.declared.entries.LineAnnotationType.TheVariants.{Singleline, MultilineEnd}
 use Rattle.snippet_parts.specs.Annotated.{PartEntry, is_short, is_long, long_entry, long_place, long_places, long_spans, stands_before, depth_of, single_part}
 use Rattle.snippet_parts.specs.Annotated.{start_part, bar_part, end_part, bar_lines, span_parts, long_parts, made_parts, promoted, is_promoted}
-use Rattle.snippet_lines.specs.Order.{ordered_by}
+use Rattle.snippet_lines.specs.OrderedBy.{ordered_by}
 use Rattle.snippet_parts.specs.Depths.{depth_among, same_place}
 use Rattle.snippet_parts.specs.Kept.{is_trivial_line}
 use Rattle.snippet_lines.specs.Lines.{Source}

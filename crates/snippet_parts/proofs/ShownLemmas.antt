@@ -16,7 +16,7 @@ use Rattle.snippet_parts.specs.declared.entries.LineAnnotation.{LineAnnotation}
 use Rattle.snippet_parts.specs.declared.entries.LineAnnotationType.TheVariants.{Singleline}
 use Rattle.snippet_parts.specs.Annotated.{is_long, long_entry, long_place, long_places, long_spans, stands_before, depth_of, PartEntry, seen_part, KeptLine}
 use Rattle.snippet_parts.specs.Annotated.{seen_kept}
-use Rattle.snippet_lines.specs.Order.{put_in, ordered_by}
+use Rattle.snippet_lines.specs.OrderedBy.{put_in, ordered_by}
 use Rattle.snippet_lines.specs.Lines.{Source}
 use Rattle.snippet_parts.specs.Depths.{same_place, share_line}
 use Rattle.snippet_parts.proofs.DepthLemmas.{distinct-places}

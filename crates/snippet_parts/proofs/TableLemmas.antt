@@ -18,7 +18,7 @@ use Rattle.snippet_lines.specs.Span.{IsSpanBorder}
 use Rattle.std.specs.Str.{IsCharBoundary, IsUtf8, chars}
 use Rattle.snippet_parts.specs.LineTable.{LineEntry, IsLineTable, table_entry, entry_at}
 use Rattle.snippet_lines.specs.Starts.{starts_from, line_starts}
-use Rattle.snippet_text.specs.Bounds.{TextFits}
+use Rattle.snippet_text.specs.TextBounds.{TextFits}
 use Rattle.snippet_style.specs.Bounds.{HasNext}
 use Rattle.snippet_lines.proofs.LinesLemmas.{start_of-zero, start_of-cons, start_of-end, start_of-le, joined-source_lines, length-source_lines, text_at-stands}
 use Rattle.snippet_lines.proofs.PlaceLemmas.{line_of-is, line_of-within, HoldsByte-source, start_of-inside, text_at-end, IsCharBoundary-prefix}

@@ -15,7 +15,7 @@ use Rattle.snippet_lines.specs.declared.place.Loc.{Loc}
 use Rattle.snippet_parts.specs.Depths.{same_place, comes_before, greatest_depth, depth_among}
 use Rattle.snippet_parts.specs.Kept.{is_trivial_line, kept_lines}
 use Rattle.snippet_lines.specs.Lines.{source_lines, text_at, Source}
-use Rattle.snippet_lines.specs.Order.{ordered_by}
+use Rattle.snippet_lines.specs.OrderedBy.{ordered_by}
 use Rattle.snippet_parts.specs.Mark.{is_marking, is_single_line, touches}
 use Rattle.snippet_parts.specs.Marked.{Entry, seen_entry, entry_of}
 use Rattle.snippet_lines.specs.Place.{locations_of}

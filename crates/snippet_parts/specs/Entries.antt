@@ -7,7 +7,7 @@ use Rattle.snippet_parts.specs.declared.entries.LineAnnotation.{LineAnnotation}
 use Rattle.snippet_parts.specs.declared.entries.LineAnnotationType.{LineAnnotationType}
 use Rattle.snippet_parts.specs.declared.entries.LineAnnotationType.TheVariants.{Singleline, MultilineStart, MultilineEnd, MultilineLine}
 use Rattle.snippet_parts.specs.Mark.{is_marking, is_single_line, touches}
-use Rattle.snippet_text.specs.Bounds.{TextFits}
+use Rattle.snippet_text.specs.TextBounds.{TextFits}
 use Rattle.snippet_style.specs.Bounds.{IsColumn}
 use Rattle.std.specs.Prelude.{◌+◌, ◌-◌, ◌*◌, nat_lt, true, false}
 

@@ -15,5 +15,5 @@ pub mod Numbered
 pub mod OnLine
 pub mod ShownLines
 pub mod Starts
-pub mod Stretches
+pub mod LineStretches
 pub mod Trivial

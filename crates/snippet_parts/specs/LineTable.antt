@@ -6,7 +6,7 @@ use Rattle.snippet_parts.specs.declared.source_map.LineInfo.{LineInfo}
 use Rattle.snippet_lines.specs.Lines.{Line, source_lines, text_at, start_of, Source}
 use Rattle.snippet_lines.specs.Place.{line_of}
 use Rattle.snippet_lines.specs.Starts.{starts_from}
-use Rattle.snippet_text.specs.Bounds.{TextFits}
+use Rattle.snippet_text.specs.TextBounds.{TextFits}
 use Rattle.snippet_style.specs.Bounds.{IsUsize}
 
 -- what the table says of a line: its text, its number, where it starts and where the next one does

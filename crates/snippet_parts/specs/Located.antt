@@ -14,7 +14,7 @@ use Rattle.snippet_parts.specs.declared.entries.LineAnnotationType.TheVariants.{
 use Rattle.snippet_parts.specs.Annotated.{PartEntry}
 use Rattle.snippet_parts.specs.Mark.{is_marking}
 use Rattle.snippet_parts.specs.Marked.{Entry, first_line, last_line, widened}
-use Rattle.snippet_text.specs.Bounds.{IsOffset}
+use Rattle.snippet_text.specs.TextBounds.{IsOffset}
 use Rattle.snippet_style.specs.Bounds.{IsSourceColumn, IsSourceEnd}
 
 -- whether a span is of a kind that is marked, and stands on one line, or on several

@@ -8,7 +8,7 @@ ghost use Rattle.snippet_parts.specs.Kept.{keeps};
 ghost use Rattle.snippet_lines.specs.Lines.{Source, source_lines};
 ghost use Rattle.snippet_parts.specs.Marked.{first_line, last_line};
 ghost use Rattle.snippet_parts.specs.Located.{IsLocated, annotations_of};
-ghost use Rattle.snippet_parts.specs.Stretches.{holds_line, is_held, is_seen};
+ghost use Rattle.snippet_parts.specs.LineStretches.{holds_line, is_held, is_seen};
 
 use crate::located::LocatedSpan;
 use crate::location::is_marking;

@@ -6,7 +6,7 @@ ghost use Rattle.snippet_parts.specs.Annotated as spec;
 ghost use Rattle.snippet_parts.specs.LongSpans.{seen_long, HasFit};
 ghost use Rattle.snippet_parts.specs.Located.{IsLocated, is_long_span, span_entry};
 ghost use Rattle.snippet_lines.specs.Lines.{Source};
-ghost use Rattle.snippet_lines.specs.Order.{ordered_by};
+ghost use Rattle.snippet_lines.specs.OrderedBy.{ordered_by};
 
 use crate::bars::Bars;
 use crate::depths::LongExtent;

@@ -1,7 +1,7 @@
 //! Lines that are shown, each measured once.
 ghost use Rattle.std.specs.Prelude.{◌≡◌, chars};
 ghost use Rattle.snippet_text.specs.Width.{width_of};
-ghost use Rattle.snippet_text.specs.Bounds.{TextFits};
+ghost use Rattle.snippet_text.specs.TextBounds.{TextFits};
 
 use crate::entries::AnnotatedLineInfo;
 use snippet_text::str_width;

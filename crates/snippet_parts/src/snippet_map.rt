@@ -5,7 +5,7 @@ ghost use Rattle.std.specs.Str.{IsUtf8};
 ghost use Rattle.snippet_lines.specs.Lines.{newline_count};
 ghost use Rattle.snippet_parts.specs.Numbered.{numbered_source};
 ghost use Rattle.snippet_style.specs.Bounds.{HasNext};
-ghost use Rattle.snippet_text.specs.Bounds.{TextFits};
+ghost use Rattle.snippet_text.specs.TextBounds.{TextFits};
 
 use crate::source_map::SourceMap;
 use snippet_model::snippet::{Marker, Snippet};

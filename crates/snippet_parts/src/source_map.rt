@@ -16,12 +16,12 @@ ghost use Rattle.snippet_parts.specs.Depths.{places_of, share_line, IsLongestCha
 ghost use Rattle.snippet_parts.specs.Entries.{Ascends};
 ghost use Rattle.snippet_parts.specs.Marked.{first_line, last_line};
 ghost use Rattle.snippet_parts.specs.OnLine.{numbers_of_lines, AreEntriesOn};
-ghost use Rattle.snippet_parts.specs.Stretches.{is_seen};
+ghost use Rattle.snippet_parts.specs.LineStretches.{is_seen};
 ghost use Rattle.snippet_model.specs.declared.snippet.Annotation.{Annotation};
 ghost use Rattle.snippet_splice.specs.Edits.{edit_of};
 ghost use Rattle.snippet_splice.specs.Overlap.{AreDisjoint};
 ghost use Rattle.snippet_splice.specs.Splice.{IsSplice};
-ghost use Rattle.snippet_text.specs.Bounds.{IsInText, IsOffset, TextFits};
+ghost use Rattle.snippet_text.specs.TextBounds.{IsInText, IsOffset, TextFits};
 ghost use Rattle.snippet_style.specs.Bounds.{HasNext, IsSourceColumn, IsSourceEnd};
 
 use crate::annotated_lines::annotated_lines;

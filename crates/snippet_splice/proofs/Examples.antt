@@ -3,9 +3,9 @@ use Rattle.std.proofs.Common.{◌≡◌, ◌≤◌, ℕ, true, false, Some, None
 use Rattle.snippet_splice.specs.Trim.{kept_before, sandwich}
 use Rattle.snippet_splice.specs.Edits.{Edit, trimmed_edit, trimmed_edits, patched}
 use Rattle.snippet_splice.specs.Overlap.{overlap, first_overlap}
-use Rattle.snippet_splice.specs.Shown.{shown_text}
+use Rattle.snippet_splice.specs.ShownText.{shown_text}
 use Rattle.snippet_splice.specs.Spliced.{last_line_reached, spliced_text, line_ranges}
-use Rattle.snippet_splice.specs.Stretches.{new_stretches, num_replaced_lines, num_shown_lines}
+use Rattle.snippet_splice.specs.EditStretches.{new_stretches, num_replaced_lines, num_shown_lines}
 use Rattle.snippet_splice.specs.declared.stretches.SubstitutionHighlight.{SubstitutionHighlight}
 use Rattle.std.specs.Str.{chars}
 use Rattle.std.specs.declared.alloc.Global.{Global}

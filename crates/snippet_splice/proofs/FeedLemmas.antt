@@ -7,14 +7,14 @@ use Rattle.std.proofs.lemmas.List.Sums.{sum_by-cons, sum_by_more}
 use Rattle.std.proofs.Math.Seq.{take-add}
 use Rattle.std.specs.List.{slice_range, sum_by}
 use Rattle.snippet_lines.specs.Lines.{lines_of, source_lines, start_of, text_at, last_byte, is_lf, newline_count}
-use Rattle.snippet_lines.specs.Order.{put_in}
+use Rattle.snippet_lines.specs.OrderedBy.{put_in}
 use Rattle.snippet_lines.specs.Place.{line_of}
 use Rattle.snippet_lines.proofs.BoundsLemmas.{IsLine-at}
 use Rattle.snippet_lines.proofs.LinesLemmas.{length-lines_of, length-source_lines, start_of-zero}
 use Rattle.snippet_lines.proofs.PlaceLemmas.{line_of-within, start_of-inside}
 use Rattle.snippet_splice.specs.Copied.{copied, end_from, in_text, is_inside_line_end, text_end, written}
 use Rattle.snippet_splice.specs.Edits.{Edit, AreApart, in_order, precedes, trimmed_edit, trimmed_edits}
-use Rattle.snippet_splice.specs.Shown.{closes_line, first_start, shown_line, shown_rest, shown_start, shown_text, without_final_line_feeds}
+use Rattle.snippet_splice.specs.ShownText.{closes_line, first_start, shown_line, shown_rest, shown_start, shown_text, without_final_line_feeds}
 use Rattle.snippet_splice.proofs.EditLemmas.{IsShrunk, trimmed_edit-shrunk}
 use Rattle.snippet_splice.proofs.LineLemmas.{Shortens, Shortens-final}
 use Rattle.snippet_splice.proofs.RangeLemmas.{feeds, feeds-append, feeds-none, feeds-shown}

@@ -9,9 +9,9 @@ use Rattle.std.proofs.lemmas.Str.{IsUtf8-append, IsUtf8-nil}
 use Rattle.snippet_splice.specs.declared.stretches.PatchExtent.{PatchExtent}
 use Rattle.snippet_splice.specs.Copied.{in_text}
 use Rattle.snippet_splice.specs.Edits.{Edit, in_order, trimmed_edits}
-use Rattle.snippet_splice.specs.Shown.{first_start, shown_start}
-use Rattle.snippet_splice.specs.Stretches.{Extent, after_last_lf, characters_before, extent_of, extents_from, new_stretches, replaced_on}
-use Rattle.snippet_splice.specs.Stretches.{replaced_stretches, start_character, stretches_on}
+use Rattle.snippet_splice.specs.ShownText.{first_start, shown_start}
+use Rattle.snippet_splice.specs.EditStretches.{Extent, after_last_lf, characters_before, extent_of, extents_from, new_stretches, replaced_on}
+use Rattle.snippet_splice.specs.EditStretches.{replaced_stretches, start_character, stretches_on}
 use Rattle.snippet_splice.proofs.EditLemmas.{slice_split}
 use Rattle.snippet_splice.proofs.StretchLemmas.{after_few}
 use Rattle.snippet_splice.proofs.WriteLemmas.{in_text-mono}

@@ -13,8 +13,8 @@ use Rattle.snippet_lines.proofs.BoundsLemmas.{IsCharBoundary-start_of}
 use Rattle.snippet_splice.specs.declared.patches.TrimmedPatch.{TrimmedPatch}
 use Rattle.snippet_splice.specs.Edits.{Edit, edit_of, trimmed_edit_of, trimmed_edit, trimmed_edits, in_order, precedes, edit_bounds, original_bounds_of}
 use Rattle.snippet_splice.specs.Edits.{AreApart}
-use Rattle.snippet_lines.specs.Order.{put_in}
-use Rattle.snippet_splice.specs.Shown.{first_start, closes_line, shown_start, shown_rest, without_final_line_feeds, shown_text}
+use Rattle.snippet_lines.specs.OrderedBy.{put_in}
+use Rattle.snippet_splice.specs.ShownText.{first_start, closes_line, shown_start, shown_rest, without_final_line_feeds, shown_text}
 use Rattle.snippet_splice.specs.Copied.{written, end_from}
 use Rattle.snippet_splice.proofs.EditLemmas.{AreApart-earlier, trimmed-apart}
 

@@ -16,7 +16,7 @@ use Rattle.snippet_lines.proofs.PlaceLemmas.{text_at-end}
 use Rattle.snippet_lines.proofs.BoundsLemmas.{line_bytes-slice, IsLine-at, IsOneLine-line}
 use Rattle.snippet_splice.specs.Edits.{Edit, in_order, trimmed_edits, patched, AreApart}
 use Rattle.snippet_splice.specs.Copied.{written}
-use Rattle.snippet_splice.specs.Shown.{first_start, last_text, shown_start, shown_line, without_final_line_feeds}
+use Rattle.snippet_splice.specs.ShownText.{first_start, last_text, shown_start, shown_line, without_final_line_feeds}
 use Rattle.snippet_splice.specs.declared.splice.LineRange.{LineRange}
 use Rattle.snippet_splice.specs.Spliced.{Stand, stands_from, stands, last_end, IsInLine, IsTouchedBy, IsTouched, HasNoCr, lines_of_stand, line_ranges}
 use Rattle.snippet_splice.proofs.ShownLemmas.{shown-apart}

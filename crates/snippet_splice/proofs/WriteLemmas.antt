@@ -12,7 +12,7 @@ use Rattle.snippet_splice.specs.declared.splice.LineRange.{LineRange}
 use Rattle.snippet_splice.specs.declared.patches.TrimmedPatch.{TrimmedPatch}
 use Rattle.snippet_splice.specs.Edits.{Edit, trimmed_edit_of, AreApart}
 use Rattle.snippet_splice.specs.Copied.{is_inside_line_end, text_end, in_text, with_line_feeds, copied, written, written_ranges, end_from}
-use Rattle.snippet_splice.specs.Shown.{last_text, unless_lone_line_feed, without_final_line_feeds}
+use Rattle.snippet_splice.specs.ShownText.{last_text, unless_lone_line_feed, without_final_line_feeds}
 
 -- ---- an LF in place of each CR LF
 

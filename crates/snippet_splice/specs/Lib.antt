@@ -1,8 +1,8 @@
 pub mod Copied
 pub mod Edits
 pub mod Overlap
-pub mod Shown
+pub mod ShownText
 pub mod Splice
 pub mod Spliced
-pub mod Stretches
+pub mod EditStretches
 pub mod Trim

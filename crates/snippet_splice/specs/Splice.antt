@@ -6,8 +6,8 @@ use Rattle.snippet_lines.specs.Span.{IsSpan}
 use Rattle.snippet_splice.specs.declared.splice.SplicedLines.{SplicedLines}
 use Rattle.snippet_splice.specs.Copied.{written_ranges}
 use Rattle.snippet_splice.specs.Edits.{Edit, edit_bounds, edited_from, in_order, original_bounds_of, patched, trimmed_edit_of, trimmed_edits}
-use Rattle.snippet_splice.specs.Shown.{first_start, shown_line, shown_start, shown_text, without_final_line_feeds}
-use Rattle.snippet_splice.specs.Stretches.{line_stretches, new_stretches, num_replaced_lines, num_shown_lines, replaced_stretches}
+use Rattle.snippet_splice.specs.ShownText.{first_start, shown_line, shown_start, shown_text, without_final_line_feeds}
+use Rattle.snippet_splice.specs.EditStretches.{line_stretches, new_stretches, num_replaced_lines, num_shown_lines, replaced_stretches}
 use Rattle.snippet_splice.specs.Spliced.{AreFrom, HasNoCr, IsBeforeFinalLf, IsTouched, line_ranges, ranges_from, spliced_text, texts_of}
 
 -- the source holds no carriage return, and no edit, once it is trimmed, starts after a final line feed

@@ -5,7 +5,7 @@ use Rattle.snippet_lines.specs.Lines.{Line, source_lines, start_of, last_byte, i
 use Rattle.snippet_lines.specs.Place.{line_of}
 use Rattle.snippet_splice.specs.declared.splice.LineRange.{LineRange}
 use Rattle.snippet_splice.specs.Edits.{Edit, in_order, trimmed_edits, edited_from, patched}
-use Rattle.snippet_splice.specs.Shown.{first_start, closes_line, without_final_line_feeds}
+use Rattle.snippet_splice.specs.ShownText.{first_start, closes_line, without_final_line_feeds}
 
 -- where a text stands in the patched source
 pub record Stand : Type 0 where

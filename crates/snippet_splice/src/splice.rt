@@ -7,9 +7,9 @@ ghost use Rattle.snippet_splice.specs.Edits.{edit_of, original_bounds_of, trimme
 ghost use Rattle.snippet_splice.specs.Overlap.{AreDisjoint};
 ghost use Rattle.snippet_splice.specs.Copied.{written, written_ranges, end_from};
 ghost use Rattle.snippet_splice.specs.Splice.{IsSplice};
-ghost use Rattle.snippet_splice.specs.Stretches.{source_lines_shown};
-ghost use Rattle.snippet_splice.specs.Shown.{closes_line, shown_start, shown_rest, without_final_line_feeds};
-ghost use Rattle.snippet_splice.specs.Shown.{shown_text};
+ghost use Rattle.snippet_splice.specs.EditStretches.{source_lines_shown};
+ghost use Rattle.snippet_splice.specs.ShownText.{closes_line, shown_start, shown_rest, without_final_line_feeds};
+ghost use Rattle.snippet_splice.specs.ShownText.{shown_text};
 
 use crate::copy::push_copied;
 use crate::patches::{TrimmedPatch, trimmed_patches};

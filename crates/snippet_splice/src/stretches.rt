@@ -7,12 +7,12 @@ ghost use Rattle.snippet_lines.specs.Lines.{is_lf};
 ghost use Rattle.snippet_lines.specs.Span.{IsSpan, IsSpanBorder};
 ghost use Rattle.snippet_splice.specs.Copied.{in_text};
 ghost use Rattle.snippet_splice.specs.Edits.{AreApart, trimmed_edit_of};
-ghost use Rattle.snippet_splice.specs.Stretches.{after_last_lf, capped, characters_before, end_character};
-ghost use Rattle.snippet_splice.specs.Stretches.{extent_of};
-ghost use Rattle.snippet_splice.specs.Stretches.{extents_from, feeds_made, line_stretches, lines_over, pieces_of};
-ghost use Rattle.snippet_splice.specs.Stretches.{pieces_on, replaced_on, start_character, stretches_on, taken_on};
-ghost use Rattle.snippet_splice.specs.Stretches.{without_cr};
-ghost use Rattle.snippet_splice.specs.Stretches as spec;
+ghost use Rattle.snippet_splice.specs.EditStretches.{after_last_lf, capped, characters_before, end_character};
+ghost use Rattle.snippet_splice.specs.EditStretches.{extent_of};
+ghost use Rattle.snippet_splice.specs.EditStretches.{extents_from, feeds_made, line_stretches, lines_over, pieces_of};
+ghost use Rattle.snippet_splice.specs.EditStretches.{pieces_on, replaced_on, start_character, stretches_on, taken_on};
+ghost use Rattle.snippet_splice.specs.EditStretches.{without_cr};
+ghost use Rattle.snippet_splice.specs.EditStretches as spec;
 ghost use Rattle.snippet_style.specs.Bounds.{IsUsize};
 
 use crate::copy::text_place;

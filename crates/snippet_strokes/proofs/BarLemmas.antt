@@ -20,13 +20,13 @@ use Rattle.snippet_grid.specs.Layout.{Layout}
 use Rattle.snippet_strokes.specs.declared.bars.BarStroke.{BarStroke}
 use Rattle.snippet_strokes.specs.declared.bars.BarStroke.TheVariants.{Top, Solid, Dotted}
 use Rattle.snippet_strokes.specs.EntryMarks.{IsBarCell, IsMarkCell, are_plain, has_mark_role, wide_entries}
-use Rattle.snippet_model.specs.Rows.{IsFreeCell}
+use Rattle.snippet_model.specs.FreeRows.{IsFreeCell}
 use Rattle.snippet_style.proofs.StrokeLemmas.{bars_among}
 use Rattle.snippet_strokes.proofs.StrokeGlyphs.{free_bars}
 use Rattle.snippet_strokes.specs.Bars.{BarsDrawn, DrawsBars, HasBarRoom, StandsBeside, bar_glyph, bar_cell_part, barred, with_bar, with_bars}
 use Rattle.snippet_strokes.specs.declared.bars.OpenBar.{OpenBar}
 use Rattle.snippet_strokes.proofs.LabelPlaces.{LabelsStand-kept}
-use Rattle.snippet_strokes.specs.Rows.{AddsStrokes, AreStrokes, IsBeside, IsStrokeRow, ShowsMarks}
+use Rattle.snippet_strokes.specs.StrokeRows.{AddsStrokes, AreStrokes, IsBeside, IsStrokeRow, ShowsMarks}
 use Rattle.snippet_strokes.proofs.BarRows.{changed-above, changed-count, changed-row}
 use Rattle.snippet_strokes.proofs.DrawLemmas.{written_cell}
 

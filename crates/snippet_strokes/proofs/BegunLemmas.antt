@@ -21,10 +21,10 @@ use Rattle.snippet_style.proofs.CellLemmas.{take-written_past, drop-written}
 use Rattle.snippet_grid.specs.Layout.{Layout}
 use Rattle.snippet_labels.specs.declared.positions.PlacedEntry.{PlacedEntry}
 use Rattle.snippet_strokes.specs.EntryMarks.{IsBarCell, are_plain, has_column, is_single, wide_entries}
-use Rattle.snippet_model.specs.Rows.{IsFreeCell, IsFree}
+use Rattle.snippet_model.specs.FreeRows.{IsFreeCell, IsFree}
 use Rattle.snippet_strokes.specs.Drawing.{HasRows, row_count}
 use Rattle.snippet_strokes.specs.SourceRows.{bare_row}
-use Rattle.snippet_strokes.specs.Rows.{IsCut, IsStrokeRow}
+use Rattle.snippet_strokes.specs.StrokeRows.{IsCut, IsStrokeRow}
 use Rattle.snippet_style.specs.Separators.{separator_row}
 use Rattle.snippet_strokes.proofs.PlainMarks.{IsPlainEntry}
 use Rattle.snippet_strokes.proofs.PositionLemmas.{HasRows-row_count, row_count_some}

@@ -21,10 +21,10 @@ use Rattle.snippet_grid.proofs.ChangeLemmas.{changed_within_one}
 use Rattle.snippet_grid.proofs.ReplaceLemmas.{replaced_there, replaced_empty, replaced_past}
 use Rattle.snippet_grid.specs.Layout.{Layout}
 use Rattle.snippet_labels.specs.declared.positions.PlacedEntry.{PlacedEntry}
-use Rattle.snippet_model.specs.Rows.{IsFreeCell}
+use Rattle.snippet_model.specs.FreeRows.{IsFreeCell}
 use Rattle.snippet_strokes.specs.Cuts.{Stretch, cut_of, cut_row, cut_rows, cuts_of, is_wide_at, middle_of}
 use Rattle.snippet_strokes.specs.EntryMarks.{wide_entries}
-use Rattle.snippet_strokes.specs.Rows.{IsCut, CutsRows}
+use Rattle.snippet_strokes.specs.StrokeRows.{IsCut, CutsRows}
 use Rattle.snippet_strokes.proofs.CellLemmas.{free_placeholder}
 use Rattle.snippet_grid.proofs.RowLemmas.{row_text-text_cells}
 

@@ -17,8 +17,8 @@ use Rattle.snippet_strokes.specs.declared.bars.BarStroke.TheVariants.{Dotted}
 use Rattle.snippet_strokes.specs.Bars.{BarsDrawn, DrawsBars, barred}
 use Rattle.snippet_strokes.specs.Snippet.{AddsElision, gap_row}
 use Rattle.snippet_strokes.proofs.BarRows.{barred-below}
-use Rattle.snippet_model.specs.Rows.{IsFree}
-use Rattle.snippet_strokes.specs.Rows.{bare_elision_row}
+use Rattle.snippet_model.specs.FreeRows.{IsFree}
+use Rattle.snippet_strokes.specs.StrokeRows.{bare_elision_row}
 use Rattle.snippet_strokes.proofs.BarLemmas.{bar_space}
 use Rattle.snippet_strokes.proofs.RowLemmas.{free_led, length-led}
 use Rattle.snippet_model.proofs.RowLemmas.{free_drawn}

@@ -9,12 +9,12 @@ use Rattle.std.specs.declared.borrow.CowStr.{CowStr}
 use Rattle.std.specs.declared.borrow.CowStr.TheVariants.{Borrowed}
 use Rattle.std.proofs.lemmas.List.Elements.{All-head, All-tail}
 use Rattle.std.proofs.lemmas.List.Folds.{flat_map-map}
-use Rattle.snippet_lines.specs.Order.{ordered_by}
+use Rattle.snippet_lines.specs.OrderedBy.{ordered_by}
 use Rattle.snippet_lines.proofs.OrderLemmas.{map-ordered_by}
 use Rattle.snippet_parts.specs.declared.entries.LineAnnotation.{LineAnnotation}
 use Rattle.snippet_grid.specs.Layout.{Layout}
 use Rattle.snippet_labels.specs.declared.positions.PlacedEntry.{PlacedEntry}
-use Rattle.snippet_labels.specs.Entries.{label_chars, label_text, plain_entry}
+use Rattle.snippet_labels.specs.PlacedEntries.{label_chars, label_text, plain_entry}
 use Rattle.snippet_strokes.specs.Painting.{is_painted_before, mark_of, marks_of, painting_order}
 use Rattle.snippet_labels.specs.Positions.{ArePlaced, HasItsBytes, are_starts, is_placed_before, labelled, line_positions, look_counts, placed_at, placed_of}
 use Rattle.snippet_labels.specs.Positions.{unplaced}

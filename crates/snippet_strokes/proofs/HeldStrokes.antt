@@ -10,7 +10,7 @@ use Rattle.snippet_labels.specs.declared.positions.PlacedEntry.{PlacedEntry}
 use Rattle.snippet_strokes.specs.Writes.{Write}
 use Rattle.snippet_strokes.specs.Painting.{marks_of}
 use Rattle.snippet_labels.specs.Positions.{are_starts, do_overlap, has_label, label_place}
-use Rattle.snippet_labels.specs.Entries.{label_role}
+use Rattle.snippet_labels.specs.PlacedEntries.{label_role}
 use Rattle.snippet_strokes.proofs.HeldLemmas.{are_starts-held, held, label_text-plain, marks_of-held}
 use Rattle.snippet_strokes.specs.Cuts.{cut_of, cuts_of, is_met, is_overlapped, look_ends, meets, overlapped, overlapped_by}
 use Rattle.snippet_strokes.specs.Drawing.{lowest_position, row_count}

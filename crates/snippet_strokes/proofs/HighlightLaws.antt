@@ -8,7 +8,7 @@ use Rattle.snippet_grid.proofs.ChangeLemmas.{length-changed_within, slice_index_
 use Rattle.snippet_grid.proofs.ChangeLemmas.{slice_index_or-changed_within_inside}
 use Rattle.snippet_style.specs.Cell.{Cell, SPACE}
 use Rattle.snippet_parts.specs.declared.entries.LineAnnotation.{LineAnnotation}
-use Rattle.snippet_strokes.specs.Rows.{IsHighlighted, highlighted_row, role_in_source}
+use Rattle.snippet_strokes.specs.StrokeRows.{IsHighlighted, highlighted_row, role_in_source}
 use Rattle.snippet_strokes.proofs.LineValueLaws.{highlighted_is}
 
 -- a highlighted row, read cell by cell

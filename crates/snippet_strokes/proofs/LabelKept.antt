@@ -10,7 +10,7 @@ use Rattle.snippet_style.proofs.CellLemmas.{length-chars_le}
 use Rattle.snippet_parts.specs.declared.entries.LineAnnotation.{LineAnnotation}
 use Rattle.snippet_grid.specs.Layout.{Layout}
 use Rattle.snippet_labels.specs.declared.positions.PlacedEntry.{PlacedEntry}
-use Rattle.snippet_labels.specs.Entries.{HasPlace, label_text}
+use Rattle.snippet_labels.specs.PlacedEntries.{HasPlace, label_text}
 use Rattle.snippet_labels.specs.Positions.{HasItsLabel, has_label, do_overlap, ends_no_later, blocks, crowds, crosses, position_at, position_after, positions}
 use Rattle.snippet_labels.specs.Positions.{label_place, ArePlaced, has_stem, is_same_place, is_start, is_start_part, takes_space, flipped}
 use Rattle.std.proofs.lemmas.List.{get_or-map, length-map}

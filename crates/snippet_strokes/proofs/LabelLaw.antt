@@ -6,7 +6,7 @@ use Rattle.std.specs.Cow.{cow_str_bytes}
 use Rattle.snippet_parts.specs.declared.entries.LineAnnotation.{LineAnnotation}
 use Rattle.snippet_grid.specs.Layout.{Layout}
 use Rattle.snippet_labels.specs.declared.positions.PlacedEntry.{PlacedEntry}
-use Rattle.snippet_labels.specs.Entries.{HasPlace, label_text, label_role}
+use Rattle.snippet_labels.specs.PlacedEntries.{HasPlace, label_text, label_role}
 use Rattle.snippet_labels.specs.Positions.{HasItsLabel, has_label, do_overlap, ends_no_later, blocks, reaches, crowds, label_place, ArePlaced}
 use Rattle.snippet_strokes.specs.Reach.{Reaches}
 use Rattle.snippet_strokes.specs.Strokes.{label_write, label_of, labels_of}

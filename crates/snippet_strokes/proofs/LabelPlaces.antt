@@ -16,7 +16,7 @@ use Rattle.snippet_style.specs.Cell.{Cell, SPACE}
 use Rattle.snippet_parts.specs.declared.entries.LineAnnotation.{LineAnnotation}
 use Rattle.snippet_grid.specs.Layout.{Layout}
 use Rattle.snippet_labels.specs.declared.positions.PlacedEntry.{PlacedEntry}
-use Rattle.snippet_labels.specs.Entries.{HasPlace, label_text}
+use Rattle.snippet_labels.specs.PlacedEntries.{HasPlace, label_text}
 use Rattle.snippet_strokes.specs.Labels.{IsLedTo, IsStemCell, IsStrokeCell, LabelsStand, PlacedLabel, StandsIn, is_cell_of}
 use Rattle.snippet_strokes.specs.Painting.{StandsWhole}
 use Rattle.snippet_labels.specs.Positions.{ArePlaced, HasItsLabel, has_label, label_place}

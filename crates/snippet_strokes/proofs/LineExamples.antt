@@ -14,7 +14,7 @@ use Rattle.snippet_parts.specs.declared.entries.LineAnnotationType.TheVariants.{
 use Rattle.snippet_grid.specs.Layout.{Layout}
 use Rattle.snippet_strokes.specs.SourceRows.{source_row}
 use Rattle.snippet_strokes.specs.LineRows.{line_rows}
-use Rattle.snippet_strokes.specs.Rows.{highlighted_row}
+use Rattle.snippet_strokes.specs.StrokeRows.{highlighted_row}
 
 -- an entry of these columns, each of one character
 abbrev entry : AnnotationKind → ℕ → ℕ → Option (Bor (List ℕ)) → LineAnnotationType → LineAnnotation

@@ -14,14 +14,14 @@ use Rattle.snippet_strokes.specs.declared.bars.BarStroke.TheVariants.{Top, Solid
 use Rattle.snippet_grid.specs.Layout.{Layout}
 use Rattle.snippet_labels.specs.declared.positions.PlacedEntry.{PlacedEntry}
 use Rattle.snippet_strokes.specs.Bars.{barred, bars_apart, ends_of_bars, is_whole_line, with_bars}
-use Rattle.snippet_labels.specs.Entries.{shifted}
+use Rattle.snippet_labels.specs.PlacedEntries.{shifted}
 use Rattle.snippet_strokes.specs.EntryMarks.{wide_entries}
 use Rattle.snippet_strokes.specs.LineRows.{AddsOwnRows, AreLineRows}
 use Rattle.snippet_strokes.specs.Painting.{painting_order}
 use Rattle.snippet_labels.specs.Positions.{ArePlaced}
 use Rattle.snippet_strokes.specs.Drawing.{row_count}
 use Rattle.snippet_strokes.specs.Cuts.{Stretch, cut_row, cut_rows, cuts_of, is_wide_at, overlapped}
-use Rattle.snippet_strokes.specs.Rows.{IsCut}
+use Rattle.snippet_strokes.specs.StrokeRows.{IsCut}
 use Rattle.snippet_strokes.specs.SourceRows.{bare_row}
 use Rattle.snippet_strokes.specs.Strokes.{AddsPainted, begun_rows, line_strokes}
 use Rattle.snippet_strokes.specs.Writes.{Write, painted}

@@ -12,7 +12,7 @@ use Rattle.snippet_parts.proofs.PartLemmas.{list_any-map}
 use Rattle.snippet_parts.specs.declared.entries.LineAnnotation.{LineAnnotation}
 use Rattle.snippet_grid.specs.Layout.{Layout}
 use Rattle.snippet_labels.specs.declared.positions.PlacedEntry.{PlacedEntry}
-use Rattle.snippet_labels.specs.Entries.{plain_entry, shifted}
+use Rattle.snippet_labels.specs.PlacedEntries.{plain_entry, shifted}
 use Rattle.snippet_strokes.specs.Painting.{painting_order}
 use Rattle.snippet_labels.specs.Positions.{placed_of}
 use Rattle.snippet_strokes.specs.Writes.{Write, painted}
@@ -23,7 +23,7 @@ use Rattle.snippet_strokes.specs.Bars.{bar_of, bars_apart, ends_of_bars, is_besi
 use Rattle.snippet_strokes.specs.Cuts.{Stretch, cut_row, cuts_of, overlapped}
 use Rattle.snippet_strokes.specs.Drawing.{row_count}
 use Rattle.snippet_strokes.specs.LineRows.{AreLineRows, AreOwnRows, line_rows, own_rows}
-use Rattle.snippet_strokes.specs.Rows.{IsHighlighted, highlighted_row, highlights, role_in_source}
+use Rattle.snippet_strokes.specs.StrokeRows.{IsHighlighted, highlighted_row, highlights, role_in_source}
 use Rattle.snippet_strokes.specs.Strokes.{StrokesPainted, begun_rows, stroke_rows, line_strokes}
 use Rattle.snippet_strokes.proofs.HeldStrokes.{cuts_of-held, overlapped-held, row_count-held, line_strokes-held}
 

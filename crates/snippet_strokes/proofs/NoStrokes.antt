@@ -11,7 +11,7 @@ use Rattle.snippet_grid.specs.Grid.{cell_at, row_at}
 use Rattle.snippet_style.specs.Cell.{Cell, SPACE}
 use Rattle.snippet_grid.specs.Layout.{Layout, inner_cell}
 use Rattle.snippet_strokes.specs.EntryMarks.{IsBarCell, are_plain, has_mark_role, wide_entries}
-use Rattle.snippet_strokes.specs.Rows.{HasNoBars, IsStrokeRow, AddsStrokes}
+use Rattle.snippet_strokes.specs.StrokeRows.{HasNoBars, IsStrokeRow, AddsStrokes}
 use Rattle.snippet_style.specs.Separators.{closing_row}
 use Rattle.snippet_strokes.proofs.DrawLemmas.{bar_space}
 use Rattle.snippet_strokes.proofs.LabelPlaces.{LabelsStand-none}

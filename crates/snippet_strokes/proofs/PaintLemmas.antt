@@ -13,7 +13,7 @@ use Rattle.snippet_style.specs.Cell.{Cell, SPACE, unlinked_cell}
 use Rattle.snippet_text.specs.Normalized.{is_listed}
 use Rattle.snippet_grid.specs.Layout.{Layout}
 use Rattle.snippet_model.specs.AnnotationKind.{is_primary}
-use Rattle.snippet_model.specs.Rows.{IsFreeCell}
+use Rattle.snippet_model.specs.FreeRows.{IsFreeCell}
 use Rattle.snippet_strokes.specs.Painting.{IsPaintedAt, Paints, Painted, ShowsFrom, first_glyph, mark_cell, mark_end}
 
 -- no cell is painted yet

@@ -9,11 +9,11 @@ use Rattle.std.proofs.lemmas.Bool.{cases_Bool, cond-false, cond-true}
 use Rattle.std.proofs.lemmas.Bool.Decides.{nat_tests}
 use Rattle.std.proofs.lemmas.List.Elements.{All-cons, All-nil}
 use Rattle.std.proofs.lemmas.List.Sorted.{IsPermutation-cons, IsPermutation-middle, IsPermutation-refl, IsPermutation-sym, IsPermutation-trans}
-use Rattle.snippet_lines.specs.Order.{ordered_by, put_in}
+use Rattle.snippet_lines.specs.OrderedBy.{ordered_by, put_in}
 use Rattle.snippet_lines.proofs.OrderLemmas.{All-put_in, map-ordered_by, sorted-only}
 use Rattle.snippet_parts.specs.declared.entries.LineAnnotation.{LineAnnotation}
 use Rattle.snippet_labels.specs.declared.positions.PlacedEntry.{PlacedEntry}
-use Rattle.snippet_labels.specs.Entries.{entry_width}
+use Rattle.snippet_labels.specs.PlacedEntries.{entry_width}
 use Rattle.snippet_model.specs.AnnotationKind.{is_primary}
 use Rattle.snippet_strokes.specs.Painting.{CoversOver, IsPaintingOrder, is_painted_before, painting_order}
 use Rattle.snippet_labels.proofs.OrderLemmas.{sorted_same, stable_same}

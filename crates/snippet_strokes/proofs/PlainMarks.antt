@@ -13,7 +13,7 @@ use Rattle.snippet_style.specs.Glyphs.{strokes_of, underline_role}
 use Rattle.snippet_style.specs.Cell.{unlinked_cell}
 use Rattle.snippet_grid.specs.Layout.{Layout}
 use Rattle.snippet_strokes.specs.EntryMarks.{EntryCovers, is_single, IsMarkCell}
-use Rattle.snippet_labels.specs.Entries.{is_end_part}
+use Rattle.snippet_labels.specs.PlacedEntries.{is_end_part}
 use Rattle.snippet_model.specs.AnnotationKind.{is_primary}
 use Rattle.snippet_strokes.specs.Painting.{IsPaintedAt, mark_cell, mark_end}
 

@@ -15,7 +15,7 @@ use Rattle.snippet_labels.specs.Positions.{ArePlaced, has_label, takes_space, ha
 use Rattle.snippet_labels.specs.Positions.{position_after, positions, flipped, line_positions, label_place, look_counts, looked_after, up_to}
 use Rattle.snippet_strokes.specs.Drawing.{lowest_position, row_count, HasRows}
 use Rattle.snippet_parts.specs.Least.{greatest}
-use Rattle.snippet_labels.specs.Entries.{HasPlace}
+use Rattle.snippet_labels.specs.PlacedEntries.{HasPlace}
 use Rattle.snippet_strokes.proofs.CellLemmas.{above_zero}
 
 -- the positions of a list that has no labels

@@ -6,11 +6,11 @@ use Rattle.snippet_style.specs.Cell.{Cell}
 use Rattle.snippet_style.specs.Separators.{separator_row}
 use Rattle.snippet_grid.specs.Layout.{Layout}
 use Rattle.snippet_labels.specs.declared.positions.PlacedEntry.{PlacedEntry}
-use Rattle.snippet_labels.specs.Entries.{HasPlace, shifted}
+use Rattle.snippet_labels.specs.PlacedEntries.{HasPlace, shifted}
 use Rattle.snippet_strokes.specs.Painting.{marks_of, painting_order}
 use Rattle.snippet_labels.specs.Positions.{ArePlaced}
 use Rattle.snippet_strokes.specs.Cuts.{cut_rows, cuts_of}
-use Rattle.snippet_strokes.specs.Rows.{AddsStrokes, HasNoBars}
+use Rattle.snippet_strokes.specs.StrokeRows.{AddsStrokes, HasNoBars}
 use Rattle.snippet_strokes.specs.SourceRows.{bare_row}
 use Rattle.snippet_strokes.specs.Writes.{painted}
 use Rattle.snippet_strokes.proofs.MarkWriteLemmas.{Painted-marks}

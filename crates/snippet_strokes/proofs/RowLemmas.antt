@@ -11,7 +11,7 @@ use Rattle.snippet_style.specs.Glyphs.{closing_of}
 use Rattle.snippet_style.specs.Cell.{Cell, SPACE, text_cells}
 use Rattle.snippet_style.proofs.CellLemmas.{length-text_cells}
 use Rattle.snippet_text.specs.Normalized.{is_listed}
-use Rattle.snippet_model.specs.Rows.{IsFreeCell, IsFree}
+use Rattle.snippet_model.specs.FreeRows.{IsFreeCell, IsFree}
 use Rattle.snippet_model.proofs.RowLemmas.{free_drawn}
 use Rattle.snippet_strokes.specs.SourceRows.{bare_row}
 use Rattle.snippet_style.proofs.RowLemmas.{led_before}

@@ -3,7 +3,7 @@ use Rattle.std.proofs.Common.{◌≡◌, ℕ, ◌-◌, List, [], ◌∷◌, All,
 use Rattle.std.proofs.lemmas.List.Elements.{All-map}
 use Rattle.snippet_grid.specs.Layout.{Layout}
 use Rattle.snippet_parts.specs.declared.entries.LineAnnotation.{LineAnnotation}
-use Rattle.snippet_labels.specs.Entries.{HasPlace, shifted}
+use Rattle.snippet_labels.specs.PlacedEntries.{HasPlace, shifted}
 use Rattle.snippet_strokes.specs.EntryMarks.{HasBarCell}
 
 -- and they have their places, and their bars

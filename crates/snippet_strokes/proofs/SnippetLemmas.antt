@@ -19,7 +19,7 @@ use Rattle.snippet_grid.specs.Grid.{row_at}
 use Rattle.snippet_style.specs.Cell.{Cell, SPACE, gives_way, unlinked_cell}
 use Rattle.snippet_grid.specs.Print.{row_text}
 use Rattle.snippet_text.specs.Normalized.{norm}
-use Rattle.snippet_model.specs.Rows.{IsFreeCell, HasNoNumber, IsFree}
+use Rattle.snippet_model.specs.FreeRows.{IsFreeCell, HasNoNumber, IsFree}
 use Rattle.snippet_grid.specs.Layout.{Layout}
 use Rattle.snippet_window.specs.declared.margin.Margin.{Margin}
 use Rattle.snippet_window.specs.Margin.{bounds_of}
@@ -30,7 +30,7 @@ use Rattle.snippet_model.specs.AnnotationKind.{is_primary}
 use Rattle.snippet_window.specs.Measures.{StandsClear}
 use Rattle.snippet_parts.specs.Entries.{is_bar}
 use Rattle.snippet_strokes.specs.EntryMarks.{are_plain}
-use Rattle.snippet_labels.specs.Entries.{is_end_part, shifted}
+use Rattle.snippet_labels.specs.PlacedEntries.{is_end_part, shifted}
 use Rattle.snippet_strokes.specs.declared.bars.OpenBar.{OpenBar}
 use Rattle.snippet_strokes.specs.declared.bars.BarStroke.TheVariants.{Solid}
 use Rattle.snippet_strokes.specs.Bars.{DrawsBars, barred, bars_apart, ends_of_bars, open_below}
@@ -41,7 +41,7 @@ use Rattle.snippet_strokes.proofs.WindowTextLemmas.{row_text-window_cells}
 use Rattle.snippet_strokes.proofs.WholeLemmas.{window_cells-whole}
 use Rattle.snippet_lines.specs.Number.{shown_number}
 use Rattle.snippet_strokes.specs.SourceRows.{window_cells, IsSourceRow, AddsSourceRow}
-use Rattle.snippet_strokes.specs.Rows.{IsStrokeRow, HasNoBars, IsHighlighted, highlights, holds_character, role_in_source, AddsStrokes}
+use Rattle.snippet_strokes.specs.StrokeRows.{IsStrokeRow, HasNoBars, IsHighlighted, highlights, holds_character, role_in_source, AddsStrokes}
 use Rattle.snippet_strokes.proofs.RowLemmas.{bare_row_left}
 use Rattle.snippet_strokes.specs.Snippet.{ShowsLine, AreLinesShown, AddsGap, AddsLine, AddsSnippet, IsGap}
 

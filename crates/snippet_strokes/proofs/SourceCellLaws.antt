@@ -14,7 +14,7 @@ use Rattle.snippet_parts.specs.declared.entries.LineAnnotationType.TheVariants.{
 use Rattle.snippet_parts.proofs.AmongLemmas.{all_among, among_filter_map}
 use Rattle.snippet_grid.specs.Layout.{Layout}
 use Rattle.snippet_labels.specs.declared.positions.PlacedEntry.{PlacedEntry}
-use Rattle.snippet_labels.specs.Entries.{shifted}
+use Rattle.snippet_labels.specs.PlacedEntries.{shifted}
 use Rattle.snippet_strokes.specs.Painting.{marks_of, painting_order, stroke_role}
 use Rattle.snippet_strokes.specs.Writes.{Write, glyph_at, painted}
 use Rattle.snippet_labels.proofs.PlacedLemmas.{entries_all}
@@ -24,7 +24,7 @@ use Rattle.snippet_strokes.specs.Drawing.{row_count}
 use Rattle.snippet_strokes.specs.EndBars.{BarBegins}
 use Rattle.snippet_strokes.specs.LineRows.{AreLineRows, AreOwnRows}
 use Rattle.snippet_strokes.specs.Reach.{Reaches}
-use Rattle.snippet_strokes.specs.Rows.{bare_elision_row}
+use Rattle.snippet_strokes.specs.StrokeRows.{bare_elision_row}
 use Rattle.snippet_strokes.specs.Snippet.{gap_row}
 use Rattle.snippet_strokes.specs.Strokes.{StrokesPainted, begun_rows, column_of, connector_of, connectors_of, corner_by, corner_of, corners_of, labels_of}
 use Rattle.snippet_strokes.specs.Strokes.{stems_of, line_strokes}

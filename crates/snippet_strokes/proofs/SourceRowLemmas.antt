@@ -14,7 +14,7 @@ use Rattle.snippet_style.specs.Cell.{Cell, SPACE, text_cells, unlinked_cell, wri
 use Rattle.snippet_style.proofs.CellLemmas.{length-text_cells, length-written, drop-written, take-written_past, slice_index_or-written_before}
 use Rattle.snippet_style.proofs.CellLemmas.{slice_index_or-written_after}
 use Rattle.snippet_text.specs.Normalized.{is_listed}
-use Rattle.snippet_model.specs.Rows.{IsFreeCell, IsFree}
+use Rattle.snippet_model.specs.FreeRows.{IsFreeCell, IsFree}
 use Rattle.snippet_model.proofs.RowLemmas.{free_drawn}
 use Rattle.snippet_grid.specs.Layout.{Layout}
 use Rattle.snippet_strokes.specs.SourceRows.{IsSourceRow, AddsSourceRow, source_row, with_cells}

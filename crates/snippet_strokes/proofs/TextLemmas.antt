@@ -3,7 +3,7 @@ use Rattle.std.proofs.Common.{◌≡◌, ◌==◌, true, false, not, ap, ◌∙�
 use Rattle.std.proofs.Common.{IsUtf8}
 use Rattle.snippet_parts.specs.declared.entries.LineAnnotation.{LineAnnotation}
 use Rattle.snippet_text.proofs.NormLemmas.{list_any-norm}
-use Rattle.snippet_labels.specs.Entries.{label_chars, label_text, shifted}
+use Rattle.snippet_labels.specs.PlacedEntries.{label_chars, label_text, shifted}
 use Rattle.std.specs.Str.{chars}
 use Rattle.std.proofs.lemmas.Bool.Decides.{nat_tests}
 use Rattle.std.proofs.lemmas.List.{nil_from_length}

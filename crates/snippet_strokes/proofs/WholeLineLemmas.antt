@@ -14,13 +14,13 @@ use Rattle.snippet_style.specs.Glyphs.{placeholder_of}
 use Rattle.snippet_style.specs.Cell.{Cell}
 use Rattle.snippet_grid.specs.Layout.{Layout}
 use Rattle.snippet_strokes.specs.EntryMarks.{are_plain, is_single, wide_entries}
-use Rattle.snippet_labels.specs.Entries.{label_text, shifted}
+use Rattle.snippet_labels.specs.PlacedEntries.{label_text, shifted}
 use Rattle.snippet_strokes.specs.Labels.{IsLabelledAtEnd}
 use Rattle.snippet_strokes.proofs.LabelPlaces.{LabelsStand-none}
 use Rattle.std.proofs.lemmas.List.Elements.{All-cons, All-head, All-nil, All-tail}
 use Rattle.snippet_strokes.specs.Bars.{DrawsBars, is_beside, is_whole_line}
 use Rattle.snippet_labels.specs.Positions.{is_start_part}
-use Rattle.snippet_strokes.specs.Rows.{AddsStrokes, AreStrokes, HasNoBars, IsBeside}
+use Rattle.snippet_strokes.specs.StrokeRows.{AddsStrokes, AreStrokes, HasNoBars, IsBeside}
 use Rattle.snippet_strokes.proofs.BarLemmas.{AddsStrokes-drawn}
 
 -- an entry that is drawn by bars alone isn't a whole span

@@ -8,9 +8,9 @@ use Rattle.snippet_style.specs.Glyphs.{strokes_of}
 use Rattle.snippet_grid.specs.Grid.{cell_at, row_at}
 use Rattle.snippet_style.specs.Cell.{Cell}
 use Rattle.snippet_grid.specs.Layout.{Layout, inner_cell}
-use Rattle.snippet_model.specs.Rows.{IsFreeCell}
+use Rattle.snippet_model.specs.FreeRows.{IsFreeCell}
 use Rattle.snippet_labels.specs.declared.positions.PlacedEntry.{PlacedEntry}
-use Rattle.snippet_labels.specs.Entries.{HasPlace}
+use Rattle.snippet_labels.specs.PlacedEntries.{HasPlace}
 use Rattle.snippet_strokes.specs.EntryMarks.{HasBarCell, IsBarCell, has_mark_role}
 use Rattle.snippet_style.specs.Bounds.{AreRows}
 use Rattle.snippet_model.specs.AnnotationKind.{is_primary}

@@ -14,7 +14,7 @@ use Rattle.snippet_style.specs.Cell.{Cell}
 use Rattle.snippet_style.specs.declared.glyphs.DecorStyle.{DecorStyle}
 use Rattle.snippet_style.specs.declared.role.ElementStyle.{ElementStyle}
 use Rattle.snippet_style.specs.declared.role.ElementStyle.TheVariants.{UnderlinePrimary, UnderlineSecondary}
-use Rattle.snippet_labels.specs.Entries.{entry_width}
+use Rattle.snippet_labels.specs.PlacedEntries.{entry_width}
 
 -- the entry covers this column
 abbrev pub EntryCovers : LineAnnotation → ℕ → Type 0

@@ -10,7 +10,7 @@ use Rattle.snippet_parts.specs.Entries.{is_bar}
 use Rattle.snippet_parts.specs.declared.entries.LineAnnotation.{LineAnnotation}
 use Rattle.snippet_grid.specs.Layout.{Layout, code_cell}
 use Rattle.snippet_strokes.specs.EntryMarks.{has_mark_role}
-use Rattle.snippet_labels.specs.Entries.{label_role, label_text}
+use Rattle.snippet_labels.specs.PlacedEntries.{label_role, label_text}
 use Rattle.snippet_labels.specs.Positions.{is_start_part}
 
 -- where the label of an entry begins: in which row of a line's strokes, that of the marks first, and in which cell of it

@@ -7,7 +7,7 @@ pub mod Labels
 pub mod LineRows
 pub mod Painting
 pub mod Reach
-pub mod Rows
+pub mod StrokeRows
 pub mod Snippet
 pub mod SourceRows
 pub mod Strokes

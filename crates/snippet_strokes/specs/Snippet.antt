@@ -12,7 +12,7 @@ use Rattle.snippet_style.specs.declared.role.ElementStyle.TheVariants.{Quotation
 use Rattle.snippet_grid.specs.Print.{row_text}
 use Rattle.snippet_text.specs.Normalized.{norm}
 use Rattle.snippet_text.specs.Width.{width_of}
-use Rattle.snippet_labels.specs.Entries.{is_end_part, shifted}
+use Rattle.snippet_labels.specs.PlacedEntries.{is_end_part, shifted}
 use Rattle.snippet_strokes.specs.EntryMarks.{wide_entries}
 use Rattle.snippet_strokes.specs.declared.bars.OpenBar.{OpenBar}
 use Rattle.snippet_strokes.specs.declared.bars.BarStroke.TheVariants.{Dotted}
@@ -20,9 +20,9 @@ use Rattle.snippet_strokes.specs.Bars.{open_below, with_bars}
 use Rattle.snippet_strokes.specs.LineRows.{AreLineRows}
 use Rattle.snippet_lines.specs.declared.number.LineNumbers.{LineNumbers}
 use Rattle.snippet_lines.specs.Number.{shown_number}
-use Rattle.snippet_model.specs.Rows.{HasNoNumber, IsFree}
+use Rattle.snippet_model.specs.FreeRows.{HasNoNumber, IsFree}
 use Rattle.snippet_strokes.specs.SourceRows.{IsSourceRow, window_cells}
-use Rattle.snippet_strokes.specs.Rows.{IsBeside, IsElisionRow, IsHighlighted, AreStrokes, bare_elision_row}
+use Rattle.snippet_strokes.specs.StrokeRows.{IsBeside, IsElisionRow, IsHighlighted, AreStrokes, bare_elision_row}
 
 -- the rows show this line: the first its number and the window of its source, normalised, with what its entries highlight
 -- (all of the line, if lines aren't cut on the left and the room holds it), with bars beside it, and cut where entries are

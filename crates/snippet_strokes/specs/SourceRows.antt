@@ -10,7 +10,7 @@ use Rattle.snippet_style.specs.Glyphs.{separator_of, placeholder_of}
 use Rattle.snippet_style.specs.Separators.{closing_row, separator_row}
 use Rattle.snippet_style.specs.Cell.{Cell, SPACE, text_cells, written, unlinked_cell}
 use Rattle.snippet_grid.specs.Layout.{Layout, separator_cell}
-use Rattle.snippet_model.specs.Rows.{IsFree}
+use Rattle.snippet_model.specs.FreeRows.{IsFree}
 
 -- a row of strokes before any stroke is drawn: the closing row where the window closes with it, else the separator row
 abbrev pub bare_row : DecorStyle → ℕ → Bool → List Cell

@@ -10,7 +10,7 @@ use Rattle.snippet_parts.specs.declared.entries.LineAnnotationType.TheVariants.{
 use Rattle.snippet_model.specs.AnnotationKind.{is_primary}
 use Rattle.snippet_grid.specs.Layout.{Layout, bar_cell, code_cell, inner_cell}
 use Rattle.snippet_labels.specs.declared.positions.PlacedEntry.{PlacedEntry}
-use Rattle.snippet_labels.specs.Entries.{label_role, label_text}
+use Rattle.snippet_labels.specs.PlacedEntries.{label_role, label_text}
 use Rattle.snippet_strokes.specs.EntryMarks.{wide_entries}
 use Rattle.snippet_parts.specs.declared.entries.LineAnnotation.{LineAnnotation}
 use Rattle.snippet_style.specs.Cell.{Cell}
@@ -19,7 +19,7 @@ use Rattle.snippet_strokes.specs.Drawing.{foot_glyph, row_count}
 use Rattle.snippet_strokes.specs.Painting.{painting_order, marks_of, stroke_role}
 use Rattle.snippet_labels.specs.Positions.{ArePlaced, has_label, has_stem, label_place, placed_of}
 use Rattle.snippet_strokes.specs.Cuts.{cut_row, cuts_of, overlapped}
-use Rattle.snippet_strokes.specs.Rows.{CutsRows}
+use Rattle.snippet_strokes.specs.StrokeRows.{CutsRows}
 use Rattle.snippet_strokes.specs.SourceRows.{bare_row}
 
 -- ---- labels

@@ -8,7 +8,7 @@ ghost use Rattle.snippet_style.specs.Cell.{text_cells};
 ghost use Rattle.snippet_style.specs.declared.role.ElementStyle.TheVariants.{LineNumber};
 ghost use Rattle.snippet_strokes.specs.Cuts as spec;
 ghost use Rattle.snippet_strokes.specs.Cuts.{is_wide_at};
-ghost use Rattle.snippet_labels.specs.Entries.{HasPlace};
+ghost use Rattle.snippet_labels.specs.PlacedEntries.{HasPlace};
 ghost use Rattle.snippet_labels.specs.Positions.{do_overlap};
 ghost use Rattle.snippet_style.specs.Bounds.{AreRows, HasNext, IsCount};
 

@@ -1,7 +1,7 @@
 //! The rows that stand for lines that aren't shown.
 ghost use Rattle.std.specs.Prelude.{◌≡◌, ◌+◌, ◌^◌, ◌<◌, ◌≤◌, ◌++◌, ◌∷◌, [], All, OnOk};
 ghost use Rattle.snippet_strokes.specs.Bars.{HasBarRoom};
-ghost use Rattle.snippet_strokes.specs.Rows.{bare_elision_row};
+ghost use Rattle.snippet_strokes.specs.StrokeRows.{bare_elision_row};
 ghost use Rattle.snippet_strokes.specs.Snippet.{AddsElision, AddsGap};
 ghost use Rattle.snippet_parts.specs.ShownLines.{infos_of};
 ghost use Rattle.snippet_grid.specs.Layout.{inner_cell};

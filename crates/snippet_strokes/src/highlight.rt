@@ -1,8 +1,8 @@
 //! The parts of the source that are coloured as their marks are.
 ghost use Rattle.std.specs.Prelude.{◌+◌, ◌≡◌, OnOk, filter, length, not};
-ghost use Rattle.snippet_labels.specs.Entries as spec;
+ghost use Rattle.snippet_labels.specs.PlacedEntries as spec;
 ghost use Rattle.snippet_grid.specs.Grid.{changed_within, row_at};
-ghost use Rattle.snippet_strokes.specs.Rows.{Restyled, highlighted_row};
+ghost use Rattle.snippet_strokes.specs.StrokeRows.{Restyled, highlighted_row};
 ghost use Rattle.snippet_style.specs.Bounds.{IsRowEnd, IsWindowColumn};
 
 use crate::roles::is_primary;

@@ -1,6 +1,6 @@
 //! The labels of marks.
 ghost use Rattle.std.specs.Prelude.{◌≡◌, All, OnOk, length};
-ghost use Rattle.snippet_labels.specs.Entries.{HasPlace, label_text};
+ghost use Rattle.snippet_labels.specs.PlacedEntries.{HasPlace, label_text};
 ghost use Rattle.snippet_strokes.specs.Drawing.{HasRows};
 ghost use Rattle.snippet_labels.specs.Positions as spec;
 ghost use Rattle.snippet_labels.specs.Positions.{HasItsLabel};

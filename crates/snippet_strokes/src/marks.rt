@@ -1,6 +1,6 @@
 //! The marks below a line of the source.
 ghost use Rattle.std.specs.Prelude.{◌≡◌, ◌==◌, ◌&&◌, All, OnOk};
-ghost use Rattle.snippet_labels.specs.Entries as spec;
+ghost use Rattle.snippet_labels.specs.PlacedEntries as spec;
 ghost use Rattle.snippet_strokes.specs.Painting.{first_glyph, mark_end, painting_order, mark_of, marks_of};
 ghost use Rattle.snippet_strokes.specs.Writes.{painted};
 ghost use Rattle.snippet_style.specs.Bounds.{HasNext, IsColumn};

@@ -1,7 +1,7 @@
 //! The roles of the strokes and labels of a kind.
 ghost use Rattle.std.specs.Prelude.{◌≡◌};
 ghost use Rattle.snippet_model.specs.AnnotationKind as kinds;
-ghost use Rattle.snippet_labels.specs.Entries as spec;
+ghost use Rattle.snippet_labels.specs.PlacedEntries as spec;
 
 use snippet_model::AnnotationKind;
 use snippet_style::ElementStyle;

@@ -12,7 +12,7 @@ ghost use Rattle.snippet_strokes.specs.SourceRows.{with_cells};
 ghost use Rattle.snippet_text.specs.Normalized.{is_listed, norm};
 ghost use Rattle.snippet_text.specs.Width.{width_of};
 ghost use Rattle.snippet_grid.specs.Layout.{separator_cell};
-ghost use Rattle.snippet_text.specs.Bounds.{TextFits};
+ghost use Rattle.snippet_text.specs.TextBounds.{TextFits};
 ghost use Rattle.snippet_style.specs.Bounds.{FitsRow, HasNext, IsTextWidth, IsWindowColumn, IsWindowEnd};
 
 use crate::row::begin_row;

@@ -1,19 +1,19 @@
 //! All that stands below the source row of a line, and the bars beside it of spans that begin or end there.
 ghost use Rattle.std.specs.Prelude.{◌≡◌, ◌+◌, ◌<◌, ◌≤◌, ◌++◌, ◌∷◌, [], if◌then◌else◌, All, IfSome, List, OnOk};
 ghost use Rattle.std.specs.Prelude.{false, length, map, true};
-ghost use Rattle.snippet_labels.specs.Entries.{HasPlace, label_text, shifted};
+ghost use Rattle.snippet_labels.specs.PlacedEntries.{HasPlace, label_text, shifted};
 ghost use Rattle.snippet_labels.specs.Positions.{HasItsLabel};
 ghost use Rattle.snippet_strokes.specs.EntryMarks.{HasBarCell};
 ghost use Rattle.snippet_parts.specs.Entries.{is_bar};
 ghost use Rattle.snippet_style.specs.Cell.{Cell};
 ghost use Rattle.snippet_strokes.specs.Drawing as spec;
 ghost use Rattle.snippet_strokes.specs.Drawing.{AreEnough};
-ghost use Rattle.snippet_strokes.specs.Rows.{AddsStrokes, HasNoBars};
+ghost use Rattle.snippet_strokes.specs.StrokeRows.{AddsStrokes, HasNoBars};
 ghost use Rattle.snippet_strokes.specs.Strokes.{AddsPainted, strokes_under_marks};
 ghost use Rattle.snippet_strokes.specs.Writes.{painted};
 ghost use Rattle.snippet_style.specs.Separators.{closing_row};
 ghost use Rattle.snippet_grid.specs.Layout.{inner_cell};
-ghost use Rattle.snippet_text.specs.Bounds.{TextFits};
+ghost use Rattle.snippet_text.specs.TextBounds.{TextFits};
 ghost use Rattle.snippet_style.specs.Bounds.{FitsRow, IsCount};
 
 use crate::connectors::draw_connectors;

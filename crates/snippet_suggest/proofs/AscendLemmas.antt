@@ -1,6 +1,6 @@
 -- Numbers that ascend: in pairs, between their bounds, and counted from elsewhere.
 use Rattle.std.proofs.Common.{◌≡◌, ℕ, zero, suc, ◌+◌, ◌<◌, ◌≤◌, List, [], ◌∷◌, Contains, length, map, get_or, subst, arith}
-use Rattle.snippet_suggest.specs.Shown.{AreRising}
+use Rattle.snippet_suggest.specs.SuggestedLines.{AreRising}
 
 -- each of them lies between their bounds
 pub rising-at : (from to : ℕ) (ks : List ℕ) (i d : ℕ) → AreRising from to ks → i < length ks → (from ≤ get_or ks i d) × (get_or ks i d < to)

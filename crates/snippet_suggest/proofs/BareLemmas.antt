@@ -18,11 +18,11 @@ use Rattle.snippet_style.specs.Cell.{Cell, SPACE, text_cells, written}
 use Rattle.snippet_style.proofs.CellLemmas.{All-text_cells, length-chars_le, length-text_cells, slice_index_or-written_after, slice_index_or-written_before}
 use Rattle.snippet_style.proofs.CellLemmas.{slice_index_or-written_inside}
 use Rattle.snippet_text.specs.Normalized.{is_listed}
-use Rattle.snippet_model.specs.Rows.{IsFreeCell}
+use Rattle.snippet_model.specs.FreeRows.{IsFreeCell}
 use Rattle.snippet_style.specs.declared.glyphs.SuggestionGlyph.{SuggestionGlyph}
 use Rattle.snippet_style.specs.Glyphs.{suggestion_glyph_of}
-use Rattle.snippet_suggest.specs.Glyphs.{is_sign}
-use Rattle.snippet_suggest.specs.Rows.{AddsRow, HasLeft, IsBareRow, IsMarkOrSpace, IsEdgeRow, beside_gutter, gap_left, is_stroke}
+use Rattle.snippet_suggest.specs.SuggestionGlyphs.{is_sign}
+use Rattle.snippet_suggest.specs.SuggestionRows.{AddsRow, HasLeft, IsBareRow, IsMarkOrSpace, IsEdgeRow, beside_gutter, gap_left, is_stroke}
 use Rattle.snippet_suggest.proofs.GlyphLemmas.{glyph_short, glyph_strokes, glyph_unlisted}
 use Rattle.snippet_suggest.proofs.RowLemmas.{All-from_none, begun_by, ch_at, each_cell, each_written, free_drawn, free_led, free_written, row_text-text_cells}
 

@@ -15,9 +15,9 @@ use Rattle.snippet_lines.specs.Lines.{newline_count, start_of}
 use Rattle.snippet_lines.specs.Place.{end_location, line_of, location_of, locations_of, place_of, start_location, steps_after_text}
 use Rattle.snippet_lines.specs.declared.number.LineNumbers.TheVariants.{Shown}
 use Rattle.snippet_splice.specs.Edits.{trimmed_edit}
-use Rattle.snippet_splice.specs.Shown.{shown_text}
+use Rattle.snippet_splice.specs.ShownText.{shown_text}
 use Rattle.snippet_splice.specs.Spliced.{last_line_reached}
-use Rattle.snippet_splice.specs.Stretches.{new_stretches, replaced_stretches}
+use Rattle.snippet_splice.specs.EditStretches.{new_stretches, replaced_stretches}
 use Rattle.snippet_splice.specs.Trim.{kept_before, sandwich}
 use Rattle.snippet_suggest.specs.declared.layout.SuggestionLayout.{SuggestionLayout}
 use Rattle.snippet_suggest.specs.declared.layout.SuggestionStart.TheVariants.{Opening}

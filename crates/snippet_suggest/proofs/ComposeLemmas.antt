@@ -8,8 +8,8 @@ use Rattle.snippet_style.specs.Cell.{Cell}
 use Rattle.snippet_suggest.specs.declared.layout.SuggestionLayout.{SuggestionLayout}
 use Rattle.snippet_suggest.specs.declared.shown.SuggestionLine.{SuggestionLine}
 use Rattle.snippet_suggest.specs.declared.shown.SuggestionLine.TheVariants.{Gap, Line}
-use Rattle.snippet_suggest.specs.Order.{Offers, SuggestionRow, number_after, row_of_shown}
-use Rattle.snippet_suggest.specs.Rows.{AddsRow, AddsRows, AddsShown, IsLineRow, IsRepainted, IsShownRow, NumberFits, Shows}
+use Rattle.snippet_suggest.specs.RowOrder.{Offers, SuggestionRow, number_after, row_of_shown}
+use Rattle.snippet_suggest.specs.SuggestionRows.{AddsRow, AddsRows, AddsShown, IsLineRow, IsRepainted, IsShownRow, NumberFits, Shows}
 use Rattle.snippet_suggest.proofs.RepaintLemmas.{line_repainted}
 
 -- two lists, and one more on each side

@@ -4,7 +4,7 @@ use Rattle.std.proofs.lemmas.List.{append-nil, take_more}
 use Rattle.snippet_style.specs.Cell.{Cell}
 use Rattle.snippet_suggest.specs.declared.layout.SuggestionLayout.{SuggestionLayout}
 use Rattle.snippet_suggest.specs.declared.shown.SuggestionLine.{SuggestionLine}
-use Rattle.snippet_suggest.specs.Rows.{AddsRow, AddsShown, IsShownRow}
+use Rattle.snippet_suggest.specs.SuggestionRows.{AddsRow, AddsShown, IsShownRow}
 pub use Rattle.snippet_model.proofs.ZipLemmas.{AllZip-last as zip_push}
 
 -- nothing is drawn yet, and one row more is

@@ -9,13 +9,13 @@ use Rattle.snippet_model.specs.declared.snippet.Patch.{Patch}
 use Rattle.snippet_lines.specs.Lines.{newline_count, start_of}
 use Rattle.snippet_lines.specs.Place.{line_of}
 use Rattle.snippet_splice.specs.Edits.{trimmed_edit}
-use Rattle.snippet_splice.specs.Shown.{shown_text}
+use Rattle.snippet_splice.specs.ShownText.{shown_text}
 use Rattle.snippet_splice.specs.Spliced.{last_line_reached}
 use Rattle.snippet_splice.specs.Trim.{kept_before, sandwich}
 use Rattle.snippet_suggest.specs.declared.kind.DisplaySuggestion.{DisplaySuggestion}
 use Rattle.snippet_suggest.specs.declared.kind.DisplaySuggestion.TheVariants.{Add, Diff, Plain, Underline}
 use Rattle.snippet_suggest.specs.declared.layout.SuggestionStart.TheVariants.{Opening}
-use Rattle.snippet_suggest.specs.Order.{Begins, Empty, Offers, Removes, Skips, SuggestionRow, rows_of_suggestion}
+use Rattle.snippet_suggest.specs.RowOrder.{Begins, Empty, Offers, Removes, Skips, SuggestionRow, rows_of_suggestion}
 use Rattle.snippet_suggest.specs.Given.{counted_line, given_lines, offered_lines, removed_lines, shown_kind}
 
 -- a patch that puts a text in place of the bytes from one to another, and a snippet of such patches, whose first line has number 1

@@ -9,8 +9,8 @@ use Rattle.snippet_style.specs.declared.glyphs.SuggestionGlyph.{SuggestionGlyph}
 use Rattle.snippet_style.specs.declared.glyphs.SuggestionGlyph.TheVariants.{Opening, Next, Leading, Closing, Kept, Alone, Changed, Added}
 use Rattle.snippet_text.specs.Normalized.{is_listed}
 use Rattle.snippet_style.specs.Glyphs.{suggestion_glyph_of}
-use Rattle.snippet_suggest.specs.Glyphs.{is_sign}
-use Rattle.snippet_suggest.specs.Rows.{IsSign, is_stroke}
+use Rattle.snippet_suggest.specs.SuggestionGlyphs.{is_sign}
+use Rattle.snippet_suggest.specs.SuggestionRows.{IsSign, is_stroke}
 
 -- the characters of the bytes that the code writes for `- `
 pub chars-minus : chars (45 ∷ 32 ∷ []) ≡ codes "- "

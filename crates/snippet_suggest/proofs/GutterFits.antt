@@ -18,7 +18,7 @@ use Rattle.snippet_lines.proofs.LinesLemmas.{length-source_lines}
 use Rattle.snippet_lines.proofs.NumberLemmas.{length-shown_number, number_width_monotone}
 use Rattle.snippet_lines.proofs.PlaceLemmas.{line_of-mono, line_of-within}
 use Rattle.snippet_splice.specs.Edits.{Edit, edit_of, in_order, trimmed_edit}
-use Rattle.snippet_splice.specs.Shown.{first_start}
+use Rattle.snippet_splice.specs.ShownText.{first_start}
 use Rattle.snippet_splice.proofs.EditLemmas.{trimmed_edit-shrunk}
 use Rattle.snippet_suggest.specs.declared.kind.DisplaySuggestion.{DisplaySuggestion}
 use Rattle.snippet_suggest.specs.declared.kind.DisplaySuggestion.TheVariants.{Underline, Diff, Plain, Add}
@@ -26,9 +26,9 @@ use Rattle.snippet_suggest.specs.declared.layout.SuggestionLayout.{SuggestionLay
 use Rattle.snippet_suggest.specs.declared.shown.SuggestionLine.TheVariants.{Line}
 use Rattle.snippet_suggest.specs.Given.{counted_folded, counted_line, edits_of, first_end, first_given, given_lines, given_text, shown_kind, trimmed_of}
 use Rattle.snippet_suggest.specs.Kind.{adds_lines, is_only_replacement, kind_of, takes_away}
-use Rattle.snippet_suggest.specs.Prepared.{IsSuggestible}
-use Rattle.snippet_suggest.specs.Order.{number_after}
-use Rattle.snippet_suggest.specs.Rows.{HasGutter, NumberFits}
+use Rattle.snippet_suggest.specs.PreparedSuggestion.{IsSuggestible}
+use Rattle.snippet_suggest.specs.RowOrder.{number_after}
+use Rattle.snippet_suggest.specs.SuggestionRows.{HasGutter, NumberFits}
 use Rattle.snippet_suggest.proofs.SpanLemmas.{spans_in_order}
 
 -- the test of the kinds, each question answered. Of a kind that gives one line at most the last one is never counted

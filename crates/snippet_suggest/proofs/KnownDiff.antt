@@ -11,15 +11,15 @@ use Rattle.snippet_parts.specs.declared.source_map.LineInfo.{LineInfo}
 use Rattle.snippet_parts.specs.LineTable.{table_entry, touched_entries}
 use Rattle.snippet_splice.specs.Copied.{end_from}
 use Rattle.snippet_splice.specs.Edits.{Edit, trimmed_edit_of}
-use Rattle.snippet_splice.specs.Shown.{first_start}
+use Rattle.snippet_splice.specs.ShownText.{first_start}
 use Rattle.snippet_suggest.specs.declared.kind.DisplaySuggestion.TheVariants.{Diff}
 use Rattle.snippet_suggest.specs.declared.layout.SuggestionStart.{SuggestionStart}
 use Rattle.snippet_suggest.specs.declared.prepared.PreparedSuggestion.{PreparedSuggestion}
 use Rattle.snippet_suggest.specs.Given.{edits_of, first_given, given_lines, given_ranges, is_left_out, last_reached, last_removed, trimmed_of, texts_at}
 use Rattle.snippet_suggest.specs.Given.{unless_stays}
-use Rattle.snippet_suggest.specs.Order.{Begins, SuggestionRow, changed_rows, counted_from, numbered_at, removed_from, rows_of_suggestion}
-use Rattle.snippet_suggest.specs.Prepared.{IsPrepared}
-use Rattle.snippet_suggest.specs.Shown.{is_touched}
+use Rattle.snippet_suggest.specs.RowOrder.{Begins, SuggestionRow, changed_rows, counted_from, numbered_at, removed_from, rows_of_suggestion}
+use Rattle.snippet_suggest.specs.PreparedSuggestion.{IsPrepared}
+use Rattle.snippet_suggest.specs.SuggestedLines.{is_touched}
 use Rattle.snippet_suggest.proofs.KnownLemmas.{known_apart, known_reached}
 use Rattle.snippet_suggest.proofs.KnownRemoved.{known_replaced, known_replaced_rows, replaced_touched, unless_range}
 use Rattle.snippet_suggest.proofs.OrderLaws.{rows_diff}

@@ -10,9 +10,9 @@ use Rattle.snippet_suggest.specs.declared.kind.DisplaySuggestion.{DisplaySuggest
 use Rattle.snippet_suggest.specs.declared.kind.DisplaySuggestion.TheVariants.{Diff}
 use Rattle.snippet_suggest.specs.declared.shown.SuggestionLine.TheVariants.{Line}
 use Rattle.snippet_suggest.specs.Given.{counted_folded, given_lines, given_text, is_left_out, numbers_of, shown_kind, trimmed_of}
-use Rattle.snippet_suggest.specs.Shown.{is_touched, numbers_shown, shown_run}
+use Rattle.snippet_suggest.specs.SuggestedLines.{is_touched, numbers_shown, shown_run}
 use Rattle.snippet_suggest.proofs.GutterFits.{one_given}
-use Rattle.snippet_suggest.specs.Prepared.{IsPrepared}
+use Rattle.snippet_suggest.specs.PreparedSuggestion.{IsPrepared}
 
 cond_same : (b : Bool) → ◌≡◌ {A = List ℕ} (if b then [] else []) []
 cond_same true = refl

@@ -11,15 +11,15 @@ use Rattle.snippet_parts.specs.declared.source_map.LineInfo.{LineInfo}
 use Rattle.snippet_parts.specs.LineTable.{table_entry, touched_entries}
 use Rattle.snippet_splice.specs.Copied.{end_from}
 use Rattle.snippet_splice.specs.Edits.{in_order, trimmed_edit_of}
-use Rattle.snippet_splice.specs.Shown.{first_start}
+use Rattle.snippet_splice.specs.ShownText.{first_start}
 use Rattle.snippet_suggest.specs.declared.prepared.PreparedSuggestion.{PreparedSuggestion}
 use Rattle.snippet_suggest.specs.declared.kind.DisplaySuggestion.TheVariants.{Diff}
 use Rattle.snippet_suggest.specs.Given.{edits_of, emptied_lines, first_end, first_original, first_original_end, first_given, given_lines, last_reached}
 use Rattle.snippet_suggest.specs.Given.{last_removed, lines_touched, removed_lines, removed_of, replaced_lines, shown_kind, texts_at, texts_of_source}
 use Rattle.snippet_suggest.specs.Given.{trimmed_of, unless_stays}
-use Rattle.snippet_suggest.specs.Order.{Removes, SuggestionRow, counted_from, number_after, number_beside, numbered_at, removed_from, removed_row}
-use Rattle.snippet_suggest.specs.Prepared.{IsPrepared}
-use Rattle.snippet_suggest.specs.Shown.{is_touched}
+use Rattle.snippet_suggest.specs.RowOrder.{Removes, SuggestionRow, counted_from, number_after, number_beside, numbered_at, removed_from, removed_row}
+use Rattle.snippet_suggest.specs.PreparedSuggestion.{IsPrepared}
+use Rattle.snippet_suggest.specs.SuggestedLines.{is_touched}
 use Rattle.snippet_suggest.proofs.KnownLemmas.{known_first_end, known_first_start}
 use Rattle.snippet_suggest.proofs.ReachLemmas.{touched_numbered, touched_texts}
 

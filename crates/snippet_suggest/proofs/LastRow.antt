@@ -7,8 +7,8 @@ use Rattle.snippet_style.specs.Cell.{Cell}
 use Rattle.snippet_suggest.specs.declared.layout.SuggestionLayout.{SuggestionLayout}
 use Rattle.snippet_suggest.specs.declared.layout.SuggestionStart.{SuggestionStart}
 use Rattle.snippet_suggest.specs.Given.{first_given, given_lines}
-use Rattle.snippet_suggest.specs.Order.{Empty, Ends, SuggestionRow, rows_of_suggestion}
-use Rattle.snippet_suggest.specs.Rows.{AddsEnd, AddsRow, AddsRows, AddsSuggestion, IsEdgeRow, Shows, beside_gutter}
+use Rattle.snippet_suggest.specs.RowOrder.{Empty, Ends, SuggestionRow, rows_of_suggestion}
+use Rattle.snippet_suggest.specs.SuggestionRows.{AddsEnd, AddsRow, AddsRows, AddsSuggestion, IsEdgeRow, Shows, beside_gutter}
 use Rattle.snippet_suggest.proofs.BareLemmas.{stroke_none}
 
 -- what is added below so many empty rows

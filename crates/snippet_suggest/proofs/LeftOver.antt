@@ -13,7 +13,7 @@ use Rattle.snippet_style.proofs.CellLemmas.{All-text_cells, length-text_cells, s
 use Rattle.snippet_lines.specs.Number.{set_right, shown_number}
 use Rattle.snippet_lines.specs.declared.number.LineNumbers.{LineNumbers}
 use Rattle.snippet_lines.specs.declared.number.LineNumbers.TheVariants.{Shown, Anonymized, Hidden}
-use Rattle.snippet_suggest.specs.Rows.{IsBeforeSign, IsLeftOver, IsMarkOrSpace, is_stroke}
+use Rattle.snippet_suggest.specs.SuggestionRows.{IsBeforeSign, IsLeftOver, IsMarkOrSpace, is_stroke}
 use Rattle.snippet_suggest.proofs.RowLemmas.{each_written, texted}
 
 -- a number holds digits and spaces

@@ -12,8 +12,8 @@ use Rattle.snippet_style.proofs.CellLemmas.{All-text_cells, length-text_cells}
 use Rattle.snippet_text.specs.Normalized.{is_listed}
 use Rattle.snippet_style.specs.declared.glyphs.SuggestionGlyph.{SuggestionGlyph}
 use Rattle.snippet_style.specs.Glyphs.{suggestion_glyph_of}
-use Rattle.snippet_suggest.specs.Glyphs.{is_sign}
-use Rattle.snippet_suggest.specs.Rows.{IsLineRow, IsSign}
+use Rattle.snippet_suggest.specs.SuggestionGlyphs.{is_sign}
+use Rattle.snippet_suggest.specs.SuggestionRows.{IsLineRow, IsSign}
 use Rattle.snippet_suggest.proofs.GlyphLemmas.{glyph_plain, glyph_short, glyph_unlisted, sign_first, sign_second}
 use Rattle.snippet_suggest.proofs.RowLemmas.{All-from_none, begins_texted, each_cell, free_drawn, free_led, free_texted, holds_texted, kept_after, led_ch}
 use Rattle.snippet_suggest.proofs.RowLemmas.{left_after, length-texted_ge, length-texted_le, take_texted, texted}

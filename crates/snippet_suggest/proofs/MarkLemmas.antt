@@ -11,9 +11,9 @@ use Rattle.snippet_style.specs.Cell.{Cell, SPACE, text_cells, unlinked_cell, wri
 use Rattle.snippet_grid.proofs.GridLemmas.{cells_written_last}
 use Rattle.snippet_style.proofs.CellLemmas.{slice_index_or-written_before, slice_index_or-written_after, slice_index_or-written_inside}
 use Rattle.snippet_text.specs.Normalized.{is_listed}
-use Rattle.snippet_model.specs.Rows.{IsFreeCell, IsFree}
+use Rattle.snippet_model.specs.FreeRows.{IsFreeCell, IsFree}
 use Rattle.snippet_style.specs.Glyphs.{changed_mark_of}
-use Rattle.snippet_suggest.specs.Rows.{AddsRow, IsBareRow, IsMarkOrSpace, IsEdgeRow, is_stroke}
+use Rattle.snippet_suggest.specs.SuggestionRows.{AddsRow, IsBareRow, IsMarkOrSpace, IsEdgeRow, is_stroke}
 use Rattle.snippet_suggest.proofs.RowLemmas.{free_written}
 
 -- no mark is listed

@@ -13,7 +13,7 @@ use Rattle.snippet_grid.specs.Grid.{cells_written}
 use Rattle.snippet_grid.proofs.GridLemmas.{cells_written_last}
 use Rattle.snippet_lines.specs.Lines.{Source}
 use Rattle.snippet_splice.specs.Edits.{Edit}
-use Rattle.snippet_splice.specs.Stretches.{capped}
+use Rattle.snippet_splice.specs.EditStretches.{capped}
 use Rattle.snippet_suggest.specs.declared.layout.SuggestionLayout.{SuggestionLayout}
 use Rattle.snippet_suggest.specs.declared.marks.Moves.{Moves}
 use Rattle.snippet_suggest.specs.declared.marks.PatchColumns.{PatchColumns}

@@ -17,7 +17,7 @@ use Rattle.snippet_splice.proofs.SpliceLemmas.{IsShownPart, shown-part}
 use Rattle.snippet_splice.proofs.LineLemmas.{AreFrom-at, shown-lines}
 use Rattle.snippet_suggest.specs.Given.{IsOfferable, edits_of, first_given, given_lines, given_ranges, is_left_out, last_reached, numbers_given, offered_lines}
 use Rattle.snippet_suggest.specs.Given.{shown_kind}
-use Rattle.snippet_suggest.specs.Shown.{AreRising, is_touched, numbers_shown, lines_suggested}
+use Rattle.snippet_suggest.specs.SuggestedLines.{AreRising, is_touched, numbers_shown, lines_suggested}
 use Rattle.snippet_suggest.proofs.AscendLemmas.{rising-moved}
 use Rattle.snippet_suggest.proofs.RisingLemmas.{rising_shown}
 

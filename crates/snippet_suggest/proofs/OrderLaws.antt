@@ -14,9 +14,9 @@ use Rattle.snippet_suggest.specs.declared.shown.SuggestionLine.{SuggestionLine}
 use Rattle.snippet_suggest.specs.declared.shown.SuggestionLine.TheVariants.{Gap, Line}
 use Rattle.snippet_suggest.specs.Given.{counted_folded, emptied_lines, given_lines, given_ranges, given_text, is_left_out, last_reached, numbers_given}
 use Rattle.snippet_suggest.specs.Given.{numbers_of, removed_lines, removed_of, replaced_lines, shown_kind, trimmed_of}
-use Rattle.snippet_suggest.specs.Order.{Begins, Empty, Ends, Offers, Removes, Skips, SuggestionRow, changed_rows, is_diff, line_taken, lines_taken}
-use Rattle.snippet_suggest.specs.Order.{number_offered, numbers_offered, removed_number, removed_row, row_of_shown, rows_of_suggestion, rows_where}
-use Rattle.snippet_suggest.specs.Shown.{is_touched, numbers_shown, lines_suggested}
+use Rattle.snippet_suggest.specs.RowOrder.{Begins, Empty, Ends, Offers, Removes, Skips, SuggestionRow, changed_rows, is_diff, line_taken, lines_taken}
+use Rattle.snippet_suggest.specs.RowOrder.{number_offered, numbers_offered, removed_number, removed_row, row_of_shown, rows_of_suggestion, rows_where}
+use Rattle.snippet_suggest.specs.SuggestedLines.{is_touched, numbers_shown, lines_suggested}
 use Rattle.snippet_suggest.proofs.GutterFits.{one_given}
 use Rattle.snippet_suggest.proofs.KnownNumbers.{diff_numbers, none_numbers}
 

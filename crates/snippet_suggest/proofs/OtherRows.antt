@@ -7,8 +7,8 @@ use Rattle.snippet_style.specs.Cell.{Cell}
 use Rattle.snippet_parts.specs.declared.source_map.LineInfo.{LineInfo}
 use Rattle.snippet_suggest.specs.declared.layout.SuggestionLayout.{SuggestionLayout}
 use Rattle.snippet_suggest.specs.Given.{texts_at, unless_stays}
-use Rattle.snippet_suggest.specs.Order.{Removes, SuggestionRow, removed_from}
-use Rattle.snippet_suggest.specs.Rows.{AddsRemoved, AddsRow, AddsRows, IsRepainted, IsRowOfRemoved, Shows}
+use Rattle.snippet_suggest.specs.RowOrder.{Removes, SuggestionRow, removed_from}
+use Rattle.snippet_suggest.specs.SuggestionRows.{AddsRemoved, AddsRow, AddsRows, IsRepainted, IsRowOfRemoved, Shows}
 use Rattle.snippet_suggest.proofs.DrawnLemmas.{zip_push}
 use Rattle.snippet_suggest.proofs.RepaintLemmas.{shows_repainted}
 

@@ -11,8 +11,8 @@ use Rattle.snippet_style.specs.declared.glyphs.DecorStyle.{DecorStyle}
 use Rattle.snippet_grid.specs.Grid.{changed_within, cells_restyled, restyled}
 use Rattle.snippet_style.specs.Cell.{Cell, SPACE}
 use Rattle.snippet_grid.specs.Print.{row_text}
-use Rattle.snippet_model.specs.Rows.{IsFree}
-use Rattle.snippet_suggest.specs.Rows.{without_role, IsRepainted, IsLineRow, IsSign, AddsRow}
+use Rattle.snippet_model.specs.FreeRows.{IsFree}
+use Rattle.snippet_suggest.specs.SuggestionRows.{without_role, IsRepainted, IsLineRow, IsSign, AddsRow}
 use Rattle.snippet_suggest.proofs.RowLemmas.{ch_at}
 
 -- a cell in another role

@@ -24,7 +24,7 @@ use Rattle.snippet_suggest.specs.declared.kind.DisplaySuggestion.{DisplaySuggest
 use Rattle.snippet_suggest.specs.declared.kind.DisplaySuggestion.TheVariants.{Diff}
 use Rattle.snippet_suggest.specs.declared.layout.SuggestionStart.TheVariants.{Next, Opening, Path}
 use Rattle.snippet_suggest.specs.Cells.{begin_cells, end_cells, gap_cells, line_cells, offered_cells, put, removed_cells, sign_of, with_stretches}
-use Rattle.snippet_suggest.specs.Rows.{end_glyph}
+use Rattle.snippet_suggest.specs.SuggestionRows.{end_glyph}
 use Rattle.snippet_suggest.proofs.TailLemmas.{skipped_written}
 use Rattle.snippet_style.specs.Glyphs.{suggestion_glyph_of, suggestion_role_of}
 

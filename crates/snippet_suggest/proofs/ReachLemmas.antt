@@ -12,10 +12,10 @@ use Rattle.snippet_parts.specs.LineTable.{LineEntry, entry_at, table_entry, touc
 use Rattle.snippet_splice.specs.declared.patches.TrimmedPatch.{TrimmedPatch}
 use Rattle.snippet_splice.specs.Copied.{end_from}
 use Rattle.snippet_splice.specs.Edits.{AreApart, Edit, trimmed_edit_of, trimmed_edits}
-use Rattle.snippet_splice.specs.Shown.{first_start}
+use Rattle.snippet_splice.specs.ShownText.{first_start}
 use Rattle.snippet_splice.specs.Spliced.{last_line_reached}
 use Rattle.snippet_suggest.specs.Given.{last_removed, lines_touched, texts_at}
-use Rattle.snippet_suggest.specs.Order.{numbered_at}
+use Rattle.snippet_suggest.specs.RowOrder.{numbered_at}
 
 -- ---- the end of the last edit
 

@@ -7,8 +7,8 @@ use Rattle.snippet_style.specs.Cell.{Cell}
 use Rattle.snippet_parts.specs.declared.source_map.LineInfo.{LineInfo}
 use Rattle.snippet_suggest.specs.declared.layout.SuggestionLayout.{SuggestionLayout}
 use Rattle.snippet_suggest.specs.Given.{texts_at}
-use Rattle.snippet_suggest.specs.Order.{counted_from, number_after, numbered_at, removed_from}
-use Rattle.snippet_suggest.specs.Rows.{AddsRemoved, AddsRow, AddsRows, IsRowOfRemoved, IsTail, Shows}
+use Rattle.snippet_suggest.specs.RowOrder.{counted_from, number_after, numbered_at, removed_from}
+use Rattle.snippet_suggest.specs.SuggestionRows.{AddsRemoved, AddsRow, AddsRows, IsRowOfRemoved, IsTail, Shows}
 use Rattle.snippet_suggest.proofs.DrawnLemmas.{zip_push}
 
 -- rows of lines that are removed are rows of a suggestion

@@ -8,14 +8,14 @@ use Rattle.snippet_style.specs.declared.glyphs.DecorStyle.{DecorStyle}
 use Rattle.std.specs.Char.{is_ascii_alphanumeric}
 use Rattle.snippet_style.specs.Cell.{Cell, SPACE}
 use Rattle.snippet_grid.specs.Print.{row_text}
-use Rattle.snippet_model.specs.Rows.{IsFree}
+use Rattle.snippet_model.specs.FreeRows.{IsFree}
 use Rattle.snippet_lines.specs.Number.{shown_number}
 use Rattle.snippet_lines.specs.declared.number.LineNumbers.{LineNumbers}
 use Rattle.snippet_suggest.specs.declared.layout.SuggestionLayout.{SuggestionLayout}
-use Rattle.snippet_suggest.specs.Order.{Begins, Empty, Ends, Offers, Removes, Skips, SuggestionRow, number_after}
-use Rattle.snippet_suggest.specs.Rows.{without_role, AddsRow, IsBareRow, IsBeforeSign, IsLeftOver, IsLineRow, IsRemovedRow, IsRepainted}
-use Rattle.snippet_suggest.specs.Rows.{IsRowOfRemoved}
-use Rattle.snippet_suggest.specs.Rows.{IsMarkOrSpace, IsSign, IsEdgeRow, Shows, begin_glyph, beside_gutter, end_glyph, gap_left, is_stroke}
+use Rattle.snippet_suggest.specs.RowOrder.{Begins, Empty, Ends, Offers, Removes, Skips, SuggestionRow, number_after}
+use Rattle.snippet_suggest.specs.SuggestionRows.{without_role, AddsRow, IsBareRow, IsBeforeSign, IsLeftOver, IsLineRow, IsRemovedRow, IsRepainted}
+use Rattle.snippet_suggest.specs.SuggestionRows.{IsRowOfRemoved}
+use Rattle.snippet_suggest.specs.SuggestionRows.{IsMarkOrSpace, IsSign, IsEdgeRow, Shows, begin_glyph, beside_gutter, end_glyph, gap_left, is_stroke}
 
 -- two rows hold the same characters and links
 abbrev pub AreSame : List Cell → List Cell → Type 0

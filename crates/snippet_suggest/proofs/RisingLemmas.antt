@@ -8,8 +8,8 @@ use Rattle.std.proofs.lemmas.List.{append-nil}
 use Rattle.snippet_suggest.specs.declared.layout.SuggestionLayout.{SuggestionLayout}
 use Rattle.snippet_suggest.specs.declared.shown.SuggestionLine.{SuggestionLine}
 use Rattle.snippet_suggest.specs.declared.shown.SuggestionLine.TheVariants.{Line, Gap}
-use Rattle.snippet_suggest.specs.Rows.{NumberFits}
-use Rattle.snippet_suggest.specs.Shown.{lines_from, shown_run, shown_from, lines_suggested, number_of, numbers_shown, AreRising}
+use Rattle.snippet_suggest.specs.SuggestionRows.{NumberFits}
+use Rattle.snippet_suggest.specs.SuggestedLines.{lines_from, shown_run, shown_from, lines_suggested, number_of, numbers_shown, AreRising}
 
 -- the bounds of ascending numbers, and two such lists joined
 pub rising_bound : (from to : ℕ) (ks : List ℕ) → AreRising from to ks → from ≤ to

@@ -10,8 +10,8 @@ use Rattle.snippet_style.specs.Cell.{Cell, SPACE, text_cells, written}
 use Rattle.snippet_grid.specs.Print.{row_text}
 use Rattle.snippet_style.proofs.CellLemmas.{length-text_cells, length-written, drop-written, slice_index_or-written_before, slice_index_or-written_after}
 use Rattle.snippet_style.proofs.CellLemmas.{slice_index_or-written_inside}
-use Rattle.snippet_model.specs.Rows.{IsFree}
-use Rattle.snippet_suggest.specs.Rows.{HoldsText}
+use Rattle.snippet_model.specs.FreeRows.{IsFree}
+use Rattle.snippet_suggest.specs.SuggestionRows.{HoldsText}
 pub use Rattle.snippet_style.proofs.RowLemmas.{written-nil, led_before}
 pub use Rattle.snippet_grid.proofs.RowLemmas.{begun_by, texted, text_put, row_text-text_cells}
 pub use Rattle.snippet_model.proofs.RowLemmas.{each_fails as All-from_none, free_drawn, free_written, free_led}

@@ -15,7 +15,7 @@ use Rattle.snippet_splice.specs.declared.stretches.SubstitutionHighlight.{Substi
 use Rattle.snippet_suggest.specs.declared.kind.DisplaySuggestion.TheVariants.{Diff}
 use Rattle.snippet_suggest.specs.Given.{is_left_out, last_removed, unless_stays}
 use Rattle.snippet_suggest.specs.Kind.{is_blank}
-use Rattle.snippet_suggest.specs.Order.{number_after, numbered_at}
+use Rattle.snippet_suggest.specs.RowOrder.{number_after, numbered_at}
 use Rattle.std.proofs.lemmas.List.{append-nil, drop_all, drop_more, get_or-map as mapped, length-map, length-take, map-append, take_all, take_more}
 use Rattle.snippet_suggest.proofs.StretchRows.{with_none}
 

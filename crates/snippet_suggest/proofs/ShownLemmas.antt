@@ -2,7 +2,7 @@
 use Rattle.std.proofs.Common.{◌≡◌, ℕ, suc, ◌+◌, ◌-◌, ◌<◌, Bool, true, false, List, [], ◌∷◌, ◌++◌, if◌then◌else◌, sym, ap, ◌∙◌, arith, append_assoc}
 use Rattle.snippet_suggest.specs.declared.shown.SuggestionLine.{SuggestionLine}
 use Rattle.snippet_suggest.specs.declared.shown.SuggestionLine.TheVariants.{Line}
-use Rattle.snippet_suggest.specs.Shown.{lines_from, shown_run, shown_from}
+use Rattle.snippet_suggest.specs.SuggestedLines.{lines_from, shown_run, shown_from}
 
 -- one line more of a run
 pub run_step : (done new all : List SuggestionLine) (line to : ℕ) → line < to → new ≡ done ++ Line line ∷ [] → done ++ lines_from line (to - line) ≡ all

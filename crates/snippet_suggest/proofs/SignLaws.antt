@@ -23,9 +23,9 @@ use Rattle.snippet_suggest.specs.declared.layout.SuggestionStart.{SuggestionStar
 use Rattle.snippet_suggest.specs.Cells.{left_out_cells, line_cells, offered_cells, on_last, put, sign_of, stretch_cell, with_stretches}
 use Rattle.snippet_suggest.specs.Given.{edits_of, first_given, given_lines, given_ranges, is_left_out, last_reached, shown_kind}
 use Rattle.snippet_style.specs.Glyphs.{suggestion_glyph_of, suggestion_role_of}
-use Rattle.snippet_suggest.specs.Order.{Begins, Empty, Ends, Offers, Removes, Skips, SuggestionRow, is_diff, rows_of_suggestion}
-use Rattle.snippet_suggest.specs.Rows.{without_role}
-use Rattle.snippet_suggest.specs.Shown.{is_touched}
+use Rattle.snippet_suggest.specs.RowOrder.{Begins, Empty, Ends, Offers, Removes, Skips, SuggestionRow, is_diff, rows_of_suggestion}
+use Rattle.snippet_suggest.specs.SuggestionRows.{without_role}
+use Rattle.snippet_suggest.specs.SuggestedLines.{is_touched}
 use Rattle.snippet_suggest.specs.Suggested.{HasSign, body_cells, cells_of, cells_over, new_on, suggested_stretches, with_left_out}
 use Rattle.snippet_suggest.proofs.PaintLemmas.{changed_same, seen_ch}
 use Rattle.snippet_suggest.proofs.PutLemmas.{glyph_some}

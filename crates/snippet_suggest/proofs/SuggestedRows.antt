@@ -28,10 +28,10 @@ use Rattle.snippet_suggest.specs.Cells.{suggestion_row, taken_cells, with_stretc
 use Rattle.snippet_suggest.specs.Given.{edits_of, first_given, given_lines, given_ranges, is_left_out, last_reached, last_removed, shown_kind, trimmed_of}
 use Rattle.snippet_suggest.specs.Given.{unless_stays}
 use Rattle.snippet_parts.specs.Numbered.{numbered_source}
-use Rattle.snippet_suggest.specs.Order.{Begins, Empty, Ends, Offers, Removes, SuggestionRow, changed_rows, counted_from, is_diff, number_after, numbered_at}
-use Rattle.snippet_suggest.specs.Order.{removed_from, row_of_shown, rows_of_suggestion}
-use Rattle.snippet_suggest.specs.Rows.{rows_shared}
-use Rattle.snippet_suggest.specs.Shown.{is_touched}
+use Rattle.snippet_suggest.specs.RowOrder.{Begins, Empty, Ends, Offers, Removes, SuggestionRow, changed_rows, counted_from, is_diff, number_after, numbered_at}
+use Rattle.snippet_suggest.specs.RowOrder.{removed_from, row_of_shown, rows_of_suggestion}
+use Rattle.snippet_suggest.specs.SuggestionRows.{rows_shared}
+use Rattle.snippet_suggest.specs.SuggestedLines.{is_touched}
 use Rattle.snippet_suggest.specs.Suggested.{body_cells, cells_of, cells_over, marked_edits, new_on, removed_in, suggested_stretches, suggestion_cells}
 use Rattle.snippet_suggest.specs.Suggested.{with_left_out}
 use Rattle.snippet_suggest.specs.Marks.{with_marks}

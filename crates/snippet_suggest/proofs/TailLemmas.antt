@@ -16,13 +16,13 @@ use Rattle.snippet_style.proofs.CellLemmas.{length-text_cells, length-written, s
 use Rattle.snippet_style.proofs.CellLemmas.{slice_index_or-written_inside}
 use Rattle.snippet_text.specs.Normalized.{is_listed}
 use Rattle.snippet_lines.specs.declared.number.LineNumbers.{LineNumbers}
-use Rattle.snippet_model.specs.Rows.{IsFreeCell, IsFree}
+use Rattle.snippet_model.specs.FreeRows.{IsFreeCell, IsFree}
 use Rattle.snippet_style.specs.declared.glyphs.SuggestionGlyph.{SuggestionGlyph}
 use Rattle.snippet_suggest.specs.declared.layout.SuggestionLayout.{SuggestionLayout}
 use Rattle.snippet_style.specs.Glyphs.{suggestion_glyph_of}
-use Rattle.snippet_suggest.specs.Glyphs.{is_begin, is_sign}
-use Rattle.snippet_suggest.specs.Rows.{AddsEnd, AddsRow, IsBareRow, IsBeforeSign, IsLeftOver, IsRemovedRow, IsStart, IsEdgeRow, IsTail, begin_glyph}
-use Rattle.snippet_suggest.specs.Rows.{begins_in_last, beside_gutter, end_glyph}
+use Rattle.snippet_suggest.specs.SuggestionGlyphs.{is_begin, is_sign}
+use Rattle.snippet_suggest.specs.SuggestionRows.{AddsEnd, AddsRow, IsBareRow, IsBeforeSign, IsLeftOver, IsRemovedRow, IsStart, IsEdgeRow, IsTail, begin_glyph}
+use Rattle.snippet_suggest.specs.SuggestionRows.{begins_in_last, beside_gutter, end_glyph}
 use Rattle.snippet_suggest.specs.declared.layout.SuggestionStart.{SuggestionStart}
 use Rattle.snippet_suggest.specs.declared.layout.SuggestionStart.TheVariants.{Opening, Next, Path}
 use Rattle.snippet_style.specs.declared.glyphs.SuggestionGlyph.TheVariants as sign

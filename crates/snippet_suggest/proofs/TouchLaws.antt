@@ -16,7 +16,7 @@ use Rattle.snippet_lines.specs.Lines.{Line, lines_of, source_lines, text_at}
 use Rattle.snippet_splice.specs.declared.splice.LineRange.{LineRange}
 use Rattle.snippet_splice.specs.Edits.{Edit, edit_of, patched, trimmed_edits}
 use Rattle.snippet_splice.specs.Overlap.{AreDisjoint}
-use Rattle.snippet_splice.specs.Shown.{without_final_line_feeds}
+use Rattle.snippet_splice.specs.ShownText.{without_final_line_feeds}
 use Rattle.snippet_splice.specs.Spliced.{IsTouched, line_ranges, ranges_from, spliced_text, stands, texts_of}
 use Rattle.snippet_splice.proofs.RangeLemmas.{written-ranges}
 use Rattle.snippet_splice.proofs.SpliceLemmas.{IsShownPart}
@@ -26,7 +26,7 @@ use Rattle.snippet_suggest.specs.declared.kind.DisplaySuggestion.TheVariants.{Un
 use Rattle.snippet_suggest.specs.Given.{IsAsItWas, IsOfferable, edits_of, first_given, given_lines, given_ranges, given_text, is_left_out, last_reached}
 use Rattle.snippet_suggest.specs.Given.{numbers_given, numbers_of, offered_lines, shown_kind, trimmed_of}
 use Rattle.snippet_suggest.specs.Kind.{adds_lines, is_blank, is_only_replacement, kind_of, takes_away}
-use Rattle.snippet_suggest.specs.Shown.{is_held, is_touched, numbers_shown, lines_suggested}
+use Rattle.snippet_suggest.specs.SuggestedLines.{is_held, is_touched, numbers_shown, lines_suggested}
 use Rattle.snippet_suggest.proofs.RisingLemmas.{touched_shown}
 use Rattle.snippet_suggest.proofs.OfferLaws.{HaveSpans, edits-apart, given-is-patched, given-part}
 

@@ -11,7 +11,7 @@ use Rattle.snippet_text.specs.Normalized.{norm}
 use Rattle.snippet_text.specs.Width.{width_of}
 use Rattle.snippet_lines.specs.Number.{shown_number}
 use Rattle.snippet_splice.specs.declared.stretches.SubstitutionHighlight.{SubstitutionHighlight}
-use Rattle.snippet_splice.specs.Stretches.{capped, line_stretches}
+use Rattle.snippet_splice.specs.EditStretches.{capped, line_stretches}
 use Rattle.snippet_style.specs.declared.glyphs.SuggestionGlyph.{SuggestionGlyph}
 use Rattle.snippet_style.specs.declared.glyphs.SuggestionGlyph.TheVariants as sign
 use Rattle.snippet_suggest.specs.declared.kind.DisplaySuggestion.{DisplaySuggestion}
@@ -25,8 +25,8 @@ use Rattle.snippet_suggest.specs.declared.shown.SuggestionLine.{SuggestionLine}
 use Rattle.snippet_suggest.specs.declared.shown.SuggestionLine.TheVariants.{Line, Gap}
 use Rattle.snippet_suggest.specs.Given.{is_left_out, last_removed, unless_stays}
 use Rattle.snippet_style.specs.Glyphs.{suggestion_glyph_of, suggestion_role_of}
-use Rattle.snippet_suggest.specs.Order.{number_after}
-use Rattle.snippet_suggest.specs.Rows.{end_glyph}
+use Rattle.snippet_suggest.specs.RowOrder.{number_after}
+use Rattle.snippet_suggest.specs.SuggestionRows.{end_glyph}
 use Rattle.snippet_grid.specs.Layout.{inner_cell, separator_cell}
 
 -- a row after characters were put into it in a role, from a cell on; none leave it as it was

@@ -2,7 +2,7 @@
 use Rattle.std.specs.Prelude.{◌≡◌, ◌≤◌, ◌==◌, chars, count_by, drop, length, take}
 use Rattle.std.specs.Str.{IsUtf8}
 use Rattle.std.specs.Str.Iter.{chars_rest}
-use Rattle.snippet_splice.specs.Stretches.{capped}
+use Rattle.snippet_splice.specs.EditStretches.{capped}
 use Rattle.snippet_suggest.specs.declared.roles.TabCursor.{TabCursor}
 
 -- the walk has passed so many characters of the line, and counted the tabs among them

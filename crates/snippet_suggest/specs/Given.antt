@@ -13,12 +13,12 @@ use Rattle.snippet_splice.specs.declared.patches.TrimmedPatch.{TrimmedPatch}
 use Rattle.snippet_splice.specs.declared.splice.LineRange.{LineRange}
 use Rattle.snippet_splice.specs.Copied.{end_from, written_ranges}
 use Rattle.snippet_splice.specs.Edits.{Edit, edit_of, in_order, trimmed_edits}
-use Rattle.snippet_splice.specs.Shown.{first_start, shown_line, shown_start, shown_text}
+use Rattle.snippet_splice.specs.ShownText.{first_start, shown_line, shown_start, shown_text}
 use Rattle.snippet_splice.specs.Spliced.{HasNoCr, IsBeforeFinalLf, last_line_reached, spliced_text, texts_of}
 use Rattle.snippet_suggest.specs.declared.kind.DisplaySuggestion.{DisplaySuggestion}
 use Rattle.snippet_suggest.specs.declared.kind.DisplaySuggestion.TheVariants.{Underline, Diff, Plain, Add}
 use Rattle.snippet_suggest.specs.Kind.{is_blank, kind_of}
-use Rattle.snippet_suggest.specs.Shown.{is_touched, numbers_shown, lines_suggested}
+use Rattle.snippet_suggest.specs.SuggestedLines.{is_touched, numbers_shown, lines_suggested}
 
 -- how many lines some patches may add: the line feeds of their replacements
 abbrev pub added_lines : List Patch → ℕ

@@ -1,12 +1,12 @@
 pub mod Cells
 pub mod Cursor
 pub mod Given
-pub mod Glyphs
+pub mod SuggestionGlyphs
 pub mod Kind
 pub mod Marks
 pub mod Moves
-pub mod Order
-pub mod Prepared
-pub mod Rows
-pub mod Shown
+pub mod RowOrder
+pub mod PreparedSuggestion
+pub mod SuggestionRows
+pub mod SuggestedLines
 pub mod Suggested

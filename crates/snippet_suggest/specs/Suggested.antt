@@ -10,7 +10,7 @@ use Rattle.snippet_style.specs.declared.role.ElementStyle.TheVariants.{NoStyle, 
 use Rattle.snippet_splice.specs.declared.stretches.SubstitutionHighlight.{SubstitutionHighlight}
 use Rattle.snippet_splice.specs.Edits.{Edit}
 use Rattle.snippet_splice.specs.Spliced.{last_line_reached}
-use Rattle.snippet_splice.specs.Stretches.{new_stretches, replaced_stretches}
+use Rattle.snippet_splice.specs.EditStretches.{new_stretches, replaced_stretches}
 use Rattle.snippet_suggest.specs.declared.kind.DisplaySuggestion.{DisplaySuggestion}
 use Rattle.snippet_suggest.specs.declared.kind.DisplaySuggestion.TheVariants.{Underline, Diff, Plain, Add}
 use Rattle.snippet_suggest.specs.declared.layout.SuggestionLayout.{SuggestionLayout}
@@ -18,12 +18,12 @@ use Rattle.snippet_suggest.specs.declared.layout.SuggestionStart.{SuggestionStar
 use Rattle.snippet_suggest.specs.declared.shown.SuggestionLine.TheVariants.{Line}
 use Rattle.snippet_suggest.specs.Cells.{begin_cells, end_cells, gap_cells, left_out_cells, on_last, removed_cells, suggestion_row, sign_of, with_stretches}
 use Rattle.snippet_style.specs.Glyphs.{suggestion_glyph_of}
-use Rattle.snippet_suggest.specs.Rows.{NumberFits}
+use Rattle.snippet_suggest.specs.SuggestionRows.{NumberFits}
 use Rattle.snippet_suggest.specs.Given.{edits_of, first_given, given_lines, given_ranges, is_left_out, last_reached, shown_kind, trimmed_of}
 use Rattle.snippet_parts.specs.Numbered.{numbered_source}
 use Rattle.snippet_suggest.specs.Marks.{with_marks}
-use Rattle.snippet_suggest.specs.Order.{Begins, Empty, Ends, Offers, Removes, Skips, SuggestionRow, is_diff, rows_of_suggestion}
-use Rattle.snippet_suggest.specs.Shown.{is_touched}
+use Rattle.snippet_suggest.specs.RowOrder.{Begins, Empty, Ends, Offers, Removes, Skips, SuggestionRow, is_diff, rows_of_suggestion}
+use Rattle.snippet_suggest.specs.SuggestedLines.{is_touched}
 use Rattle.snippet_grid.specs.Layout.{separator_cell}
 
 -- the stretches of line k that is given which are new, and those of line k after the first in the source which are replaced

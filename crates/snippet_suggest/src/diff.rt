@@ -1,15 +1,15 @@
 //! A suggestion that is shown as the lines that are removed, and the one line that stands in their place.
 ghost use Rattle.std.specs.Prelude.{◌≡◌, ℕ, ◌<◌, ◌^◌, ◌-◌, ◌++◌, ◌∷◌, [], List, true, false, OnOk, chars, length};
 ghost use Rattle.snippet_style.specs.declared.role.ElementStyle.TheVariants.{Addition};
-ghost use Rattle.snippet_splice.specs.Stretches.{line_stretches};
+ghost use Rattle.snippet_splice.specs.EditStretches.{line_stretches};
 ghost use Rattle.snippet_suggest.specs.Cells.{diff_cells, offered_cells, taken_cells, with_stretches};
 ghost use Rattle.std.specs.Str.{bytes_eq};
 ghost use Rattle.snippet_style.specs.Cell.{Cell};
 ghost use Rattle.snippet_suggest.specs.declared.kind.DisplaySuggestion.TheVariants.{Diff};
 ghost use Rattle.snippet_suggest.specs.declared.shown.SuggestionLine.TheVariants.{Line};
 ghost use Rattle.snippet_suggest.specs.Given.{is_left_out, last_removed, texts_at, unless_stays};
-ghost use Rattle.snippet_suggest.specs.Rows.{AddsRemoved, AddsRows, IsRepainted, NumberFits, Shows};
-ghost use Rattle.snippet_suggest.specs.Order.{Offers, SuggestionRow, changed_rows, counted_from, removed_from};
+ghost use Rattle.snippet_suggest.specs.SuggestionRows.{AddsRemoved, AddsRows, IsRepainted, NumberFits, Shows};
+ghost use Rattle.snippet_suggest.specs.RowOrder.{Offers, SuggestionRow, changed_rows, counted_from, removed_from};
 
 use crate::kind::is_blank;
 use crate::layout::SuggestionLayout;

@@ -2,9 +2,9 @@
 ghost use Rattle.std.specs.Prelude.{◌≡◌, ℕ, ◌<◌, ◌≤◌, ◌+◌, ◌++◌, ◌∷◌, [], Bool, true, false, List, IfOk, OnOk};
 ghost use Rattle.std.specs.Prelude.{length, replicate};
 ghost use Rattle.snippet_style.specs.Glyphs.{suggestion_glyph_of};
-ghost use Rattle.snippet_suggest.specs.Glyphs.{is_begin, is_sign};
-ghost use Rattle.snippet_suggest.specs.Rows.{AddsEnd, AddsRow, IsStart, IsEdgeRow, IsTail, begin_glyph};
-ghost use Rattle.snippet_suggest.specs.Rows.{beside_gutter, end_glyph, rows_shared};
+ghost use Rattle.snippet_suggest.specs.SuggestionGlyphs.{is_begin, is_sign};
+ghost use Rattle.snippet_suggest.specs.SuggestionRows.{AddsEnd, AddsRow, IsStart, IsEdgeRow, IsTail, begin_glyph};
+ghost use Rattle.snippet_suggest.specs.SuggestionRows.{beside_gutter, end_glyph, rows_shared};
 ghost use Rattle.snippet_suggest.specs.Cells.{begin_cells, end_cells, put};
 ghost use Rattle.snippet_style.specs.declared.role.ElementStyle.TheVariants.{LineNumber};
 ghost use Rattle.snippet_grid.specs.Grid.{row_at};

@@ -6,12 +6,12 @@ ghost use Rattle.snippet_text.specs.Normalized.{norm};
 ghost use Rattle.snippet_lines.specs.Lines.{lines_of};
 ghost use Rattle.snippet_splice.specs.Spliced.{texts_of};
 ghost use Rattle.snippet_suggest.specs.Cells.{sign_alone, sign_of, sign_touched, lines_shown, row_shown};
-ghost use Rattle.snippet_suggest.specs.Glyphs.{is_sign};
+ghost use Rattle.snippet_suggest.specs.SuggestionGlyphs.{is_sign};
 ghost use Rattle.snippet_suggest.specs.declared.shown.SuggestionLine.TheVariants.{Line};
-ghost use Rattle.snippet_suggest.specs.Shown.{is_touched, lines_suggested};
+ghost use Rattle.snippet_suggest.specs.SuggestedLines.{is_touched, lines_suggested};
 ghost use Rattle.snippet_lines.specs.Number.{shown_number};
-ghost use Rattle.snippet_suggest.specs.Rows.{AddsRow, AddsShown, NumberFits, IsLineRow, IsShownRow};
-ghost use Rattle.snippet_suggest.specs.Order.{number_after};
+ghost use Rattle.snippet_suggest.specs.SuggestionRows.{AddsRow, AddsShown, NumberFits, IsLineRow, IsShownRow};
+ghost use Rattle.snippet_suggest.specs.RowOrder.{number_after};
 ghost use Rattle.snippet_grid.specs.Layout.{separator_cell};
 
 use crate::kind::DisplaySuggestion;

@@ -1,14 +1,14 @@
 //! The marks below what a suggestion puts in.
 ghost use Rattle.std.specs.Prelude.{◌≡◌, ℕ, ◌+◌, ◌-◌, ◌++◌, ◌∷◌, [], List, All, OnOk, length};
 ghost use Rattle.snippet_splice.specs.Edits.{trimmed_edit_of};
-ghost use Rattle.snippet_splice.specs.Stretches.{capped};
+ghost use Rattle.snippet_splice.specs.EditStretches.{capped};
 ghost use Rattle.snippet_suggest.specs.Marks.{edit_columns, edits_at, left_of, patch_mark_end, mark_glyph_of};
 ghost use Rattle.snippet_suggest.specs.Marks.{mark_start};
 ghost use Rattle.snippet_suggest.specs.Marks.{text_width, with_mark, with_marks};
 ghost use Rattle.snippet_suggest.specs.Moves.{AreMoves, shift_of};
 ghost use Rattle.snippet_suggest.specs.declared.marks.PatchColumns.{PatchColumns};
 ghost use Rattle.snippet_style.specs.Cell.{Cell};
-ghost use Rattle.snippet_suggest.specs.Rows.{AddsRow, IsMarkOrSpace, IsEdgeRow};
+ghost use Rattle.snippet_suggest.specs.SuggestionRows.{AddsRow, IsMarkOrSpace, IsEdgeRow};
 ghost use Rattle.snippet_lines.specs.Span.{IsSpan};
 ghost use Rattle.snippet_style.specs.Bounds.{HasNext};
 

@@ -6,7 +6,7 @@ ghost use Rattle.snippet_lines.specs.Place.{line_of};
 ghost use Rattle.snippet_lines.specs.Span.{IsSpan};
 ghost use Rattle.snippet_splice.specs.Edits.{trimmed_edit_of};
 ghost use Rattle.snippet_suggest.specs.Given.{counted_folded, first_end, first_original};
-ghost use Rattle.snippet_suggest.specs.Prepared.{IsPrepared, IsSuggestible};
+ghost use Rattle.snippet_suggest.specs.PreparedSuggestion.{IsPrepared, IsSuggestible};
 ghost use Rattle.snippet_style.specs.Bounds.{IsUsize};
 
 use crate::kind::DisplaySuggestion;

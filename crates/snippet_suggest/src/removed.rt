@@ -3,8 +3,8 @@ ghost use Rattle.std.specs.Prelude.{◌≡◌, ◌<◌, ◌≤◌, ◌++◌, Boo
 ghost use Rattle.snippet_grid.specs.Grid.{row_at};
 ghost use Rattle.snippet_suggest.specs.Cells.{emptied_cells};
 ghost use Rattle.snippet_style.specs.Cell.{Cell};
-ghost use Rattle.snippet_suggest.specs.Order.{numbered_at};
-ghost use Rattle.snippet_suggest.specs.Rows.{AddsRemoved, IsTail};
+ghost use Rattle.snippet_suggest.specs.RowOrder.{numbered_at};
+ghost use Rattle.snippet_suggest.specs.SuggestionRows.{AddsRemoved, IsTail};
 ghost use Rattle.snippet_style.specs.Bounds.{IsRowNumber};
 
 use crate::layout::SuggestionLayout;

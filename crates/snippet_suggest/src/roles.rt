@@ -1,10 +1,10 @@
 //! The roles of what is new in a line, and of what is removed.
 ghost use Rattle.std.specs.Prelude.{◌≡◌, ◌==◌, ◌+◌, ◌*◌, ℕ, ◌++◌, ◌∷◌, [], List, OnOk, chars, count_by, length, take};
-ghost use Rattle.snippet_splice.specs.Stretches.{capped, line_stretches};
+ghost use Rattle.snippet_splice.specs.EditStretches.{capped, line_stretches};
 ghost use Rattle.snippet_suggest.specs.Cells.{with_stretches};
 ghost use Rattle.snippet_suggest.specs.Cursor.{IsCursor};
 ghost use Rattle.snippet_style.specs.Cell.{Cell};
-ghost use Rattle.snippet_suggest.specs.Rows.{IsRepainted};
+ghost use Rattle.snippet_suggest.specs.SuggestionRows.{IsRepainted};
 ghost use Rattle.snippet_grid.specs.Layout.{inner_cell};
 
 use crate::layout::SuggestionLayout;

@@ -6,8 +6,8 @@ ghost use Rattle.snippet_lines.specs.Number.{shown_number};
 ghost use Rattle.snippet_style.specs.Cell.{Cell};
 ghost use Rattle.snippet_grid.specs.Grid.{row_at};
 ghost use Rattle.snippet_suggest.specs.Cells.{gap_cells, line_cells, removed_cells};
-ghost use Rattle.snippet_suggest.specs.Glyphs.{is_sign};
-ghost use Rattle.snippet_suggest.specs.Rows.{AddsRow, IsLineRow, IsRowOfRemoved, IsEdgeRow, IsTail, gap_left};
+ghost use Rattle.snippet_suggest.specs.SuggestionGlyphs.{is_sign};
+ghost use Rattle.snippet_suggest.specs.SuggestionRows.{AddsRow, IsLineRow, IsRowOfRemoved, IsEdgeRow, IsTail, gap_left};
 ghost use Rattle.snippet_grid.specs.Layout.{separator_cell};
 ghost use Rattle.snippet_style.specs.Bounds.{HasNext};
 

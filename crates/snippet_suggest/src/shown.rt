@@ -2,8 +2,8 @@
 ghost use Rattle.std.specs.Prelude.{◌≡◌, ℕ, ◌++◌, ◌<◌, ◌≤◌, nat_le, ◌&&◌, ◌||◌, true, false, Contains, IfOk, OnOk};
 ghost use Rattle.std.specs.Prelude.{length};
 ghost use Rattle.std.specs.List.{slice_index_or};
-ghost use Rattle.snippet_suggest.specs.Shown as spec;
-ghost use Rattle.snippet_suggest.specs.Shown.{AreRising, numbers_shown, shown_run};
+ghost use Rattle.snippet_suggest.specs.SuggestedLines as spec;
+ghost use Rattle.snippet_suggest.specs.SuggestedLines.{AreRising, numbers_shown, shown_run};
 
 use snippet_splice::LineRange;
 use std::alloc::{AllocError, Global};

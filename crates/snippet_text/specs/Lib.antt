@@ -1,4 +1,4 @@
-pub mod Bounds
+pub mod TextBounds
 pub mod Normalized
 pub mod OneLine
 pub mod Plain

@@ -1,5 +1,5 @@
 ghost use Rattle.std.specs.Prelude.{◌↔◌, IsTrue};
-ghost use Rattle.snippet_text.specs.Bounds.{TextFits};
+ghost use Rattle.snippet_text.specs.TextBounds.{TextFits};
 
 /// Whether a text is within the library's one limit: fewer than 2^56 bytes.
 ///

@@ -1,6 +1,6 @@
 ghost use Rattle.std.specs.Prelude.{◌≡◌, ◌≤◌, ◌*◌, length, chars};
 ghost use Rattle.snippet_text.specs.Width as spec;
-ghost use Rattle.snippet_text.specs.Bounds.{TextFits};
+ghost use Rattle.snippet_text.specs.TextBounds.{TextFits};
 
 use crate::plain::is_plain;
 use unicode_width::UnicodeWidthChar;

@@ -14,7 +14,7 @@ use Rattle.std.specs.Option.{option_map}
 use Rattle.std.specs.Ordering.{is_lt, ordering_then, nat_cmp}
 use Rattle.std.specs.Str.{IsUtf8, chars}
 use Rattle.snippet_lines.specs.Lines.{Source}
-use Rattle.snippet_lines.specs.Order.{ordered_by}
+use Rattle.snippet_lines.specs.OrderedBy.{ordered_by}
 use Rattle.snippet_lines.specs.Place.{locations_of}
 use Rattle.snippet_lines.specs.declared.place.Loc.{Loc}
 use Rattle.snippet_lines.proofs.OrderLemmas.{sorted-only, map-ordered_by}

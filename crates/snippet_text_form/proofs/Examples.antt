@@ -24,11 +24,11 @@ use Rattle.snippet_style.specs.Stylesheet.{default_sheet}
 use Rattle.snippet_grid.specs.Woven.{link_start, link_stop}
 use Rattle.snippet_text.specs.Normalized.{norm}
 use Rattle.snippet_text.proofs.WidthLemmas.{width_of-colon}
-use Rattle.snippet_titles.specs.Heading.{heading_lines}
+use Rattle.snippet_titles.specs.HeadingRows.{heading_lines}
 use Rattle.snippet_titles.specs.declared.style.HeadingRoles.{HeadingRoles}
 use Rattle.snippet_text_form.specs.Cause.{cause_form}
 use Rattle.snippet_text_form.specs.Form.{form_bytes, form_links, form_text, plain_from}
-use Rattle.snippet_text_form.specs.Heading.{heading_form, label_form, lines_form, text_roles_of}
+use Rattle.snippet_text_form.specs.HeadingForm.{heading_form, label_form, lines_form, text_roles_of}
 use Rattle.snippet_text_form.specs.Suggestion.{origin_form, suggestion_form}
 use Rattle.snippet_text_form.specs.declared.heading.HeadingKind.TheVariants.{Title, Message}
 

@@ -19,14 +19,14 @@ use Rattle.snippet_model.specs.declared.snippet.Origin.{Origin}
 use Rattle.snippet_model.specs.declared.snippet.Patch.{Patch}
 use Rattle.snippet_model.specs.declared.snippet.Snippet.{Snippet}
 use Rattle.snippet_splice.specs.Edits.{Edit}
-use Rattle.snippet_splice.specs.Shown.{without_final_line_feeds}
+use Rattle.snippet_splice.specs.ShownText.{without_final_line_feeds}
 use Rattle.snippet_style.specs.declared.role.ElementStyle.{ElementStyle}
 use Rattle.snippet_style.specs.declared.role.ElementStyle.TheVariants.{Addition}
 use Rattle.snippet_suggest.specs.Given as given
 use Rattle.snippet_suggest.specs.Kind.{is_blank}
 use Rattle.snippet_text.specs.Normalized.{is_listed, norm, normalized_chars}
 use Rattle.snippet_text.specs.Width.{width_of}
-use Rattle.snippet_titles.specs.Heading.{address_of, shown_text, heading_lines, is_set}
+use Rattle.snippet_titles.specs.HeadingRows.{address_of, shown_text, heading_lines, is_set}
 use Rattle.snippet_titles.specs.Origin.{column_text, line_name}
 use Rattle.snippet_titles.specs.declared.style.HeadingRoles.{HeadingRoles}
 use Rattle.snippet_titles.proofs.DigitLemmas.{IsDigit, decimal-all}
@@ -36,9 +36,9 @@ use Rattle.snippet_text_form.specs.Cause.{after_place, cause_form, column_unless
 use Rattle.snippet_text_form.specs.Cause.{label_characters, named_spans, further_indent, span_form, span_place, span_text, spans_form}
 use Rattle.snippet_parts.specs.Numbered.{numbered_source}
 use Rattle.snippet_text_form.specs.Form.{FormPiece, Break, Styled, bare, begun_after, plain_from, styled}
-use Rattle.snippet_text_form.specs.Heading.{before_id, before_name, colon_form, further_line, heading_form, id_form, id_text_form, label_form}
-use Rattle.snippet_text_form.specs.Heading.{heading_label}
-use Rattle.snippet_text_form.specs.Heading.{link_for, linking, lines_form, name_form, text_roles_of}
+use Rattle.snippet_text_form.specs.HeadingForm.{before_id, before_name, colon_form, further_line, heading_form, id_form, id_text_form, label_form}
+use Rattle.snippet_text_form.specs.HeadingForm.{heading_label}
+use Rattle.snippet_text_form.specs.HeadingForm.{link_for, linking, lines_form, name_form, text_roles_of}
 use Rattle.snippet_text_form.specs.Position.{after_path, column_words, place, place_in_file, place_on_line, to_line}
 use Rattle.snippet_text_form.specs.Suggestion.{added_form, edit_form, edit_indent, edit_place, replaces_whole_line, named_path, option_form, origin_form}
 use Rattle.snippet_text_form.specs.Suggestion.{overwrites, replaced_to, replaces, suggestion_form}

@@ -15,12 +15,12 @@ use Rattle.snippet_style.specs.declared.role.ElementStyle.{ElementStyle}
 use Rattle.snippet_text.specs.Normalized.{norm}
 use Rattle.snippet_text.specs.Width.{char_width, width_of}
 use Rattle.snippet_text.proofs.NormLemmas.{width_of-norm}
-use Rattle.snippet_titles.specs.Heading.{address_of, colon_of, heading_lines, is_set}
+use Rattle.snippet_titles.specs.HeadingRows.{address_of, colon_of, heading_lines, is_set}
 use Rattle.snippet_titles.specs.declared.style.HeadingRoles.{HeadingRoles}
 use Rattle.snippet_titles.proofs.SignLemmas.{chars-colon}
 use Rattle.snippet_text_form.specs.Form.{FormPiece, Break, Styled, bare, styled}
-use Rattle.snippet_text_form.specs.Heading.{before_id, before_name, colon_form, heading_form, id_form, id_label, label_form, label_of_id, heading_label}
-use Rattle.snippet_text_form.specs.Heading.{lines_form, link_for, id_text_form, text_roles_of}
+use Rattle.snippet_text_form.specs.HeadingForm.{before_id, before_name, colon_form, heading_form, id_form, id_label, label_form, label_of_id, heading_label}
+use Rattle.snippet_text_form.specs.HeadingForm.{lines_form, link_for, id_text_form, text_roles_of}
 use Rattle.snippet_text_form.specs.declared.heading.HeadingKind.{HeadingKind}
 use Rattle.snippet_text_form.proofs.AddedLemmas.{added-two, added-two-on_ok}
 use Rattle.snippet_text_form.proofs.FormSteps.{begun-chars}

@@ -20,22 +20,22 @@ use Rattle.snippet_model.specs.declared.snippet.Origin.{Origin}
 use Rattle.snippet_model.specs.declared.snippet.Patch.{Patch}
 use Rattle.snippet_model.specs.declared.snippet.Snippet.{Snippet}
 use Rattle.snippet_splice.specs.Edits.{Edit}
-use Rattle.snippet_splice.specs.Shown.{without_final_line_feeds}
+use Rattle.snippet_splice.specs.ShownText.{without_final_line_feeds}
 use Rattle.snippet_style.specs.declared.role.ElementStyle.{ElementStyle}
 use Rattle.snippet_style.specs.declared.role.ElementStyle.TheVariants.{Addition}
 use Rattle.snippet_suggest.specs.Given as given
 use Rattle.snippet_suggest.specs.Kind.{is_blank}
 use Rattle.snippet_text.specs.Normalized.{norm}
 use Rattle.snippet_text.specs.Width.{width_of}
-use Rattle.snippet_titles.specs.Heading.{address_of, heading_lines, is_set}
+use Rattle.snippet_titles.specs.HeadingRows.{address_of, heading_lines, is_set}
 use Rattle.snippet_titles.specs.Title.{id_links, text_links}
 use Rattle.snippet_titles.specs.declared.style.HeadingRoles.{HeadingRoles}
 use Rattle.snippet_text_form.specs.Cause.{cause_form, is_labelled, named_spans, further_indent, span_form, span_text, spans_form}
 use Rattle.snippet_parts.specs.Numbered.{numbered_source}
 use Rattle.snippet_text_form.specs.Form.{FormPiece, bare, form_links, styled}
-use Rattle.snippet_text_form.specs.Heading.{before_id, before_name, colon_form, further_line, heading_form, id_form, id_text_form, label_form}
-use Rattle.snippet_text_form.specs.Heading.{heading_label}
-use Rattle.snippet_text_form.specs.Heading.{link_for, linking, lines_form, name_form, text_roles_of}
+use Rattle.snippet_text_form.specs.HeadingForm.{before_id, before_name, colon_form, further_line, heading_form, id_form, id_text_form, label_form}
+use Rattle.snippet_text_form.specs.HeadingForm.{heading_label}
+use Rattle.snippet_text_form.specs.HeadingForm.{link_for, linking, lines_form, name_form, text_roles_of}
 use Rattle.snippet_text_form.specs.Position.{place, place_in_file}
 use Rattle.snippet_text_form.specs.Suggestion.{added_form, edit_form, edit_indent, edit_place, named_path, option_form, origin_form, overwrites}
 use Rattle.snippet_text_form.specs.Suggestion.{suggestion_form}

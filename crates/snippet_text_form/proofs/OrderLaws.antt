@@ -12,7 +12,7 @@ use Rattle.snippet_lines.specs.Place.{locations_of}
 use Rattle.snippet_model.specs.Heading.{Heading}
 use Rattle.snippet_model.specs.declared.snippet.Annotation.{Annotation}
 use Rattle.snippet_model.specs.declared.snippet.Snippet.{Snippet}
-use Rattle.snippet_titles.specs.Heading.{shown_text, heading_lines}
+use Rattle.snippet_titles.specs.HeadingRows.{shown_text, heading_lines}
 use Rattle.snippet_text.specs.Width.{width_of}
 use Rattle.snippet_titles.specs.declared.style.HeadingRoles.{HeadingRoles}
 use Rattle.snippet_titles.proofs.OriginFree.{each-fails}
@@ -20,8 +20,8 @@ use Rattle.snippet_text_form.specs.Cause.{after_place, cause_form, is_labelled, 
 use Rattle.snippet_text_form.specs.Cause.{spans_form}
 use Rattle.snippet_parts.specs.Numbered.{numbered_source}
 use Rattle.snippet_text_form.specs.Form.{FormPiece, Char, Break, Styled, bare, begun_after, plain_from}
-use Rattle.snippet_text_form.specs.Heading.{heading_form, label_form, heading_label, lines_form, text_roles_of}
-use Rattle.snippet_text_form.specs.Order.{StandInOrder}
+use Rattle.snippet_text_form.specs.HeadingForm.{heading_form, label_form, heading_label, lines_form, text_roles_of}
+use Rattle.snippet_text_form.specs.TextOrder.{StandInOrder}
 use Rattle.snippet_text_form.specs.declared.heading.HeadingKind.{HeadingKind}
 use Rattle.snippet_text_form.proofs.FormSteps.{plain-bare}
 

@@ -15,7 +15,7 @@ use Rattle.snippet_text.specs.Normalized.{norm, shown}
 use Rattle.snippet_titles.proofs.LineLemmas.{line_of}
 use Rattle.snippet_titles.proofs.SplitLemmas.{lines_at, lines_at-after, lines_at-chars}
 use Rattle.snippet_text_form.specs.Form.{FormPiece, bare, styled}
-use Rattle.snippet_text_form.specs.Heading.{before_line, further_line, lines_form}
+use Rattle.snippet_text_form.specs.HeadingForm.{before_line, further_line, lines_form}
 
 -- ---- normalising and cutting at line feeds commute
 

@@ -8,7 +8,7 @@ use Rattle.std.specs.List.{flat_map, list_all}
 use Rattle.std.specs.Option.{option_map}
 use Rattle.snippet_parts.specs.Numbered.{numbered_source}
 use Rattle.snippet_lines.specs.Lines.{Source, line_at}
-use Rattle.snippet_lines.specs.Order.{ordered_by}
+use Rattle.snippet_lines.specs.OrderedBy.{ordered_by}
 use Rattle.snippet_lines.specs.Place.{locations_of}
 use Rattle.snippet_lines.specs.declared.place.Loc.{Loc}
 use Rattle.snippet_model.specs.declared.snippet.Annotation.{Annotation}

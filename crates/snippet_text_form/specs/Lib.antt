@@ -1,6 +1,6 @@
 pub mod Cause
 pub mod Form
-pub mod Heading
-pub mod Order
+pub mod HeadingForm
+pub mod TextOrder
 pub mod Position
 pub mod Suggestion

@@ -12,7 +12,7 @@ ghost use Rattle.snippet_text_form.specs.Cause.{span_form, span_place, spans_for
 ghost use Rattle.snippet_parts.specs.Numbered.{numbered_source};
 ghost use Rattle.snippet_text_form.specs.Cause as spec;
 ghost use Rattle.snippet_text_form.specs.Form.{bare};
-ghost use Rattle.snippet_text.specs.Bounds.{IsOffset};
+ghost use Rattle.snippet_text.specs.TextBounds.{IsOffset};
 
 use crate::form::TextForm;
 use crate::position::{add_line, add_place, add_place_in_file, add_place_on_line, add_to_line};

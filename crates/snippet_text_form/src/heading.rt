@@ -8,11 +8,11 @@ ghost use Rattle.snippet_model.specs.Heading as model;
 ghost use Rattle.snippet_model.specs.Level.{name_of};
 ghost use Rattle.snippet_text.specs.Normalized.{norm};
 ghost use Rattle.snippet_text.specs.Width.{width_of};
-ghost use Rattle.snippet_titles.specs.Heading.{heading_lines};
+ghost use Rattle.snippet_titles.specs.HeadingRows.{heading_lines};
 ghost use Rattle.snippet_text_form.specs.Form.{bare};
-ghost use Rattle.snippet_text_form.specs.Heading.{before_line, before_name, colon_form, heading_form, id_form};
-ghost use Rattle.snippet_text_form.specs.Heading.{label_form, label_of_id, heading_label, lines_form, name_form};
-ghost use Rattle.snippet_text_form.specs.Heading as spec;
+ghost use Rattle.snippet_text_form.specs.HeadingForm.{before_line, before_name, colon_form, heading_form, id_form};
+ghost use Rattle.snippet_text_form.specs.HeadingForm.{label_form, label_of_id, heading_label, lines_form, name_form};
+ghost use Rattle.snippet_text_form.specs.HeadingForm as spec;
 ghost use Rattle.snippet_style.specs.Bounds.{IsTextWidth};
 
 use crate::form::TextForm;

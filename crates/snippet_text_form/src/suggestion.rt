@@ -5,13 +5,13 @@ ghost use Rattle.std.specs.Option.{option_copied, option_map};
 ghost use Rattle.std.specs.Str.{IsCharBoundary};
 ghost use Rattle.snippet_lines.specs.Span.{IsSpan, is_character_border};
 ghost use Rattle.snippet_splice.specs.Edits.{trimmed_edit_of};
-ghost use Rattle.snippet_splice.specs.Shown.{without_final_line_feeds};
-ghost use Rattle.snippet_suggest.specs.Prepared.{IsPrepared};
+ghost use Rattle.snippet_splice.specs.ShownText.{without_final_line_feeds};
+ghost use Rattle.snippet_suggest.specs.PreparedSuggestion.{IsPrepared};
 ghost use Rattle.snippet_text_form.specs.Form.{bare};
 ghost use Rattle.snippet_text_form.specs.Suggestion.{added_form, edit_form, edit_indent, edit_place, named_path};
 ghost use Rattle.snippet_text_form.specs.Suggestion.{option_form, replaced_to, suggestion_form};
 ghost use Rattle.snippet_text_form.specs.Suggestion as spec;
-ghost use Rattle.snippet_text.specs.Bounds.{IsOffset};
+ghost use Rattle.snippet_text.specs.TextBounds.{IsOffset};
 
 use crate::cause::column_unless;
 use crate::form::TextForm;

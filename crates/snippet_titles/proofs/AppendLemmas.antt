@@ -15,7 +15,7 @@ use Rattle.snippet_style.specs.declared.role.ElementStyle.{ElementStyle}
 use Rattle.snippet_style.proofs.CellLemmas.{slice_index_or-written_inside, length-written, written_end}
 use Rattle.snippet_grid.proofs.ChangeLemmas.{changed_within_none, changed_within_one}
 use Rattle.snippet_titles.specs.Appended.{appended, linked_from}
-use Rattle.snippet_titles.specs.Heading.{linked_to}
+use Rattle.snippet_titles.specs.HeadingRows.{linked_to}
 
 -- a text, by its characters, after a row's cells
 pub appended_text : (old new : List (List Cell)) (row : ℕ) (role : ElementStyle) (text : List ℕ) → IsUtf8 text

@@ -6,7 +6,7 @@ use Rattle.std.proofs.Math.Seq.{take-append_seam}
 use Rattle.snippet_grid.specs.Grid.{row_at}
 use Rattle.snippet_style.specs.Cell.{Cell, written}
 use Rattle.snippet_titles.specs.Appended.{IsAtEnd, appended}
-use Rattle.snippet_titles.specs.Heading.{on_top, without_empty_end}
+use Rattle.snippet_titles.specs.HeadingRows.{on_top, without_empty_end}
 use Rattle.snippet_titles.proofs.AppendLemmas.{appended-appended, appended-is}
 
 -- an empty row at the end isn't there

@@ -21,12 +21,12 @@ use Rattle.snippet_model.specs.Level.{name_of}
 use Rattle.snippet_titles.specs.declared.style.HeadingRoles.{HeadingRoles}
 use Rattle.snippet_titles.specs.declared.style.TitleStyle.{TitleStyle}
 use Rattle.snippet_titles.specs.declared.style.TitleStyle.TheVariants.{Title, Short, Message}
-use Rattle.snippet_titles.specs.Heading.{bracketed_text, closing_bracket_of, colon_of, shown_text, heading_lines, heading_rows, id_text, indent_cells}
-use Rattle.snippet_titles.specs.Heading.{is_set}
-use Rattle.snippet_titles.specs.Heading.{label_cells, heading_label_text, label_width, lines_below, note_bar_of, on_top, opening_bracket_of, roles_of}
-use Rattle.snippet_titles.specs.Heading.{sign_cells, without_empty_end}
+use Rattle.snippet_titles.specs.HeadingRows.{bracketed_text, closing_bracket_of, colon_of, shown_text, heading_lines, heading_rows, id_text, indent_cells}
+use Rattle.snippet_titles.specs.HeadingRows.{is_set}
+use Rattle.snippet_titles.specs.HeadingRows.{label_cells, heading_label_text, label_width, lines_below, note_bar_of, on_top, opening_bracket_of, roles_of}
+use Rattle.snippet_titles.specs.HeadingRows.{sign_cells, without_empty_end}
 use Rattle.snippet_style.specs.Glyphs.{note_sign_of}
-use Rattle.snippet_titles.specs.Shown.{IsFreeButText}
+use Rattle.snippet_titles.specs.ShownHeading.{IsFreeButText}
 use Rattle.snippet_titles.proofs.TextLemmas.{row_text-append, row_text-after, row_text-label, row_text-spaces}
 use Rattle.snippet_model.proofs.RowLemmas.{each_fails as fails_each}
 use Rattle.snippet_style.specs.Glyphs.{separator_of}

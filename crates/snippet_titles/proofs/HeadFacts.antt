@@ -22,15 +22,15 @@ use Rattle.snippet_titles.specs.declared.style.HeadingRoles.{HeadingRoles}
 use Rattle.snippet_titles.specs.declared.style.MessageContext.{MessageContext}
 use Rattle.snippet_titles.specs.declared.style.TitleStyle.{TitleStyle}
 use Rattle.snippet_titles.specs.declared.style.TitleStyle.TheVariants.{Message}
-use Rattle.snippet_titles.specs.Heading.{colon_of, heading_lines, heading_rows, id_cells, indent_cells, label_cells, label_width, lines_below, note_bar_of}
-use Rattle.snippet_titles.specs.Heading.{roles_of, sign_cells}
+use Rattle.snippet_titles.specs.HeadingRows.{colon_of, heading_lines, heading_rows, id_cells, indent_cells, label_cells, label_width, lines_below, note_bar_of}
+use Rattle.snippet_titles.specs.HeadingRows.{roles_of, sign_cells}
 use Rattle.snippet_style.specs.Glyphs.{note_sign_of}
 use Rattle.snippet_titles.specs.Origin.{file_glyph, file_row, opening_head, opening_rows, origin_row, origin_text, snippet_head}
 use Rattle.snippet_style.specs.Separators.{separator_row}
 use Rattle.snippet_titles.proofs.FreeLemmas.{All-trimmed}
 use Rattle.snippet_titles.proofs.HeadLemmas.{nameless_head-each, primary_head-each, secondary_head-each}
 use Rattle.snippet_titles.proofs.LinkLemmas.{IsUnlinked, drawn_unlinked, indent_unlinked, sign_unlinked}
-use Rattle.snippet_model.specs.Rows.{HasNoNumber, IsFree}
+use Rattle.snippet_model.specs.FreeRows.{HasNoNumber, IsFree}
 use Rattle.snippet_titles.proofs.OriginFree.{file_row-free, origin_row-free, separator_row-free}
 use Rattle.snippet_titles.proofs.OriginNumbers.{IsPlain, file_row-unnumbered, origin_row-unnumbered, separator_row-unnumbered}
 use Rattle.snippet_titles.proofs.OriginRowText.{origin_row-after}

@@ -10,8 +10,8 @@ use Rattle.snippet_model.specs.Heading.{Heading}
 use Rattle.snippet_titles.specs.declared.style.HeadingRoles.{HeadingRoles}
 use Rattle.snippet_titles.specs.declared.style.TitleStyle.{TitleStyle}
 use Rattle.snippet_titles.specs.Appended.{IsAtEnd, appended}
-use Rattle.snippet_titles.specs.Heading.{heading_lines, heading_rows, indent_cells, label_cells, label_width, lines_below, roles_of, sign_cells}
-use Rattle.snippet_titles.specs.Heading.{without_empty_end}
+use Rattle.snippet_titles.specs.HeadingRows.{heading_lines, heading_rows, indent_cells, label_cells, label_width, lines_below, roles_of, sign_cells}
+use Rattle.snippet_titles.specs.HeadingRows.{without_empty_end}
 use Rattle.snippet_titles.proofs.AppendLemmas.{row_at-appended}
 use Rattle.snippet_titles.proofs.EndLemmas.{IsAtEnd-begun}
 use Rattle.snippet_titles.proofs.RowLemmas.{appended-two}

@@ -19,7 +19,7 @@ use Rattle.snippet_model.specs.Heading.{Heading, is_hidden}
 use Rattle.snippet_model.specs.Level.{name_of}
 use Rattle.snippet_titles.specs.declared.style.HeadingRoles.{HeadingRoles}
 use Rattle.snippet_titles.specs.Appended.{appended}
-use Rattle.snippet_titles.specs.Heading.{bracketed_text, closing_bracket_of, colon_of, id_cells, id_text, label_cells, opening_bracket_of}
+use Rattle.snippet_titles.specs.HeadingRows.{bracketed_text, closing_bracket_of, colon_of, id_cells, id_text, label_cells, opening_bracket_of}
 use Rattle.snippet_titles.proofs.AppendLemmas.{row_at-appended}
 use Rattle.snippet_titles.proofs.RowLemmas.{appended-three}
 

@@ -12,7 +12,7 @@ use Rattle.snippet_grid.specs.Grid.{row_at}
 use Rattle.snippet_style.specs.Cell.{Cell, text_cells}
 use Rattle.snippet_style.specs.declared.role.ElementStyle.{ElementStyle}
 use Rattle.snippet_titles.specs.Appended.{IsAtEnd, appended}
-use Rattle.snippet_titles.specs.Heading.{lines_below, without_empty_end}
+use Rattle.snippet_titles.specs.HeadingRows.{lines_below, without_empty_end}
 use Rattle.snippet_titles.proofs.SplitLemmas.{lines_at}
 use Rattle.snippet_titles.proofs.EndLemmas.{IsAtEnd-more, appended-further, refilled}
 

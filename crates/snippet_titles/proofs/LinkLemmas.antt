@@ -23,9 +23,9 @@ use Rattle.snippet_model.specs.Level.{name_of}
 use Rattle.snippet_titles.specs.declared.style.HeadingRoles.{HeadingRoles}
 use Rattle.snippet_titles.specs.declared.style.TitleStyle.{TitleStyle}
 use Rattle.snippet_titles.specs.declared.style.TitleStyle.TheVariants.{Title, Short, Message}
-use Rattle.snippet_titles.specs.Heading.{address_of, bracketed_cells, closing_bracket_of, colon_of, shown_text, heading_lines, heading_rows, id_cells}
-use Rattle.snippet_titles.specs.Heading.{indent_cells, label_cells, label_width, lines_below, linked_to, note_bar_of, on_top, opening_bracket_of, roles_of}
-use Rattle.snippet_titles.specs.Heading.{sign_cells, without_empty_end}
+use Rattle.snippet_titles.specs.HeadingRows.{address_of, bracketed_cells, closing_bracket_of, colon_of, shown_text, heading_lines, heading_rows, id_cells}
+use Rattle.snippet_titles.specs.HeadingRows.{indent_cells, label_cells, label_width, lines_below, linked_to, note_bar_of, on_top, opening_bracket_of, roles_of}
+use Rattle.snippet_titles.specs.HeadingRows.{sign_cells, without_empty_end}
 use Rattle.snippet_style.specs.Glyphs.{note_sign_of}
 use Rattle.snippet_titles.specs.Title.{id_links, text_links, title_rows}
 

@@ -11,7 +11,7 @@ use Rattle.snippet_style.specs.Glyphs.{closing_of}
 use Rattle.snippet_style.specs.Cell.{SPACE, text_cells}
 use Rattle.snippet_text.specs.Normalized.{norm, is_listed}
 use Rattle.snippet_text.proofs.NormLemmas.{list_any-norm}
-use Rattle.snippet_model.specs.Rows.{IsFree, IsFreeCell}
+use Rattle.snippet_model.specs.FreeRows.{IsFree, IsFreeCell}
 use Rattle.snippet_titles.specs.declared.origin.FileStart.{FileStart}
 use Rattle.snippet_titles.specs.declared.origin.FileStart.TheVariants.{Alone, First, Later, Secondary}
 use Rattle.snippet_titles.specs.declared.origin.OriginLocation.{OriginLocation}

@@ -10,7 +10,7 @@ use Rattle.snippet_style.specs.declared.role.ElementStyle.TheVariants.{LineAndCo
 use Rattle.snippet_style.specs.Glyphs.{closing_of, separator_of}
 use Rattle.snippet_style.specs.Cell.{Cell, SPACE, text_cells}
 use Rattle.snippet_style.proofs.CellLemmas.{All-text_cells, length-text_cells}
-use Rattle.snippet_model.specs.Rows.{HasNoNumber}
+use Rattle.snippet_model.specs.FreeRows.{HasNoNumber}
 use Rattle.snippet_titles.specs.declared.origin.FileStart.{FileStart}
 use Rattle.snippet_titles.specs.declared.origin.FileStart.TheVariants.{Alone, First, Later, Secondary}
 use Rattle.snippet_titles.specs.declared.origin.OriginLocation.{OriginLocation}

@@ -9,8 +9,8 @@ use Rattle.snippet_text.proofs.WidthLemmas.{unicode_width}
 use Rattle.snippet_model.specs.declared.level.LevelName.{LevelName}
 use Rattle.snippet_model.specs.declared.level.LevelName.TheVariants.{Hidden, Standard}
 use Rattle.snippet_model.specs.Heading.{Heading}
-use Rattle.snippet_titles.specs.Heading.{label_cells}
-use Rattle.snippet_titles.specs.Short.{short_rows, short_texts}
+use Rattle.snippet_titles.specs.HeadingRows.{label_cells}
+use Rattle.snippet_titles.specs.ShortRows.{short_rows, short_texts}
 
 -- an error whose name is shown like this, with this text
 abbrev error_of : LevelName → List ℕ → Heading

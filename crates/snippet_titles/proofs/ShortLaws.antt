@@ -13,9 +13,9 @@ use Rattle.snippet_text.specs.Normalized.{is_listed}
 use Rattle.snippet_model.specs.Heading.{Heading}
 use Rattle.snippet_titles.specs.declared.style.HeadingRoles.{HeadingRoles}
 use Rattle.snippet_titles.specs.declared.style.TitleStyle.TheVariants.{Short}
-use Rattle.snippet_titles.specs.Heading.{shown_text, heading_lines, indent_cells, label_cells, heading_label_text, label_width, lines_below, roles_of}
-use Rattle.snippet_titles.specs.Short.{short_rows, short_texts, with_end}
-use Rattle.snippet_titles.specs.Shown.{IsFreeButText}
+use Rattle.snippet_titles.specs.HeadingRows.{shown_text, heading_lines, indent_cells, label_cells, heading_label_text, label_width, lines_below, roles_of}
+use Rattle.snippet_titles.specs.ShortRows.{short_rows, short_texts, with_end}
+use Rattle.snippet_titles.specs.ShownHeading.{IsFreeButText}
 use Rattle.snippet_titles.specs.Title.{id_links}
 use Rattle.snippet_titles.proofs.EndLemmas.{row_at-trimmed}
 use Rattle.snippet_titles.proofs.FreeLemmas.{All-slice_split, All-trimmed, IsUnlisted, IsOwn, from_free, indent-all, label-all, lines_all, own_text}

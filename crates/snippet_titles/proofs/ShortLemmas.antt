@@ -9,8 +9,8 @@ use Rattle.snippet_model.specs.Heading.{Heading}
 use Rattle.snippet_titles.specs.declared.style.HeadingRoles.{HeadingRoles}
 use Rattle.snippet_titles.specs.declared.style.TitleStyle.TheVariants.{Short}
 use Rattle.snippet_titles.specs.Appended.{appended}
-use Rattle.snippet_titles.specs.Heading.{heading_lines, indent_cells, label_cells, label_width, lines_below, on_top, roles_of, without_empty_end}
-use Rattle.snippet_titles.specs.Short.{short_rows, with_end}
+use Rattle.snippet_titles.specs.HeadingRows.{heading_lines, indent_cells, label_cells, label_width, lines_below, on_top, roles_of, without_empty_end}
+use Rattle.snippet_titles.specs.ShortRows.{short_rows, with_end}
 use Rattle.snippet_titles.proofs.AppendLemmas.{appended-is}
 use Rattle.snippet_titles.proofs.EndLemmas.{appended_below, get_or-append_seam, row_at-trimmed, written_past}
 use Rattle.snippet_titles.proofs.HeadingLemmas.{label_begun, roles_known}

@@ -2,7 +2,7 @@
 use Rattle.std.proofs.Common.{◌≡◌, ◌∷◌, [], Bool, true, false, Option, codes, chars, refl}
 use Rattle.std.proofs.lemmas.Str.{chars-encodes, chars-nil}
 use Rattle.snippet_model.specs.declared.snippet.Id.{Id}
-use Rattle.snippet_titles.specs.Heading.{colon_of, is_set}
+use Rattle.snippet_titles.specs.HeadingRows.{colon_of, is_set}
 
 -- a colon and a space, and brackets
 pub chars-colon : chars (58 ∷ 32 ∷ []) ≡ codes ": "

@@ -15,10 +15,10 @@ use Rattle.snippet_model.specs.Heading.{Heading, is_hidden}
 use Rattle.snippet_model.specs.Level.{name_of}
 use Rattle.snippet_titles.specs.declared.style.HeadingRoles.{HeadingRoles}
 use Rattle.snippet_titles.specs.declared.style.TitleStyle.{TitleStyle}
-use Rattle.snippet_titles.specs.Heading.{address_of, bracketed_cells, bracketed_text, closing_bracket_of, colon_of, heading_lines, heading_rows, id_cells}
-use Rattle.snippet_titles.specs.Heading.{id_text, indent_cells, label_cells, heading_label_text, label_width, lines_below, linked_to, opening_bracket_of}
-use Rattle.snippet_titles.specs.Heading.{roles_of, sign_cells}
-use Rattle.snippet_titles.specs.Shown.{heading_texts, texts_below}
+use Rattle.snippet_titles.specs.HeadingRows.{address_of, bracketed_cells, bracketed_text, closing_bracket_of, colon_of, heading_lines, heading_rows, id_cells}
+use Rattle.snippet_titles.specs.HeadingRows.{id_text, indent_cells, label_cells, heading_label_text, label_width, lines_below, linked_to, opening_bracket_of}
+use Rattle.snippet_titles.specs.HeadingRows.{roles_of, sign_cells}
+use Rattle.snippet_titles.specs.ShownHeading.{heading_texts, texts_below}
 use Rattle.snippet_titles.proofs.EndLemmas.{refilled, row_at-trimmed}
 use Rattle.snippet_grid.proofs.RowLemmas.{row_text-text_cells}
 

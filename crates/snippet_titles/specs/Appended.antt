@@ -2,7 +2,7 @@
 use Rattle.std.specs.Prelude.{◌≡◌, ◌≤◌, ℕ, ◌-◌, ◌^◌, List, [], ◌∷◌, ◌++◌, Option, None, Some, take, length}
 use Rattle.snippet_grid.specs.Grid.{row_at, cells_written, cells_linked}
 use Rattle.snippet_style.specs.Cell.{Cell}
-use Rattle.snippet_titles.specs.Heading.{without_empty_end}
+use Rattle.snippet_titles.specs.HeadingRows.{without_empty_end}
 
 -- the grid with these cells after those of a row; where there are none it stays as it is, and no row is made
 abbrev pub appended : List (List Cell) → ℕ → List Cell → List (List Cell)

@@ -1,6 +1,6 @@
 pub mod Appended
-pub mod Heading
+pub mod HeadingRows
 pub mod Origin
-pub mod Short
-pub mod Shown
+pub mod ShortRows
+pub mod ShownHeading
 pub mod Title

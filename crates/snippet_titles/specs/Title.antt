@@ -9,7 +9,7 @@ use Rattle.snippet_model.specs.declared.snippet.Id.{Id}
 use Rattle.snippet_model.specs.declared.snippet.Title.{Title}
 use Rattle.snippet_model.specs.Heading.{heading_of_title}
 use Rattle.snippet_titles.specs.declared.style.TitleStyle.TheVariants as style
-use Rattle.snippet_titles.specs.Heading.{address_of, heading_rows}
+use Rattle.snippet_titles.specs.HeadingRows.{address_of, heading_rows}
 
 -- the rows of a title, with links or without
 abbrev pub title_rows : Bool → Title → List (List Cell)

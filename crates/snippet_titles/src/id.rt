@@ -6,8 +6,8 @@ ghost use Rattle.snippet_model.specs.Fits.{IdFits};
 ghost use Rattle.snippet_grid.specs.Grid.{row_at};
 ghost use Rattle.snippet_text.specs.Normalized.{norm};
 ghost use Rattle.snippet_titles.specs.Appended.{appended};
-ghost use Rattle.snippet_titles.specs.Heading.{id_cells};
-ghost use Rattle.snippet_titles.specs.Heading as spec;
+ghost use Rattle.snippet_titles.specs.HeadingRows.{id_cells};
+ghost use Rattle.snippet_titles.specs.HeadingRows as spec;
 ghost use Rattle.snippet_style.specs.Bounds.{HasNext, IsColumn};
 
 use crate::row::{extend_row, link_from};

@@ -2,7 +2,7 @@
 ghost use Rattle.std.specs.Prelude.{◌≡◌, ◌+◌, [], chars, length, replicate, OnOk};
 ghost use Rattle.std.specs.Option.{option_copied};
 ghost use Rattle.snippet_titles.specs.Appended.{appended, linked_from};
-ghost use Rattle.snippet_titles.specs.Heading.{indent_cells, sign_cells};
+ghost use Rattle.snippet_titles.specs.HeadingRows.{indent_cells, sign_cells};
 ghost use Rattle.snippet_grid.specs.Grid.{row_at};
 ghost use Rattle.snippet_style.specs.Cell.{SPACE, text_cells};
 ghost use Rattle.snippet_style.specs.Bounds.{HasNext, IsAddable, IsUsize};

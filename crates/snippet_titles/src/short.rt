@@ -1,7 +1,7 @@
 //! The rows of a report's short form.
 ghost use Rattle.std.specs.Prelude.{◌≡◌, ◌++◌, chars, length, OnOk};
 ghost use Rattle.snippet_model.specs.Heading.{HeadingFits};
-ghost use Rattle.snippet_titles.specs.Short.{short_rows};
+ghost use Rattle.snippet_titles.specs.ShortRows.{short_rows};
 ghost use Rattle.snippet_style.specs.Bounds.{IsTextWidth};
 
 use crate::heading::{draw_label, draw_text};

@@ -3,7 +3,7 @@
 ghost use Rattle.std.specs.Prelude.{◌≡◌, ◌<◌, chars, length};
 ghost use Rattle.snippet_style.specs.Cell.{unlinked_cell};
 ghost use Rattle.snippet_style.specs.Glyphs.{note_sign_of};
-ghost use Rattle.snippet_titles.specs.Heading as spec;
+ghost use Rattle.snippet_titles.specs.HeadingRows as spec;
 ghost use Rattle.snippet_style.specs.declared.role.ElementStyle.TheVariants.{Level};
 ghost use Rattle.snippet_style.specs.Bounds.{IsSignWidth};
 

@@ -9,7 +9,7 @@ ghost use Rattle.snippet_window.specs.Measures as spec;
 ghost use Rattle.snippet_window.specs.Measures.{StandsClear, bounds_of_lines, end_with};
 ghost use Rattle.snippet_window.specs.Extent.{ReachesEntries, ReachesLines};
 ghost use Rattle.snippet_parts.specs.ShownLines.{kept_of};
-ghost use Rattle.snippet_text.specs.Bounds.{TextFits};
+ghost use Rattle.snippet_text.specs.TextBounds.{TextFits};
 
 use crate::margin::Margin;
 use crate::whitespace::leading_whitespace;

@@ -1,7 +1,7 @@
 //! The whitespace that a line begins with.
 ghost use Rattle.std.specs.Prelude.{◌≡◌, ◌≤◌, chars};
 ghost use Rattle.snippet_window.specs.Window as spec;
-ghost use Rattle.snippet_text.specs.Bounds.{TextFits};
+ghost use Rattle.snippet_text.specs.TextBounds.{TextFits};
 
 /// The width of the whitespace that a line begins with, where a tab takes four columns and any other character one;
 /// `None` of a blank line, which is nothing else.

@@ -6,7 +6,7 @@ ghost use Rattle.snippet_window.specs.NearPart.{IsPartOf};
 ghost use Rattle.snippet_window.specs.Window.{reaching, fitting, reaching_last, dropped_part, inner_part};
 ghost use Rattle.snippet_window.specs.Window.{covered_columns, uncovered_part, covered_end};
 ghost use Rattle.snippet_style.specs.Cell.{bytes_of};
-ghost use Rattle.snippet_text.specs.Bounds.{TextFits};
+ghost use Rattle.snippet_text.specs.TextBounds.{TextFits};
 ghost use Rattle.snippet_style.specs.Bounds.{FitsRow, IsColumn, IsTextWidth, IsWindowColumn};
 
 use crate::margin::Margin;

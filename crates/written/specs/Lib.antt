@@ -1,2 +1,2 @@
-pub mod Given
+pub mod GivenBytes
 pub mod Part

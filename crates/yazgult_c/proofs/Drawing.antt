@@ -13,7 +13,7 @@ use Rattle.annotate_snippets.specs.declared.renderer.error.RenderError.{RenderEr
 use Rattle.annotate_snippets.specs.declared.renderer.error.RenderError.TheVariants as refusal
 use Rattle.report_bytes.specs.Request.{request_bytes}
 use Rattle.report_bytes.specs.declared.request.Request.{Request}
-use Rattle.yazgult_c.specs.Answer.{IsAnswerTo, IsDrawn, answer_of, renderer_of}
+use Rattle.yazgult_c.specs.AnswerBytes.{IsAnswerTo, IsDrawn, answer_of, renderer_of}
 use Rattle.yazgult_c.specs.declared.answer.Answer.{Answer}
 use Rattle.yazgult_c.specs.declared.answer.Answer.TheVariants as answer
 

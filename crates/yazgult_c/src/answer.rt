@@ -2,7 +2,7 @@
 
 ghost use Rattle.std.specs.Prelude.{◌≡◌};
 ghost use Rattle.annotate_snippets.specs.Fits.{ReportFits};
-ghost use Rattle.yazgult_c.specs.Answer.{IsAnswerTo, IsDrawn, answer_of, answer_of_refusal, renderer_of};
+ghost use Rattle.yazgult_c.specs.AnswerBytes.{IsAnswerTo, IsDrawn, answer_of, answer_of_refusal, renderer_of};
 
 use annotate_snippets::Renderer;
 use annotate_snippets::renderer::{RenderError, Stylesheet};

@@ -3,8 +3,8 @@
 #![tactic(auto)]
 
 ghost use Rattle.std.specs.Prelude.{ℕ, List, codes};
-ghost use Rattle.yazgult_c.specs.Answer.{IsAnswerTo, IsLineAnswerTo, answer_bytes};
-ghost use Rattle.written.specs.Given.{IsGiven};
+ghost use Rattle.yazgult_c.specs.AnswerBytes.{IsAnswerTo, IsLineAnswerTo, answer_bytes};
+ghost use Rattle.written.specs.GivenBytes.{IsGiven};
 ghost use Rattle.yazgult_c.specs.declared.answer.Answer.{Answer};
 
 mod answer;

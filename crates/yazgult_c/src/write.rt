@@ -2,8 +2,8 @@
 
 ghost use Rattle.std.specs.Prelude.{◌≡◌, ◌++◌, IfOk, OnOk, map, string_bytes};
 ghost use Rattle.std.specs.List.{flat_map};
-ghost use Rattle.yazgult_c.specs.Answer.{answer_bytes, element_bytes, marker_bytes, number_bytes, overlap_bytes};
-ghost use Rattle.yazgult_c.specs.Answer.{refusal_bytes, refusal_fields, text_bytes, wrong_number, wrong_text};
+ghost use Rattle.yazgult_c.specs.AnswerBytes.{answer_bytes, element_bytes, marker_bytes, number_bytes, overlap_bytes};
+ghost use Rattle.yazgult_c.specs.AnswerBytes.{refusal_bytes, refusal_fields, text_bytes, wrong_number, wrong_text};
 
 use crate::answer::Answer;
 use annotate_snippets::renderer::RenderError;

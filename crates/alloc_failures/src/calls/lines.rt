@@ -2,7 +2,7 @@
 ghost use Rattle.std.specs.Prelude.{◌+◌, ◌<◌, ◌^◌, All};
 ghost use Rattle.snippet_lines.specs.Lines.{newline_count};
 ghost use Rattle.snippet_lines.specs.Span.{IsSpan};
-ghost use Rattle.snippet_text.specs.Bounds.{TextFits};
+ghost use Rattle.snippet_text.specs.TextBounds.{TextFits};
 
 use crate::calls::marked::{Marked, annotations_of};
 use crate::calls::output::print_heading;

@@ -9,9 +9,9 @@
 //! ```
 ghost use Rattle.std.specs.Prelude.{◌≡◌, ◌+◌, ◌≤◌, ◌<◌, ◌^◌, ◌++◌, OnOk};
 ghost use Rattle.snippet_model.specs.declared.snippet.Element.TheVariants.{Cause};
-ghost use Rattle.annotate_snippets.specs.Drawn.{AddsCause, AddsCauseLines, HasRoomFor};
-ghost use Rattle.annotate_snippets.specs.Prepared.{IsCausePrepared};
-ghost use Rattle.annotate_snippets.specs.Rows.{cause_head, rows_after_cause};
+ghost use Rattle.annotate_snippets.specs.DrawnReport.{AddsCause, AddsCauseLines, HasRoomFor};
+ghost use Rattle.annotate_snippets.specs.PreparedReport.{IsCausePrepared};
+ghost use Rattle.annotate_snippets.specs.RowsWithoutSource.{cause_head, rows_after_cause};
 
 use crate::renderer::Renderer;
 use crate::renderer::element_context::ElementContext;

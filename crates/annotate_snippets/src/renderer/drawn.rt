@@ -1,10 +1,10 @@
 //! A report before any sheet is known, in each form, and the texts that it gives under sheets.
 ghost use Rattle.std.specs.Prelude.{◌≡◌, All, None, IfOk, map, string_bytes};
 ghost use Rattle.std.specs.List.{AllZip};
-ghost use Rattle.annotate_snippets.specs.Drawn.{IsDrawnAs, IsPrintedAs, IsShortPage};
+ghost use Rattle.annotate_snippets.specs.DrawnReport.{IsDrawnAs, IsPrintedAs, IsShortPage};
 ghost use Rattle.annotate_snippets.specs.Fault as fault;
 ghost use Rattle.annotate_snippets.specs.FormLaws.{FormLaws};
-ghost use Rattle.annotate_snippets.specs.Prepared.{IsGroupDrawable};
+ghost use Rattle.annotate_snippets.specs.PreparedReport.{IsGroupDrawable};
 ghost use Rattle.annotate_snippets.specs.declared.renderer.form.Form.TheVariants as form;
 
 use crate::renderer::Renderer;

@@ -3,7 +3,7 @@ ghost use Rattle.std.specs.Prelude.{◌≡◌, IfOk, map};
 ghost use Rattle.std.specs.Option.{option_copied};
 ghost use Rattle.annotate_snippets.specs.Around as spec;
 ghost use Rattle.annotate_snippets.specs.Around.{is_end, is_before_message, is_first_group, position_of_group};
-ghost use Rattle.annotate_snippets.specs.Prepared.{AreAround, element_of};
+ghost use Rattle.annotate_snippets.specs.PreparedReport.{AreAround, element_of};
 
 use crate::renderer::paths::{is_same_file, path_of};
 use crate::renderer::preprocess::PreparedElement;

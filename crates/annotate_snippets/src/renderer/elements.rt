@@ -2,12 +2,12 @@
 ghost use Rattle.std.specs.Prelude.{◌≡◌, ◌+◌, ◌<◌, ◌≤◌, ◌^◌, ◌++◌, ◌∷◌, [], All, List, OnOk, map, true};
 ghost use Rattle.std.specs.Option.{option_copied};
 ghost use Rattle.snippet_style.specs.Cell.{Cell};
-ghost use Rattle.snippet_suggest.specs.Rows.{IsTail};
+ghost use Rattle.snippet_suggest.specs.SuggestionRows.{IsTail};
 ghost use Rattle.annotate_snippets.specs.Around.{CanStandIn, begins_in_row_above};
-ghost use Rattle.annotate_snippets.specs.Drawn.{AddsElement, AddsElements, HasRoomFor};
-ghost use Rattle.annotate_snippets.specs.Prepared.{IsElementPrepared, element_of};
-ghost use Rattle.annotate_snippets.specs.Rows as spec;
-ghost use Rattle.annotate_snippets.specs.Rows.{message_rows, origin_rows};
+ghost use Rattle.annotate_snippets.specs.DrawnReport.{AddsElement, AddsElements, HasRoomFor};
+ghost use Rattle.annotate_snippets.specs.PreparedReport.{IsElementPrepared, element_of};
+ghost use Rattle.annotate_snippets.specs.RowsWithoutSource as spec;
+ghost use Rattle.annotate_snippets.specs.RowsWithoutSource.{message_rows, origin_rows};
 ghost use Rattle.snippet_model.specs.Fits.{MessageFits};
 
 use crate::renderer::Renderer;

@@ -9,10 +9,10 @@
 ghost use Rattle.std.specs.Prelude.{◌≡◌, ◌+◌, ◌<◌, ◌≤◌, ◌^◌, All, IfOk, Some, slice_get, string_bytes};
 ghost use Rattle.std.specs.Option.{option_copied};
 ghost use Rattle.annotate_snippets.specs.Around.{report_path};
-ghost use Rattle.annotate_snippets.specs.Drawn.{AreGridsOf, HasRoomFor, IsGridAt, IsGroupGrid};
+ghost use Rattle.annotate_snippets.specs.DrawnReport.{AreGridsOf, HasRoomFor, IsGridAt, IsGroupGrid};
 ghost use Rattle.annotate_snippets.specs.Gutter.{gutter_of_report};
 ghost use Rattle.annotate_snippets.specs.Page.{PrintsGrids};
-ghost use Rattle.annotate_snippets.specs.Prepared.{IsGroupDrawable, IsGroupPrepared, element_of};
+ghost use Rattle.annotate_snippets.specs.PreparedReport.{IsGroupDrawable, IsGroupPrepared, element_of};
 
 use crate::renderer::Renderer;
 use crate::renderer::element_context::{GroupPosition, next_of};

@@ -2,7 +2,7 @@
 ghost use Rattle.std.specs.Prelude.{◌≡◌, ◌≤◌, All, fold, map, max};
 ghost use Rattle.annotate_snippets.specs.Gutter as spec;
 ghost use Rattle.annotate_snippets.specs.Gutter.{gutter_of_report, width_wanted};
-ghost use Rattle.annotate_snippets.specs.Prepared.{IsElementPrepared, IsGroupPrepared, element_of};
+ghost use Rattle.annotate_snippets.specs.PreparedReport.{IsElementPrepared, IsGroupPrepared, element_of};
 
 use crate::renderer::Renderer;
 use crate::renderer::preprocess::{PreparedElement, PreparedGroup};

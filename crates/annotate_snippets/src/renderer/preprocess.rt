@@ -6,9 +6,9 @@ ghost use Rattle.annotate_snippets.specs.Around as spec;
 ghost use Rattle.annotate_snippets.specs.Around.{is_drawn, share_file};
 ghost use Rattle.annotate_snippets.specs.Gutter.{depth_of_group};
 ghost use Rattle.annotate_snippets.specs.Gutter as gutter;
-ghost use Rattle.annotate_snippets.specs.Prepared.{IsCausePrepared, IsDrawable, IsElementDrawable};
-ghost use Rattle.annotate_snippets.specs.Prepared.{IsElementPrepared};
-ghost use Rattle.annotate_snippets.specs.Prepared.{IsGroupDrawable, IsGroupPrepared, element_of};
+ghost use Rattle.annotate_snippets.specs.PreparedReport.{IsCausePrepared, IsDrawable, IsElementDrawable};
+ghost use Rattle.annotate_snippets.specs.PreparedReport.{IsElementPrepared};
+ghost use Rattle.annotate_snippets.specs.PreparedReport.{IsGroupDrawable, IsGroupPrepared, element_of};
 ghost use Rattle.snippet_style.specs.Bounds.{IsCount};
 
 use crate::renderer::paths::{is_same_file, path_of};

@@ -8,9 +8,9 @@ ghost use Rattle.std.specs.Prelude.{◌≡◌, ℕ, List, ◌++◌, ◌∷◌, [
 ghost use Rattle.std.specs.Prelude.{IfSome, OnOk, string_bytes};
 ghost use Rattle.std.specs.Option.{option_copied};
 ghost use Rattle.snippet_model.specs.Fits.{AnnotationFits, SnippetFits};
-ghost use Rattle.annotate_snippets.specs.Prepared.{IsDrawable, IsGroupDrawable};
-ghost use Rattle.annotate_snippets.specs.Short as spec;
-ghost use Rattle.annotate_snippets.specs.Short.{joined_labels, place_of_cause, primary_labels, short_form};
+ghost use Rattle.annotate_snippets.specs.PreparedReport.{IsDrawable, IsGroupDrawable};
+ghost use Rattle.annotate_snippets.specs.ShortForm as spec;
+ghost use Rattle.annotate_snippets.specs.ShortForm.{joined_labels, place_of_cause, primary_labels, short_form};
 ghost use Rattle.snippet_style.specs.Bounds.{IsTextWidth};
 
 use crate::renderer::Renderer;

@@ -9,11 +9,11 @@
 ghost use Rattle.std.specs.Prelude.{◌≡◌, ◌≤◌, ◌++◌, ◌∷◌, [], List, OnOk, true};
 ghost use Rattle.snippet_model.specs.declared.snippet.Element.TheVariants.{Suggestion};
 ghost use Rattle.snippet_style.specs.Cell.{Cell};
-ghost use Rattle.snippet_suggest.specs.Prepared.{IsPrepared};
-ghost use Rattle.snippet_suggest.specs.Rows.{IsTail};
-ghost use Rattle.annotate_snippets.specs.Drawn.{AddsElement, HasRoomFor};
+ghost use Rattle.snippet_suggest.specs.PreparedSuggestion.{IsPrepared};
+ghost use Rattle.snippet_suggest.specs.SuggestionRows.{IsTail};
+ghost use Rattle.annotate_snippets.specs.DrawnReport.{AddsElement, HasRoomFor};
 ghost use Rattle.annotate_snippets.specs.Around.{HasPathFor, begins_in_row_above};
-ghost use Rattle.annotate_snippets.specs.Rows as spec;
+ghost use Rattle.annotate_snippets.specs.RowsWithoutSource as spec;
 
 use crate::renderer::Renderer;
 use crate::renderer::element_context::ElementContext;

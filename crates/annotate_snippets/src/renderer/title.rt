@@ -1,7 +1,7 @@
 //! The rows of a group's title.
 ghost use Rattle.std.specs.Prelude.{◌≡◌, ◌≤◌, ◌++◌, OnOk, Some};
 ghost use Rattle.snippet_model.specs.Fits.{TitleFits};
-ghost use Rattle.annotate_snippets.specs.Rows.{title_part};
+ghost use Rattle.annotate_snippets.specs.RowsWithoutSource.{title_part};
 
 use crate::renderer::Renderer;
 use crate::renderer::element_context::{GroupPosition, Next};

@@ -6,7 +6,7 @@ ghost use Rattle.annotate_snippets.specs.Fault as spec;
 ghost use Rattle.annotate_snippets.specs.Fault.{IsWithinBounds};
 ghost use Rattle.annotate_snippets.specs.FormLaws.{HasLaws};
 ghost use Rattle.annotate_snippets.specs.Forms.{ShowsReport};
-ghost use Rattle.annotate_snippets.specs.Prepared.{IsGroupDrawable};
+ghost use Rattle.annotate_snippets.specs.PreparedReport.{IsGroupDrawable};
 ghost use Rattle.annotate_snippets.specs.Written.{IsStop, IsTextIn, PrintsGrid, ShowsIn, WritesPart, WritesText};
 ghost use Rattle.annotate_snippets.specs.declared.renderer.form.Form.TheVariants as form;
 

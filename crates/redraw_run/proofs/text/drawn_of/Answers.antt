@@ -4,7 +4,7 @@ use Rattle.annotate_snippets.proofs.ReportLemmas.{IfOk-both}
 use Rattle.annotate_snippets.specs.FormLaws.{HasLaws}
 use Rattle.annotate_snippets.specs.Forms.{ShowsReport}
 use Rattle.annotate_snippets.specs.declared.snippet.Group.{Group}
-use Rattle.redraw_run.specs.Drawn.{ShowsFinding}
+use Rattle.redraw_run.specs.DrawnFinding.{ShowsFinding}
 use Rattle.redraw_run.proofs.text.drawn_of.Goals as goal
 
 pub returns : goal.returns

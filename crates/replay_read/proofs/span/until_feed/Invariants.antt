@@ -1,5 +1,5 @@
 use Rattle.std.proofs.Common.{◌≡◌, ◌++◌, drop, take}
-use Rattle.replay_read.specs.Span.{until_feed}
+use Rattle.replay_read.specs.MarkerSpan.{until_feed}
 use Rattle.replay_read.proofs.span.until_feed.Given as goal
 
 -- no line feed stands before here

@@ -1,7 +1,7 @@
 use Rattle.std.proofs.Common.{◌≡◌, ◌∙◌, List, [], ◌∷◌, ◌++◌, ap, arith, length, subst, sym, take}
 use Rattle.replay_command.specs.Words.{Word, words_at}
 use Rattle.replay_run.specs.Answered.{AnswersInputs}
-use Rattle.replay_run.specs.Words.{held_by}
+use Rattle.replay_run.specs.Inputs.{held_by}
 use Rattle.replay_run.proofs.AnsweredInputs.{HaveAnswered, names_all, names_at, names_more, none_answered, one_more_answered, stops_next}
 use Rattle.replay_run.proofs.inputs.answer_inputs.Goals as goal
 

@@ -1,5 +1,5 @@
 use Rattle.std.proofs.Common.{List, ℕ, ◌++◌, ap, ◌∙◌}
-use Rattle.replay_run.specs.Answer.{answer_text}
+use Rattle.replay_run.specs.WrittenAnswer.{answer_text}
 use Rattle.replay_run.proofs.lines.case_text.Goals as goal
 
 pub returns-in-Ok : goal.returns-in-Ok

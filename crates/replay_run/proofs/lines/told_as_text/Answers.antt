@@ -1,5 +1,5 @@
 use Rattle.std.proofs.Common.{List, ℕ, ◌++◌, ap, ◌∙◌}
-use Rattle.replay_run.specs.Answer.{told_text}
+use Rattle.replay_run.specs.WrittenAnswer.{told_text}
 use Rattle.replay_run.specs.declared.lines.Form.TheVariants.{Texts}
 use Rattle.replay_run.proofs.lines.told_as_text.Goals as goal
 

@@ -1,5 +1,5 @@
 use Rattle.std.proofs.Common.{ap, string_bytes, ◌∙◌}
-use Rattle.replay_run.specs.Answer.{told_text}
+use Rattle.replay_run.specs.WrittenAnswer.{told_text}
 use Rattle.replay_run.proofs.lines.told_for.Goals as goal
 
 pub returns-in-Ok-told_line-clause-text : goal.returns-in-Ok-told_line-clause-text

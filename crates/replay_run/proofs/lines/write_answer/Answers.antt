@@ -1,6 +1,6 @@
 use Rattle.std.proofs.Common.{◌≡◌, refl, subst, sym}
 use Rattle.std.specs.Io.KnownBytes.{Appends}
-use Rattle.replay_run.specs.Answer.{answer_text}
+use Rattle.replay_run.specs.WrittenAnswer.{answer_text}
 use Rattle.replay_run.specs.declared.lines.Form.{Form}
 use Rattle.replay_run.specs.declared.lines.Form.TheVariants.{Json, Texts}
 use Rattle.replay_run.proofs.lines.write_answer.Goals as goal

@@ -1,7 +1,7 @@
 use Rattle.std.proofs.Common.{take, string_bytes}
 use Rattle.std.specs.Io.KnownBytes.{Appends}
 use Rattle.std.specs.List.{flat_map}
-use Rattle.replay_run.specs.Answer.{line_of}
+use Rattle.replay_run.specs.WrittenAnswer.{line_of}
 use Rattle.replay_run.proofs.lines.write_outcome.Given as goal
 
 -- the texts so far are written

@@ -1,7 +1,7 @@
 use Rattle.std.proofs.Common.{◌≡◌, false, length}
 use Rattle.std.proofs.lemmas.Result.{IfOk-weaker}
 use Rattle.replay_run.specs.Answered.{AnswersInputs, StopsInputs}
-use Rattle.replay_run.specs.Words.{held_by}
+use Rattle.replay_run.specs.Inputs.{held_by}
 use Rattle.replay_run.proofs.AnsweredInputs.{if_err, on_ok}
 use Rattle.replay_run.proofs.Commands.{answers_done, comparison_done}
 use Rattle.replay_run.proofs.run.do_command.Goals as goal

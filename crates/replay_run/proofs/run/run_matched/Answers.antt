@@ -3,7 +3,7 @@ use Rattle.clap.specs.Words.{found_of, rows_of}
 use Rattle.replay_command.specs.Words.{Checks, asked, task_of}
 use Rattle.replay_run.specs.Answered.{AnswersInputs, StopsInputs}
 use Rattle.replay_run.specs.Compared.{EndsComparison}
-use Rattle.replay_run.specs.Words.{answers, held_by}
+use Rattle.replay_run.specs.Inputs.{answers, held_by}
 use Rattle.replay_run.proofs.Commands.{answers_asked, comparison_asked, files_compared, memory_asked, same_task}
 use Rattle.replay_run.proofs.Commands.{something_asked}
 use Rattle.replay_run.proofs.run.run_matched.Goals as goal

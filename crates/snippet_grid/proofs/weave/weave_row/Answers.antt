@@ -5,7 +5,7 @@ use Rattle.std.specs.Str.{chars}
 use Rattle.snippet_grid.proofs.RunLemmas.{starts_at_boundary, ends_at_boundary}
 use Rattle.snippet_grid.proofs.RowWoven.{WovenTo, woven_start, woven_gap, woven_run, first_ahead}
 use Rattle.snippet_grid.proofs.WeaveLemmas.{Goes, row_closed}
-use Rattle.snippet_grid.specs.Codes.{style_at}
+use Rattle.snippet_grid.specs.SheetCodes.{style_at}
 use Rattle.snippet_grid.specs.Runs.{run_bytes, cells_to}
 use Rattle.snippet_grid.specs.Stretch.{PrintsStretch}
 use Rattle.snippet_grid.specs.declared.runs.Run.{Run}

@@ -2,7 +2,7 @@
 use Rattle.std.proofs.Common.{◌≡◌, ◌<◌, ◌≤◌, string_bytes}
 use Rattle.std.specs.Option.{option_copied}
 use Rattle.snippet_grid.proofs.RowWoven.{WovenTo}
-use Rattle.snippet_grid.specs.Codes.{style_at}
+use Rattle.snippet_grid.specs.SheetCodes.{style_at}
 use Rattle.snippet_grid.proofs.weave.weave_row.Given as goal
 
 abbrev pub invariant-loop-run : goal.invariant-loop-run

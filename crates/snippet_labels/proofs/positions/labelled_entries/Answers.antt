@@ -2,7 +2,7 @@ use Rattle.std.proofs.Common.{arith, ◌∷◌, ◌++◌, [], ap, sym, subst, Al
 use Rattle.std.proofs.lemmas.Grind.{common_steps}
 use Rattle.std.proofs.lemmas.List.Elements.{All-append, All-cons, All-nil}
 use Rattle.snippet_labels.specs.declared.positions.PlacedEntry.{PlacedEntry}
-use Rattle.snippet_labels.specs.Entries.{label_text}
+use Rattle.snippet_labels.specs.PlacedEntries.{label_text}
 use Rattle.snippet_labels.specs.Positions.{HasItsBytes}
 use Rattle.snippet_labels.proofs.CharLemmas.{bytes_of_chars}
 use Rattle.snippet_labels.proofs.positions.labelled_entries.Goals as goal

@@ -1,5 +1,5 @@
 use Rattle.std.proofs.Common.{◌≡◌, All, map, take}
-use Rattle.snippet_labels.specs.Entries.{shifted}
+use Rattle.snippet_labels.specs.PlacedEntries.{shifted}
 use Rattle.snippet_labels.specs.Positions.{HasItsBytes, HasItsLabel}
 use Rattle.snippet_labels.proofs.positions.labelled_entries.Given as goal
 

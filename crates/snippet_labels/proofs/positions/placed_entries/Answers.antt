@@ -4,7 +4,7 @@ use Rattle.std.proofs.lemmas.List.Sorted.{IsPermutation-map, answers_always}
 use Rattle.snippet_parts.specs.declared.entries.LineAnnotation.{LineAnnotation}
 use Rattle.snippet_labels.specs.declared.positions.PlacedEntry.{PlacedEntry}
 use Rattle.snippet_labels.proofs.PlacedLemmas.{length-line_positions, entries_all, written_back, ArePlaced-from, shifted_narrow}
-use Rattle.snippet_labels.specs.Entries.{shifted}
+use Rattle.snippet_labels.specs.PlacedEntries.{shifted}
 use Rattle.snippet_labels.specs.Positions.{ArePlaced, line_positions, look_counts, unplaced}
 use Rattle.snippet_labels.specs.declared.positions.FoundPosition.{FoundPosition}
 use Rattle.std.proofs.lemmas.List.{length-map}

@@ -11,7 +11,7 @@ use Rattle.snippet_parts.proofs.KeptLemmas.{among-kept, kept-ascend}
 use Rattle.snippet_parts.proofs.PartLemmas.{list_any-map}
 use Rattle.snippet_parts.specs.declared.located.LocatedSpan.{LocatedSpan}
 use Rattle.snippet_parts.specs.Located.{annotations_of}
-use Rattle.snippet_parts.specs.Stretches.{is_seen}
+use Rattle.snippet_parts.specs.LineStretches.{is_seen}
 use Rattle.snippet_parts.proofs.annotated_lines.located_lines.Goals as goal
 
 -- one more line

@@ -5,7 +5,7 @@ use Rattle.snippet_lines.specs.Lines.{source_lines}
 use Rattle.snippet_parts.specs.Kept.{keeps}
 use Rattle.snippet_parts.specs.Located.{IsLocated, annotations_of}
 use Rattle.snippet_parts.specs.declared.located.LocatedSpan.{LocatedSpan}
-use Rattle.snippet_parts.specs.Stretches.{is_held}
+use Rattle.snippet_parts.specs.LineStretches.{is_held}
 use Rattle.snippet_parts.proofs.PartLemmas.{list_any-map}
 use Rattle.snippet_parts.proofs.KeptLemmas.{filter-cut, held-all, held-two, kept-within, unkept}
 use Rattle.snippet_parts.proofs.kept.folded_lines.Goals as goal

@@ -4,7 +4,7 @@ use Rattle.std.specs.List.Sorted.{IsNonDecreasingBy}
 use Rattle.std.proofs.lemmas.List.Sorted.{IsNonDecreasingBy-from_sort_by_key}
 use Rattle.std.proofs.lemmas.Result.{IfOk-weaker}
 use Rattle.snippet_parts.specs.declared.kept.Stretch.{Stretch}
-use Rattle.snippet_parts.specs.Stretches.{is_held}
+use Rattle.snippet_parts.specs.LineStretches.{is_held}
 use Rattle.snippet_parts.proofs.KeptLemmas.{held-permuted}
 use Rattle.snippet_parts.proofs.kept.held_lines.Goals as goal
 

@@ -3,7 +3,7 @@ use Rattle.std.specs.List.{filter, list_any, range_with_len}
 use Rattle.std.proofs.lemmas.Result.{IfOk-weaker}
 use Rattle.snippet_lines.specs.Lines.{source_lines}
 use Rattle.snippet_parts.specs.declared.located.LocatedSpan.{LocatedSpan}
-use Rattle.snippet_parts.specs.Stretches.{is_held, is_seen}
+use Rattle.snippet_parts.specs.LineStretches.{is_held, is_seen}
 use Rattle.snippet_parts.proofs.KeptLemmas.{filter-cut, held-all, unseen}
 use Rattle.snippet_parts.proofs.kept.seen_lines.Goals as goal
 

@@ -9,9 +9,9 @@ use Rattle.snippet_splice.specs.declared.patches.TrimmedPatch.{TrimmedPatch}
 use Rattle.snippet_splice.specs.Copied.{end_from, written_ranges}
 use Rattle.snippet_splice.specs.Splice.{IsPlainSplice}
 use Rattle.snippet_splice.specs.Spliced.{ranges_from, texts_of, AreFrom}
-use Rattle.snippet_splice.specs.Shown.{first_start, shown_line, shown_start, shown_rest, shown_text, closes_line, without_final_line_feeds}
+use Rattle.snippet_splice.specs.ShownText.{first_start, shown_line, shown_start, shown_rest, shown_text, closes_line, without_final_line_feeds}
 use Rattle.snippet_splice.proofs.OverlapLemmas.{apart-in_order, ordered-spans}
-use Rattle.snippet_splice.specs.Stretches.{capped, extent_of, extents_from, feeds_made}
+use Rattle.snippet_splice.specs.EditStretches.{capped, extent_of, extents_from, feeds_made}
 use Rattle.snippet_splice.proofs.PlaceLemmas.{replaced_are, stretches_are}
 use Rattle.snippet_splice.proofs.ShownLineLemmas.{num_replaced, num_shown}
 use Rattle.snippet_splice.proofs.ShownLemmas.{none_given, first-given, shown_start-border, shown-apart, shown-value, some-trimmed}

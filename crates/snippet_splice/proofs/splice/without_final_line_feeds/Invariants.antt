@@ -1,7 +1,7 @@
 use Rattle.std.proofs.Common.{◌≡◌, take, length}
 use denote.Text.{Utf8}
 use denote.Shadow.{shadow}
-use Rattle.snippet_splice.specs.Shown.{without_final_line_feeds}
+use Rattle.snippet_splice.specs.ShownText.{without_final_line_feeds}
 use Rattle.snippet_splice.proofs.splice.without_final_line_feeds.Given as goal
 
 -- what is left is the text's front, and only LF were taken from its end

@@ -1,7 +1,7 @@
 use Rattle.std.proofs.Common.{◌≡◌, length}
 use denote.Text.{Utf8}
 use denote.Shadow.{shadow}
-use Rattle.snippet_splice.specs.Stretches.{after_last_lf}
+use Rattle.snippet_splice.specs.EditStretches.{after_last_lf}
 use Rattle.snippet_splice.proofs.stretches.last_line.Given as goal
 
 -- what is left ends with the same line

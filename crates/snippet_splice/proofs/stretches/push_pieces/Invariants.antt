@@ -2,7 +2,7 @@ use Rattle.std.proofs.Common.{◌≡◌, ◌+◌, ◌++◌, ℕ, count_by, lengt
 use denote.Text.{Utf8}
 use denote.Shadow.{shadow}
 use Rattle.snippet_lines.specs.Lines.{is_lf}
-use Rattle.snippet_splice.specs.Stretches.{capped, line_stretches, pieces_of, pieces_on}
+use Rattle.snippet_splice.specs.EditStretches.{capped, line_stretches, pieces_of, pieces_on}
 use Rattle.snippet_splice.proofs.stretches.push_pieces.Given as goal
 
 -- the pieces that are left complete those that are to be added

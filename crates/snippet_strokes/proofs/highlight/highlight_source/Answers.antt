@@ -3,8 +3,8 @@ use Rattle.std.specs.Prelude.{filter, not}
 use Rattle.std.proofs.lemmas.List.{take_all}
 use Rattle.snippet_grid.specs.Grid.{changed_within}
 use Rattle.snippet_parts.specs.declared.entries.LineAnnotation.{LineAnnotation}
-use Rattle.snippet_labels.specs.Entries.{is_end_part}
-use Rattle.snippet_strokes.specs.Rows.{highlighted_row}
+use Rattle.snippet_labels.specs.PlacedEntries.{is_end_part}
+use Rattle.snippet_strokes.specs.StrokeRows.{highlighted_row}
 use Rattle.snippet_strokes.proofs.HighlightLaws.{highlighted_rows}
 use Rattle.snippet_strokes.proofs.highlight.highlight_source.Goals as goal
 

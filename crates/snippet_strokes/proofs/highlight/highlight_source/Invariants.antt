@@ -1,8 +1,8 @@
 use Rattle.std.proofs.Common.{◌≡◌, ◌≢◌, ℕ, length, take}
 use Rattle.std.specs.Prelude.{filter, not}
 use Rattle.snippet_grid.specs.Grid.{row_at}
-use Rattle.snippet_labels.specs.Entries.{is_end_part}
-use Rattle.snippet_strokes.specs.Rows.{IsHighlighted}
+use Rattle.snippet_labels.specs.PlacedEntries.{is_end_part}
+use Rattle.snippet_strokes.specs.StrokeRows.{IsHighlighted}
 use Rattle.snippet_strokes.proofs.highlight.highlight_source.Given as goal
 
 -- what the entries so far ask for is highlighted

@@ -4,9 +4,9 @@ use Rattle.std.proofs.lemmas.List.{length_push}
 use Rattle.std.proofs.lemmas.List.Elements.{All-same}
 use Rattle.snippet_parts.specs.declared.entries.LineAnnotation.{LineAnnotation}
 use Rattle.snippet_grid.specs.Grid.{changed_within}
-use Rattle.snippet_labels.specs.Entries.{is_end_part}
+use Rattle.snippet_labels.specs.PlacedEntries.{is_end_part}
 use Rattle.snippet_strokes.specs.Bars.{HasBarRoom, bars_apart, ends_of_bars}
-use Rattle.snippet_strokes.specs.Rows.{highlighted_row}
+use Rattle.snippet_strokes.specs.StrokeRows.{highlighted_row}
 use Rattle.snippet_strokes.proofs.HighlightLaws.{IsHighlighted-rows, highlighted_count, unlit_rows}
 use Rattle.snippet_strokes.specs.declared.bars.BarStroke.TheVariants.{Solid}
 use Rattle.snippet_strokes.proofs.BarLemmas.{DrawsBars-barred}

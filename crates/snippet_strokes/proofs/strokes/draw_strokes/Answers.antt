@@ -9,7 +9,7 @@ use Rattle.snippet_strokes.specs.Painting.{marks_of, painting_order}
 use Rattle.snippet_labels.specs.Positions.{HasItsLabel}
 use Rattle.snippet_strokes.specs.Drawing.{AreEnough, row_count}
 use Rattle.snippet_style.specs.Cell.{Cell}
-use Rattle.snippet_labels.specs.Entries.{HasPlace, label_text, shifted}
+use Rattle.snippet_labels.specs.PlacedEntries.{HasPlace, label_text, shifted}
 use Rattle.snippet_strokes.proofs.ShiftLemmas.{shifted_places}
 use Rattle.std.specs.List.{list_any}
 use Rattle.snippet_strokes.specs.Cuts.{cut_rows, cuts_of, is_wide_at, overlapped}

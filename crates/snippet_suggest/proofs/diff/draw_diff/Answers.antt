@@ -8,12 +8,12 @@ use Rattle.std.proofs.lemmas.List.{append-nil}
 use Rattle.snippet_style.specs.Cell.{Cell}
 use Rattle.snippet_parts.specs.declared.source_map.LineInfo.{LineInfo}
 use Rattle.snippet_suggest.specs.Given.{last_removed, texts_at, unless_stays}
-use Rattle.snippet_suggest.specs.Order.{Offers, SuggestionRow, changed_rows, counted_from, removed_from}
-use Rattle.snippet_suggest.specs.Rows.{AddsRows}
+use Rattle.snippet_suggest.specs.RowOrder.{Offers, SuggestionRow, changed_rows, counted_from, removed_from}
+use Rattle.snippet_suggest.specs.SuggestionRows.{AddsRows}
 use Rattle.snippet_suggest.proofs.ComposeLemmas.{rows_append}
 use Rattle.snippet_suggest.proofs.OtherRows.{AddsOthers, left_texts, others_begun, others_painted, others_removed, rows_of_others}
 use Rattle.snippet_style.specs.declared.role.ElementStyle.TheVariants.{Removal}
-use Rattle.snippet_splice.specs.Stretches.{line_stretches}
+use Rattle.snippet_splice.specs.EditStretches.{line_stretches}
 use Rattle.snippet_suggest.specs.Cells.{diff_cells, gone_of, left_out_cells, offered_cells, taken_cells, with_stretches}
 use Rattle.snippet_suggest.specs.declared.kind.DisplaySuggestion.TheVariants.{Diff}
 use Rattle.snippet_suggest.specs.Given.{is_left_out}

@@ -1,7 +1,7 @@
 use Rattle.std.proofs.Common.{◌∙◌, ◌++◌, ℕ, [], List, ap, arith, false, refl, sym}
 use Rattle.std.proofs.lemmas.List.{append-nil, take_all}
 use Rattle.snippet_parts.specs.declared.source_map.LineInfo.{LineInfo}
-use Rattle.snippet_splice.specs.Stretches.{line_stretches}
+use Rattle.snippet_splice.specs.EditStretches.{line_stretches}
 use Rattle.snippet_suggest.specs.Cells.{taken_cells}
 use Rattle.snippet_suggest.proofs.RemovedRows.{removed_all, removed_more, removed_none}
 use Rattle.snippet_suggest.proofs.RepaintLemmas.{removed_repainted}

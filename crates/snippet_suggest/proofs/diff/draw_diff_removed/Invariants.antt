@@ -1,9 +1,9 @@
 use Rattle.std.proofs.Common.{◌≡◌, ◌++◌, take}
-use Rattle.snippet_splice.specs.Stretches.{line_stretches}
+use Rattle.snippet_splice.specs.EditStretches.{line_stretches}
 use Rattle.snippet_suggest.specs.Cells.{taken_cells}
 use Rattle.snippet_suggest.specs.Given.{texts_at}
-use Rattle.snippet_suggest.specs.Order.{counted_from}
-use Rattle.snippet_suggest.specs.Rows.{AddsRemoved}
+use Rattle.snippet_suggest.specs.RowOrder.{counted_from}
+use Rattle.snippet_suggest.specs.SuggestionRows.{AddsRemoved}
 use Rattle.snippet_suggest.proofs.diff.draw_diff_removed.Given as goal
 
 -- the rows so far are added

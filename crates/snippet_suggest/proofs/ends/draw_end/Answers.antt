@@ -3,7 +3,7 @@ use Rattle.snippet_style.specs.Cell.{Cell}
 use Rattle.snippet_style.specs.declared.role.ElementStyle.TheVariants.{LineNumber}
 use Rattle.snippet_suggest.specs.Cells.{put}
 use Rattle.snippet_suggest.proofs.PutLemmas.{end_is}
-use Rattle.snippet_suggest.specs.Rows.{AddsEnd}
+use Rattle.snippet_suggest.specs.SuggestionRows.{AddsEnd}
 use Rattle.snippet_suggest.proofs.ends.draw_end.Goals as goal
 
 pub returns-clause-added : goal.returns-clause-added

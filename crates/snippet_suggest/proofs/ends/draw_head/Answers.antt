@@ -7,7 +7,7 @@ use Rattle.snippet_suggest.proofs.PutLemmas.{begin_next, begin_opening, begin_pa
 use Rattle.snippet_style.specs.Cell.{Cell}
 use Rattle.snippet_suggest.specs.declared.layout.SuggestionStart.{SuggestionStart}
 use Rattle.snippet_suggest.specs.declared.layout.SuggestionStart.TheVariants.{Next, Opening, Path}
-use Rattle.snippet_suggest.specs.Rows.{AddsRow, IsStart, IsEdgeRow, begin_glyph, beside_gutter, rows_shared}
+use Rattle.snippet_suggest.specs.SuggestionRows.{AddsRow, IsStart, IsEdgeRow, begin_glyph, beside_gutter, rows_shared}
 use Rattle.snippet_suggest.proofs.ends.draw_head.Goals as goal
 
 pub returns-in-Opening : goal.returns-in-Opening

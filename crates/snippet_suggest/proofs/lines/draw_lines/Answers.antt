@@ -1,8 +1,8 @@
 use Rattle.std.proofs.Common.{◌∙◌, ◌++◌, ap, sym, subst, map, length, All, List}
 use Rattle.snippet_suggest.specs.declared.shown.SuggestionLine.{SuggestionLine}
 use Rattle.snippet_suggest.specs.Cells.{lines_shown, row_shown}
-use Rattle.snippet_suggest.specs.Rows.{AddsShown, NumberFits}
-use Rattle.snippet_suggest.specs.Shown.{is_touched}
+use Rattle.snippet_suggest.specs.SuggestionRows.{AddsShown, NumberFits}
+use Rattle.snippet_suggest.specs.SuggestedLines.{is_touched}
 use Rattle.snippet_suggest.proofs.RisingLemmas.{rooms_shown}
 use Rattle.snippet_suggest.proofs.lines.draw_lines.Goals as goal
 

@@ -1,6 +1,6 @@
 use Rattle.std.proofs.Common.{◌≡◌, ◌++◌, All, map, take}
 use Rattle.snippet_suggest.specs.Cells.{lines_shown, row_shown}
-use Rattle.snippet_suggest.specs.Rows.{AddsShown, NumberFits}
+use Rattle.snippet_suggest.specs.SuggestionRows.{AddsShown, NumberFits}
 use Rattle.snippet_suggest.proofs.lines.draw_shown.Given as goal
 
 -- the lines before this one are drawn

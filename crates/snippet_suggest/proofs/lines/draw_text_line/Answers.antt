@@ -2,9 +2,9 @@ use Rattle.std.proofs.Common.{◌≤◌, ◌+◌, ◌∙◌, ◌++◌, ◌∷◌
 use Rattle.std.specs.List.{slice_index_or}
 use Rattle.std.proofs.lemmas.List.{length-map}
 use Rattle.snippet_style.specs.Cell.{Cell}
-use Rattle.snippet_splice.specs.Stretches.{line_stretches}
+use Rattle.snippet_splice.specs.EditStretches.{line_stretches}
 use Rattle.snippet_suggest.specs.Cells.{offered_cells, lines_shown}
-use Rattle.snippet_suggest.specs.Order.{number_after}
+use Rattle.snippet_suggest.specs.RowOrder.{number_after}
 use Rattle.snippet_suggest.proofs.PutLemmas.{offered_is}
 use Rattle.snippet_text.specs.Normalized.{norm}
 use Rattle.snippet_lines.specs.Number.{shown_number}

@@ -2,7 +2,7 @@ use Rattle.std.proofs.Common.{◌≡◌, ℕ, ◌+◌, ◌-◌, ◌≤◌, ◌++
 use Rattle.snippet_style.specs.declared.role.ElementStyle.TheVariants.{Addition}
 use Rattle.snippet_style.specs.Cell.{Cell}
 use Rattle.snippet_suggest.specs.Cells.{put}
-use Rattle.snippet_suggest.specs.Rows.{AddsRow, IsMarkOrSpace, IsEdgeRow}
+use Rattle.snippet_suggest.specs.SuggestionRows.{AddsRow, IsMarkOrSpace, IsEdgeRow}
 use Rattle.snippet_suggest.proofs.marks.draw_mark.Given as goal
 
 -- the row shows no line so far, and holds the marks before this column

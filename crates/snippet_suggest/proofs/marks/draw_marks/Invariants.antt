@@ -3,7 +3,7 @@ use Rattle.snippet_style.specs.Cell.{Cell}
 use Rattle.snippet_splice.specs.Edits.{trimmed_edit_of}
 use Rattle.snippet_suggest.specs.Marks.{edit_columns, with_marks}
 use Rattle.snippet_suggest.specs.Moves.{AreMoves}
-use Rattle.snippet_suggest.specs.Rows.{AddsRow, IsEdgeRow}
+use Rattle.snippet_suggest.specs.SuggestionRows.{AddsRow, IsEdgeRow}
 use Rattle.snippet_suggest.proofs.MarksDrawn.{Marked}
 use Rattle.snippet_suggest.proofs.marks.draw_marks.Given as goal
 

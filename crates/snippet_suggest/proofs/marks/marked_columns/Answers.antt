@@ -1,7 +1,7 @@
 use Rattle.std.proofs.Common.{◌≡◌, ◌∙◌, ◌+◌, ◌-◌, ℕ, List, ap, false, length, sym, true}
 use Rattle.std.proofs.lemmas.Bool.{cond-false, cond-true}
 use Rattle.std.specs.Str.{trim, trim_start}
-use Rattle.snippet_splice.specs.Stretches.{capped}
+use Rattle.snippet_splice.specs.EditStretches.{capped}
 use Rattle.snippet_suggest.specs.Kind.{is_blank}
 use Rattle.snippet_suggest.specs.Marks.{inner_width, lead_of, left_of, patch_mark_end, mark_start, text_width}
 use Rattle.snippet_suggest.specs.Moves.{shift_of}

@@ -10,8 +10,8 @@ use Rattle.snippet_splice.specs.declared.patches.TrimmedPatch.{TrimmedPatch}
 use Rattle.snippet_splice.specs.Copied.{written_ranges}
 use Rattle.snippet_splice.specs.Edits.{Edit, edit_bounds, edit_of, in_order, original_bounds_of, trimmed_edit_of, trimmed_edits}
 use Rattle.snippet_splice.specs.Splice.{IsSplice}
-use Rattle.snippet_splice.specs.Shown.{first_start, shown_start, shown_text}
-use Rattle.snippet_splice.specs.Stretches.{new_stretches, replaced_stretches}
+use Rattle.snippet_splice.specs.ShownText.{first_start, shown_start, shown_text}
+use Rattle.snippet_splice.specs.EditStretches.{new_stretches, replaced_stretches}
 use Rattle.snippet_suggest.specs.Given.{edits_of, given_ranges, given_text, shown_kind, trimmed_of}
 use Rattle.snippet_parts.specs.Numbered.{numbered_source}
 use Rattle.snippet_suggest.specs.Kind.{kind_of}

@@ -1,7 +1,7 @@
 use Rattle.std.proofs.Common.{◌++◌, arith}
 use Rattle.snippet_suggest.proofs.RemovedRows.{removes_begun, removes_done, removes_more}
 use Rattle.snippet_grid.specs.Grid.{row_at}
-use Rattle.snippet_suggest.specs.Order.{numbered_at}
+use Rattle.snippet_suggest.specs.RowOrder.{numbered_at}
 use Rattle.snippet_suggest.proofs.RowsDrawn.{emptied_begun, emptied_done, emptied_next, numbered_all}
 use Rattle.snippet_suggest.proofs.removed.draw_removed_lines.Goals as goal
 

@@ -1,8 +1,8 @@
 use Rattle.std.proofs.Common.{◌≡◌, ◌<◌, ◌^◌, ◌≤◌, ◌++◌, Bool, List, length}
 use Rattle.snippet_style.specs.Cell.{Cell}
-use Rattle.snippet_suggest.specs.Rows.{IsTail}
+use Rattle.snippet_suggest.specs.SuggestionRows.{IsTail}
 use Rattle.snippet_grid.specs.Grid.{row_at}
-use Rattle.snippet_suggest.specs.Order.{numbered_at}
+use Rattle.snippet_suggest.specs.RowOrder.{numbered_at}
 use Rattle.snippet_suggest.proofs.RemovedRows.{RemovesAt}
 use Rattle.snippet_suggest.proofs.RowsDrawn.{Emptied}
 use Rattle.snippet_suggest.proofs.removed.draw_removed_lines.Given as goal

@@ -2,11 +2,11 @@ use Rattle.std.proofs.Common.{◌≡◌, ◌∙◌, ◌==◌, ◌++◌, ◌∷�
 use Rattle.std.proofs.lemmas.List.{take_all}
 use Rattle.snippet_style.specs.Cell.{Cell}
 use Rattle.snippet_splice.specs.declared.stretches.SubstitutionHighlight.{SubstitutionHighlight}
-use Rattle.snippet_splice.specs.Stretches.{capped}
+use Rattle.snippet_splice.specs.EditStretches.{capped}
 use Rattle.snippet_suggest.specs.declared.roles.TabCursor.{TabCursor}
 use Rattle.snippet_suggest.specs.Cells.{stretch_cell, with_stretches}
 use Rattle.snippet_suggest.specs.Cursor.{IsCursor}
-use Rattle.snippet_suggest.specs.Rows.{IsRepainted}
+use Rattle.snippet_suggest.specs.SuggestionRows.{IsRepainted}
 use Rattle.snippet_suggest.proofs.PaintLemmas.{repaint_none, repaint_more}
 use Rattle.snippet_suggest.proofs.StretchRows.{painted_begun, painted_next, passed_next}
 use Rattle.snippet_suggest.proofs.roles.paint_stretches.Goals as goal

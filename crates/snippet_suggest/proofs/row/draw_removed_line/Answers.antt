@@ -9,7 +9,7 @@ use Rattle.snippet_text.proofs.NormLemmas.{list_any-norm}
 use Rattle.snippet_lines.specs.Number.{shown_number}
 use Rattle.snippet_suggest.proofs.GlyphLemmas.{chars-minus}
 use Rattle.snippet_lines.proofs.NumberLemmas.{chars-shown_number, shown_number_unlisted}
-use Rattle.snippet_suggest.specs.Rows.{AddsRow, IsBeforeSign, IsRemovedRow}
+use Rattle.snippet_suggest.specs.SuggestionRows.{AddsRow, IsBeforeSign, IsRemovedRow}
 use Rattle.snippet_suggest.proofs.LeftOver.{StaysLeft, number_before, number_left}
 use Rattle.snippet_suggest.proofs.RowLemmas.{All-from_none}
 use Rattle.snippet_suggest.proofs.TailLemmas.{removed_added}

@@ -1,5 +1,5 @@
 use Rattle.std.proofs.Common.{◌≡◌, ◌++◌, ◌-◌}
-use Rattle.snippet_suggest.specs.Shown.{lines_from}
+use Rattle.snippet_suggest.specs.SuggestedLines.{lines_from}
 use Rattle.snippet_suggest.proofs.shown.push_run.Given as goal
 
 -- the lines so far and those to come are all

@@ -1,7 +1,7 @@
 use Rattle.std.proofs.Common.{◌≡◌, ◌+◌, ◌<◌, ◌∙◌, false, length, get_or, sym, subst, arith, ℕ, Vec, Global, List, Contains}
 use Rattle.std.proofs.lemmas.List.{get_or_default}
 use Rattle.snippet_suggest.specs.declared.shown.SuggestionLine.{SuggestionLine}
-use Rattle.snippet_suggest.specs.Shown.{is_touched, lines_suggested, numbers_shown, AreRising}
+use Rattle.snippet_suggest.specs.SuggestedLines.{is_touched, lines_suggested, numbers_shown, AreRising}
 use Rattle.snippet_suggest.proofs.RisingLemmas.{rising_shown, shown_all, touched_shown}
 use Rattle.snippet_suggest.proofs.ShownLemmas.{touched_step, untouched_step}
 use Rattle.snippet_suggest.proofs.shown.shown_lines.Invariants.{Shows}

@@ -1,6 +1,6 @@
 use Rattle.std.proofs.Common.{◌≡◌, ◌++◌, ◌-◌, ◌≤◌, ℕ, Bool, List}
 use Rattle.snippet_suggest.specs.declared.shown.SuggestionLine.{SuggestionLine}
-use Rattle.snippet_suggest.specs.Shown.{is_touched, shown_from, lines_suggested}
+use Rattle.snippet_suggest.specs.SuggestedLines.{is_touched, shown_from, lines_suggested}
 use Rattle.snippet_suggest.proofs.shown.shown_lines.Given as goal
 
 -- what is shown so far, and what is still to come, is all

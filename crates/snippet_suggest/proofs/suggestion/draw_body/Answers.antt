@@ -5,7 +5,7 @@ use Rattle.std.proofs.lemmas.List.{append-nil, length-map}
 use Rattle.snippet_grid.specs.Grid.{row_at}
 use Rattle.snippet_style.specs.Cell.{Cell}
 use Rattle.snippet_splice.specs.declared.stretches.SubstitutionHighlight.{SubstitutionHighlight}
-use Rattle.snippet_splice.specs.Stretches.{line_stretches}
+use Rattle.snippet_splice.specs.EditStretches.{line_stretches}
 use Rattle.snippet_suggest.specs.declared.kind.DisplaySuggestion.{DisplaySuggestion}
 use Rattle.snippet_suggest.specs.Cells.{begin_cells, suggestion_row}
 use Rattle.snippet_suggest.specs.Suggested.{new_on}
@@ -20,9 +20,9 @@ use Rattle.snippet_suggest.specs.declared.kind.DisplaySuggestion.TheVariants.{Di
 use Rattle.snippet_suggest.specs.declared.shown.SuggestionLine.TheVariants.{Line}
 use Rattle.snippet_splice.specs.declared.splice.LineRange.{LineRange}
 use Rattle.snippet_suggest.specs.Given.{first_given, first_original, given_lines, given_ranges, shown_kind}
-use Rattle.snippet_suggest.specs.Order.{Begins, SuggestionRow, row_of_shown, rows_of_suggestion}
-use Rattle.snippet_suggest.specs.Rows.{AddsRows, NumberFits}
-use Rattle.snippet_suggest.specs.Shown.{is_touched, lines_suggested}
+use Rattle.snippet_suggest.specs.RowOrder.{Begins, SuggestionRow, row_of_shown, rows_of_suggestion}
+use Rattle.snippet_suggest.specs.SuggestionRows.{AddsRows, NumberFits}
+use Rattle.snippet_suggest.specs.SuggestedLines.{is_touched, lines_suggested}
 use Rattle.snippet_suggest.proofs.ComposeLemmas.{none_empty, row_alone, rows_append, rows_shown}
 use Rattle.snippet_suggest.proofs.GutterFits.{numbers_fit}
 use Rattle.snippet_suggest.proofs.KnownLemmas.{known_first, known_originals, known_some}

@@ -3,7 +3,7 @@ use Rattle.std.specs.Cow.{cow_str_bytes}
 use Rattle.std.specs.Str.{bytes_eq}
 use Rattle.snippet_lines.specs.Lines.{source_lines}
 use Rattle.snippet_lines.specs.Place.{line_of}
-use Rattle.snippet_splice.specs.Shown.{first_start}
+use Rattle.snippet_splice.specs.ShownText.{first_start}
 use Rattle.snippet_lines.specs.Span.{IsSpan}
 use Rattle.snippet_parts.specs.declared.source_map.LineInfo.{LineInfo}
 use Rattle.snippet_splice.specs.declared.patches.TrimmedPatch.{TrimmedPatch}
@@ -12,16 +12,16 @@ use Rattle.snippet_splice.specs.Edits.{AreApart, trimmed_edit_of}
 use Rattle.snippet_suggest.specs.declared.kind.DisplaySuggestion.TheVariants.{Diff}
 use Rattle.snippet_style.specs.Cell.{Cell}
 use Rattle.std.proofs.lemmas.List.{append-nil}
-use Rattle.snippet_splice.specs.Stretches.{line_stretches}
+use Rattle.snippet_splice.specs.EditStretches.{line_stretches}
 use Rattle.snippet_suggest.specs.Cells.{begin_cells, diff_cells}
 use Rattle.snippet_suggest.specs.Suggested.{new_on, suggested_stretches}
 use Rattle.snippet_suggest.proofs.KnownDiff.{IsDiff, known_diff, known_diff_rows}
 use Rattle.snippet_suggest.proofs.SuggestedRows.{body_diff, body_untouched}
 use Rattle.snippet_suggest.specs.Given.{shown_kind, given_lines, given_ranges, is_left_out, last_reached, last_removed, removed_lines, texts_at, trimmed_of}
 use Rattle.snippet_suggest.specs.Given.{unless_stays}
-use Rattle.snippet_suggest.specs.Order.{Begins, SuggestionRow, changed_rows, counted_from, removed_from, removed_row, rows_of_suggestion}
-use Rattle.snippet_suggest.specs.Rows.{AddsRows}
-use Rattle.snippet_suggest.specs.Shown.{is_touched}
+use Rattle.snippet_suggest.specs.RowOrder.{Begins, SuggestionRow, changed_rows, counted_from, removed_from, removed_row, rows_of_suggestion}
+use Rattle.snippet_suggest.specs.SuggestionRows.{AddsRows}
+use Rattle.snippet_suggest.specs.SuggestedLines.{is_touched}
 use Rattle.snippet_suggest.proofs.ComposeLemmas.{none_empty}
 use Rattle.snippet_suggest.proofs.KnownLemmas.{known_apart, known_reached, known_some, known_spans}
 use Rattle.snippet_suggest.proofs.KnownRemoved.{known_replaced_rows}

@@ -15,8 +15,8 @@ use Rattle.snippet_parts.specs.declared.source_map.LineInfo.{LineInfo}
 use Rattle.snippet_suggest.specs.contracts.kind.DisplaySuggestion.{the_type}
 use Rattle.snippet_suggest.specs.declared.kind.DisplaySuggestion.TheVariants.{Diff}
 use Rattle.snippet_suggest.specs.Given.{first_given, first_original, first_original_end, given_lines, removed_lines}
-use Rattle.snippet_suggest.specs.Order.{Begins, SuggestionRow, numbered_at, removed_from, removed_row}
-use Rattle.snippet_suggest.specs.Rows.{AddsRows, begins_in_last}
+use Rattle.snippet_suggest.specs.RowOrder.{Begins, SuggestionRow, numbered_at, removed_from, removed_row}
+use Rattle.snippet_suggest.specs.SuggestionRows.{AddsRows, begins_in_last}
 use Rattle.snippet_suggest.proofs.ComposeLemmas.{row_alone, rows_append}
 use Rattle.snippet_suggest.proofs.KnownLemmas.{known_originals, known_some}
 use Rattle.snippet_suggest.proofs.KnownRemoved.{known_emptied_rows}

@@ -7,13 +7,13 @@ use Rattle.snippet_suggest.specs.Given.{shown_kind, trimmed_of}
 use Rattle.snippet_suggest.specs.Marks.{with_marks}
 use Rattle.snippet_grid.specs.Grid.{row_at}
 use Rattle.snippet_suggest.specs.Cells.{end_cells}
-use Rattle.snippet_suggest.specs.Order.{Ends}
+use Rattle.snippet_suggest.specs.RowOrder.{Ends}
 use Rattle.snippet_suggest.specs.Suggested.{cells_of}
 use Rattle.snippet_suggest.proofs.SuggestedRows.{ends_marked, ends_plain, suggestion_is}
 use Rattle.snippet_lines.specs.Span.{IsSpan}
 use Rattle.snippet_style.specs.Cell.{Cell}
 use Rattle.snippet_splice.specs.declared.patches.TrimmedPatch.{TrimmedPatch}
-use Rattle.snippet_suggest.specs.Rows.{AddsRow, IsEdgeRow, beside_gutter, end_glyph}
+use Rattle.snippet_suggest.specs.SuggestionRows.{AddsRow, IsEdgeRow, beside_gutter, end_glyph}
 use Rattle.snippet_suggest.proofs.LastRow.{end_number, end_row, suggestion_added}
 use Rattle.snippet_suggest.proofs.KnownLemmas.{known_spans}
 use Rattle.snippet_suggest.proofs.suggestion.draw_suggestion.Goals as goal

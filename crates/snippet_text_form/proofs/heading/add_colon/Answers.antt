@@ -2,7 +2,7 @@ use Rattle.std.proofs.Common.{◌≡◌, ◌∷◌, ◌++◌, List, [], chars, s
 use Rattle.std.specs.Option.{option_copied}
 use Rattle.std.specs.Result.{OnOk}
 use Rattle.snippet_text_form.specs.Form.{FormPiece, styled}
-use Rattle.snippet_text_form.specs.Heading.{colon_form}
+use Rattle.snippet_text_form.specs.HeadingForm.{colon_form}
 use Rattle.snippet_text_form.proofs.LabelForm.{colon_named, colon_set}
 use Rattle.snippet_text_form.proofs.heading.add_colon.Goals as goal
 use Rattle.snippet_text_form.proofs.heading.add_colon.Goals.{else-hidden-via-then-hidden+else-not-is_set, else-hidden-via-else-hidden}

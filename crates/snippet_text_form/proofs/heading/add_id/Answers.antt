@@ -2,8 +2,8 @@ use Rattle.std.proofs.Common.{◌≡◌, ◌∙◌, ap, chars}
 use Rattle.std.specs.Cow.{cow_str_bytes}
 use Rattle.std.specs.Option.{option_copied, option_map}
 use Rattle.snippet_text.specs.Normalized.{norm}
-use Rattle.snippet_titles.specs.Heading.{address_of}
-use Rattle.snippet_text_form.specs.Heading.{link_for}
+use Rattle.snippet_titles.specs.HeadingRows.{address_of}
+use Rattle.snippet_text_form.specs.HeadingForm.{link_for}
 use Rattle.snippet_text_form.proofs.LabelForm.{id-added, link-known}
 use Rattle.snippet_text_form.proofs.heading.add_id.Goals as goal
 use Rattle.snippet_text_form.proofs.heading.add_id.Goals.{then-is_empty, else-is_empty}

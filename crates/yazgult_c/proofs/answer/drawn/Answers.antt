@@ -1,5 +1,5 @@
 use Rattle.std.proofs.Common.{sym, subst}
-use Rattle.yazgult_c.specs.Answer.{IsDrawn}
+use Rattle.yazgult_c.specs.AnswerBytes.{IsDrawn}
 use Rattle.yazgult_c.proofs.Drawing.{drawn_is}
 use Rattle.yazgult_c.proofs.answer.drawn.Goals as goal
 

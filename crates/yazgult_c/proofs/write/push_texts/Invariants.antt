@@ -1,6 +1,6 @@
 use Rattle.std.proofs.Common.{◌≡◌, ◌++◌, map, string_bytes, take}
 use Rattle.std.specs.List.{flat_map}
-use Rattle.yazgult_c.specs.Answer.{text_bytes}
+use Rattle.yazgult_c.specs.AnswerBytes.{text_bytes}
 use Rattle.yazgult_c.proofs.write.push_texts.Given as goal
 
 -- the texts so far were added

@@ -4,7 +4,7 @@ use Rattle.std.proofs.lemmas.Result.{IfOk-weaker}
 use Rattle.snippet_model.specs.Trusted.{trusted_texts}
 use Rattle.snippet_model.specs.declared.snippet.Group.{Group}
 use Rattle.snippet_style.specs.declared.stylesheet.Stylesheet.{Stylesheet}
-use Rattle.annotate_snippets.specs.Drawn.{IsPrintedAs}
+use Rattle.annotate_snippets.specs.DrawnReport.{IsPrintedAs}
 use Rattle.annotate_snippets.specs.Fault.{form_of}
 use Rattle.annotate_snippets.specs.FormLaws.{HasLaws, IsTextUnder}
 use Rattle.annotate_snippets.specs.Forms.{AreFree, TextsShown, links_in}

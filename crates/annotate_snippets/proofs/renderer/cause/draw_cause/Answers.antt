@@ -2,8 +2,8 @@ use Rattle.std.proofs.Common.{◌≡◌, ◌∙◌, ◌++◌, Bool, List, ap, re
 use Rattle.std.proofs.lemmas.List.{append_assoc}
 use Rattle.std.proofs.lemmas.Result.{on_ok_weaker}
 use Rattle.snippet_style.specs.Cell.{Cell}
-use Rattle.annotate_snippets.specs.Drawn.{AreCauseRows}
-use Rattle.annotate_snippets.specs.Rows.{cause_head, rows_after_cause}
+use Rattle.annotate_snippets.specs.DrawnReport.{AreCauseRows}
+use Rattle.annotate_snippets.specs.RowsWithoutSource.{cause_head, rows_after_cause}
 use Rattle.annotate_snippets.proofs.renderer.cause.draw_cause.Goals as goal
 
 -- what is added piece by piece is added as a whole

@@ -16,11 +16,11 @@ use Rattle.snippet_window.specs.Measures.{margin_of}
 use Rattle.snippet_parts.specs.declared.entries.LineAnnotation.{LineAnnotation}
 use Rattle.snippet_window.specs.Measures.{StandsClear}
 use Rattle.snippet_grid.specs.Layout.{Layout}
-use Rattle.snippet_labels.specs.Entries.{HasPlace}
+use Rattle.snippet_labels.specs.PlacedEntries.{HasPlace}
 use Rattle.snippet_strokes.specs.EntryMarks.{HasBarCell}
 use Rattle.snippet_strokes.specs.Snippet.{AreLinesShown}
 use Rattle.annotate_snippets.specs.Gutter.{numbered_source}
-use Rattle.annotate_snippets.specs.Prepared.{IsCausePrepared}
+use Rattle.annotate_snippets.specs.PreparedReport.{IsCausePrepared}
 use Rattle.annotate_snippets.specs.declared.renderer.preprocess.PreparedCause.{PreparedCause}
 use Rattle.annotate_snippets.proofs.GutterLemmas.{numbers_fit}
 use Rattle.annotate_snippets.proofs.PartsFacts.{lines_labels, lines_places, lines_bar_cells, lines_texts, bounds_of_kept, shown_clear}

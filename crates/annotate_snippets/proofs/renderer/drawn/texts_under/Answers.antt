@@ -1,6 +1,6 @@
 use Rattle.std.proofs.Common.{◌∙◌, [], ◌∷◌, ap, arith, map, string_bytes}
 use Rattle.std.proofs.lemmas.List.{map-append}
-use Rattle.annotate_snippets.specs.Drawn.{IsPrintedAs}
+use Rattle.annotate_snippets.specs.DrawnReport.{IsPrintedAs}
 use Rattle.annotate_snippets.proofs.PrintLemmas.{AllZip-push}
 use Rattle.annotate_snippets.proofs.renderer.drawn.texts_under.Goals as goal
 

@@ -2,7 +2,7 @@ use Rattle.std.proofs.Common.{[], ◌∷◌, ap, refl}
 use Rattle.std.proofs.lemmas.Result.{on_ok_weaker}
 use Rattle.snippet_model.specs.declared.snippet.Element.TheVariants.{Cause, Message, Origin, Padding}
 use Rattle.snippet_titles.specs.Origin.{padding_row}
-use Rattle.annotate_snippets.specs.Prepared.{element_of}
+use Rattle.annotate_snippets.specs.PreparedReport.{element_of}
 use Rattle.annotate_snippets.proofs.PlainRows.{plain_added}
 use Rattle.annotate_snippets.proofs.renderer.elements.draw_element.Goals as goal
 

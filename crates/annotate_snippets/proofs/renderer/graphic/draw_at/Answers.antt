@@ -2,7 +2,7 @@ use Rattle.std.proofs.Common.{◌≡◌, ◌∙◌, ap}
 use Rattle.std.specs.Option.{option_copied, option_or}
 use Rattle.std.proofs.lemmas.Result.{IfOk-weaker}
 use Rattle.annotate_snippets.specs.Around.{primary_path}
-use Rattle.annotate_snippets.specs.Drawn.{IsGridAt, IsGroupGrid}
+use Rattle.annotate_snippets.specs.DrawnReport.{IsGridAt, IsGroupGrid}
 use Rattle.annotate_snippets.specs.Gutter.{layout_of_group}
 use Rattle.annotate_snippets.proofs.GridRows.{copied_or, grid_at, layout_is, room_at}
 use Rattle.annotate_snippets.proofs.renderer.graphic.draw_at.Goals as goal

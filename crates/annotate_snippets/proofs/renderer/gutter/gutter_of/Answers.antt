@@ -5,7 +5,7 @@ use Rattle.std.proofs.lemmas.List.Elements.{All-same}
 use Rattle.std.proofs.lemmas.List.Folds.{flat_map-map}
 use Rattle.snippet_model.specs.declared.snippet.Group.{Group}
 use Rattle.annotate_snippets.specs.Gutter.{greatest_wanted, width_wanted}
-use Rattle.annotate_snippets.specs.Prepared.{IsElementPrepared, IsGroupPrepared}
+use Rattle.annotate_snippets.specs.PreparedReport.{IsElementPrepared, IsGroupPrepared}
 use Rattle.annotate_snippets.specs.declared.renderer.preprocess.PreparedGroup.{PreparedGroup}
 use Rattle.annotate_snippets.proofs.WidestLemmas.{elements_in, greater, widest-more_groups, widest-prepared, width-undrawn}
 use Rattle.annotate_snippets.proofs.renderer.gutter.gutter_of.Goals as goal

@@ -1,7 +1,7 @@
 use Rattle.std.proofs.Common.{List, string_bytes}
 use Rattle.std.proofs.lemmas.Result.{IfOk-weaker}
 use Rattle.snippet_model.specs.declared.snippet.Group.{Group}
-use Rattle.annotate_snippets.specs.Drawn.{IsPrintedAs}
+use Rattle.annotate_snippets.specs.DrawnReport.{IsPrintedAs}
 use Rattle.annotate_snippets.specs.FormLaws.{IsTextUnder}
 use Rattle.annotate_snippets.specs.declared.renderer.drawn.Drawn.{Drawn}
 use Rattle.annotate_snippets.proofs.WriteLemmas.{is_under}

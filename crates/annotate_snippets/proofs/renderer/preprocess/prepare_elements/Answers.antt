@@ -4,7 +4,7 @@ use Rattle.std.specs.Option.{option_map}
 use Rattle.std.proofs.lemmas.List.{append-nil, take_all}
 use Rattle.std.proofs.lemmas.List.Elements.{All-nil, All-same}
 use Rattle.annotate_snippets.specs.Around.{is_drawn}
-use Rattle.annotate_snippets.specs.Prepared.{IsElementDrawable, IsElementPrepared, element_of}
+use Rattle.annotate_snippets.specs.PreparedReport.{IsElementDrawable, IsElementPrepared, element_of}
 use Rattle.annotate_snippets.specs.declared.renderer.preprocess.PreparedElement.{PreparedElement}
 use Rattle.annotate_snippets.proofs.PreparedLemmas.{AreDrawnPrepared-push}
 use Rattle.annotate_snippets.proofs.renderer.preprocess.prepare_elements.Goals as goal

@@ -3,7 +3,7 @@ use Rattle.std.specs.List.{filter}
 use Rattle.std.proofs.lemmas.List.{take_all}
 use Rattle.std.proofs.lemmas.List.Elements.{All-nil, All-same}
 use Rattle.annotate_snippets.specs.Around.{is_drawn}
-use Rattle.annotate_snippets.specs.Prepared.{IsElementDrawable, IsGroupDrawable, IsGroupPrepared}
+use Rattle.annotate_snippets.specs.PreparedReport.{IsElementDrawable, IsGroupDrawable, IsGroupPrepared}
 use Rattle.annotate_snippets.proofs.PreparedLemmas.{ArePrepared-push, group_of}
 use Rattle.annotate_snippets.proofs.renderer.preprocess.prepare_groups.Goals as goal
 

@@ -1,7 +1,7 @@
 use Rattle.std.proofs.Common.{◌∙◌, ap, chars, take}
 use Rattle.std.proofs.lemmas.List.{take_all}
 use Rattle.std.proofs.lemmas.Str.{chars-nil}
-use Rattle.annotate_snippets.specs.Short.{joined_labels, primary_labels}
+use Rattle.annotate_snippets.specs.ShortForm.{joined_labels, primary_labels}
 use Rattle.annotate_snippets.proofs.ShortLemmas.{primary_labels-more}
 use Rattle.annotate_snippets.proofs.renderer.short.labels_of.Goals as goal
 

@@ -1,7 +1,7 @@
 use Rattle.std.proofs.Common.{◌∙◌, ap, arith, chars, length, sym}
 use Rattle.std.specs.Option.{option_copied}
 use Rattle.std.proofs.lemmas.Str.{chars-nil}
-use Rattle.annotate_snippets.specs.Short.{place_of_cause}
+use Rattle.annotate_snippets.specs.ShortForm.{place_of_cause}
 use Rattle.annotate_snippets.proofs.renderer.short.place_before.Goals as goal
 
 pub returns-in-None-clause-value : goal.returns-in-None-clause-value

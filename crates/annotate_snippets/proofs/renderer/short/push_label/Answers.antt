@@ -5,7 +5,7 @@ use Rattle.std.specs.List.{list_all}
 use Rattle.std.proofs.lemmas.List.{append-nil}
 use Rattle.std.proofs.lemmas.Str.{IsUtf8-string_bytes}
 use Rattle.snippet_text.specs.Normalized.{norm}
-use Rattle.annotate_snippets.specs.Short.{joined_labels, primary_labels}
+use Rattle.annotate_snippets.specs.ShortForm.{joined_labels, primary_labels}
 use Rattle.annotate_snippets.proofs.ShortLemmas.{joined_labels-added, lead, on_added, primary_labels-one}
 use Rattle.annotate_snippets.proofs.renderer.short.push_label.Goals as goal
 use Rattle.annotate_snippets.proofs.renderer.short.push_label.Goals.{then-is_empty, else-is_empty}

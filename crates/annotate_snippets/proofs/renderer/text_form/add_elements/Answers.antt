@@ -3,7 +3,7 @@ use Rattle.std.specs.Option.{option_copied}
 use Rattle.std.proofs.lemmas.List.{length-map}
 use Rattle.annotate_snippets.specs.Around.{first_two_share}
 use Rattle.annotate_snippets.specs.Around.{is_drawn}
-use Rattle.annotate_snippets.specs.Prepared.{IsElementDrawable}
+use Rattle.annotate_snippets.specs.PreparedReport.{IsElementDrawable}
 use Rattle.annotate_snippets.specs.declared.renderer.text_form.DrawnElement.{DrawnElement}
 use Rattle.annotate_snippets.specs.TextForm.{before_seen}
 use Rattle.annotate_snippets.proofs.FormSteps.{all_added, element_added, none_added, number_small}

@@ -5,7 +5,7 @@ use Rattle.std.proofs.lemmas.List.Elements.{All-filter, filter_passes}
 use Rattle.std.proofs.lemmas.Result.{on_ok_weaker}
 use Rattle.snippet_text_form.specs.Form.{FormPiece}
 use Rattle.annotate_snippets.specs.Around.{is_drawn}
-use Rattle.annotate_snippets.specs.Prepared.{IsElementDrawable}
+use Rattle.annotate_snippets.specs.PreparedReport.{IsElementDrawable}
 use Rattle.annotate_snippets.proofs.DrawnElementLemmas.{drawn_all, seen}
 use Rattle.annotate_snippets.proofs.FormSteps.{group_added, no_title_added, title_added, title_form}
 use Rattle.annotate_snippets.proofs.renderer.text_form.add_group.Goals as goal

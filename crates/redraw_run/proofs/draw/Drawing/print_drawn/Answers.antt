@@ -1,6 +1,6 @@
 use Rattle.std.proofs.Common.{ap, refl, string_bytes, ◌∙◌}
 use Rattle.annotate_snippets.specs.declared.renderer.Renderer.{Renderer}
-use Rattle.redraw_run.specs.Drawn.{ShowsFinding, ending_after}
+use Rattle.redraw_run.specs.DrawnFinding.{ShowsFinding, ending_after}
 use Rattle.redraw_run.proofs.Doing.{goes_any}
 use Rattle.redraw_run.proofs.Done.{at_ok, does_same, ended, goes_drawn}
 use Rattle.redraw_run.proofs.draw.Drawing.print_drawn.Goals as goal

@@ -1,6 +1,6 @@
 use Rattle.std.proofs.Common.{◌∙◌, ◌++◌, ℕ, List, ap, sym, string_bytes}
 use Rattle.std.proofs.lemmas.Result.{on_ok_weaker}
-use Rattle.snippet_grid.specs.Codes.{opening_bytes, style_at, styles_in}
+use Rattle.snippet_grid.specs.SheetCodes.{opening_bytes, style_at, styles_in}
 use Rattle.std.proofs.lemmas.List.{append-nil}
 use Rattle.snippet_style.proofs.StyleLemmas.{plain_is_plain}
 use Rattle.snippet_grid.proofs.CodeLemmas.{openings_set, style_read}

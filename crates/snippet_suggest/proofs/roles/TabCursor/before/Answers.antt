@@ -1,5 +1,5 @@
 use Rattle.std.proofs.Common.{◌≡◌, ◌∙◌, ◌≤◌, ◌==◌, ℕ, ap, arith, chars, count_by, refl, subst, sym, take}
-use Rattle.snippet_splice.specs.Stretches.{capped}
+use Rattle.snippet_splice.specs.EditStretches.{capped}
 use Rattle.snippet_suggest.specs.declared.roles.TabCursor.{TabCursor}
 use Rattle.snippet_suggest.specs.Cursor.{IsCursor}
 use Rattle.snippet_suggest.proofs.StretchRows.{cursor_ended, cursor_next, cursor_there}

@@ -1,6 +1,6 @@
 use Rattle.std.proofs.Common.{arith, subst}
 use Rattle.annotate_snippets.specs.Gutter.{numbered_source}
-use Rattle.annotate_snippets.specs.Prepared.{IsElementPrepared}
+use Rattle.annotate_snippets.specs.PreparedReport.{IsElementPrepared}
 use Rattle.annotate_snippets.proofs.PartsFacts.{deepest_few}
 use Rattle.annotate_snippets.proofs.renderer.preprocess.PreparedElement.depth.Goals as goal
 

@@ -2,7 +2,7 @@ use Rattle.std.proofs.Common.{◌∙◌, All, List, ap, arith, fold, map, subst,
 use Rattle.std.proofs.lemmas.List.{take_all}
 use Rattle.std.proofs.lemmas.List.Elements.{All-same}
 use Rattle.annotate_snippets.specs.Gutter.{depth_of_element}
-use Rattle.annotate_snippets.specs.Prepared.{IsElementPrepared, element_of}
+use Rattle.annotate_snippets.specs.PreparedReport.{IsElementPrepared, element_of}
 use Rattle.annotate_snippets.specs.declared.renderer.preprocess.PreparedElement.{PreparedElement}
 use Rattle.annotate_snippets.proofs.WidestLemmas.{depth-undrawn, greater, widest-more, widest-prepared}
 use Rattle.annotate_snippets.proofs.renderer.preprocess.PreparedGroup.depth.Goals as goal

@@ -12,8 +12,8 @@ use Rattle.snippet_style.specs.declared.role.ElementStyle.TheVariants as role
 use Rattle.snippet_style.specs.declared.role.LevelInner.{LevelInner}
 use Rattle.snippet_text.specs.Normalized.{norm}
 use Rattle.snippet_text.specs.Width.{width_of}
-use Rattle.snippet_titles.specs.Heading as titles
-use Rattle.snippet_titles.specs.Heading.{address_of, heading_lines}
+use Rattle.snippet_titles.specs.HeadingRows as titles
+use Rattle.snippet_titles.specs.HeadingRows.{address_of, heading_lines}
 use Rattle.snippet_titles.specs.declared.style.HeadingRoles.{HeadingRoles}
 use Rattle.snippet_titles.specs.declared.style.TitleStyle.TheVariants as style
 use Rattle.snippet_text_form.specs.Form.{FormPiece, Break, Styled, bare, styled}

@@ -5,9 +5,9 @@ use Rattle.snippet_style.specs.Cell.{Cell, text_cells}
 use Rattle.snippet_grid.specs.Print.{row_text}
 use Rattle.snippet_model.specs.Heading.{Heading}
 use Rattle.snippet_titles.specs.declared.style.TitleStyle.TheVariants.{Short}
-use Rattle.snippet_titles.specs.Heading.{heading_lines, indent_cells, label_cells, heading_label_text, label_width, lines_below, roles_of}
-use Rattle.snippet_titles.specs.Heading.{without_empty_end}
-use Rattle.snippet_titles.specs.Shown.{texts_below}
+use Rattle.snippet_titles.specs.HeadingRows.{heading_lines, indent_cells, label_cells, heading_label_text, label_width, lines_below, roles_of}
+use Rattle.snippet_titles.specs.HeadingRows.{without_empty_end}
+use Rattle.snippet_titles.specs.ShownHeading.{texts_below}
 
 -- some rows, or some texts, of which the first goes on with these cells, or characters
 abbrev pub with_end : {X : Type 0} → List X → List (List X) → List (List X)

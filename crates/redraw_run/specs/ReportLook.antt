@@ -5,7 +5,7 @@ use Rattle.annotate_snippets.specs.declared.renderer.Renderer.{Renderer}
 use Rattle.redraw_command.specs.Look.{has_colors, has_links}
 use Rattle.redraw_command.specs.declared.terminal.Look.{Look}
 use Rattle.redraw_command.specs.declared.terminal.Surroundings.{Surroundings}
-use Rattle.report_options.specs.Settings.{settings_of}
+use Rattle.report_options.specs.OptionSettings.{settings_of}
 use Rattle.report_options.specs.declared.options.Options.{Options}
 
 -- the options that the library's programs share, as a look has them in some surroundings

@@ -9,11 +9,11 @@ use Rattle.snippet_lines.specs.Lines.{source_lines}
 use Rattle.snippet_lines.specs.Span.{IsSpan}
 use Rattle.snippet_splice.specs.Edits.{edit_bounds, in_order, original_bounds_of, trimmed_edit_of}
 use Rattle.snippet_splice.specs.Overlap.{AreDisjoint}
-use Rattle.snippet_splice.specs.Stretches.{line_stretches, new_stretches, replaced_stretches}
+use Rattle.snippet_splice.specs.EditStretches.{line_stretches, new_stretches, replaced_stretches}
 use Rattle.snippet_suggest.specs.declared.prepared.PreparedSuggestion.{PreparedSuggestion}
 use Rattle.snippet_suggest.specs.Given.{counted_line, edits_of, first_given, given_lines, given_ranges, given_text, shown_kind, trimmed_of}
 use Rattle.snippet_parts.specs.Numbered.{numbered_source}
-use Rattle.snippet_text.specs.Bounds.{TextFits}
+use Rattle.snippet_text.specs.TextBounds.{TextFits}
 use Rattle.snippet_style.specs.Bounds.{IsUsize}
 
 -- what preparing a snippet of patches asks of it: that its source fits, that each patch has a span, that no two of them

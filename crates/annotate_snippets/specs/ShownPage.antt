@@ -32,8 +32,8 @@ use Rattle.snippet_splice.specs.Edits.{patched}
 use Rattle.snippet_splice.specs.Spliced.{IsTouched}
 use Rattle.snippet_suggest.specs.Given.{IsAsItWas, IsOfferable, edits_of, first_given, given_lines, offered_lines, removed_lines}
 use Rattle.snippet_suggest.specs.Kind.{is_blank}
-use Rattle.snippet_suggest.specs.Order.{Begins, Empty, Ends, Offers, Removes, Skips, SuggestionRow, removed_number}
-use Rattle.snippet_suggest.specs.Rows.{HasLeft, IsBareRow, IsRemovedRow, IsSign, begin_glyph, beside_gutter, end_glyph, gap_left}
+use Rattle.snippet_suggest.specs.RowOrder.{Begins, Empty, Ends, Offers, Removes, Skips, SuggestionRow, removed_number}
+use Rattle.snippet_suggest.specs.SuggestionRows.{HasLeft, IsBareRow, IsRemovedRow, IsSign, begin_glyph, beside_gutter, end_glyph, gap_left}
 use Rattle.snippet_suggest.specs.Suggested.{HasSign}
 use Rattle.snippet_window.specs.Margin.{Bounds}
 use Rattle.snippet_window.specs.Measures.{margin_of}
@@ -42,16 +42,16 @@ use Rattle.snippet_parts.specs.Mark.{is_marked_on, is_marking, is_wide, qualifie
 use Rattle.snippet_parts.specs.Location.{IsLocation}
 use Rattle.snippet_parts.specs.declared.location.Location.{Location}
 use Rattle.snippet_window.specs.Window.{chars_at, stands_whole, IsWindowOf}
-use Rattle.snippet_model.specs.Rows.{IsFree}
+use Rattle.snippet_model.specs.FreeRows.{IsFree}
 use Rattle.snippet_style.specs.Glyphs.{separator_of, placeholder_of}
 use Rattle.snippet_strokes.specs.EntryMarks.{IsMarkCell, IsBarCell, has_mark_role}
-use Rattle.snippet_labels.specs.Entries.{label_role}
+use Rattle.snippet_labels.specs.PlacedEntries.{label_role}
 use Rattle.snippet_strokes.specs.Labels.{IsStemCell, IsStrokeCell}
-use Rattle.snippet_strokes.specs.Rows.{IsElisionRow}
+use Rattle.snippet_strokes.specs.StrokeRows.{IsElisionRow}
 use Rattle.snippet_strokes.specs.SourceRows.{bare_row}
-use Rattle.snippet_titles.specs.Heading.{heading_rows}
+use Rattle.snippet_titles.specs.HeadingRows.{heading_rows}
 use Rattle.snippet_titles.specs.Origin.{origin_text, padding_row}
-use Rattle.snippet_titles.specs.Shown.{IsFreeButText, LinksId, heading_texts}
+use Rattle.snippet_titles.specs.ShownHeading.{IsFreeButText, LinksId, heading_texts}
 use Rattle.snippet_titles.specs.Title.{id_links}
 use Rattle.snippet_titles.specs.declared.style.TitleStyle.{TitleStyle}
 use Rattle.snippet_titles.specs.declared.style.TitleStyle.TheVariants as style
@@ -62,16 +62,16 @@ use Rattle.annotate_snippets.specs.declared.renderer.element_context.Next.{Next}
 use Rattle.annotate_snippets.specs.declared.renderer.element_context.ElementContext.{ElementContext}
 use Rattle.annotate_snippets.specs.Around.{closes_with, drawn_elements, file_of_group, is_end, next_of, path_bytes, position_of_group, context_at}
 use Rattle.annotate_snippets.specs.Around.{suggestion_rows}
-use Rattle.annotate_snippets.specs.Drawn.{found_at, suggestion_layout, suggestion_lines}
+use Rattle.annotate_snippets.specs.DrawnReport.{found_at, suggestion_layout, suggestion_lines}
 pub use Rattle.annotate_snippets.specs.GraphicForm.{name_of_row}
 use Rattle.annotate_snippets.specs.GraphicForm.{graphic_form}
 use Rattle.annotate_snippets.specs.Gutter.{layout_of_group, line_numbers, number_text, numbered_source}
-use Rattle.annotate_snippets.specs.LineRows.{AreRowsDrawn}
+use Rattle.annotate_snippets.specs.SnippetLineRows.{AreRowsDrawn}
 use Rattle.annotate_snippets.specs.Page.{RowName, SourceRow, Elision, OfferedLine, RemovedLine, Other, NamedRow, lines_named, lines_offered, lines_removed}
 use Rattle.annotate_snippets.specs.Page.{names_in, names_of_lines, cells_below, cells_of, rows_below, others, GroupPage, Page, PrintsPage, IsAscending}
 use Rattle.annotate_snippets.specs.SpanBars.{ShowsBars}
-use Rattle.annotate_snippets.specs.Rows.{cause_head, message_style, origin_rows, place_found, place_given, rows_after_cause, rows_after_title}
-use Rattle.annotate_snippets.specs.Rows.{suggestion_head}
+use Rattle.annotate_snippets.specs.RowsWithoutSource.{cause_head, message_style, origin_rows, place_found, place_given, rows_after_cause, rows_after_title}
+use Rattle.annotate_snippets.specs.RowsWithoutSource.{suggestion_head}
 
 -- the rows show a title or a message, which answers this: level, identifier, text, and whether that is trusted. They are its rows
 -- cell by cell; so the row of each line of its text is the text of that line as it is drawn, the first after the label; the text of

@@ -16,10 +16,10 @@ use Rattle.snippet_parts.specs.Annotated.{annotated_lines}
 use Rattle.snippet_style.specs.Cell.{Cell}
 use Rattle.snippet_text.specs.Normalized.{norm}
 use Rattle.snippet_titles.specs.Origin.{origin_text}
-use Rattle.snippet_titles.specs.Short.{short_rows}
+use Rattle.snippet_titles.specs.ShortRows.{short_rows}
 use Rattle.annotate_snippets.specs.Around.{path_bytes}
 use Rattle.annotate_snippets.specs.Gutter.{numbered_source}
-use Rattle.annotate_snippets.specs.Rows.{place_named}
+use Rattle.annotate_snippets.specs.RowsWithoutSource.{place_named}
 use Rattle.annotate_snippets.specs.declared.renderer.Renderer.{Renderer}
 
 -- the first annotated snippet of some elements

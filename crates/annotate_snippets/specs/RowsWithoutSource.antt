@@ -15,11 +15,11 @@ use Rattle.snippet_lines.specs.Place.{start_location}
 use Rattle.snippet_parts.specs.Annotated.{KeptLine, annotated_lines}
 use Rattle.snippet_parts.specs.Location.{primary_place, secondary_place}
 use Rattle.snippet_parts.specs.declared.location.Location.{Location}
-use Rattle.snippet_splice.specs.Shown.{first_start}
+use Rattle.snippet_splice.specs.ShownText.{first_start}
 use Rattle.snippet_suggest.specs.Given.{trimmed_of}
 use Rattle.snippet_suggest.specs.declared.SuggestionStart.{SuggestionStart}
 use Rattle.snippet_suggest.specs.declared.SuggestionStart.TheVariants as start
-use Rattle.snippet_titles.specs.Heading.{heading_rows}
+use Rattle.snippet_titles.specs.HeadingRows.{heading_rows}
 use Rattle.snippet_titles.specs.Origin.{origin_row, primary_start, snippet_head}
 use Rattle.snippet_style.specs.Separators.{closing_row, separator_row}
 use Rattle.snippet_titles.specs.Title.{title_rows}

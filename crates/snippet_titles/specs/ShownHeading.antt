@@ -7,7 +7,7 @@ use Rattle.snippet_text.specs.Normalized.{norm, is_listed}
 use Rattle.snippet_model.specs.Heading.{Heading, is_hidden}
 use Rattle.snippet_model.specs.Level.{name_of}
 use Rattle.snippet_titles.specs.declared.style.TitleStyle.{TitleStyle}
-use Rattle.snippet_titles.specs.Heading.{heading_lines, indent_cells, heading_label_text, label_width, opening_bracket_of, sign_cells}
+use Rattle.snippet_titles.specs.HeadingRows.{heading_lines, indent_cells, heading_label_text, label_width, opening_bracket_of, sign_cells}
 use Rattle.snippet_titles.specs.Title.{id_address, id_chars}
 
 -- the texts of lines: the first stands after these characters, each further one after those

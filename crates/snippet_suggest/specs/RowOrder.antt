@@ -8,14 +8,14 @@ use Rattle.snippet_model.specs.declared.snippet.Patch.{Patch}
 use Rattle.snippet_parts.specs.declared.source_map.LineInfo.{LineInfo}
 use Rattle.snippet_lines.specs.Lines.{source_lines, text_at}
 use Rattle.snippet_lines.specs.Place.{line_of}
-use Rattle.snippet_splice.specs.Shown.{first_start}
+use Rattle.snippet_splice.specs.ShownText.{first_start}
 use Rattle.snippet_suggest.specs.declared.kind.DisplaySuggestion.{DisplaySuggestion}
 use Rattle.snippet_suggest.specs.declared.kind.DisplaySuggestion.TheVariants.{Underline, Diff, Plain, Add}
 use Rattle.snippet_suggest.specs.declared.layout.SuggestionStart.{SuggestionStart}
 use Rattle.snippet_suggest.specs.declared.shown.SuggestionLine.{SuggestionLine}
 use Rattle.snippet_suggest.specs.declared.shown.SuggestionLine.TheVariants.{Line, Gap}
 use Rattle.snippet_suggest.specs.Given.{first_given, given_lines, given_ranges, is_left_out, last_reached, removed_lines, shown_kind, trimmed_of}
-use Rattle.snippet_suggest.specs.Shown.{is_touched, lines_suggested}
+use Rattle.snippet_suggest.specs.SuggestedLines.{is_touched, lines_suggested}
 
 -- what a row of a suggestion shows: what the suggestion begins with; a line that it offers, counted from the first that is given;
 -- that lines are left out; line i of the source as removed, with this number beside it and this text; nothing; or what it ends

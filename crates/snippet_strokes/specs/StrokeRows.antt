@@ -15,9 +15,9 @@ use Rattle.snippet_grid.specs.Grid.{row_at, cell_at, restyled}
 use Rattle.snippet_style.specs.Cell.{Cell, SPACE, text_cells, gives_way}
 use Rattle.snippet_grid.specs.Layout.{Layout, inner_cell}
 use Rattle.snippet_strokes.specs.EntryMarks.{EntryCovers, IsEntryMark, IsMarkCell, IsBarCell, are_plain, has_mark_role, wide_entries}
-use Rattle.snippet_labels.specs.Entries.{label_text, label_role}
+use Rattle.snippet_labels.specs.PlacedEntries.{label_text, label_role}
 use Rattle.snippet_model.specs.AnnotationKind.{is_primary}
-use Rattle.snippet_model.specs.Rows.{IsFree}
+use Rattle.snippet_model.specs.FreeRows.{IsFree}
 use Rattle.snippet_strokes.specs.Labels.{IsLabelledAtEnd, LabelsStand}
 use Rattle.snippet_strokes.specs.Drawing.{StandsFrom}
 use Rattle.snippet_strokes.specs.SourceRows.{bare_row}

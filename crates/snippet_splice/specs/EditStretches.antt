@@ -8,7 +8,7 @@ use Rattle.snippet_splice.specs.declared.stretches.PatchExtent.{PatchExtent}
 use Rattle.snippet_splice.specs.declared.stretches.SubstitutionHighlight.{SubstitutionHighlight}
 use Rattle.snippet_splice.specs.Copied.{in_text, written, end_from}
 use Rattle.snippet_splice.specs.Edits.{Edit, edit_bounds, in_order, trimmed_edits}
-use Rattle.snippet_splice.specs.Shown.{first_start, shown_start, shown_rest, closes_line}
+use Rattle.snippet_splice.specs.ShownText.{first_start, shown_start, shown_rest, closes_line}
 
 -- a number, as far as there are numbers
 abbrev pub capped : ℕ → ℕ

@@ -12,7 +12,7 @@ use Rattle.snippet_model.specs.Fits.{AnnotationFits, GroupFits, MessageFits}
 use Rattle.snippet_lines.specs.Lines.{source_lines}
 use Rattle.snippet_lines.specs.Span.{IsSpan}
 use Rattle.snippet_parts.specs.Annotated.{annotated_lines, deepest, seen_kept}
-use Rattle.snippet_suggest.specs.Prepared.{IsPrepared, IsSuggestible}
+use Rattle.snippet_suggest.specs.PreparedSuggestion.{IsPrepared, IsSuggestible}
 use Rattle.annotate_snippets.specs.declared.renderer.preprocess.PreparedCause.{PreparedCause}
 use Rattle.annotate_snippets.specs.declared.renderer.preprocess.PreparedElement.{PreparedElement}
 use Rattle.annotate_snippets.specs.declared.renderer.preprocess.PreparedElement.TheVariants.{Message, Cause, Suggestion, Origin, Padding}
@@ -21,7 +21,7 @@ use Rattle.annotate_snippets.specs.declared.renderer.element_context.GroupPositi
 use Rattle.annotate_snippets.specs.declared.renderer.element_context.ElementContext.{ElementContext}
 use Rattle.annotate_snippets.specs.Around.{drawn_elements, context_at}
 use Rattle.annotate_snippets.specs.Gutter.{numbered_source}
-use Rattle.snippet_text.specs.Bounds.{TextFits}
+use Rattle.snippet_text.specs.TextBounds.{TextFits}
 use Rattle.snippet_style.specs.Bounds.{IsCount, IsUsize}
 
 -- what drawing a snippet asks of it: that its texts and its line numbers fit, and that each of its spans is one

@@ -19,8 +19,8 @@ use Rattle.snippet_window.specs.Measures.{margin_of}
 use Rattle.snippet_strokes.specs.Snippet.{AreLinesShown}
 use Rattle.snippet_suggest.specs.declared.SuggestionLayout.{SuggestionLayout}
 use Rattle.snippet_suggest.specs.Given.{first_given, given_lines, given_text}
-use Rattle.snippet_suggest.specs.Order.{Ends}
-use Rattle.snippet_suggest.specs.Rows.{IsTail, Shows}
+use Rattle.snippet_suggest.specs.RowOrder.{Ends}
+use Rattle.snippet_suggest.specs.SuggestionRows.{IsTail, Shows}
 use Rattle.snippet_suggest.specs.Suggested.{body_cells, cells_of as row_cells}
 use Rattle.snippet_suggest.specs.declared.SuggestionStart.{SuggestionStart}
 use Rattle.snippet_suggest.specs.declared.SuggestionStart.TheVariants as start
@@ -33,13 +33,13 @@ use Rattle.annotate_snippets.specs.declared.renderer.element_context.GroupPositi
 use Rattle.annotate_snippets.specs.declared.renderer.element_context.ElementContext.{ElementContext}
 use Rattle.annotate_snippets.specs.Around.{closes_with, drawn_elements, file_of_group, is_end, next_of, position_of_group, context_at, suggestion_rows}
 use Rattle.annotate_snippets.specs.Gutter.{code_after, depth_of_element, layout_of_group, line_numbers, numbered_source, width_wanted}
-use Rattle.annotate_snippets.specs.Rows.{cause_head, message_rows, origin_rows, rows_after_cause, suggestion_head, title_part}
+use Rattle.annotate_snippets.specs.RowsWithoutSource.{cause_head, message_rows, origin_rows, rows_after_cause, suggestion_head, title_part}
 use Rattle.snippet_model.specs.declared.snippet.Title.{Title}
 use Rattle.snippet_grid.specs.Woven.{IsWoven}
 use Rattle.snippet_style.specs.declared.stylesheet.Stylesheet.{Stylesheet}
 use Rattle.snippet_text_form.specs.Form.{form_bytes, form_links, form_text}
 use Rattle.annotate_snippets.specs.Page.{PrintsGrids}
-use Rattle.annotate_snippets.specs.Short.{short_form}
+use Rattle.annotate_snippets.specs.ShortForm.{short_form}
 use Rattle.annotate_snippets.specs.TextForm.{text_form}
 use Rattle.annotate_snippets.specs.declared.renderer.drawn.Drawn.{Drawn}
 use Rattle.annotate_snippets.specs.declared.renderer.drawn.Drawn.TheVariants.{Page}

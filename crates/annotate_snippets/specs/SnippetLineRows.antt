@@ -15,9 +15,9 @@ use Rattle.snippet_window.specs.Window.{chars_at, dropped_part}
 use Rattle.snippet_parts.specs.declared.entries.LineAnnotation.{LineAnnotation}
 use Rattle.snippet_window.specs.declared.margin.Margin.{Margin}
 use Rattle.snippet_strokes.specs.Bars.{Bar, bar_at, open_past}
-use Rattle.snippet_labels.specs.Entries.{is_end_part}
+use Rattle.snippet_labels.specs.PlacedEntries.{is_end_part}
 use Rattle.snippet_strokes.specs.LineRows.{AreLineRows}
-use Rattle.snippet_strokes.specs.Rows.{IsHighlighted}
+use Rattle.snippet_strokes.specs.StrokeRows.{IsHighlighted}
 use Rattle.snippet_strokes.specs.SourceRows.{IsSourceRow, window_cells}
 use Rattle.snippet_strokes.specs.Snippet.{gap_row}
 use Rattle.annotate_snippets.specs.declared.renderer.Renderer.{Renderer}
