@@ -41,6 +41,9 @@ fn finds_lines(alloc: Global) -> Result<bool, AllocError> {
     let borrowed = SourceLines::new(alloc, SOURCE)?;
     let text = String::from_str(alloc, "ab\nc")?;
     let owned = SourceLines::new_cow(alloc, CowStr::Owned(text))?;
+    if newline_count(owned.source()) > 9 {
+        return Ok(false);
+    }
     let map = SourceMap::indexed(alloc, &owned, 7);
     let snippet: Snippet<'_, Patch<'_>> = Snippet::indexed(alloc, &borrowed);
     Ok(
