@@ -18,7 +18,8 @@ use Rattle.redraw_command.specs.declared.stop.Stop.TheVariants.{Memory, Unwritab
 use Rattle.redraw_command.specs.declared.tally.Tally.{Tally}
 use Rattle.redraw_read.specs.declared.sources.File.{File}
 use Rattle.redraw_report.specs.declared.diagnostic.Diagnostic.{Diagnostic}
-use Rattle.redraw_run.specs.Deeds.{State, Deed, Drawn, Commanded, HandedOn, Told, LeftOut, Repeated, BuildFailed, IsDeed, AreDeeds, AreTold, TellsAll, printed, told}
+use Rattle.redraw_run.specs.Deeds.{State, Deed, Drawn, Commanded, HandedOn, Told, LeftOut, Repeated, BuildFailed, IsDeed, AreDeeds, AreTold, TellsAll, printed}
+use Rattle.redraw_run.specs.Deeds.{told}
 use Rattle.redraw_run.specs.Deeds.{tally_after, tally_by, with_files, repeated, Does, AppendsFirst, IsCutShort, IsPart, IsUnwritable, Writes, Stops}
 use Rattle.redraw_run.specs.Deeds.{Goes}
 use Rattle.redraw_run.specs.Drawn.{IsCounted, ShowsFinding, ending_after}

@@ -6,7 +6,8 @@ use Rattle.redraw_command.specs.declared.choice.Choice.{Choice}
 use Rattle.redraw_command.specs.declared.choice.Form.TheVariants.{Report, Workflow}
 use Rattle.redraw_report.specs.declared.diagnostic.Diagnostic.{Diagnostic}
 use Rattle.redraw_run.specs.Deeds.{Deed, Drawn, Commanded, HandedOn, Told, LeftOut, Repeated, BuildFailed, IsPart}
-use Rattle.redraw_run.specs.Fates.{AreMessages, AreNone, AreResults, AreRuns, Each, IsChosen, IsDrawing, IsFound, IsHandedOn, IsKnown, IsRepeated, IsReported, IsResult, IsRun, IsShown}
+use Rattle.redraw_run.specs.Fates.{AreMessages, AreNone, AreResults, AreRuns, Each, IsChosen, IsDrawing, IsFound, IsHandedOn, IsKnown, IsRepeated, IsReported}
+use Rattle.redraw_run.specs.Fates.{IsResult, IsRun, IsShown}
 use Rattle.redraw_run.specs.Fates.{IsUnknown, IsWritten, IsWrong, Then}
 use Rattle.redraw_run.specs.declared.input.Kind.{Kind}
 use Rattle.redraw_run.proofs.Doing.{part_as, part_then}

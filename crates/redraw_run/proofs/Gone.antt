@@ -1,5 +1,6 @@
 -- What becomes of inputs, one after another, and of a run.
-use Rattle.std.proofs.Common.{◌≡◌, ◌⊎◌, ◌++◌, ◌∙◌, ◌&&◌, ℕ, Bool, List, [], ◌∷◌, Option, None, Some, ap, ap₂, append_assoc, append-nil, false, inl, inr, map, refl, subst, sym, true}
+use Rattle.std.proofs.Common.{◌≡◌, ◌⊎◌, ◌++◌, ◌∙◌, ◌&&◌, ℕ, Bool, List, [], ◌∷◌, Option, None, Some, ap, ap₂, append_assoc, append-nil, false, inl, inr, map}
+use Rattle.std.proofs.Common.{refl, subst, sym, true}
 use Rattle.std.specs.Prelude.{IfErr, IfOk, OnOk, Result, Ok, Err}
 use Rattle.std.specs.declared.io.Error.{Error}
 use Rattle.annotate_snippets.specs.declared.renderer.Renderer.{Renderer}

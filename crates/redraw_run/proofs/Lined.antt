@@ -1,5 +1,6 @@
 -- What becomes of lines, one after another, becomes of an input.
-use Rattle.std.proofs.Common.{◌≡◌, ◌⊎◌, ◌++◌, ◌∙◌, ℕ, ◌<◌, Bool, List, [], ◌∷◌, Option, None, Some, ◌+◌, ap, append_assoc, append-nil, arith, false, inl, inr, length, length-append, refl, subst, sym, true}
+use Rattle.std.proofs.Common.{◌≡◌, ◌⊎◌, ◌++◌, ◌∙◌, ℕ, ◌<◌, Bool, List, [], ◌∷◌, Option, None, Some, ◌+◌, ap, append_assoc, append-nil, arith, false, inl, inr}
+use Rattle.std.proofs.Common.{length, length-append, refl, subst, sym, true}
 use Rattle.std.specs.Prelude.{◌==◌, IfSome, IfErr, IsErr, IsErrAnd, MatchResult, is_some, Result, Ok, Err, OnOk}
 use Rattle.std.specs.Global.{Vec}
 use Rattle.std.specs.Option.{option_map_or}
@@ -13,7 +14,8 @@ use Rattle.redraw_command.specs.declared.choice.Choice.{Choice}
 use Rattle.redraw_command.specs.declared.stop.Stop.{Stop}
 use Rattle.redraw_run.specs.Deeds.{State, Deed, Does, Goes, IsPart, Stops}
 use Rattle.redraw_run.specs.Fates.{Advances, AreNone, Begins, Each, IsDocumentLine, IsEnd, IsHalted, IsHandedOn, IsInput, IsLast, IsLine, IsNext, IsNextIn}
-use Rattle.redraw_run.specs.Fates.{IsNoValue, IsObject, IsOpen, IsSoFar, IsValue, Reads, document_of, IsTelling, IsTextOf, IsWhole, IsWithoutEnd, IsWrong, LeavesOpen, Then}
+use Rattle.redraw_run.specs.Fates.{IsNoValue, IsObject, IsOpen, IsSoFar, IsValue, Reads, document_of, IsTelling, IsTextOf, IsWhole, IsWithoutEnd, IsWrong}
+use Rattle.redraw_run.specs.Fates.{LeavesOpen, Then}
 use Rattle.redraw_run.specs.Lines.{AreAllOf, AreFirstOf, AreLinesOf, AreReadOf, AreTaken, TakesLine, TakesNext}
 use Rattle.redraw_run.proofs.Doing.{does_as, does_then, goes_as, stops_all, stops_as, stops_none}
 use Rattle.redraw_run.proofs.Fated.{each_more, then_as, then_assoc, then_end}

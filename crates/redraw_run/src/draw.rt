@@ -1,11 +1,13 @@
 //! Findings, drawn one after another as they are read.
-ghost use Rattle.std.specs.Prelude.{◌≡◌, ℕ, List, Option, ◌++◌, [], ◌∷◌, if◌then◌else◌, false, true, OnErr, OnOk, IfOk, IfErr};
+ghost use Rattle.std.specs.Prelude.{◌≡◌, ℕ, List, Option, ◌++◌, [], ◌∷◌, if◌then◌else◌, false, true};
+ghost use Rattle.std.specs.Prelude.{OnErr, OnOk, IfOk, IfErr};
 ghost use Rattle.std.specs.Prelude.{string_bytes};
 ghost use Rattle.std.specs.Io.KnownBytes.{Appends};
 ghost use Rattle.redraw_command.specs.Tally.{one_more};
 ghost use Rattle.redraw_command.specs.Told.{Tells};
 ghost use Rattle.redraw_run.specs.Deeds.{Does, Goes, TellsAll, repeated, standing};
-ghost use Rattle.redraw_run.specs.Fates.{AreMessages, IsChosen, IsDrawing, LeavesOut, IsReported, IsShown, IsWritten, IsWrong};
+ghost use Rattle.redraw_run.specs.Fates.{AreMessages, IsChosen, IsDrawing, IsTaking, LeavesOut, IsReported, IsShown};
+ghost use Rattle.redraw_run.specs.Fates.{IsWritten, IsWrong};
 ghost use Rattle.redraw_run.specs.Drawn.{Draws, IsCounted, IsLeftOut, ShowsFinding, ending_after};
 ghost use Rattle.redraw_read.specs.declared.sources.File.{File};
 ghost use Rattle.redraw_command.specs.declared.choice.Form.TheVariants.{Report, Workflow};
@@ -88,7 +90,8 @@ impl<S: SourceFiles + Drop> Drawing<'_, S> {
     pub fn leave_out(&mut self)
         ensures counted { self.new
             ≡ record self.old { tally = record self.old.tally { wrong = one_more self.old.tally.wrong } } }
-        ensures does { (out err : Option (List ℕ)) → Does LeavesOut (standing self.old out err) (standing self.new out err) }
+        ensures does { (out err : Option (List ℕ)) → Does LeavesOut (standing self.old out err)
+            (standing self.new out err) }
     {
         self.tally.wrong = self.tally.wrong.saturating_add(1);
     }
@@ -139,8 +142,23 @@ impl<S: SourceFiles + Drop> Drawing<'_, S> {
         if let Some(folder) = &self.folder {
             make_relative(self.alloc, &mut diagnostic, folder.as_str())?;
         }
-        if self.choice.takes(&diagnostic) {
-            self.draw_once(&diagnostic, message, out, err)
+        self.draw_chosen(&diagnostic, message, out, err)
+    }
+
+    /// Draws a finding, if it is one of those that are asked for.
+    fn draw_chosen<W: Write, V: Write>(
+        &mut self,
+        diagnostic: &Diagnostic,
+        message: Option<&Value>,
+        out: &mut W,
+        err: &mut V,
+    ) -> Result<(), Stop>
+        ensures does { Goes result (IsTaking diagnostic.now)
+            (standing self.old (W.contents out.old) (V.contents err.old))
+            (standing self.new (W.contents out.new) (V.contents err.new)) }
+    {
+        if self.choice.takes(diagnostic) {
+            self.draw_once(diagnostic, message, out, err)
         } else {
             Ok(())
         }
@@ -196,7 +214,8 @@ impl<S: SourceFiles + Drop> Drawing<'_, S> {
             diagnostic.now (W.contents out.old) (W.contents out.new) (out.new ≡ out.old)
             self.old.tally self.new.tally) }
         ensures kept { (self.new.renderer ≡ self.old.renderer) × (self.new.choice ≡ self.old.choice) }
-        ensures does { Goes result (IsDrawing diagnostic.now) (standing self.old (W.contents out.old) (V.contents err.old))
+        ensures does { Goes result (IsDrawing diagnostic.now)
+            (standing self.old (W.contents out.old) (V.contents err.old))
             (standing self.new (W.contents out.new) (V.contents err.new)) }
     {
         match self.choice.form {

@@ -1,12 +1,14 @@
 //! An input, read line by line. Nothing of a line is kept when the next is read, save of a log that is one document.
-ghost use Rattle.std.specs.Prelude.{◌≡◌, ◌++◌, ◌⊎◌, ◌∷◌, [], ℕ, List, Option, None, Some, true, IfErr, IfOk, IfSome, MatchResult, OnOk, IsTrue, ◌↔◌, option_map, codes, false};
-ghost use Rattle.std.specs.Borrow.{Bor};
+ghost use Rattle.std.specs.Prelude.{◌≡◌, ◌++◌, ◌⊎◌, ◌∷◌, [], ℕ, List, Option, None, Some, true, false, ◌↔◌};
+ghost use Rattle.std.specs.Prelude.{IfErr, IfOk, MatchResult, OnOk, IsTrue, codes, option_map};
 ghost use Rattle.json_node.specs.Field.{flag_at};
 ghost use Rattle.serde_json.specs.View.{view};
 ghost use Rattle.redraw_command.specs.Line.{begins_object};
 ghost use Rattle.redraw_run.specs.Deeds.{Does, Goes, IsUnreadable, Stops, standing};
-ghost use Rattle.redraw_run.specs.Fates.{Advances, IsCargoKind, IsDocumentLine, IsHalted, IsInput, IsKnown, IsLast, IsLog};
-ghost use Rattle.redraw_run.specs.Fates.{IsNoValue, IsOfKind, IsReported, IsSoFar, IsTextOf, IsUnknown, IsValue, IsWhole, document_of};
+ghost use Rattle.redraw_run.specs.Fates.{Advances, IsCargoKind, IsDocumentLine, IsHalted, IsInput, IsKnown};
+ghost use Rattle.redraw_run.specs.Fates.{IsLast, IsLog};
+ghost use Rattle.redraw_run.specs.Fates.{IsOfKind, IsReported, IsSoFar, IsTextOf, IsUnknown, IsValue, IsWhole};
+ghost use Rattle.redraw_run.specs.Fates.{document_of};
 ghost use Rattle.redraw_run.specs.Fates.{IsWithoutEnd, LeavesOpen, Reads};
 ghost use Rattle.redraw_run.specs.Lines.{AreAllOf, AreFirstOf, TakesNext};
 
@@ -217,8 +219,8 @@ impl Reading {
         }
     }
 
-    /// Takes a line that begins with a brace and isn't JSON: the first such may begin a document, and another one is told
-    /// and left out.
+    /// Takes a line that begins with a brace and isn't JSON: the first such may begin a document, and another one is
+    /// told and left out.
     fn no_value<S: SourceFiles + Drop, V: Write>(
         &mut self,
         line: &str,
@@ -303,7 +305,8 @@ impl Reading {
         out: &mut W,
         err: &mut V,
     ) -> Result<(), Stop>
-        ensures does { Goes result (IsWhole document.now) (standing drawing.old (W.contents out.old) (V.contents err.old))
+        ensures does { Goes result (IsWhole document.now)
+            (standing drawing.old (W.contents out.old) (V.contents err.old))
             (standing drawing.new (W.contents out.new) (V.contents err.new)) }
     {
         match str::from_utf8(document) {
@@ -358,8 +361,8 @@ impl Reading {
         }
     }
 
-    /// Takes a value of JSON of no known form. Such a line after one that is of one is handed on: what else writes there
-    /// may write JSON too.
+    /// Takes a value of JSON of no known form. Such a line after one that is of one is handed on: what else writes
+    /// there may write JSON too.
     fn unknown<S: SourceFiles + Drop, W: Write, V: Write>(
         &self,
         line: Option<&[u8]>,

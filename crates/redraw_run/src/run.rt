@@ -8,7 +8,8 @@ ghost use Rattle.redraw_command.specs.Tally.{is_empty, status_of};
 ghost use Rattle.redraw_command.specs.Told.{Tells, TellsOfWords};
 ghost use Rattle.redraw_run.specs.Deeds.{Does, standing};
 ghost use Rattle.redraw_run.specs.Lines.{IsPrinted, SumsUp};
-ghost use Rattle.redraw_run.specs.Run.{Answers, AnswersWords, AreCut, AreDrawn, Draws, EndsInput, IsCutOf, IsDrawnOf, asked_names, given_names, standard};
+ghost use Rattle.redraw_run.specs.Run.{Answers, AnswersWords, AreCut, AreDrawn, Draws, EndsInput, IsCutOf};
+ghost use Rattle.redraw_run.specs.Run.{IsDrawnOf, asked_names, given_names, standard};
 
 use crate::draw::Drawing;
 use crate::files::FilesUnder;

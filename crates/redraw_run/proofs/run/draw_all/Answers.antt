@@ -1,4 +1,4 @@
-use Rattle.std.proofs.Common.{refl}
+use Rattle.std.proofs.Common.{ap, refl}
 use Rattle.redraw_run.specs.Deeds.{State}
 use Rattle.redraw_run.specs.Run.{Runs, asked_names}
 use Rattle.redraw_run.proofs.Gone.{cut_run, finishes_by, run_from, unbegun, unwritten}
@@ -17,5 +17,5 @@ pub returns-clause-draws : goal.returns-clause-draws
 returns-clause-draws g c =
     run_from (λ (a : State). Runs (asked_names c.args.request.inputs) a (g.W.Write.contents c.draw_inputs.new.out) (g.V.Write.contents c.end_unwritten.new.err)
     c.end_unwritten.result) c.renderer_for-renderer.result _ _ _ _ _ c.renderer_for-renderer.ensures.settings c.new-tally.ensures.value
-    (cut_run _ _ _ _ c.end_unwritten.result c.in-Err.ensures.cut (unwritten _ _ c.end_unwritten.ensures.silent c.end_unwritten.ensures.told)
+    (cut_run _ _ _ _ c.end_unwritten.result c.in-Err.ensures.cut (unwritten _ _ (λ closed. ap g.V.Write.contents (c.end_unwritten.ensures.silent closed)) c.end_unwritten.ensures.told)
     c.end_unwritten.ensures.status)
