@@ -1,31 +1,27 @@
 //! An input, read line by line. Nothing of a line is kept when the next is read, save of a log that is one document.
-ghost use Rattle.std.specs.Prelude.{◌≡◌, ◌++◌, ◌⊎◌, ◌∷◌, [], ℕ, List, Option, None, Some, true, false, ◌↔◌};
-ghost use Rattle.std.specs.Prelude.{IfErr, IfOk, MatchResult, OnOk, IsTrue, codes, option_map};
+ghost use Rattle.std.specs.Prelude.{◌≡◌, ◌++◌, ℕ, List, Option, None, Some, true, false, ◌↔◌};
+ghost use Rattle.std.specs.Prelude.{IfErr, IfOk, OnOk, IsTrue, codes, option_map};
 ghost use Rattle.json_node.specs.Field.{flag_at};
 ghost use Rattle.serde_json.specs.View.{view};
 ghost use Rattle.redraw_command.specs.Line.{begins_object};
 ghost use Rattle.redraw_run.specs.Deeds.{Does, Goes, IsUnreadable, Stops, standing};
 ghost use Rattle.redraw_run.specs.Fates.{Advances, IsCargoKind, IsDocumentLine, IsHalted, IsInput, IsKnown};
-ghost use Rattle.redraw_run.specs.Fates.{IsLast, IsLog};
-ghost use Rattle.redraw_run.specs.Fates.{IsOfKind, IsReported, IsSoFar, IsTextOf, IsUnknown, IsValue, IsWhole};
-ghost use Rattle.redraw_run.specs.Fates.{document_of};
-ghost use Rattle.redraw_run.specs.Fates.{IsWithoutEnd, LeavesOpen, Reads};
+ghost use Rattle.redraw_run.specs.Fates.{IsLast, IsOfKind, IsSoFar, IsTextOf, IsUnknown, IsValue, IsWhole};
+ghost use Rattle.redraw_run.specs.Fates.{LeavesOpen, Reads, document_of};
 ghost use Rattle.redraw_run.specs.Lines.{AreAllOf, AreFirstOf, TakesNext};
 
 use crate::draw::Drawing;
-use crate::sarif::draw_runs;
+use crate::json::json_of;
+use crate::report::{cargo_message, sarif_log};
 use crate::write::pass;
-use json_node::expectation::Expectation;
 use json_node::node::Node;
 use json_node::place::Place;
 use redraw_command::line::{Line, is_utf16, line_of};
 use redraw_command::stop::Stop;
-use redraw_read::cargo::packaged_diagnostic_of;
-use redraw_read::json::listed;
 use redraw_read::rustc::diagnostic_of;
 use redraw_read::sources::SourceFiles;
 use serde_json::Value;
-use std::alloc::{AllocError, Global};
+use std::alloc::Global;
 use std::io::{BufRead, Write};
 use std::str;
 
@@ -426,77 +422,6 @@ fn check_text<S: SourceFiles + Drop, V: Write>(
     match str::from_utf8(bytes) {
         Ok(_) => {}
         Err(_) => drawing.wrong("not valid UTF-8", err),
-    }
-}
-
-/// The value of JSON that a line or a document is, or why it is none.
-fn json_of(alloc: Global, text: &str) -> Result<Result<Value, serde_json::Error>, AllocError>
-    ensures reads { IfOk result (λ found. MatchResult found (λ value. Reads text.now (Some (view value)))
-        (λ error. Reads text.now None)) }
-{
-    match Value::from_str(alloc, without_end(text)) {
-        Ok(value) => Ok(Ok(value)),
-        Err(error) if error.is_memory() => Err(AllocError),
-        Err(error) => Ok(Err(error)),
-    }
-}
-
-/// A line, or the lines of a document, without the last line's end.
-fn without_end(text: &str) -> &str
-    ensures cut { IsWithoutEnd text.now result.now }
-{
-    without_return(without_feed(text))
-}
-
-/// A text without a line feed at its end.
-fn without_feed(text: &str) -> &str
-    ensures cut { (text.now ≡ result.now) ⊎ (text.now ≡ result.now ++ 10 ∷ []) }
-{
-    match text.strip_suffix('\n') {
-        Some(rest) => rest,
-        None => text,
-    }
-}
-
-/// A text without a carriage return at its end.
-fn without_return(text: &str) -> &str
-    ensures cut { (text.now ≡ result.now) ⊎ (text.now ≡ result.now ++ 13 ∷ []) }
-{
-    match text.strip_suffix('\r') {
-        Some(rest) => rest,
-        None => text,
-    }
-}
-
-/// Takes cargo's message, which has a diagnostic of rustc in it.
-fn cargo_message<S: SourceFiles + Drop, W: Write, V: Write>(
-    node: &Node<'_, '_>,
-    drawing: &mut Drawing<'_, S>,
-    out: &mut W,
-    err: &mut V,
-) -> Result<(), Stop>
-    ensures does { Goes result IsReported (standing drawing.old (W.contents out.old) (V.contents err.old))
-        (standing drawing.new (W.contents out.new) (V.contents err.new)) }
-{
-    match node.needed("message", Expectation::Object) {
-        Ok(message) => drawing.finding(packaged_diagnostic_of(node), Some(message.value), out, err),
-        Err(fault) => drawing.finding(Err(fault), None, out, err),
-    }
-}
-
-/// Takes a SARIF log. One whose runs are no list is told and left out.
-fn sarif_log<S: SourceFiles + Drop, W: Write, V: Write>(
-    node: &Node<'_, '_>,
-    drawing: &mut Drawing<'_, S>,
-    out: &mut W,
-    err: &mut V,
-) -> Result<(), Stop>
-    ensures does { Goes result IsLog (standing drawing.old (W.contents out.old) (V.contents err.old))
-        (standing drawing.new (W.contents out.new) (V.contents err.new)) }
-{
-    match listed(node, "runs") {
-        Ok(runs) => draw_runs(runs, drawing, out, err),
-        Err(fault) => drawing.finding(Err(fault), None, out, err),
     }
 }
 

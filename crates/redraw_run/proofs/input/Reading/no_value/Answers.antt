@@ -10,4 +10,8 @@ pub returns-in_err-to_vec : goal.returns-in_err-to_vec
 returns-in_err-to_vec g c = record { leaves = λ out. inr (on_ok_err _ c.from_residual.result c.from_residual.ensures.0, does_nothing _) }
 
 pub returns-in_ok-to_vec : goal.returns-in_ok-to_vec
-returns-in_ok-to_vec g c = record { leaves = λ out. inr (ap (λ l. Some l) (c.in_ok-to_vec.ensures.items_if_clones_equal (λ x y e. e) ∙ c.as_bytes.ensures.value), does_nothing _) }
+returns-in_ok-to_vec g c =
+    record {
+      leaves = λ out.
+          inr (ap (λ l. Some l) (c.in_ok-to_vec.ensures.items_if_clones_equal (λ x y e. e) ∙ c.as_bytes.ensures.value), does_nothing _);
+    }

@@ -19,7 +19,9 @@ returns-in-Ok g c =
       advances = λ is begins was.
           let line = c.args.bytes.now in
           let d = view c.in-Ok.value in
-          let reads : Reads c.args.line.now (Some d) = match_ok (λ v. Reads c.args.line.now (Some (view v))) (λ e. Reads c.args.line.now None) c.in_ok-read.read c.in-Ok.value c.in-Ok.is c.in_ok-read.ensures.reads in
+          let reads : Reads c.args.line.now (Some d) =
+          match_ok (λ v. Reads c.args.line.now (Some (view v))) (λ e. Reads c.args.line.now None) c.in_ok-read.read c.in-Ok.value c.in-Ok.is
+          c.in_ok-read.ensures.reads in
           advances_alone c.value.result line _ _ _ _ (no_document _ was) (no_document _ (c.value.ensures.same ∙ was))
           (goes_as (IsValue (Some line) d) (IsLine line) _ _ c.value.result
           (λ ds h. line_value line c.args.line.now d _ ds is begins reads h) c.value.ensures.does);
@@ -29,5 +31,8 @@ pub returns-in-Err : goal.returns-in-Err
 returns-in-Err g c =
     record {
       advances = λ is begins was.
-          c.not_json.ensures.advances is begins (match_err (λ v. Reads c.args.line.now (Some (view v))) (λ e. Reads c.args.line.now None) c.in_ok-read.read c.in-Err.error c.in-Err.is c.in_ok-read.ensures.reads) was;
+          let reads : Reads c.args.line.now None =
+          match_err (λ v. Reads c.args.line.now (Some (view v))) (λ e. Reads c.args.line.now None) c.in_ok-read.read c.in-Err.error c.in-Err.is
+          c.in_ok-read.ensures.reads in
+          c.not_json.ensures.advances is begins reads was;
     }

@@ -17,7 +17,9 @@ pub returns-in-Ok : goal.returns-in-Ok
 returns-in-Ok g c =
     record {
       does = let d = view c.in-Ok.value in
-          let reads : Reads c.args.text.now (Some d) = match_ok (λ v. Reads c.args.text.now (Some (view v))) (λ e. Reads c.args.text.now None) c.in_ok-read.read c.in-Ok.value c.in-Ok.is c.in_ok-read.ensures.reads in
+          let reads : Reads c.args.text.now (Some d) =
+          match_ok (λ v. Reads c.args.text.now (Some (view v))) (λ e. Reads c.args.text.now None) c.in_ok-read.read c.in-Ok.value c.in-Ok.is
+          c.in_ok-read.ensures.reads in
           goes_as (IsValue None d) (IsWhole c.args.text.now) _ _ c.value.result (λ ds h. inr (inr (d, reads, h))) c.value.ensures.does;
     }
 
