@@ -14,7 +14,7 @@ use Rattle.redraw_command.specs.declared.stop.Stop.TheVariants.{Memory, Unwritab
 use Rattle.redraw_command.specs.declared.tally.Tally.{Tally}
 use Rattle.redraw_report.specs.declared.diagnostic.Severity.{Severity}
 use Rattle.redraw_report.specs.declared.diagnostic.Severity.TheVariants.{Error, Warning, Info, Note, Help, Plain}
-use Rattle.redraw_run.specs.Deeds.{State, Deed, Drawn, Commanded, HandedOn, Told, LeftOut, Repeated, BuildFailed, IsDeed, AreDeeds, printed, told}
+use Rattle.redraw_run.specs.Deeds.{State, Deed, Drawn, Commanded, HandedOn, Told, LeftOut, Repeated, BuildFailed, AreDeeds, printed, told}
 use Rattle.redraw_run.specs.Deeds.{tally_after, tally_by, with_files, Does, AppendsFirst, IsCutShort, IsPart, Stops, Goes}
 use Rattle.redraw_run.specs.Fates.{AreNone, Then}
 

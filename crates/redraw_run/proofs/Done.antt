@@ -1,5 +1,5 @@
 -- One thing that is done.
-use Rattle.std.proofs.Common.{◌≡◌, ◌⊎◌, ◌||◌, ℕ, Bool, true, false, List, [], ◌∷◌, ◌++◌, Option, Some, refl, ap, sym, ◌∙◌, subst, inl, inr, append_assoc}
+use Rattle.std.proofs.Common.{◌≡◌, ◌||◌, ℕ, Bool, true, false, List, [], ◌∷◌, ◌++◌, Option, Some, refl, ap, sym, ◌∙◌, subst, inl, inr, append_assoc}
 use Rattle.std.proofs.Common.{ap₂, append-nil, drop, take, take-append-drop}
 use Rattle.std.specs.Prelude.{Result, Ok, Err, IfOk, OnOk}
 use Rattle.std.specs.Io.KnownBytes.{Appends, Keeps}
@@ -7,9 +7,8 @@ use Rattle.std.specs.List.{concat, flat_map}
 use Rattle.std.proofs.KnownBytes.{Appends-kept, Appends-nil, Appends-trans}
 use Rattle.annotate_snippets.specs.declared.renderer.Renderer.{Renderer}
 use Rattle.program.specs.Stream.{AppendsPart}
-use Rattle.redraw_command.specs.Choice.{is_sum}
-use Rattle.redraw_command.specs.Tally.{is_empty, one_more, tallied}
-use Rattle.redraw_command.specs.Told.{IsTold, Tells}
+use Rattle.redraw_command.specs.Tally.{is_empty, one_more}
+use Rattle.redraw_command.specs.Told.{Tells}
 use Rattle.redraw_command.specs.Workflow.{command}
 use Rattle.redraw_command.specs.declared.choice.Choice.{Choice}
 use Rattle.redraw_command.specs.declared.choice.Form.TheVariants.{Report, Workflow}
@@ -18,14 +17,14 @@ use Rattle.redraw_command.specs.declared.stop.Stop.TheVariants.{Memory, Unwritab
 use Rattle.redraw_command.specs.declared.tally.Tally.{Tally}
 use Rattle.redraw_read.specs.declared.sources.File.{File}
 use Rattle.redraw_report.specs.declared.diagnostic.Diagnostic.{Diagnostic}
-use Rattle.redraw_run.specs.Deeds.{State, Deed, Drawn, Commanded, HandedOn, Told, LeftOut, Repeated, BuildFailed, IsDeed, AreDeeds, AreTold, TellsAll, printed}
+use Rattle.redraw_run.specs.Deeds.{State, Deed, Drawn, Commanded, HandedOn, Told, LeftOut, Repeated, BuildFailed, AreDeeds, AreTold, TellsAll, printed}
 use Rattle.redraw_run.specs.Deeds.{told}
-use Rattle.redraw_run.specs.Deeds.{tally_after, tally_by, with_files, repeated, Does, AppendsFirst, IsCutShort, IsPart, IsUnwritable, Writes, Stops}
+use Rattle.redraw_run.specs.Deeds.{tally_by, with_files, repeated, Does, AppendsFirst, IsCutShort, IsUnwritable, Writes, Stops}
 use Rattle.redraw_run.specs.Deeds.{Goes}
 use Rattle.redraw_run.specs.Drawn.{IsCounted, ShowsFinding, ending_after}
 use Rattle.redraw_run.specs.Lines.{SumsUp, TellsUnless}
 use Rattle.redraw_run.specs.Fates.{AreMessages, AreNone, IsFailed, IsHandedOn, LeavesOut, IsRepeated, IsShown, IsTelling, IsWritten, IsWrong, Then}
-use Rattle.redraw_run.proofs.Doing.{does_as, does_then, first_all, first_more, first_then}
+use Rattle.redraw_run.proofs.Doing.{does_as, does_then, first_more, first_then}
 
 -- a tally is another, but for its files
 tally_is : (t u : Tally) → t ≡ u → t ≡ with_files u t.files

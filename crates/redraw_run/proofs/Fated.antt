@@ -1,5 +1,5 @@
 -- What becomes of parts becomes of the whole.
-use Rattle.std.proofs.Common.{◌≡◌, ◌⊎◌, ◌++◌, ◌∙◌, ℕ, List, [], ◌∷◌, Option, None, Some, ap, append_assoc, append-nil, false, inl, inr, refl, subst, sym, true}
+use Rattle.std.proofs.Common.{◌≡◌, ◌++◌, ◌∙◌, ℕ, List, [], ◌∷◌, Option, None, Some, ap, append_assoc, append-nil, false, inl, inr, refl, subst, sym, true}
 use Rattle.serde_json.specs.Data.{Data, null}
 use Rattle.redraw_command.specs.Choice.{IsTaken}
 use Rattle.redraw_command.specs.declared.choice.Choice.{Choice}

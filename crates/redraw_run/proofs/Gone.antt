@@ -1,5 +1,5 @@
 -- What becomes of inputs, one after another, and of a run.
-use Rattle.std.proofs.Common.{◌≡◌, ◌⊎◌, ◌++◌, ◌∙◌, ◌&&◌, ℕ, Bool, List, [], ◌∷◌, Option, None, Some, ap, ap₂, append_assoc, append-nil, false, inl, inr, map}
+use Rattle.std.proofs.Common.{◌≡◌, ◌⊎◌, ◌++◌, ◌∙◌, ◌&&◌, ℕ, Bool, List, [], ◌∷◌, Option, None, ap, ap₂, append-nil, false, inl, inr}
 use Rattle.std.proofs.Common.{refl, subst, sym, true}
 use Rattle.std.specs.Prelude.{IfErr, IfOk, OnOk, Result, Ok, Err}
 use Rattle.std.specs.declared.io.Error.{Error}
@@ -13,7 +13,7 @@ use Rattle.redraw_command.specs.declared.stop.Stop.TheVariants.{Memory, Unwritab
 use Rattle.redraw_run.specs.Deeds.{State, Deed, Does, IsCutShort, IsPart, Stops}
 use Rattle.redraw_run.specs.Fates.{Each, IsHalted, IsInput, IsLast, IsNextIn, IsSoFar, IsTelling, Then}
 use Rattle.redraw_run.specs.Lines.{AreAllOf, AreFirstOf, SumsUp}
-use Rattle.redraw_run.specs.Run.{begun, AreCut, AreDrawn, EndsInput, Input, Runs, IsCutOf, IsDrawnOf, IsOf, IsUnread, are_whole, names_of}
+use Rattle.redraw_run.specs.Run.{begun, AreCut, AreDrawn, EndsInput, Input, Runs, IsCutOf, IsDrawnOf, IsOf, are_whole, names_of}
 use Rattle.redraw_run.proofs.Doing.{cut_then, does_as, does_nothing, does_then, stops_any, stops_as, stops_then}
 use Rattle.redraw_run.proofs.Done.{does_told}
 use Rattle.redraw_run.proofs.Fated.{each_more}

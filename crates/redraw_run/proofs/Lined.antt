@@ -13,12 +13,12 @@ use Rattle.redraw_command.specs.Line.{IsUnmarked, begins_object, first_of}
 use Rattle.redraw_command.specs.declared.choice.Choice.{Choice}
 use Rattle.redraw_command.specs.declared.stop.Stop.{Stop}
 use Rattle.redraw_run.specs.Deeds.{State, Deed, Does, Goes, IsPart, Stops}
-use Rattle.redraw_run.specs.Fates.{Advances, AreNone, Begins, Each, IsDocumentLine, IsEnd, IsHalted, IsHandedOn, IsInput, IsLast, IsLine, IsNext, IsNextIn}
+use Rattle.redraw_run.specs.Fates.{Advances, AreNone, Each, IsDocumentLine, IsHandedOn, IsInput, IsLast, IsLine, IsNext, IsNextIn}
 use Rattle.redraw_run.specs.Fates.{IsNoValue, IsObject, IsOpen, IsSoFar, IsValue, Reads, document_of, IsTelling, IsTextOf, IsWhole, IsWithoutEnd, IsWrong}
 use Rattle.redraw_run.specs.Fates.{LeavesOpen, Then}
 use Rattle.redraw_run.specs.Lines.{AreAllOf, AreFirstOf, AreLinesOf, AreReadOf, AreTaken, TakesLine, TakesNext}
-use Rattle.redraw_run.proofs.Doing.{does_as, does_then, goes_as, stops_all, stops_as, stops_none}
-use Rattle.redraw_run.proofs.Fated.{each_more, then_as, then_assoc, then_end}
+use Rattle.redraw_run.proofs.Doing.{does_as, does_then, stops_all, stops_none}
+use Rattle.redraw_run.proofs.Fated.{each_more, then_as, then_assoc}
 
 -- lines that are taken, and one more
 pub taken_more : (bytes : List ℕ) (lines : List (List ℕ)) (rest line : List ℕ) → AreTaken bytes lines rest → 0 < length line → line ≡ take_through 10 rest

@@ -1,5 +1,5 @@
 -- The names of inputs, up to one of them.
-use Rattle.std.proofs.Common.{◌≡◌, ◌+◌, ◌<◌, ◌++◌, ◌==◌, false, true, ℕ, zero, suc, Bor, List, [], ◌∷◌, Option, None, Some, ap, arith, length, map, refl}
+use Rattle.std.proofs.Common.{◌≡◌, ◌+◌, ◌<◌, ◌++◌, ◌==◌, false, true, ℕ, zero, suc, Bor, List, [], ◌∷◌, ap, arith, length, map, refl}
 use Rattle.std.proofs.Common.{slice_index_or, take}
 use Rattle.std.proofs.Math.Dec.{eqb-suc-zero}
 use Rattle.std.proofs.lemmas.List.{map_more, take_all}

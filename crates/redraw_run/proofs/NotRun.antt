@@ -1,8 +1,8 @@
 -- What no run does: what wrong bodies do about small inputs contradicts what becomes of lines and of runs.
-use Rattle.std.proofs.Common.{◌≡◌, ◌⊎◌, ◌++◌, ◌∙◌, ◌||◌, ℕ, Bool, List, [], ◌∷◌, Option, None, Some, ap, false, if◌then◌else◌, inl, inr, refl, subst, sym, true}
+use Rattle.std.proofs.Common.{◌≡◌, ◌++◌, ◌∙◌, ◌||◌, ℕ, Bool, List, [], ◌∷◌, Option, None, Some, ap, false, if◌then◌else◌, inl, inr, refl, subst, sym, true}
 use Rattle.serde_json.specs.Data.{Data}
 use Rattle.redraw_command.specs.Choice.{is_sum}
-use Rattle.redraw_command.specs.Line.{begins_object, mark}
+use Rattle.redraw_command.specs.Line.{begins_object}
 use Rattle.redraw_command.specs.Tally.{no_tally, status_of, tallied}
 use Rattle.redraw_command.specs.declared.choice.Choice.{Choice}
 use Rattle.redraw_command.specs.declared.tally.Tally.{Tally}
@@ -13,7 +13,7 @@ use Rattle.annotate_snippets.specs.declared.renderer.Renderer.{Renderer}
 use Rattle.redraw_run.specs.declared.input.Kind.{Kind}
 use Rattle.redraw_run.specs.declared.input.Kind.TheVariants as kind
 use Rattle.redraw_run.specs.Deeds.{Deed, Drawn, Commanded, HandedOn, Told, LeftOut, Repeated, BuildFailed, tally_by, with_files}
-use Rattle.redraw_run.specs.Fates.{AreMessages, Each, IsFound, IsKnown, IsLine, IsLineWith, IsLog, IsObject, IsReported, IsResult, IsRun, IsShown, IsTaking}
+use Rattle.redraw_run.specs.Fates.{AreMessages, Each, IsFound, IsKnown, IsLine, IsLog, IsReported, IsResult, IsRun, IsShown, IsTaking}
 use Rattle.redraw_run.specs.Run.{Finishes, begun}
 
 -- no line is handed on

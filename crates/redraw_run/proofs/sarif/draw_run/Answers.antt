@@ -1,4 +1,4 @@
-use Rattle.std.proofs.Common.{inl, inr, refl}
+use Rattle.std.proofs.Common.{refl}
 use Rattle.redraw_run.specs.Deeds.{IsPart}
 use Rattle.redraw_run.specs.Fates.{AreMessages, IsResult, IsRun, Then}
 use Rattle.redraw_run.proofs.Doing.{does_as, does_then, goes_err, goes_on, part_all, stops_any, stops_as, stops_then}

@@ -1,4 +1,4 @@
-use Rattle.std.proofs.Common.{List, inl, refl, subst, ℕ}
+use Rattle.std.proofs.Common.{inl, refl}
 use Rattle.redraw_run.specs.Fates.{IsWhole}
 use Rattle.redraw_run.proofs.Doing.{does_as, goes_as}
 use Rattle.redraw_run.proofs.Done.{does_same}

@@ -1,4 +1,4 @@
-use Rattle.std.proofs.Common.{None, sym}
+use Rattle.std.proofs.Common.{sym}
 use Rattle.redraw_run.specs.Fates.{IsLast, IsWhole, document_of}
 use Rattle.redraw_run.proofs.Doing.{does_as, goes_as}
 use Rattle.redraw_run.proofs.Lined.{last_document, last_none}

@@ -1,4 +1,4 @@
-use Rattle.std.proofs.Common.{Some, ap, refl, sym, ◌∙◌}
+use Rattle.std.proofs.Common.{ap, refl, sym, ◌∙◌}
 use Rattle.redraw_command.specs.declared.stop.Stop.TheVariants.{Utf16}
 use Rattle.redraw_run.specs.Fates.{IsNextIn, document_of}
 use Rattle.redraw_run.proofs.Doing.{stops_none}
